@@ -1,0 +1,5 @@
+pub mod Order
+pub mod Sets
+pub mod OwnClock
+pub mod Rising
+pub mod Names

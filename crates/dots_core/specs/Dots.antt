@@ -1,0 +1,40 @@
+-- Dots, and finite sets of them (RR-8083, 'dots': the unique stamp of an add).
+use Rattle.std.specs.Prelude.{◌≡◌, ◌↔◌, ℕ, ◌<◌, ◌≤◌, ◌==◌, Bool, true, refl}
+use Rattle.std.specs.declared.cmp.Ordering.{Ordering}
+use Rattle.std.specs.Ordering.{nat_cmp, ordering_then}
+use Rattle.std.specs.FinSet as set
+use Rattle.std.specs.Coded.{Coded, code_by, coded×, coded_ℕ}
+use Rattle.dots_core.specs.declared.dot.Dot.{Dot}
+
+-- a dot that a set may hold: its name is a replica's number, and its clock is from 1 to the last
+pub record IsValid (d : Dot) : Type 0 where
+  pub name : d.name < 32
+  pub first : 1 ≤ d.clock
+  pub last : d.clock ≤ 1000000000
+
+-- by name, and then by clock
+abbrev pub dot_cmp : Dot → Dot → Ordering
+dot_cmp a b = ordering_then (nat_cmp a.name b.name) (nat_cmp a.clock b.clock)
+
+-- a dot is stored as the pair of its fields
+abbrev pub dot_code : Coded Dot
+dot_code = code_by (ℕ × ℕ) (coded× coded_ℕ coded_ℕ) (λ d. (d.name, d.clock)) (λ p. record { name = p.0; clock = p.1 }) (λ _. refl)
+
+-- a finite set of dots
+abbrev pub Dots : Type 0
+Dots = set.FinSet dot_cmp
+
+abbrev pub dot : ℕ → ℕ → Dot
+dot name clock = record { name = name; clock = clock }
+
+-- the dots whose names pass the test
+abbrev pub of_names : (ℕ → Bool) → Dots → Dots
+of_names named s = set.retain s (λ d. named d.name)
+
+-- how many dots of the name are in the set
+abbrev pub count_of : ℕ → Dots → ℕ
+count_of own s = set.len (of_names (λ n. n == own) s)
+
+-- the clocks of the name's dots are those from 1 to their count, as a replica's own are
+abbrev pub HasClocks : ℕ → Dots → Type 0
+HasClocks own s = (k : ℕ) → (set.contains s (dot own k) ≡ true) ↔ ((0 < k) × (k ≤ count_of own s))

@@ -1,0 +1,20 @@
+-- A set of names, kept as a list that says of each name whether it is in.
+use Rattle.std.specs.Prelude.{◌≡◌, ℕ, zero, suc, Bool, List, [], ◌∷◌, if◌then◌else◌}
+use Rattle.std.specs.FinSet as set
+use Rattle.dots_core.specs.Names.{Names}
+
+-- the places from n on at which the list has true
+abbrev pub names_from : ℕ → List Bool → Names
+names_from n [] = set.empty
+names_from n (b ∷ bs) = if b then set.insert (names_from (suc n) bs) n else names_from (suc n) bs
+
+abbrev pub names_of : List Bool → Names
+names_of bs = names_from 0 bs
+
+-- whether the set has n, the next number, and so on for m of them
+unfoldable pub flags_from : ℕ → ℕ → Names → List Bool
+flags_from n zero names = []
+flags_from n (suc m) names = set.contains names n ∷ flags_from (suc n) m names
+
+unfoldable pub flags_of : Names → List Bool
+flags_of names = flags_from 0 32 names

@@ -1,0 +1,11 @@
+-- Sets of names: numbers below 32, each that of a replica.
+use Rattle.std.specs.Prelude.{◌≡◌, ℕ, ◌<◌, true}
+use Rattle.std.specs.Ordering.{nat_cmp}
+use Rattle.std.specs.FinSet as set
+
+abbrev pub Names : Type 0
+Names = set.FinSet nat_cmp
+
+-- it has each name
+abbrev pub HasAll : Names → Type 0
+HasAll names = (n : ℕ) → n < 32 → set.contains names n ≡ true

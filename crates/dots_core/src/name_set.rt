@@ -1,0 +1,67 @@
+//! A set of replicas' names.
+
+ghost use Rattle.std.specs.Prelude.{◌≡◌, ◌<◌};
+ghost use Rattle.std.specs.FinSet as set;
+
+use std::marker::Model;
+
+/// A set of numbers below 32, each a replica's name.
+#[derive(Clone, Copy, Debug)]
+pub struct NameSet {
+    has: [bool; 32],
+}
+
+impl Model for NameSet {
+    ghost use Rattle.std.specs.Prelude.{◌≡◌, length};
+    ghost use Rattle.std.specs.Coded.{coded_ℕ};
+    ghost use Rattle.std.specs.FinSet as set;
+    ghost use Rattle.dots_core.specs.Names.{Names};
+    ghost use Rattle.dots_core.specs.Flags.{names_of, flags_of};
+    ghost use Rattle.dots_core.specs.FlagsBack.{flags_of-names_of};
+
+    ghost Value = { Names };
+
+    ghost coded = { set.code coded_ℕ };
+
+    ghost view = { λ s. names_of s.has };
+
+    ghost invariant = { λ s. length s.has ≡ 32 };
+
+    ghost inverse = { λ names. record { has = flags_of names } };
+
+    ghost inverse_ok = { λ s h i. record { has = flags_of-names_of s.has h i } };
+}
+
+impl NameSet {
+    /// The set of no name.
+    pub fn empty() -> NameSet
+        ensures { result ≡ set.empty }
+    {
+        NameSet { has: [false; 32] }
+    }
+
+    /// The set with the name put in.
+    pub fn with(mut self, name: u16) -> NameSet
+        requires { name < 32 }
+        ensures { result ≡ set.insert self name }
+    {
+        self.has[usize::from(name)] = true;
+        self
+    }
+
+    /// The set with the name taken out.
+    pub fn without(mut self, name: u16) -> NameSet
+        requires { name < 32 }
+        ensures { result ≡ set.remove self name }
+    {
+        self.has[usize::from(name)] = false;
+        self
+    }
+
+    /// Whether the name is in the set; a number from 32 on is not.
+    pub fn has(self, name: u16) -> bool
+        ensures { result ≡ set.contains self name }
+    {
+        name < 32 && self.has[usize::from(name)]
+    }
+}

@@ -1,0 +1,102 @@
+//! An allocator for the tests of this workspace: it hands each request on to an inner one, counts it, and refuses the
+//! n-th request, or all from the n-th on, as a test asks.
+//!
+//! It uses std alone. Only tests use it.
+#![tactic(auto)]
+
+use std::alloc::{AllocError, Allocator};
+use std::sync::atomic::{AtomicU64, Ordering};
+
+#[cfg(test)]
+mod tests;
+
+/// The number of requests made since the count last began at 0, and the numbers of the first and the last that are
+/// refused. Requests are numbered from 1, so a last of 0 refuses none. They are atomic, since threads share them.
+#[derive(Drop)]
+pub struct Requests {
+    made: AtomicU64,
+    first: AtomicU64,
+    last: AtomicU64,
+}
+
+/// An allocator that a test lends as `&heap`, which is itself an allocator, and `Copy`. A request is one call of
+/// `allocate`, by a collection that grows too: an empty collection makes none.
+pub struct Refusing<B: Allocator> {
+    inner: B,
+    requests: Requests,
+}
+
+impl<B: Allocator> Refusing<B> {
+    /// It refuses nothing yet, and gets its memory from `inner`.
+    pub fn new(inner: B) -> Refusing<B> {
+        Refusing {
+            inner,
+            requests: Requests {
+                made: AtomicU64::new(0),
+                first: AtomicU64::new(0),
+                last: AtomicU64::new(0),
+            },
+        }
+    }
+
+    /// Counts from 0 again, and refuses nothing.
+    pub fn refuse_none(&self) {
+        self.refuse(0, 0);
+    }
+
+    /// Counts from 0 again, and refuses the request of this number alone.
+    pub fn refuse_only(&self, number: u64) {
+        self.refuse(number, number);
+    }
+
+    /// Counts from 0 again, and refuses the request of this number and each later one.
+    pub fn refuse_from(&self, number: u64) {
+        self.refuse(number, u64::MAX);
+    }
+
+    fn refuse(&self, first: u64, last: u64) {
+        self.requests.made.store(0, Ordering::SeqCst);
+        self.requests.first.store(first, Ordering::SeqCst);
+        self.requests.last.store(last, Ordering::SeqCst);
+    }
+
+    /// How many requests were made, refused ones too, since the last call that counts from 0 again.
+    pub fn requests(&self) -> u64 {
+        self.requests.made.load(Ordering::SeqCst)
+    }
+}
+
+impl<B: Allocator> Drop for Refusing<B> {
+    fn drop(self) {
+        let Self {
+            inner: _,
+            requests: _,
+        } = self;
+    }
+}
+
+// Counts one more request, and says whether it is refused.
+fn is_refused(requests: &Requests) -> bool {
+    let number = requests
+        .made
+        .fetch_add(1, Ordering::SeqCst)
+        .saturating_add(1);
+    let first = requests.first.load(Ordering::SeqCst);
+    let last = requests.last.load(Ordering::SeqCst);
+    first <= number && number <= last
+}
+
+unsafe impl<B: Allocator> Allocator for Refusing<B> {
+    ghost dealloc_token = { λ heap ty ptr. B.dealloc_token heap.inner ty ptr };
+
+    fn allocate(&self, size: usize, align: usize) -> Result<*mut u8, AllocError> {
+        if is_refused(&self.requests) {
+            return Err(AllocError);
+        }
+        self.inner.allocate(size, align)
+    }
+
+    unsafe fn deallocate(&self, ptr: *mut u8, size: usize, align: usize) {
+        self.inner.deallocate(ptr, size, align);
+    }
+}
