@@ -1,0 +1,4 @@
+pub mod EntryLists
+pub mod EntryMaps
+pub mod SeenEntries
+pub mod TrackedDots

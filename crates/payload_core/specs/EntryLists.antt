@@ -1,0 +1,32 @@
+-- A list of entries that rises by dot, as the map of its presences: how an entry set is kept.
+use Rattle.std.specs.Prelude.{ℕ, suc, T, List, [], ◌∷◌, map, Result, Ok, Err}
+use Rattle.std.specs.FinMap as fin
+use Rattle.std.specs.FinMap.Entries.{by_order}
+use Rattle.dots_core.specs.declared.dot.Dot.{Dot}
+use Rattle.dots_core.specs.Dots.{dot_cmp}
+use Rattle.payload_core.specs.Presences.{Presence, Entry, Entries, presence_of}
+
+abbrev pub pair_of : Entry → Dot × Presence
+pair_of e = (e.dot, presence_of e)
+
+-- the entries as pairs of a dot and its presence
+abbrev pub pairs : List Entry → List (Dot × Presence)
+pairs es = map pair_of es
+
+-- each dot is below those after it
+abbrev pub Rises : List Entry → Type 0
+Rises es = T (fin.is_sorted dot_cmp (pairs es))
+
+-- the map of the presences by their dots
+abbrev pub entries_of : List Entry → Entries
+entries_of es = fin.from_sorted (pairs es)
+
+-- the same answer, one place further on
+abbrev pub one_later : Result ℕ ℕ → Result ℕ ℕ
+one_later (Ok place) = Ok (suc place)
+one_later (Err place) = Err (suc place)
+
+-- the place where the dot's entry stands, or else where it would
+abbrev pub spot : Dot → List Entry → Result ℕ ℕ
+spot d [] = Err 0
+spot d (e ∷ es) = by_order (dot_cmp d e.dot) (Err 0) (Ok 0) (one_later (spot d es))

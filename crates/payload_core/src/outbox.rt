@@ -1,0 +1,174 @@
+//! `Outbox`, the numbered messages of a node.
+ghost use Rattle.std.specs.Prelude.{◌≡◌, ◌↔◌, ◌+◌, ◌<◌, ◌≤◌, ◌++◌, ◌∷◌, [], IfErr, IfOk, IsErrAnd, IsOk, IsSome, IsTrue, OnErr, OnOk, length};
+ghost use Rattle.std.specs.Option.{option_copied, option_to_list};
+ghost use Rattle.payload_core.specs.Messages.{numbered};
+ghost use Rattle.payload_core.specs.declared.outbox.OutboxFault.TheVariants.{OutOfMemory};
+
+use crate::payload::Payload;
+use dots_core::Oom;
+use std::alloc::Allocator;
+use std::marker::Model;
+use thiserror::Error;
+
+/// Why a message is not pushed.
+#[derive(Clone, Copy, Debug, PartialEq, Eq, Error)]
+pub enum OutboxFault {
+    /// The outbox holds as many messages as it may.
+    #[error("OutboxFull")]
+    OutboxFull,
+    /// Memory was refused.
+    #[error("OutOfMemory")]
+    OutOfMemory,
+}
+
+impl From<Oom> for OutboxFault {
+    ghost from_gives = { λ _ fault. fault ≡ OutOfMemory };
+
+    fn from(_oom: Oom) -> OutboxFault {
+        OutboxFault::OutOfMemory
+    }
+}
+
+/// The messages of a node, numbered from 1 in the order in which they were sent, and at most a limit of them.
+#[derive(Drop)]
+pub struct Outbox<A: Allocator> {
+    limit: u64,
+    messages: Vec<Payload<A>, A>,
+}
+
+impl<A: Allocator> Model for Outbox<A> {
+    ghost use Rattle.std.specs.Prelude.{◌-◌, ◌≤◌, length, vec_capacity, vec_len};
+    ghost use Rattle.payload_core.specs.Outboxes.{Outbox, outbox_code};
+
+    ghost Value = { Outbox };
+
+    ghost coded = { outbox_code };
+
+    ghost view = { λ o. record { limit = o.limit; messages = o.messages.items; room = vec_capacity o.messages - vec_len o.messages } };
+
+    ghost invariant = { λ o. length o.messages.items ≤ o.limit };
+}
+
+impl<A: Allocator> Outbox<A> {
+    /// An empty outbox for at most so many messages. It takes no memory.
+    pub fn new(alloc: A, messages: u64) -> Outbox<A>
+        ensures limit { result.limit ≡ messages }
+        ensures empty { result.messages ≡ [] }
+    {
+        Outbox {
+            limit: messages,
+            messages: Vec::new(alloc),
+        }
+    }
+
+    /// How many messages it holds, which is the number of the last one.
+    pub fn len(&self) -> usize
+        ensures len { result ≡ length self.now.messages }
+        ensures within { length self.now.messages ≤ self.now.limit }
+    {
+        self.messages.len()
+    }
+
+    /// Whether it holds no message.
+    pub fn is_empty(&self) -> bool
+        ensures { IsTrue result ↔ (self.now.messages ≡ []) }
+    {
+        self.messages.is_empty()
+    }
+
+    /// Whether it holds as many messages as it may.
+    pub fn is_full(&self) -> bool
+        ensures { IsTrue result ↔ (self.now.limit ≤ length self.now.messages) }
+    {
+        self.limit <= self.len() as u64
+    }
+
+    /// The message of a number, counted from 1.
+    pub fn get(&self, number: u64) -> Option<&Payload<A>>
+        ensures { option_copied result ≡ numbered self.now.messages number }
+    {
+        match number {
+            0 => None,
+            _ => self.messages.get((number - 1) as usize),
+        }
+    }
+
+    /// Takes the last message out; its number is free again. The room never falls.
+    pub fn pop(&mut self) -> Option<Payload<A>>
+        ensures found { IsSome result ↔ (0 < length self.old.messages) }
+        ensures messages { self.old.messages ≡ self.new.messages ++ option_to_list result }
+        ensures limit { self.new.limit ≡ self.old.limit }
+        ensures room { self.old.room ≤ self.new.room }
+    {
+        self.messages.pop()
+    }
+
+    /// After an `Ok` one push is not refused memory. The messages stay, also where memory is refused.
+    pub fn make_room(&mut self) -> Result<(), Oom>
+        ensures messages { self.new.messages ≡ self.old.messages }
+        ensures limit { self.new.limit ≡ self.old.limit }
+        ensures ok { OnOk result (0 < self.new.room) }
+    {
+        self.messages.reserve(1)
+    }
+
+    /// Puts a message behind the others, and gives its number. A fault gives the message back: `OutboxFull` comes
+    /// first.
+    pub fn push(&mut self, payload: Payload<A>) -> Result<u64, (Payload<A>, OutboxFault)>
+        ensures number { IfOk result (λ number. number ≡ length self.old.messages + 1) }
+        ensures ok { OnOk result (self.new.messages ≡ self.old.messages ++ payload ∷ []) }
+        ensures limit { self.new.limit ≡ self.old.limit }
+
+        ensures full { self.old.limit ≤ length self.old.messages → IsErrAnd result (λ failed. failed.1 ≡ OutboxFault.OutboxFull) }
+        ensures full_only_at_limit { IfErr result (λ failed. failed.1 ≡ OutboxFault.OutboxFull → self.old.limit ≤ length self.old.messages) }
+        ensures succeeds { 0 < self.old.room → length self.old.messages < self.old.limit → IsOk result }
+        ensures err { OnErr result (self.new.messages ≡ self.old.messages) }
+        ensures given_back { IfErr result (λ failed. failed.0 ≡ payload) }
+    {
+        if self.is_full() {
+            return Err((payload, OutboxFault::OutboxFull));
+        }
+        if let Err(failed) = self.messages.push(payload) {
+            return Err((failed.value, OutboxFault::OutOfMemory));
+        }
+        Ok(self.len() as u64)
+    }
+
+    /// Whether both have the same limit and the same messages, whatever their room. It takes no memory.
+    pub fn same(&self, other: &Outbox<A>) -> bool
+        ensures { IsTrue result ↔ ((self.now.limit ≡ other.now.limit) × (self.now.messages ≡ other.now.messages)) }
+    {
+        self.limit == other.limit && are_same(&self.messages, &other.messages)
+    }
+
+    /// An outbox with the same limit and the same messages.
+    pub fn try_copy(&self) -> Result<Outbox<A>, Oom>
+    where
+        A: Copy,
+        ensures limit { IfOk result (λ copy. copy.limit ≡ self.now.limit) }
+        ensures messages { IfOk result (λ copy. copy.messages ≡ self.now.messages) }
+    {
+        let mut messages = Vec::with_capacity(*self.messages.allocator(), self.len())?;
+        for message in &self.messages {
+            messages.push(message.try_copy()?)?;
+        }
+        Ok(Outbox {
+            limit: self.limit,
+            messages,
+        })
+    }
+}
+
+fn are_same<A: Allocator>(one: &[Payload<A>], other: &[Payload<A>]) -> bool
+    ensures { IsTrue result ↔ (one.now ≡ other.now) }
+{
+    if one.len() != other.len() {
+        return false;
+    }
+    for (place, message) in one.iter().enumerate() {
+        if !message.same(&other[place]) {
+            return false;
+        }
+    }
+    true
+}
