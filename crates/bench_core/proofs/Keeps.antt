@@ -1,0 +1,347 @@
+-- What a bench keeps is kept by each call.
+use Rattle.std.proofs.Common.{◌≡◌, ◌≢◌, ℕ, ◌+◌, ◌<◌, ◌≤◌, ◌==◌, not, nat_lt, Bool, true, false, if◌then◌else◌, List, [], ◌∷◌, ◌++◌, length, set, get_or, slice_get, Option, Some, None, Result, Ok, Err, refl, sym, ap, ◌∙◌, subst, subst₂, arith, length-set}
+use Rattle.std.proofs.lemmas.Bool.{le-ltb, lt-ltb, ne_eqb, and_parts}
+use Rattle.std.proofs.lemmas.Option.{slice_get_within}
+use Rattle.std.specs.List.{list_all}
+use Rattle.payload_core.specs.Answers.{◌>>=◌}
+use Rattle.bench_core.specs.declared.reply.Reply.{Reply}
+use Rattle.bench_core.specs.declared.reply.Reply.TheVariants.{Taken, Undone, Refused}
+use Rattle.bench_core.specs.declared.fault.Fault.{Fault}
+use Rattle.bench_core.specs.declared.fault.Fault.TheVariants.{UnknownNode, HistoryFull}
+use Rattle.bench_core.specs.declared.step_fault.StepFault.{StepFault}
+use Rattle.bench_core.specs.declared.step_fault.StepFault.TheVariants as step_faults
+use Rattle.bench_core.specs.NameList.{Texts}
+use Rattle.bench_core.specs.Limits.{Limits, node_limits}
+use Rattle.bench_core.specs.Operations.{Operation, named_in, Action, Do}
+use Rattle.bench_core.specs.Nodes.{Node, Inverse, LeadsBack}
+use Rattle.bench_core.specs.Clusters.{Cluster, step, opening_of, fault_of}
+use Rattle.bench_core.specs.Journals.{Kept, find_number, first_consequence, without}
+use Rattle.bench_core.specs.Runs.{then_runs, runs}
+use Rattle.bench_core.specs.Chains.{Held, kepts, find_held, inverse_of, with_inverse, without_held, Link, Chain}
+use Rattle.bench_core.specs.Machine.{Event, Config, State, Machine, config_of, opening_state, given, free_places, knows, undo_reply, step_reply, do_reply, reply_to, now, is_recorded, after, call, calls, AnswersAs, Answered}
+use Rattle.bench_core.specs.Headline.{IsReached}
+use Rattle.bench_core.specs.Benches.{IsBackable, IsBench, IsTaken}
+use Rattle.bench_core.proofs.Clusters.{step_takes}
+use Rattle.bench_core.proofs.Runs.{runs_append}
+use Rattle.bench_core.proofs.OneStep.{get_at}
+use Rattle.bench_core.proofs.Reached.{kept_reached, count_push, undo_gives}
+use Rattle.bench_core.proofs.Chain.{chain_push, kepts_append, undoing}
+
+calls_append : (c : Config) (s : State) (asked : List (ℕ × Action)) (actor : ℕ) (act : Action) → calls c s (asked ++ (actor, act) ∷ []) ≡ call c (calls c s asked) actor act
+calls_append c s [] actor act = refl
+calls_append c s (a ∷ asked) actor act = calls_append c (call c s a.0 a.1) asked actor act
+
+-- a state that the machine comes to is reached
+reached_after : (c : Config) (s : State) (actor : ℕ) (act : Action) (r : Reply) → IsReached c s → reply_to c s actor act ≡ r → IsReached c (after c s actor act r)
+reached_after c s actor act r reached is = (
+  reached.0 ++ (actor, act) ∷ [],
+  ap (after c s actor act) (sym is) ∙ ap (λ (s : State). call c s actor act) reached.1 ∙ sym (calls_append c opening_state reached.0 actor act),
+)
+
+abbrev pub machine : Texts → Limits → List Event → List Kept → Machine
+machine names limits h ks = record { names = names; limits = limits; state = record { history = h; remaining = ks } }
+
+abbrev pub config : Texts → Limits → Config
+config names limits = record { nodes = length names; limits = limits }
+
+-- the history with one more call
+abbrev pub note : ℕ → Action → Reply → List Event → List Event
+note actor act r h = h ++ record { actor = actor; act = act; reply = r } ∷ []
+
+-- a history to which a call was added, by a copy of what was asked
+pub noted : (actor : ℕ) (act copy : Action) (r : Reply) (h mid later : List Event) → later ≡ mid ++ record { actor = actor; act = copy; reply = r } ∷ [] → mid ≡ h → copy ≡ act → later ≡ note actor act r h
+noted actor act copy r h mid later is same copied =
+    is ∙ ap (λ (m : List Event). m ++ record { actor = actor; act = copy; reply = r } ∷ []) same ∙ ap (λ (a : Action). note actor a r h) copied
+
+recorded_if : (c : Config) (s : State) (f : Fault) → f ≢ HistoryFull → is_recorded c s (Refused f) ≡ not (free_places c s == 0)
+recorded_if c s HistoryFull other = absurd (other refl)
+recorded_if c s UnknownNode other = refl
+recorded_if c s _ other = refl
+
+-- a node's fault is no want of room for the call
+pub fault_of_other : (f : StepFault) → fault_of f ≢ HistoryFull
+fault_of_other step_faults.AlreadyTracked e = cc
+fault_of_other step_faults.EntriesFull e = cc
+fault_of_other step_faults.ClockFull e = cc
+fault_of_other step_faults.OutOfMemory e = cc
+
+-- a refusal that is recorded
+refused_noted : (c : Config) (s : State) (nodes : Cluster) (hs : List Held) (taken actor : ℕ) (act : Action) (f : Fault) → IsBench c s nodes hs taken → reply_to c s actor act ≡ Refused f → f ≢ HistoryFull → (free_places c s == 0) ≡ false →
+    record {
+      state : record { history = note actor act (Refused f) s.history; remaining = s.remaining } ≡ after c s actor act (Refused f);
+      keeps : IsBench c (record { history = note actor act (Refused f) s.history; remaining = s.remaining }) nodes hs taken;
+    }
+refused_noted c s nodes hs taken actor act f old is other room =
+    let recorded : is_recorded c s (Refused f) ≡ true = recorded_if c s f other ∙ ap not room in
+    let state : record { history = note actor act (Refused f) s.history; remaining = s.remaining } ≡ after c s actor act (Refused f) = rw recorded refl in
+    let reached = subst (IsReached c) (sym state) (reached_after c s actor act (Refused f) old.reached is) in
+    let more = count_push s.history (record { actor = actor; act = act; reply = Refused f }) in
+    let count = old.count in
+    record {
+      state = state;
+      keeps = record {
+        reached = reached;
+        is_now = old.is_now;
+        chain = old.chain;
+        count = omega (arith, count, more);
+        fits = (kept_reached c _ reached).fits;
+        bound = old.bound;
+        size = old.size;
+      };
+    }
+
+-- the same, as the code comes to it: m is the value before, h and ks its lists
+pub refused : (names : Texts) (limits : Limits) (h later : List Event) (ks : List Kept) (nodes : Cluster) (hs : List Held) (taken actor : ℕ) (act : Action) (f : Fault) (m : Machine) →
+    machine names limits h ks ≡ m → later ≡ note actor act (Refused f) h → IsBench (config names limits) (record { history = h; remaining = ks }) nodes hs taken →
+    reply_to (config_of m) m.state actor act ≡ Refused f → f ≢ HistoryFull → free_places (config_of m) m.state ≢ 0 →
+    record {
+      keeps : IsBench (config names limits) (record { history = later; remaining = ks }) nodes hs taken;
+      answers : AnswersAs m actor act (Refused f) (machine names limits later ks);
+    }
+refused names limits h later ks nodes hs taken actor act f m at longer old = subst (λ (m : Machine). reply_to (config_of m) m.state actor act ≡ Refused f → f ≢ HistoryFull → free_places (config_of m) m.state ≢ 0 → record { keeps : IsBench (config names limits) (record { history = later; remaining = ks }) nodes hs taken; answers : AnswersAs m actor act (Refused f) (machine names limits later ks) }) at here
+  where
+    here : reply_to (config names limits) (record { history = h; remaining = ks }) actor act ≡ Refused f → f ≢ HistoryFull → free_places (config names limits) (record { history = h; remaining = ks }) ≢ 0 →
+        record { keeps : IsBench (config names limits) (record { history = later; remaining = ks }) nodes hs taken; answers : AnswersAs (machine names limits h ks) actor act (Refused f) (machine names limits later ks) }
+    here is other room =
+        let n = refused_noted (config names limits) (record { history = h; remaining = ks }) nodes hs taken actor act f old is other (ne_eqb _ 0 room) in
+        record {
+          keeps = subst (λ (h : List Event). IsBench (config names limits) (record { history = h; remaining = ks }) nodes hs taken) (sym longer) n.keeps;
+          answers = Answered (sym is) (ap (λ (h : List Event). machine names limits h ks) longer ∙ ap (λ (s : State). record { names = names; limits = limits; state = s }) n.state);
+        }
+
+-- a refusal for which there is no place
+pub refused_full : (actor : ℕ) (act : Action) (f : Fault) (m : Machine) → reply_to (config_of m) m.state actor act ≡ Refused f → f ≢ HistoryFull → free_places (config_of m) m.state ≡ 0 → AnswersAs m actor act (Refused f) m
+refused_full actor act f m is other full =
+    let recorded : is_recorded (config_of m) m.state (Refused f) ≡ false = recorded_if (config_of m) m.state f other ∙ ap (λ n. not (n == 0)) full in
+    Answered (sym is) (rw recorded refl)
+
+-- what a step is answered
+
+pub do_gives : (c : Config) (s : State) (actor : ℕ) (operation : Operation) (nodes : Cluster) (r : Result Cluster Fault) → knows c actor operation ≡ true → 2 ≤ free_places c s → now c s ≡ Ok nodes → step nodes actor operation ≡ r → do_reply c s actor operation ≡ step_reply (given s.history + 1) r
+do_gives c s actor operation nodes r is room run taken =
+    rw (is, le-ltb (free_places c s) 2 room) (ap (λ r. step_reply (given s.history + 1) (r >>= λ cluster. step cluster actor operation)) run ∙ ap (step_reply (given s.history + 1)) taken)
+
+-- the nodes that a known step names are nodes of the cluster
+pub named_there : (c : Config) (nodes : Cluster) (actor : ℕ) (operation : Operation) → length nodes ≡ c.nodes → knows c actor operation ≡ true → list_all (λ k. nat_lt k (length nodes)) (named_in operation) ≡ true
+named_there c nodes actor operation size is = subst (λ m. list_all (λ k. nat_lt k m) (named_in operation) ≡ true) (sym size) (and_parts (nat_lt actor c.nodes) (list_all (λ k. nat_lt k c.nodes) (named_in operation)) is).1
+
+abbrev pub added : ℕ → ℕ → Operation → Inverse → Held
+added number actor operation i = record { kept = record { number = number; node = actor; step = operation }; inverse = Some i }
+
+taken_here : (names : Texts) (limits : Limits) (h : List Event) (nodes d : Cluster) (hs : List Held) (taken actor : ℕ) (operation : Operation) (i : Inverse) →
+    IsBench (config names limits) (record { history = h; remaining = kepts hs }) nodes hs taken →
+    knows (config names limits) actor operation ≡ true → 2 ≤ free_places (config names limits) (record { history = h; remaining = kepts hs }) → IsTaken nodes actor operation i d →
+    record {
+      keeps : IsBench (config names limits) (record { history = note actor (Do operation) (Taken (taken + 1)) h; remaining = kepts (hs ++ added (taken + 1) actor operation i ∷ []) }) d (hs ++ added (taken + 1) actor operation i ∷ []) (taken + 1);
+      answers : AnswersAs (machine names limits h (kepts hs)) actor (Do operation) (Taken (taken + 1)) (machine names limits (note actor (Do operation) (Taken (taken + 1)) h) (kepts (hs ++ added (taken + 1) actor operation i ∷ [])));
+    }
+taken_here names limits h nodes d hs taken actor operation i old is room t =
+    let c : Config = config names limits in
+    let l = node_limits limits in
+    let s : State = record { history = h; remaining = kepts hs } in
+    let n : ℕ = taken + 1 in
+    let k : Kept = record { number = n; node = actor; step = operation } in
+    let journal : kepts (hs ++ added n actor operation i ∷ []) ≡ kepts hs ++ k ∷ [] = kepts_append hs (added n actor operation i ∷ []) in
+    let stepped : step nodes actor operation ≡ Ok d = step_takes nodes actor operation t.earlier (Ok t.later) t.at (named_there c nodes actor operation old.size is) t.taken ∙ ap Ok (sym t.gives) in
+    let number : given h + 1 ≡ n = let count = old.count in omega arith in
+    let reply : do_reply c s actor operation ≡ Taken n = do_gives c s actor operation nodes (Ok d) is room old.is_now stepped ∙ ap Taken number in
+    let state : record { history = note actor (Do operation) (Taken n) h; remaining = kepts (hs ++ added n actor operation i ∷ []) } ≡ after c s actor (Do operation) (Taken n) = ap (λ (ks : List Kept). record { history = note actor (Do operation) (Taken n) h; remaining = ks }) journal in
+    let reached = subst (IsReached c) (sym state) (reached_after c s actor (Do operation) (Taken n) old.reached reply) in
+    let more = count_push h (record { actor = actor; act = Do operation; reply = Taken n }) in
+    let link : Link nodes (added n actor operation i) = record { inverse = i; kept = refl; earlier = t.earlier; later = t.later; at = t.at; taken = t.taken; leads = t.leads } in
+    record {
+      keeps = record {
+        reached = reached;
+        is_now = ap (runs l c.nodes) journal ∙ runs_append (Ok (opening_of l c.nodes)) (kepts hs) (k ∷ []) ∙ ap (λ r. then_runs r (k ∷ [])) old.is_now ∙ ap (λ r. then_runs r []) stepped;
+        chain = chain_push (Ok (opening_of l c.nodes)) hs (added n actor operation i) nodes old.chain old.is_now link;
+        count = omega (arith, number, more);
+        fits = (kept_reached c _ reached).fits;
+        bound = old.bound;
+        size = ap length t.gives ∙ length-set nodes actor t.later ∙ old.size;
+      };
+      answers = Answered (sym reply) (ap (λ (s : State). record { names = names; limits = limits; state = s }) state);
+    }
+
+-- a step that was taken, as the code comes to it
+pub taken_step : (names : Texts) (limits : Limits) (h later : List Event) (nodes d : Cluster) (hs next : List Held) (taken actor : ℕ) (operation : Operation) (i : Inverse) (m : Machine) →
+    machine names limits h (kepts hs) ≡ m → later ≡ note actor (Do operation) (Taken (taken + 1)) h → next ≡ hs ++ added (taken + 1) actor operation i ∷ [] →
+    IsBench (config names limits) (record { history = h; remaining = kepts hs }) nodes hs taken →
+    knows (config_of m) actor operation ≡ true → 2 ≤ free_places (config_of m) m.state → IsTaken nodes actor operation i d →
+    record {
+      keeps : IsBench (config names limits) (record { history = later; remaining = kepts next }) d next (taken + 1);
+      answers : AnswersAs m actor (Do operation) (Taken (taken + 1)) (machine names limits later (kepts next));
+    }
+taken_step names limits h later nodes d hs next taken actor operation i m at longer grown old is room t =
+    let is_here : knows (config names limits) actor operation ≡ true = subst (λ (m : Machine). knows (config_of m) actor operation ≡ true) (sym at) is in
+    let room_here : 2 ≤ free_places (config names limits) (record { history = h; remaining = kepts hs }) = subst (λ (m : Machine). 2 ≤ free_places (config_of m) m.state) (sym at) room in
+    let r = taken_here names limits h nodes d hs taken actor operation i old is_here room_here t in
+    record {
+      keeps = subst₂ (λ (h : List Event) (b : List Held). IsBench (config names limits) (record { history = h; remaining = kepts b }) d b (taken + 1)) (sym longer) (sym grown) r.keeps;
+      answers = subst (λ (m : Machine). AnswersAs m actor (Do operation) (Taken (taken + 1)) (machine names limits later (kepts next))) at
+          (subst₂ (λ (h' : List Event) (b : List Held). AnswersAs (machine names limits h (kepts hs)) actor (Do operation) (Taken (taken + 1)) (machine names limits h' (kepts b))) (sym longer) (sym grown) r.answers);
+    }
+
+-- a step that its node refuses
+pub step_refused : (names : Texts) (limits : Limits) (h : List Event) (nodes : Cluster) (hs : List Held) (taken actor : ℕ) (operation : Operation) (f : Fault) (m : Machine) → machine names limits h (kepts hs) ≡ m →
+    IsBench (config names limits) (record { history = h; remaining = kepts hs }) nodes hs taken →
+    knows (config_of m) actor operation ≡ true → 2 ≤ free_places (config_of m) m.state → step nodes actor operation ≡ Err f → reply_to (config_of m) m.state actor (Do operation) ≡ Refused f
+step_refused names limits h nodes hs taken actor operation f m at old is room refused =
+    let run : now (config_of m) m.state ≡ Ok nodes = subst (λ (m : Machine). now (config_of m) m.state ≡ Ok nodes) at old.is_now in
+    do_gives (config_of m) m.state actor operation nodes (Err f) is room run refused
+
+-- a step that was taken, asked by an act of which the code has copies
+pub taken_asked : (names : Texts) (limits : Limits) (h later : List Event) (nodes d : Cluster) (hs mid next : List Held) (taken actor : ℕ) (asked copy : Operation) (act : Action) (i : Inverse) (m : Machine) →
+    machine names limits h (kepts hs) ≡ m → later ≡ note actor act (Taken (taken + 1)) h → mid ≡ hs → next ≡ mid ++ added (taken + 1) actor copy i ∷ [] → copy ≡ asked → act ≡ Do asked →
+    IsBench (config names limits) (record { history = h; remaining = kepts hs }) nodes hs taken →
+    knows (config_of m) actor asked ≡ true → 2 ≤ free_places (config_of m) m.state → IsTaken nodes actor copy i d →
+    record {
+      keeps : IsBench (config names limits) (record { history = later; remaining = kepts next }) d next (taken + 1);
+      answers : AnswersAs m actor act (Taken (taken + 1)) (machine names limits later (kepts next));
+    }
+taken_asked names limits h later nodes d hs mid next taken actor asked copy act i m at longer same grown copied asks old is room t =
+    let act_is : act ≡ Do copy = asks ∙ ap Do (sym copied) in
+    let r = taken_step names limits h later nodes d hs next taken actor copy i m at (longer ∙ ap (λ (a : Action). note actor a (Taken (taken + 1)) h) act_is) (grown ∙ ap (λ (l : List Held). l ++ added (taken + 1) actor copy i ∷ []) same) old (subst (λ (o : Operation). knows (config_of m) actor o ≡ true) (sym copied) is) room t in
+    record { keeps = r.keeps; answers = subst (λ (a : Action). AnswersAs m actor a (Taken (taken + 1)) (machine names limits later (kepts next))) (sym act_is) r.answers }
+
+-- a step that its node refused
+pub refused_asked : (names : Texts) (limits : Limits) (h later : List Event) (nodes d : Cluster) (hs mid : List Held) (taken actor : ℕ) (asked copy : Operation) (act : Action) (f : StepFault) (fault : Fault) (m : Machine) →
+    machine names limits h (kepts hs) ≡ m → later ≡ note actor act (Refused fault) h → mid ≡ hs → d ≡ nodes → copy ≡ asked → act ≡ Do asked → fault ≡ fault_of f →
+    IsBench (config names limits) (record { history = h; remaining = kepts hs }) nodes hs taken →
+    knows (config_of m) actor asked ≡ true → 2 ≤ free_places (config_of m) m.state → step nodes actor copy ≡ Err (fault_of f) →
+    record {
+      keeps : IsBench (config names limits) (record { history = later; remaining = kepts mid }) d mid taken;
+      answers : AnswersAs m actor act (Refused fault) (machine names limits later (kepts mid));
+    }
+refused_asked names limits h later nodes d hs mid taken actor asked copy act f fault m at longer same stays copied asks is_fault old is room gives =
+    let reply : reply_to (config_of m) m.state actor act ≡ Refused fault =
+    ap (reply_to (config_of m) m.state actor) asks
+    ∙ step_refused names limits h nodes hs taken actor asked fault m at old is room (ap (step nodes actor) (sym copied) ∙ gives ∙ ap Err (sym is_fault)) in
+    let other : fault ≢ HistoryFull = λ e. fault_of_other f (sym is_fault ∙ e) in
+    let r = refused names limits h later (kepts hs) nodes hs taken actor act fault m at longer old reply other (λ e. omega arith) in
+    record {
+      keeps = subst₂ (λ (d : Cluster) (b : List Held). IsBench (config names limits) (record { history = later; remaining = kepts b }) d b taken) (sym stays) (sym same) r.keeps;
+      answers = subst (λ (b : List Held). AnswersAs m actor act (Refused fault) (machine names limits later (kepts b))) (sym same) r.answers;
+    }
+
+-- undoing
+
+find_kept : (hs : List Held) (n : ℕ) (k : Kept) → find_number (kepts hs) n ≡ Some k → (h : Held) × (find_held hs n ≡ Some h) × (h.kept ≡ k)
+find_kept [] n k is = absurd (cc)
+find_kept (x ∷ hs) n k is = go (x.kept.number == n) is (find_kept hs n k)
+  where
+    go : (b : Bool) → (if b then Some x.kept else find_number (kepts hs) n) ≡ Some k → (find_number (kepts hs) n ≡ Some k → (h : Held) × (find_held hs n ≡ Some h) × (h.kept ≡ k)) → (h : Held) × ((if b then Some x else find_held hs n) ≡ Some h) × (h.kept ≡ k)
+    go true is more = (x, refl, cc)
+    go false is more = more is
+
+-- what the code finds where step n may be taken back: the inverse that is lent, the node, and what they become
+pub record UndoAt (c : Config) (nodes : Cluster) (hs : List Held) (n : ℕ) (k : Kept) : Type 0 where
+  pub backable : IsBackable nodes hs n k.node
+  pub remains : kepts (without_held hs n) ≡ without (kepts hs) n
+  pub run : runs (node_limits c.limits) c.nodes (without (kepts hs) n) ≡ Ok (set nodes k.node backable.earlier)
+  pub chain : Chain (Ok (opening_of (node_limits c.limits) c.nodes)) (without_held hs n)
+
+pub undo_at : (c : Config) (h : List Event) (nodes : Cluster) (hs : List Held) (taken n : ℕ) (k : Kept) → IsBench c (record { history = h; remaining = kepts hs }) nodes hs taken →
+    find_number (kepts hs) n ≡ Some k → first_consequence (kepts hs) n ≡ None → UndoAt c nodes hs n k
+undo_at c h nodes hs taken n k old found free =
+    let f = find_kept hs n k found in
+    let kept = kept_reached c (record { history = h; remaining = kepts hs }) old.reached in
+    let u = undoing (node_limits c.limits) c.nodes n hs f.0 nodes kept.rises old.is_now f.1 free old.chain in
+    let node : f.0.kept.node ≡ k.node = ap (λ (k : Kept). k.node) f.2 in
+    record {
+      backable = record {
+        inverse = u.inverse;
+        kept = ap inverse_of f.1 ∙ u.kept;
+        earlier = u.earlier;
+        later = u.later;
+        at = subst (λ m. slice_get nodes m ≡ Some u.later) node u.at;
+        leads = u.leads;
+      };
+      remains = u.remains;
+      run = u.run ∙ ap (λ m. Ok (set nodes m u.earlier)) node;
+      chain = u.chain;
+    }
+
+undone_here : (names : Texts) (limits : Limits) (h : List Event) (nodes : Cluster) (hs : List Held) (taken actor n : ℕ) (act : Action) (k : Kept) → IsBench (config names limits) (record { history = h; remaining = kepts hs }) nodes hs taken →
+    reply_to (config names limits) (record { history = h; remaining = kepts hs }) actor act ≡ undo_reply (record { history = h; remaining = kepts hs }) n → 0 < n → n ≤ taken →
+    find_number (kepts hs) n ≡ Some k → first_consequence (kepts hs) n ≡ None → (u : UndoAt (config names limits) nodes hs n k) →
+    record {
+      keeps : IsBench (config names limits) (record { history = note actor act (Undone n) h; remaining = kepts (without_held hs n) }) (set nodes k.node u.backable.earlier) (without_held hs n) taken;
+      answers : AnswersAs (machine names limits h (kepts hs)) actor act (Undone n) (machine names limits (note actor act (Undone n) h) (kepts (without_held hs n)));
+    }
+undone_here names limits h nodes hs taken actor n act k old same low high found free u =
+    let c : Config = config names limits in
+    let s : State = record { history = h; remaining = kepts hs } in
+    let count = old.count in
+    let reply : reply_to c s actor act ≡ Undone n = same ∙ undo_gives s n k None low (omega arith) found free in
+    let state : record { history = note actor act (Undone n) h; remaining = kepts (without_held hs n) } ≡ after c s actor act (Undone n) = ap (λ (ks : List Kept). record { history = note actor act (Undone n) h; remaining = ks }) u.remains in
+    let reached = subst (IsReached c) (sym state) (reached_after c s actor act (Undone n) old.reached reply) in
+    let more = count_push h (record { actor = actor; act = act; reply = Undone n }) in
+    record {
+      keeps = record {
+        reached = reached;
+        is_now = ap (runs (node_limits limits) c.nodes) u.remains ∙ u.run;
+        chain = u.chain;
+        count = omega (arith, count, more);
+        fits = (kept_reached c _ reached).fits;
+        bound = old.bound;
+        size = length-set nodes k.node u.backable.earlier ∙ old.size;
+      };
+      answers = Answered (sym reply) (ap (λ (s : State). record { names = names; limits = limits; state = s }) state);
+    }
+
+-- a step that was taken back, as the code comes to it
+pub undone : (names : Texts) (limits : Limits) (h later : List Event) (nodes d : Cluster) (hs next : List Held) (taken actor n : ℕ) (act : Action) (k : Kept) (m : Machine) → machine names limits h (kepts hs) ≡ m →
+    later ≡ note actor act (Undone n) h → next ≡ without_held hs n →
+    IsBench (config names limits) (record { history = h; remaining = kepts hs }) nodes hs taken →
+    reply_to (config_of m) m.state actor act ≡ undo_reply m.state n → 0 < n → n ≤ given m.state.history →
+    find_number (kepts hs) n ≡ Some k → first_consequence (kepts hs) n ≡ None → (u : UndoAt (config names limits) nodes hs n k) → d ≡ set nodes k.node u.backable.earlier →
+    record {
+      keeps : IsBench (config names limits) (record { history = later; remaining = kepts next }) d next taken;
+      answers : AnswersAs m actor act (Undone n) (machine names limits later (kepts next));
+    }
+undone names limits h later nodes d hs next taken actor n act k m at longer shorter old same low high found free u gives =
+    let count = old.count in
+    let high_here : n ≤ given h = subst (λ (m : Machine). n ≤ given m.state.history) (sym at) high in
+    let same_here = subst (λ (m : Machine). reply_to (config_of m) m.state actor act ≡ undo_reply m.state n) (sym at) same in
+    let r = undone_here names limits h nodes hs taken actor n act k old same_here low (omega arith) found free u in
+    record {
+      keeps = subst (λ (d : Cluster). IsBench (config names limits) (record { history = later; remaining = kepts next }) d next taken) (sym gives)
+          (subst₂ (λ (h : List Event) (b : List Held). IsBench (config names limits) (record { history = h; remaining = kepts b }) (set nodes k.node u.backable.earlier) b taken) (sym longer) (sym shorter) r.keeps);
+      answers = subst (λ (m : Machine). AnswersAs m actor act (Undone n) (machine names limits later (kepts next))) at
+          (subst₂ (λ (h' : List Event) (b : List Held). AnswersAs (machine names limits h (kepts hs)) actor act (Undone n) (machine names limits h' (kepts b))) (sym longer) (sym shorter) r.answers);
+    }
+
+-- an inverse that was lent and is put back
+pub lent_back : (hs : List Held) (n : ℕ) (i : Inverse) → inverse_of (find_held hs n) ≡ Some i → with_inverse (with_inverse hs n None) n (Some i) ≡ hs
+lent_back [] n i is = absurd (cc)
+lent_back (x ∷ hs) n i is = go (x.kept.number == n) refl is (lent_back hs n i)
+  where
+    go : (b : Bool) → (x.kept.number == n) ≡ b → inverse_of (if b then Some x else find_held hs n) ≡ Some i → (inverse_of (find_held hs n) ≡ Some i → with_inverse (with_inverse hs n None) n (Some i) ≡ hs) →
+        with_inverse (if b then record { kept = x.kept; inverse = None } ∷ hs else x ∷ with_inverse hs n None) n (Some i) ≡ x ∷ hs
+    go true at is more = rw at (ap (λ o. record { kept = x.kept; inverse = o } ∷ hs) (sym is))
+    go false at is more = rw at (ap (λ (l : List Held). x ∷ l) (more is))
+
+-- and one that is lent, and then taken out with its step
+pub lent_out : (hs : List Held) (n : ℕ) → without_held (with_inverse hs n None) n ≡ without_held hs n
+lent_out [] n = refl
+lent_out (x ∷ hs) n = go (x.kept.number == n) refl (lent_out hs n)
+  where
+    go : (b : Bool) → (x.kept.number == n) ≡ b → without_held (with_inverse hs n None) n ≡ without_held hs n →
+        without_held (if b then record { kept = x.kept; inverse = None } ∷ hs else x ∷ with_inverse hs n None) n ≡ (if b then hs else x ∷ without_held hs n)
+    go true at more = rw at refl
+    go false at more = rw at (ap (λ (l : List Held). x ∷ l) more)
+
+-- the lent inverse leads back from the node that the code finds
+pub found_at : (nodes : Cluster) (hs : List Held) (n node : ℕ) (i : Inverse) (x : Node) (r : Option Inverse) (b : IsBackable nodes hs n node) →
+    r ≡ inverse_of (find_held hs n) → r ≡ Some i → x ≡ get_or nodes node x →
+    record {
+      leads : LeadsBack i x b.earlier;
+      here : slice_get nodes node ≡ Some x;
+    }
+found_at nodes hs n node i x r b lent is at =
+    let here : slice_get nodes node ≡ Some x = get_at nodes node x (slice_get_within nodes node b.later b.at) at in
+    let kept = b.kept in
+    let inverse_is : b.inverse ≡ i = cc (kept, lent, is) in
+    let stands = b.at in
+    let node_is : b.later ≡ x = cc (stands, here) in
+    record { leads = subst₂ (λ (i : Inverse) (x : Node). LeadsBack i x b.earlier) inverse_is node_is b.leads; here = here }

@@ -1,0 +1,17 @@
+pub mod Answers
+pub mod TextLists
+pub mod Clusters
+pub mod Taken
+pub mod Joins
+pub mod Runs
+pub mod OwnRun
+pub mod Middle
+pub mod Loop
+pub mod Reached
+pub mod AtOnce
+pub mod Chain
+pub mod OwnChain
+pub mod OneStep
+pub mod Openings
+pub mod Places
+pub mod Keeps

@@ -1,0 +1,56 @@
+-- What a bench keeps, and what a step of one of its nodes and a step back are answered.
+use Rattle.std.specs.Prelude.{◌≡◌, ◌≢◌, ℕ, ◌+◌, ◌≤◌, List, length, slice_get, slice_set, Option, Some, Result, Ok, Err}
+use Rattle.bench_core.specs.declared.step_fault.StepFault.{StepFault}
+use Rattle.bench_core.specs.declared.step_fault.StepFault.TheVariants.{OutOfMemory}
+use Rattle.bench_core.specs.Limits.{node_limits}
+use Rattle.bench_core.specs.Operations.{Operation}
+use Rattle.bench_core.specs.Nodes.{Node, take, Inverse, LeadsBack}
+use Rattle.bench_core.specs.Chains.{Held, find_held, inverse_of, Chain}
+use Rattle.bench_core.specs.Clusters.{Cluster, step, opening_of, message_for, fault_of}
+use Rattle.bench_core.specs.Machine.{Config, State, Machine, config_of, given, now}
+use Rattle.bench_core.specs.Headline.{IsReached}
+
+-- what each bench keeps, at rest
+pub record IsBench (c : Config) (s : State) (nodes : Cluster) (hs : List Held) (taken : ℕ) : Type 0 where
+  -- some calls lead to its state
+  pub reached : IsReached c s
+  -- the nodes are what the remaining steps give
+  pub is_now : now c s ≡ Ok nodes
+  -- the inverses lead back along that run
+  pub chain : Chain (Ok (opening_of (node_limits c.limits) c.nodes)) hs
+  -- so many steps were ever taken
+  pub count : taken ≡ given s.history
+  pub fits : length s.history + length s.remaining ≤ c.limits.acts
+  pub bound : c.limits.acts ≤ 1000000
+  pub size : length nodes ≡ c.nodes
+
+-- the step of node n was accepted, and its inverse leads back
+pub record IsTaken (c : Cluster) (n : ℕ) (s : Operation) (i : Inverse) (d : Cluster) : Type 0 where
+  pub earlier : Node
+  pub later : Node
+  pub at : slice_get c n ≡ Some earlier
+  pub taken : take earlier s (message_for c s) ≡ Ok later
+  pub leads : LeadsBack i later earlier
+  pub gives : d ≡ slice_set c n later
+
+-- a step of node n was accepted, or refused, memory apart, for the fault of the definition, and nothing changed
+abbrev pub Steps : Cluster → ℕ → Operation → Result Inverse StepFault → Cluster → Type 0
+Steps c n s (Ok i) d = IsTaken c n s i d
+Steps c n s (Err fault) d = (d ≡ c) × (fault ≢ OutOfMemory → step c n s ≡ Err (fault_of fault))
+
+-- step n, of this node, can be taken back: its inverse leads back from the node
+pub record IsBackable (nodes : Cluster) (hs : List Held) (n node : ℕ) : Type 0 where
+  pub inverse : Inverse
+  pub kept : inverse_of (find_held hs n) ≡ Some inverse
+  pub earlier : Node
+  pub later : Node
+  pub at : slice_get nodes node ≡ Some later
+  pub leads : LeadsBack inverse later earlier
+
+-- the node became what the inverse of step n leads back to
+abbrev pub GoesBack : Cluster → List Held → ℕ → ℕ → Cluster → Type 0
+GoesBack nodes hs n node d = (b : IsBackable nodes hs n node) → d ≡ slice_set nodes node b.earlier
+
+-- the node of this number, where there is one, in what the remaining steps give
+abbrev pub IsNodeOf : Machine → ℕ → Option Node → Type 0
+IsNodeOf m n node = (c : Cluster) × (now (config_of m) m.state ≡ Ok c) × (node ≡ slice_get c n)

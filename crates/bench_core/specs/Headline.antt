@@ -1,0 +1,68 @@
+-- What holds of the machine, whatever is asked of it.
+use Rattle.std.specs.Prelude.{◌≡◌, ◌⊎◌, ℕ, ◌+◌, ◌≤◌, List, length, Some, None, Ok}
+use Rattle.bench_core.specs.declared.reply.Reply.{Reply}
+use Rattle.bench_core.specs.declared.reply.Reply.TheVariants.{Taken, Undone, Refused}
+use Rattle.bench_core.specs.declared.fault.Fault.TheVariants.{HasConsequence, OutOfMemory}
+use Rattle.bench_core.specs.Limits.{node_limits}
+use Rattle.bench_core.specs.Operations.{Operation, Action, Do, Undo}
+use Rattle.bench_core.specs.Clusters.{Cluster}
+use Rattle.bench_core.specs.Journals.{Kept, RisesAbove, find_number, first_consequence, without, before}
+use Rattle.bench_core.specs.Runs.{runs}
+use Rattle.bench_core.specs.Laws.{put_back}
+use Rattle.bench_core.specs.Machine.{Config, State, opening_state, calls, call, reply_to, now, Machine, config_of, cluster_of, AnswersAs}
+
+-- a state that some calls lead to
+abbrev pub IsReached : Config → State → Type 0
+IsReached c s = (asked : List (ℕ × Action)) × (s ≡ calls c opening_state asked)
+
+-- given by the remaining steps: these run without a fault from empty nodes, their numbers rise, and the history keeps within its bound
+abbrev pub GivenLaw : Type 0
+GivenLaw = (c : Config) (s : State) → IsReached c s →
+    record {
+      runs : (cluster : Cluster) × (now c s ≡ Ok cluster);
+      rises : RisesAbove 0 s.remaining;
+      fits : length s.history + length s.remaining ≤ c.limits.acts;
+    }
+
+-- taken back at once: a step whose undo comes next, from whoever, is undone, and the remaining steps are as before it
+abbrev pub BackLaw : Type 0
+BackLaw = (c : Config) (s : State) (actor other k : ℕ) (operation : Operation) → IsReached c s → reply_to c s actor (Do operation) ≡ Taken k →
+    record {
+      undone : reply_to c (call c s actor (Do operation)) other (Undo k) ≡ Undone k;
+      as_it_was : (call c (call c s actor (Do operation)) other (Undo k)).remaining ≡ s.remaining;
+    }
+
+-- refused only for a named consequence: an undo of a remaining step is made, and changes its node alone; or it is refused with its least direct consequence, and changes nothing
+abbrev pub UndoLaw : Type 0
+UndoLaw = (c : Config) (s : State) (actor : ℕ) (step : Kept) (cluster : Cluster) → IsReached c s → find_number s.remaining step.number ≡ Some step → now c s ≡ Ok cluster →
+    record {
+      undone : reply_to c s actor (Undo step.number) ≡ Undone step.number;
+      node_alone : (old : Cluster) × (runs (node_limits c.limits) c.nodes (before s.remaining step.number) ≡ Ok old) × (now c (call c s actor (Undo step.number)) ≡ Ok (put_back step.node old cluster));
+    }
+    ⊎ record {
+      held_by : ℕ;
+      held : first_consequence s.remaining step.number ≡ Some held_by;
+      refused : reply_to c s actor (Undo step.number) ≡ Refused (HasConsequence step.number held_by);
+      as_it_was : (call c s actor (Undo step.number)).remaining ≡ s.remaining;
+    }
+
+-- how the undo ends that comes next after a step, where the bench was `old` before the step and `new` after it
+pub data UndoneAtOnce (old new : Machine) (k : ℕ) (reply : Reply) (later : Machine) : Type 0 where
+  Back : reply ≡ Undone k → later.state.remaining ≡ old.state.remaining → cluster_of later ≡ cluster_of old → UndoneAtOnce old new k reply later
+  NoMemory : reply ≡ Refused OutOfMemory → later ≡ new → UndoneAtOnce old new k reply later
+
+-- a step that was taken can be taken back at once, by whoever
+abbrev pub CanBeTakenBack : Machine → Reply → Machine → Type 0
+CanBeTakenBack old (Taken k) new = (other : ℕ) (reply : Reply) (later : Machine) → AnswersAs new other (Undo k) reply later → UndoneAtOnce old new k reply later
+CanBeTakenBack old _ new = Unit {0}
+
+-- how the undo of remaining step k ends: it is made; or its least direct consequence is named, and neither cluster nor remaining steps change; or memory was refused, and nothing changed
+pub data UndoEnds (old : Machine) (k : ℕ) (reply : Reply) (new : Machine) : Type 0 where
+  Made : first_consequence old.state.remaining k ≡ None → reply ≡ Undone k → new.state.remaining ≡ without old.state.remaining k → UndoEnds old k reply new
+  IsHeld : (held_by : ℕ) → first_consequence old.state.remaining k ≡ Some held_by → reply ≡ Refused (HasConsequence k held_by) → new.state.remaining ≡ old.state.remaining → cluster_of new ≡ cluster_of old → UndoEnds old k reply new
+  Unmade : reply ≡ Refused OutOfMemory → new ≡ old → UndoEnds old k reply new
+
+-- an undo of a remaining step is refused only for a named consequence
+abbrev pub RefusedOnlyForConsequence : Machine → Action → Reply → Machine → Type 0
+RefusedOnlyForConsequence old (Do operation) reply new = Unit {0}
+RefusedOnlyForConsequence old (Undo k) reply new = (step : Kept) → find_number old.state.remaining k ≡ Some step → UndoEnds old k reply new

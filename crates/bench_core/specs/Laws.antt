@@ -1,0 +1,50 @@
+-- The laws of runs (Danos and Krivine: the loop, and the undo of a step whose consequences are gone).
+use Rattle.std.specs.Prelude.{◌≡◌, ℕ, List, [], ◌∷◌, ◌++◌, Some, None, Result, Ok, Err, slice_get, slice_set}
+use Rattle.std.specs.Option.{option_map, unwrap_or}
+use Rattle.bench_core.specs.declared.step_fault.StepFault.{StepFault}
+use Rattle.bench_core.specs.declared.node_limits.NodeLimits.{NodeLimits}
+use Rattle.bench_core.specs.Operations.{Operation}
+use Rattle.bench_core.specs.Nodes.{Node, opening_node, take}
+use Rattle.bench_core.specs.Clusters.{Cluster, opening_of, message_for, step}
+use Rattle.bench_core.specs.Journals.{Kept, RisesAbove, own_steps, find_number, first_consequence, without, before}
+use Rattle.bench_core.specs.Runs.{runs}
+use Rattle.bench_core.specs.Chains.{Held, kepts, Chain, OwnChains}
+
+-- the journal with one more step at its end
+abbrev pub added : List Kept → ℕ → ℕ → Operation → List Kept
+added ks number node s = ks ++ record { number = number; node = node; step = s } ∷ []
+
+-- a step at the end has no direct consequence, and taking it out gives the journal before
+abbrev pub LoopLaw : Type 0
+LoopLaw = (l : NodeLimits) (count number node : ℕ) (ks : List Kept) (s : Operation) (c d : Cluster) →
+    RisesAbove 0 (added ks number node s) → runs l count ks ≡ Ok c → step c node s ≡ Ok d →
+    record {
+      held : first_consequence (added ks number node s) number ≡ None;
+      out : without (added ks number node s) number ≡ ks;
+    }
+
+-- one node taken through its own steps, each delivery given its message as it stands in the cluster
+abbrev pub own_run : Cluster → Result Node StepFault → List Kept → Result Node StepFault
+own_run c (Err e) ks = Err e
+own_run c (Ok node) [] = Ok node
+own_run c (Ok node) (k ∷ ks) = own_run c (take node k.step (message_for c k.step)) ks
+
+-- at each moment of a run, a node is what its own run has then
+abbrev pub OwnRunLaw : Type 0
+OwnRunLaw = (l : NodeLimits) (count n : ℕ) (first rest : List Kept) (old c : Cluster) (node : Node) →
+    runs l count (first ++ rest) ≡ Ok c → runs l count first ≡ Ok old → slice_get old n ≡ Some node →
+    own_run c (Ok (opening_node n l)) (own_steps first n) ≡ Ok node
+
+-- the cluster with one node as it is in the other
+abbrev pub put_back : ℕ → Cluster → Cluster → Cluster
+put_back n old c = unwrap_or (option_map (slice_set c n) (slice_get old n)) c
+
+-- a step without consequences can be left out. Only its node changes, to what it was just before
+abbrev pub MiddleLaw : Type 0
+MiddleLaw = (l : NodeLimits) (count n : ℕ) (ks : List Kept) (k : Kept) (c : Cluster) →
+    RisesAbove 0 ks → runs l count ks ≡ Ok c → find_number ks n ≡ Some k → first_consequence ks n ≡ None →
+    (old : Cluster) × (runs l count (before ks n) ≡ Ok old) × (runs l count (without ks n) ≡ Ok (put_back k.node old c))
+
+-- inverses that lead back along the run lead, for each node and newest first, from its present state back to its opening
+abbrev pub ChainLaw : Type 0
+ChainLaw = (l : NodeLimits) (count : ℕ) (hs : List Held) (c : Cluster) → Chain (Ok (opening_of l count)) hs → runs l count (kepts hs) ≡ Ok c → OwnChains l c hs

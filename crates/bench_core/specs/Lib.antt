@@ -1,0 +1,16 @@
+pub mod NameText
+pub mod NameList
+pub mod Limits
+pub mod FaultText
+pub mod Operations
+pub mod Replicas
+pub mod Nodes
+pub mod Clusters
+pub mod Journals
+pub mod Runs
+pub mod Chains
+pub mod Machine
+pub mod Histories
+pub mod Laws
+pub mod Headline
+pub mod Benches

@@ -1,0 +1,303 @@
+//! `Bench`: the machine over its nodes, its journal and its history.
+ghost use Rattle.std.specs.Prelude.{◌≡◌, ◌≢◌, ◌<◌, ◌≤◌, IfOk, OnOk, OnErr, IsTrue, length, true, nat_lt, slice_get, option_copied, option_map};
+ghost use Rattle.std.specs.List.{list_all};
+ghost use Rattle.bench_core.specs.declared.fault.Fault.TheVariants.{HistoryFull};
+ghost use Rattle.bench_core.specs.declared.reply.Reply.TheVariants.{Refused};
+ghost use Rattle.bench_core.specs.Operations.{named_in, plain, plain_act, calls_of, Do};
+ghost use Rattle.bench_core.specs.Chains.{without_held, kepts};
+ghost use Rattle.bench_core.specs.Clusters.{opening_of};
+ghost use Rattle.bench_core.specs.Machine.{config_of, given, free_places, knows, reply_to, undo_reply, opening_machine, AnswersAs, AllAnswered};
+ghost use Rattle.bench_core.specs.Headline.{IsReached, CanBeTakenBack, RefusedOnlyForConsequence};
+ghost use Rattle.bench_core.specs.Benches.{GoesBack, IsBackable, IsNodeOf, Steps};
+
+use crate::act::Act;
+use crate::fault::Fault;
+use crate::history::{Event, History};
+use crate::journal::{Journal, Kept};
+use crate::limits::Limits;
+use crate::names::Names;
+use crate::node::{Inverse, Node};
+use crate::node_limits::NodeLimits;
+use crate::reply::Reply;
+use crate::step::Step;
+use crate::step_fault::StepFault;
+use payload_core::Oom;
+use std::alloc::Allocator;
+use std::marker::Model;
+
+/// A step of one node.
+fn step_node<A: Allocator + Copy>(
+    nodes: &mut Vec<Node<A>, A>,
+    actor: u16,
+    step: &Step<A>,
+) -> Result<Inverse<A>, StepFault>
+    requires there { actor < length nodes.old.items }
+    requires named { list_all (λ k. nat_lt k (length nodes.old.items)) (named_in (plain step.now)) ≡ true }
+    ensures { Steps nodes.old.items actor (plain step.now) result nodes.new.items }
+{
+    nodes[actor as usize].take(step)
+}
+
+/// Takes step `number`, of this node, back by its inverse.
+fn take_back<'a, B: Allocator>(
+    nodes: &mut Vec<Node<&'a B>, &'a B>,
+    journal: &mut Journal<'a, B>,
+    number: u64,
+    node: u16,
+) -> Result<(), Oom>
+    requires { IsBackable nodes.old.items journal.old.steps number node }
+    ensures node { OnOk result (GoesBack nodes.old.items journal.old.steps number node nodes.new.items) }
+    ensures journal { OnOk result (journal.new ≡ record { steps = without_held journal.old.steps number; ready = journal.old.ready }) }
+    ensures err { OnErr result (nodes.new.items ≡ nodes.old.items) }
+    ensures err_journal { OnErr result (journal.new ≡ journal.old) }
+{
+    let inverse = journal.lend(number).unwrap();
+    let place = &mut nodes[node as usize];
+    if let Err((inverse, _)) = place.give_back(inverse) {
+        journal.put_back(number, inverse);
+        return Err(Oom);
+    }
+    journal.take_out(number);
+    Ok(())
+}
+
+/// A cluster of named nodes, the calls that it was asked, and the steps that remain. A contract sees the
+/// names, the limits, the recorded calls and the remaining steps; the nodes are what these steps give.
+#[derive(Drop)]
+pub struct Bench<'a, B: Allocator> {
+    names: Names<&'a B>,
+    limits: Limits,
+    nodes: Vec<Node<&'a B>, &'a B>,
+    journal: Journal<'a, B>,
+    history: History<'a, B>,
+    taken: u64,
+}
+
+impl<'a, B: Allocator> Model for Bench<'a, B> {
+    ghost use Rattle.std.specs.Prelude.{length};
+    ghost use Rattle.bench_core.specs.Chains.{kepts};
+    ghost use Rattle.bench_core.specs.Machine.{Machine};
+    ghost use Rattle.bench_core.specs.Benches.{IsBench};
+
+    ghost Value = { Machine };
+
+    ghost view = { λ b. record { names = b.names; limits = b.limits; state = record { history = b.history.events; remaining = kepts b.journal.steps } } };
+
+    ghost invariant = { λ b. IsBench (record { nodes = length b.names; limits = b.limits }) (record { history = b.history.events; remaining = kepts b.journal.steps }) b.nodes.items b.journal.steps b.taken };
+}
+
+impl<'a, B: Allocator> Bench<'a, B> {
+    /// A bench of empty nodes that was asked nothing.
+    pub fn new(alloc: &'a B, names: Names<&'a B>, limits: Limits) -> Result<Self, Oom>
+        ensures { IfOk result (λ b. b ≡ opening_machine names.entry limits) }
+    {
+        let nodes = open_nodes(alloc, names.len(), limits.of_node())?;
+        Ok(Bench {
+            names,
+            limits,
+            nodes,
+            journal: Journal::new(alloc),
+            history: History::new(alloc),
+            taken: 0,
+        })
+    }
+
+    /// The names of the nodes.
+    pub fn names(&self) -> &Names<&'a B>
+        ensures { result.now ≡ self.now.names }
+    {
+        &self.names
+    }
+
+    pub fn limits(&self) -> Limits
+        ensures { result ≡ self.now.limits }
+    {
+        self.limits
+    }
+
+    /// The recorded calls.
+    pub fn history(&self) -> &History<'a, B>
+        ensures { result.now.events ≡ self.now.state.history }
+    {
+        &self.history
+    }
+
+    /// The steps that remain.
+    pub fn remaining(&self) -> &Journal<'a, B>
+        ensures { kepts result.now.steps ≡ self.now.state.remaining }
+    {
+        &self.journal
+    }
+
+    /// The node of this number, as the remaining steps give it from empty nodes.
+    pub fn node(&self, number: u16) -> Option<&Node<&'a B>>
+        ensures { IsNodeOf self.now number (option_map (λ n. n.now) result) }
+    {
+        self.nodes.get(number as usize)
+    }
+
+    /// How many more calls and steps there is room for.
+    fn free(&self) -> u64
+        ensures { result ≡ free_places (config_of self.now) self.now.state }
+    {
+        self.limits.acts() - (self.history.len() as u64 + self.journal.len() as u64)
+    }
+
+    /// Whether the actor and the nodes that the step names are nodes.
+    fn knows(&self, actor: u16, step: &Step<&'a B>) -> bool
+        ensures { result ≡ knows (config_of self.now) actor (plain step.now) }
+    {
+        match step {
+            Step::Join { .. } => (actor as usize) < self.names.len(),
+        }
+    }
+
+    /// How many steps were ever taken.
+    fn given(&self) -> u64
+        ensures given { result ≡ given self.now.state.history }
+        ensures few { result ≤ 1000000 }
+        ensures reached { IsReached (config_of self.now) self.now.state }
+    {
+        self.taken
+    }
+
+    /// A refusal, recorded while a place is free.
+    fn refuse(&mut self, actor: u16, act: &Act<&'a B>, fault: Fault) -> Reply
+        requires refused { reply_to (config_of self.old) self.old.state actor (plain_act act.now) ≡ Refused fault }
+        requires recorded { fault ≢ HistoryFull }
+        ensures { AnswersAs self.old actor (plain_act act.now) result self.new }
+    {
+        let reply = Reply::Refused(fault);
+        if self.free() == 0 {
+            return reply;
+        }
+        let Ok(act) = self.history.make_room(act) else {
+            return Reply::Refused(Fault::OutOfMemory);
+        };
+        self.history.record(Event { actor, act, reply });
+        reply
+    }
+
+    /// A step of node `actor`, for which `act` asks.
+    fn take(&mut self, actor: u16, act: &Act<&'a B>, step: &Step<&'a B>) -> Reply
+        requires { plain_act act.now ≡ Do (plain step.now) }
+        ensures { AnswersAs self.old actor (plain_act act.now) result self.new }
+    {
+        if !self.knows(actor, step) {
+            return self.refuse(actor, act, Fault::UnknownNode);
+        }
+        if self.free() < 2 {
+            return Reply::Refused(Fault::HistoryFull);
+        }
+        let Ok(step) = step.try_copy() else {
+            return Reply::Refused(Fault::OutOfMemory);
+        };
+        let Ok(act) = self.history.make_room(act) else {
+            return Reply::Refused(Fault::OutOfMemory);
+        };
+        if self.journal.make_room().is_err() {
+            return Reply::Refused(Fault::OutOfMemory);
+        }
+        match step_node(&mut self.nodes, actor, &step) {
+            Err(fault) => {
+                if fault == StepFault::OutOfMemory {
+                    return Reply::Refused(Fault::OutOfMemory);
+                }
+                let reply = Reply::Refused(Fault::from(fault));
+                self.history.record(Event { actor, act, reply });
+                reply
+            }
+            Ok(inverse) => {
+                self.taken += 1;
+                let number = self.taken;
+                let reply = Reply::Taken(number);
+                let kept = Kept {
+                    number,
+                    node: actor,
+                    step,
+                };
+                self.journal.keep(kept, inverse).unwrap();
+                self.history.record(Event { actor, act, reply });
+                reply
+            }
+        }
+    }
+
+    /// `act` comes to the undo of a step that was given.
+    fn undo(&mut self, actor: u16, act: &Act<&'a B>, number: u64) -> Reply
+        requires comes { reply_to (config_of self.old) self.old.state actor (plain_act act.now) ≡ undo_reply self.old.state number }
+        requires some { 0 < number }
+        requires given { number ≤ given self.old.state.history }
+        ensures { AnswersAs self.old actor (plain_act act.now) result self.new }
+    {
+        let Some(kept) = self.journal.find(number) else {
+            return self.refuse(actor, act, Fault::AlreadyUndone);
+        };
+        let node = kept.node;
+        if let Some(held_by) = self.journal.first_consequence(number) {
+            let fault = Fault::HasConsequence {
+                step: number,
+                held_by,
+            };
+            return self.refuse(actor, act, fault);
+        }
+        let Ok(act) = self.history.make_room(act) else {
+            return Reply::Refused(Fault::OutOfMemory);
+        };
+        if take_back(&mut self.nodes, &mut self.journal, number, node).is_err() {
+            return Reply::Refused(Fault::OutOfMemory);
+        }
+        let reply = Reply::Undone(number);
+        self.history.record(Event { actor, act, reply });
+        reply
+    }
+
+    /// One call: a step of node `actor`, or an undo, which any number may ask.
+    pub fn act(&mut self, actor: u16, act: &Act<&'a B>) -> Reply
+        ensures answers { AnswersAs self.old actor (plain_act act.now) result self.new }
+        ensures taken_back_at_once { CanBeTakenBack self.old result self.new }
+        ensures refused_only_for_a_named_consequence { RefusedOnlyForConsequence self.old (plain_act act.now) result self.new }
+    {
+        let given = self.given();
+        match act {
+            Act::Do(step) => self.take(actor, act, step),
+            Act::Undo(number) => {
+                if *number == 0 || *number > given {
+                    return self.refuse(actor, act, Fault::NoSuchStep);
+                }
+                self.undo(actor, act, *number)
+            }
+        }
+    }
+
+    /// The calls in order, with a reply for each. Where the list of replies can't be had, nothing is done.
+    pub fn run(&mut self, calls: &[(u16, Act<&'a B>)]) -> Result<Vec<Reply, &'a B>, Oom>
+        ensures ok { IfOk result (λ replies. AllAnswered self.old (calls_of calls.now) replies.items self.new) }
+        ensures err { OnErr result (self.new ≡ self.old) }
+    {
+        let alloc = *self.nodes.allocator();
+        let mut replies = Vec::with_capacity(alloc, calls.len())?;
+        for (actor, act) in calls {
+            let reply = self.act(*actor, act);
+            replies.push_reserved(reply);
+        }
+        Ok(replies)
+    }
+}
+
+/// So many empty nodes.
+fn open_nodes<'a, B: Allocator>(
+    alloc: &'a B,
+    count: usize,
+    limits: NodeLimits,
+) -> Result<Vec<Node<&'a B>, &'a B>, Oom>
+    requires few { count ≤ 32 }
+    requires bound { limits.clock ≤ 1000000000 }
+    ensures { IfOk result (λ nodes. nodes.items ≡ opening_of limits count) }
+{
+    let mut nodes = Vec::with_capacity(alloc, count)?;
+    for number in 0..count as u16 {
+        nodes.push(Node::new(alloc, number, limits))?;
+    }
+    Ok(nodes)
+}

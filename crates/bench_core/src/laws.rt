@@ -1,0 +1,31 @@
+//! The laws of runs and of the machine, as contracts of functions that do nothing.
+//!
+//! A crate above uses a law by calling its function.
+ghost use Rattle.bench_core.specs.Headline.{BackLaw, GivenLaw, UndoLaw};
+ghost use Rattle.bench_core.specs.Laws.{ChainLaw, LoopLaw, MiddleLaw, OwnRunLaw};
+
+/// The loop: a step at the end of a journal has no direct consequence, and taking it out gives the journal before.
+pub fn loop_law()
+    ensures { LoopLaw }
+{}
+
+/// The middle: each node passes through the states of its own run. A step without direct consequences can be left out of
+/// a run, and then its node alone changes, to what it was just before the step.
+pub fn middle_law()
+    ensures own_run { OwnRunLaw }
+    ensures left_out { MiddleLaw }
+{}
+
+/// The headline, of every list of calls from the opening: the cluster is what the remaining steps give; a step is
+/// taken back at once; an undo of a remaining step is refused only for a named consequence, and then changes nothing.
+pub fn headline_law()
+    ensures given_by_the_remaining_steps { GivenLaw }
+    ensures taken_back_at_once { BackLaw }
+    ensures refused_only_for_a_named_consequence { UndoLaw }
+{}
+
+/// Inverses that lead back along the run of the remaining steps lead, for each node and newest first, from its present
+/// state back to its opening.
+pub fn chain_law()
+    ensures { ChainLaw }
+{}

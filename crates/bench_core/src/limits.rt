@@ -1,0 +1,105 @@
+//! `Limits`: how much a bench may hold.
+ghost use Rattle.std.specs.Prelude.{◌≡◌};
+ghost use Rattle.std.specs.Option.{SomeIff};
+ghost use Rattle.bench_core.specs.Limits.{AreLimits, node_limits};
+
+use crate::node_limits::NodeLimits;
+use std::marker::Model;
+
+/// Four limits, each in its range.
+#[derive(Clone, Copy, Debug, PartialEq, Eq)]
+pub struct Limits {
+    acts: u64,
+    entries: u64,
+    clock: u64,
+    messages: u64,
+}
+
+impl Model for Limits {
+    ghost use Rattle.bench_core.specs.Limits.{Limits as Four, AreLimits};
+
+    ghost Value = { Four };
+
+    ghost view = { λ l. record { acts = l.acts; entries = l.entries; clock = l.clock; messages = l.messages } };
+
+    ghost invariant = { λ l. AreLimits (record { acts = l.acts; entries = l.entries; clock = l.clock; messages = l.messages }) };
+
+    ghost inverse = { λ l. record { acts = l.acts; entries = l.entries; clock = l.clock; messages = l.messages } };
+}
+
+impl Limits {
+    /// The limits, where each is in its range.
+    pub fn new(acts: u64, entries: u64, clock: u64, messages: u64) -> Option<Limits>
+        ensures { SomeIff result (AreLimits (record { acts = acts; entries = entries; clock = clock; messages = messages })) (record { acts = acts; entries = entries; clock = clock; messages = messages }) }
+    {
+        let in_range = (1..=1_000_000).contains(&acts)
+            && (1..=100_000).contains(&entries)
+            && (1..=1_000_000_000).contains(&clock)
+            && (1..=100_000).contains(&messages);
+        if !in_range {
+            return None;
+        }
+        Some(Limits {
+            acts,
+            entries,
+            clock,
+            messages,
+        })
+    }
+
+    /// The limits that a bench has where nobody says otherwise.
+    pub fn usual() -> Limits
+        ensures { result ≡ record { acts = 100000; entries = 10000; clock = 1000000; messages = 10000 } }
+    {
+        Limits {
+            acts: 100_000,
+            entries: 10_000,
+            clock: 1_000_000,
+            messages: 10_000,
+        }
+    }
+
+    /// The bound on recorded calls and remaining steps together: 1 to 1,000,000.
+    pub fn acts(self) -> u64
+        ensures value { result ≡ self.acts }
+        ensures range { AreLimits self }
+    {
+        self.acts
+    }
+
+    /// The bound on the entries of one node: 1 to 100,000.
+    pub fn entries(self) -> u64
+        ensures value { result ≡ self.entries }
+        ensures range { AreLimits self }
+    {
+        self.entries
+    }
+
+    /// The bound on the own clock of one node: 1 to 1,000,000,000.
+    pub fn clock(self) -> u64
+        ensures value { result ≡ self.clock }
+        ensures range { AreLimits self }
+    {
+        self.clock
+    }
+
+    /// The bound on the messages in one outbox: 1 to 100,000.
+    pub fn messages(self) -> u64
+        ensures value { result ≡ self.messages }
+        ensures range { AreLimits self }
+    {
+        self.messages
+    }
+
+    /// The part of them that binds each node.
+    pub fn of_node(self) -> NodeLimits
+        ensures value { result ≡ node_limits self }
+        ensures range { AreLimits self }
+    {
+        NodeLimits {
+            entries: self.entries,
+            clock: self.clock,
+            messages: self.messages,
+        }
+    }
+}

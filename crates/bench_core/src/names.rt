@@ -1,0 +1,129 @@
+//! `Names`: the names of the nodes, with their numbers.
+ghost use Rattle.std.specs.Prelude.{◌≡◌, ◌↔◌, ◌⊎◌, ◌<◌, ◌≤◌, Err, length, map, slice_get, option_copied, IsTrue, IfOk};
+ghost use Rattle.std.specs.List.{list_all};
+ghost use Rattle.payload_core.specs.Answers.{GivesUnless};
+ghost use Rattle.bench_core.specs.NameText.{is_name, is_name_byte};
+ghost use Rattle.bench_core.specs.NameList.{names_of, with_name, with_names, number_in};
+
+use crate::names_fault::NamesFault;
+use crate::texts::TextSet;
+use dots_core::Oom;
+use std::alloc::Allocator;
+use std::marker::Model;
+
+fn is_name_byte(byte: u8) -> bool
+    ensures { result ≡ is_name_byte byte }
+{
+    matches!(byte, b'a'..=b'z' | b'0'..=b'9' | b'_')
+}
+
+fn has_name_bytes(bytes: &[u8]) -> bool
+    ensures { result ≡ list_all is_name_byte bytes.now }
+{
+    bytes.iter().all(|byte| is_name_byte(*byte))
+}
+
+fn is_name(text: &str) -> bool
+    ensures { result ≡ is_name text.now }
+{
+    if text.is_empty() || text.len() > 16 {
+        return false;
+    }
+    has_name_bytes(text.as_bytes())
+}
+
+fn add_name<A: Allocator + Copy>(names: &mut TextSet<A>, text: &str) -> Result<(), NamesFault>
+    ensures { GivesUnless NamesFault.OutOfMemory (λ _. names.new) result (with_name names.old text.now) }
+{
+    let at = names.len() + 1;
+    if !is_name(text) {
+        return Err(NamesFault::BadName { at });
+    }
+    if !names.insert(text)? {
+        return Err(NamesFault::Twice { at });
+    }
+    Ok(())
+}
+
+fn add_names<A: Allocator + Copy>(names: &mut TextSet<A>, texts: &[&str]) -> Result<(), NamesFault>
+    ensures { GivesUnless NamesFault.OutOfMemory (λ _. names.new) result (with_names names.old (map (λ text. text.now) texts.now)) }
+{
+    for text in texts {
+        add_name(names, text)?;
+    }
+    Ok(())
+}
+
+/// 1 to 32 names, each of 1 to 16 bytes of `a-z0-9_` and each once, numbered from 0 in their order.
+#[derive(Drop)]
+pub struct Names<A: Allocator> {
+    texts: TextSet<A>,
+}
+
+impl<A: Allocator> Model for Names<A> {
+    ghost use Rattle.std.specs.Prelude.{ℕ, List, ◌≡◌, Ok};
+    ghost use Rattle.bench_core.specs.NameList.{names_of};
+
+    ghost Value = { List (List ℕ) };
+
+    ghost view = { λ n. n.texts };
+
+    ghost invariant = { λ n. names_of n.texts ≡ Ok n.texts };
+}
+
+impl<A: Allocator> Names<A> {
+    /// How many names there are: 1 to 32.
+    pub fn len(&self) -> usize
+        ensures len { result ≡ length self.now }
+        ensures some { 1 ≤ result }
+        ensures few { result ≤ 32 }
+    {
+        self.texts.len()
+    }
+
+    /// The number of a name, from 0.
+    pub fn number_of(&self, text: &str) -> Option<u16>
+        ensures { result ≡ number_in self.now text.now }
+    {
+        let number = self.texts.number_of(text)?;
+        Some(number as u16)
+    }
+
+    /// The name of a number.
+    pub fn text(&self, number: u16) -> Option<&str>
+        ensures { option_copied result ≡ slice_get self.now number }
+    {
+        self.texts.text(number as usize)
+    }
+
+    /// Whether the names and their order are the same.
+    pub fn same(&self, other: &Names<A>) -> bool
+        ensures { IsTrue result ↔ (self.now ≡ other.now) }
+    {
+        self.texts.same(&other.texts)
+    }
+}
+
+impl<A: Allocator + Copy> Names<A> {
+    /// The names in this order, or their first fault: the count, and then each name in turn, its bytes before its uniqueness.
+    pub fn new(alloc: A, texts: &[&str]) -> Result<Names<A>, NamesFault>
+        ensures gives { GivesUnless NamesFault.OutOfMemory (λ names. names) result (names_of (map (λ text. text.now) texts.now)) }
+        ensures texts { IfOk result (λ names. names ≡ map (λ text. text.now) texts.now) }
+        ensures wrong_count { (result ≡ Err NamesFault.WrongCount) ↔ ((length texts.now ≡ 0) ⊎ (32 < length texts.now)) }
+    {
+        if texts.is_empty() || texts.len() > 32 {
+            return Err(NamesFault::WrongCount);
+        }
+        let mut names = TextSet::new(alloc);
+        add_names(&mut names, texts)?;
+        Ok(Names { texts: names })
+    }
+
+    pub fn try_copy(&self) -> Result<Names<A>, Oom>
+        ensures { IfOk result (λ copy. copy ≡ self.now) }
+    {
+        Ok(Names {
+            texts: self.texts.try_copy()?,
+        })
+    }
+}

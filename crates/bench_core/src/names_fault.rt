@@ -1,0 +1,30 @@
+//! Why texts are no list of names.
+ghost use Rattle.std.specs.Prelude.{◌≡◌};
+ghost use Rattle.bench_core.specs.declared.names_fault.NamesFault.TheVariants.{OutOfMemory};
+
+use dots_core::Oom;
+use thiserror::Error;
+
+/// Why texts are no list of names. Places count from 1.
+#[derive(Clone, Copy, Debug, PartialEq, Eq, Error)]
+pub enum NamesFault {
+    /// There is no name, or there are more than 32.
+    #[error("WrongCount")]
+    WrongCount,
+    /// The text at this place is no name.
+    #[error("BadName at {at}")]
+    BadName { at: usize },
+    /// The name at this place stands before it, too.
+    #[error("Twice at {at}")]
+    Twice { at: usize },
+    #[error("OutOfMemory")]
+    OutOfMemory,
+}
+
+impl From<Oom> for NamesFault {
+    ghost from_gives = { λ _ e. e ≡ OutOfMemory };
+
+    fn from(_e: Oom) -> NamesFault {
+        NamesFault::OutOfMemory
+    }
+}
