@@ -1,0 +1,4 @@
+pub mod LineText
+pub mod Lines
+pub mod Replies
+pub mod Bytes

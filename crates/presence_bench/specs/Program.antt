@@ -1,0 +1,20 @@
+-- How the program ends.
+use Rattle.std.specs.Prelude.{◌≡◌, ℕ, List, Option, Result, Ok, Err}
+use Rattle.bench_core.specs.Limits.{Limits}
+use Rattle.presence_bench.specs.Play.{EndsAt}
+use Rattle.presence_bench.specs.declared.fault.PlayFault.{PlayFault}
+use Rattle.presence_bench.specs.declared.fault.PlayFault.TheVariants as faults
+
+-- the status of an answer
+abbrev pub status_of : Result (Unit {0}) PlayFault → ℕ
+status_of (Ok _) = 0
+status_of (Err (faults.Script fault)) = 1
+status_of (Err faults.ReadFault) = 3
+status_of (Err (faults.WriteFault written)) = 3
+status_of (Err faults.OutOfMemory) = 4
+
+-- the status is that of an answer by which a play of the input may end
+pub record Exits (input : Option (List ℕ)) (limits : Limits) (status : ℕ) (old new : Option (List ℕ)) : Type 0 where
+  pub answer : Result (Unit {0}) PlayFault
+  pub status_is : status ≡ status_of answer
+  pub ends : EndsAt input limits answer old new

@@ -1,0 +1,88 @@
+//! A reader and a writer for tests, which fail in mid-stream.
+use std::alloc::Global;
+use std::io;
+use std::io::{ErrorKind, Read, Write};
+
+/// Gives its bytes, as many a call as are asked for, and then the end or a fault.
+#[derive(Drop)]
+pub struct FakeReader<'a> {
+    rest: &'a [u8],
+    fails: bool,
+    calls: usize,
+}
+
+impl<'a> FakeReader<'a> {
+    /// It gives the bytes and then ends.
+    pub fn ending(bytes: &'a [u8]) -> FakeReader<'a> {
+        FakeReader {
+            rest: bytes,
+            fails: false,
+            calls: 0,
+        }
+    }
+
+    /// It gives the bytes and then fails.
+    pub fn failing(bytes: &'a [u8]) -> FakeReader<'a> {
+        FakeReader {
+            rest: bytes,
+            fails: true,
+            calls: 0,
+        }
+    }
+
+    /// How often it was read.
+    pub fn calls(&self) -> usize {
+        self.calls
+    }
+}
+
+impl Read for FakeReader<'_> {
+    fn read(&mut self, buf: &mut [u8]) -> io::Result<usize> {
+        self.calls = self.calls.saturating_add(1);
+        if self.rest.is_empty() && self.fails {
+            return Err(io::Error::from(ErrorKind::Other));
+        }
+        let count = self.rest.len().min(buf.len());
+        let (front, rest) = self.rest.split_at(count);
+        buf[..count].copy_from_slice(front);
+        self.rest = rest;
+        Ok(count)
+    }
+}
+
+/// Takes so many bytes in all, and then fails.
+#[derive(Drop)]
+pub struct FakeWriter {
+    taken: Vec<u8>,
+    room: usize,
+}
+
+impl FakeWriter {
+    pub fn new(alloc: Global, room: usize) -> FakeWriter {
+        FakeWriter {
+            taken: Vec::new(alloc),
+            room,
+        }
+    }
+
+    /// What went out.
+    pub fn taken(&self) -> &[u8] {
+        self.taken.as_slice()
+    }
+}
+
+impl Write for FakeWriter {
+    fn write(&mut self, buf: &[u8]) -> io::Result<usize> {
+        let count = self.room.min(buf.len());
+        if count == 0 {
+            return Err(io::Error::from(ErrorKind::Other));
+        }
+        self.taken.extend_from_slice(&buf[..count])?;
+        self.room -= count;
+        Ok(count)
+    }
+
+    fn flush(&mut self) -> io::Result<()> {
+        Ok(())
+    }
+}
