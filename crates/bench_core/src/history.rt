@@ -44,7 +44,7 @@ impl<'a, B: Allocator> Model for History<'a, B> {
 }
 
 impl<'a, B: Allocator> History<'a, B> {
-    pub fn new(alloc: &'a B) -> Self
+    pub(crate) fn new(alloc: &'a B) -> Self
         ensures { result ≡ record { events = []; ready = false } }
     {
         History {
@@ -68,7 +68,7 @@ impl<'a, B: Allocator> History<'a, B> {
     }
 
     /// Room for one more call, and a copy of the act for it.
-    pub fn make_room(&mut self, act: &Act<&'a B>) -> Result<Act<&'a B>, Oom>
+    pub(crate) fn make_room(&mut self, act: &Act<&'a B>) -> Result<Act<&'a B>, Oom>
         ensures events { self.new.events ≡ self.old.events }
         ensures ready { OnOk result (self.new.ready ≡ true) }
         ensures copy { IfOk result (λ copy. plain_act copy ≡ plain_act act.now) }
@@ -81,7 +81,7 @@ impl<'a, B: Allocator> History<'a, B> {
     }
 
     /// Records a call, for which room was made.
-    pub fn record(&mut self, event: Event<&'a B>)
+    pub(crate) fn record(&mut self, event: Event<&'a B>)
         requires { self.old.ready ≡ true }
         ensures { self.new ≡ record { events = self.old.events ++ event.entry ∷ []; ready = false } }
     {

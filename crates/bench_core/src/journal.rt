@@ -139,7 +139,7 @@ impl<'a, B: Allocator> Model for Journal<'a, B> {
 }
 
 impl<'a, B: Allocator> Journal<'a, B> {
-    pub fn new(alloc: &'a B) -> Self
+    pub(crate) fn new(alloc: &'a B) -> Self
         ensures { result ≡ record { steps = []; ready = false } }
     {
         Journal {
@@ -180,7 +180,7 @@ impl<'a, B: Allocator> Journal<'a, B> {
     }
 
     /// After an `Ok` the next `keep` isn't refused.
-    pub fn make_room(&mut self) -> Result<(), Oom>
+    pub(crate) fn make_room(&mut self) -> Result<(), Oom>
         ensures steps { self.new.steps ≡ self.old.steps }
         ensures ok { OnOk result (self.new.ready ≡ true) }
         ensures err { OnErr result (self.new ≡ self.old) }
@@ -191,7 +191,7 @@ impl<'a, B: Allocator> Journal<'a, B> {
     }
 
     /// Puts a step with its inverse last. On a refusal both come back.
-    pub fn keep(
+    pub(crate) fn keep(
         &mut self,
         kept: Kept<&'a B>,
         inverse: Inverse<&'a B>,
@@ -213,7 +213,7 @@ impl<'a, B: Allocator> Journal<'a, B> {
     }
 
     /// Lends the inverse of a step.
-    pub fn lend(&mut self, number: u64) -> Option<Inverse<&'a B>>
+    pub(crate) fn lend(&mut self, number: u64) -> Option<Inverse<&'a B>>
         ensures value { result ≡ inverse_of (find_held self.old.steps number) }
         ensures after { self.new ≡ record { steps = with_inverse self.old.steps number None; ready = self.old.ready } }
     {
@@ -224,7 +224,7 @@ impl<'a, B: Allocator> Journal<'a, B> {
     }
 
     /// Ends a loan: the inverse is from then on that of the step.
-    pub fn put_back(&mut self, number: u64, inverse: Inverse<&'a B>)
+    pub(crate) fn put_back(&mut self, number: u64, inverse: Inverse<&'a B>)
         ensures { self.new ≡ record { steps = with_inverse self.old.steps number (Some inverse.entry); ready = self.old.ready } }
     {
         if let Some(place) = place(self.steps.as_slice(), number) {
@@ -233,7 +233,7 @@ impl<'a, B: Allocator> Journal<'a, B> {
     }
 
     /// Takes a step out, whether its inverse is lent or not.
-    pub fn take_out(&mut self, number: u64)
+    pub(crate) fn take_out(&mut self, number: u64)
         ensures { self.new ≡ record { steps = without_held self.old.steps number; ready = self.old.ready } }
     {
         if let Some(place) = place(self.steps.as_slice(), number) {

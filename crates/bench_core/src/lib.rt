@@ -35,3 +35,10 @@ pub use node_limits::NodeLimits;
 pub use reply::Reply;
 pub use step::Step;
 pub use step_fault::StepFault;
+
+#[cfg(test)]
+mod memory_tests;
+#[cfg(test)]
+mod names_tests;
+#[cfg(test)]
+mod tests;

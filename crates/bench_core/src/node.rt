@@ -70,7 +70,7 @@ impl<A: Allocator> Node<A> {
 
 impl<A: Allocator + Copy> Node<A> {
     /// A node that has seen nothing.
-    pub fn new(alloc: A, own: u16, limits: NodeLimits) -> Node<A>
+    pub(crate) fn new(alloc: A, own: u16, limits: NodeLimits) -> Node<A>
         requires name { own < 32 }
         requires bound { limits.clock ≤ 1000000000 }
         ensures { result ≡ opening_node own limits }
@@ -168,7 +168,7 @@ impl<A: Allocator + Copy> Node<A> {
     }
 
     /// Takes the step, and gives what leads back.
-    pub fn take(&mut self, step: &Step<A>) -> Result<Inverse<A>, StepFault>
+    pub(crate) fn take(&mut self, step: &Step<A>) -> Result<Inverse<A>, StepFault>
         ensures { Takes self.old (plain step.now) None result self.new }
     {
         match step {
@@ -182,7 +182,7 @@ impl<A: Allocator + Copy> Node<A> {
     }
 
     /// The node that the inverse leads back to.
-    pub fn give_back(&mut self, inverse: Inverse<A>) -> Result<(), (Inverse<A>, Oom)>
+    pub(crate) fn give_back(&mut self, inverse: Inverse<A>) -> Result<(), (Inverse<A>, Oom)>
         requires { LeadsSomewhere inverse self.old }
         ensures ok { OnOk result (GivesBack inverse self.old self.new) }
         ensures err { OnErr result (self.new ≡ self.old) }
