@@ -26,11 +26,11 @@ use std::alloc::Allocator;
 use std::marker::Model;
 
 /// A step of one node.
-fn step_node<A: Allocator + Copy>(
-    nodes: &mut Vec<Node<A>, A>,
+fn step_node<'a, B: Allocator>(
+    nodes: &mut Vec<Node<&'a B>, &'a B>,
     actor: u16,
-    step: &Step<A>,
-) -> Result<Inverse<A>, StepFault>
+    step: &Step<&'a B>,
+) -> Result<Inverse<&'a B>, StepFault>
     requires there { actor < length nodes.old.items }
     requires named { list_all (λ k. nat_lt k (length nodes.old.items)) (named_in (plain step.now)) ≡ true }
     ensures { Steps nodes.old.items actor (plain step.now) result nodes.new.items }

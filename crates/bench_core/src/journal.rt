@@ -29,12 +29,12 @@ impl<A: Allocator> Model for Kept<A> {
 
 /// A step with its inverse, which may be lent.
 #[derive(Drop)]
-struct Held<A: Allocator> {
-    kept: Kept<A>,
-    inverse: Option<Inverse<A>>,
+struct Held<'a, B: Allocator> {
+    kept: Kept<&'a B>,
+    inverse: Option<Inverse<&'a B>>,
 }
 
-impl<A: Allocator> Model for Held<A> {
+impl<'a, B: Allocator> Model for Held<'a, B> {
     ghost use Rattle.bench_core.specs.Chains.{Held, held_code};
 
     ghost Value = { Held };
@@ -44,8 +44,8 @@ impl<A: Allocator> Model for Held<A> {
     ghost view = { λ h. record { kept = h.kept; inverse = h.inverse } };
 }
 
-impl<A: Allocator> Held<A> {
-    fn kept(&self) -> &Kept<A>
+impl<'a, B: Allocator> Held<'a, B> {
+    fn kept(&self) -> &Kept<&'a B>
         ensures { result.now ≡ self.now.kept }
     {
         &self.kept
@@ -57,21 +57,21 @@ impl<A: Allocator> Held<A> {
         self.kept.number
     }
 
-    fn lend(&mut self) -> Option<Inverse<A>>
+    fn lend(&mut self) -> Option<Inverse<&'a B>>
         ensures value { result ≡ self.old.inverse }
         ensures after { self.new ≡ record { kept = self.old.kept; inverse = None } }
     {
         self.inverse.take()
     }
 
-    fn put_back(&mut self, inverse: Inverse<A>)
-        ensures { self.new ≡ record { kept = self.old.kept; inverse = Some inverse } }
+    fn put_back(&mut self, inverse: Inverse<&'a B>)
+        ensures { self.new ≡ record { kept = self.old.kept; inverse = Some inverse.entry } }
     {
         self.inverse = Some(inverse);
     }
 }
 
-fn find<A: Allocator>(steps: &[Held<A>], number: u64) -> Option<&Kept<A>>
+fn find<'x, 'a, B: Allocator>(steps: &'x [Held<'a, B>], number: u64) -> Option<&'x Kept<&'a B>>
     ensures { option_copied result ≡ find_number (kepts steps.now) number }
 {
     for held in steps {
@@ -82,13 +82,13 @@ fn find<A: Allocator>(steps: &[Held<A>], number: u64) -> Option<&Kept<A>>
     None
 }
 
-fn held_at<A: Allocator>(steps: &[Held<A>], place: usize) -> Option<&Held<A>>
+fn held_at<'x, 'a, B: Allocator>(steps: &'x [Held<'a, B>], place: usize) -> Option<&'x Held<'a, B>>
     ensures { option_copied result ≡ slice_get steps.now place }
 {
     steps.get(place)
 }
 
-fn place<A: Allocator>(steps: &[Held<A>], number: u64) -> Option<usize>
+fn place<'a, B: Allocator>(steps: &[Held<'a, B>], number: u64) -> Option<usize>
     ensures { result ≡ place_of steps.now number }
 {
     for (i, held) in steps.iter().enumerate() {
@@ -100,13 +100,13 @@ fn place<A: Allocator>(steps: &[Held<A>], number: u64) -> Option<usize>
 }
 
 /// Whether `other` is a direct consequence of `kept`: a later step of its node. (No step delivers a message yet.)
-fn follows<A: Allocator>(steps: &[Held<A>], kept: &Kept<A>, other: &Kept<A>) -> bool
+fn follows<'a, B: Allocator>(steps: &[Held<'a, B>], kept: &Kept<&'a B>, other: &Kept<&'a B>) -> bool
     ensures { result ≡ is_consequence (kepts steps.now) kept.now other.now }
 {
     kept.node == other.node && kept.number < other.number
 }
 
-fn consequence<A: Allocator>(steps: &[Held<A>], number: u64) -> Option<u64>
+fn consequence<'a, B: Allocator>(steps: &[Held<'a, B>], number: u64) -> Option<u64>
     ensures { result ≡ first_consequence (kepts steps.now) number }
 {
     let kept = find(steps, number)?;
@@ -121,7 +121,7 @@ fn consequence<A: Allocator>(steps: &[Held<A>], number: u64) -> Option<u64>
 /// The steps that remain, in the order of their numbers.
 #[derive(Drop)]
 pub struct Journal<'a, B: Allocator> {
-    steps: Vec<Held<&'a B>, &'a B>,
+    steps: Vec<Held<'a, B>, &'a B>,
     ready: bool,
 }
 
@@ -237,7 +237,7 @@ impl<'a, B: Allocator> Journal<'a, B> {
         ensures { self.new ≡ record { steps = without_held self.old.steps number; ready = self.old.ready } }
     {
         if let Some(place) = place(self.steps.as_slice(), number) {
-            let _ = self.steps.remove(place);
+            drop(self.steps.remove(place));
         }
     }
 }

@@ -68,9 +68,9 @@ impl<A: Allocator> Node<A> {
     }
 }
 
-impl<A: Allocator + Copy> Node<A> {
+impl<'a, B: Allocator> Node<&'a B> {
     /// A node that has seen nothing.
-    pub(crate) fn new(alloc: A, own: u16, limits: NodeLimits) -> Node<A>
+    pub(crate) fn new(alloc: &'a B, own: u16, limits: NodeLimits) -> Node<&'a B>
         requires name { own < 32 }
         requires bound { limits.clock ≤ 1000000000 }
         ensures { result ≡ opening_node own limits }
@@ -85,7 +85,7 @@ impl<A: Allocator + Copy> Node<A> {
     }
 
     /// Whether an own entry is of this process, topic and key. (All entries are own.)
-    fn is_tracked(&self, pid: u64, topic: &Word<A>, key: &Word<A>) -> bool
+    fn is_tracked(&self, pid: u64, topic: &Word<&'a B>, key: &Word<&'a B>) -> bool
         ensures { result ≡ is_tracked self.now.replica pid topic.now key.now }
     {
         self.entries.find(self.own, pid, topic, key).is_some()
@@ -104,7 +104,7 @@ impl<A: Allocator + Copy> Node<A> {
     }
 
     /// Why the node refuses to track this process under the topic and key, if it does.
-    fn join_refusal(&self, pid: u64, topic: &Word<A>, key: &Word<A>) -> Option<StepFault>
+    fn join_refusal(&self, pid: u64, topic: &Word<&'a B>, key: &Word<&'a B>) -> Option<StepFault>
         ensures { result ≡ first_of (join_refusals self.now.replica pid topic.now key.now) }
     {
         if self.is_tracked(pid, topic, key) {
@@ -123,10 +123,10 @@ impl<A: Allocator + Copy> Node<A> {
     fn join(
         &mut self,
         pid: u64,
-        topic: &Word<A>,
-        key: &Word<A>,
-        metadata: &Word<A>,
-    ) -> Result<Inverse<A>, Oom>
+        topic: &Word<&'a B>,
+        key: &Word<&'a B>,
+        metadata: &Word<&'a B>,
+    ) -> Result<Inverse<&'a B>, Oom>
         requires { clock_full self.old.replica 1 ≡ false }
         ensures joined { OnOk result (self.new ≡ with_replica self.old (joined (record { pid = pid; topic = topic.now; key = key.now; metadata = metadata.now }) self.old.replica)) }
         ensures inverse { IfOk result (λ i. i.before ≡ self.old) }
@@ -155,10 +155,10 @@ impl<A: Allocator + Copy> Node<A> {
     fn try_join(
         &mut self,
         pid: u64,
-        topic: &Word<A>,
-        key: &Word<A>,
-        metadata: &Word<A>,
-    ) -> Result<Inverse<A>, StepFault>
+        topic: &Word<&'a B>,
+        key: &Word<&'a B>,
+        metadata: &Word<&'a B>,
+    ) -> Result<Inverse<&'a B>, StepFault>
         ensures { Takes self.old (Join (record { pid = pid; topic = topic.now; key = key.now; metadata = metadata.now })) None result self.new }
     {
         if let Some(fault) = self.join_refusal(pid, topic, key) {
@@ -168,7 +168,7 @@ impl<A: Allocator + Copy> Node<A> {
     }
 
     /// Takes the step, and gives what leads back.
-    pub(crate) fn take(&mut self, step: &Step<A>) -> Result<Inverse<A>, StepFault>
+    pub(crate) fn take(&mut self, step: &Step<&'a B>) -> Result<Inverse<&'a B>, StepFault>
         ensures { Takes self.old (plain step.now) None result self.new }
     {
         match step {
@@ -182,11 +182,11 @@ impl<A: Allocator + Copy> Node<A> {
     }
 
     /// The node that the inverse leads back to.
-    pub(crate) fn give_back(&mut self, inverse: Inverse<A>) -> Result<(), (Inverse<A>, Oom)>
+    pub(crate) fn give_back(&mut self, inverse: Inverse<&'a B>) -> Result<(), (Inverse<&'a B>, Oom)>
         requires { LeadsSomewhere inverse self.old }
-        ensures ok { OnOk result (GivesBack inverse self.old self.new) }
+        ensures ok { OnOk result (GivesBack inverse.entry self.old self.new) }
         ensures err { OnErr result (self.new ≡ self.old) }
-        ensures given_back { IfErr result (λ e. e.0 ≡ inverse) }
+        ensures given_back { IfErr result (λ e. e.0 ≡ inverse.entry) }
     {
         let Inverse { before } = inverse;
         *self = before;
@@ -194,7 +194,7 @@ impl<A: Allocator + Copy> Node<A> {
     }
 
     /// A second node with the same dots and entries.
-    pub fn try_copy(&self) -> Result<Node<A>, Oom>
+    pub fn try_copy(&self) -> Result<Node<&'a B>, Oom>
         ensures { IfOk result (λ copy. copy ≡ self.now) }
     {
         Ok(Node {
@@ -207,7 +207,7 @@ impl<A: Allocator + Copy> Node<A> {
     }
 
     /// Whether the two are of one number and limits, and hold the same dots and entries.
-    pub fn same(&self, other: &Node<A>) -> bool
+    pub fn same(&self, other: &Node<&'a B>) -> bool
         ensures { IsTrue result ↔ (self.now ≡ other.now) }
     {
         self.own == other.own

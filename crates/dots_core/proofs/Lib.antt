@@ -1,5 +1,8 @@
 pub mod Order
 pub mod Sets
 pub mod OwnClock
-pub mod Rising
 pub mod Names
+pub mod Clocks
+pub mod Parts
+pub mod Changes
+pub mod Unions

@@ -1,13 +1,12 @@
 -- Sets of names, by what they answer at a number, and the lists that keep them.
-use Rattle.std.proofs.Common.{◌≡◌, ◌≢◌, ℕ, zero, suc, ◌+◌, ◌-◌, ◌<◌, ◌≤◌, ◌==◌, ◌&&◌, ◌||◌, ◌⊎◌, inl, inr, not, Bool, true, false, List, [], ◌∷◌, length, get_or, slice_set, refl, sym, ap, subst, ◌∙◌, arith, get_or-set_same, get_or-set_other}
+use Rattle.std.proofs.Common.{◌≡◌, ◌≢◌, ℕ, ◌<◌, ◌==◌, ◌&&◌, ◌||◌, ◌⊎◌, inl, inr, not, Bool, true, false, List, length, get_or, slice_set, sym, ap, subst, ◌∙◌, get_or-set_same, get_or-set_other}
 use Rattle.std.proofs.lemmas.Bool.{eq-eqb, ne_eqb, cases_eq}
 use Rattle.std.proofs.lemmas.List.{ext_get_or}
 use Rattle.std.specs.Cmp.{nat_cmp_total, unsigned_tied}
-use Rattle.std.specs.Ordering.{nat_cmp}
 use Rattle.std.specs.FinSet as set
 use Rattle.std.specs.FinMap.{nat_cmp-IsAntisymmetric}
 use Rattle.dots_core.specs.Names.{Names}
-use Rattle.dots_core.specs.Flags.{names_from, names_of, flags_from, flags_of}
+use Rattle.dots_core.specs.Flags.{names_of}
 use Rattle.dots_core.specs.FlagsBack.{contains-insert_name, contains-names_of}
 
 pub contains-remove_name : (s : Names) (k q : ℕ) → set.contains (set.remove s k) q ≡ (not (q == k) && set.contains s q)

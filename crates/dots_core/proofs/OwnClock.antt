@@ -5,14 +5,7 @@ use Rattle.std.specs.FinSet as set
 use Rattle.dots_core.specs.declared.dot.Dot.{Dot}
 use Rattle.dots_core.specs.Dots.{Dots, dot, of_names, count_of, HasClocks}
 use Rattle.dots_core.proofs.Order.{dot_total, is_dot, is_dot-true}
-use Rattle.dots_core.proofs.Sets.{contains-retain, contains-insert, contains_inserted, contains_insert_more, inserted_cases, same_dots}
-
-and_alike : (b c t : Bool) → (t ≡ true → b ≡ c) → (b && t) ≡ (c && t)
-and_alike b c true h = ap (λ x. x && true) (h refl)
-and_alike true true false h = refl
-and_alike true false false h = refl
-and_alike false true false h = refl
-and_alike false false false h = refl
+use Rattle.dots_core.proofs.Sets.{contains-retain, contains-insert, contains_inserted, contains_insert_more, inserted_cases, and_alike, same_dots}
 
 -- sets with the same own dots
 pub own_same : (own : ℕ) (s t : Dots) → ((d : Dot) → d.name ≡ own → set.contains s d ≡ set.contains t d) → of_names (λ n. n == own) s ≡ of_names (λ n. n == own) t

@@ -1,5 +1,6 @@
 -- Sets of dots, by what they answer at a dot.
 use Rattle.std.proofs.Common.{◌≡◌, ◌≢◌, ◌⊎◌, inl, inr, ℕ, ◌&&◌, ◌||◌, Bool, true, false, refl, sym, ap, ◌∙◌}
+use Rattle.std.proofs.Math.Bool.{and-false}
 use Rattle.std.proofs.lemmas.Bool.{and_parts}
 use Rattle.std.specs.FinSet as set
 use Rattle.dots_core.specs.declared.dot.Dot.{Dot}
@@ -27,6 +28,10 @@ or_true false = refl
 
 pub contains_insert_more : (s : Dots) (k q : Dot) → set.contains s q ≡ true → set.contains (set.insert s k) q ≡ true
 contains_insert_more s k q h = contains-insert s k q ∙ ap (λ b. is_dot q k || b) h ∙ or_true (is_dot q k)
+
+pub and_alike : (b c t : Bool) → (t ≡ true → b ≡ c) → (b && t) ≡ (c && t)
+and_alike b c true h = ap (λ x. x && true) (h refl)
+and_alike b c false h = and-false b ∙ sym (and-false c)
 
 -- a dot of the set after an insert is the new one or was there
 pub inserted_cases : (s : Dots) (k q : Dot) → set.contains (set.insert s k) q ≡ true → (q ≡ k) ⊎ (set.contains s q ≡ true)

@@ -24,6 +24,10 @@ dot_code = code_by (ℕ × ℕ) (coded× coded_ℕ coded_ℕ) (λ d. (d.name, d.
 abbrev pub Dots : Type 0
 Dots = set.FinSet dot_cmp
 
+-- each dot of the set is valid
+abbrev pub AreValid : Dots → Type 0
+AreValid s = (d : Dot) → set.contains s d ≡ true → IsValid d
+
 abbrev pub dot : ℕ → ℕ → Dot
 dot name clock = record { name = name; clock = clock }
 

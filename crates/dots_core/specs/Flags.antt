@@ -1,5 +1,5 @@
 -- A set of names, kept as a list that says of each name whether it is in.
-use Rattle.std.specs.Prelude.{◌≡◌, ℕ, zero, suc, Bool, List, [], ◌∷◌, if◌then◌else◌}
+use Rattle.std.specs.Prelude.{ℕ, zero, suc, Bool, List, [], ◌∷◌, if◌then◌else◌}
 use Rattle.std.specs.FinSet as set
 use Rattle.dots_core.specs.Names.{Names}
 

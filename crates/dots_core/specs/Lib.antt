@@ -1,5 +1,9 @@
 pub mod Dots
-pub mod Rising
 pub mod Names
 pub mod Flags
 pub mod FlagsBack
+pub mod Contexts
+pub mod Clocks
+pub mod Absorbed
+pub mod Parts
+pub mod Unions

@@ -1,9 +1,7 @@
 //! A dot: the unique stamp of one add.
 
-ghost use Rattle.std.specs.Prelude.{◌≡◌, ◌↔◌, IsTrue};
-ghost use Rattle.dots_core.specs.Dots.{dot_cmp, IsValid};
-
-use std::cmp::Ordering;
+ghost use Rattle.std.specs.Prelude.{◌↔◌, IsTrue};
+ghost use Rattle.dots_core.specs.Dots.{IsValid};
 
 /// The stamp of one add (RR-8083, 'dots'): the number of the replica that added, and its clock then.
 #[derive(Clone, Copy, Debug, PartialEq, Eq)]
@@ -18,13 +16,5 @@ impl Dot {
         ensures { IsTrue result ↔ IsValid self }
     {
         self.name < 32 && 1 <= self.clock && self.clock <= 1_000_000_000
-    }
-
-    pub(crate) fn order(self, other: Dot) -> Ordering
-        ensures { result ≡ dot_cmp self other }
-    {
-        self.name
-            .cmp(&other.name)
-            .then(self.clock.cmp(&other.clock))
     }
 }

@@ -1,81 +1,160 @@
-//! A finite set of dots, kept as a list that rises by name and then by clock.
+//! A finite set of dots, kept as a context clock and a cloud for each name.
 
-ghost use Rattle.std.specs.Prelude.{◌≡◌, ◌↔◌, not, IsTrue, IfOk, OnOk, OnErr, MatchResult, is_ok};
+ghost use Rattle.std.specs.Prelude.{◌≡◌, ◌↔◌, ◌<◌, ◌≤◌, ◌==◌, ◌&&◌, not, IsTrue, IfOk, OnOk, OnErr, length};
 ghost use Rattle.std.specs.FinSet as set;
-ghost use Rattle.dots_core.specs.Dots.{dot_cmp, IsValid};
-ghost use Rattle.dots_core.specs.Rising.{place, found};
+ghost use Rattle.dots_core.specs.Dots.{IsValid, AreValid, of_names};
+ghost use Rattle.dots_core.specs.Contexts.{IsContext, IsCloudOf, IsPartOf, others};
+ghost use Rattle.dots_core.specs.Clocks.{no_clocks};
+ghost use Rattle.dots_core.specs.Parts.{AreParts};
+ghost use Rattle.dots_core.specs.Unions.{IsUnionFrom};
 
 use crate::Oom;
 use crate::dot::Dot;
+use crate::name_set::NameSet;
+use crate::part::Part;
+use crate::union::grown;
 use std::alloc::{Allocator, Global};
-use std::cmp::Ordering;
 use std::marker::Model;
+use std::mem;
 
-/// A finite set of dots.
+/// A finite set of dots. It keeps of each name one `Part`, in a place of its own, so an empty set takes no memory. Such
+/// a value is large, some 1,300 bytes over a reference to an allocator: move few of them about.
 #[derive(Drop)]
 pub struct DotSet<A: Allocator = Global> {
-    dots: Vec<Dot, A>,
+    parts: [Part<A>; 32],
 }
 
 impl<A: Allocator> Model for DotSet<A> {
     ghost use Rattle.std.specs.FinSet as set;
-    ghost use Rattle.dots_core.specs.Dots.{Dots, dot_cmp, dot_code};
-    ghost use Rattle.dots_core.specs.Rising.{set_of, Rises};
+    ghost use Rattle.dots_core.specs.Dots.{Dots, dot_code};
+    ghost use Rattle.dots_core.specs.Parts.{dots_of, AreParts};
 
     ghost Value = { Dots };
 
     ghost coded = { set.code dot_code };
 
-    ghost view = { λ s. set_of dot_cmp s.dots.items };
+    ghost view = { λ s. dots_of s.parts };
 
-    ghost invariant = { λ s. Rises dot_cmp s.dots.items };
+    ghost invariant = { λ s. AreParts s.parts };
 }
 
 impl<A: Allocator> DotSet<A> {
     /// The empty set. It takes no memory.
     pub fn new(alloc: A) -> DotSet<A>
+    where
+        A: Copy,
         ensures { result ≡ set.empty }
     {
         DotSet {
-            dots: Vec::new(alloc),
+            parts: std::array::from_fn(
+                |_| -> Part<A>
+                    ensures { result ≡ no_clocks }
+                { Part::empty(alloc) },
+            ),
         }
     }
 
-    /// Whether the dot is in the set.
+    /// Whether the dot is in the set. Up to the context clock of its name that is one comparison, and above it a search
+    /// in the cloud.
     pub fn contains(&self, dot: Dot) -> bool
         ensures { result ≡ set.contains self.now dot }
     {
-        search(&self.dots, dot).is_ok()
+        match self.parts.get(usize::from(dot.name)) {
+            Some(part) => part.has(dot.clock),
+            None => false,
+        }
+    }
+
+    /// The context clock of the name.
+    pub fn clock_of(&self, name: u16) -> u64
+        requires { name < 32 }
+        ensures { IsContext self.now name result }
+    {
+        let part = &self.parts[usize::from(name)];
+        part.clock
+    }
+
+    /// The cloud of the name.
+    pub fn cloud_of(&self, name: u16) -> &[u64]
+        requires { name < 32 }
+        ensures { IsCloudOf self.now name result.now }
+    {
+        let part = &self.parts[usize::from(name)];
+        &part.cloud
     }
 
     /// Whether the set has no dot.
     pub fn is_empty(&self) -> bool
         ensures { IsTrue result ↔ (self.now ≡ set.empty) }
     {
-        self.dots.is_empty()
+        for name in 0..32 {
+            if !self.parts[name].is_empty() {
+                return false;
+            }
+        }
+        true
     }
 
-    /// Puts the dot in, and says whether it is new.
+    /// Whether the two sets have the same dots, and so the same context clocks and clouds. It takes no memory.
+    pub fn same(&self, other: &DotSet<A>) -> bool
+        ensures { IsTrue result ↔ (self.now ≡ other.now) }
+    {
+        for name in 0..32 {
+            if !self.parts[name].same(&other.parts[name]) {
+                return false;
+            }
+        }
+        true
+    }
+
+    /// Puts the dot in, and says whether it is new. The dot after the context clock moves that clock on, past the clocks
+    /// of the cloud that follow on it; any other new dot goes into the cloud, which alone may take memory.
     pub fn insert(&mut self, dot: Dot) -> Result<bool, Oom>
         requires { IsValid dot }
         ensures ok { OnOk result (self.new ≡ set.insert self.old dot) }
         ensures new { IfOk result (λ is_new. is_new ≡ not (set.contains self.old dot)) }
         ensures err { OnErr result (self.new ≡ self.old) }
     {
-        match search(&self.dots, dot) {
-            Ok(_) => Ok(false),
-            Err(i) => {
-                self.dots.insert(i, dot)?;
-                Ok(true)
-            }
-        }
+        self.parts[usize::from(dot.name)].insert(dot.clock)
     }
 
-    /// Whether the two sets have the same dots. It takes no memory.
-    pub fn same(&self, other: &DotSet<A>) -> bool
-        ensures { IsTrue result ↔ (self.now ≡ other.now) }
+    /// Takes the dot out, and says whether it was there. Where it was below the context clock, those between them go into
+    /// the cloud, which may take memory; the dot at the clock takes none.
+    pub fn remove(&mut self, dot: Dot) -> Result<bool, Oom>
+        requires { IsValid dot }
+        ensures ok { OnOk result (self.new ≡ set.remove self.old dot) }
+        ensures was { IfOk result (λ was_there. was_there ≡ set.contains self.old dot) }
+        ensures err { OnErr result (self.new ≡ self.old) }
     {
-        self.dots == other.dots
+        self.parts[usize::from(dot.name)].remove(dot.clock)
+    }
+
+    /// Adds the other's dots of the known names but the own one, in time linear in their parts. A name of which the other
+    /// has no new dot takes no memory.
+    pub fn union_known(&mut self, other: &DotSet<A>, known: NameSet, own: u16) -> Result<(), Oom>
+    where
+        A: Copy,
+        requires { own < 32 }
+        ensures ok { OnOk result (self.new ≡ set.union self.old (of_names (λ n. set.contains known n && not (n == own)) other.now)) }
+        ensures err { OnErr result (self.new ≡ self.old) }
+    {
+        union_from(&mut self.parts, &other.parts, known.without(own), 0)
+    }
+
+    /// A set of the dots of these names.
+    pub fn only(&self, names: NameSet) -> Result<DotSet<A>, Oom>
+    where
+        A: Copy,
+        ensures { IfOk result (λ chosen. chosen ≡ of_names (set.contains names) self.now) }
+    {
+        let mut chosen = DotSet::new(self.allocator());
+        for name in 0..32u16 {
+            if names.has(name) {
+                let at = usize::from(name);
+                chosen.parts[at] = self.parts[at].try_copy()?;
+            }
+        }
+        Ok(chosen)
     }
 
     /// A set with the same dots.
@@ -84,22 +163,86 @@ impl<A: Allocator> DotSet<A> {
         A: Copy,
         ensures { IfOk result (λ copy. copy ≡ self.now) }
     {
-        Ok(DotSet {
-            dots: self.dots.clone()?,
-        })
+        let _ = &self.parts; // the proof reads that no name is past the last
+        self.only(NameSet::all())
+    }
+
+    /// A copy of the name's context clock and cloud.
+    pub fn part_of(&self, name: u16) -> Result<Part<A>, Oom>
+    where
+        A: Copy,
+        requires { name < 32 }
+        ensures { IfOk result (IsPartOf self.now name) }
+    {
+        self.parts[usize::from(name)].try_copy()
+    }
+
+    /// Takes the name's dots out, and gives its context clock and cloud.
+    pub fn drop_name(&mut self, name: u16) -> Part<A>
+    where
+        A: Copy,
+        requires { name < 32 }
+        ensures part { IsPartOf self.old name result }
+        ensures rest { self.new ≡ others name self.old }
+    {
+        let alloc = self.allocator();
+        mem::replace(&mut self.parts[usize::from(name)], Part::empty(alloc))
+    }
+
+    /// Puts this context clock and cloud in the place of the name's dots. With what `part_of` or `drop_name` gave of the
+    /// name, `laws::part_law` says that its dots are as they were then.
+    pub fn set_part(&mut self, name: u16, part: Part<A>)
+        requires { name < 32 }
+        ensures part { IsPartOf self.new name part }
+        ensures rest { others name self.new ≡ others name self.old }
+    {
+        let _ = &part.clock; // the proof reads that the part is canonical
+        self.parts[usize::from(name)] = part;
+    }
+
+    /// Does nothing. Its contract says that each dot of the set is ok, as `remove` asks of a dot that was found.
+    pub fn valid_law(&self)
+        ensures { AreValid self.now }
+    {
+        let _ = &self.parts;
+    }
+
+    fn allocator(&self) -> A
+    where
+        A: Copy,
+    {
+        let part = &self.parts[0];
+        *part.cloud.allocator()
     }
 }
 
-fn search(dots: &[Dot], dot: Dot) -> Result<usize, usize>
-    ensures here { MatchResult result (λ i. i ≡ place dot_cmp dot dots.now) (λ i. i ≡ place dot_cmp dot dots.now) }
-    ensures was { is_ok result ≡ found dot_cmp dot dots.now }
+// Adds the other parts of these names, from `name` on. What may be refused memory comes first, of all names, and then
+// each part is put in place: the calls hold them until then.
+fn union_from<A: Allocator + Copy>(
+    parts: &mut [Part<A>],
+    others: &[Part<A>],
+    names: NameSet,
+    name: u16,
+) -> Result<(), Oom>
+    requires own { AreParts parts.old }
+    requires other { AreParts others.now }
+    requires name { name ≤ 32 }
+    ensures parts { AreParts parts.new }
+    ensures ok { OnOk result (IsUnionFrom names name parts.old others.now parts.new) }
+    ensures err { OnErr result (parts.new ≡ parts.old) }
 {
-    for (i, item) in dots.iter().enumerate() {
-        match dot.order(*item) {
-            Ordering::Less => return Err(i),
-            Ordering::Equal => return Ok(i),
-            Ordering::Greater => {}
-        }
+    if name == 32 {
+        return Ok(());
     }
-    Err(dots.len())
+    if !names.has(name) {
+        return union_from(parts, others, names, name + 1);
+    }
+    let at = usize::from(name);
+    let new = grown(&parts[at], &others[at])?;
+    union_from(parts, others, names, name + 1)?;
+    if let Some(part) = new {
+        parts[at] = part;
+        return Ok(());
+    }
+    Ok(())
 }

@@ -1,7 +1,8 @@
 //! A set of replicas' names.
 
-ghost use Rattle.std.specs.Prelude.{◌≡◌, ◌<◌};
+ghost use Rattle.std.specs.Prelude.{◌≡◌, ◌<◌, ◌↔◌, IsTrue};
 ghost use Rattle.std.specs.FinSet as set;
+ghost use Rattle.dots_core.specs.Names.{HasAll};
 
 use std::marker::Model;
 
@@ -63,5 +64,18 @@ impl NameSet {
         ensures { result ≡ set.contains self name }
     {
         name < 32 && self.has[usize::from(name)]
+    }
+
+    /// Whether the two sets have the same names.
+    pub fn same(self, other: NameSet) -> bool
+        ensures { IsTrue result ↔ (self ≡ other) }
+    {
+        self.has == other.has
+    }
+
+    pub(crate) fn all() -> NameSet
+        ensures { HasAll result }
+    {
+        NameSet { has: [true; 32] }
     }
 }

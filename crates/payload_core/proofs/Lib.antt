@@ -1,4 +1,5 @@
 pub mod EntryLists
 pub mod EntryMaps
 pub mod SeenEntries
+pub mod Sizes
 pub mod TrackedDots

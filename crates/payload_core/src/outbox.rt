@@ -138,7 +138,15 @@ impl<A: Allocator> Outbox<A> {
     pub fn same(&self, other: &Outbox<A>) -> bool
         ensures { IsTrue result ↔ ((self.now.limit ≡ other.now.limit) × (self.now.messages ≡ other.now.messages)) }
     {
-        self.limit == other.limit && are_same(&self.messages, &other.messages)
+        if self.limit != other.limit || self.len() != other.len() {
+            return false;
+        }
+        for (place, message) in self.messages.iter().enumerate() {
+            if !message.same(&other.messages[place]) {
+                return false;
+            }
+        }
+        true
     }
 
     /// An outbox with the same limit and the same messages.
@@ -157,18 +165,4 @@ impl<A: Allocator> Outbox<A> {
             messages,
         })
     }
-}
-
-fn are_same<A: Allocator>(one: &[Payload<A>], other: &[Payload<A>]) -> bool
-    ensures { IsTrue result ↔ (one.now ≡ other.now) }
-{
-    if one.len() != other.len() {
-        return false;
-    }
-    for (place, message) in one.iter().enumerate() {
-        if !message.same(&other[place]) {
-            return false;
-        }
-    }
-    true
 }

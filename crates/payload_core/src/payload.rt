@@ -82,7 +82,7 @@ impl<A: Allocator> Payload<A> {
     pub fn same(&self, other: &Payload<A>) -> bool
         ensures { IsTrue result ↔ (self.now ≡ other.now) }
     {
-        self.sender == other.sender
+        other.sender == self.sender
             && self.seen.same(&other.seen)
             && self.entries.same(&other.entries)
     }

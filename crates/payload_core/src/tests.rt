@@ -45,7 +45,11 @@ fn three<A: Allocator + Copy>(rt: &impl Abort, alloc: A) -> Result<EntrySet<A>, 
 }
 
 /// A message of node 0 without entries, which has seen one dot.
-fn message<A: Allocator + Copy>(rt: &impl Abort, alloc: A, clock: u64) -> Result<Payload<A>, Fail> {
+fn message<'a, B: Allocator>(
+    rt: &impl Abort,
+    alloc: &'a B,
+    clock: u64,
+) -> Result<Payload<&'a B>, Fail> {
     let dot = Dot { name: 0, clock };
     assert!(rt; dot.ok());
     let mut seen = DotSet::new(alloc);
@@ -155,7 +159,8 @@ fn a_removal_takes_one_entry_out(rt: HostRuntime) -> Result<(), Fail> {
 
 #[test]
 fn a_message_gives_its_parts(rt: HostRuntime) -> Result<(), Fail> {
-    let message = message(&rt, rt.alloc(), 4)?;
+    let heap = rt.alloc();
+    let message = message(&rt, &heap, 4)?;
     let copy = message.try_copy()?;
     assert!(rt; copy.same(&message));
     let (sender, seen, entries) = copy.into_parts();
@@ -168,10 +173,11 @@ fn a_message_gives_its_parts(rt: HostRuntime) -> Result<(), Fail> {
 
 #[test]
 fn an_outbox_holds_as_many_messages_as_its_limit(rt: HostRuntime) -> Result<(), Fail> {
-    let mut outbox = Outbox::new(rt.alloc(), 1);
+    let heap = rt.alloc();
+    let mut outbox = Outbox::new(&heap, 1);
     assert!(rt; outbox.is_empty());
-    let first = message(&rt, rt.alloc(), 1)?;
-    let second = message(&rt, rt.alloc(), 2)?;
+    let first = message(&rt, &heap, 1)?;
+    let second = message(&rt, &heap, 2)?;
     let copy = second.try_copy()?;
     assert_eq!(rt; outbox.push(first).ok(), Some(1));
     assert!(rt; outbox.is_full());
@@ -185,9 +191,10 @@ fn an_outbox_holds_as_many_messages_as_its_limit(rt: HostRuntime) -> Result<(), 
 
 #[test]
 fn messages_are_numbered_from_1_and_popped_from_the_end(rt: HostRuntime) -> Result<(), Fail> {
-    let mut outbox = Outbox::new(rt.alloc(), 2);
-    assert!(rt; outbox.push(message(&rt, rt.alloc(), 1)?).is_ok());
-    assert_eq!(rt; outbox.push(message(&rt, rt.alloc(), 2)?).ok(), Some(2));
+    let heap = rt.alloc();
+    let mut outbox = Outbox::new(&heap, 2);
+    assert!(rt; outbox.push(message(&rt, &heap, 1)?).is_ok());
+    assert_eq!(rt; outbox.push(message(&rt, &heap, 2)?).ok(), Some(2));
     assert!(rt; outbox.get(0).is_none());
     assert!(rt; outbox.get(3).is_none());
     assert!(rt; outbox.try_copy()?.same(&outbox));

@@ -1,7 +1,7 @@
 -- Known bytes over several reads and writes.
-use Rattle.std.proofs.Common.{◌≡◌, ℕ, ◌+◌, List, [], ◌++◌, ◌-◌, length, take, drop, Option, None, Some, Err, refl, sym, ap, ◌∙◌, append-nil, arith}
+use Rattle.std.proofs.Common.{◌≡◌, ℕ, ◌+◌, ◌≤◌, List, [], ◌++◌, ◌-◌, length, take, drop, Option, None, Some, Err, sym, ap, ◌∙◌, append-nil, arith}
 use Rattle.std.proofs.Math.Seq.{take-add}
-use Rattle.std.proofs.KnownBytes.{Appends-trans, Keeps-refl}
+use Rattle.std.proofs.KnownBytes.{Appends-trans, Consumes-trans, Keeps-refl}
 use Rattle.std.proofs.lemmas.Grind.{common_steps}
 use Rattle.std.proofs.lemmas.Bool.Decides.{nat_tests}
 use Rattle.std.specs.Io.KnownBytes.{Appends, Consumes, IsAtEnd}
@@ -9,7 +9,7 @@ use Rattle.bench_core.specs.Limits.{Limits}
 use Rattle.presence_bench.specs.Grammar.{script_of}
 use Rattle.presence_bench.specs.declared.fault.FaultKind.TheVariants.{TooLong}
 use Rattle.presence_bench.specs.declared.fault.PlayFault.TheVariants as faults
-use Rattle.presence_bench.specs.Play.{IsWhole, IsLonger, EndsAt}
+use Rattle.presence_bench.specs.Play.{IsWhole, IsLonger, TakesAtMost, EndsAt}
 
 -- the first w bytes went out, and then the first n of the others
 pub sent_more : (old mid new : Option (List ℕ)) (bytes : List ℕ) (w n : ℕ) → Appends old mid (take w bytes) → Appends mid new (take n (take (length bytes - w) (drop w bytes))) → Appends old new (take (w + n) bytes)
@@ -22,6 +22,10 @@ pub ends_too_long : (known sent : Option (List ℕ)) (limits : Limits) → IsLon
 unfolding script_of
 ends_too_long None sent limits h = tt
 ends_too_long (Some input) sent limits h = (grind (arith, nat_tests), Keeps-refl sent)
+
+-- what was taken so far, and then a part of a buffer
+pub taken_more : (a b c : Option (List ℕ)) (bytes buf : List ℕ) (n most : ℕ) → Consumes a b bytes → Consumes b c (take n buf) → length bytes + length buf ≤ most → TakesAtMost a c most
+taken_more a b c bytes buf n most before then few = (bytes ++ take n buf, Consumes-trans a b c bytes (take n buf) before then, grind (arith, common_steps))
 
 -- what a reader gave until it was at its end is all that it had
 pub whole_at_end : (a b c : Option (List ℕ)) (bytes buf : List ℕ) (n : ℕ) → Consumes a b bytes → Consumes b c (take n buf) → n ≡ 0 → IsAtEnd c → IsWhole a bytes

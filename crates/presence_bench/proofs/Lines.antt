@@ -1,5 +1,5 @@
 -- A line with a fault among the lines.
-use Rattle.std.proofs.Common.{◌≡◌, ℕ, ◌<◌, List, length, get_or, drop, map, Bor, Err, refl, sym, ◌∙◌, ◌≤◌, ◌+◌, [], Ok, None, Some, arith}
+use Rattle.std.proofs.Common.{◌≡◌, ℕ, ◌<◌, List, length, get_or, drop, map, Bor, Err, refl, sym, ◌∙◌, ◌≤◌, [], Ok, None, arith}
 use Rattle.std.proofs.Math.Seq.{drop-cons}
 use Rattle.presence_bench.specs.declared.fault.FaultKind.{FaultKind}
 use Rattle.presence_bench.specs.Grammar.{Reading, with_line, with_lines, script_of, finished}

@@ -1,8 +1,8 @@
 -- What a play reads and writes.
 use Rattle.std.specs.Prelude.{◌≡◌, ◌≢◌, ℕ, ◌<◌, ◌≤◌, List, length, take, ⊤, Option, None, Some, Result, Ok, Err, IsOkAnd}
-use Rattle.std.specs.Io.KnownBytes.{Appends, Keeps}
+use Rattle.std.specs.Io.KnownBytes.{Appends, Consumes, Keeps}
 use Rattle.bench_core.specs.Limits.{Limits}
-use Rattle.presence_bench.specs.Grammar.{Script, script_of}
+use Rattle.presence_bench.specs.Grammar.{script_of}
 use Rattle.presence_bench.specs.Report.{report_of}
 use Rattle.presence_bench.specs.declared.fault.FaultKind.TheVariants.{OutOfMemory}
 use Rattle.presence_bench.specs.declared.fault.PlayFault.{PlayFault}
@@ -18,12 +18,16 @@ abbrev pub IsLonger : Option (List ℕ) → ℕ → Type 0
 IsLonger None limit = ⊤
 IsLonger (Some input) limit = limit < length input
 
+-- at most that many bytes were taken from a reader, where they are known
+abbrev pub TakesAtMost : Option (List ℕ) → Option (List ℕ) → ℕ → Type 0
+TakesAtMost old new most = (bytes : List ℕ) × Consumes old new bytes × (length bytes ≤ most)
+
 -- what went out, by the answer: the report of the input; nothing, for the first fault of the input; the first `written` bytes of the report; and else nothing
 abbrev pub Ends : List ℕ → Limits → Result (Unit {0}) PlayFault → Option (List ℕ) → Option (List ℕ) → Type 0
 Ends input limits (Ok _) old new = IsOkAnd (script_of input) (λ script. Appends old new (report_of limits script))
 Ends input limits (Err (faults.Script fault)) old new = (script_of input ≡ Err fault) × Keeps old new
 Ends input limits (Err faults.ReadFault) old new = Keeps old new
-Ends input limits (Err (faults.WriteFault written)) old new = IsOkAnd (script_of input) (λ script. (written ≤ length (report_of limits script)) × Appends old new (take written (report_of limits script)))
+Ends input limits (Err (faults.WriteFault written)) old new = IsOkAnd (script_of input) (λ script. (written < length (report_of limits script)) × Appends old new (take written (report_of limits script)))
 Ends input limits (Err faults.OutOfMemory) old new = Keeps old new
 
 -- the same, where the reader's bytes are known

@@ -1,4 +1,7 @@
-//! A reader and a writer for tests, which fail in mid-stream.
+//! A reader and a writer for tests, which fail in mid-stream. They tell their bytes, so what clauses say of known bytes
+//! is said of them.
+ghost use Rattle.std.specs.Prelude.{◌≡◌, false, true, []};
+
 use std::alloc::Global;
 use std::io;
 use std::io::{ErrorKind, Read, Write};
@@ -13,7 +16,11 @@ pub struct FakeReader<'a> {
 
 impl<'a> FakeReader<'a> {
     /// It gives the bytes and then ends.
-    pub fn ending(bytes: &'a [u8]) -> FakeReader<'a> {
+    pub fn ending(bytes: &'a [u8]) -> FakeReader<'a>
+        ensures rest { result.rest.now ≡ bytes.now }
+        ensures fails { result.fails ≡ false }
+        ensures calls { result.calls ≡ 0 }
+    {
         FakeReader {
             rest: bytes,
             fails: false,
@@ -22,7 +29,11 @@ impl<'a> FakeReader<'a> {
     }
 
     /// It gives the bytes and then fails.
-    pub fn failing(bytes: &'a [u8]) -> FakeReader<'a> {
+    pub fn failing(bytes: &'a [u8]) -> FakeReader<'a>
+        ensures rest { result.rest.now ≡ bytes.now }
+        ensures fails { result.fails ≡ true }
+        ensures calls { result.calls ≡ 0 }
+    {
         FakeReader {
             rest: bytes,
             fails: true,
@@ -31,12 +42,18 @@ impl<'a> FakeReader<'a> {
     }
 
     /// How often it was read.
-    pub fn calls(&self) -> usize {
+    pub fn calls(&self) -> usize
+        ensures { result ≡ self.now.calls }
+    {
         self.calls
     }
 }
 
 impl Read for FakeReader<'_> {
+    ghost use Rattle.std.specs.Prelude.{Some};
+
+    ghost remaining = { λ reader. Some reader.rest.now };
+
     fn read(&mut self, buf: &mut [u8]) -> io::Result<usize> {
         self.calls = self.calls.saturating_add(1);
         if self.rest.is_empty() && self.fails {
@@ -58,7 +75,10 @@ pub struct FakeWriter {
 }
 
 impl FakeWriter {
-    pub fn new(alloc: Global, room: usize) -> FakeWriter {
+    pub fn new(alloc: Global, room: usize) -> FakeWriter
+        ensures taken { result.taken.items ≡ [] }
+        ensures room { result.room ≡ room }
+    {
         FakeWriter {
             taken: Vec::new(alloc),
             room,
@@ -66,12 +86,18 @@ impl FakeWriter {
     }
 
     /// What went out.
-    pub fn taken(&self) -> &[u8] {
+    pub fn taken(&self) -> &[u8]
+        ensures { result.now ≡ self.now.taken.items }
+    {
         self.taken.as_slice()
     }
 }
 
 impl Write for FakeWriter {
+    ghost use Rattle.std.specs.Prelude.{Some};
+
+    ghost contents = { λ writer. Some writer.taken.items };
+
     fn write(&mut self, buf: &[u8]) -> io::Result<usize> {
         let count = self.room.min(buf.len());
         if count == 0 {

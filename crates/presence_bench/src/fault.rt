@@ -7,7 +7,7 @@ use payload_core::Oom;
 use std::alloc::AllocFailed;
 use thiserror::Error;
 
-/// What is wrong with a line, in the order in which it is looked for.
+/// What is wrong with a line or with a whole script. `docs/FORMATS.md` has the order in which it is looked for.
 #[derive(Clone, Copy, Debug, PartialEq, Eq, Error)]
 pub enum FaultKind {
     /// A byte outside 0x20 to 0x7E.
@@ -34,6 +34,7 @@ pub enum FaultKind {
     /// A name that isn't one.
     #[error("BadName")]
     BadName,
+    /// A request for memory was refused.
     #[error("OutOfMemory")]
     OutOfMemory,
 }
@@ -107,10 +108,13 @@ impl From<Oom> for ScriptFault {
 /// Why input could not be taken in.
 #[derive(Clone, Copy, Debug, PartialEq, Eq, Error)]
 pub enum InputFault {
+    /// A read failed. It isn't tried again.
     #[error("read fault")]
     ReadFault,
+    /// More bytes than the limit.
     #[error("TooLong")]
     TooLong,
+    /// A request for memory was refused.
     #[error("out of memory")]
     OutOfMemory,
 }
@@ -139,11 +143,13 @@ pub enum PlayFault {
     /// The first fault of the input, want of memory apart.
     #[error("{0}")]
     Script(ScriptFault),
+    /// A read failed.
     #[error("read fault")]
     ReadFault,
     /// Exactly the first `written` bytes of the report went out.
     #[error("write fault")]
     WriteFault { written: usize },
+    /// A request for memory was refused.
     #[error("out of memory")]
     OutOfMemory,
 }

@@ -20,6 +20,7 @@ pub fn is_reserved(word: &str) -> bool
     )
 }
 
+/// The verb that the word is, if it is one.
 #[tactic(auto, unfolding(crate::specs::Grammar::verb_of))]
 pub fn verb_of(word: &str) -> Option<Verb>
     ensures { result ≡ verb_of word.now }

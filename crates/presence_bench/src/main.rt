@@ -1,9 +1,10 @@
 //! The program: it reads a script from standard input, plays it on a bench, and writes the replies to
 //! standard output.
 //!
-//! Stands on `bench_core` (the machine and its names) and `payload_core` (words). The modules come in the
-//! order in which data flows: faults, words of a line, acts, the script, the report, the streams, the
-//! play of one script, the program around it.
+//! Stands on `bench_core` (the machine and its names) and `payload_core` (words). In the order in which data flows:
+//! `streams` takes the input in; `words`, `keyword`, `calls` and `parse` make a `script` of it, or a `fault`;
+//! `playing` runs it on a bench, and `report` is the text that goes out; `program` gives the status. `fakes` and
+//! `tests` are there for tests alone.
 #![tactic(auto)]
 
 mod calls;

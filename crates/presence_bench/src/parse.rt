@@ -23,9 +23,9 @@ const LONGEST_LINE: usize = 4096;
 
 /// What has been read so far.
 #[derive(Drop)]
-pub struct Reading<A: Allocator> {
-    pub nodes: Option<Names<A>>,
-    pub calls: Vec<(u16, Act<A>), A>,
+struct Reading<A: Allocator> {
+    nodes: Option<Names<A>>,
+    calls: Vec<(u16, Act<A>), A>,
 }
 
 /// The word, or, where it is reserved, a text that is no name.

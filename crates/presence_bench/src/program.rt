@@ -1,6 +1,7 @@
 //! What `main` runs on the standard streams.
-ghost use Rattle.presence_bench.specs.Program.{status_of, Exits};
 ghost use Rattle.std.specs.Prelude.{◌≡◌};
+ghost use Rattle.std.specs.Io.KnownBytes.{Keeps};
+ghost use Rattle.presence_bench.specs.Program.{status_of, Exits};
 
 use crate::fault::PlayFault;
 use crate::playing::play;
@@ -28,7 +29,8 @@ pub fn run<B: Allocator, R: Read, W: Write, E: Write>(
     errors: &mut E,
     limits: Limits,
 ) -> u8
-    ensures { Exits (R.remaining reader.old) limits result (W.contents writer.old) (W.contents writer.new) }
+    ensures exits { Exits (R.remaining reader.old) (R.remaining reader.new) limits result (W.contents writer.old) (W.contents writer.new) }
+    ensures quiet { result ≡ 0 → Keeps (E.contents errors.old) (E.contents errors.new) }
 {
     let answer = play(alloc, reader, writer, limits);
     if let Err(fault) = answer {

@@ -23,12 +23,14 @@ impl<A: Allocator> Model for Script<A> {
 }
 
 impl<A: Allocator> Script<A> {
+    /// A script of what was read.
     pub fn new(names: Names<A>, calls: Vec<(u16, Act<A>), A>) -> Script<A>
         ensures { result ≡ record { names = names; calls = calls_of calls.items } }
     {
         Script { names, calls }
     }
 
+    /// The names, and the calls in order.
     pub fn into_parts(self) -> (Names<A>, Vec<(u16, Act<A>), A>)
         ensures names { result.0 ≡ self.names }
         ensures calls { calls_of result.1.items ≡ self.calls }

@@ -1,7 +1,7 @@
 //! All bytes of a reader, and all bytes to a writer. A failed read or write isn't tried again.
-ghost use Rattle.std.specs.Prelude.{◌≡◌, ◌<◌, ◌≤◌, length, take, Err, IfOk, IfErr, OnOk};
+ghost use Rattle.std.specs.Prelude.{◌≡◌, ◌+◌, ◌<◌, ◌≤◌, length, take, Err, IfOk, IfErr, OnOk};
 ghost use Rattle.std.specs.Io.KnownBytes.{Appends, IsAtEnd};
-ghost use Rattle.presence_bench.specs.Play.{IsWhole, IsLonger};
+ghost use Rattle.presence_bench.specs.Play.{IsWhole, IsLonger, TakesAtMost};
 
 use crate::fault::{InputFault, WriteFault};
 use std::alloc::Allocator;
@@ -10,7 +10,7 @@ use std::io::{Read, Write};
 /// The most bytes that one read is asked for.
 const CHUNK: usize = 4096;
 
-/// The whole input, where it has at most `limit` bytes. At most `limit + 1` bytes are read, in at most
+/// The whole input, where it has at most `limit` bytes; so one byte past the limit is asked for. It makes at most
 /// `limit + 2` calls of `read`.
 pub fn read_all<A: Allocator, R: Read>(
     alloc: A,
@@ -22,6 +22,7 @@ pub fn read_all<A: Allocator, R: Read>(
     ensures end { OnOk result (IsAtEnd (R.remaining reader.new)) }
     ensures fits { IfOk result (λ bytes. length bytes.items ≤ limit) }
     ensures longer { result ≡ Err InputFault.TooLong → IsLonger (R.remaining reader.old) limit }
+    ensures most { TakesAtMost (R.remaining reader.old) (R.remaining reader.new) (limit + 1) }
 {
     let mut bytes = Vec::new(alloc);
     let mut chunk = [0u8; CHUNK];
@@ -44,7 +45,7 @@ pub fn read_all<A: Allocator, R: Read>(
 /// Writes all bytes. A write that takes nothing is a failed one.
 pub fn write_out<W: Write>(writer: &mut W, bytes: &[u8]) -> Result<(), WriteFault>
     ensures ok { OnOk result (Appends (W.contents writer.old) (W.contents writer.new) bytes.now) }
-    ensures within { IfErr result (λ fault. fault.written ≤ length bytes.now) }
+    ensures short { IfErr result (λ fault. fault.written < length bytes.now) }
     ensures err { IfErr result (λ fault. Appends (W.contents writer.old) (W.contents writer.new) (take fault.written bytes.now)) }
 {
     let mut written = 0;

@@ -15,21 +15,38 @@ fn small(acts: u64, entries: u64, clock: u64) -> Result<Limits, Fail> {
     Ok(Limits::new(acts, entries, clock, 10).ok_or("limits")?)
 }
 
+/// The answer of a play of the script, and the writer that it wrote to.
+fn played(rt: &HostRuntime, script: &str, limits: Limits) -> (Result<(), PlayFault>, FakeWriter) {
+    let mut reader = FakeReader::ending(script.as_bytes());
+    let mut writer = FakeWriter::new(rt.alloc(), 1000);
+    let answer = play(&rt.alloc(), &mut reader, &mut writer, limits);
+    (answer, writer)
+}
+
 #[test]
 fn replies_are_printed(rt: HostRuntime) -> Result<(), Fail> {
-    for (limits, script, report) in [
-        (Limits::usual(), JOIN_AND_UNDO, "1 ok\nundone 1\n"),
-        (Limits::usual(), "nodes a\n", ""),
+    for (script, report) in [
+        (JOIN_AND_UNDO, "1 ok\nundone 1\n"),
+        ("nodes a\n", ""),
         (
-            Limits::usual(),
             "nodes a b\na undo 0\na undo 9\na join 1 r alice phone\nb undo 1\nb undo 1\na join 2 r bob desk",
             "no NoSuchStep\nno NoSuchStep\n1 ok\nundone 1\nno AlreadyUndone\n2 ok\n",
         ),
         (
-            Limits::usual(),
             "nodes a b\n\n# a comment\n  a  join 1 r alice phone\na join 1 r alice phone\nb join 1 r alice phone\na join 2 r bob desk\nb undo 1\n",
             "1 ok\nno AlreadyTracked\n2 ok\n3 ok\nno HasConsequence 1 by 3\n",
         ),
+    ] {
+        let (answer, writer) = played(&rt, script, Limits::usual());
+        assert_eq!(rt; answer, Ok(()), "{script}");
+        assert_eq!(rt; writer.taken(), report.as_bytes(), "{script}");
+    }
+    Ok(())
+}
+
+#[test]
+fn a_limit_that_is_reached_is_named(rt: HostRuntime) -> Result<(), Fail> {
+    for (limits, script, report) in [
         (
             small(2, 10, 10)?,
             "nodes a b\na join 1 r alice phone\na join 2 r bob desk\na undo 1\na undo 1\n",
@@ -46,9 +63,7 @@ fn replies_are_printed(rt: HostRuntime) -> Result<(), Fail> {
             "1 ok\nno ClockFull\n",
         ),
     ] {
-        let mut reader = FakeReader::ending(script.as_bytes());
-        let mut writer = FakeWriter::new(rt.alloc(), 1000);
-        let answer = play(&rt.alloc(), &mut reader, &mut writer, limits);
+        let (answer, writer) = played(&rt, script, limits);
         assert_eq!(rt; answer, Ok(()), "{script}");
         assert_eq!(rt; writer.taken(), report.as_bytes(), "{script}");
     }
@@ -56,7 +71,7 @@ fn replies_are_printed(rt: HostRuntime) -> Result<(), Fail> {
 }
 
 #[test]
-fn the_first_fault_is_told(rt: HostRuntime) -> Result<(), Fail> {
+fn the_nodes_come_first(rt: HostRuntime) -> Result<(), Fail> {
     for (script, line, kind) in [
         ("a join 1 r k m", 1, FaultKind::NoNodes),
         ("", 0, FaultKind::NoNodes),
@@ -67,6 +82,18 @@ fn the_first_fault_is_told(rt: HostRuntime) -> Result<(), Fail> {
         ("nodes show a a", 1, FaultKind::BadName),
         ("nodes a B", 1, FaultKind::BadName),
         ("nodes", 1, FaultKind::WrongCount),
+    ] {
+        let (answer, writer) = played(&rt, script, Limits::usual());
+        let fault = ScriptFault { line, kind };
+        assert_eq!(rt; answer, Err(PlayFault::Script(fault)), "{script}");
+        assert!(rt; writer.taken().is_empty(), "{script}");
+    }
+    Ok(())
+}
+
+#[test]
+fn the_first_fault_is_told(rt: HostRuntime) -> Result<(), Fail> {
+    for (script, line, kind) in [
         ("nodes a\nnodes b", 2, FaultKind::Twice),
         ("nodes a\nconsoles c1", 2, FaultKind::UnknownWord),
         ("nodes a\na jump 1", 2, FaultKind::UnknownWord),
@@ -84,14 +111,9 @@ fn the_first_fault_is_told(rt: HostRuntime) -> Result<(), Fail> {
         ("nodes a\n\t", 2, FaultKind::NotText),
         ("nodes a\n#\u{7f}", 2, FaultKind::NotText),
     ] {
-        let mut writer = FakeWriter::new(rt.alloc(), 1000);
-        let mut reader = FakeReader::ending(script.as_bytes());
-        let answer = play(&rt.alloc(), &mut reader, &mut writer, Limits::usual());
-        assert_eq!(rt;
-            answer,
-            Err(PlayFault::Script(ScriptFault { line, kind })),
-            "{script}"
-        );
+        let (answer, writer) = played(&rt, script, Limits::usual());
+        let fault = ScriptFault { line, kind };
+        assert_eq!(rt; answer, Err(PlayFault::Script(fault)), "{script}");
         assert!(rt; writer.taken().is_empty(), "{script}");
     }
     Ok(())
@@ -165,6 +187,26 @@ fn a_failed_write_tells_what_went_out(rt: HostRuntime) -> Result<(), Fail> {
     Ok(())
 }
 
+/// The status with which the program ends, and what it wrote to its output and to its errors, each a writer of so much
+/// room.
+fn run(
+    rt: &HostRuntime,
+    mut reader: FakeReader<'_>,
+    room: usize,
+    errors_room: usize,
+) -> (u8, FakeWriter, FakeWriter) {
+    let mut writer = FakeWriter::new(rt.alloc(), room);
+    let mut errors = FakeWriter::new(rt.alloc(), errors_room);
+    let status = program::run(
+        &rt.alloc(),
+        &mut reader,
+        &mut writer,
+        &mut errors,
+        Limits::usual(),
+    );
+    (status, writer, errors)
+}
+
 #[test]
 fn each_fault_has_its_status_and_its_line(rt: HostRuntime) -> Result<(), Fail> {
     for (script, fails, room, status, printed, told) in [
@@ -194,35 +236,24 @@ fn each_fault_has_its_status_and_its_line(rt: HostRuntime) -> Result<(), Fail> {
             "presence_bench: write fault\n",
         ),
     ] {
-        let mut reader = if fails {
+        let reader = if fails {
             FakeReader::failing(script.as_bytes())
         } else {
             FakeReader::ending(script.as_bytes())
         };
-        let mut writer = FakeWriter::new(rt.alloc(), room);
-        let mut errors = FakeWriter::new(rt.alloc(), 100);
-        let ended = program::run(
-            &rt.alloc(),
-            &mut reader,
-            &mut writer,
-            &mut errors,
-            Limits::usual(),
-        );
+        let (ended, writer, errors) = run(&rt, reader, room, 100);
         assert_eq!(rt; ended, status, "{told}");
         assert_eq!(rt; writer.taken(), printed.as_bytes(), "{told}");
         assert_eq!(rt; errors.taken(), told.as_bytes());
     }
-    let mut reader = FakeReader::ending(b"nodes");
-    let mut writer = FakeWriter::new(rt.alloc(), 0);
-    let mut errors = FakeWriter::new(rt.alloc(), 0);
-    let ended = program::run(
-        &rt.alloc(),
-        &mut reader,
-        &mut writer,
-        &mut errors,
-        Limits::usual(),
-    );
+    Ok(())
+}
+
+#[test]
+fn a_status_stands_where_its_line_cannot_be_written(rt: HostRuntime) -> Result<(), Fail> {
+    let (ended, _, errors) = run(&rt, FakeReader::ending(b"nodes"), 0, 0);
     assert_eq!(rt; ended, 1);
+    assert!(rt; errors.taken().is_empty());
     Ok(())
 }
 

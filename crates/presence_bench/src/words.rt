@@ -7,7 +7,7 @@ ghost use Rattle.presence_bench.specs.Words.{lines_of, words_of, is_text, is_num
 use payload_core::Oom;
 use std::alloc::Allocator;
 
-/// What the line feeds divide.
+/// What the line feeds divide. Behind a last line feed stands one more line, which is empty.
 pub fn lines_of<A: Allocator>(alloc: A, bytes: &[u8]) -> Result<Vec<&[u8], A>, Oom>
     ensures { IfOk result (λ lines. map (λ line. line.now) lines.items ≡ lines_of bytes.now) }
 {
@@ -60,7 +60,7 @@ fn is_numeral(digits: &[u8]) -> bool
     has_digits(digits)
 }
 
-/// The number that the digits spell.
+/// The number that the digits spell, if they spell one: as numbers are printed, so with no sign and no zero in front.
 pub fn number_of(digits: &str) -> Option<u64>
     ensures { result ≡ number_of digits.now }
 {

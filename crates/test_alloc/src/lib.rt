@@ -4,6 +4,8 @@
 //! It uses std alone. Only tests use it.
 #![tactic(auto)]
 
+ghost use Rattle.std.specs.Prelude.{◌≡◌};
+
 use std::alloc::{AllocError, Allocator};
 use std::sync::atomic::{AtomicU64, Ordering};
 
@@ -13,7 +15,7 @@ mod tests;
 /// The number of requests made since the count last began at 0, and the numbers of the first and the last that are
 /// refused. Requests are numbered from 1, so a last of 0 refuses none. They are atomic, since threads share them.
 #[derive(Drop)]
-pub struct Requests {
+struct Requests {
     made: AtomicU64,
     first: AtomicU64,
     last: AtomicU64,
@@ -27,8 +29,12 @@ pub struct Refusing<B: Allocator> {
 }
 
 impl<B: Allocator> Refusing<B> {
+    ghost use Rattle.test_alloc.specs.Refusing.{inner_of};
+
     /// It refuses nothing yet, and gets its memory from `inner`.
-    pub fn new(inner: B) -> Refusing<B> {
+    pub fn new(inner: B) -> Refusing<B>
+        ensures { inner_of result ≡ inner }
+    {
         Refusing {
             inner,
             requests: Requests {

@@ -1,4 +1,4 @@
-use Rattle.std.proofs.Common.{◌∙◌, sym, ap, Some, set}
+use Rattle.std.proofs.Common.{rules, ◌∙◌, sym, ap, Some, set}
 use Rattle.bench_core.specs.Chains.{with_inverse, without_held}
 use Rattle.bench_core.proofs.Keeps.{found_at, lent_back, lent_out}
 use Rattle.bench_core.proofs.bench.take_back.Goals as goal
@@ -24,4 +24,4 @@ returns-clause-journal g c =
 pub give_back-requires : goal.give_back-requires
 give_back-requires g c =
     let f = found_at c.args.nodes.now.items c.args.journal.now.steps c.args.number c.args.node c.unwrap-inverse.result c.index_mut-place.result.now c.lend.result c.requires c.lend.ensures.value c.unwrap-inverse.ensures c.index_mut-place.ensures.value in
-    (c.requires.earlier, f.leads)
+    (search rules, (search rules, (c.requires.earlier, f.leads)))

@@ -14,7 +14,7 @@ take_back-requires g c =
     let found : find_number (kepts c.self.inside.journal.steps) c.args.number ≡ Some k = sym c.find.ensures ∙ ap option_copied c.in-Some.is ∙ ap Some (sym c.kept.view_is) in
     let free : first_consequence (kepts c.self.inside.journal.steps) c.args.number ≡ None = sym c.first_consequence.ensures ∙ c.in_default-first_consequence.is in
     let u = undo_at (config c.self.inside.names c.self.inside.limits) c.self.inside.history.events c.self.inside.nodes.items c.self.inside.journal.steps c.self.inside.taken c.args.number k c.self.invariant found free in
-    u.backable
+    (search rules, u.backable)
 
 pub invariant_of-self-2 : goal.invariant_of-self-2
 invariant_of-self-2 g c =

@@ -2,7 +2,6 @@ use Rattle.std.proofs.Common.{◌≡◌, ◌∙◌, sym, ap, arith, Some, None}
 use Rattle.bench_core.specs.Chains.{place_of, without_held}
 use Rattle.bench_core.proofs.Places.{place_within, remove_at, absent}
 use Rattle.bench_core.proofs.journal.Journal.take_out.Goals as goal
-use Rattle.bench_core.proofs.journal.Journal.take_out.Goals.{in-Some-1, in-None-1}
 
 pub remove-requires : goal.remove-requires
 remove-requires g c =
@@ -13,8 +12,7 @@ pub returns-in-Some : goal.returns-in-Some
 returns-in-Some g c =
     let at : place_of c.self.inside.steps.items c.args.number ≡ Some c.in-Some.place = ap (λ l. place_of l c.args.number) (sym c.as_slice.ensures.value) ∙ sym c.place.ensures ∙ c.in-Some.is in
     let out = remove_at c.args.number c.self.inside.steps.items c.in-Some.place at in
-    let after = ap (λ l. record { steps = l; ready = c.self.inside.ready }) (c.remove.ensures.items ∙ out) ∙ ap (λ b. record { steps = without_held b.steps c.args.number; ready = b.ready }) c.self.view_is in
-    elim c.match-remove.branch [ in-Some-1 w ↦ w.self-is ∙ after | in-None-1 w ↦ w.self-is ∙ after ]
+    ap (λ l. record { steps = l; ready = c.self.inside.ready }) (c.remove.ensures.items ∙ out) ∙ ap (λ b. record { steps = without_held b.steps c.args.number; ready = b.ready }) c.self.view_is
 
 pub returns-in_default : goal.returns-in_default
 returns-in_default g c =

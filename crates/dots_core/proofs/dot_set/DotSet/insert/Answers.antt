@@ -1,35 +1,19 @@
-use Rattle.std.proofs.Common.{◌≡◌, true, false, sym, ap, ◌∙◌, arith}
+use Rattle.std.proofs.Common.{get_or, ◌≡◌, Bool, not, ap, ◌∙◌}
 use Rattle.std.specs.FinSet as set
-use Rattle.dots_core.specs.Dots.{dot_cmp}
-use Rattle.dots_core.specs.Rising.{set_of}
-use Rattle.dots_core.proofs.Order.{dot_total, dot_exact}
-use Rattle.dots_core.proofs.Rising.{contains-set_of, place-le-length, Rises-insert, set_of-insert, insert_present}
+use Rattle.std.proofs.lemmas.Result.{on_ok_weaker, IfOk-weaker}
+use Rattle.dots_core.specs.Clocks.{holds}
+use Rattle.dots_core.proofs.Parts.{parts_set, insert_at, held_at}
 use Rattle.dots_core.proofs.dot_set.DotSet.insert.Goals as goal
 
-pub insert-requires : goal.insert-requires
-insert-requires g c = let within = place-le-length dot_cmp c.args.dot c.deref.result.now in omega (arith, c.in-Err.ensures.here, c.deref.ensures.len)
+pub invariant_of-self : goal.invariant_of-self
+invariant_of-self g c = parts_set c.self.inside.parts c.from.result c.insert.new.self c.self.invariant c.insert.ensures.canonical
 
-pub invariant_of-self-in-Err : goal.invariant_of-self-in-Err
-invariant_of-self-in-Err g c =
-    rw (c.in_ok-insert-in-Err.ensures.items, c.in-Err.ensures.here, c.deref.ensures.value)
-    (Rises-insert dot_cmp dot_total c.args.dot c.self.inside.dots.items (sym (rw c.deref.ensures.value at c.in-Err.ensures.was)) c.self.invariant)
+pub returns-clause-ok : goal.returns-clause-ok
+returns-clause-ok g c = on_ok_weaker c.insert.result
+    (insert_at c.self.inside.parts c.from.result c.args.dot c.index-self-from.result c.insert.new.self c.args.self.now c.self.invariant c.from.ensures c.requires.name c.self.view_is)
+    c.insert.ensures.ok
 
-pub returns-in-Ok-clause-ok : goal.returns-in-Ok-clause-ok
-returns-in-Ok-clause-ok g c =
-    let known = contains-set_of dot_cmp dot_total c.args.dot c.self.inside.dots.items c.self.invariant in
-    sym (insert_present dot_cmp dot_total dot_exact c.args.self.now c.args.dot (cc (known, c.self.view_is, c.in-Ok.ensures.was, c.deref.ensures.value)))
-
-pub returns-in-Ok-clause-new : goal.returns-in-Ok-clause-new
-returns-in-Ok-clause-new g c =
-    let known = contains-set_of dot_cmp dot_total c.args.dot c.self.inside.dots.items c.self.invariant in
-    let there : set.contains c.args.self.now c.args.dot ≡ true = cc (known, c.self.view_is, c.in-Ok.ensures.was, c.deref.ensures.value) in rw there
-
-pub returns-in_ok-insert-in-Err-clause-ok : goal.returns-in_ok-insert-in-Err-clause-ok
-returns-in_ok-insert-in-Err-clause-ok g c =
-    ap (set_of dot_cmp) c.in_ok-insert-in-Err.ensures.items ∙ set_of-insert dot_cmp dot_total dot_exact c.args.dot _ _
-    ∙ ap (λ s. set.insert s c.args.dot) c.self.view_is
-
-pub returns-in_ok-insert-in-Err-clause-new : goal.returns-in_ok-insert-in-Err-clause-new
-returns-in_ok-insert-in-Err-clause-new g c =
-    let known = contains-set_of dot_cmp dot_total c.args.dot c.self.inside.dots.items c.self.invariant in
-    let not_there : set.contains c.args.self.now c.args.dot ≡ false = cc (known, c.self.view_is, c.in-Err.ensures.was, c.deref.ensures.value) in rw not_there
+pub returns-clause-new : goal.returns-clause-new
+returns-clause-new g c =
+    let held = held_at c.self.inside.parts c.from.result c.args.dot c.index-self-from.result c.args.self.now c.self.invariant c.from.ensures c.requires.name c.self.view_is in
+    IfOk-weaker c.insert.result (λ (new : Bool). new ≡ not (holds (get_or c.self.inside.parts c.from.result c.index-self-from.result) c.args.dot.clock)) (λ (new : Bool). new ≡ not (set.contains c.args.self.now c.args.dot)) (λ new e. e ∙ ap not held) c.insert.ensures.new

@@ -1,24 +1,20 @@
-use Rattle.std.proofs.Common.{◌≡◌, sym, ap, ◌∙◌}
-use Rattle.std.specs.Bool.{Decides}
-use Rattle.std.proofs.lemmas.Bool.{and_parts, and_from, eqb-true, eq-eqb}
-use Rattle.std.proofs.lemmas.Slice.Eq.{slice_eq-Decides}
-use Rattle.dots_core.specs.declared.dot.Dot.{Dot}
-use Rattle.dots_core.specs.Dots.{dot_cmp}
-use Rattle.dots_core.specs.Rising.{set_of}
-use Rattle.dots_core.specs.contracts.dot.DotPartialEq.TheImpl as eq
-use Rattle.dots_core.proofs.Order.{dot_total, dot_exact}
-use Rattle.dots_core.proofs.Rising.{same_items}
+use Rattle.std.proofs.Common.{◌<◌, refl, sym, ap, ◌∙◌, arith, true≢false}
+use Rattle.dots_core.specs.Parts.{dots_of, part_at}
+use Rattle.dots_core.proofs.Parts.{agreeing_parts, same_parts, read_part}
 use Rattle.dots_core.proofs.dot_set.DotSet.same.Goals as goal
 
-dot_eq-Decides : (a b : Dot) → Decides (eq.eq-value.it a b) (a ≡ b)
-dot_eq-Decides a b = (
-  λ e. let parts = and_parts _ _ e in let name = eqb-true a.name b.name parts.0 in let clock = eqb-true a.clock b.clock parts.1 in λ i. record { name = name i; clock = clock i },
-  λ e. and_from _ _ (eq-eqb a.name b.name (ap (λ (d : Dot). d.name) e)) (eq-eqb a.clock b.clock (ap (λ (d : Dot). d.clock) e)),
+pub returns : goal.returns
+returns g c = (
+  λ _. sym c.self.view_is ∙ ap dots_of (agreeing_parts c.self.inside.parts c.other.inside.parts c.self.invariant c.other.invariant (λ n lt. c.loop-name.invariant n (omega (arith, c.loop-name-test.false)))) ∙ c.other.view_is,
+  λ _. refl,
 )
 
-pub returns : goal.returns
-returns g c =
-    let decides = slice_eq-Decides dot_eq-Decides c.self.inside.dots.items c.other.inside.dots.items c.eq.result c.eq.ensures in (
-      λ e. sym c.self.view_is ∙ ap (set_of dot_cmp) (decides.0 e) ∙ c.other.view_is,
-      λ e. decides.1 (same_items dot_cmp dot_total dot_exact c.self.inside.dots.items c.other.inside.dots.items c.self.invariant c.other.invariant (c.self.view_is ∙ e ∙ sym c.other.view_is)),
-    )
+pub returns-then-not-same : goal.returns-then-not-same
+returns-then-not-same g c = (
+  λ e. absurd (true≢false (sym e)),
+  λ e. let name : c.loop-name.name < 32 = omega (arith, c.loop-name-test.true) in
+      let parts = same_parts c.self.inside.parts c.other.inside.parts c.self.invariant c.other.invariant (c.self.view_is ∙ e ∙ sym c.other.view_is) in
+      let one = read_part c.self.inside.parts c.loop-name.name c.loop-name.name c.index-self-name.result c.self.invariant refl name in
+      let two = read_part c.other.inside.parts c.loop-name.name c.loop-name.name c.index-other-name.result c.other.invariant refl name in
+      let is = c.same.ensures.1 (one ∙ ap (λ ps. part_at ps c.loop-name.name) parts ∙ sym two) in (cc is),
+)

@@ -1,6 +1,4 @@
-use Rattle.std.proofs.Common.{◌≡◌, ◌<◌, length, false, sym, ap, subst, ◌∙◌, arith}
-use Rattle.std.specs.FinSet as set
-use Rattle.dots_core.specs.Flags.{names_of}
+use Rattle.std.proofs.Common.{◌<◌, length, ◌∙◌, arith}
 use Rattle.dots_core.proofs.Names.{names_of-without}
 use Rattle.dots_core.proofs.name_set.NameSet.without.Goals as goal
 

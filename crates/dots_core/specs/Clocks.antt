@@ -1,0 +1,41 @@
+-- The clocks of one name's dots, as a set keeps them: those from 1 to a clock, and those in a cloud above it.
+use Rattle.std.specs.Prelude.{◌≡◌, ℕ, ◌+◌, ◌<◌, ◌≤◌, ◌==◌, nat_lt, nat_le, Bool, false, not, ◌&&◌, ◌||◌, List, [], ◌∷◌}
+
+pub record Clocks : Type 0 where
+  pub clock : ℕ
+  pub cloud : List ℕ
+
+-- no clock
+abbrev pub no_clocks : Clocks
+no_clocks = record { clock = 0; cloud = [] }
+
+-- whether k is in the list
+abbrev pub is_among : ℕ → List ℕ → Bool
+is_among k [] = false
+is_among k (c ∷ cs) = (k == c) || is_among k cs
+
+-- whether k is one of the clocks
+abbrev pub holds : Clocks → ℕ → Bool
+holds p k = (nat_lt 0 k && nat_le k p.clock) || is_among k p.cloud
+
+-- each is above the one before it, the first above b, and none is past the last clock
+abbrev pub RisesAbove : ℕ → List ℕ → Type 0
+RisesAbove b [] = Unit {0}
+RisesAbove b (c ∷ cs) = (b < c) × (c ≤ 1000000000) × RisesAbove c cs
+
+-- the one way to keep these clocks: the cloud rises, and the clock after `clock` is not one of them
+pub record IsCanonical (p : Clocks) : Type 0 where
+  pub last : p.clock ≤ 1000000000
+  pub rises : RisesAbove (p.clock + 1) p.cloud
+
+-- after has the clocks of before, and k
+abbrev pub Gains : Clocks → ℕ → Clocks → Type 0
+Gains before k after = (j : ℕ) → holds after j ≡ ((j == k) || holds before j)
+
+-- after has the clocks of before but k
+abbrev pub Loses : Clocks → ℕ → Clocks → Type 0
+Loses before k after = (j : ℕ) → holds after j ≡ (not (j == k) && holds before j)
+
+-- u has the clocks of p and those of q
+abbrev pub IsUnion : Clocks → Clocks → Clocks → Type 0
+IsUnion p q u = (k : ℕ) → holds u k ≡ (holds p k || holds q k)

@@ -1,0 +1,38 @@
+-- The context clock and the cloud of a name in a set of dots (Phoenix.Tracker.State: 'context' and 'clouds'; the causal
+-- context of RR-8083). A context says of a name, in one number, that all its dots up to a clock were seen; what was seen
+-- out of turn is in the cloud.
+use Rattle.std.specs.Prelude.{◌≡◌, ◌↔◌, ℕ, ◌+◌, ◌<◌, ◌≤◌, ◌==◌, not, true, false, List, Contains}
+use Rattle.std.specs.FinSet as set
+use Rattle.dots_core.specs.Dots.{Dots, dot, of_names}
+use Rattle.dots_core.specs.Clocks.{Clocks, RisesAbove}
+
+-- c is the context clock of the name: the greatest c such that the dots with the clocks from 1 to c are all in the set
+pub record IsContext (s : Dots) (name c : ℕ) : Type 0 where
+  pub all : (k : ℕ) → k ≤ c → (set.contains s (dot name k) ≡ true) ↔ (0 < k)
+  pub greatest : set.contains s (dot name (c + 1)) ≡ false
+
+-- the cloud of the name, whose context clock is c: the rising list of its other clocks
+pub record IsCloud (s : Dots) (name c : ℕ) (cloud : List ℕ) : Type 0 where
+  pub rises : RisesAbove c cloud
+  pub others : (k : ℕ) → c < k → (set.contains s (dot name k) ≡ true) ↔ Contains cloud k
+
+-- the cloud of the name
+abbrev pub IsCloudOf : Dots → ℕ → List ℕ → Type 0
+IsCloudOf s name cloud = (c : ℕ) → IsContext s name c → IsCloud s name c cloud
+
+-- the part of the name in the set: its context clock and its cloud
+pub record IsPartOf (s : Dots) (name : ℕ) (part : Clocks) : Type 0 where
+  pub context : IsContext s name part.clock
+  pub cloud : IsCloud s name part.clock part.cloud
+
+-- a name has one context clock and one cloud in a set
+abbrev pub OnePartLaw : Type 0
+OnePartLaw = (s : Dots) (name : ℕ) (p q : Clocks) → IsPartOf s name p → IsPartOf s name q → p ≡ q
+
+-- the dots of the other names
+abbrev pub others : ℕ → Dots → Dots
+others name s = of_names (λ n. not (n == name)) s
+
+-- a set is given by the part of one name and the dots of the others
+abbrev pub PartLaw : Type 0
+PartLaw = (s t : Dots) (name : ℕ) (part : Clocks) → IsPartOf s name part → IsPartOf t name part → others name s ≡ others name t → s ≡ t

@@ -1,0 +1,152 @@
+//! The dots of one name in a set: a context clock, and a cloud of the clocks above it.
+
+ghost use Rattle.std.specs.Prelude.{◌≡◌, ℕ, ◌+◌, ◌-◌, ◌<◌, ◌≤◌, ◌↔◌, ◌++◌, drop, length, not, All, IsTrue, IfOk, OnOk, OnErr};
+ghost use Rattle.dots_core.specs.Clocks.{no_clocks, holds, IsCanonical, Gains, Loses};
+ghost use Rattle.dots_core.specs.Absorbed.{absorbed, numbers};
+
+use crate::Oom;
+use std::alloc::{Allocator, Global};
+use std::marker::Model;
+
+/// The dots of one name in a set (Phoenix.Tracker.State): all clocks from 1 to `clock`, and those in `cloud`, which
+/// rises and begins above `clock + 1`. So equal sets of clocks have equal parts.
+#[derive(Drop)]
+pub struct Part<A: Allocator = Global> {
+    pub clock: u64,
+    pub cloud: Vec<u64, A>,
+}
+
+impl<A: Allocator> Model for Part<A> {
+    ghost use Rattle.dots_core.specs.Clocks.{Clocks, IsCanonical};
+
+    ghost Value = { Clocks };
+
+    ghost view = { λ p. record { clock = p.clock; cloud = p.cloud.items } };
+
+    ghost invariant = { λ p. IsCanonical (record { clock = p.clock; cloud = p.cloud.items }) };
+}
+
+impl<A: Allocator> Part<A> {
+    pub(crate) fn empty(alloc: A) -> Part<A>
+        ensures { result ≡ no_clocks }
+    {
+        Part {
+            clock: 0,
+            cloud: Vec::new(alloc),
+        }
+    }
+
+    pub(crate) fn has(&self, clock: u64) -> bool
+        ensures { result ≡ holds self.now clock }
+    {
+        if clock <= self.clock {
+            clock > 0
+        } else {
+            self.cloud.binary_search(&clock).is_ok()
+        }
+    }
+
+    pub(crate) fn is_empty(&self) -> bool
+        ensures { IsTrue result ↔ (self.now ≡ no_clocks) }
+    {
+        self.clock == 0 && self.cloud.is_empty()
+    }
+
+    pub(crate) fn same(&self, other: &Part<A>) -> bool
+        ensures { IsTrue result ↔ (self.now ≡ other.now) }
+    {
+        self.clock == other.clock && self.cloud == other.cloud
+    }
+
+    /// A clock in its place: the next one moves the context clock, which then takes in what follows on it in the cloud.
+    pub(crate) fn insert(&mut self, clock: u64) -> Result<bool, Oom>
+        requires positive { 0 < clock }
+        requires last { clock ≤ 1000000000 }
+        ensures canonical { IsCanonical self.new }
+        ensures ok { OnOk result (Gains self.old clock self.new) }
+        ensures new { IfOk result (λ is_new. is_new ≡ not (holds self.old clock)) }
+        ensures err { OnErr result (self.new ≡ self.old) }
+    {
+        if clock <= self.clock {
+            return Ok(false);
+        }
+        if clock == self.clock + 1 {
+            let run = run_after(clock, &self.cloud);
+            self.clock = clock + run as u64;
+            self.cloud.drain(..run);
+            return Ok(true);
+        }
+        match self.cloud.binary_search(&clock) {
+            Ok(_) => Ok(false),
+            Err(place) => {
+                self.cloud.insert(place, clock)?;
+                Ok(true)
+            }
+        }
+    }
+
+    /// What stood between the clock and the context clock goes into the cloud.
+    pub(crate) fn remove(&mut self, clock: u64) -> Result<bool, Oom>
+        requires { 0 < clock }
+        ensures canonical { IsCanonical self.new }
+        ensures ok { OnOk result (Loses self.old clock self.new) }
+        ensures was { IfOk result (λ was_there. was_there ≡ holds self.old clock) }
+        ensures err { OnErr result (self.new ≡ self.old) }
+    {
+        if clock <= self.clock {
+            put_in_front(&mut self.cloud, clock + 1, self.clock + 1)?;
+            self.clock = clock - 1;
+            return Ok(true);
+        }
+        match self.cloud.binary_search(&clock) {
+            Ok(place) => {
+                self.cloud.remove(place);
+                Ok(true)
+            }
+            Err(_) => Ok(false),
+        }
+    }
+
+    pub(crate) fn try_copy(&self) -> Result<Part<A>, Oom>
+    where
+        A: Copy,
+        ensures { IfOk result (λ copy. copy ≡ self.now) }
+    {
+        Ok(Part {
+            clock: self.clock,
+            cloud: self.cloud.clone()?,
+        })
+    }
+}
+
+// How many clocks at the front of the cloud follow on the clock, one after another.
+fn run_after(clock: u64, cloud: &[u64]) -> usize
+    requires clock { clock ≤ 1000000000 }
+    requires cloud { All (λ c. c ≤ 1000000000) cloud.now }
+    ensures within { result ≤ length cloud.now }
+    ensures run { absorbed clock cloud.now ≡ record { clock = clock + result; cloud = drop result cloud.now } }
+{
+    let mut next = clock;
+    for (run, c) in cloud.iter().enumerate() {
+        next += 1;
+        if *c != next {
+            return run;
+        }
+    }
+    cloud.len()
+}
+
+// Puts the clocks from `from` up to `to`, without it, in front of the cloud.
+fn put_in_front<A: Allocator>(cloud: &mut Vec<u64, A>, from: u64, to: u64) -> Result<(), Oom>
+    requires { from ≤ to }
+    ensures ok { OnOk result (cloud.new.items ≡ numbers from (to - from) ++ cloud.old.items) }
+    ensures err { OnErr result (cloud.new.items ≡ cloud.old.items) }
+{
+    let above = cloud.len();
+    cloud.reserve((to - from) as usize)?;
+    for clock in from..to {
+        cloud.push_reserved(clock);
+    }
+    cloud.rotate_left(above);
+    Ok(())
+}

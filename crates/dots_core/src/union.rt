@@ -1,0 +1,103 @@
+//! The union of the parts that two sets have of one name, in time linear in the two.
+
+ghost use Rattle.std.specs.Prelude.{◌≡◌, ℕ, ◌<◌, ◌≤◌, [], ◌++◌, true, false, ◌||◌, IfOk, OnOk, MatchOption, length};
+ghost use Rattle.dots_core.specs.Clocks.{is_among, RisesAbove, IsCanonical, IsUnion, Gains, holds};
+ghost use Rattle.dots_core.specs.Unions.{HasEach, IsGrown, IsLeast, without_first, AddsOnly};
+
+use crate::Oom;
+use crate::part::Part;
+use std::alloc::Allocator;
+
+/// The union of the two parts, or nothing where `own` has all clocks of `other` already.
+pub(crate) fn grown<A: Allocator + Copy>(
+    own: &Part<A>,
+    other: &Part<A>,
+) -> Result<Option<Part<A>>, Oom>
+    ensures { IfOk result (IsGrown own.now other.now) }
+{
+    if other.clock <= own.clock && has_each(own, &other.cloud) {
+        return Ok(None);
+    }
+    let mut union = Part {
+        clock: own.clock.max(other.clock),
+        cloud: Vec::new(*own.cloud.allocator()),
+    };
+    let mut left = own.cloud.as_slice();
+    let mut right = other.cloud.as_slice();
+    while let Some(next) = least(left, right) {
+        add_last(&mut union, next)?;
+        left = after(left, next);
+        right = after(right, next);
+    }
+    Ok(Some(union))
+}
+
+// Whether the part has each of the clocks, which rise.
+fn has_each<A: Allocator>(own: &Part<A>, clocks: &[u64]) -> bool
+    requires { (k : ℕ) → is_among k clocks.now ≡ true → 0 < k }
+    ensures { result ≡ true → HasEach own.now clocks.now }
+{
+    let cloud = own.cloud.as_slice();
+    let mut place = 0;
+    for clock in clocks {
+        if *clock > own.clock {
+            place = first_from(cloud, place, *clock);
+            if place >= cloud.len() || cloud[place] != *clock {
+                return false;
+            }
+        }
+    }
+    true
+}
+
+// The first place from `place` on with a clock that is not below this one.
+fn first_from(cloud: &[u64], mut place: usize, clock: u64) -> usize {
+    while place < cloud.len() && cloud[place] < clock {
+        place += 1;
+    }
+    place
+}
+
+// The least clock of two lists that rise.
+fn least(left: &[u64], right: &[u64]) -> Option<u64>
+    requires left { RisesAbove 0 left.now }
+    requires right { RisesAbove 0 right.now }
+    ensures { IsLeast left.now right.now result }
+{
+    match (left.first(), right.first()) {
+        (Some(a), Some(b)) => Some((*a).min(*b)),
+        (Some(a), None) => Some(*a),
+        (None, Some(b)) => Some(*b),
+        (None, None) => None,
+    }
+}
+
+// The clocks after this one, if it is the first of them; else all of them.
+fn after(clocks: &[u64], clock: u64) -> &[u64]
+    ensures { result.now ≡ without_first clock clocks.now }
+{
+    match clocks.split_first() {
+        Some((first, others)) if *first == clock => others,
+        _ => clocks,
+    }
+}
+
+// Adds a clock that is above the part's cloud.
+fn add_last<A: Allocator>(part: &mut Part<A>, clock: u64) -> Result<(), Oom>
+    requires positive { 0 < clock }
+    requires last { clock ≤ 1000000000 }
+    requires above { (k : ℕ) → is_among k part.old.cloud ≡ true → k < clock }
+    ensures canonical { IsCanonical part.new }
+    ensures ok { OnOk result (Gains part.old clock part.new) }
+    ensures cloud { OnOk result (AddsOnly part.old.cloud clock part.new.cloud) }
+{
+    if clock <= part.clock {
+        return Ok(());
+    }
+    if clock == part.clock + 1 {
+        part.clock = clock;
+    } else {
+        part.cloud.push(clock)?;
+    }
+    Ok(())
+}

@@ -1,0 +1,3 @@
+pub mod Loans
+pub mod Places
+pub mod Rising

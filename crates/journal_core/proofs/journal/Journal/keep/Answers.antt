@@ -1,0 +1,13 @@
+use Rattle.std.proofs.Common.{rules, refl, sym, ap, subst, List, ◌≡◌, ◌++◌, ◌∷◌, [], ◌<◌, ◌∙◌}
+use Rattle.journal_core.specs.Journals.{RisesAbove, AreBelow}
+use Rattle.journal_core.specs.Holdings.{Held, Journal, kepts}
+use Rattle.journal_core.proofs.Rising.{rises_kept}
+use Rattle.journal_core.proofs.journal.Journal.keep.Goals as goal
+
+pub invariant_of-self-2 : goal.invariant_of-self-2
+invariant_of-self-2 g c =
+    let same : c.else-not-ready.self-inside.steps.items ≡ c.self.inside.steps.items = search rules in
+    let number : c.args.number ≡ c.new.result.kept.number = sym (ap (λ (h : Held). h.kept.number) c.new.ensures) in
+    let below = subst (λ n. AreBelow n (kepts c.self.inside.steps.items)) number (subst (λ (j : Journal). AreBelow c.args.number (kepts j.steps)) (sym c.self.view_is) c.requires.above) in
+    let low = subst (λ n. 0 < n) number c.requires.positive in
+    (search rules, λ none. absurd (none refl), subst (λ (hs : List Held). RisesAbove 0 (kepts hs)) (sym (c.push_reserved.ensures.items ∙ ap (λ (hs : List Held). hs ++ c.new.result ∷ []) same)) (rises_kept c.self.inside.steps.items c.new.result low below c.self.invariant.2))

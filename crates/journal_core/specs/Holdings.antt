@@ -1,0 +1,86 @@
+-- The remaining steps with their inverses beside them, as a journal holds them and lends them.
+use Rattle.std.specs.Prelude.{◌≡◌, ℕ, ◌+◌, ◌<◌, ◌==◌, if◌then◌else◌, List, [], ◌∷◌, ◌++◌, Option, Some, None, option_map, refl}
+use Rattle.std.specs.Coded.{Coded, code_by, coded×, coded_ℕ, coded_list, coded_option}
+use Rattle.node_core.specs.Operations.{Operation, delivers}
+use Rattle.node_core.specs.Inverses.{Inverse, inverse_code}
+use Rattle.journal_core.specs.declared.journal.Room as declared
+use Rattle.journal_core.specs.Journals.{Kept, kept_code, source_at, AreBelow}
+
+-- a step, and its inverse unless that is lent
+pub record Held : Type 0 where
+  pub kept : Kept
+  pub inverse : Option Inverse
+
+-- for which step there is room: its node, and the sender and number of the message that it delivers
+pub record Room : Type 0 where
+  pub node : ℕ
+  pub delivers : Option (ℕ × ℕ)
+
+-- how many nodes there are, the remaining steps, and for which step room was made
+pub record Journal : Type 0 where
+  pub nodes : ℕ
+  pub steps : List Held
+  pub room : Option Room
+
+abbrev pub plain_room : Option declared.Room → Option Room
+plain_room room = option_map (λ r. record { node = r.node; delivers = r.delivers }) room
+
+abbrev pub held_code : Coded Held
+held_code = code_by (Kept × Option Inverse) (coded× kept_code (coded_option inverse_code)) (λ h. (h.kept, h.inverse)) (λ t. record { kept = t.0; inverse = t.1 }) (λ _. refl)
+
+abbrev room_code : Coded Room
+room_code = code_by (ℕ × Option (ℕ × ℕ)) (coded× coded_ℕ (coded_option (coded× coded_ℕ coded_ℕ))) (λ r. (r.node, r.delivers)) (λ t. record { node = t.0; delivers = t.1 }) (λ _. refl)
+
+abbrev pub journal_code : Coded Journal
+journal_code =
+    code_by (ℕ × (List Held × Option Room)) (coded× coded_ℕ (coded× (coded_list held_code) (coded_option room_code)))
+    (λ j. (j.nodes, (j.steps, j.room))) (λ t. record { nodes = t.0; steps = t.1.0; room = t.1.1 }) (λ _. refl)
+
+-- the steps without their inverses
+abbrev pub kepts : List Held → List Kept
+kepts [] = []
+kepts (h ∷ hs) = h.kept ∷ kepts hs
+
+abbrev pub find_held : List Held → ℕ → Option Held
+find_held [] n = None
+find_held (h ∷ hs) n = if h.kept.number == n then Some h else find_held hs n
+
+-- the place of step n, from 0
+abbrev pub place_of : List Held → ℕ → Option ℕ
+place_of [] n = None
+place_of (h ∷ hs) n = if h.kept.number == n then Some 0 else option_map (λ p. p + 1) (place_of hs n)
+
+abbrev pub inverse_of : Option Held → Option Inverse
+inverse_of None = None
+inverse_of (Some h) = h.inverse
+
+-- the steps with this beside step n
+abbrev pub with_inverse : List Held → ℕ → Option Inverse → List Held
+with_inverse [] n o = []
+with_inverse (h ∷ hs) n o = if h.kept.number == n then record { kept = h.kept; inverse = o } ∷ hs else h ∷ with_inverse hs n o
+
+abbrev pub without_held : List Held → ℕ → List Held
+without_held [] n = []
+without_held (h ∷ hs) n = if h.kept.number == n then hs else h ∷ without_held hs n
+
+-- no inverse is lent
+abbrev pub AreAllHeld : List Held → Type 0
+AreAllHeld [] = Unit {0}
+AreAllHeld (h ∷ hs) = ((i : Inverse) × (h.inverse ≡ Some i)) × AreAllHeld hs
+
+-- step n remains, and its inverse is lent
+abbrev pub IsLent : List Held → ℕ → Type 0
+IsLent hs n = (k : Kept) × (find_held hs n ≡ Some (record { kept = k; inverse = None }))
+
+-- what is delivered, if anything, was sent by a remaining step
+abbrev pub HasSender : List Kept → Option (ℕ × ℕ) → Type 0
+HasSender ks None = Unit {0}
+HasSender ks (Some m) = (n : ℕ) × (source_at ks (Some m) ≡ Some n)
+
+-- the step can be kept: its number is above all others, its node is one, what it delivers was sent, and no inverse is lent
+pub record CanBeKept (j : Journal) (number node : ℕ) (operation : Operation) : Type 0 where
+  pub positive : 0 < number
+  pub above : AreBelow number (kepts j.steps)
+  pub known : node < j.nodes
+  pub sender : HasSender (kepts j.steps) (delivers operation)
+  pub whole : AreAllHeld j.steps

@@ -1,0 +1,88 @@
+-- The remaining steps, and which follow from which (Danos and Krivine).
+use Rattle.std.specs.Prelude.{ℕ, ◌<◌, ◌==◌, ◌&&◌, ◌||◌, not, nat_lt, Bool, false, if◌then◌else◌, List, [], ◌∷◌, Option, Some, None, option_map, refl}
+use Rattle.std.specs.Coded.{Coded, code_by, coded×, coded_ℕ}
+use Rattle.std.specs.List.{filter}
+use Rattle.std.specs.Option.{option_and_then}
+use Rattle.payload_core.specs.Messages.{numbered}
+use Rattle.node_core.specs.Operations.{Operation, operation_code, delivers, sends}
+
+-- a step with its number and its node
+pub record Kept : Type 0 where
+  pub number : ℕ
+  pub node : ℕ
+  pub step : Operation
+
+abbrev pub kept_code : Coded Kept
+kept_code = code_by (ℕ × (ℕ × Operation)) (coded× coded_ℕ (coded× coded_ℕ operation_code)) (λ k. (k.number, (k.node, k.step))) (λ t. record { number = t.0; node = t.1.0; step = t.1.1 }) (λ _. refl)
+
+-- the numbers strictly rise, from above n
+abbrev pub RisesAbove : ℕ → List Kept → Type 0
+RisesAbove n [] = Unit {0}
+RisesAbove n (k ∷ ks) = (n < k.number) × RisesAbove k.number ks
+
+-- the steps of a node
+abbrev pub own_steps : List Kept → ℕ → List Kept
+own_steps ks n = filter (λ k. k.node == n) ks
+
+-- the sending steps of a node
+abbrev pub sent_by : List Kept → ℕ → List Kept
+sent_by ks node = filter (λ k. (k.node == node) && sends k.step) ks
+
+-- the number of the step that sent message p of the node: its p-th sending step
+abbrev pub sender_of : List Kept → ℕ → ℕ → Option ℕ
+sender_of ks node p = option_map (λ k. k.number) (numbered (sent_by ks node) p)
+
+abbrev pub source_at : List Kept → Option (ℕ × ℕ) → Option ℕ
+source_at ks None = None
+source_at ks (Some m) = sender_of ks m.0 m.1
+
+-- the step that sent what this step delivers
+abbrev pub source_of : List Kept → Operation → Option ℕ
+source_of ks s = source_at ks (delivers s)
+
+abbrev pub is_number : Option ℕ → ℕ → Bool
+is_number None n = false
+is_number (Some m) n = m == n
+
+-- j delivers what k sent
+abbrev pub delivers_from : List Kept → Kept → Kept → Bool
+delivers_from ks j k = is_number (source_of ks j.step) k.number
+
+-- j is a direct consequence of k: a later step of k's node, or a delivery of what k sent
+abbrev pub is_consequence : List Kept → Kept → Kept → Bool
+is_consequence ks k j = ((k.node == j.node) && nat_lt k.number j.number) || delivers_from ks j k
+
+abbrev pub find_number : List Kept → ℕ → Option Kept
+find_number [] n = None
+find_number (k ∷ ks) n = if k.number == n then Some k else find_number ks n
+
+abbrev pub first_number : (Kept → Bool) → List Kept → Option ℕ
+first_number test [] = None
+first_number test (k ∷ ks) = if test k then Some k.number else first_number test ks
+
+-- the least direct consequence of step n
+abbrev pub first_consequence : List Kept → ℕ → Option ℕ
+first_consequence ks n = option_and_then (λ k. first_number (is_consequence ks k) ks) (find_number ks n)
+
+-- the steps without step n
+abbrev pub without : List Kept → ℕ → List Kept
+without ks n = filter (λ k. not (k.number == n)) ks
+
+-- the steps up to step n
+abbrev pub before : List Kept → ℕ → List Kept
+before [] n = []
+before (k ∷ ks) n = if k.number == n then [] else k ∷ before ks n
+
+-- the last of the node's steps, after those of which o was the last
+abbrev pub last_own : Option ℕ → List Kept → ℕ → Option ℕ
+last_own o [] node = o
+last_own o (k ∷ ks) node = last_own (if k.node == node then Some k.number else o) ks node
+
+-- the number of the last step of a node
+abbrev pub last_of : List Kept → ℕ → Option ℕ
+last_of ks node = last_own None ks node
+
+-- each step's number is below n
+abbrev pub AreBelow : ℕ → List Kept → Type 0
+AreBelow n [] = Unit {0}
+AreBelow n (k ∷ ks) = (k.number < n) × AreBelow n ks

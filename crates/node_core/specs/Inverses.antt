@@ -1,0 +1,73 @@
+-- What leads back from a step (Danos and Krivine: causal undo, by inverse records).
+use Rattle.std.specs.Prelude.{◌≡◌, ◌≢◌, Bool, true, false, Option, None, Some, Result, Ok, Err, refl}
+use Rattle.std.specs.Coded.{Coded, code_by, coded×, coded_option, coded_bool}
+use Rattle.payload_core.specs.Messages.{Message}
+use Rattle.replica_core.specs.Replicas.{delta_message, without_delta}
+use Rattle.replica_core.specs.Changes as changes
+use Rattle.node_core.specs.declared.inverse.Inverse as declared
+use Rattle.node_core.specs.declared.inverse.Inverse.TheVariants as variants
+use Rattle.node_core.specs.declared.step_fault.StepFault.{StepFault}
+use Rattle.node_core.specs.declared.step_fault.StepFault.TheVariants.{OutOfMemory}
+use Rattle.node_core.specs.Operations.{Operation}
+use Rattle.node_core.specs.Nodes.{Node, take, with_sent}
+use Rattle.node_core.specs.Kept.{IsNode}
+
+-- a step changed the replica; or it sent the delta; or it sent a message beside it
+pub data Inverse : Type 0 where
+  OfChange : (change : changes.Change) → Inverse
+  OfBroadcast : Inverse
+  OfExtract : Inverse
+
+abbrev pub plain_inverse : {X : Type 0} → declared.Inverse X → Inverse
+plain_inverse (variants.Change change) = OfChange change
+plain_inverse variants.Broadcast = OfBroadcast
+plain_inverse variants.Extract = OfExtract
+
+-- an inverse is stored as its change, if it has one, and whether it is of a broadcast
+abbrev stored : Inverse → Option changes.Change × Bool
+stored (OfChange change) = (Some change, false)
+stored OfBroadcast = (None, true)
+stored OfExtract = (None, false)
+
+abbrev of_send : Bool → Inverse
+of_send true = OfBroadcast
+of_send false = OfExtract
+
+abbrev from_stored : Option changes.Change → Bool → Inverse
+from_stored None broadcast = of_send broadcast
+from_stored (Some change) broadcast = OfChange change
+
+abbrev from_stored-stored : (i : Inverse) → from_stored (stored i).0 (stored i).1 ≡ i
+from_stored-stored (OfChange change) = refl
+from_stored-stored OfBroadcast = refl
+from_stored-stored OfExtract = refl
+
+abbrev pub inverse_code : Coded Inverse
+inverse_code = code_by (Option changes.Change × Bool) (coded× (coded_option changes.change_code) coded_bool) stored (λ t. from_stored t.0 t.1) from_stored-stored
+
+-- the inverse names what a step from a to b destroyed of a
+abbrev pub Names : Inverse → Node → Node → Type 0
+Names (OfChange change) b a = changes.LeadsBack change b.replica a.replica × (b.outbox ≡ a.outbox)
+Names OfBroadcast b a = b ≡ with_sent a (delta_message a.replica) (without_delta a.replica)
+Names OfExtract b a = (m : Message) × (b ≡ with_sent a m a.replica)
+
+-- the inverse leads from node b back to node a: one accepted step takes a to b, and the inverse names what it destroyed
+pub record LeadsBack (inverse : Inverse) (b a : Node) : Type 0 where
+  pub operation : Operation
+  pub message : Option Message
+  pub taken : take a operation message ≡ Ok b
+  pub names : Names inverse b a
+  pub earlier : IsNode a
+
+-- the inverse leads back to some node
+abbrev pub LeadsSomewhere : Inverse → Node → Type 0
+LeadsSomewhere inverse b = (a : Node) × LeadsBack inverse b a
+
+-- the node is the one that the inverse leads back to
+abbrev pub GivesBack : Inverse → Node → Node → Type 0
+GivesBack inverse b new = (a : Node) → LeadsBack inverse b a → new ≡ a
+
+-- a step is answered as `take` says, with an inverse that leads back; or by the fault, memory apart, and nothing changed
+abbrev pub Takes : {X : Type 0} → Node → Operation → Option Message → Result (declared.Inverse X) StepFault → Node → Type 0
+Takes old s m (Ok inverse) new = (take old s m ≡ Ok new) × LeadsBack (plain_inverse inverse) new old
+Takes old s m (Err fault) new = (new ≡ old) × (fault ≢ OutOfMemory → take old s m ≡ Err fault)

@@ -1,0 +1,63 @@
+-- A node, and one step of it (Phoenix.Tracker.State, as sets, with numbered messages).
+use Rattle.std.specs.Prelude.{◌≡◌, ℕ, ◌==◌, not, nat_lt, Bool, true, false, if◌then◌else◌, List, [], ◌∷◌, ◌++◌, length, Option, None, Some, Result, Ok, Err, refl}
+use Rattle.std.specs.Coded.{Coded, code_by, coded×, coded_list}
+use Rattle.std.specs.FinSet as set
+use Rattle.payload_core.specs.Messages.{Message, message_code, message_of_names}
+use Rattle.replica_core.specs.declared.node_limits.NodeLimits.{NodeLimits}
+use Rattle.replica_core.specs.declared.replica_fault.ReplicaFault.{ReplicaFault}
+use Rattle.replica_core.specs.declared.status.Status.TheVariants as statuses
+use Rattle.replica_core.specs.Replicas.{Replica, replica_code, opening, joined, with_status, delta_message, without_delta}
+use Rattle.replica_core.specs.Deliveries.{merged}
+use Rattle.replica_core.specs.Refusals.{first_of, join_refusal, merge_refusal, up_refusal, has_dots}
+use Rattle.node_core.specs.declared.step_fault.StepFault.{StepFault}
+use Rattle.node_core.specs.declared.step_fault.StepFault.TheVariants.{NothingToSend, OwnMessage, NoSuchMessage, OutboxFull}
+use Rattle.node_core.specs.Faults.{fault_of}
+use Rattle.node_core.specs.Operations.{Operation, Join, Broadcast, Extract, Deliver, Up}
+
+-- a replica, and the messages that it sent, by number from 1
+pub record Node : Type 0 where
+  pub replica : Replica
+  pub outbox : List Message
+
+abbrev pub node_code : Coded Node
+node_code = code_by (Replica × List Message) (coded× replica_code (coded_list message_code)) (λ n. (n.replica, n.outbox)) (λ t. record { replica = t.0; outbox = t.1 }) (λ _. refl)
+
+abbrev pub opening_node : ℕ → NodeLimits → Node
+opening_node own limits = record { replica = opening own limits; outbox = [] }
+
+abbrev pub with_replica : Node → Replica → Node
+with_replica n r = record { replica = r; outbox = n.outbox }
+
+-- the message was sent, and the replica is as the send left it
+abbrev pub with_sent : Node → Message → Replica → Node
+with_sent n m r = record { replica = r; outbox = n.outbox ++ m ∷ [] }
+
+abbrev pub is_outbox_full : Node → Bool
+is_outbox_full n = not (nat_lt (length n.outbox) n.replica.limits.messages)
+
+-- the node, unless the replica refuses
+abbrev pub unless : Option ReplicaFault → Node → Result Node StepFault
+unless None n = Ok n
+unless (Some fault) n = Err (fault_of fault)
+
+-- the node after a send, unless the outbox is full
+abbrev pub unless_full : Node → Node → Result Node StepFault
+unless_full before after = if is_outbox_full before then Err OutboxFull else Ok after
+
+-- a send of the delta, unless it has no dot or the outbox is full
+abbrev pub broadcast : Bool → Node → Result Node StepFault
+broadcast false n = Err NothingToSend
+broadcast true n = unless_full n (with_sent n (delta_message n.replica) (without_delta n.replica))
+
+-- a delivery of this message, if there is one
+abbrev pub deliver : Node → Option Message → Result Node StepFault
+deliver n None = Err NoSuchMessage
+deliver n (Some m) = unless (merge_refusal n.replica m) (with_replica n (merged m n.replica))
+
+-- what a node becomes by a step, or the step's fault; a delivery is given the named message
+abbrev pub take : Node → Operation → Option Message → Result Node StepFault
+take n (Join p) _ = unless (join_refusal n.replica p.pid p.topic p.key) (with_replica n (joined p n.replica))
+take n Broadcast _ = broadcast (has_dots n.replica.delta_seen) n
+take n (Extract names) _ = unless_full n (with_sent n (message_of_names (set.contains names) n.replica.own n.replica.seen n.replica.entries) n.replica)
+take n (Deliver sender number) m = if sender == n.replica.own then Err OwnMessage else deliver n m
+take n (Up name) _ = unless (up_refusal n.replica name) (with_replica n (with_status name statuses.Up n.replica))

@@ -1,0 +1,90 @@
+-- What a node is asked, without the memory that the words lie in; what a step reads of another node, what it sends, and
+-- which nodes it names.
+use Rattle.std.specs.Prelude.{◌≡◌, ◌<◌, ℕ, zero, suc, Bool, true, false, List, [], ◌∷◌, Option, None, Some, refl}
+use Rattle.std.specs.Coded.{Coded, code_by, coded×, coded_ℕ}
+use Rattle.std.specs.FinSet as set
+use Rattle.dots_core.specs.Names.{Names}
+use Rattle.payload_core.specs.Presences.{Presence, presence_code}
+use Rattle.node_core.specs.declared.step.Step.{Step}
+use Rattle.node_core.specs.declared.step.Step.TheVariants as steps
+
+-- one step of a node
+pub data Operation : Type 0 where
+  Join : (presence : Presence) → Operation
+  Broadcast : Operation
+  Extract : (names : Names) → Operation
+  Deliver : (sender number : ℕ) → Operation
+  Up : (name : ℕ) → Operation
+
+abbrev pub plain : {X : Type 0} → Step X → Operation
+plain (steps.Join pid topic key metadata) = Join (record { pid = pid; topic = topic; key = key; metadata = metadata })
+plain steps.Broadcast = Broadcast
+plain (steps.Extract names) = Extract names
+plain (steps.Deliver sender number) = Deliver sender number
+plain (steps.Up name) = Up name
+
+-- the sender and the number of the message that a step delivers
+abbrev pub delivers : Operation → Option (ℕ × ℕ)
+delivers (Join presence) = None
+delivers Broadcast = None
+delivers (Extract names) = None
+delivers (Deliver sender number) = Some (sender, number)
+delivers (Up name) = None
+
+-- whether a step sends a message
+abbrev pub sends : Operation → Bool
+sends (Join presence) = false
+sends Broadcast = true
+sends (Extract names) = true
+sends (Deliver sender number) = false
+sends (Up name) = false
+
+-- the node numbers in a step
+abbrev pub named_in : Operation → List ℕ
+named_in (Join presence) = []
+named_in Broadcast = []
+named_in (Extract names) = set.items names
+named_in (Deliver sender number) = sender ∷ []
+named_in (Up name) = name ∷ []
+
+-- the numbers that name nodes in a step are below 32, as those in a set of names are
+abbrev pub AreNames : Operation → Type 0
+AreNames (Join presence) = Unit {0}
+AreNames Broadcast = Unit {0}
+AreNames (Extract names) = Unit {0}
+AreNames (Deliver sender number) = sender < 32
+AreNames (Up name) = name < 32
+
+-- an operation is stored as the number of its kind, with a presence, names and two numbers, which each kind uses or not
+abbrev Stored : Type 0
+Stored = ℕ × (Presence × (Names × (ℕ × ℕ)))
+
+abbrev no_presence : Presence
+no_presence = record { pid = 0; topic = []; key = []; metadata = [] }
+
+abbrev stored : Operation → Stored
+stored (Join presence) = (0, (presence, (set.empty, (0, 0))))
+stored Broadcast = (1, (no_presence, (set.empty, (0, 0))))
+stored (Extract names) = (2, (no_presence, (names, (0, 0))))
+stored (Deliver sender number) = (3, (no_presence, (set.empty, (sender, number))))
+stored (Up name) = (4, (no_presence, (set.empty, (name, 0))))
+
+abbrev of_kind : ℕ → Presence → Names → ℕ → ℕ → Operation
+of_kind zero presence names one other = Join presence
+of_kind (suc zero) presence names one other = Broadcast
+of_kind (suc (suc zero)) presence names one other = Extract names
+of_kind (suc (suc (suc zero))) presence names one other = Deliver one other
+of_kind (suc (suc (suc (suc kind)))) presence names one other = Up one
+
+abbrev from_stored : Stored → Operation
+from_stored t = of_kind t.0 t.1.0 t.1.1.0 t.1.1.1.0 t.1.1.1.1
+
+abbrev from_stored-stored : (o : Operation) → from_stored (stored o) ≡ o
+from_stored-stored (Join presence) = refl
+from_stored-stored Broadcast = refl
+from_stored-stored (Extract names) = refl
+from_stored-stored (Deliver sender number) = refl
+from_stored-stored (Up name) = refl
+
+abbrev pub operation_code : Coded Operation
+operation_code = code_by Stored (coded× coded_ℕ (coded× presence_code (coded× (set.code coded_ℕ) (coded× coded_ℕ coded_ℕ)))) stored from_stored from_stored-stored

@@ -1,0 +1,254 @@
+//! `Node`: a replica with an outbox, its steps, and the way back.
+ghost use Rattle.std.specs.Prelude.{◌≡◌, ◌↔◌, ◌<◌, ◌≢◌, ◌+◌, IsTrue, IfOk, IfErr, OnOk, OnErr, Ok, Err, None, Some, option_map};
+ghost use Rattle.replica_core.specs.Limits.{AreNodeLimits};
+ghost use Rattle.node_core.specs.declared.step_fault.StepFault.TheVariants.{OutOfMemory};
+ghost use Rattle.node_core.specs.Operations.{plain, AreNames, Join, Broadcast, Extract, Deliver, Up};
+ghost use Rattle.node_core.specs.Nodes.{opening_node, take};
+ghost use Rattle.node_core.specs.Kept.{IsNode};
+ghost use Rattle.node_core.specs.Inverses.{plain_inverse, OfChange, OfBroadcast, OfExtract, LeadsBack, LeadsSomewhere, GivesBack, Takes};
+
+use crate::inverse::Inverse;
+use crate::meter::Meter;
+use crate::step::Step;
+use crate::step_fault::StepFault;
+use dots_core::NameSet;
+use payload_core::{Oom, Outbox, Payload, Word};
+use replica_core::{Change, NodeLimits, Replica};
+use std::alloc::Allocator;
+use std::marker::Model;
+
+/// One node: its replica, and the messages that it sent.
+#[derive(Drop)]
+pub struct Node<'a, B: Allocator> {
+    replica: Replica<&'a B>,
+    outbox: Outbox<&'a B>,
+}
+
+impl<'a, B: Allocator> Model for Node<'a, B> {
+    ghost use Rattle.std.specs.Prelude.{◌≡◌};
+    ghost use Rattle.node_core.specs.Nodes.{Node, node_code};
+    ghost use Rattle.node_core.specs.Kept.{IsNode};
+
+    ghost Value = { Node };
+
+    ghost coded = { node_code };
+
+    ghost view = { λ n. record { replica = n.replica; outbox = n.outbox.messages } };
+
+    ghost invariant = { λ n. IsNode (record { replica = n.replica; outbox = n.outbox.messages }) × (n.outbox.limit ≡ n.replica.limits.messages) };
+}
+
+impl<'a, B: Allocator> Node<'a, B> {
+    /// Its replica.
+    pub fn replica(&self) -> &Replica<&'a B>
+        ensures { result.now ≡ self.now.replica }
+    {
+        &self.replica
+    }
+
+    /// The messages that it sent, by number.
+    pub fn outbox(&self) -> &Outbox<&'a B>
+        ensures messages { result.now.messages ≡ self.now.outbox }
+        ensures limit { result.now.limit ≡ self.now.replica.limits.messages }
+    {
+        &self.outbox
+    }
+
+    /// Whether the two have the same replica and the same messages. It takes no memory.
+    pub fn same(&self, other: &Node<'a, B>) -> bool
+        ensures { IsTrue result ↔ (self.now ≡ other.now) }
+    {
+        self.replica.same(&other.replica) && self.outbox.same(&other.outbox)
+    }
+
+    /// Does nothing. Its contract says what each node keeps.
+    pub fn node_law(&self)
+        ensures { IsNode self.now }
+    {
+        let _ = &self.outbox;
+    }
+
+    /// The node as it was before the step that the inverse is of, its last one. Memory that is refused leaves the node as
+    /// it was and gives the inverse back.
+    pub fn give_back(&mut self, inverse: Inverse<&'a B>) -> Result<(), (Inverse<&'a B>, Oom)>
+        requires { LeadsSomewhere (plain_inverse inverse) self.old }
+        ensures ok { OnOk result (GivesBack (plain_inverse inverse.entry) self.old self.new) }
+        ensures err { OnErr result (self.new ≡ self.old) }
+        ensures given_back { IfErr result (λ failed. plain_inverse failed.0 ≡ plain_inverse inverse.entry) }
+    {
+        match inverse {
+            Inverse::Change(change) => match self.undo(change) {
+                Ok(()) => Ok(()),
+                Err((change, oom)) => Err((Inverse::Change(change), oom)),
+            },
+            Inverse::Broadcast => {
+                self.take_back_delta();
+                Ok(())
+            }
+            Inverse::Extract => {
+                self.take_back_extract();
+                Ok(())
+            }
+        }
+    }
+
+    fn undo(&mut self, change: Change<&'a B>) -> Result<(), (Change<&'a B>, Oom)>
+        requires { LeadsSomewhere (OfChange change) self.old }
+        ensures ok { OnOk result (GivesBack (OfChange change.entry) self.old self.new) }
+        ensures err { OnErr result (self.new ≡ self.old) }
+        ensures given_back { IfErr result (λ failed. failed.0 ≡ change.entry) }
+    {
+        self.replica.undo(change)
+    }
+
+    fn take_back_delta(&mut self)
+        requires { LeadsSomewhere OfBroadcast self.old }
+        ensures { GivesBack OfBroadcast self.old self.new }
+    {
+        let payload = self.outbox.pop().unwrap();
+        self.replica.give_delta(payload);
+    }
+
+    fn take_back_extract(&mut self)
+        requires { LeadsSomewhere OfExtract self.old }
+        ensures { GivesBack OfExtract self.old self.new }
+    {
+        let _ = self.outbox.pop().unwrap();
+    }
+
+    /// A node that has seen and sent nothing. It takes no memory.
+    pub fn new(alloc: &'a B, own: u16, limits: NodeLimits) -> Node<'a, B>
+        requires name { own < 32 }
+        requires limits { AreNodeLimits limits }
+        ensures { result ≡ opening_node own limits }
+    {
+        let replica = Replica::opening(alloc, own, limits);
+        replica.replica_law();
+        Node {
+            replica,
+            outbox: Outbox::new(alloc, limits.messages),
+        }
+    }
+
+    /// A second node with the same replica and the same messages.
+    pub fn try_copy(&self) -> Result<Node<'a, B>, Oom>
+        ensures { IfOk result (λ copy. copy ≡ self.now) }
+    {
+        Ok(Node {
+            replica: self.replica.try_copy()?,
+            outbox: self.outbox.try_copy()?,
+        })
+    }
+
+    fn join(
+        &mut self,
+        pid: u64,
+        topic: &Word<&'a B>,
+        key: &Word<&'a B>,
+        metadata: &Word<&'a B>,
+    ) -> Result<Inverse<&'a B>, StepFault>
+        ensures { Takes self.old (Join (record { pid = pid; topic = topic.now; key = key.now; metadata = metadata.now })) None result self.new }
+    {
+        let change = self.replica.join(pid, topic, key, metadata)?;
+        Ok(Inverse::Change(change))
+    }
+
+    fn broadcast(&mut self) -> Result<Inverse<&'a B>, StepFault>
+        ensures { Takes self.old Broadcast None result self.new }
+    {
+        if !self.replica.has_delta() {
+            return Err(StepFault::NothingToSend);
+        }
+        if self.outbox.is_full() {
+            return Err(StepFault::OutboxFull);
+        }
+        self.outbox.make_room()?;
+        let payload = self.replica.take_delta()?;
+        self.outbox.push(payload).unwrap();
+        Ok(Inverse::Broadcast)
+    }
+
+    fn extract(&mut self, names: NameSet) -> Result<Inverse<&'a B>, StepFault>
+        ensures { Takes self.old (Extract names) None result self.new }
+    {
+        if self.outbox.is_full() {
+            return Err(StepFault::OutboxFull);
+        }
+        self.outbox.make_room()?;
+        let payload = self.replica.extract(names)?;
+        self.outbox.push(payload).unwrap();
+        Ok(Inverse::Extract)
+    }
+
+    fn deliver(
+        &mut self,
+        sender: u16,
+        number: u64,
+        message: Option<&Payload<&'a B>>,
+    ) -> Result<Inverse<&'a B>, StepFault>
+        ensures { Takes self.old (Deliver sender number) (option_map (λ m. m.now) message.entry) result self.new }
+    {
+        if sender == self.replica.own() {
+            return Err(StepFault::OwnMessage);
+        }
+        let Some(message) = message else {
+            return Err(StepFault::NoSuchMessage);
+        };
+        let change = self.replica.merge(message)?;
+        self.replica.replica_law();
+        Ok(Inverse::Change(change))
+    }
+
+    fn up(&mut self, name: u16) -> Result<Inverse<&'a B>, StepFault>
+        requires { name < 32 }
+        ensures { Takes self.old (Up name) None result self.new }
+    {
+        let change = self.replica.up(name)?;
+        Ok(Inverse::Change(change))
+    }
+
+    fn step(
+        &mut self,
+        step: &Step<&'a B>,
+        message: Option<&Payload<&'a B>>,
+    ) -> Result<Inverse<&'a B>, StepFault>
+        requires { AreNames (plain step.now) }
+        ensures { Takes self.old (plain step.now) (option_map (λ m. m.now) message.entry) result self.new }
+    {
+        match step {
+            Step::Join {
+                pid,
+                topic,
+                key,
+                metadata,
+            } => self.join(*pid, topic, key, metadata),
+            Step::Broadcast => self.broadcast(),
+            Step::Extract { names } => self.extract(*names),
+            Step::Deliver { sender, number } => self.deliver(*sender, *number, message),
+            Step::Up { name } => self.up(*name),
+        }
+    }
+
+    /// Takes the step forward, and gives the inverse that leads back. A delivery is given the named message, or `None`
+    /// where there is none; other steps ignore it. The faults come in this order: `OwnMessage`, `NoSuchMessage`, those of
+    /// the replica, `OutboxFull`. `OutOfMemory` comes where a request for memory was refused.
+    pub fn take(
+        &mut self,
+        step: &Step<&'a B>,
+        message: Option<&Payload<&'a B>>,
+        meter: &mut Meter,
+    ) -> Result<Inverse<&'a B>, StepFault>
+        requires names { AreNames (plain step.now) }
+        requires meter { meter.old.count < 18446744073709551615 }
+        ensures taken { OnOk result (take self.old (plain step.now) (option_map (λ m. m.now) message.entry) ≡ Ok self.new) }
+        ensures leads_back { IfOk result (λ inverse. LeadsBack (plain_inverse inverse) self.new self.old) }
+        ensures fault { IfErr result (λ fault. fault ≢ OutOfMemory → take self.old (plain step.now) (option_map (λ m. m.now) message.entry) ≡ Err fault) }
+        ensures err { OnErr result (self.new ≡ self.old) }
+        ensures ticks { OnOk result (meter.new.count ≡ meter.old.count + 1) }
+        ensures no_tick { OnErr result (meter.new.count ≡ meter.old.count) }
+    {
+        let inverse = self.step(step, message)?;
+        meter.tick();
+        Ok(inverse)
+    }
+}

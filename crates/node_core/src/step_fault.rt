@@ -1,0 +1,66 @@
+//! `StepFault`: why a node refuses a step.
+use payload_core::{Oom, OutboxFault};
+use replica_core::ReplicaFault;
+use thiserror::Error;
+
+/// Why a node refuses a step. `OwnMessage` and `NoSuchMessage` are looked for first, then the causes of the replica in
+/// their order, then `OutboxFull`.
+#[derive(Clone, Copy, Debug, PartialEq, Eq, Error)]
+pub enum StepFault {
+    /// The name is the node's own.
+    #[error("OwnReplica")]
+    OwnReplica,
+    /// An own entry has this process, topic and key.
+    #[error("AlreadyTracked")]
+    AlreadyTracked,
+    /// The delta has no dot.
+    #[error("NothingToSend")]
+    NothingToSend,
+    /// There would be more entries than the limit.
+    #[error("EntriesFull")]
+    EntriesFull,
+    /// The own clock would pass its limit.
+    #[error("ClockFull")]
+    ClockFull,
+    /// The message is the node's own.
+    #[error("OwnMessage")]
+    OwnMessage,
+    /// The sender has no message of this number.
+    #[error("NoSuchMessage")]
+    NoSuchMessage,
+    /// The outbox holds as many messages as it may.
+    #[error("OutboxFull")]
+    OutboxFull,
+    /// A request for memory was refused.
+    #[error("OutOfMemory")]
+    OutOfMemory,
+}
+
+impl From<Oom> for StepFault {
+    ghost use Rattle.std.specs.Prelude.{◌≡◌};
+    ghost use Rattle.node_core.specs.declared.step_fault.StepFault.TheVariants.{OutOfMemory};
+
+    ghost from_gives = { λ _ fault. fault ≡ OutOfMemory };
+
+    fn from(_refused: Oom) -> StepFault {
+        StepFault::OutOfMemory
+    }
+}
+
+impl From<ReplicaFault> for StepFault {
+    ghost use Rattle.std.specs.Prelude.{◌≡◌};
+    ghost use Rattle.node_core.specs.Faults.{fault_of};
+
+    ghost from_gives = { λ fault step_fault. step_fault ≡ fault_of fault };
+
+    fn from(fault: ReplicaFault) -> StepFault {
+        match fault {
+            ReplicaFault::OwnReplica => StepFault::OwnReplica,
+            ReplicaFault::AlreadyTracked => StepFault::AlreadyTracked,
+            ReplicaFault::NothingToSend => StepFault::NothingToSend,
+            ReplicaFault::EntriesFull => StepFault::EntriesFull,
+            ReplicaFault::ClockFull => StepFault::ClockFull,
+            ReplicaFault::OutOfMemory => StepFault::OutOfMemory,
+        }
+    }
+}

@@ -1,0 +1,63 @@
+-- What a call does, where it is not refused, and when it is.
+use Rattle.std.proofs.Common.{◌≡◌, ◌≢◌, ℕ, ◌+◌, Bool, true, false, Option, None, [], ◌∷◌, refl, ap, sym, subst, ◌∙◌}
+use Rattle.std.proofs.lemmas.Bool.{ne_eqb}
+use Rattle.std.specs.FinMap as fin
+use Rattle.std.specs.FinSet as set
+use Rattle.dots_core.specs.Dots.{Dots, IsValid}
+use Rattle.payload_core.specs.Presences.{Presence, Entry, Entries, presence_of, entry_of}
+use Rattle.replica_core.specs.declared.replica_fault.ReplicaFault.{ReplicaFault}
+use Rattle.replica_core.specs.declared.replica_fault.ReplicaFault.TheVariants.{OwnReplica, AlreadyTracked, EntriesFull, ClockFull}
+use Rattle.replica_core.specs.declared.status.Status.TheVariants.{Up}
+use Rattle.replica_core.specs.Views.{View}
+use Rattle.replica_core.specs.Replicas.{Replica, fresh, joined, with_status}
+use Rattle.replica_core.specs.Refusals.{first_of, is_tracked, are_too_many, is_clock_full, join_refusal, up_refusal}
+use Rattle.replica_core.specs.Kept.{IsReplica}
+use Rattle.replica_core.specs.Changes.{Change, ByJoin, ByUp, LeadsBack}
+use Rattle.replica_core.proofs.Kept.{fresh_valid, fresh_absent, fresh_absent_in_delta, kept_joined}
+
+-- an up of another name is not refused
+pub up_free : (r now : Replica) (name : ℕ) → r ≡ now → name ≢ r.own → up_refusal now name ≡ None
+up_free r now name same other = ap (λ (r : Replica). up_refusal r name) (sym same) ∙ ap (λ b. first_of ((b, OwnReplica) ∷ [])) (ne_eqb name r.own other)
+
+pub up_is : (r now : Replica) (name : ℕ) (v : View) → r ≡ now → v ≡ fin.insert r.view name Up → record r { view = v } ≡ with_status name Up now
+up_is r now name v same at = ap (λ (v : View). record r { view = v }) at ∙ ap (with_status name Up) same
+
+pub up_leads_back : (old new : Replica) (name : ℕ) (change : Change) → up_refusal old name ≡ None → new ≡ with_status name Up old → change.before ≡ old → LeadsBack change new old
+up_leads_back old new name change free gives keeps = record { call = ByUp name free gives; destroyed = sym keeps }
+
+-- a join
+
+free_three : {F : Type 0} (a b c : Bool) (x y z : F) → first_of ((a, x) ∷ (b, y) ∷ (c, z) ∷ []) ≡ None → (a ≡ false) × (b ≡ false) × (c ≡ false)
+free_three true b c x y z h = absurd (cc)
+free_three false true c x y z h = absurd (cc)
+free_three false false true x y z h = absurd (cc)
+free_three false false false x y z h = (refl, refl, refl)
+
+module _ (r : Replica) (e : Entry) (kept : IsReplica r) (fresh_is : e.dot ≡ fresh r) (free : join_refusal r e.pid e.topic e.key ≡ None) where
+  tests : (is_tracked r e.pid e.topic e.key ≡ false) × (are_too_many r (fin.len r.entries + 1) ≡ false) × (is_clock_full r 1 ≡ false)
+  tests = free_three (is_tracked r e.pid e.topic e.key) (are_too_many r (fin.len r.entries + 1)) (is_clock_full r 1) AlreadyTracked EntriesFull ClockFull free
+
+  pub entry_valid : IsValid e.dot
+  entry_valid = subst IsValid (sym fresh_is) (fresh_valid r kept tests.2)
+
+  pub entry_absent : fin.get r.entries e.dot ≡ None
+  entry_absent = ap (fin.get r.entries) fresh_is ∙ fresh_absent r kept
+
+  pub entry_absent_in_delta : fin.get r.delta_entries e.dot ≡ None
+  entry_absent_in_delta = ap (fin.get r.delta_entries) fresh_is ∙ fresh_absent_in_delta r kept
+
+  module _ (seen delta_seen : Dots) (es delta_es : Entries) (seen_is : seen ≡ set.insert r.seen e.dot) (es_are : es ≡ fin.insert r.entries e.dot (presence_of e))
+      (delta_seen_is : delta_seen ≡ set.insert r.delta_seen e.dot) (delta_es_are : delta_es ≡ fin.insert r.delta_entries e.dot (presence_of e)) where
+    pub joined_is : record r { seen = seen; entries = es; delta_seen = delta_seen; delta_entries = delta_es } ≡ joined (presence_of e) r
+    joined_is = λ i. record r {
+      seen = (seen_is ∙ ap (set.insert r.seen) fresh_is) i;
+      entries = (es_are ∙ ap (λ d. fin.insert r.entries d (presence_of e)) fresh_is) i;
+      delta_seen = (delta_seen_is ∙ ap (set.insert r.delta_seen) fresh_is) i;
+      delta_entries = (delta_es_are ∙ ap (λ d. fin.insert r.delta_entries d (presence_of e)) fresh_is) i;
+    }
+
+    pub kept_join : IsReplica (record r { seen = seen; entries = es; delta_seen = delta_seen; delta_entries = delta_es })
+    kept_join = subst IsReplica (sym joined_is) (kept_joined r kept (presence_of e) tests.0 tests.1 tests.2)
+
+pub join_leads_back : (old new : Replica) (p : Presence) (e : Entry) (change : Change) (asked : Option ReplicaFault) → asked ≡ join_refusal old p.pid p.topic p.key → asked ≡ None → e ≡ entry_of (fresh old) p → new ≡ joined (presence_of e) old → change.before ≡ old → LeadsBack change new old
+join_leads_back old new p e change asked refusal free is gives keeps = record { call = ByJoin p (sym refusal ∙ free) (gives ∙ ap (λ (e : Entry). joined (presence_of e) old) is); destroyed = sym keeps }

@@ -1,0 +1,70 @@
+-- A walk over a list of entries that collects those that pass a test.
+use Rattle.std.proofs.Common.{◌≡◌, ℕ, zero, suc, ◌+◌, ◌<◌, ◌≤◌, Bool, true, false, cond, List, [], ◌∷◌, ◌++◌, map, length, filter, take, slice_get, Option, Some, None, refl, sym, ap, ◌∙◌, arith, take_all}
+use Rattle.std.proofs.lemmas.List.Elements.{filter_more}
+use Rattle.std.proofs.lemmas.Option.{slice_get_within, get_or_from_slice_get}
+use Rattle.std.specs.Option.{option_map}
+use Rattle.dots_core.specs.declared.dot.Dot.{Dot}
+use Rattle.payload_core.specs.EntryLists.{pair_of, pairs}
+use Rattle.payload_core.specs.Presences.{Presence, Entry, entry_of}
+
+-- the entry at a place, as a read of it answers
+abbrev pub entry_at : List (Dot × Presence) → ℕ → Option Entry
+entry_at ps i = option_map (λ (p : Dot × Presence). entry_of p.0 p.1) (slice_get ps i)
+
+found : (ps : List (Dot × Presence)) (i : ℕ) (e : Entry) → Some e ≡ entry_at ps i → slice_get ps i ≡ Some (pair_of e)
+found ps i e h = go (slice_get ps i) h
+  where
+    go : (o : Option (Dot × Presence)) → Some e ≡ option_map (λ (p : Dot × Presence). entry_of p.0 p.1) o → o ≡ Some (pair_of e)
+    go None h = absurd (cc)
+    go (Some p) h = let same : e ≡ entry_of p.0 p.1 = cc in ap (λ e. Some (pair_of e)) (sym same)
+
+past : (ps : List (Dot × Presence)) (i : ℕ) → slice_get ps i ≡ None → length ps ≤ i
+past [] i h = omega arith
+past (p ∷ ps) zero h = absurd (cc)
+past (p ∷ ps) (suc i) h = let more = past ps i h in omega arith
+
+-- there is an entry at each place within the list
+pub no_gap : (ps : List (Dot × Presence)) (i : ℕ) → None ≡ entry_at ps i → i < length ps → ⊥
+no_gap ps i h within = go (slice_get ps i) refl h
+  where
+    go : (o : Option (Dot × Presence)) → slice_get ps i ≡ o → None ≡ option_map (λ (p : Dot × Presence). entry_of p.0 p.1) o → ⊥
+    go None is h = let end = past ps i is in omega arith
+    go (Some p) is h = absurd (cc)
+
+module _ (test : Dot × Presence → Bool) (ps : List (Dot × Presence)) (i : ℕ) (e : Entry) (at : Some e ≡ entry_at ps i) where
+  more : filter test (take (i + 1) ps) ≡ filter test (take i ps) ++ cond (test (pair_of e)) (pair_of e ∷ []) []
+  more =
+      let here = found ps i e at in
+      filter_more test ps i (pair_of e) (slice_get_within ps i (pair_of e) here) ∙ ap (λ (p : Dot × Presence). filter test (take i ps) ++ cond (test p) (p ∷ []) []) (get_or_from_slice_get ps i (pair_of e) (pair_of e) here)
+
+  pub passed : test (pair_of e) ≡ true → filter test (take (i + 1) ps) ≡ filter test (take i ps) ++ pair_of e ∷ []
+  passed h = more ∙ ap (λ b. filter test (take i ps) ++ cond b (pair_of e ∷ []) []) h
+
+  pub failed : test (pair_of e) ≡ false → filter test (take (i + 1) ps) ≡ filter test (take i ps)
+  failed h = more ∙ ap (λ b. filter test (take i ps) ++ cond b (pair_of e ∷ []) []) h ∙ end (filter test (take i ps))
+    where
+      end : (xs : List (Dot × Presence)) → xs ++ [] ≡ xs
+      end [] = refl
+      end (x ∷ xs) = ap (λ xs. x ∷ xs) (end xs)
+
+pub map-push : {X Y : Type 0} (f : X → Y) (xs : List X) (x : X) → map f (xs ++ x ∷ []) ≡ map f xs ++ f x ∷ []
+map-push f [] x = refl
+map-push f (y ∷ xs) x = ap (λ ys. f y ∷ ys) (map-push f xs x)
+
+-- the walk at its end, and one place on
+module _ (test : Dot × Presence → Bool) (ps : List (Dot × Presence)) where
+  pub all_walked : (i : ℕ) → length ps ≤ i → filter test (take i ps) ≡ filter test ps
+  all_walked i end = ap (filter test) (take_all i ps end)
+
+  pub pair_collected : (i : ℕ) (e copy : Entry) (items after : List Entry) → Some e ≡ entry_at ps i → test (pair_of e) ≡ true → pairs items ≡ filter test (take i ps) → after ≡ items ++ copy ∷ [] → copy ≡ e → pairs after ≡ filter test (take (i + 1) ps)
+  pair_collected i e copy items after at passes so_far is copied =
+      ap pairs is ∙ map-push pair_of items copy ∙ ap (λ xs. xs ++ pair_of copy ∷ []) so_far ∙ ap (λ e. filter test (take i ps) ++ pair_of e ∷ []) copied ∙ sym (passed test ps i e at passes)
+
+  pub dot_collected : (i : ℕ) (e : Entry) (d : Dot) (items after : List Dot) → Some e ≡ entry_at ps i → test (pair_of e) ≡ true → items ≡ map (λ (p : Dot × Presence). p.0) (filter test (take i ps)) → after ≡ items ++ d ∷ [] → d ≡ e.dot →
+      after ≡ map (λ (p : Dot × Presence). p.0) (filter test (take (i + 1) ps))
+  dot_collected i e d items after at passes so_far is same =
+      is ∙ ap (λ ds. ds ++ d ∷ []) so_far ∙ ap (λ d. map (λ (p : Dot × Presence). p.0) (filter test (take i ps)) ++ d ∷ []) same ∙ sym (map-push (λ (p : Dot × Presence). p.0) (filter test (take i ps)) (pair_of e)) ∙ ap (map (λ (p : Dot × Presence). p.0)) (sym (passed test ps i e at passes))
+
+-- the test at a dot, as it was answered
+pub answered : (test : Dot → Bool) (d : Dot) (e : Entry) (answer b : Bool) → d ≡ e.dot → answer ≡ test d → answer ≡ b → test e.dot ≡ b
+answered test d e answer b same asked is = ap test (sym same) ∙ sym asked ∙ is

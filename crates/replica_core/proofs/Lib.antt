@@ -1,0 +1,9 @@
+pub mod Dots
+pub mod Views
+pub mod Deliveries
+pub mod Once
+pub mod Kept
+pub mod Calls
+pub mod Edits
+pub mod Collected
+pub mod Exchange

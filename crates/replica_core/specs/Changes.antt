@@ -1,0 +1,37 @@
+-- What is kept of a change to take it back (Danos and Krivine, as an inverse record).
+use Rattle.std.specs.Prelude.{◌≡◌, ℕ, None, refl}
+use Rattle.std.specs.Coded.{Coded, code_by}
+use Rattle.payload_core.specs.Presences.{Presence}
+use Rattle.payload_core.specs.Messages.{Message}
+use Rattle.replica_core.specs.declared.status.Status.TheVariants.{Up}
+use Rattle.replica_core.specs.Replicas.{Replica, joined, with_status, replica_code}
+use Rattle.replica_core.specs.Deliveries.{merged}
+use Rattle.replica_core.specs.Refusals.{join_refusal, merge_refusal, up_refusal}
+
+-- for now, the replica before the change
+pub record Change : Type 0 where
+  pub before : Replica
+
+-- a change is stored as its field
+abbrev pub change_code : Coded Change
+change_code = code_by Replica replica_code (λ c. c.before) (λ r. record { before = r }) (λ _. refl)
+
+-- one accepted call takes replica a to replica b
+pub data IsOneCall (a b : Replica) : Type 0 where
+  ByJoin : (p : Presence) → join_refusal a p.pid p.topic p.key ≡ None → b ≡ joined p a → IsOneCall a b
+  ByMerge : (m : Message) → merge_refusal a m ≡ None → b ≡ merged m a → IsOneCall a b
+  ByUp : (name : ℕ) → up_refusal a name ≡ None → b ≡ with_status name Up a → IsOneCall a b
+
+-- the change leads from replica b back to replica a: one accepted call takes a to b, and the change names what that call
+-- destroyed of a
+pub record LeadsBack (change : Change) (b a : Replica) : Type 0 where
+  pub call : IsOneCall a b
+  pub destroyed : a ≡ change.before
+
+-- the change leads back to some replica
+abbrev pub LeadsSomewhere : Change → Replica → Type 0
+LeadsSomewhere change b = (a : Replica) × LeadsBack change b a
+
+-- the replica is the one that the change leads back to
+abbrev pub GivesBack : Change → Replica → Replica → Type 0
+GivesBack change b new = (a : Replica) → LeadsBack change b a → new ≡ a

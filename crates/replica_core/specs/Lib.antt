@@ -1,0 +1,9 @@
+pub mod Limits
+pub mod Views
+pub mod Replicas
+pub mod Deliveries
+pub mod Edits
+pub mod Refusals
+pub mod Kept
+pub mod Changes
+pub mod Laws

@@ -1,0 +1,54 @@
+-- When a replica refuses a call: the first cause, in order.
+use Rattle.std.specs.Prelude.{◌≡◌, ◌≢◌, ℕ, ◌+◌, ◌==◌, not, nat_lt, Bool, true, false, List, [], ◌∷◌, Option, None, Some, Result, Ok, Err, if◌then◌else◌}
+use Rattle.std.specs.FinSet as set
+use Rattle.std.specs.FinMap as fin
+use Rattle.dots_core.specs.declared.dot.Dot.{Dot}
+use Rattle.dots_core.specs.Dots.{Dots}
+use Rattle.payload_core.specs.Presences.{is_tracked_as}
+use Rattle.payload_core.specs.Messages.{Message}
+use Rattle.replica_core.specs.declared.replica_fault.ReplicaFault.{ReplicaFault}
+use Rattle.replica_core.specs.declared.replica_fault.ReplicaFault.TheVariants.{OwnReplica, AlreadyTracked, EntriesFull, ClockFull, OutOfMemory}
+use Rattle.replica_core.specs.Replicas.{Replica, own_clock, own_dots}
+use Rattle.replica_core.specs.Deliveries.{merged_entries}
+
+-- the cause of the first test that holds
+abbrev pub first_of : {F : Type 0} → List (Bool × F) → Option F
+first_of [] = None
+first_of (test ∷ tests) = if test.0 then Some test.1 else first_of tests
+
+-- the call succeeds only where there is no cause against it, and a fault is the cause, unless it is that of memory
+abbrev pub IsRefusedFor : {X : Type 0} → Option ReplicaFault → Result X ReplicaFault → Type 0
+IsRefusedFor cause (Ok _) = cause ≡ None
+IsRefusedFor cause (Err fault) = fault ≢ OutOfMemory → cause ≡ Some fault
+
+-- whether there is one
+abbrev pub is_some_dot : List Dot → Bool
+is_some_dot [] = false
+is_some_dot (d ∷ ds) = true
+
+-- whether an own entry is of this process, topic and key
+abbrev pub is_tracked : Replica → ℕ → List ℕ → List ℕ → Bool
+is_tracked r pid topic key = is_some_dot (own_dots r (is_tracked_as pid topic key))
+
+-- whether so many entries would pass the limit
+abbrev pub are_too_many : Replica → ℕ → Bool
+are_too_many r entries = nat_lt r.limits.entries entries
+
+-- whether so many more own dots would pass the limit of the own clock
+abbrev pub is_clock_full : Replica → ℕ → Bool
+is_clock_full r more = nat_lt r.limits.clock (own_clock r + more)
+
+-- why a join, a delivery, an up is refused, if it is: the causes in the order in which they are looked for
+abbrev pub join_refusal : Replica → ℕ → List ℕ → List ℕ → Option ReplicaFault
+join_refusal r pid topic key =
+    first_of ((is_tracked r pid topic key, AlreadyTracked) ∷ (are_too_many r (fin.len r.entries + 1), EntriesFull) ∷ (is_clock_full r 1, ClockFull) ∷ [])
+
+abbrev pub merge_refusal : Replica → Message → Option ReplicaFault
+merge_refusal r m = first_of ((are_too_many r (fin.len (merged_entries m r)), EntriesFull) ∷ [])
+
+abbrev pub up_refusal : Replica → ℕ → Option ReplicaFault
+up_refusal r name = first_of ((name == r.own, OwnReplica) ∷ [])
+
+-- whether there is a dot
+abbrev pub has_dots : Dots → Bool
+has_dots s = not (set.len s == 0)

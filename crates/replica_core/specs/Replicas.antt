@@ -1,0 +1,92 @@
+-- A replica, as sets, and what a join, a status and a send change (Phoenix.Tracker.State, as sets; the dots of RR-8083).
+use Rattle.std.specs.Prelude.{◌≡◌, ℕ, ◌+◌, Bool, true, List, Some, refl}
+use Rattle.std.specs.Coded.{Coded, code_by, coded×, coded_ℕ}
+use Rattle.std.specs.FinSet as set
+use Rattle.std.specs.FinMap as fin
+use Rattle.dots_core.specs.declared.dot.Dot.{Dot}
+use Rattle.dots_core.specs.Dots.{Dots, dot, dot_code, count_of}
+use Rattle.payload_core.specs.Presences.{Presence, Entries, entries_code, dots_of}
+use Rattle.payload_core.specs.Messages.{Message}
+use Rattle.replica_core.specs.declared.node_limits.NodeLimits.{NodeLimits}
+use Rattle.replica_core.specs.declared.status.Status.{Status}
+use Rattle.replica_core.specs.declared.status.Status.TheVariants.{Up}
+use Rattle.replica_core.specs.Limits.{node_limits_code}
+use Rattle.replica_core.specs.Views.{View, view_code, is_some_up}
+
+-- the own name, the limits, all dots that were seen, the live entries, the statuses of the known names; and the delta:
+-- the own dots of which nothing was sent yet, and the entries among them
+pub record Replica : Type 0 where
+  pub own : ℕ
+  pub limits : NodeLimits
+  pub seen : Dots
+  pub entries : Entries
+  pub view : View
+  pub delta_seen : Dots
+  pub delta_entries : Entries
+
+-- it has seen nothing, and knows itself, up
+abbrev pub opening : ℕ → NodeLimits → Replica
+opening own limits =
+    record { own = own; limits = limits; seen = set.empty; entries = fin.empty; view = fin.insert fin.empty own Up; delta_seen = set.empty; delta_entries = fin.empty }
+
+-- the own clock: the number of own dots that were seen
+abbrev pub own_clock : Replica → ℕ
+own_clock r = count_of r.own r.seen
+
+-- the own dot one above the own clock
+abbrev pub fresh : Replica → Dot
+fresh r = dot r.own (own_clock r + 1)
+
+-- the own dots whose presence passes the test, by rising clock
+abbrev pub own_dots : Replica → (Presence → Bool) → List Dot
+own_dots r test = dots_of r.own test r.entries
+
+-- whether the name is known
+abbrev pub is_known : Replica → ℕ → Bool
+is_known r name = fin.contains_key r.view name
+
+-- whether the name is known and up
+abbrev pub is_online : Replica → ℕ → Bool
+is_online r name = is_some_up (fin.get r.view name)
+
+-- a join: the fresh dot was seen, with its entry, and nothing of it was sent
+abbrev pub joined : Presence → Replica → Replica
+joined p r = record r {
+  seen = set.insert r.seen (fresh r);
+  entries = fin.insert r.entries (fresh r) p;
+  delta_seen = set.insert r.delta_seen (fresh r);
+  delta_entries = fin.insert r.delta_entries (fresh r) p;
+}
+
+-- the name, known from now on, has this status
+abbrev pub with_status : ℕ → Status → Replica → Replica
+with_status name s r = record r { view = fin.insert r.view name s }
+
+-- what a broadcast sends: the delta
+abbrev pub delta_message : Replica → Message
+delta_message r = record { sender = r.own; seen = r.delta_seen; entries = r.delta_entries }
+
+-- all was sent
+abbrev pub without_delta : Replica → Replica
+without_delta r = record r { delta_seen = set.empty; delta_entries = fin.empty }
+
+-- what the message has is the delta
+abbrev pub with_delta : Message → Replica → Replica
+with_delta m r = record r { delta_seen = m.seen; delta_entries = m.entries }
+
+-- the message can be the delta of the replica, which has none
+pub record CanBeDelta (m : Message) (r : Replica) : Type 0 where
+  pub no_dots : r.delta_seen ≡ set.empty
+  pub no_entries : r.delta_entries ≡ fin.empty
+  pub sender : m.sender ≡ r.own
+  -- its dots are own dots that were seen
+  pub own : (d : Dot) → set.contains m.seen d ≡ true → (d.name ≡ r.own) × (set.contains r.seen d ≡ true)
+  -- its entries are live
+  pub live : (d : Dot) (p : Presence) → fin.get m.entries d ≡ Some p → fin.get r.entries d ≡ Some p
+
+-- a replica is stored as the tuple of its fields
+abbrev pub replica_code : Coded Replica
+replica_code =
+    code_by (ℕ × (NodeLimits × (Dots × (Entries × (View × (Dots × Entries)))))) (coded× coded_ℕ (coded× node_limits_code (coded× (set.code dot_code) (coded× entries_code (coded× view_code (coded× (set.code dot_code) entries_code))))))
+    (λ r. (r.own, (r.limits, (r.seen, (r.entries, (r.view, (r.delta_seen, r.delta_entries)))))))
+    (λ t. record { own = t.0; limits = t.1.0; seen = t.1.1.0; entries = t.1.1.1.0; view = t.1.1.1.1.0; delta_seen = t.1.1.1.1.1.0; delta_entries = t.1.1.1.1.1.1 }) (λ _. refl)

@@ -1,0 +1,45 @@
+//! A join's edit of a replica's sets.
+ghost use Rattle.std.specs.Prelude.{◌≡◌, None, OnErr, OnOk};
+ghost use Rattle.std.specs.FinMap as fin;
+ghost use Rattle.std.specs.FinSet as set;
+ghost use Rattle.dots_core.specs.Dots.{IsValid};
+ghost use Rattle.payload_core.specs.Presences.{presence_of};
+
+use dots_core::{DotSet, Oom};
+use payload_core::{Entry, EntrySet};
+use std::alloc::Allocator;
+
+/// Puts an entry with a new dot into the seen dots and the entries, and into the delta. All that may be refused memory
+/// comes first.
+pub fn add<A: Allocator + Copy>(
+    seen: &mut DotSet<A>,
+    entries: &mut EntrySet<A>,
+    delta_seen: &mut DotSet<A>,
+    delta_entries: &mut EntrySet<A>,
+    entry: Entry<A>,
+) -> Result<(), Oom>
+    requires valid { IsValid entry.dot }
+    requires absent { fin.get entries.old.map entry.dot ≡ None }
+    requires absent_in_delta { fin.get delta_entries.old.map entry.dot ≡ None }
+
+    ensures seen { OnOk result (seen.new ≡ set.insert seen.old entry.dot) }
+    ensures entries { OnOk result (entries.new.map ≡ fin.insert entries.old.map entry.dot (presence_of entry)) }
+    ensures delta_seen { OnOk result (delta_seen.new ≡ set.insert delta_seen.old entry.dot) }
+    ensures delta_entries { OnOk result (delta_entries.new.map ≡ fin.insert delta_entries.old.map entry.dot (presence_of entry)) }
+
+    ensures seen_stay { OnErr result (seen.new ≡ seen.old) }
+    ensures entries_stay { OnErr result (entries.new.map ≡ entries.old.map) }
+    ensures delta_seen_stay { OnErr result (delta_seen.new ≡ delta_seen.old) }
+    ensures delta_entries_stay { OnErr result (delta_entries.new.map ≡ delta_entries.old.map) }
+{
+    let copy = entry.try_copy()?;
+    let mut delta = delta_seen.try_copy()?;
+    delta.insert(entry.dot)?;
+    entries.make_room(1)?;
+    delta_entries.make_room(1)?;
+    seen.insert(entry.dot)?;
+    entries.insert(entry).unwrap();
+    delta_entries.insert(copy).unwrap();
+    *delta_seen = delta;
+    Ok(())
+}

@@ -1,0 +1,28 @@
+//! The laws of deliveries and of the delta, as contracts of functions that do nothing.
+//!
+//! A crate above uses a law by calling its function.
+ghost use Rattle.replica_core.specs.Laws.{AgainLaw, DeltaLaw, OrderLaw, StandingLaw};
+
+/// A message merged again is accepted, and changes nothing.
+#[tactic(auto, using(crate::proofs::Deliveries::again_holds))]
+pub fn again_law()
+    ensures { AgainLaw }
+{}
+
+/// Two messages that have no two entries at one dot give the same replica in either order.
+#[tactic(auto, using(crate::proofs::Deliveries::order_holds))]
+pub fn order_law()
+    ensures { OrderLaw }
+{}
+
+/// After a delivery each dot of another known name has the greater of its two standings (0 unseen, 1 live, 2 seen and not
+/// live), and each other dot the one that it had.
+#[tactic(auto, using(crate::proofs::Deliveries::standing_holds))]
+pub fn standing_law()
+    ensures { StandingLaw }
+{}
+
+/// Taking the delta and giving it back are inverse to each other, and what was taken may be given back.
+pub fn delta_law()
+    ensures { DeltaLaw }
+{}

@@ -1,0 +1,90 @@
+//! `View`: which names are known, and which of them are up.
+ghost use Rattle.std.specs.Prelude.{◌≡◌, ◌↔◌, ◌<◌, IsTrue};
+ghost use Rattle.std.specs.FinMap as fin;
+ghost use Rattle.replica_core.specs.Views.{AreKnown};
+ghost use Rattle.replica_core.specs.declared.status.Status.TheVariants.{Up};
+
+use crate::status::Status;
+use dots_core::NameSet;
+use std::marker::Model;
+
+/// The known names, each up or down. A contract sees a finite map from names to statuses.
+#[derive(Drop)]
+pub struct View {
+    known: NameSet,
+    up: NameSet,
+}
+
+impl Model for View {
+    ghost use Rattle.std.specs.FinSet as set;
+    ghost use Rattle.replica_core.specs.Views.{View, view_code, view_of, AreUpKnown};
+
+    ghost Value = { View };
+
+    ghost coded = { view_code };
+
+    ghost view = { λ v. view_of (set.items v.known) v.up };
+
+    ghost invariant = { λ v. AreUpKnown v.known v.up };
+}
+
+impl View {
+    /// The own name alone is known, and it is up.
+    pub fn opening(own: u16) -> View
+        requires { own < 32 }
+        ensures { result ≡ fin.insert fin.empty own Up }
+    {
+        let own = NameSet::empty().with(own);
+        View {
+            known: own,
+            up: own,
+        }
+    }
+
+    /// The status of a known name.
+    pub fn status(&self, name: u16) -> Option<Status>
+        ensures { result ≡ fin.get self.now name }
+    {
+        if !self.known.has(name) {
+            return None;
+        }
+        if self.up.has(name) {
+            Some(Status::Up)
+        } else {
+            Some(Status::Down)
+        }
+    }
+
+    /// The known names.
+    pub fn known(&self) -> NameSet
+        ensures { AreKnown self.now result }
+    {
+        self.known
+    }
+
+    /// The name is known from now on, and up.
+    pub fn raise(&mut self, name: u16)
+        requires { name < 32 }
+        ensures { self.new ≡ fin.insert self.old name Up }
+    {
+        self.known = self.known.with(name);
+        self.up = self.up.with(name);
+    }
+
+    /// Whether both have the same names with the same statuses.
+    pub fn same(&self, other: &View) -> bool
+        ensures { IsTrue result ↔ (self.now ≡ other.now) }
+    {
+        self.known.same(other.known) && self.up.same(other.up)
+    }
+
+    /// A view with the same names and statuses.
+    pub fn copy(&self) -> View
+        ensures { result ≡ self.now }
+    {
+        View {
+            known: self.known,
+            up: self.up,
+        }
+    }
+}
