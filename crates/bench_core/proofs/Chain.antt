@@ -1,16 +1,15 @@
 -- The chain of inverses, when a step is added and when one is taken out.
 use Rattle.std.proofs.Common.{◌≡◌, ◌≢◌, ℕ, ◌==◌, Bool, true, false, if◌then◌else◌, List, [], ◌∷◌, ◌++◌, set, slice_get, Some, None, Result, Ok, Err, refl, sym, ap, ◌∙◌, subst, arith}
 use Rattle.std.proofs.lemmas.Bool.{eqb-true}
-use Rattle.bench_core.specs.declared.node_limits.NodeLimits.{NodeLimits}
-use Rattle.bench_core.specs.Nodes.{Inverse}
-use Rattle.bench_core.specs.Nodes.{Node, take, LeadsBack}
+use Rattle.replica_core.specs.declared.node_limits.NodeLimits.{NodeLimits}
+use Rattle.node_core.specs.Inverses.{Inverse, LeadsBack}
+use Rattle.node_core.specs.Nodes.{Node, take}
 use Rattle.bench_core.specs.declared.fault.Fault.{Fault}
-use Rattle.bench_core.specs.Journals.{Kept}
-use Rattle.bench_core.specs.Chains.{Held}
+use Rattle.journal_core.specs.Journals.{Kept, RisesAbove, find_number, first_consequence, without, before, is_consequence}
+use Rattle.journal_core.specs.Holdings.{Held, kepts, find_held, without_held, AreAllHeld}
 use Rattle.bench_core.specs.Clusters.{Cluster, step, opening_of}
-use Rattle.bench_core.specs.Journals.{RisesAbove, find_number, first_consequence, without, before, is_consequence}
 use Rattle.bench_core.specs.Runs.{then_runs, runs}
-use Rattle.bench_core.specs.Chains.{kepts, find_held, without_held, Link, Chain}
+use Rattle.bench_core.specs.Chains.{Link, Chain}
 use Rattle.bench_core.proofs.Clusters.{ReadsAlike, get-set_same, get-set_other, set-get, set-set_same, mapped, message-set, step-set, Stepped, stepped}
 use Rattle.bench_core.proofs.Runs.{runs_split, run_one, HasNode, Apart, step_has}
 use Rattle.bench_core.proofs.Middle.{Split, none_later, NoneOf, none_follows, stands_apart, left_out}
@@ -24,6 +23,12 @@ pub chain_push : (r : Result Cluster Fault) (hs : List Held) (h : Held) (c : Clu
 chain_push (Err e) hs h c chain run link = tt
 chain_push (Ok b) [] h c chain run link = (subst (λ (c : Cluster). Link c h) (cc) link, chain_nil (step b h.kept.node h.kept.step))
 chain_push (Ok b) (x ∷ hs) h c chain run link = (chain.0, chain_push (step b x.kept.node x.kept.step) hs h c chain.1 run link)
+
+-- while the chain stands, no inverse is lent
+pub all_held : (r : Result Cluster Fault) (hs : List Held) (c : Cluster) → Chain r hs → then_runs r (kepts hs) ≡ Ok c → AreAllHeld hs
+all_held (Err e) hs c chain run = absurd (cc)
+all_held (Ok b) [] c chain run = tt
+all_held (Ok b) (h ∷ hs) c chain run = ((chain.0.inverse, chain.0.kept), all_held (step b h.kept.node h.kept.step) hs c chain.1 run)
 
 pub kepts_append : (hs js : List Held) → kepts (hs ++ js) ≡ kepts hs ++ kepts js
 kepts_append [] js = refl

@@ -2,14 +2,12 @@
 use Rattle.std.proofs.Common.{◌≡◌, ◌≢◌, ◌⊎◌, inl, inr, ℕ, zero, suc, nat_lt, Bool, true, false, if◌then◌else◌, List, [], ◌∷◌, ◌++◌, length, set, slice_get, Option, Some, None, Result, Ok, Err, refl, sym, ap, ◌∙◌, length-set}
 use Rattle.std.proofs.lemmas.Bool.{cases_eq}
 use Rattle.std.specs.List.{list_all}
-use Rattle.bench_core.specs.Operations.{Operation}
-use Rattle.bench_core.specs.declared.step_fault.StepFault.{StepFault}
-use Rattle.payload_core.specs.Messages.{Message}
-use Rattle.bench_core.specs.Nodes.{Node, take}
+use Rattle.node_core.specs.Operations.{Operation, named_in, delivers}
+use Rattle.node_core.specs.declared.step_fault.StepFault.{StepFault}
+use Rattle.payload_core.specs.Messages.{Message, numbered}
+use Rattle.node_core.specs.Nodes.{Node, take}
 use Rattle.bench_core.specs.declared.fault.Fault.{Fault}
 use Rattle.bench_core.specs.declared.fault.Fault.TheVariants.{UnknownNode}
-use Rattle.payload_core.specs.Messages.{numbered}
-use Rattle.bench_core.specs.Operations.{named_in, delivers}
 use Rattle.bench_core.specs.Clusters.{Cluster, outbox_of, message_at, message_for, of_node, node_step, with_node, step}
 
 -- lists, by place

@@ -1,6 +1,7 @@
 -- What a bench keeps is kept by each call.
-use Rattle.std.proofs.Common.{◌≡◌, ◌≢◌, ℕ, ◌+◌, ◌<◌, ◌≤◌, ◌==◌, not, nat_lt, Bool, true, false, if◌then◌else◌, List, [], ◌∷◌, ◌++◌, length, set, get_or, slice_get, Option, Some, None, Result, Ok, Err, refl, sym, ap, ◌∙◌, subst, subst₂, arith, length-set}
-use Rattle.std.proofs.lemmas.Bool.{le-ltb, lt-ltb, ne_eqb, and_parts}
+use Rattle.std.proofs.Common.{◌≡◌, ◌≢◌, ℕ, zero, suc, ◌+◌, ◌<◌, ◌≤◌, ◌==◌, not, nat_lt, Bool, true, false, if◌then◌else◌, List, [], ◌∷◌, ◌++◌, length, set, get_or, slice_get, Option, Some, None, option_map, Result, Ok, Err, refl, sym, ap, ◌∙◌, subst, subst₂, arith, length-set}
+use Rattle.std.proofs.lemmas.Bool.{le-ltb, ltb-true, ne_eqb, and_parts}
+use Rattle.std.proofs.lemmas.List.Sums.{count_by-le-length}
 use Rattle.std.proofs.lemmas.Option.{slice_get_within}
 use Rattle.std.specs.List.{list_all}
 use Rattle.payload_core.specs.Answers.{◌>>=◌}
@@ -8,24 +9,30 @@ use Rattle.bench_core.specs.declared.reply.Reply.{Reply}
 use Rattle.bench_core.specs.declared.reply.Reply.TheVariants.{Taken, Undone, Refused}
 use Rattle.bench_core.specs.declared.fault.Fault.{Fault}
 use Rattle.bench_core.specs.declared.fault.Fault.TheVariants.{UnknownNode, HistoryFull}
-use Rattle.bench_core.specs.declared.step_fault.StepFault.{StepFault}
-use Rattle.bench_core.specs.declared.step_fault.StepFault.TheVariants as step_faults
+use Rattle.node_core.specs.declared.step_fault.StepFault.{StepFault}
+use Rattle.node_core.specs.declared.step_fault.StepFault.TheVariants as step_faults
 use Rattle.bench_core.specs.NameList.{Texts}
 use Rattle.bench_core.specs.Limits.{Limits, node_limits}
-use Rattle.bench_core.specs.Operations.{Operation, named_in, Action, Do}
-use Rattle.bench_core.specs.Nodes.{Node, Inverse, LeadsBack}
-use Rattle.bench_core.specs.Clusters.{Cluster, step, opening_of, fault_of}
-use Rattle.bench_core.specs.Journals.{Kept, find_number, first_consequence, without}
+use Rattle.payload_core.specs.Messages.{numbered}
+use Rattle.replica_core.specs.declared.node_limits.NodeLimits.{NodeLimits}
+use Rattle.node_core.specs.Operations.{Operation, named_in, delivers}
+use Rattle.bench_core.specs.Acts.{Action, Do}
+use Rattle.node_core.specs.Nodes.{Node}
+use Rattle.node_core.specs.Inverses.{Inverse, LeadsBack}
+use Rattle.bench_core.specs.Clusters.{Cluster, step, opening_of, fault_of, outbox_of, message_at, message_for}
+use Rattle.journal_core.specs.Journals.{Kept, sent_by, find_number, first_consequence, without, AreBelow}
 use Rattle.bench_core.specs.Runs.{then_runs, runs}
-use Rattle.bench_core.specs.Chains.{Held, kepts, find_held, inverse_of, with_inverse, without_held, Link, Chain}
-use Rattle.bench_core.specs.Machine.{Event, Config, State, Machine, config_of, opening_state, given, free_places, knows, undo_reply, step_reply, do_reply, reply_to, now, is_recorded, after, call, calls, AnswersAs, Answered}
+use Rattle.journal_core.specs.Holdings.{Held, Journal, kepts, find_held, inverse_of, with_inverse, without_held, AreAllHeld, IsLent, HasSender, CanBeKept}
+use Rattle.bench_core.specs.Chains.{Link, Chain}
+use Rattle.bench_core.specs.Machine.{Event, Config, State, Machine, config_of, opening_state, is_taken, given, free_places, knows, undo_reply, step_reply, do_reply, reply_to, now, is_recorded, after, call, calls, AnswersAs, Answered}
 use Rattle.bench_core.specs.Headline.{IsReached}
-use Rattle.bench_core.specs.Benches.{IsBackable, IsBench, IsTaken}
+use Rattle.bench_core.specs.Benches.{IsBackable, IsBench, IsNumbered, IsTaken}
 use Rattle.bench_core.proofs.Clusters.{step_takes}
-use Rattle.bench_core.proofs.Runs.{runs_append}
+use Rattle.bench_core.proofs.Taken.{WasRead, was_read}
+use Rattle.bench_core.proofs.Runs.{runs_append, outbox_counts, numbered_runs}
 use Rattle.bench_core.proofs.OneStep.{get_at}
 use Rattle.bench_core.proofs.Reached.{kept_reached, count_push, undo_gives}
-use Rattle.bench_core.proofs.Chain.{chain_push, kepts_append, undoing}
+use Rattle.bench_core.proofs.Chain.{chain_push, kepts_append, all_held, undoing}
 
 calls_append : (c : Config) (s : State) (asked : List (ℕ × Action)) (actor : ℕ) (act : Action) → calls c s (asked ++ (actor, act) ∷ []) ≡ call c (calls c s asked) actor act
 calls_append c s [] actor act = refl
@@ -60,9 +67,14 @@ recorded_if c s _ other = refl
 
 -- a node's fault is no want of room for the call
 pub fault_of_other : (f : StepFault) → fault_of f ≢ HistoryFull
+fault_of_other step_faults.OwnReplica e = cc
 fault_of_other step_faults.AlreadyTracked e = cc
+fault_of_other step_faults.NothingToSend e = cc
 fault_of_other step_faults.EntriesFull e = cc
 fault_of_other step_faults.ClockFull e = cc
+fault_of_other step_faults.OwnMessage e = cc
+fault_of_other step_faults.NoSuchMessage e = cc
+fault_of_other step_faults.OutboxFull e = cc
 fault_of_other step_faults.OutOfMemory e = cc
 
 -- a refusal that is recorded
@@ -87,6 +99,7 @@ refused_noted c s nodes hs taken actor act f old is other room =
         fits = (kept_reached c _ reached).fits;
         bound = old.bound;
         size = old.size;
+        few = old.few;
       };
     }
 
@@ -158,6 +171,7 @@ taken_here names limits h nodes d hs taken actor operation i old is room t =
         fits = (kept_reached c _ reached).fits;
         bound = old.bound;
         size = ap length t.gives ∙ length-set nodes actor t.later ∙ old.size;
+        few = old.few;
       };
       answers = Answered (sym reply) (ap (λ (s : State). record { names = names; limits = limits; state = s }) state);
     }
@@ -189,37 +203,44 @@ step_refused names limits h nodes hs taken actor operation f m at old is room re
     let run : now (config_of m) m.state ≡ Ok nodes = subst (λ (m : Machine). now (config_of m) m.state ≡ Ok nodes) at old.is_now in
     do_gives (config_of m) m.state actor operation nodes (Err f) is room run refused
 
--- a step that was taken, asked by an act of which the code has copies
-pub taken_asked : (names : Texts) (limits : Limits) (h later : List Event) (nodes d : Cluster) (hs mid next : List Held) (taken actor : ℕ) (asked copy : Operation) (act : Action) (i : Inverse) (m : Machine) →
-    machine names limits h (kepts hs) ≡ m → later ≡ note actor act (Taken (taken + 1)) h → mid ≡ hs → next ≡ mid ++ added (taken + 1) actor copy i ∷ [] → copy ≡ asked → act ≡ Do asked →
+-- a step that was taken, asked by an act of which the code has copies; `count` is what the meter shows then
+pub taken_asked : (names : Texts) (limits : Limits) (h later : List Event) (nodes d : Cluster) (hs mid next : List Held) (taken count number actor : ℕ) (asked copy : Operation) (act : Action) (i : Inverse) (m : Machine) →
+    machine names limits h (kepts hs) ≡ m → count ≡ taken + 1 → number ≡ count → later ≡ note actor act (Taken number) h → mid ≡ hs → next ≡ mid ++ added number actor copy i ∷ [] → copy ≡ asked → act ≡ Do asked →
     IsBench (config names limits) (record { history = h; remaining = kepts hs }) nodes hs taken →
     knows (config_of m) actor asked ≡ true → 2 ≤ free_places (config_of m) m.state → IsTaken nodes actor copy i d →
     record {
-      keeps : IsBench (config names limits) (record { history = later; remaining = kepts next }) d next (taken + 1);
-      answers : AnswersAs m actor act (Taken (taken + 1)) (machine names limits later (kepts next));
+      keeps : IsBench (config names limits) (record { history = later; remaining = kepts next }) d next count;
+      answers : AnswersAs m actor act (Taken number) (machine names limits later (kepts next));
     }
-taken_asked names limits h later nodes d hs mid next taken actor asked copy act i m at longer same grown copied asks old is room t =
+taken_asked names limits h later nodes d hs mid next taken count number actor asked copy act i m at ticks counts longer same grown copied asks old is room t =
     let act_is : act ≡ Do copy = asks ∙ ap Do (sym copied) in
-    let r = taken_step names limits h later nodes d hs next taken actor copy i m at (longer ∙ ap (λ (a : Action). note actor a (Taken (taken + 1)) h) act_is) (grown ∙ ap (λ (l : List Held). l ++ added (taken + 1) actor copy i ∷ []) same) old (subst (λ (o : Operation). knows (config_of m) actor o ≡ true) (sym copied) is) room t in
-    record { keeps = r.keeps; answers = subst (λ (a : Action). AnswersAs m actor a (Taken (taken + 1)) (machine names limits later (kepts next))) (sym act_is) r.answers }
+    let top : number ≡ taken + 1 = counts ∙ ticks in
+    let longer_by : later ≡ note actor (Do copy) (Taken (taken + 1)) h = longer ∙ ap (λ (a : Action). note actor a (Taken number) h) act_is ∙ ap (λ n. note actor (Do copy) (Taken n) h) top in
+    let grown_by : next ≡ hs ++ added (taken + 1) actor copy i ∷ [] = grown ∙ ap (λ (l : List Held). l ++ added number actor copy i ∷ []) same ∙ ap (λ n. hs ++ added n actor copy i ∷ []) top in
+    let r = taken_step names limits h later nodes d hs next taken actor copy i m at longer_by grown_by old (subst (λ (o : Operation). knows (config_of m) actor o ≡ true) (sym copied) is) room t in
+    record {
+      keeps = subst (IsBench (config names limits) (record { history = later; remaining = kepts next }) d next) (sym ticks) r.keeps;
+      answers = subst₂ (λ (a : Action) n. AnswersAs m actor a (Taken n) (machine names limits later (kepts next))) (sym act_is) (sym top) r.answers;
+    }
 
 -- a step that its node refused
-pub refused_asked : (names : Texts) (limits : Limits) (h later : List Event) (nodes d : Cluster) (hs mid : List Held) (taken actor : ℕ) (asked copy : Operation) (act : Action) (f : StepFault) (fault : Fault) (m : Machine) →
-    machine names limits h (kepts hs) ≡ m → later ≡ note actor act (Refused fault) h → mid ≡ hs → d ≡ nodes → copy ≡ asked → act ≡ Do asked → fault ≡ fault_of f →
+pub refused_asked : (names : Texts) (limits : Limits) (h later : List Event) (nodes d : Cluster) (hs mid : List Held) (taken count actor : ℕ) (asked copy : Operation) (act : Action) (f : StepFault) (fault : Fault) (m : Machine) →
+    machine names limits h (kepts hs) ≡ m → count ≡ taken → later ≡ note actor act (Refused fault) h → mid ≡ hs → d ≡ nodes → copy ≡ asked → act ≡ Do asked → fault ≡ fault_of f →
     IsBench (config names limits) (record { history = h; remaining = kepts hs }) nodes hs taken →
     knows (config_of m) actor asked ≡ true → 2 ≤ free_places (config_of m) m.state → step nodes actor copy ≡ Err (fault_of f) →
     record {
-      keeps : IsBench (config names limits) (record { history = later; remaining = kepts mid }) d mid taken;
+      keeps : IsBench (config names limits) (record { history = later; remaining = kepts mid }) d mid count;
       answers : AnswersAs m actor act (Refused fault) (machine names limits later (kepts mid));
     }
-refused_asked names limits h later nodes d hs mid taken actor asked copy act f fault m at longer same stays copied asks is_fault old is room gives =
+refused_asked names limits h later nodes d hs mid taken count actor asked copy act f fault m at counts longer same stays copied asks is_fault old is room gives =
     let reply : reply_to (config_of m) m.state actor act ≡ Refused fault =
     ap (reply_to (config_of m) m.state actor) asks
     ∙ step_refused names limits h nodes hs taken actor asked fault m at old is room (ap (step nodes actor) (sym copied) ∙ gives ∙ ap Err (sym is_fault)) in
     let other : fault ≢ HistoryFull = λ e. fault_of_other f (sym is_fault ∙ e) in
     let r = refused names limits h later (kepts hs) nodes hs taken actor act fault m at longer old reply other (λ e. omega arith) in
     record {
-      keeps = subst₂ (λ (d : Cluster) (b : List Held). IsBench (config names limits) (record { history = later; remaining = kepts b }) d b taken) (sym stays) (sym same) r.keeps;
+      keeps = subst (IsBench (config names limits) (record { history = later; remaining = kepts mid }) d mid) (sym counts)
+          (subst₂ (λ (d : Cluster) (b : List Held). IsBench (config names limits) (record { history = later; remaining = kepts b }) d b taken) (sym stays) (sym same) r.keeps);
       answers = subst (λ (b : List Held). AnswersAs m actor act (Refused fault) (machine names limits later (kepts b))) (sym same) r.answers;
     }
 
@@ -249,6 +270,8 @@ undo_at c h nodes hs taken n k old found free =
     let node : f.0.kept.node ≡ k.node = ap (λ (k : Kept). k.node) f.2 in
     record {
       backable = record {
+        free = free;
+        whole = all_held (Ok (opening_of (node_limits c.limits) c.nodes)) hs nodes old.chain old.is_now;
         inverse = u.inverse;
         kept = ap inverse_of f.1 ∙ u.kept;
         earlier = u.earlier;
@@ -285,6 +308,7 @@ undone_here names limits h nodes hs taken actor n act k old same low high found 
         fits = (kept_reached c _ reached).fits;
         bound = old.bound;
         size = length-set nodes k.node u.backable.earlier ∙ old.size;
+        few = old.few;
       };
       answers = Answered (sym reply) (ap (λ (s : State). record { names = names; limits = limits; state = s }) state);
     }
@@ -311,37 +335,88 @@ undone names limits h later nodes d hs next taken actor n act k m at longer shor
           (subst₂ (λ (h' : List Event) (b : List Held). AnswersAs (machine names limits h (kepts hs)) actor act (Undone n) (machine names limits h' (kepts b))) (sym longer) (sym shorter) r.answers);
     }
 
--- an inverse that was lent and is put back
-pub lent_back : (hs : List Held) (n : ℕ) (i : Inverse) → inverse_of (find_held hs n) ≡ Some i → with_inverse (with_inverse hs n None) n (Some i) ≡ hs
-lent_back [] n i is = absurd (cc)
-lent_back (x ∷ hs) n i is = go (x.kept.number == n) refl is (lent_back hs n i)
-  where
-    go : (b : Bool) → (x.kept.number == n) ≡ b → inverse_of (if b then Some x else find_held hs n) ≡ Some i → (inverse_of (find_held hs n) ≡ Some i → with_inverse (with_inverse hs n None) n (Some i) ≡ hs) →
-        with_inverse (if b then record { kept = x.kept; inverse = None } ∷ hs else x ∷ with_inverse hs n None) n (Some i) ≡ x ∷ hs
-    go true at is more = rw at (ap (λ o. record { kept = x.kept; inverse = o } ∷ hs) (sym is))
-    go false at is more = rw at (ap (λ (l : List Held). x ∷ l) (more is))
-
--- and one that is lent, and then taken out with its step
-pub lent_out : (hs : List Held) (n : ℕ) → without_held (with_inverse hs n None) n ≡ without_held hs n
-lent_out [] n = refl
-lent_out (x ∷ hs) n = go (x.kept.number == n) refl (lent_out hs n)
-  where
-    go : (b : Bool) → (x.kept.number == n) ≡ b → without_held (with_inverse hs n None) n ≡ without_held hs n →
-        without_held (if b then record { kept = x.kept; inverse = None } ∷ hs else x ∷ with_inverse hs n None) n ≡ (if b then hs else x ∷ without_held hs n)
-    go true at more = rw at refl
-    go false at more = rw at (ap (λ (l : List Held). x ∷ l) more)
-
 -- the lent inverse leads back from the node that the code finds
-pub found_at : (nodes : Cluster) (hs : List Held) (n node : ℕ) (i : Inverse) (x : Node) (r : Option Inverse) (b : IsBackable nodes hs n node) →
-    r ≡ inverse_of (find_held hs n) → r ≡ Some i → x ≡ get_or nodes node x →
-    record {
-      leads : LeadsBack i x b.earlier;
-      here : slice_get nodes node ≡ Some x;
-    }
-found_at nodes hs n node i x r b lent is at =
+pub found_at : (nodes : Cluster) (hs : List Held) (n node : ℕ) (i : Inverse) (x : Node) (b : IsBackable nodes hs n node) →
+    inverse_of (find_held hs n) ≡ Some i → x ≡ get_or nodes node x → LeadsBack i x b.earlier
+found_at nodes hs n node i x b lent at =
     let here : slice_get nodes node ≡ Some x = get_at nodes node x (slice_get_within nodes node b.later b.at) at in
     let kept = b.kept in
-    let inverse_is : b.inverse ≡ i = cc (kept, lent, is) in
+    let inverse_is : b.inverse ≡ i = cc (kept, lent) in
     let stands = b.at in
     let node_is : b.later ≡ x = cc (stands, here) in
-    record { leads = subst₂ (λ (i : Inverse) (x : Node). LeadsBack i x b.earlier) inverse_is node_is b.leads; here = here }
+    subst₂ (λ (i : Inverse) (x : Node). LeadsBack i x b.earlier) inverse_is node_is b.leads
+
+-- a journal of which one inverse is lent
+
+pub is_lent : (hs : List Held) (n : ℕ) (i : Inverse) → inverse_of (find_held hs n) ≡ Some i → IsLent (with_inverse hs n None) n
+is_lent [] n i is = absurd (cc)
+is_lent (x ∷ hs) n i is = go (x.kept.number == n) refl is (is_lent hs n i)
+  where
+    go : (b : Bool) → (x.kept.number == n) ≡ b → inverse_of (if b then Some x else find_held hs n) ≡ Some i → (inverse_of (find_held hs n) ≡ Some i → IsLent (with_inverse hs n None) n) →
+        IsLent (if b then record { kept = x.kept; inverse = None } ∷ hs else x ∷ with_inverse hs n None) n
+    go true at is more = (x.kept, rw at refl)
+    go false at is more = let rest = more is in (rest.0, rw at rest.1)
+
+-- what is delivered was sent by a remaining step
+
+get_alike : {A B : Type 0} (xs : List A) (ys : List B) (p : ℕ) (x : A) → length xs ≡ length ys → slice_get xs p ≡ Some x → (y : B) × (slice_get ys p ≡ Some y)
+get_alike [] ys p x same h = absurd (cc)
+get_alike (z ∷ xs) [] p x same h = absurd (omega arith)
+get_alike (z ∷ xs) (w ∷ ys) zero x same h = (w, refl)
+get_alike (z ∷ xs) (w ∷ ys) (suc p) x same h = get_alike xs ys p x (omega arith) h
+
+has_sender : (l : NodeLimits) (count : ℕ) (ks : List Kept) (c : Cluster) (o : Option (ℕ × ℕ)) → runs l count ks ≡ Ok c → WasRead o (message_at c o) → HasSender ks o
+has_sender l count ks c None run read = tt
+has_sender l count ks c (Some (sender, p)) run read = go (slice_get c sender) p refl read.1
+  where
+    go : (o : Option Node) (p : ℕ) → slice_get c sender ≡ o → numbered (outbox_of o) p ≡ Some read.0 → HasSender ks (Some (sender, p))
+    go o zero at is = absurd (cc)
+    go None (suc p) at is = absurd (cc)
+    go (Some x) (suc p) at is =
+        let k = get_alike x.outbox (sent_by ks sender) p read.0 (outbox_counts l count ks c sender x run at) is in
+        (k.0.number, ap (option_map (λ (k : Kept). k.number)) k.1)
+
+-- a step that was taken can be kept, in a journal that has made room for it
+pub can_keep : (names : Texts) (limits : Limits) (h : List Event) (nodes d : Cluster) (hs : List Held) (j : Journal) (taken number actor : ℕ) (operation : Operation) (i : Inverse) →
+    IsBench (config names limits) (record { history = h; remaining = kepts hs }) nodes hs taken → j.steps ≡ hs → j.nodes ≡ length names → number ≡ taken + 1 → actor < length names → IsTaken nodes actor operation i d →
+    CanBeKept j number actor operation
+can_keep names limits h nodes d hs j taken number actor operation i old steps known next there t =
+    let kept = kept_reached (config names limits) (record { history = h; remaining = kepts hs }) old.reached in
+    let count = old.count in
+    let top : given h + 1 ≡ number = omega arith in
+    record {
+      positive = omega arith;
+      above = subst₂ (λ n (hs : List Held). AreBelow n (kepts hs)) top (sym steps) kept.numbered;
+      known = omega arith;
+      sender = subst (λ (hs : List Held). HasSender (kepts hs) (delivers operation)) (sym steps) (has_sender (node_limits limits) (length names) (kepts hs) nodes (delivers operation) old.is_now (was_read t.earlier operation (message_for nodes operation) t.later t.taken));
+      whole = subst AreAllHeld (sym steps) (all_held (Ok (opening_of (node_limits limits) (length names))) hs nodes old.chain old.is_now);
+    }
+
+-- a step whose nodes are known can be asked of its node
+pub can_step : (names : Texts) (limits : Limits) (h : List Event) (nodes : Cluster) (hs : List Held) (taken actor : ℕ) (asked copy : Operation) (m : Machine) →
+    machine names limits h (kepts hs) ≡ m → IsBench (config names limits) (record { history = h; remaining = kepts hs }) nodes hs taken → copy ≡ asked → knows (config_of m) actor asked ≡ true →
+    record {
+      known : actor < length names;
+      there : actor < length nodes;
+      few : length nodes ≤ 32;
+      named : list_all (λ k. nat_lt k (length nodes)) (named_in copy) ≡ true;
+      numbered : IsNumbered nodes;
+      meter : taken < 18446744073709551615;
+    }
+can_step names limits h nodes hs taken actor asked copy m at old copied is =
+    let is_here : knows (config names limits) actor copy ≡ true = subst₂ (λ (m : Machine) (o : Operation). knows (config_of m) actor o ≡ true) (sym at) (sym copied) is in
+    let known : actor < length names = ltb-true actor (length names) (and_parts _ _ is_here).0 in
+    let size = old.size in
+    let few = old.few in
+    let count = old.count in
+    let fits = old.fits in
+    let bound = old.bound in
+    let low : given h ≤ length h = count_by-le-length (λ e. is_taken e.reply) h in
+    record {
+      known = known;
+      there = omega arith;
+      few = omega arith;
+      named = named_there (config names limits) nodes actor copy old.size is_here;
+      numbered = numbered_runs (node_limits limits) (length names) (kepts hs) nodes old.is_now;
+      meter = omega arith;
+    }

@@ -2,7 +2,6 @@ pub mod Answers
 pub mod TextLists
 pub mod Clusters
 pub mod Taken
-pub mod Joins
 pub mod Runs
 pub mod OwnRun
 pub mod Middle
@@ -12,6 +11,6 @@ pub mod AtOnce
 pub mod Chain
 pub mod OwnChain
 pub mod OneStep
+pub mod NamesBelow
 pub mod Openings
-pub mod Places
 pub mod Keeps

@@ -3,16 +3,12 @@ use Rattle.std.proofs.Common.{◌≡◌, ℕ, zero, suc, ◌<◌, ◌==◌, ◌&
 use Rattle.std.proofs.lemmas.Bool.{ne_eqb, eq-eqb, le-ltb, or_from, and_right}
 use Rattle.std.proofs.lemmas.List.Elements.{filter-append}
 use Rattle.std.proofs.lemmas.Option.{slice_get_within}
-use Rattle.bench_core.specs.declared.node_limits.NodeLimits.{NodeLimits}
-use Rattle.bench_core.specs.Operations.{Operation}
-use Rattle.payload_core.specs.Messages.{Message}
-use Rattle.bench_core.specs.Nodes.{Node}
-use Rattle.bench_core.specs.Journals.{Kept}
-use Rattle.payload_core.specs.Messages.{numbered}
-use Rattle.bench_core.specs.Operations.{delivers}
+use Rattle.replica_core.specs.declared.node_limits.NodeLimits.{NodeLimits}
+use Rattle.node_core.specs.Operations.{Operation, delivers, sends}
+use Rattle.payload_core.specs.Messages.{Message, numbered}
+use Rattle.node_core.specs.Nodes.{Node}
+use Rattle.journal_core.specs.Journals.{Kept, RisesAbove, AreBelow, sent_by, sender_of, source_at, source_of, is_number, is_consequence, find_number, first_number, without}
 use Rattle.bench_core.specs.Clusters.{Cluster, opening_of, outbox_of, message_at, message_for, step}
-use Rattle.bench_core.specs.Operations.{sends}
-use Rattle.bench_core.specs.Journals.{RisesAbove, sent_by, sender_of, source_at, source_of, is_number, is_consequence, find_number, first_number, without}
 use Rattle.bench_core.specs.Runs.{then_runs, runs}
 use Rattle.bench_core.specs.Laws.{LoopLaw}
 use Rattle.bench_core.proofs.Clusters.{get-append_first, stepped}
@@ -20,37 +16,30 @@ use Rattle.bench_core.proofs.Taken.{WasRead, was_read}
 use Rattle.bench_core.proofs.Runs.{run_one, outbox_counts, message_stays_at}
 use Rattle.bench_core.proofs.Middle.{NoneOf, first_none}
 
-abbrev pub Each : (Kept → Type 0) → List Kept → Type 0
-Each P [] = Unit {0}
-Each P (k ∷ ks) = P k × Each P ks
+below_at : (n : ℕ) (ks : List Kept) (i : ℕ) (k : Kept) → AreBelow n ks → slice_get ks i ≡ Some k → k.number < n
+below_at n [] i k all h = absurd (cc)
+below_at n (j ∷ ks) zero k all h = let same : j ≡ k = cc in subst (λ (k : Kept). k.number < n) same all.0
+below_at n (j ∷ ks) (suc i) k all h = below_at n ks i k all.1 h
 
-pub each_at : (P : Kept → Type 0) (ks : List Kept) (i : ℕ) (k : Kept) → Each P ks → slice_get ks i ≡ Some k → P k
-each_at P [] i k all h = absurd (cc)
-each_at P (j ∷ ks) zero k all h = subst P (cc) all.0
-each_at P (j ∷ ks) (suc i) k all h = each_at P ks i k all.1 h
-
-pub each_filter : (P : Kept → Type 0) (test : Kept → Bool) (ks : List Kept) → Each P ks → Each P (filter test ks)
-each_filter P test [] all = tt
-each_filter P test (k ∷ ks) all = go (test k) (each_filter P test ks all.1)
+pub below_filter : (n : ℕ) (test : Kept → Bool) (ks : List Kept) → AreBelow n ks → AreBelow n (filter test ks)
+below_filter n test [] all = tt
+below_filter n test (k ∷ ks) all = go (test k) (below_filter n test ks all.1)
   where
-    go : (b : Bool) → Each P (filter test ks) → Each P (cond b (k ∷ filter test ks) (filter test ks))
+    go : (b : Bool) → AreBelow n (filter test ks) → AreBelow n (cond b (k ∷ filter test ks) (filter test ks))
     go true more = (all.0, more)
     go false more = more
 
-abbrev pub IsBelow : ℕ → Kept → Type 0
-IsBelow n k = k.number < n
-
-below_first : (a n : ℕ) (ks : List Kept) (k : Kept) → k.number ≡ n → RisesAbove a (ks ++ k ∷ []) → (a < n) × Each (IsBelow n) ks
+below_first : (a n : ℕ) (ks : List Kept) (k : Kept) → k.number ≡ n → RisesAbove a (ks ++ k ∷ []) → (a < n) × AreBelow n ks
 below_first a n [] k is rises = (omega arith, tt)
 below_first a n (j ∷ ks) k is rises =
     let more = below_first j.number n ks k is rises.1 in
     (omega arith, (more.0, more.1))
 
-pub find_last : (n : ℕ) (ks : List Kept) (k : Kept) → k.number ≡ n → Each (IsBelow n) ks → find_number (ks ++ k ∷ []) n ≡ Some k
+pub find_last : (n : ℕ) (ks : List Kept) (k : Kept) → k.number ≡ n → AreBelow n ks → find_number (ks ++ k ∷ []) n ≡ Some k
 find_last n [] k is low = rw (eq-eqb k.number n is) refl
 find_last n (j ∷ ks) k is low = rw (ne_eqb j.number n (λ e. omega arith)) (find_last n ks k is low.1)
 
-without_last : (n : ℕ) (ks : List Kept) (k : Kept) → k.number ≡ n → Each (IsBelow n) ks → without (ks ++ k ∷ []) n ≡ ks
+without_last : (n : ℕ) (ks : List Kept) (k : Kept) → k.number ≡ n → AreBelow n ks → without (ks ++ k ∷ []) n ≡ ks
 without_last n [] k is low = rw (eq-eqb k.number n is) refl
 without_last n (j ∷ ks) k is low = rw (ne_eqb j.number n (λ e. omega arith)) (ap (λ (l : List Kept). j ∷ l) (without_last n ks k is low.1))
 
@@ -61,7 +50,7 @@ within_some (x ∷ xs) (suc i) h e = within_some xs i (omega arith) e
 
 -- a message that stands in the cluster has its sender in the journal so far
 
-from_before_at : (l : NodeLimits) (count n : ℕ) (ks js : List Kept) (c : Cluster) (o : Option (ℕ × ℕ)) (m : Message) → Each (IsBelow n) ks → runs l count ks ≡ Ok c → message_at c o ≡ Some m → is_number (source_at (ks ++ js) o) n ≡ false
+from_before_at : (l : NodeLimits) (count n : ℕ) (ks js : List Kept) (c : Cluster) (o : Option (ℕ × ℕ)) (m : Message) → AreBelow n ks → runs l count ks ≡ Ok c → message_at c o ≡ Some m → is_number (source_at (ks ++ js) o) n ≡ false
 from_before_at l count n ks js c None m low run h = refl
 from_before_at l count n ks js c (Some (sender, p)) m low run h = go (slice_get c sender) p refl h
   where
@@ -76,17 +65,17 @@ from_before_at l count n ks js c (Some (sender, p)) m low run h = go (slice_get 
         named : (p : ℕ) (o : Option Kept) → slice_get (sent_by ks sender) p ≡ o → p < length (sent_by ks sender) → is_number (option_map (λ (k : Kept). k.number) (slice_get (sent_by (ks ++ js) sender) p)) n ≡ false
         named p None is within = absurd (within_some _ p within is)
         named p (Some k) is within =
-            let low_k : k.number < n = each_at (IsBelow n) (sent_by ks sender) p k (each_filter (IsBelow n) _ ks low) is in
+            let low_k : k.number < n = below_at n (sent_by ks sender) p k (below_filter n _ ks low) is in
             let whole : slice_get (sent_by (ks ++ js) sender) p ≡ Some k =
             ap (λ (l : List Kept). slice_get l p) (filter-append (λ k. (k.node == sender) && sends k.step) ks js) ∙ get-append_first (sent_by ks sender) (sent_by js sender) p k is in
             ap (λ (o : Option Kept). is_number (option_map (λ (k : Kept). k.number) o) n) whole ∙ ne_eqb k.number n (λ e. omega arith)
 
-from_before : (l : NodeLimits) (count n : ℕ) (ks js : List Kept) (c : Cluster) (s : Operation) (m : Message) → Each (IsBelow n) ks → runs l count ks ≡ Ok c → message_for c s ≡ Some m → is_number (source_of (ks ++ js) s) n ≡ false
+from_before : (l : NodeLimits) (count n : ℕ) (ks js : List Kept) (c : Cluster) (s : Operation) (m : Message) → AreBelow n ks → runs l count ks ≡ Ok c → message_for c s ≡ Some m → is_number (source_of (ks ++ js) s) n ≡ false
 from_before l count n ks js c s m low run h = from_before_at l count n ks js c (delivers s) m low run h
 
 -- each delivery of a run finds its message in the end
 
-pub delivers_or_not : (l : NodeLimits) (count n : ℕ) (ks js : List Kept) (b c d : Cluster) (node : ℕ) (s : Operation) (rest : List Kept) → Each (IsBelow n) ks → runs l count ks ≡ Ok c →
+pub delivers_or_not : (l : NodeLimits) (count n : ℕ) (ks js : List Kept) (b c d : Cluster) (node : ℕ) (s : Operation) (rest : List Kept) → AreBelow n ks → runs l count ks ≡ Ok c →
     step b node s ≡ Ok d → then_runs (Ok b) rest ≡ Ok c → is_number (source_of (ks ++ js) s) n ≡ false
 delivers_or_not l count n ks js b c d node s rest low run one more =
     let at = stepped b node s d one in
@@ -96,8 +85,8 @@ delivers_or_not l count n ks js b c d node s rest low run one more =
     go None read = refl
     go (Some m) read = from_before_at l count n ks js c (Some m) read.0 low run (message_stays_at b c rest (Some m) read.0 more read.1)
 
-pub none_before : (l : NodeLimits) (count n : ℕ) (ks js : List Kept) (k : Kept) (b c : Cluster) (rest : List Kept) → k.number ≡ n → Each (IsBelow n) ks → runs l count ks ≡ Ok c →
-    Each (IsBelow n) rest → then_runs (Ok b) rest ≡ Ok c → NoneOf (is_consequence (ks ++ js) k) rest
+pub none_before : (l : NodeLimits) (count n : ℕ) (ks js : List Kept) (k : Kept) (b c : Cluster) (rest : List Kept) → k.number ≡ n → AreBelow n ks → runs l count ks ≡ Ok c →
+    AreBelow n rest → then_runs (Ok b) rest ≡ Ok c → NoneOf (is_consequence (ks ++ js) k) rest
 none_before l count n ks js k b c [] is low run low_rest more = tt
 none_before l count n ks js k b c (j ∷ rest) is low run low_rest more =
     let one = run_one b c j rest more in (

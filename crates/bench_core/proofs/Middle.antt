@@ -1,12 +1,11 @@
 -- A step without consequences can be left out of a run.
 use Rattle.std.proofs.Common.{◌≡◌, ◌≢◌, ℕ, suc, ◌≤◌, ◌==◌, ◌&&◌, nat_lt, Bool, true, false, if◌then◌else◌, List, [], ◌∷◌, ◌++◌, length, set, slice_get, Some, None, option_map, unwrap_or, option_and_then, Ok, refl, sym, ap, ◌∙◌, subst, subst₂, true≢false, arith, append_assoc, le_of_eq}
 use Rattle.std.proofs.lemmas.Bool.{eqb-true, ne_eqb, eq-eqb, or_parts, lt-ltb}
-use Rattle.bench_core.specs.declared.node_limits.NodeLimits.{NodeLimits}
-use Rattle.bench_core.specs.Nodes.{Node}
-use Rattle.bench_core.specs.Journals.{Kept}
+use Rattle.replica_core.specs.declared.node_limits.NodeLimits.{NodeLimits}
+use Rattle.node_core.specs.Nodes.{Node}
+use Rattle.journal_core.specs.Journals.{Kept, RisesAbove, sender_of, delivers_from, is_consequence, find_number, first_number, first_consequence, without, before}
 use Rattle.bench_core.specs.Clusters.{Cluster, opening_of, message_for}
-use Rattle.bench_core.specs.Operations.{sends}
-use Rattle.bench_core.specs.Journals.{RisesAbove, sender_of, delivers_from, is_consequence, find_number, first_number, first_consequence, without, before}
+use Rattle.node_core.specs.Operations.{sends}
 use Rattle.bench_core.specs.Runs.{then_runs, runs}
 use Rattle.bench_core.specs.Laws.{MiddleLaw}
 use Rattle.bench_core.proofs.Clusters.{Stepped, ReadsAlike, get-set_same, set-get, set-set_same, mapped, stepped}

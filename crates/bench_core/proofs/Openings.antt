@@ -1,10 +1,10 @@
 -- The opening cluster, and lists of calls.
 use Rattle.std.proofs.Common.{◌≡◌, ℕ, zero, suc, ◌+◌, ◌<◌, ◌≤◌, List, [], ◌∷◌, ◌++◌, length, Ok, refl, sym, ap, ◌∙◌, subst, subst₂, arith, add-zero, take, get_or}
 use Rattle.std.proofs.lemmas.List.{take_more}
-use Rattle.bench_core.specs.declared.node_limits.NodeLimits.{NodeLimits}
-use Rattle.bench_core.specs.Nodes.{opening_node}
+use Rattle.replica_core.specs.declared.node_limits.NodeLimits.{NodeLimits}
+use Rattle.node_core.specs.Nodes.{opening_node}
 use Rattle.bench_core.specs.declared.act.Act.{Act}
-use Rattle.bench_core.specs.Operations.{Action, plain_act, calls_of}
+use Rattle.bench_core.specs.Acts.{Action, plain_act, calls_of}
 use Rattle.bench_core.specs.declared.reply.Reply.{Reply}
 use Rattle.bench_core.specs.Clusters.{Cluster, opening_from, opening_of}
 use Rattle.bench_core.specs.Limits.{node_limits}
@@ -27,8 +27,8 @@ opening_from_length : (l : NodeLimits) (first count : ℕ) → length (opening_f
 opening_from_length l first zero = refl
 opening_from_length l first (suc count) = let e = opening_from_length l (first + 1) count in omega (arith, e)
 
-pub opens : (c : Config) (nodes : Cluster) → c.limits.acts ≤ 1000000 → nodes ≡ opening_of (node_limits c.limits) c.nodes → IsBench c opening_state nodes [] 0
-opens c nodes bound is = record {
+pub opens : (c : Config) (nodes : Cluster) → c.limits.acts ≤ 1000000 → c.nodes ≤ 32 → nodes ≡ opening_of (node_limits c.limits) c.nodes → IsBench c opening_state nodes [] 0
+opens c nodes bound few is = record {
   reached = ([], refl);
   is_now = ap Ok (sym is);
   chain = tt;
@@ -36,6 +36,7 @@ opens c nodes bound is = record {
   fits = omega arith;
   bound = bound;
   size = ap length is ∙ opening_from_length (node_limits c.limits) 0 c.nodes;
+  few = few;
 }
 
 pub answered_push : (old mid new : Machine) (calls : List (ℕ × Action)) (rs : List Reply) (a : ℕ × Action) (r : Reply) → AllAnswered old calls rs mid → AnswersAs mid a.0 a.1 r new → AllAnswered old (calls ++ a ∷ []) (rs ++ r ∷ []) new

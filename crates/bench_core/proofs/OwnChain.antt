@@ -1,13 +1,13 @@
 -- From the chain along the run to the chain of each node.
 use Rattle.std.proofs.Common.{◌≡◌, ℕ, ◌==◌, Bool, true, false, if◌then◌else◌, List, [], ◌∷◌, ◌++◌, set, slice_get, Some, Ok, refl, sym, ap, ◌∙◌, subst}
 use Rattle.std.proofs.lemmas.Bool.{eqb-true, eqb-false}
-use Rattle.bench_core.specs.declared.node_limits.NodeLimits.{NodeLimits}
-use Rattle.bench_core.specs.Nodes.{Inverse}
-use Rattle.bench_core.specs.Nodes.{Node, opening_node, LeadsBack}
-use Rattle.bench_core.specs.Chains.{Held}
+use Rattle.replica_core.specs.declared.node_limits.NodeLimits.{NodeLimits}
+use Rattle.node_core.specs.Inverses.{Inverse, LeadsBack}
+use Rattle.node_core.specs.Nodes.{Node, opening_node}
+use Rattle.journal_core.specs.Holdings.{Held, kepts}
 use Rattle.bench_core.specs.Clusters.{Cluster, opening_of}
 use Rattle.bench_core.specs.Runs.{then_runs, runs}
-use Rattle.bench_core.specs.Chains.{kepts, Link, Chain, own_back, LeadBack, OwnChains}
+use Rattle.bench_core.specs.Chains.{Link, Chain, own_back, LeadBack, OwnChains}
 use Rattle.bench_core.proofs.Clusters.{get-set_same, get-set_other, Stepped, stepped}
 use Rattle.bench_core.proofs.Runs.{run_one, run_from_opening}
 

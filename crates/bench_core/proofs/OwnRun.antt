@@ -1,10 +1,10 @@
 -- A node in a run is what its own steps make of it.
 use Rattle.std.proofs.Common.{None, Option, ◌≡◌, ℕ, ◌==◌, Bool, true, false, cond, List, [], ◌∷◌, ◌++◌, set, slice_get, Some, Ok, refl, sym, ap, ◌∙◌, subst}
 use Rattle.std.proofs.lemmas.Bool.{eqb-true, eqb-false}
-use Rattle.bench_core.specs.Operations.{Operation, delivers}
-use Rattle.bench_core.specs.Nodes.{Node, opening_node, take}
+use Rattle.node_core.specs.Operations.{Operation, delivers}
+use Rattle.node_core.specs.Nodes.{Node, opening_node, take}
 use Rattle.bench_core.specs.Clusters.{message_at, Cluster, message_for, opening_of}
-use Rattle.bench_core.specs.Journals.{own_steps, Kept}
+use Rattle.journal_core.specs.Journals.{own_steps, Kept}
 use Rattle.bench_core.specs.Runs.{then_runs}
 use Rattle.bench_core.specs.Laws.{OwnRunLaw, own_run}
 use Rattle.bench_core.proofs.Clusters.{get-set_same, get-set_other, Stepped, stepped}

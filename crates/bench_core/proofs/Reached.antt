@@ -1,28 +1,25 @@
 -- The machine keeps its journal in order, and its remaining steps run.
-use Rattle.std.proofs.Common.{◌≡◌, ◌⊎◌, inl, inr, ℕ, ◌+◌, ◌<◌, ◌≤◌, ◌==◌, ◌&&◌, ◌||◌, not, nat_lt, Bool, true, false, cond, if◌then◌else◌, List, [], ◌∷◌, ◌++◌, length, filter, Option, Some, None, Result, Ok, Err, refl, sym, ap, ◌∙◌, subst, subst₂, arith, length-append, le_of_eq}
-use Rattle.std.proofs.lemmas.Bool.{eqb-true, eqb-false, ne_eqb, ltb-false, le-ltb, not-true, or_from}
+use Rattle.std.proofs.Common.{◌≡◌, ◌⊎◌, inl, inr, ℕ, ◌+◌, ◌<◌, ◌≤◌, ◌==◌, ◌||◌, not, nat_lt, Bool, true, false, cond, if◌then◌else◌, List, [], ◌∷◌, ◌++◌, length, filter, Option, Some, None, Result, Ok, Err, refl, sym, ap, ◌∙◌, subst, subst₂, arith, length-append, le_of_eq}
+use Rattle.std.proofs.lemmas.Bool.{eqb-true, eqb-false, eq-eqb, lt-ltb, ne_eqb, ltb-false, le-ltb, not-true, or_from}
 use Rattle.std.proofs.lemmas.List.Sums.{length-filter}
 use Rattle.std.proofs.lemmas.List.Elements.{filter-append}
-use Rattle.bench_core.specs.Operations.{Operation}
+use Rattle.node_core.specs.Operations.{Operation}
 use Rattle.bench_core.specs.declared.fault.Fault.{Fault}
-use Rattle.bench_core.specs.Journals.{Kept}
+use Rattle.journal_core.specs.Journals.{Kept, RisesAbove, AreBelow, find_number, first_consequence, last_own, last_of, without, before}
 use Rattle.bench_core.specs.Clusters.{Cluster, opening_of, step}
-use Rattle.bench_core.specs.Journals.{RisesAbove, find_number, first_consequence, without, before}
 use Rattle.bench_core.specs.Runs.{then_runs, runs}
 use Rattle.payload_core.specs.Answers.{◌>>=◌}
 use Rattle.bench_core.specs.Limits.{node_limits}
 use Rattle.bench_core.specs.Laws.{put_back}
-use Rattle.bench_core.specs.Operations.{Action}
-use Rattle.bench_core.specs.Operations.{Do, Undo}
+use Rattle.bench_core.specs.Acts.{Action, Do, Undo, Back}
 use Rattle.bench_core.specs.declared.reply.Reply.{Reply}
 use Rattle.bench_core.specs.declared.reply.Reply.TheVariants.{Taken, Undone, Refused}
-use Rattle.bench_core.specs.declared.fault.Fault.TheVariants.{UnknownNode, NoSuchStep, AlreadyUndone, HistoryFull, HasConsequence}
-use Rattle.bench_core.specs.Machine.{Event}
-use Rattle.bench_core.specs.Machine.{Config, State, opening_state, is_taken, given, free_places, unheld, undo_found, undo_reply, step_reply, knows, do_reply, now, reply_to, with_step, remaining_after, is_recorded, after, call, calls}
+use Rattle.bench_core.specs.declared.fault.Fault.TheVariants.{UnknownNode, NoSuchStep, AlreadyUndone, NothingToUndo, HistoryFull, HasConsequence}
+use Rattle.bench_core.specs.Machine.{Event, Config, State, opening_state, is_taken, given, free_places, unheld, undo_found, undo_reply, back_reply, step_reply, knows, do_reply, now, reply_to, with_step, remaining_after, is_recorded, after, call, calls}
 use Rattle.bench_core.specs.Headline.{IsReached, GivenLaw, BackLaw, UndoLaw}
 use Rattle.bench_core.proofs.Runs.{runs_append}
 use Rattle.bench_core.proofs.Middle.{Split, split, middle_holds}
-use Rattle.bench_core.proofs.Loop.{Each, IsBelow, each_filter, find_last, loop_holds}
+use Rattle.bench_core.proofs.Loop.{below_filter, find_last, loop_holds}
 
 pub count_push : (h : List Event) (e : Event) → given (h ++ e ∷ []) ≡ given h + cond (is_taken e.reply) 1 0
 count_push h e =
@@ -41,7 +38,7 @@ pub record IsKept (c : Config) (s : State) : Type 0 where
   pub cluster : Cluster
   pub is_now : now c s ≡ Ok cluster
   pub rises : RisesAbove 0 s.remaining
-  pub numbered : Each (IsBelow (given s.history + 1)) s.remaining
+  pub numbered : AreBelow (given s.history + 1) s.remaining
   pub fits : length s.history + length s.remaining ≤ c.limits.acts
 
 -- what a call may come to
@@ -88,18 +85,27 @@ module _ (c : Config) (s : State) (actor : ℕ) where
   outcome : (act : Action) → Outcome c s actor act (reply_to c s actor act)
   outcome (Do operation) = do_outcome operation
   outcome (Undo k) = undo_outcome (Undo k) k
+  outcome (Back node) = tested (nat_lt node c.nodes)
+    where
+      last : (o : Option ℕ) → Outcome c s actor (Back node) (back_reply s o)
+      last None = Stayed NothingToUndo
+      last (Some k) = undo_outcome (Back node) k
 
-rises_push : (a n : ℕ) (ks : List Kept) (k : Kept) → a < n → k.number ≡ n → RisesAbove a ks → Each (IsBelow n) ks → RisesAbove a (ks ++ k ∷ [])
+      tested : (b : Bool) → Outcome c s actor (Back node) (if b then back_reply s (last_of s.remaining node) else Refused UnknownNode)
+      tested true = last (last_of s.remaining node)
+      tested false = Stayed UnknownNode
+
+rises_push : (a n : ℕ) (ks : List Kept) (k : Kept) → a < n → k.number ≡ n → RisesAbove a ks → AreBelow n ks → RisesAbove a (ks ++ k ∷ [])
 rises_push a n [] k h is rises low = (omega arith, tt)
 rises_push a n (j ∷ ks) k h is rises low = (rises.0, rises_push j.number n ks k low.0 is rises.1 low.1)
 
-pub each_push : (P : Kept → Type 0) (ks : List Kept) (k : Kept) → Each P ks → P k → Each P (ks ++ k ∷ [])
-each_push P [] k all h = (h, tt)
-each_push P (j ∷ ks) k all h = (all.0, each_push P ks k all.1 h)
+below_push : (n : ℕ) (ks : List Kept) (k : Kept) → AreBelow n ks → k.number < n → AreBelow n (ks ++ k ∷ [])
+below_push n [] k all h = (h, tt)
+below_push n (j ∷ ks) k all h = (all.0, below_push n ks k all.1 h)
 
-each_below : (m n : ℕ) (ks : List Kept) → m ≤ n → Each (IsBelow m) ks → Each (IsBelow n) ks
-each_below m n [] h all = tt
-each_below m n (k ∷ ks) h all = (omega arith, each_below m n ks h all.1)
+below_more : (m n : ℕ) (ks : List Kept) → m ≤ n → AreBelow m ks → AreBelow n ks
+below_more m n [] h all = tt
+below_more m n (k ∷ ks) h all = (omega arith, below_more m n ks h all.1)
 
 rises_lower : (a b : ℕ) (ks : List Kept) → a ≤ b → RisesAbove b ks → RisesAbove a ks
 rises_lower a b [] h rises = tt
@@ -141,7 +147,7 @@ module _ (c : Config) (s : State) (actor : ℕ) (act : Action) (old : IsKept c s
         cluster = next;
         is_now = ap (runs (node_limits c.limits) c.nodes) journal ∙ runs_append (Ok (opening_of (node_limits c.limits) c.nodes)) s.remaining (k ∷ []) ∙ ap (λ r. then_runs r (k ∷ [])) run ∙ ap (λ r. then_runs r []) taken;
         rises = subst (RisesAbove 0) (sym journal) (rises_push 0 n s.remaining k (omega arith) refl old.rises old.numbered);
-        numbered = subst₂ (λ m ks. Each (IsBelow (m + 1)) ks) (sym count) (sym journal) (each_push (IsBelow (n + 1)) s.remaining k (each_below n (n + 1) s.remaining (omega arith) old.numbered) (omega arith));
+        numbered = subst₂ (λ m ks. AreBelow (m + 1) ks) (sym count) (sym journal) (below_push (n + 1) s.remaining k (below_more n (n + 1) s.remaining (omega arith) old.numbered) (omega arith));
         fits = let fit = old.fits in omega (arith, longer, more, size);
       }
 
@@ -155,7 +161,7 @@ module _ (c : Config) (s : State) (actor : ℕ) (act : Action) (old : IsKept c s
         cluster = put_back x.node m.0 old.cluster;
         is_now = m.2;
         rises = rises_filter 0 _ s.remaining old.rises;
-        numbered = subst (λ m. Each (IsBelow (m + 1)) (without s.remaining k)) (sym count) (each_filter (IsBelow (given s.history + 1)) _ s.remaining old.numbered);
+        numbered = subst (λ m. AreBelow (m + 1) (without s.remaining k)) (sym count) (below_filter (given s.history + 1) _ s.remaining old.numbered);
         fits = let fit = old.fits in omega (arith, longer, less);
       }
 
@@ -171,7 +177,7 @@ module _ (c : Config) (s : State) (actor : ℕ) (act : Action) (old : IsKept c s
             cluster = old.cluster;
             is_now = old.is_now;
             rises = old.rises;
-            numbered = subst (λ m. Each (IsBelow (m + 1)) s.remaining) (sym count) old.numbered;
+            numbered = subst (λ m. AreBelow (m + 1) s.remaining) (sym count) old.numbered;
             fits = let fit = old.fits in omega (arith, longer, room);
           }
       go false is = record { cluster = old.cluster; is_now = old.is_now; rises = old.rises; numbered = old.numbered; fits = old.fits }
@@ -248,7 +254,7 @@ back_holds c s actor other k operation reached took = go (reply_to c s actor (Do
 
 -- an undo of a remaining step
 
-number_within : (n m : ℕ) (ks : List Kept) (k : Kept) → Each (IsBelow n) ks → find_number ks m ≡ Some k → k.number < n
+number_within : (n m : ℕ) (ks : List Kept) (k : Kept) → AreBelow n ks → find_number ks m ≡ Some k → k.number < n
 number_within n m [] k all h = absurd (cc)
 number_within n m (j ∷ ks) k all h = go (j.number == m) h (number_within n m ks k all.1)
   where
@@ -307,27 +313,56 @@ found_number (j ∷ ks) k x h = go (j.number == k) refl h (found_number ks k x)
     go true is h more = let same : j ≡ x = cc in ap (λ (j : Kept). j.number) (sym same) ∙ eqb-true j.number k is
     go false is h more = more h
 
--- what an undo of a remaining step is answered
-pub undo_answers : (c : Config) (s : State) (k : ℕ) (x : Kept) (o : Option ℕ) → IsReached c s → find_number s.remaining k ≡ Some x → first_consequence s.remaining k ≡ o → undo_reply s k ≡ unheld k o
-undo_answers c s k x o reached found is =
+-- the number of a remaining step was given
+pub number_given : (c : Config) (s : State) (k : ℕ) (x : Kept) → IsReached c s → find_number s.remaining k ≡ Some x → (0 < k) × (k ≤ given s.history)
+number_given c s k x reached found =
     let old = kept_reached c s reached in
     let number = found_number s.remaining k x found in
     let high = number_within (given s.history + 1) k s.remaining x old.numbered found in
     let low = number_above 0 k s.remaining x old.rises found in
-    undo_gives s k x o (omega arith) (omega arith) found is
+    (omega arith, omega arith)
 
--- an undo is never answered by a new number
-pub undo_not_taken : (s : State) (j k : ℕ) → undo_reply s j ≡ Taken k → ⊥
-undo_not_taken s j k e = tested ((j == 0) || nat_lt (given s.history) j) e
+-- what an undo of a remaining step is answered
+pub undo_answers : (c : Config) (s : State) (k : ℕ) (x : Kept) (o : Option ℕ) → IsReached c s → find_number s.remaining k ≡ Some x → first_consequence s.remaining k ≡ o → undo_reply s k ≡ unheld k o
+undo_answers c s k x o reached found is =
+    let number = number_given c s k x reached found in
+    undo_gives s k x o number.0 number.1 found is
+
+-- a new number is the answer to a step alone
+pub taken_by_do : (c : Config) (s : State) (actor : ℕ) (act : Action) (k : ℕ) → reply_to c s actor act ≡ Taken k → (operation : Operation) × (act ≡ Do operation)
+taken_by_do c s actor act k e = go (reply_to c s actor act) (outcome c s actor act) e
   where
-    held : (o : Option ℕ) → unheld j o ≡ Taken k → ⊥
-    held None e = cc
-    held (Some i) e = cc
+    go : (r : Reply) → Outcome c s actor act r → r ≡ Taken k → (operation : Operation) × (act ≡ Do operation)
+    go _ (Grew operation cluster next is room run taken) e = (operation, is)
+    go _ (Shrank j x found free) e = absurd (cc)
+    go _ (Stayed r) e = absurd (cc)
 
-    found : (o : Option Kept) → undo_found s.remaining j o ≡ Taken k → ⊥
-    found None e = cc
-    found (Some x) e = held (first_consequence s.remaining j) e
+-- the last step of a node remains
 
-    tested : (b : Bool) → (if b then Refused NoSuchStep else undo_found s.remaining j (find_number s.remaining j)) ≡ Taken k → ⊥
-    tested true e = cc
-    tested false e = found (find_number s.remaining j) e
+last_own_found : (o : Option ℕ) (ks : List Kept) (node k : ℕ) → last_own o ks node ≡ Some k → (o ≡ Some k) ⊎ ((x : Kept) × (find_number ks k ≡ Some x))
+last_own_found o [] node k h = inl h
+last_own_found o (j ∷ ks) node k h = go (j.node == node) (last_own_found (if j.node == node then Some j.number else o) ks node k h)
+  where
+    here : (b : Bool) (x : Kept) → find_number ks k ≡ Some x → (y : Kept) × ((if b then Some j else find_number ks k) ≡ Some y)
+    here true x found = (j, refl)
+    here false x found = (x, found)
+
+    go : (b : Bool) → ((if b then Some j.number else o) ≡ Some k) ⊎ ((x : Kept) × (find_number ks k ≡ Some x)) → (o ≡ Some k) ⊎ ((x : Kept) × (find_number (j ∷ ks) k ≡ Some x))
+    go b (inr found) = inr (here (j.number == k) found.0 found.1)
+    go true (inl is) = let number : j.number ≡ k = cc in inr (j, rw (eq-eqb j.number k number) refl)
+    go false (inl is) = inl is
+
+pub last_found : (ks : List Kept) (node k : ℕ) → last_of ks node ≡ Some k → (x : Kept) × (find_number ks k ≡ Some x)
+last_found ks node k h = go (last_own_found None ks node k h)
+  where
+    go : (None ≡ Some k) ⊎ ((x : Kept) × (find_number ks k ≡ Some x)) → (x : Kept) × (find_number ks k ≡ Some x)
+    go (inl e) = absurd (cc)
+    go (inr found) = found
+
+-- and its number was given
+pub last_given : (c : Config) (s : State) (node k : ℕ) → IsReached c s → last_of s.remaining node ≡ Some k → (0 < k) × (k ≤ given s.history)
+last_given c s node k reached last = let found = last_found s.remaining node k last in number_given c s k found.0 reached found.1
+
+-- a step back comes to the undo of the node's last step
+pub back_comes : (c : Config) (s : State) (actor node k : ℕ) → node < c.nodes → last_of s.remaining node ≡ Some k → reply_to c s actor (Back node) ≡ undo_reply s k
+back_comes c s actor node k there last = ap (λ b. if b then back_reply s (last_of s.remaining node) else Refused UnknownNode) (lt-ltb node c.nodes there) ∙ ap (back_reply s) last

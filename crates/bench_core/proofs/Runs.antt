@@ -2,18 +2,15 @@
 use Rattle.std.proofs.Common.{◌≡◌, ◌≢◌, ◌⊎◌, inl, inr, ℕ, zero, suc, ◌+◌, ◌==◌, ◌&&◌, Bool, true, false, cond, List, [], ◌∷◌, ◌++◌, length, set, slice_get, Option, Some, None, option_map, Result, Ok, Err, refl, sym, ap, ◌∙◌, subst, subst₂, true≢false, arith, length-append, append_assoc, append-nil, add-zero}
 use Rattle.std.proofs.lemmas.Bool.{cases_eq, ne_eqb, eq-eqb, and_from}
 use Rattle.std.proofs.lemmas.List.Elements.{filter-append}
-use Rattle.bench_core.specs.declared.node_limits.NodeLimits.{NodeLimits}
-use Rattle.bench_core.specs.Operations.{Operation}
-use Rattle.payload_core.specs.Messages.{Message}
-use Rattle.bench_core.specs.Nodes.{Node, opening_node}
+use Rattle.replica_core.specs.declared.node_limits.NodeLimits.{NodeLimits}
+use Rattle.node_core.specs.Operations.{Operation, delivers, sends}
+use Rattle.payload_core.specs.Messages.{Message, numbered}
+use Rattle.node_core.specs.Nodes.{Node, opening_node}
 use Rattle.bench_core.specs.declared.fault.Fault.{Fault}
-use Rattle.bench_core.specs.Journals.{Kept}
-use Rattle.payload_core.specs.Messages.{numbered}
-use Rattle.bench_core.specs.Operations.{delivers}
+use Rattle.journal_core.specs.Journals.{Kept, sent_by, sender_of, source_at, source_of, is_number}
 use Rattle.bench_core.specs.Clusters.{Cluster, opening_from, opening_of, outbox_of, message_at, message_for, step}
-use Rattle.bench_core.specs.Operations.{sends}
-use Rattle.bench_core.specs.Journals.{sent_by, sender_of, source_at, source_of, is_number}
 use Rattle.bench_core.specs.Runs.{then_runs, runs}
+use Rattle.bench_core.specs.Benches.{IsNumbered}
 use Rattle.bench_core.proofs.Clusters.{ReadAlike, get-set_same, get-set_other, get-append_at, numbered_append, numbered_push_other, mapped, ReadsAlike, message-set, step-set, Stepped, stepped}
 use Rattle.bench_core.proofs.Taken.{Posts, posts, owns}
 
@@ -207,16 +204,13 @@ message_stays_at c d ks (Some (sender, p)) m run h = go (slice_get c sender) ref
 pub message_stays : (c d : Cluster) (ks : List Kept) (s : Operation) (m : Message) → then_runs (Ok c) ks ≡ Ok d → message_for c s ≡ Some m → message_for d s ≡ Some m
 message_stays c d ks s m run h = message_stays_at c d ks (delivers s) m run h
 
--- in a run each node keeps its number
+-- in a run each node keeps its name
 
-abbrev pub Numbered : Cluster → Type 0
-Numbered c = (n : ℕ) (x : Node) → slice_get c n ≡ Some x → x.replica.own ≡ n
-
-pub numbered_run : (c d : Cluster) (ks : List Kept) → Numbered c → then_runs (Ok c) ks ≡ Ok d → Numbered d
-numbered_run c d [] own h = subst Numbered (cc) own
+pub numbered_run : (c d : Cluster) (ks : List Kept) → IsNumbered c → then_runs (Ok c) ks ≡ Ok d → IsNumbered d
+numbered_run c d [] own h = subst IsNumbered (cc) own
 numbered_run c d (k ∷ ks) own h = let one = run_one c d k ks h in numbered_run one.0 d ks (step_numbered one.0 one.1) one.2
   where
-    step_numbered : (b : Cluster) → step c k.node k.step ≡ Ok b → Numbered b
+    step_numbered : (b : Cluster) → step c k.node k.step ≡ Ok b → IsNumbered b
     step_numbered b is n x at = go (stepped c k.node k.step b is) (cases_eq k.node n)
       where
         go : Stepped c k.node k.step b → (k.node ≡ n) ⊎ (k.node ≢ n) → x.replica.own ≡ n
@@ -227,5 +221,5 @@ numbered_run c d (k ∷ ks) own h = let one = run_one c d k ks h in numbered_run
             ap (λ (x : Node). x.replica.own) same ∙ owns s.from k.step (message_for c k.step) s.to s.taken ∙ own k.node s.from s.at ∙ e
         go s (inr d) = own n x (sym (get-set_other c k.node n s.to (λ e. d (sym e))) ∙ ap (λ (d : Cluster). slice_get d n) (sym s.gives) ∙ at)
 
-pub numbered_runs : (l : NodeLimits) (count : ℕ) (ks : List Kept) (c : Cluster) → runs l count ks ≡ Ok c → Numbered c
+pub numbered_runs : (l : NodeLimits) (count : ℕ) (ks : List Kept) (c : Cluster) → runs l count ks ≡ Ok c → IsNumbered c
 numbered_runs l count ks c h = numbered_run (opening_of l count) c ks (λ n x at. ap (λ (x : Node). x.replica.own) (opening_at l count n x at)) h

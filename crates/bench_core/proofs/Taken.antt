@@ -1,37 +1,87 @@
--- What an accepted step does to the outbox of its node, what it read, and the facts that a node keeps.
-use Rattle.std.proofs.Common.{◌≡◌, ℕ, Bool, true, false, List, [], ◌∷◌, ◌++◌, Option, Some, None, Result, Ok, Err, refl, ap, ◌∙◌}
-use Rattle.payload_core.specs.Presences.{Presence}
-use Rattle.payload_core.specs.Messages.{Message}
-use Rattle.bench_core.specs.declared.step_fault.StepFault.{StepFault}
-use Rattle.bench_core.specs.Replicas.{joined}
-use Rattle.bench_core.specs.Operations.{Operation, Join, delivers, sends}
-use Rattle.bench_core.specs.Nodes.{Node, first_of, unless, with_replica, join_refusals, take}
-
--- where there is no fault, the value is there
-pub unless_ok : {A : Type 0} (o : Option StepFault) (x y : A) → unless o x ≡ Ok y → y ≡ x
-unless_ok None x y h = cc
-unless_ok (Some f) x y h = absurd (cc)
-
--- what a join that was accepted gives
-took_join : (n : Node) (p : Presence) (m : Option Message) (y : Node) → take n (Join p) m ≡ Ok y → y ≡ with_replica n (joined p n.replica)
-took_join n p m y h = unless_ok (first_of (join_refusals n.replica p.pid p.topic p.key)) (with_replica n (joined p n.replica)) y h
+-- What an accepted step does to the outbox of its node, what it read, and that the node keeps its name. Here alone the
+-- steps are told apart.
+use Rattle.std.proofs.Common.{◌≡◌, ℕ, ◌==◌, Bool, true, false, if◌then◌else◌, List, [], ◌∷◌, ◌++◌, Option, Some, None, Ok, Err, refl, ap}
+use Rattle.std.specs.FinSet as set
+use Rattle.payload_core.specs.Messages.{Message, message_of_names}
+use Rattle.replica_core.specs.declared.replica_fault.ReplicaFault.{ReplicaFault}
+use Rattle.replica_core.specs.declared.status.Status.TheVariants as statuses
+use Rattle.replica_core.specs.Replicas.{joined, with_status, delta_message, without_delta}
+use Rattle.replica_core.specs.Deliveries.{merged}
+use Rattle.replica_core.specs.Refusals.{join_refusal, merge_refusal, up_refusal, has_dots}
+use Rattle.node_core.specs.declared.step_fault.StepFault.TheVariants.{OwnMessage, OutboxFull}
+use Rattle.node_core.specs.Operations.{Operation, Join, Broadcast, Extract, Deliver, Up, delivers, sends}
+use Rattle.node_core.specs.Nodes.{Node, with_replica, with_sent, is_outbox_full, unless, unless_full, broadcast, deliver, take}
 
 -- what a step does to the outbox
 abbrev pub Posts : Bool → List Message → List Message → Type 0
 Posts true xs ys = (m : Message) × (ys ≡ xs ++ m ∷ [])
 Posts false xs ys = ys ≡ xs
 
-pub posts : (n : Node) (s : Operation) (m : Option Message) (y : Node) → take n s m ≡ Ok y → Posts (sends s) n.outbox y.outbox
-posts n (Join p) m y h = ap (λ (x : Node). x.outbox) (took_join n p m y h)
-
 -- what a step that was accepted delivers was there
 abbrev pub WasRead : Option (ℕ × ℕ) → Option Message → Type 0
 WasRead None m = Unit {0}
 WasRead (Some at) m = (message : Message) × (m ≡ Some message)
 
-pub was_read : (n : Node) (s : Operation) (m : Option Message) (y : Node) → take n s m ≡ Ok y → WasRead (delivers s) m
-was_read n (Join p) m y h = tt
+record Took (n : Node) (s : Operation) (m : Option Message) (y : Node) : Type 0 where
+  posts : Posts (sends s) n.outbox y.outbox
+  was_read : WasRead (delivers s) m
+  owns : y.replica.own ≡ n.replica.own
 
--- a node keeps its number
+unless_ok : (cause : Option ReplicaFault) (gives y : Node) → unless cause gives ≡ Ok y → y ≡ gives
+unless_ok None gives y h = cc
+unless_ok (Some fault) gives y h = absurd (cc)
+
+unless_full_ok : (n gives y : Node) → unless_full n gives ≡ Ok y → y ≡ gives
+unless_full_ok n gives y h = go (is_outbox_full n) h
+  where
+    go : (b : Bool) → (if b then Err OutboxFull else Ok gives) ≡ Ok y → y ≡ gives
+    go true h = absurd (cc)
+    go false h = cc
+
+broadcast_ok : (some : Bool) (n y : Node) → broadcast some n ≡ Ok y → y ≡ with_sent n (delta_message n.replica) (without_delta n.replica)
+broadcast_ok true n y h = unless_full_ok n (with_sent n (delta_message n.replica) (without_delta n.replica)) y h
+broadcast_ok false n y h = absurd (cc)
+
+deliver_ok : (own : Bool) (n : Node) (m : Option Message) (y : Node) → (if own then Err OwnMessage else deliver n m) ≡ Ok y → (message : Message) × (m ≡ Some message) × (y ≡ with_replica n (merged message n.replica))
+deliver_ok true n m y h = absurd (cc)
+deliver_ok false n None y h = absurd (cc)
+deliver_ok false n (Some m) y h = (m, refl, unless_ok (merge_refusal n.replica m) (with_replica n (merged m n.replica)) y h)
+
+outbox_at : (y z : Node) → y ≡ z → y.outbox ≡ z.outbox
+outbox_at y z e = ap (λ (x : Node). x.outbox) e
+
+own_at : (y z : Node) → y ≡ z → y.replica.own ≡ z.replica.own
+own_at y z e = ap (λ (x : Node). x.replica.own) e
+
+took : (n : Node) (s : Operation) (m : Option Message) (y : Node) → take n s m ≡ Ok y → Took n s m y
+took n (Join p) m y h =
+    let gives = with_replica n (joined p n.replica) in
+    let e = unless_ok (join_refusal n.replica p.pid p.topic p.key) gives y h in
+    record { posts = outbox_at y gives e; was_read = tt; owns = own_at y gives e }
+took n Broadcast m y h =
+    let gives = with_sent n (delta_message n.replica) (without_delta n.replica) in
+    let e = broadcast_ok (has_dots n.replica.delta_seen) n y h in
+    record { posts = (delta_message n.replica, outbox_at y gives e); was_read = tt; owns = own_at y gives e }
+took n (Extract names) m y h =
+    let message = message_of_names (set.contains names) n.replica.own n.replica.seen n.replica.entries in
+    let gives = with_sent n message n.replica in
+    let e = unless_full_ok n gives y h in
+    record { posts = (message, outbox_at y gives e); was_read = tt; owns = own_at y gives e }
+took n (Deliver sender number) m y h =
+    let d = deliver_ok (sender == n.replica.own) n m y h in
+    let gives = with_replica n (merged d.0 n.replica) in
+    record { posts = outbox_at y gives d.2; was_read = (d.0, d.1); owns = own_at y gives d.2 }
+took n (Up name) m y h =
+    let gives = with_replica n (with_status name statuses.Up n.replica) in
+    let e = unless_ok (up_refusal n.replica name) gives y h in
+    record { posts = outbox_at y gives e; was_read = tt; owns = own_at y gives e }
+
+pub posts : (n : Node) (s : Operation) (m : Option Message) (y : Node) → take n s m ≡ Ok y → Posts (sends s) n.outbox y.outbox
+posts n s m y h = (took n s m y h).posts
+
+pub was_read : (n : Node) (s : Operation) (m : Option Message) (y : Node) → take n s m ≡ Ok y → WasRead (delivers s) m
+was_read n s m y h = (took n s m y h).was_read
+
+-- a node keeps its name
 pub owns : (n : Node) (s : Operation) (m : Option Message) (y : Node) → take n s m ≡ Ok y → y.replica.own ≡ n.replica.own
-owns n (Join p) m y h = ap (λ (x : Node). x.replica.own) (took_join n p m y h)
+owns n s m y h = (took n s m y h).owns

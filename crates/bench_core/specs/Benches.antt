@@ -1,11 +1,15 @@
 -- What a bench keeps, and what a step of one of its nodes and a step back are answered.
-use Rattle.std.specs.Prelude.{◌≡◌, ◌≢◌, ℕ, ◌+◌, ◌≤◌, List, length, slice_get, slice_set, Option, Some, Result, Ok, Err}
-use Rattle.bench_core.specs.declared.step_fault.StepFault.{StepFault}
-use Rattle.bench_core.specs.declared.step_fault.StepFault.TheVariants.{OutOfMemory}
+use Rattle.std.specs.Prelude.{◌≡◌, ◌≢◌, ℕ, ◌+◌, ◌≤◌, List, length, slice_get, slice_set, Option, Some, None, Result, Ok, Err}
+use Rattle.node_core.specs.declared.inverse.Inverse as declared
+use Rattle.node_core.specs.declared.step_fault.StepFault.{StepFault}
+use Rattle.node_core.specs.declared.step_fault.StepFault.TheVariants.{OutOfMemory}
+use Rattle.node_core.specs.Operations.{Operation}
+use Rattle.node_core.specs.Nodes.{Node, take}
+use Rattle.node_core.specs.Inverses.{Inverse, plain_inverse, LeadsBack}
+use Rattle.journal_core.specs.Journals.{first_consequence}
+use Rattle.journal_core.specs.Holdings.{Held, kepts, find_held, inverse_of, AreAllHeld}
 use Rattle.bench_core.specs.Limits.{node_limits}
-use Rattle.bench_core.specs.Operations.{Operation}
-use Rattle.bench_core.specs.Nodes.{Node, take, Inverse, LeadsBack}
-use Rattle.bench_core.specs.Chains.{Held, find_held, inverse_of, Chain}
+use Rattle.bench_core.specs.Chains.{Chain}
 use Rattle.bench_core.specs.Clusters.{Cluster, step, opening_of, message_for, fault_of}
 use Rattle.bench_core.specs.Machine.{Config, State, Machine, config_of, given, now}
 use Rattle.bench_core.specs.Headline.{IsReached}
@@ -23,6 +27,11 @@ pub record IsBench (c : Config) (s : State) (nodes : Cluster) (hs : List Held) (
   pub fits : length s.history + length s.remaining ≤ c.limits.acts
   pub bound : c.limits.acts ≤ 1000000
   pub size : length nodes ≡ c.nodes
+  pub few : c.nodes ≤ 32
+
+-- each node has its place for its name
+abbrev pub IsNumbered : Cluster → Type 0
+IsNumbered c = (n : ℕ) (x : Node) → slice_get c n ≡ Some x → x.replica.own ≡ n
 
 -- the step of node n was accepted, and its inverse leads back
 pub record IsTaken (c : Cluster) (n : ℕ) (s : Operation) (i : Inverse) (d : Cluster) : Type 0 where
@@ -34,12 +43,14 @@ pub record IsTaken (c : Cluster) (n : ℕ) (s : Operation) (i : Inverse) (d : Cl
   pub gives : d ≡ slice_set c n later
 
 -- a step of node n was accepted, or refused, memory apart, for the fault of the definition, and nothing changed
-abbrev pub Steps : Cluster → ℕ → Operation → Result Inverse StepFault → Cluster → Type 0
-Steps c n s (Ok i) d = IsTaken c n s i d
+abbrev pub Steps : {X : Type 0} → Cluster → ℕ → Operation → Result (declared.Inverse X) StepFault → Cluster → Type 0
+Steps c n s (Ok i) d = IsTaken c n s (plain_inverse i) d
 Steps c n s (Err fault) d = (d ≡ c) × (fault ≢ OutOfMemory → step c n s ≡ Err (fault_of fault))
 
--- step n, of this node, can be taken back: its inverse leads back from the node
+-- step n, of this node, can be taken back: nothing follows from it, no inverse is lent, and its own leads back from the node
 pub record IsBackable (nodes : Cluster) (hs : List Held) (n node : ℕ) : Type 0 where
+  pub free : first_consequence (kepts hs) n ≡ None
+  pub whole : AreAllHeld hs
   pub inverse : Inverse
   pub kept : inverse_of (find_held hs n) ≡ Some inverse
   pub earlier : Node

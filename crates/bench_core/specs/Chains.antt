@@ -1,54 +1,11 @@
--- The remaining steps with their inverses beside them, and that these lead back along the run.
-use Rattle.std.specs.Prelude.{◌≡◌, ℕ, ◌+◌, ◌==◌, if◌then◌else◌, Bool, List, [], ◌∷◌, ◌++◌, slice_get, Option, Some, None, option_map, Result, Ok, Err, refl}
-use Rattle.std.specs.Coded.{Coded, code_by, coded×, coded_list, coded_option, coded_bool}
+-- That the inverses of the remaining steps lead back along their run (Danos and Krivine).
+use Rattle.std.specs.Prelude.{◌≡◌, ℕ, ◌==◌, if◌then◌else◌, List, [], ◌∷◌, ◌++◌, slice_get, Some, Result, Ok, Err}
+use Rattle.replica_core.specs.declared.node_limits.NodeLimits.{NodeLimits}
+use Rattle.node_core.specs.Nodes.{Node, opening_node, take}
+use Rattle.node_core.specs.Inverses.{Inverse, LeadsBack}
+use Rattle.journal_core.specs.Holdings.{Held}
 use Rattle.bench_core.specs.declared.fault.Fault.{Fault}
-use Rattle.bench_core.specs.declared.node_limits.NodeLimits.{NodeLimits}
-use Rattle.bench_core.specs.Nodes.{Node, opening_node, take, Inverse, inverse_code, LeadsBack}
-use Rattle.bench_core.specs.Journals.{Kept, kept_code}
 use Rattle.bench_core.specs.Clusters.{Cluster, message_for, step}
-
--- a step, and its inverse unless that is lent
-pub record Held : Type 0 where
-  pub kept : Kept
-  pub inverse : Option Inverse
-
--- the remaining steps, and whether there is room for one more
-pub record Journal : Type 0 where
-  pub steps : List Held
-  pub ready : Bool
-
-abbrev pub held_code : Coded Held
-held_code = code_by (Kept × Option Inverse) (coded× kept_code (coded_option inverse_code)) (λ h. (h.kept, h.inverse)) (λ t. record { kept = t.0; inverse = t.1 }) (λ _. refl)
-
-abbrev pub journal_code : Coded Journal
-journal_code = code_by (List Held × Bool) (coded× (coded_list held_code) coded_bool) (λ j. (j.steps, j.ready)) (λ t. record { steps = t.0; ready = t.1 }) (λ _. refl)
-
--- the steps without their inverses
-abbrev pub kepts : List Held → List Kept
-kepts [] = []
-kepts (h ∷ hs) = h.kept ∷ kepts hs
-
-abbrev pub find_held : List Held → ℕ → Option Held
-find_held [] n = None
-find_held (h ∷ hs) n = if h.kept.number == n then Some h else find_held hs n
-
--- the place of step n, from 0
-abbrev pub place_of : List Held → ℕ → Option ℕ
-place_of [] n = None
-place_of (h ∷ hs) n = if h.kept.number == n then Some 0 else option_map (λ p. p + 1) (place_of hs n)
-
-abbrev pub inverse_of : Option Held → Option Inverse
-inverse_of None = None
-inverse_of (Some h) = h.inverse
-
--- the steps with this beside step n
-abbrev pub with_inverse : List Held → ℕ → Option Inverse → List Held
-with_inverse [] n o = []
-with_inverse (h ∷ hs) n o = if h.kept.number == n then record { kept = h.kept; inverse = o } ∷ hs else h ∷ with_inverse hs n o
-
-abbrev pub without_held : List Held → ℕ → List Held
-without_held [] n = []
-without_held (h ∷ hs) n = if h.kept.number == n then hs else h ∷ without_held hs n
 
 -- the inverse kept beside a step leads from its node just after it back to its node just before it
 pub record Link (c : Cluster) (h : Held) : Type 0 where

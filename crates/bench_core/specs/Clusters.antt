@@ -2,13 +2,13 @@
 use Rattle.std.specs.Prelude.{ℕ, zero, suc, ◌+◌, nat_lt, if◌then◌else◌, List, [], ◌∷◌, length, slice_get, slice_set, Option, Some, None, Result, Ok, Err}
 use Rattle.std.specs.List.{list_all}
 use Rattle.payload_core.specs.Messages.{Message, numbered}
-use Rattle.bench_core.specs.declared.step_fault.StepFault.{StepFault}
-use Rattle.bench_core.specs.declared.step_fault.StepFault.TheVariants as step_faults
+use Rattle.node_core.specs.declared.step_fault.StepFault.{StepFault}
+use Rattle.node_core.specs.declared.step_fault.StepFault.TheVariants as step_faults
 use Rattle.bench_core.specs.declared.fault.Fault.{Fault}
-use Rattle.bench_core.specs.declared.fault.Fault.TheVariants.{AlreadyTracked, EntriesFull, ClockFull, UnknownNode, OutOfMemory}
-use Rattle.bench_core.specs.declared.node_limits.NodeLimits.{NodeLimits}
-use Rattle.bench_core.specs.Operations.{Operation, delivers, named_in}
-use Rattle.bench_core.specs.Nodes.{Node, opening_node, take}
+use Rattle.bench_core.specs.declared.fault.Fault.TheVariants.{OwnReplica, AlreadyTracked, NothingToSend, EntriesFull, ClockFull, OwnMessage, NoSuchMessage, OutboxFull, UnknownNode, OutOfMemory}
+use Rattle.replica_core.specs.declared.node_limits.NodeLimits.{NodeLimits}
+use Rattle.node_core.specs.Operations.{Operation, delivers, named_in}
+use Rattle.node_core.specs.Nodes.{Node, opening_node, take}
 
 -- the nodes by number
 abbrev pub Cluster : Type 0
@@ -36,9 +36,14 @@ message_for c s = message_at c (delivers s)
 
 -- a node's fault as a fault of the bench
 abbrev pub fault_of : StepFault → Fault
+fault_of step_faults.OwnReplica = OwnReplica
 fault_of step_faults.AlreadyTracked = AlreadyTracked
+fault_of step_faults.NothingToSend = NothingToSend
 fault_of step_faults.EntriesFull = EntriesFull
 fault_of step_faults.ClockFull = ClockFull
+fault_of step_faults.OwnMessage = OwnMessage
+fault_of step_faults.NoSuchMessage = NoSuchMessage
+fault_of step_faults.OutboxFull = OutboxFull
 fault_of step_faults.OutOfMemory = OutOfMemory
 
 abbrev pub of_node : Result Node StepFault → Result Node Fault

@@ -1,15 +1,16 @@
 -- What holds of the machine, whatever is asked of it.
-use Rattle.std.specs.Prelude.{◌≡◌, ◌⊎◌, ℕ, ◌+◌, ◌≤◌, List, length, Some, None, Ok}
+use Rattle.std.specs.Prelude.{◌≡◌, ◌⊎◌, ℕ, ◌+◌, ◌<◌, ◌≤◌, List, length, Some, None, Ok}
 use Rattle.bench_core.specs.declared.reply.Reply.{Reply}
 use Rattle.bench_core.specs.declared.reply.Reply.TheVariants.{Taken, Undone, Refused}
 use Rattle.bench_core.specs.declared.fault.Fault.TheVariants.{HasConsequence, OutOfMemory}
 use Rattle.bench_core.specs.Limits.{node_limits}
-use Rattle.bench_core.specs.Operations.{Operation, Action, Do, Undo}
+use Rattle.node_core.specs.Operations.{Operation}
+use Rattle.bench_core.specs.Acts.{Action, Do, Undo, Back}
 use Rattle.bench_core.specs.Clusters.{Cluster}
-use Rattle.bench_core.specs.Journals.{Kept, RisesAbove, find_number, first_consequence, without, before}
+use Rattle.journal_core.specs.Journals.{Kept, RisesAbove, find_number, first_consequence, last_of, without, before}
 use Rattle.bench_core.specs.Runs.{runs}
 use Rattle.bench_core.specs.Laws.{put_back}
-use Rattle.bench_core.specs.Machine.{Config, State, opening_state, calls, call, reply_to, now, Machine, config_of, cluster_of, AnswersAs}
+use Rattle.bench_core.specs.Machine.{Config, State, opening_state, calls, call, reply_to, now, Machine, cluster_of, AnswersAs}
 
 -- a state that some calls lead to
 abbrev pub IsReached : Config → State → Type 0
@@ -48,7 +49,7 @@ UndoLaw = (c : Config) (s : State) (actor : ℕ) (step : Kept) (cluster : Cluste
 
 -- how the undo ends that comes next after a step, where the bench was `old` before the step and `new` after it
 pub data UndoneAtOnce (old new : Machine) (k : ℕ) (reply : Reply) (later : Machine) : Type 0 where
-  Back : reply ≡ Undone k → later.state.remaining ≡ old.state.remaining → cluster_of later ≡ cluster_of old → UndoneAtOnce old new k reply later
+  TakenBack : reply ≡ Undone k → later.state.remaining ≡ old.state.remaining → cluster_of later ≡ cluster_of old → UndoneAtOnce old new k reply later
   NoMemory : reply ≡ Refused OutOfMemory → later ≡ new → UndoneAtOnce old new k reply later
 
 -- a step that was taken can be taken back at once, by whoever
@@ -56,13 +57,22 @@ abbrev pub CanBeTakenBack : Machine → Reply → Machine → Type 0
 CanBeTakenBack old (Taken k) new = (other : ℕ) (reply : Reply) (later : Machine) → AnswersAs new other (Undo k) reply later → UndoneAtOnce old new k reply later
 CanBeTakenBack old _ new = Unit {0}
 
--- how the undo of remaining step k ends: it is made; or its least direct consequence is named, and neither cluster nor remaining steps change; or memory was refused, and nothing changed
+-- of this node alone the cluster has changed, to what the node was just before its step k
+pub record NodeGoesBack (old : Machine) (k node : ℕ) (new : Machine) : Type 0 where
+  pub cluster : Cluster
+  pub earlier : Cluster
+  pub was : cluster_of old ≡ Ok cluster
+  pub just_before : runs (node_limits old.limits) (length old.names) (before old.state.remaining k) ≡ Ok earlier
+  pub becomes : cluster_of new ≡ Ok (put_back node earlier cluster)
+
+-- how the undo of remaining step k ends: it is made, and its node alone goes back; or its least direct consequence is named, and neither cluster nor remaining steps change; or memory was refused, and nothing changed
 pub data UndoEnds (old : Machine) (k : ℕ) (reply : Reply) (new : Machine) : Type 0 where
-  Made : first_consequence old.state.remaining k ≡ None → reply ≡ Undone k → new.state.remaining ≡ without old.state.remaining k → UndoEnds old k reply new
+  Made : first_consequence old.state.remaining k ≡ None → reply ≡ Undone k → new.state.remaining ≡ without old.state.remaining k → (step : Kept) → find_number old.state.remaining k ≡ Some step → NodeGoesBack old k step.node new → UndoEnds old k reply new
   IsHeld : (held_by : ℕ) → first_consequence old.state.remaining k ≡ Some held_by → reply ≡ Refused (HasConsequence k held_by) → new.state.remaining ≡ old.state.remaining → cluster_of new ≡ cluster_of old → UndoEnds old k reply new
   Unmade : reply ≡ Refused OutOfMemory → new ≡ old → UndoEnds old k reply new
 
--- an undo of a remaining step is refused only for a named consequence
+-- an undo of a remaining step, or of the last one of a node, is refused only for a named consequence
 abbrev pub RefusedOnlyForConsequence : Machine → Action → Reply → Machine → Type 0
 RefusedOnlyForConsequence old (Do operation) reply new = Unit {0}
 RefusedOnlyForConsequence old (Undo k) reply new = (step : Kept) → find_number old.state.remaining k ≡ Some step → UndoEnds old k reply new
+RefusedOnlyForConsequence old (Back node) reply new = (k : ℕ) → node < length old.names → last_of old.state.remaining node ≡ Some k → UndoEnds old k reply new

@@ -1,14 +1,15 @@
 -- The laws of runs (Danos and Krivine: the loop, and the undo of a step whose consequences are gone).
 use Rattle.std.specs.Prelude.{◌≡◌, ℕ, List, [], ◌∷◌, ◌++◌, Some, None, Result, Ok, Err, slice_get, slice_set}
 use Rattle.std.specs.Option.{option_map, unwrap_or}
-use Rattle.bench_core.specs.declared.step_fault.StepFault.{StepFault}
-use Rattle.bench_core.specs.declared.node_limits.NodeLimits.{NodeLimits}
-use Rattle.bench_core.specs.Operations.{Operation}
-use Rattle.bench_core.specs.Nodes.{Node, opening_node, take}
+use Rattle.node_core.specs.declared.step_fault.StepFault.{StepFault}
+use Rattle.replica_core.specs.declared.node_limits.NodeLimits.{NodeLimits}
+use Rattle.node_core.specs.Operations.{Operation}
+use Rattle.node_core.specs.Nodes.{Node, opening_node, take}
 use Rattle.bench_core.specs.Clusters.{Cluster, opening_of, message_for, step}
-use Rattle.bench_core.specs.Journals.{Kept, RisesAbove, own_steps, find_number, first_consequence, without, before}
+use Rattle.journal_core.specs.Journals.{Kept, RisesAbove, own_steps, find_number, first_consequence, without, before}
 use Rattle.bench_core.specs.Runs.{runs}
-use Rattle.bench_core.specs.Chains.{Held, kepts, Chain, OwnChains}
+use Rattle.journal_core.specs.Holdings.{Held, kepts}
+use Rattle.bench_core.specs.Chains.{Chain, OwnChains}
 
 -- the journal with one more step at its end
 abbrev pub added : List Kept → ℕ → ℕ → Operation → List Kept

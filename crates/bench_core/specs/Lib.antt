@@ -2,11 +2,8 @@ pub mod NameText
 pub mod NameList
 pub mod Limits
 pub mod FaultText
-pub mod Operations
-pub mod Replicas
-pub mod Nodes
+pub mod Acts
 pub mod Clusters
-pub mod Journals
 pub mod Runs
 pub mod Chains
 pub mod Machine

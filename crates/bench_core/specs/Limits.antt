@@ -1,6 +1,6 @@
 -- How much a bench may hold.
 use Rattle.std.specs.Prelude.{ℕ, ◌≤◌}
-use Rattle.bench_core.specs.declared.node_limits.NodeLimits.{NodeLimits}
+use Rattle.replica_core.specs.declared.node_limits.NodeLimits.{NodeLimits}
 
 -- events and remaining steps together; and of one node its entries, its own clock and its messages
 pub record Limits : Type 0 where

@@ -1,15 +1,17 @@
 -- The machine: a history of calls, and the journal of the steps that remain. It knows no inverse and no index.
-use Rattle.std.specs.Prelude.{◌≡◌, ℕ, ◌+◌, ◌-◌, ◌==◌, ◌&&◌, ◌||◌, not, nat_lt, Bool, true, false, if◌then◌else◌, List, [], ◌∷◌, ◌++◌, length, count_by, Option, Some, None, Result, Ok, Err}
+use Rattle.std.specs.Prelude.{◌≡◌, ℕ, ◌+◌, ◌-◌, ◌==◌, ◌&&◌, ◌||◌, not, nat_lt, Bool, true, false, if◌then◌else◌, List, [], ◌∷◌, ◌++◌, length, count_by, Option, Some, None, Result, Ok, Err, refl}
+use Rattle.std.specs.Coded.{Coded, code_by, coded×, coded_ℕ, coded_list}
 use Rattle.std.specs.List.{list_all}
 use Rattle.payload_core.specs.Answers.{◌>>=◌}
 use Rattle.bench_core.specs.declared.reply.Reply.{Reply}
 use Rattle.bench_core.specs.declared.reply.Reply.TheVariants.{Taken, Undone, Refused}
 use Rattle.bench_core.specs.declared.fault.Fault.{Fault}
-use Rattle.bench_core.specs.declared.fault.Fault.TheVariants.{UnknownNode, NoSuchStep, AlreadyUndone, HasConsequence, HistoryFull, OutOfMemory}
+use Rattle.bench_core.specs.declared.fault.Fault.TheVariants.{UnknownNode, NoSuchStep, AlreadyUndone, NothingToUndo, HasConsequence, HistoryFull, OutOfMemory}
 use Rattle.bench_core.specs.NameList.{Texts}
 use Rattle.bench_core.specs.Limits.{Limits, node_limits}
-use Rattle.bench_core.specs.Operations.{Operation, named_in, Action, Do, Undo}
-use Rattle.bench_core.specs.Journals.{Kept, find_number, first_consequence, without}
+use Rattle.node_core.specs.Operations.{Operation, named_in}
+use Rattle.bench_core.specs.Acts.{Action, Do, Undo, Back, action_code}
+use Rattle.journal_core.specs.Journals.{Kept, kept_code, find_number, first_consequence, last_of, without}
 use Rattle.bench_core.specs.Clusters.{Cluster, step}
 use Rattle.bench_core.specs.Runs.{runs}
 
@@ -18,6 +20,9 @@ pub record Event : Type 0 where
   pub actor : ℕ
   pub act : Action
   pub reply : Reply
+
+abbrev pub event_code : Coded Reply → Coded Event
+event_code reply_code = code_by (ℕ × (Action × Reply)) (coded× coded_ℕ (coded× action_code reply_code)) (λ e. (e.actor, (e.act, e.reply))) (λ t. record { actor = t.0; act = t.1.0; reply = t.1.1 }) (λ _. refl)
 
 -- what no call changes: how many nodes there are, and the limits
 pub record Config : Type 0 where
@@ -60,6 +65,10 @@ undo_found ks k (Some _) = unheld k (first_consequence ks k)
 abbrev pub undo_reply : State → ℕ → Reply
 undo_reply s k = if (k == 0) || nat_lt (given s.history) k then Refused NoSuchStep else undo_found s.remaining k (find_number s.remaining k)
 
+abbrev pub back_reply : State → Option ℕ → Reply
+back_reply s None = Refused NothingToUndo
+back_reply s (Some k) = undo_reply s k
+
 abbrev pub step_reply : ℕ → Result Cluster Fault → Reply
 step_reply n (Ok c) = Taken n
 step_reply n (Err e) = Refused e
@@ -78,6 +87,7 @@ do_reply c s actor operation =
 abbrev pub reply_to : Config → State → ℕ → Action → Reply
 reply_to c s actor (Do operation) = do_reply c s actor operation
 reply_to c s actor (Undo k) = undo_reply s k
+reply_to c s actor (Back node) = if nat_lt node c.nodes then back_reply s (last_of s.remaining node) else Refused UnknownNode
 
 abbrev pub with_step : List Kept → ℕ → ℕ → Action → List Kept
 with_step ks number actor (Do operation) = ks ++ record { number = number; node = actor; step = operation } ∷ []
@@ -121,6 +131,17 @@ pub record Machine : Type 0 where
   pub names : Texts
   pub limits : Limits
   pub state : State
+
+abbrev limits_code : Coded Limits
+limits_code = code_by (ℕ × (ℕ × (ℕ × ℕ))) (coded× coded_ℕ (coded× coded_ℕ (coded× coded_ℕ coded_ℕ))) (λ l. (l.acts, (l.entries, (l.clock, l.messages)))) (λ t. record { acts = t.0; entries = t.1.0; clock = t.1.1.0; messages = t.1.1.1 }) (λ _. refl)
+
+abbrev state_code : Coded Reply → Coded State
+state_code reply_code = code_by (List Event × List Kept) (coded× (coded_list (event_code reply_code)) (coded_list kept_code)) (λ s. (s.history, s.remaining)) (λ t. record { history = t.0; remaining = t.1 }) (λ _. refl)
+
+abbrev pub machine_code : Coded Reply → Coded Machine
+machine_code reply_code =
+    code_by (Texts × (Limits × State)) (coded× (coded_list (coded_list coded_ℕ)) (coded× limits_code (state_code reply_code)))
+    (λ m. (m.names, (m.limits, m.state))) (λ t. record { names = t.0; limits = t.1.0; state = t.1.1 }) (λ _. refl)
 
 abbrev pub config_of : Machine → Config
 config_of m = record { nodes = length m.names; limits = m.limits }

@@ -1,8 +1,8 @@
 -- What a journal gives: its steps taken in order, from empty nodes.
 use Rattle.std.specs.Prelude.{ℕ, List, [], ◌∷◌, Result, Ok, Err}
 use Rattle.bench_core.specs.declared.fault.Fault.{Fault}
-use Rattle.bench_core.specs.declared.node_limits.NodeLimits.{NodeLimits}
-use Rattle.bench_core.specs.Journals.{Kept}
+use Rattle.replica_core.specs.declared.node_limits.NodeLimits.{NodeLimits}
+use Rattle.journal_core.specs.Journals.{Kept}
 use Rattle.bench_core.specs.Clusters.{Cluster, opening_of, step}
 
 -- what has been reached, taken through the steps in order

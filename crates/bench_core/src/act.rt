@@ -1,9 +1,8 @@
 //! `Act`: what a bench is asked.
 ghost use Rattle.std.specs.Prelude.{◌≡◌, ◌↔◌, IsTrue, IfOk};
-ghost use Rattle.bench_core.specs.Operations.{plain_act};
+ghost use Rattle.bench_core.specs.Acts.{plain_act};
 
-use crate::step::Step;
-use payload_core::Oom;
+use node_core::{Oom, Step};
 use std::alloc::Allocator;
 
 /// What a bench is asked.
@@ -13,6 +12,8 @@ pub enum Act<A: Allocator> {
     Do(Step<A>),
     /// To take the step of this number back. Any number may ask it.
     Undo(u64),
+    /// To take the last step of this node back. Any number may ask it.
+    Back(u16),
 }
 
 impl<A: Allocator> Act<A> {
@@ -23,6 +24,7 @@ impl<A: Allocator> Act<A> {
         match (self, other) {
             (Act::Do(step), Act::Do(other)) => step.same(other),
             (Act::Undo(number), Act::Undo(other)) => number == other,
+            (Act::Back(node), Act::Back(other)) => node == other,
             _ => false,
         }
     }
@@ -36,6 +38,7 @@ impl<A: Allocator> Act<A> {
         match self {
             Act::Do(step) => Ok(Act::Do(step.try_copy()?)),
             Act::Undo(number) => Ok(Act::Undo(*number)),
+            Act::Back(node) => Ok(Act::Back(*node)),
         }
     }
 }

@@ -1,56 +1,100 @@
 //! `Bench`: the machine over its nodes, its journal and its history.
-ghost use Rattle.std.specs.Prelude.{◌≡◌, ◌≢◌, ◌<◌, ◌≤◌, IfOk, OnOk, OnErr, IsTrue, length, true, nat_lt, slice_get, option_copied, option_map};
+ghost use Rattle.std.specs.Prelude.{◌≡◌, ◌≢◌, ◌<◌, ◌≤◌, ◌+◌, IfOk, OnOk, OnErr, IsTrue, length, true, nat_lt, slice_get, option_copied, option_map};
 ghost use Rattle.std.specs.List.{list_all};
+ghost use Rattle.std.specs.FinSet as set;
+ghost use Rattle.replica_core.specs.Limits.{AreNodeLimits};
+ghost use Rattle.node_core.specs.Operations.{named_in, plain};
+ghost use Rattle.journal_core.specs.Holdings.{without_held, kepts};
 ghost use Rattle.bench_core.specs.declared.fault.Fault.TheVariants.{HistoryFull};
 ghost use Rattle.bench_core.specs.declared.reply.Reply.TheVariants.{Refused};
-ghost use Rattle.bench_core.specs.Operations.{named_in, plain, plain_act, calls_of, Do};
-ghost use Rattle.bench_core.specs.Chains.{without_held, kepts};
-ghost use Rattle.bench_core.specs.Clusters.{opening_of};
+ghost use Rattle.bench_core.specs.Acts.{plain_act, calls_of, Do, Back};
+ghost use Rattle.bench_core.specs.Clusters.{opening_of, message_for};
 ghost use Rattle.bench_core.specs.Machine.{config_of, given, free_places, knows, reply_to, undo_reply, opening_machine, AnswersAs, AllAnswered};
 ghost use Rattle.bench_core.specs.Headline.{IsReached, CanBeTakenBack, RefusedOnlyForConsequence};
-ghost use Rattle.bench_core.specs.Benches.{GoesBack, IsBackable, IsNodeOf, Steps};
+ghost use Rattle.bench_core.specs.Benches.{GoesBack, IsBackable, IsNodeOf, IsNumbered, Steps};
 
 use crate::act::Act;
 use crate::fault::Fault;
 use crate::history::{Event, History};
-use crate::journal::{Journal, Kept};
 use crate::limits::Limits;
 use crate::names::Names;
-use crate::node::{Inverse, Node};
-use crate::node_limits::NodeLimits;
 use crate::reply::Reply;
-use crate::step::Step;
-use crate::step_fault::StepFault;
-use payload_core::Oom;
+use dots_core::NameSet;
+use journal_core::Journal;
+use journal_core::laws::loan_law;
+use node_core::{Inverse, Meter, Node, NodeLimits, Oom, Step, StepFault};
+use payload_core::Payload;
 use std::alloc::Allocator;
 use std::marker::Model;
+use std::mem;
 
-/// A step of one node.
+/// Whether each of these names is one of the first `count` numbers.
+fn are_below(names: NameSet, count: u16) -> bool
+    requires { count ≤ 32 }
+    ensures { result ≡ list_all (λ name. nat_lt name count) (set.items names) }
+{
+    let mut others = names;
+    for name in 0..count {
+        others = others.without(name);
+    }
+    others.same(NameSet::empty())
+}
+
+/// The message that a step delivers.
+fn message<'x, 'a, B: Allocator>(
+    nodes: &'x [Node<'a, B>],
+    step: &Step<&'a B>,
+) -> Option<&'x Payload<&'a B>>
+    ensures { option_map (λ m. m.now) result ≡ message_for nodes.now (plain step.now) }
+{
+    let (sender, number) = step.delivers()?;
+    nodes.get(sender as usize)?.outbox().get(number)
+}
+
+/// A step of one node; a delivery is given the message of the other. While the node takes it, an empty one stands in its
+/// place, so that the message can be lent from among the others: no step reads a message of its own node.
 fn step_node<'a, B: Allocator>(
-    nodes: &mut Vec<Node<&'a B>, &'a B>,
+    nodes: &mut Vec<Node<'a, B>, &'a B>,
     actor: u16,
     step: &Step<&'a B>,
+    meter: &mut Meter,
 ) -> Result<Inverse<&'a B>, StepFault>
     requires there { actor < length nodes.old.items }
+    requires few { length nodes.old.items ≤ 32 }
     requires named { list_all (λ k. nat_lt k (length nodes.old.items)) (named_in (plain step.now)) ≡ true }
-    ensures { Steps nodes.old.items actor (plain step.now) result nodes.new.items }
+    requires numbered { IsNumbered nodes.old.items }
+    requires meter { meter.old.count < 18446744073709551615 }
+    ensures steps { Steps nodes.old.items actor (plain step.now) result nodes.new.items }
+    ensures ticks { OnOk result (meter.new.count ≡ meter.old.count + 1) }
+    ensures no_tick { OnErr result (meter.new.count ≡ meter.old.count) }
 {
-    nodes[actor as usize].take(step)
+    let limits = NodeLimits {
+        entries: 1,
+        clock: 1,
+        messages: 1,
+    };
+    let other = Node::new(*nodes.allocator(), 0, limits);
+    let place = &mut nodes[actor as usize];
+    let mut receiver = mem::replace(place, other);
+    let result = receiver.take(step, message(nodes.as_slice(), step), meter);
+    nodes[actor as usize] = receiver;
+    result
 }
 
 /// Takes step `number`, of this node, back by its inverse.
 fn take_back<'a, B: Allocator>(
-    nodes: &mut Vec<Node<&'a B>, &'a B>,
+    nodes: &mut Vec<Node<'a, B>, &'a B>,
     journal: &mut Journal<'a, B>,
     number: u64,
     node: u16,
 ) -> Result<(), Oom>
     requires { IsBackable nodes.old.items journal.old.steps number node }
     ensures node { OnOk result (GoesBack nodes.old.items journal.old.steps number node nodes.new.items) }
-    ensures journal { OnOk result (journal.new ≡ record { steps = without_held journal.old.steps number; ready = journal.old.ready }) }
+    ensures journal { OnOk result (journal.new ≡ record { nodes = journal.old.nodes; steps = without_held journal.old.steps number; room = journal.old.room }) }
     ensures err { OnErr result (nodes.new.items ≡ nodes.old.items) }
     ensures err_journal { OnErr result (journal.new ≡ journal.old) }
 {
+    loan_law();
     let inverse = journal.lend(number).unwrap();
     let place = &mut nodes[node as usize];
     if let Err((inverse, _)) = place.give_back(inverse) {
@@ -67,23 +111,26 @@ fn take_back<'a, B: Allocator>(
 pub struct Bench<'a, B: Allocator> {
     names: Names<&'a B>,
     limits: Limits,
-    nodes: Vec<Node<&'a B>, &'a B>,
+    nodes: Vec<Node<'a, B>, &'a B>,
     journal: Journal<'a, B>,
     history: History<'a, B>,
-    taken: u64,
+    meter: Meter,
 }
 
 impl<'a, B: Allocator> Model for Bench<'a, B> {
-    ghost use Rattle.std.specs.Prelude.{length};
-    ghost use Rattle.bench_core.specs.Chains.{kepts};
-    ghost use Rattle.bench_core.specs.Machine.{Machine};
+    ghost use Rattle.std.specs.Prelude.{◌≡◌, length};
+    ghost use Rattle.journal_core.specs.Holdings.{kepts};
+    ghost use Rattle.bench_core.specs.Machine.{Machine, machine_code};
     ghost use Rattle.bench_core.specs.Benches.{IsBench};
+    ghost use Rattle.bench_core.specs.contracts.reply.Reply.{the_row as reply_row};
 
     ghost Value = { Machine };
 
+    ghost coded = { machine_code reply_row.coded };
+
     ghost view = { λ b. record { names = b.names; limits = b.limits; state = record { history = b.history.events; remaining = kepts b.journal.steps } } };
 
-    ghost invariant = { λ b. IsBench (record { nodes = length b.names; limits = b.limits }) (record { history = b.history.events; remaining = kepts b.journal.steps }) b.nodes.items b.journal.steps b.taken };
+    ghost invariant = { λ b. IsBench (record { nodes = length b.names; limits = b.limits }) (record { history = b.history.events; remaining = kepts b.journal.steps }) b.nodes.items b.journal.steps b.meter.count × (b.journal.nodes ≡ length b.names) };
 }
 
 impl<'a, B: Allocator> Bench<'a, B> {
@@ -92,13 +139,14 @@ impl<'a, B: Allocator> Bench<'a, B> {
         ensures { IfOk result (λ b. b ≡ opening_machine names.entry limits) }
     {
         let nodes = open_nodes(alloc, names.len(), limits.of_node())?;
+        let journal = Journal::new(alloc, names.len() as u16)?;
         Ok(Bench {
             names,
             limits,
             nodes,
-            journal: Journal::new(alloc),
+            journal,
             history: History::new(alloc),
-            taken: 0,
+            meter: Meter::new(),
         })
     }
 
@@ -124,13 +172,14 @@ impl<'a, B: Allocator> Bench<'a, B> {
 
     /// The steps that remain.
     pub fn remaining(&self) -> &Journal<'a, B>
-        ensures { kepts result.now.steps ≡ self.now.state.remaining }
+        ensures steps { kepts result.now.steps ≡ self.now.state.remaining }
+        ensures nodes { result.now.nodes ≡ length self.now.names }
     {
         &self.journal
     }
 
     /// The node of this number, as the remaining steps give it from empty nodes.
-    pub fn node(&self, number: u16) -> Option<&Node<&'a B>>
+    pub fn node(&self, number: u16) -> Option<&Node<'a, B>>
         ensures { IsNodeOf self.now number (option_map (λ n. n.now) result) }
     {
         self.nodes.get(number as usize)
@@ -147,9 +196,14 @@ impl<'a, B: Allocator> Bench<'a, B> {
     fn knows(&self, actor: u16, step: &Step<&'a B>) -> bool
         ensures { result ≡ knows (config_of self.now) actor (plain step.now) }
     {
-        match step {
-            Step::Join { .. } => (actor as usize) < self.names.len(),
-        }
+        let count = self.names.len() as u16;
+        let are_known = match step {
+            Step::Join { .. } | Step::Broadcast => true,
+            Step::Extract { names } => are_below(*names, count),
+            Step::Deliver { sender, .. } => *sender < count,
+            Step::Up { name } => *name < count,
+        };
+        actor < count && are_known
     }
 
     /// How many steps were ever taken.
@@ -158,7 +212,7 @@ impl<'a, B: Allocator> Bench<'a, B> {
         ensures few { result ≤ 1000000 }
         ensures reached { IsReached (config_of self.now) self.now.state }
     {
-        self.taken
+        self.meter.count()
     }
 
     /// A refusal, recorded while a place is free.
@@ -195,11 +249,12 @@ impl<'a, B: Allocator> Bench<'a, B> {
         let Ok(act) = self.history.make_room(act) else {
             return Reply::Refused(Fault::OutOfMemory);
         };
-        if self.journal.make_room().is_err() {
+        if self.journal.make_room(actor, &step).is_err() {
             return Reply::Refused(Fault::OutOfMemory);
         }
-        match step_node(&mut self.nodes, actor, &step) {
+        match step_node(&mut self.nodes, actor, &step, &mut self.meter) {
             Err(fault) => {
+                drop(step);
                 if fault == StepFault::OutOfMemory {
                     return Reply::Refused(Fault::OutOfMemory);
                 }
@@ -208,15 +263,9 @@ impl<'a, B: Allocator> Bench<'a, B> {
                 reply
             }
             Ok(inverse) => {
-                self.taken += 1;
-                let number = self.taken;
+                let number = self.meter.count();
                 let reply = Reply::Taken(number);
-                let kept = Kept {
-                    number,
-                    node: actor,
-                    step,
-                };
-                self.journal.keep(kept, inverse).unwrap();
+                self.journal.keep(number, actor, step, inverse).unwrap();
                 self.history.record(Event { actor, act, reply });
                 reply
             }
@@ -252,7 +301,21 @@ impl<'a, B: Allocator> Bench<'a, B> {
         reply
     }
 
-    /// One call: a step of node `actor`, or an undo, which any number may ask.
+    /// The undo of the last step of a node, for which `act` asks.
+    fn back(&mut self, actor: u16, act: &Act<&'a B>, node: u16) -> Reply
+        requires { plain_act act.now ≡ Back node }
+        ensures { AnswersAs self.old actor (plain_act act.now) result self.new }
+    {
+        if node as usize >= self.names.len() {
+            return self.refuse(actor, act, Fault::UnknownNode);
+        }
+        let Some(number) = self.journal.last_of(node) else {
+            return self.refuse(actor, act, Fault::NothingToUndo);
+        };
+        self.undo(actor, act, number)
+    }
+
+    /// One call: a step of node `actor`, or a step back, which any number may ask.
     pub fn act(&mut self, actor: u16, act: &Act<&'a B>) -> Reply
         ensures answers { AnswersAs self.old actor (plain_act act.now) result self.new }
         ensures taken_back_at_once { CanBeTakenBack self.old result self.new }
@@ -267,6 +330,7 @@ impl<'a, B: Allocator> Bench<'a, B> {
                 }
                 self.undo(actor, act, *number)
             }
+            Act::Back(node) => self.back(actor, act, *node),
         }
     }
 
@@ -290,9 +354,9 @@ fn open_nodes<'a, B: Allocator>(
     alloc: &'a B,
     count: usize,
     limits: NodeLimits,
-) -> Result<Vec<Node<&'a B>, &'a B>, Oom>
+) -> Result<Vec<Node<'a, B>, &'a B>, Oom>
     requires few { count ≤ 32 }
-    requires bound { limits.clock ≤ 1000000000 }
+    requires limits { AreNodeLimits limits }
     ensures { IfOk result (λ nodes. nodes.items ≡ opening_of limits count) }
 {
     let mut nodes = Vec::with_capacity(alloc, count)?;

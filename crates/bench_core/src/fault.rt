@@ -1,23 +1,35 @@
 //! `Fault`: why a bench refuses an act.
-use crate::step_fault::StepFault;
+use node_core::StepFault;
 use std::error::Error;
 use std::fmt;
 
 /// Why a bench refuses an act.
 #[derive(Clone, Copy, Debug, PartialEq, Eq)]
 pub enum Fault {
+    /// A status of the own name.
+    OwnReplica,
     /// A join of a process, topic and key that an own entry has.
     AlreadyTracked,
-    /// The node holds as many entries as its limit.
+    /// A broadcast without a dot that wasn't sent yet.
+    NothingToSend,
+    /// The node would hold more entries than its limit.
     EntriesFull,
-    /// The own clock of the node is at its limit.
+    /// The own clock of the node would pass its limit.
     ClockFull,
-    /// The actor of a step is no node's number.
+    /// A delivery of a message of the node's own.
+    OwnMessage,
+    /// A delivery of a number that no message of the sender has.
+    NoSuchMessage,
+    /// The outbox holds as many messages as its limit.
+    OutboxFull,
+    /// The actor of a step, a number that a step names as a node, or that of a `Back`, is no node's.
     UnknownNode,
     /// The undo of a number that was never given.
     NoSuchStep,
     /// The undo of a number that was given and doesn't remain.
     AlreadyUndone,
+    /// A `Back` of a node of which no step remains.
+    NothingToUndo,
     /// The undo of `step` while `held_by`, its least direct consequence, remains.
     HasConsequence { step: u64, held_by: u64 },
     /// A step without two free places in the bound on acts.
@@ -34,9 +46,14 @@ impl From<StepFault> for Fault {
 
     fn from(fault: StepFault) -> Fault {
         match fault {
+            StepFault::OwnReplica => Fault::OwnReplica,
             StepFault::AlreadyTracked => Fault::AlreadyTracked,
+            StepFault::NothingToSend => Fault::NothingToSend,
             StepFault::EntriesFull => Fault::EntriesFull,
             StepFault::ClockFull => Fault::ClockFull,
+            StepFault::OwnMessage => Fault::OwnMessage,
+            StepFault::NoSuchMessage => Fault::NoSuchMessage,
+            StepFault::OutboxFull => Fault::OutboxFull,
             StepFault::OutOfMemory => Fault::OutOfMemory,
         }
     }
@@ -51,12 +68,18 @@ impl fmt::Display for Fault {
 
     fn fmt<W: fmt::Write>(&self, f: &mut fmt::Formatter<W>) -> fmt::Result {
         match self {
+            Fault::OwnReplica => write!(f, "OwnReplica"),
             Fault::AlreadyTracked => write!(f, "AlreadyTracked"),
+            Fault::NothingToSend => write!(f, "NothingToSend"),
             Fault::EntriesFull => write!(f, "EntriesFull"),
             Fault::ClockFull => write!(f, "ClockFull"),
+            Fault::OwnMessage => write!(f, "OwnMessage"),
+            Fault::NoSuchMessage => write!(f, "NoSuchMessage"),
+            Fault::OutboxFull => write!(f, "OutboxFull"),
             Fault::UnknownNode => write!(f, "UnknownNode"),
             Fault::NoSuchStep => write!(f, "NoSuchStep"),
             Fault::AlreadyUndone => write!(f, "AlreadyUndone"),
+            Fault::NothingToUndo => write!(f, "NothingToUndo"),
             Fault::HasConsequence { step, held_by } => {
                 write!(f, "HasConsequence {step} by {held_by}")
             }

@@ -1,10 +1,10 @@
 //! `History`: the calls that were recorded, each with its reply.
 ghost use Rattle.std.specs.Prelude.{◌≡◌, ◌++◌, ◌∷◌, [], ◌<◌, ◌^◌, true, false, IfOk, OnOk, OnErr, IfErr, IsOk, option_copied, slice_get, length};
-ghost use Rattle.bench_core.specs.Operations.{plain_act};
+ghost use Rattle.bench_core.specs.Acts.{plain_act};
 
 use crate::act::Act;
 use crate::reply::Reply;
-use payload_core::Oom;
+use node_core::Oom;
 use std::alloc::Allocator;
 use std::marker::Model;
 
@@ -17,10 +17,13 @@ pub struct Event<A: Allocator> {
 }
 
 impl<A: Allocator> Model for Event<A> {
-    ghost use Rattle.bench_core.specs.Operations.{plain_act};
-    ghost use Rattle.bench_core.specs.Machine.{Event};
+    ghost use Rattle.bench_core.specs.Acts.{plain_act};
+    ghost use Rattle.bench_core.specs.Machine.{Event, event_code};
+    ghost use Rattle.bench_core.specs.contracts.reply.Reply.{the_row as reply_row};
 
     ghost Value = { Event };
+
+    ghost coded = { event_code reply_row.coded };
 
     ghost view = { λ e. record { actor = e.actor; act = plain_act e.act; reply = e.reply } };
 }
@@ -34,9 +37,12 @@ pub struct History<'a, B: Allocator> {
 
 impl<'a, B: Allocator> Model for History<'a, B> {
     ghost use Rattle.std.specs.Prelude.{◌≡◌, ◌<◌, true, vec_len, vec_capacity};
-    ghost use Rattle.bench_core.specs.Histories.{History};
+    ghost use Rattle.bench_core.specs.Histories.{History, history_code};
+    ghost use Rattle.bench_core.specs.contracts.reply.Reply.{the_row as reply_row};
 
     ghost Value = { History };
+
+    ghost coded = { history_code reply_row.coded };
 
     ghost view = { λ h. record { events = h.events.items; ready = h.ready } };
 

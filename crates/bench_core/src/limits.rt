@@ -1,9 +1,10 @@
 //! `Limits`: how much a bench may hold.
 ghost use Rattle.std.specs.Prelude.{◌≡◌};
 ghost use Rattle.std.specs.Option.{SomeIff};
+ghost use Rattle.replica_core.specs.Limits.{AreNodeLimits};
 ghost use Rattle.bench_core.specs.Limits.{AreLimits, node_limits};
 
-use crate::node_limits::NodeLimits;
+use node_core::NodeLimits;
 use std::marker::Model;
 
 /// Four limits, each in its range.
@@ -95,6 +96,7 @@ impl Limits {
     pub fn of_node(self) -> NodeLimits
         ensures value { result ≡ node_limits self }
         ensures range { AreLimits self }
+        ensures of_node { AreNodeLimits result }
     {
         NodeLimits {
             entries: self.entries,

@@ -1,3 +1,4 @@
 pub mod Loans
 pub mod Places
 pub mod Rising
+pub mod Rows

@@ -1,5 +1,5 @@
 -- A lent inverse, put back or taken out.
-use Rattle.std.proofs.Common.{◌≡◌, ℕ, ◌==◌, Bool, true, false, if◌then◌else◌, List, [], ◌∷◌, Option, Some, None, refl, sym, ap}
+use Rattle.std.proofs.Common.{◌≡◌, ℕ, ◌==◌, Bool, true, false, if◌then◌else◌, List, [], ◌∷◌, Some, None, refl, sym, ap}
 use Rattle.node_core.specs.Inverses.{Inverse}
 use Rattle.journal_core.specs.Holdings.{Held, find_held, inverse_of, with_inverse, without_held}
 

@@ -19,3 +19,6 @@ pub use node::Node;
 pub use replica_core::{NodeLimits, Oom};
 pub use step::Step;
 pub use step_fault::StepFault;
+
+#[cfg(test)]
+mod tests;

@@ -21,7 +21,7 @@ use std::marker::Model;
 #[derive(Drop)]
 pub struct Node<'a, B: Allocator> {
     replica: Replica<&'a B>,
-    outbox: Outbox<&'a B>,
+    outbox: Outbox<'a, B>,
 }
 
 impl<'a, B: Allocator> Model for Node<'a, B> {
@@ -47,7 +47,7 @@ impl<'a, B: Allocator> Node<'a, B> {
     }
 
     /// The messages that it sent, by number.
-    pub fn outbox(&self) -> &Outbox<&'a B>
+    pub fn outbox(&self) -> &Outbox<'a, B>
         ensures messages { result.now.messages ≡ self.now.outbox }
         ensures limit { result.now.limit ≡ self.now.replica.limits.messages }
     {

@@ -31,12 +31,12 @@ impl From<Oom> for OutboxFault {
 
 /// The messages of a node, numbered from 1 in the order in which they were sent, and at most a limit of them.
 #[derive(Drop)]
-pub struct Outbox<A: Allocator> {
+pub struct Outbox<'a, B: Allocator> {
     limit: u64,
-    messages: Vec<Payload<A>, A>,
+    messages: Vec<Payload<&'a B>, &'a B>,
 }
 
-impl<A: Allocator> Model for Outbox<A> {
+impl<'a, B: Allocator> Model for Outbox<'a, B> {
     ghost use Rattle.std.specs.Prelude.{◌-◌, ◌≤◌, length, vec_capacity, vec_len};
     ghost use Rattle.payload_core.specs.Outboxes.{Outbox, outbox_code};
 
@@ -49,9 +49,9 @@ impl<A: Allocator> Model for Outbox<A> {
     ghost invariant = { λ o. length o.messages.items ≤ o.limit };
 }
 
-impl<A: Allocator> Outbox<A> {
+impl<'a, B: Allocator> Outbox<'a, B> {
     /// An empty outbox for at most so many messages. It takes no memory.
-    pub fn new(alloc: A, messages: u64) -> Outbox<A>
+    pub fn new(alloc: &'a B, messages: u64) -> Outbox<'a, B>
         ensures limit { result.limit ≡ messages }
         ensures empty { result.messages ≡ [] }
     {
@@ -84,7 +84,7 @@ impl<A: Allocator> Outbox<A> {
     }
 
     /// The message of a number, counted from 1.
-    pub fn get(&self, number: u64) -> Option<&Payload<A>>
+    pub fn get(&self, number: u64) -> Option<&Payload<&'a B>>
         ensures { option_copied result ≡ numbered self.now.messages number }
     {
         match number {
@@ -94,7 +94,7 @@ impl<A: Allocator> Outbox<A> {
     }
 
     /// Takes the last message out; its number is free again. The room never falls.
-    pub fn pop(&mut self) -> Option<Payload<A>>
+    pub fn pop(&mut self) -> Option<Payload<&'a B>>
         ensures found { IsSome result ↔ (0 < length self.old.messages) }
         ensures messages { self.old.messages ≡ self.new.messages ++ option_to_list result }
         ensures limit { self.new.limit ≡ self.old.limit }
@@ -114,16 +114,16 @@ impl<A: Allocator> Outbox<A> {
 
     /// Puts a message behind the others, and gives its number. A fault gives the message back: `OutboxFull` comes
     /// first.
-    pub fn push(&mut self, payload: Payload<A>) -> Result<u64, (Payload<A>, OutboxFault)>
+    pub fn push(&mut self, payload: Payload<&'a B>) -> Result<u64, (Payload<&'a B>, OutboxFault)>
         ensures number { IfOk result (λ number. number ≡ length self.old.messages + 1) }
-        ensures ok { OnOk result (self.new.messages ≡ self.old.messages ++ payload ∷ []) }
+        ensures ok { OnOk result (self.new.messages ≡ self.old.messages ++ payload.entry ∷ []) }
         ensures limit { self.new.limit ≡ self.old.limit }
 
         ensures full { self.old.limit ≤ length self.old.messages → IsErrAnd result (λ failed. failed.1 ≡ OutboxFault.OutboxFull) }
         ensures full_only_at_limit { IfErr result (λ failed. failed.1 ≡ OutboxFault.OutboxFull → self.old.limit ≤ length self.old.messages) }
         ensures succeeds { 0 < self.old.room → length self.old.messages < self.old.limit → IsOk result }
         ensures err { OnErr result (self.new.messages ≡ self.old.messages) }
-        ensures given_back { IfErr result (λ failed. failed.0 ≡ payload) }
+        ensures given_back { IfErr result (λ failed. failed.0 ≡ payload.entry) }
     {
         if self.is_full() {
             return Err((payload, OutboxFault::OutboxFull));
@@ -135,7 +135,7 @@ impl<A: Allocator> Outbox<A> {
     }
 
     /// Whether both have the same limit and the same messages, whatever their room. It takes no memory.
-    pub fn same(&self, other: &Outbox<A>) -> bool
+    pub fn same(&self, other: &Outbox<'a, B>) -> bool
         ensures { IsTrue result ↔ ((self.now.limit ≡ other.now.limit) × (self.now.messages ≡ other.now.messages)) }
     {
         if self.limit != other.limit || self.len() != other.len() {
@@ -150,9 +150,7 @@ impl<A: Allocator> Outbox<A> {
     }
 
     /// An outbox with the same limit and the same messages.
-    pub fn try_copy(&self) -> Result<Outbox<A>, Oom>
-    where
-        A: Copy,
+    pub fn try_copy(&self) -> Result<Outbox<'a, B>, Oom>
         ensures limit { IfOk result (λ copy. copy.limit ≡ self.now.limit) }
         ensures messages { IfOk result (λ copy. copy.messages ≡ self.now.messages) }
     {

@@ -2,7 +2,7 @@
 use Rattle.std.proofs.Common.{◌≡◌, ℕ, Bool, true, false, ◌||◌, List, [], ◌∷◌, refl, sym, ap, ◌∙◌, true≢false}
 use Rattle.std.specs.List.{list_any}
 use Rattle.bench_core.specs.declared.reply.Reply.{Reply}
-use Rattle.bench_core.specs.Operations.{Action}
+use Rattle.bench_core.specs.Acts.{Action}
 use Rattle.bench_core.specs.Machine.{Machine, AnswersAs, Answered, Unmade, AllAnswered, config_of, replies_of, reply_to, after, call, opening_machine}
 use Rattle.bench_core.specs.Limits.{Limits}
 use Rattle.presence_bench.specs.Report.{is_unmade, reply_lines, report_of}

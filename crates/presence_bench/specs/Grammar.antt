@@ -1,11 +1,13 @@
 -- A script, or its first fault: the lines in order, each by its checks in turn.
-use Rattle.std.specs.Prelude.{ℕ, ◌+◌, Bool, List, [], ◌∷◌, ◌++◌, length, map, not, nat_lt, ◌==◌, ◌||◌, Option, Some, None, Result, Ok, Err, slice_index, codes, if◌then◌else◌}
+use Rattle.std.specs.Prelude.{ℕ, ◌+◌, Bool, List, [], ◌∷◌, ◌++◌, length, map, not, nat_lt, ◌==◌, ◌||◌, Option, Some, None, Result, Ok, Err, slice_index, codes, if◌then◌else◌, refl}
+use Rattle.std.specs.Coded.{Coded, code_by, coded×, coded_ℕ, coded_list}
 use Rattle.std.specs.Str.{bytes_eq}
 use Rattle.payload_core.specs.Answers.{◌>>=◌}
 use Rattle.bench_core.specs.declared.names_fault.NamesFault.{NamesFault}
 use Rattle.bench_core.specs.declared.names_fault.NamesFault.TheVariants as names_faults
 use Rattle.bench_core.specs.NameList.{Texts, names_of, number_in}
-use Rattle.bench_core.specs.Operations.{Action, Do, Undo, Join}
+use Rattle.bench_core.specs.Acts.{Action, Do, Undo, action_code}
+use Rattle.node_core.specs.Operations.{Join}
 use Rattle.presence_bench.specs.Words.{lines_of, words_of, is_text, number_of}
 use Rattle.presence_bench.specs.declared.fault.FaultKind.{FaultKind}
 use Rattle.presence_bench.specs.declared.fault.FaultKind.TheVariants.{NotText, TooLong, UnknownWord, WrongCount, BadNumber, BadName, NoNodes, Twice, OutOfMemory}
@@ -135,6 +137,10 @@ with_lines reading number (line ∷ lines) = do
 pub record Script : Type 0 where
   pub names : Texts
   pub calls : List (ℕ × Action)
+
+-- a script is stored as the pair of its fields
+abbrev pub script_code : Coded Script
+script_code = code_by (Texts × List (ℕ × Action)) (coded× (coded_list (coded_list coded_ℕ)) (coded_list (coded× coded_ℕ action_code))) (λ s. (s.names, s.calls)) (λ t. record { names = t.0; calls = t.1 }) (λ _. refl)
 
 abbrev pub finished : Option Texts → List (ℕ × Action) → Result Script ScriptFault
 finished None calls = Err (record { line = 0; kind = NoNodes })

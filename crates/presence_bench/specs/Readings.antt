@@ -1,5 +1,5 @@
 -- What clauses see of a script that is being read.
-use Rattle.bench_core.specs.Operations.{calls_of}
+use Rattle.bench_core.specs.Acts.{calls_of}
 use Rattle.presence_bench.specs.Grammar.{Reading}
 use Rattle.presence_bench.specs.declared.parse.Reading.{Reading as CodeReading}
 

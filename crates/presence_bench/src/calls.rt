@@ -1,7 +1,7 @@
 //! One line's call: which node asks, and what.
 ghost use Rattle.std.specs.Prelude.{◌≡◌, map, IsTrue};
 ghost use Rattle.std.specs.List.{list_all};
-ghost use Rattle.bench_core.specs.Operations.{plain_act};
+ghost use Rattle.bench_core.specs.Acts.{plain_act};
 ghost use Rattle.presence_bench.specs.Answers.{Gives};
 ghost use Rattle.presence_bench.specs.Grammar.{number_at, word_at, join_with, join_of, undo_of, verb_line, action_of, call_of};
 ghost use Rattle.presence_bench.specs.Words.{is_visible};

@@ -1,6 +1,6 @@
 //! `Script`: a script that was read.
 ghost use Rattle.std.specs.Prelude.{◌≡◌};
-ghost use Rattle.bench_core.specs.Operations.{calls_of};
+ghost use Rattle.bench_core.specs.Acts.{calls_of};
 
 use bench_core::{Act, Names};
 use std::alloc::Allocator;
@@ -14,10 +14,12 @@ pub struct Script<A: Allocator> {
 }
 
 impl<A: Allocator> Model for Script<A> {
-    ghost use Rattle.bench_core.specs.Operations.{calls_of};
-    ghost use Rattle.presence_bench.specs.Grammar.{Script};
+    ghost use Rattle.bench_core.specs.Acts.{calls_of};
+    ghost use Rattle.presence_bench.specs.Grammar.{Script, script_code};
 
     ghost Value = { Script };
+
+    ghost coded = { script_code };
 
     ghost view = { λ s. record { names = s.names; calls = calls_of s.calls.items } };
 }

@@ -1,5 +1,5 @@
 use Rattle.std.proofs.Common.{◌++◌, ◌∷◌, [], ◌∙◌, sym, ap, List}
-use Rattle.bench_core.specs.Nodes.{Node}
+use Rattle.node_core.specs.Nodes.{Node}
 use Rattle.bench_core.specs.Clusters.{opening_of}
 use Rattle.bench_core.proofs.Openings.{opening_push}
 use Rattle.bench_core.proofs.bench.open_nodes.Goals as goal

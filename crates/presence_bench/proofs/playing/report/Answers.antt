@@ -1,7 +1,7 @@
 use Rattle.std.proofs.Common.{◌≡◌, false, sym, ap, subst, ◌∙◌, IfOk, string_bytes}
 use Rattle.std.specs.List.{list_any}
 use Rattle.bench_core.specs.Machine.{opening_machine}
-use Rattle.bench_core.specs.Operations.{calls_of}
+use Rattle.bench_core.specs.Acts.{calls_of}
 use Rattle.presence_bench.specs.Report.{is_unmade, reply_lines, report_of}
 use Rattle.presence_bench.proofs.Replies.{report-AllAnswered}
 use Rattle.presence_bench.proofs.playing.report.Goals as goal

@@ -1,4 +1,4 @@
-use Rattle.bench_core.specs.Operations.{plain_act}
+use Rattle.bench_core.specs.Acts.{plain_act}
 use Rattle.bench_core.proofs.AtOnce.{can_be_taken_back, refused_only}
 use Rattle.bench_core.proofs.bench.Bench.act.Goals as goal
 
@@ -10,3 +10,6 @@ returns-then-number-eq0-clause-refused_only_for_a_named_consequence g c = refuse
 
 pub returns-else-number-given-clause-refused_only_for_a_named_consequence : goal.returns-else-number-given-clause-refused_only_for_a_named_consequence
 returns-else-number-given-clause-refused_only_for_a_named_consequence g c = refused_only c.args.self.now c.args.actor c.given-given.ensures.reached (plain_act c.args.act.now) c.undo.result c.undo.new.self c.undo.ensures
+
+pub returns-in-Back-clause-refused_only_for_a_named_consequence : goal.returns-in-Back-clause-refused_only_for_a_named_consequence
+returns-in-Back-clause-refused_only_for_a_named_consequence g c = refused_only c.args.self.now c.args.actor c.given-given.ensures.reached (plain_act c.args.act.now) c.back.result c.back.new.self c.back.ensures

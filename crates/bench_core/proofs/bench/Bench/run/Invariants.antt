@@ -1,6 +1,6 @@
 use Rattle.std.proofs.Common.{◌≡◌, ◌≤◌, length, take}
 use Rattle.std.specs.Prelude.{vec_len, vec_capacity}
-use Rattle.bench_core.specs.Operations.{calls_of}
+use Rattle.bench_core.specs.Acts.{calls_of}
 use Rattle.bench_core.specs.Machine.{AllAnswered}
 use Rattle.bench_core.proofs.bench.Bench.run.Given as goal
 

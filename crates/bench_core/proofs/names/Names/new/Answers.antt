@@ -1,4 +1,4 @@
-use Rattle.std.proofs.Common.{rules, ◌≡◌, map, [], Ok, Err, arith, sym, ◌∙◌, refl}
+use Rattle.std.proofs.Common.{rules, map, [], arith}
 use Rattle.std.proofs.lemmas.Grind.{common_steps}
 use Rattle.bench_core.specs.NameList.{with_names}
 use Rattle.payload_core.specs.Answers.{GivesUnless}

@@ -1,5 +1,4 @@
-use Rattle.std.proofs.Common.{◌≡◌, ◌∙◌, sym, ap, List, Option, Some, None, slice_get, option_map, option_copied}
-use Rattle.journal_core.specs.Journals.{Kept}
+use Rattle.std.proofs.Common.{◌≡◌, ◌∙◌, sym, ap, List, Some, None, slice_get, option_map, option_copied}
 use Rattle.journal_core.specs.Holdings.{Held, Journal, kepts}
 use Rattle.journal_core.proofs.Places.{get-kepts}
 use Rattle.journal_core.proofs.journal.Journal.at.Goals as goal

@@ -1,6 +1,6 @@
 use Rattle.std.proofs.Common.{◌≡◌, ◌∙◌, sym, ap, subst, arith, Some, None}
 use Rattle.journal_core.specs.Journals.{RisesAbove}
-use Rattle.journal_core.specs.Holdings.{kepts, plain_room, Held, place_of, find_held, inverse_of, with_inverse}
+use Rattle.journal_core.specs.Holdings.{kepts, plain_room, place_of, find_held, inverse_of, with_inverse}
 use Rattle.journal_core.proofs.Places.{place_within, find_at, set_at, absent}
 use Rattle.journal_core.proofs.Rising.{rises_lent}
 use Rattle.journal_core.proofs.journal.Journal.lend.Goals as goal
