@@ -22,7 +22,7 @@ use Rattle.node_core.specs.Inverses.{Inverse, LeadsBack}
 use Rattle.bench_core.specs.Clusters.{Cluster, step, opening_of, fault_of, outbox_of, message_at, message_for}
 use Rattle.journal_core.specs.Journals.{Kept, sent_by, find_number, first_consequence, without, AreBelow}
 use Rattle.bench_core.specs.Runs.{then_runs, runs}
-use Rattle.journal_core.specs.Holdings.{Held, Journal, kepts, find_held, inverse_of, with_inverse, without_held, AreAllHeld, IsLent, HasSender, CanBeKept}
+use Rattle.journal_core.specs.Holdings.{Held, Journal, kepts, find_held, inverse_of, without_held, AreAllHeld, HasSender, CanBeKept}
 use Rattle.bench_core.specs.Chains.{Link, Chain}
 use Rattle.bench_core.specs.Machine.{Event, Config, State, Machine, config_of, opening_state, is_taken, given, free_places, knows, undo_reply, step_reply, do_reply, reply_to, now, is_recorded, after, call, calls, AnswersAs, Answered}
 use Rattle.bench_core.specs.Headline.{IsReached}
@@ -345,17 +345,6 @@ found_at nodes hs n node i x b lent at =
     let stands = b.at in
     let node_is : b.later ≡ x = cc (stands, here) in
     subst₂ (λ (i : Inverse) (x : Node). LeadsBack i x b.earlier) inverse_is node_is b.leads
-
--- a journal of which one inverse is lent
-
-pub is_lent : (hs : List Held) (n : ℕ) (i : Inverse) → inverse_of (find_held hs n) ≡ Some i → IsLent (with_inverse hs n None) n
-is_lent [] n i is = absurd (cc)
-is_lent (x ∷ hs) n i is = go (x.kept.number == n) refl is (is_lent hs n i)
-  where
-    go : (b : Bool) → (x.kept.number == n) ≡ b → inverse_of (if b then Some x else find_held hs n) ≡ Some i → (inverse_of (find_held hs n) ≡ Some i → IsLent (with_inverse hs n None) n) →
-        IsLent (if b then record { kept = x.kept; inverse = None } ∷ hs else x ∷ with_inverse hs n None) n
-    go true at is more = (x.kept, rw at refl)
-    go false at is more = let rest = more is in (rest.0, rw at rest.1)
 
 -- what is delivered was sent by a remaining step
 

@@ -1,8 +1,8 @@
 -- The worked rows of the tests.
-use Rattle.std.proofs.Common.{◌≡◌, ℕ, ◌==◌, Bool, true, false, if◌then◌else◌, List, [], ◌∷◌, ◌++◌, Some, None, refl, sym, ap, subst, ◌∙◌, arith}
+use Rattle.std.proofs.Common.{◌≡◌, ℕ, false, [], ◌∷◌, ◌++◌, Some, None, refl, sym, ap, subst, ◌∙◌, arith}
 use Rattle.node_core.specs.Operations.{Operation, Broadcast, Up, Deliver, sends}
 use Rattle.node_core.specs.Inverses.{Inverse}
-use Rattle.journal_core.specs.Holdings.{Held, Journal, CanBeKept, IsLent, find_held, inverse_of, with_inverse}
+use Rattle.journal_core.specs.Holdings.{Held, Journal, CanBeKept}
 
 abbrev held : ℕ → ℕ → Operation → Inverse → Held
 held number node step inverse = record { kept = record { number = number; node = node; step = step }; inverse = Some inverse }
@@ -23,13 +23,3 @@ pub can_deliver_first : (one two : Inverse) {a b c : Journal} → a ≡ record {
 can_deliver_first one two first second third =
     subst (λ j. CanBeKept j 4 1 (Deliver 0 1)) (sym (third ∙ ap (λ j. after j (held 3 1 (Up 0) two)) (second ∙ ap (λ j. after j (held 2 0 Broadcast one)) first)))
     (record { positive = omega arith; above = (omega arith, (omega arith, tt)); known = omega arith; sender = (2, refl); whole = ((one, refl), ((two, refl), tt)) })
-
--- what was held beside a step, and then lent
-pub is_lent : (hs : List Held) (n : ℕ) (i : Inverse) → inverse_of (find_held hs n) ≡ Some i → IsLent (with_inverse hs n None) n
-is_lent [] n i is = absurd (cc)
-is_lent (x ∷ hs) n i is = go (x.kept.number == n) refl is (is_lent hs n i)
-  where
-    go : (b : Bool) → (x.kept.number == n) ≡ b → inverse_of (if b then Some x else find_held hs n) ≡ Some i → (inverse_of (find_held hs n) ≡ Some i → IsLent (with_inverse hs n None) n) →
-        IsLent (if b then record { kept = x.kept; inverse = None } ∷ hs else x ∷ with_inverse hs n None) n
-    go true at is more = (x.kept, rw at refl)
-    go false at is more = let m = more is in (m.0, rw at m.1)

@@ -3,7 +3,8 @@ use Rattle.node_core.specs.Inverses.{plain_inverse, LeadsSomewhere}
 use Rattle.journal_core.specs.Journals.{first_consequence}
 use Rattle.journal_core.specs.Holdings.{Journal, find_held, inverse_of, kepts, with_inverse, without_held, IsLent}
 use Rattle.journal_core.proofs.Rising.{kepts_with}
-use Rattle.bench_core.proofs.Keeps.{found_at, is_lent}
+use Rattle.journal_core.proofs.Loans.{is_lent}
+use Rattle.bench_core.proofs.Keeps.{found_at}
 use Rattle.bench_core.proofs.bench.take_back.Goals as goal
 
 pub give_back-requires : goal.give_back-requires

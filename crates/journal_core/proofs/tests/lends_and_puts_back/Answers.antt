@@ -1,7 +1,7 @@
 use Rattle.std.proofs.Common.{rules, ◌≡◌, sym, subst, Some}
 use Rattle.node_core.specs.Inverses.{plain_inverse}
 use Rattle.journal_core.specs.Holdings.{Journal, IsLent, find_held, inverse_of}
-use Rattle.journal_core.proofs.Rows.{is_lent}
+use Rattle.journal_core.proofs.Loans.{is_lent}
 use Rattle.journal_core.proofs.tests.lends_and_puts_back.Goals as goal
 
 pub put_back-requires : goal.put_back-requires

@@ -3,7 +3,7 @@ use Rattle.node_core.specs.Inverses.{plain_inverse}
 use Rattle.journal_core.specs.Journals.{first_consequence}
 use Rattle.journal_core.specs.Holdings.{Journal, IsLent, find_held, inverse_of, kepts}
 use Rattle.journal_core.proofs.Rising.{kepts_with}
-use Rattle.journal_core.proofs.Rows.{is_lent}
+use Rattle.journal_core.proofs.Loans.{is_lent}
 use Rattle.journal_core.proofs.tests.lends_and_takes_out.Goals as goal
 
 pub take_out-requires-clause-lent : goal.take_out-requires-clause-lent
