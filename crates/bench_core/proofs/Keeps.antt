@@ -34,12 +34,12 @@ use Rattle.bench_core.proofs.OneStep.{get_at}
 use Rattle.bench_core.proofs.Reached.{kept_reached, count_push, undo_gives}
 use Rattle.bench_core.proofs.Chain.{chain_push, kepts_append, all_held, undoing}
 
-calls_append : (c : Config) (s : State) (asked : List (ℕ × Action)) (actor : ℕ) (act : Action) → calls c s (asked ++ (actor, act) ∷ []) ≡ call c (calls c s asked) actor act
+pub calls_append : (c : Config) (s : State) (asked : List (ℕ × Action)) (actor : ℕ) (act : Action) → calls c s (asked ++ (actor, act) ∷ []) ≡ call c (calls c s asked) actor act
 calls_append c s [] actor act = refl
 calls_append c s (a ∷ asked) actor act = calls_append c (call c s a.0 a.1) asked actor act
 
 -- a state that the machine comes to is reached
-reached_after : (c : Config) (s : State) (actor : ℕ) (act : Action) (r : Reply) → IsReached c s → reply_to c s actor act ≡ r → IsReached c (after c s actor act r)
+pub reached_after : (c : Config) (s : State) (actor : ℕ) (act : Action) (r : Reply) → IsReached c s → reply_to c s actor act ≡ r → IsReached c (after c s actor act r)
 reached_after c s actor act r reached is = (
   reached.0 ++ (actor, act) ∷ [],
   ap (after c s actor act) (sym is) ∙ ap (λ (s : State). call c s actor act) reached.1 ∙ sym (calls_append c opening_state reached.0 actor act),
@@ -68,7 +68,10 @@ recorded_if c s _ other = refl
 -- a node's fault is no want of room for the call
 pub fault_of_other : (f : StepFault) → fault_of f ≢ HistoryFull
 fault_of_other step_faults.OwnReplica e = cc
+fault_of_other step_faults.NotKnown e = cc
+fault_of_other step_faults.NotDown e = cc
 fault_of_other step_faults.AlreadyTracked e = cc
+fault_of_other step_faults.NotTracked e = cc
 fault_of_other step_faults.NothingToSend e = cc
 fault_of_other step_faults.EntriesFull e = cc
 fault_of_other step_faults.ClockFull e = cc

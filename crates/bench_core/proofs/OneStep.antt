@@ -6,7 +6,7 @@ use Rattle.payload_core.specs.Messages.{Message, numbered}
 use Rattle.node_core.specs.declared.inverse.Inverse as declared
 use Rattle.node_core.specs.declared.step_fault.StepFault.{StepFault}
 use Rattle.node_core.specs.declared.step_fault.StepFault.TheVariants.{OwnMessage, OutOfMemory}
-use Rattle.node_core.specs.Operations.{Operation, Join, Broadcast, Extract, Deliver, Up, named_in, AreNames}
+use Rattle.node_core.specs.Operations.{Operation, Join, Leave, LeaveAll, Update, Broadcast, Extract, Deliver, Up, Down, Permdown, named_in, AreNames}
 use Rattle.node_core.specs.Nodes.{Node, deliver, take}
 use Rattle.node_core.specs.Inverses.{plain_inverse, LeadsBack}
 use Rattle.bench_core.specs.Clusters.{Cluster, outbox_of, message_for}
@@ -21,17 +21,27 @@ get_at (y ∷ xs) (suc n) x h is = get_at xs n x (omega arith) is
 -- the nodes that a step names are so few that their numbers are names
 pub names_named : (s : Operation) (count : ℕ) → count ≤ 32 → list_all (λ k. nat_lt k count) (named_in s) ≡ true → AreNames s
 names_named (Join p) count few named = tt
+names_named (Leave pid topic key) count few named = tt
+names_named (LeaveAll pid) count few named = tt
+names_named (Update p) count few named = tt
 names_named Broadcast count few named = tt
 names_named (Extract names) count few named = tt
 names_named (Deliver sender number) count few named = let low = ltb-true sender count (and_parts _ _ named).0 in omega arith
 names_named (Up name) count few named = let low = ltb-true name count (and_parts _ _ named).0 in omega arith
+names_named (Down name) count few named = let low = ltb-true name count (and_parts _ _ named).0 in omega arith
+names_named (Permdown name) count few named = let low = ltb-true name count (and_parts _ _ named).0 in omega arith
 
 -- a step reads no message of its own node
 take_alike : (c : Cluster) (n : ℕ) (s : Operation) (x other : Node) → x.replica.own ≡ n → take x s (message_for (set c n other) s) ≡ take x s (message_for c s)
 take_alike c n (Join p) x other own = refl
+take_alike c n (Leave pid topic key) x other own = refl
+take_alike c n (LeaveAll pid) x other own = refl
+take_alike c n (Update p) x other own = refl
 take_alike c n Broadcast x other own = refl
 take_alike c n (Extract names) x other own = refl
 take_alike c n (Up name) x other own = refl
+take_alike c n (Down name) x other own = refl
+take_alike c n (Permdown name) x other own = refl
 take_alike c n (Deliver sender p) x other own = go (sender == x.replica.own) refl
   where
     go : (b : Bool) → (sender == x.replica.own) ≡ b → (if b then Err OwnMessage else deliver x (numbered (outbox_of (slice_get (set c n other) sender)) p)) ≡ (if b then Err OwnMessage else deliver x (numbered (outbox_of (slice_get c sender)) p))

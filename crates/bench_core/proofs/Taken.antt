@@ -1,16 +1,17 @@
 -- What an accepted step does to the outbox of its node, what it read, and that the node keeps its name. Here alone the
 -- steps are told apart.
-use Rattle.std.proofs.Common.{◌≡◌, ℕ, ◌==◌, Bool, true, false, if◌then◌else◌, List, [], ◌∷◌, ◌++◌, Option, Some, None, Ok, Err, refl, ap}
+use Rattle.std.proofs.Common.{◌≡◌, ℕ, ◌==◌, Bool, true, false, if◌then◌else◌, List, [], ◌∷◌, ◌++◌, Option, Some, None, Ok, Err, refl, sym, ap, ◌∙◌, subst}
 use Rattle.std.specs.FinSet as set
 use Rattle.payload_core.specs.Messages.{Message, message_of_names}
 use Rattle.replica_core.specs.declared.replica_fault.ReplicaFault.{ReplicaFault}
 use Rattle.replica_core.specs.declared.status.Status.TheVariants as statuses
-use Rattle.replica_core.specs.Replicas.{joined, with_status, delta_message, without_delta}
+use Rattle.replica_core.specs.Replicas.{Replica, tracked_dots, dots_of_process, joined, left_each, updated, with_status, forgotten, delta_message, without_delta}
 use Rattle.replica_core.specs.Deliveries.{merged}
-use Rattle.replica_core.specs.Refusals.{join_refusal, merge_refusal, up_refusal, has_dots}
+use Rattle.replica_core.specs.Refusals.{join_refusal, leave_refusal, leave_all_refusal, update_refusal, merge_refusal, up_refusal, down_refusal, permdown_refusal, has_dots}
 use Rattle.node_core.specs.declared.step_fault.StepFault.TheVariants.{OwnMessage, OutboxFull}
-use Rattle.node_core.specs.Operations.{Operation, Join, Broadcast, Extract, Deliver, Up, delivers, sends}
+use Rattle.node_core.specs.Operations.{Operation, Join, Leave, LeaveAll, Update, Broadcast, Extract, Deliver, Up, Down, Permdown, delivers, sends}
 use Rattle.node_core.specs.Nodes.{Node, with_replica, with_sent, is_outbox_full, unless, unless_full, broadcast, deliver, take}
+use Rattle.node_core.proofs.Changes.{through_leaves, through_drops}
 
 -- what a step does to the outbox
 abbrev pub Posts : Bool → List Message → List Message → Type 0
@@ -53,11 +54,28 @@ outbox_at y z e = ap (λ (x : Node). x.outbox) e
 own_at : (y z : Node) → y ≡ z → y.replica.own ≡ z.replica.own
 own_at y z e = ap (λ (x : Node). x.replica.own) e
 
+-- a step that changes the replica alone
+alone : (n : Node) (s : Operation) (m : Option Message) (y : Node) (cause : Option ReplicaFault) (r : Replica) →
+    sends s ≡ false → delivers s ≡ None → r.own ≡ n.replica.own → unless cause (with_replica n r) ≡ Ok y → Took n s m y
+alone n s m y cause r silent unread own h =
+    let e = unless_ok cause (with_replica n r) y h in
+    record {
+      posts = subst (λ b. Posts b n.outbox y.outbox) (sym silent) (outbox_at y (with_replica n r) e);
+      was_read = subst (λ at. WasRead at m) (sym unread) tt;
+      owns = own_at y (with_replica n r) e ∙ own;
+    }
+
 took : (n : Node) (s : Operation) (m : Option Message) (y : Node) → take n s m ≡ Ok y → Took n s m y
-took n (Join p) m y h =
-    let gives = with_replica n (joined p n.replica) in
-    let e = unless_ok (join_refusal n.replica p.pid p.topic p.key) gives y h in
-    record { posts = outbox_at y gives e; was_read = tt; owns = own_at y gives e }
+took n (Join p) m y h = alone n (Join p) m y (join_refusal n.replica p.pid p.topic p.key) (joined p n.replica) refl refl refl h
+took n (Leave pid topic key) m y h =
+    let dots = tracked_dots n.replica pid topic key in
+    alone n (Leave pid topic key) m y (leave_refusal n.replica pid topic key) (left_each dots n.replica) refl refl (through_leaves dots n.replica).own h
+took n (LeaveAll pid) m y h =
+    let dots = dots_of_process n.replica pid in
+    alone n (LeaveAll pid) m y (leave_all_refusal n.replica pid) (left_each dots n.replica) refl refl (through_leaves dots n.replica).own h
+took n (Update p) m y h =
+    let dots = tracked_dots n.replica p.pid p.topic p.key in
+    alone n (Update p) m y (update_refusal n.replica p.pid p.topic p.key) (updated p n.replica) refl refl (through_drops dots n.replica).own h
 took n Broadcast m y h =
     let gives = with_sent n (delta_message n.replica) (without_delta n.replica) in
     let e = broadcast_ok (has_dots n.replica.delta_seen) n y h in
@@ -71,10 +89,9 @@ took n (Deliver sender number) m y h =
     let d = deliver_ok (sender == n.replica.own) n m y h in
     let gives = with_replica n (merged d.0 n.replica) in
     record { posts = outbox_at y gives d.2; was_read = (d.0, d.1); owns = own_at y gives d.2 }
-took n (Up name) m y h =
-    let gives = with_replica n (with_status name statuses.Up n.replica) in
-    let e = unless_ok (up_refusal n.replica name) gives y h in
-    record { posts = outbox_at y gives e; was_read = tt; owns = own_at y gives e }
+took n (Up name) m y h = alone n (Up name) m y (up_refusal n.replica name) (with_status name statuses.Up n.replica) refl refl refl h
+took n (Down name) m y h = alone n (Down name) m y (down_refusal n.replica name) (with_status name statuses.Down n.replica) refl refl refl h
+took n (Permdown name) m y h = alone n (Permdown name) m y (permdown_refusal n.replica name) (forgotten name n.replica) refl refl refl h
 
 pub posts : (n : Node) (s : Operation) (m : Option Message) (y : Node) → take n s m ≡ Ok y → Posts (sends s) n.outbox y.outbox
 posts n s m y h = (took n s m y h).posts

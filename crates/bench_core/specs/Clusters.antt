@@ -5,7 +5,7 @@ use Rattle.payload_core.specs.Messages.{Message, numbered}
 use Rattle.node_core.specs.declared.step_fault.StepFault.{StepFault}
 use Rattle.node_core.specs.declared.step_fault.StepFault.TheVariants as step_faults
 use Rattle.bench_core.specs.declared.fault.Fault.{Fault}
-use Rattle.bench_core.specs.declared.fault.Fault.TheVariants.{OwnReplica, AlreadyTracked, NothingToSend, EntriesFull, ClockFull, OwnMessage, NoSuchMessage, OutboxFull, UnknownNode, OutOfMemory}
+use Rattle.bench_core.specs.declared.fault.Fault.TheVariants.{OwnReplica, NotKnown, NotDown, AlreadyTracked, NotTracked, NothingToSend, EntriesFull, ClockFull, OwnMessage, NoSuchMessage, OutboxFull, UnknownNode, OutOfMemory}
 use Rattle.replica_core.specs.declared.node_limits.NodeLimits.{NodeLimits}
 use Rattle.node_core.specs.Operations.{Operation, delivers, named_in}
 use Rattle.node_core.specs.Nodes.{Node, opening_node, take}
@@ -37,7 +37,10 @@ message_for c s = message_at c (delivers s)
 -- a node's fault as a fault of the bench
 abbrev pub fault_of : StepFault → Fault
 fault_of step_faults.OwnReplica = OwnReplica
+fault_of step_faults.NotKnown = NotKnown
+fault_of step_faults.NotDown = NotDown
 fault_of step_faults.AlreadyTracked = AlreadyTracked
+fault_of step_faults.NotTracked = NotTracked
 fault_of step_faults.NothingToSend = NothingToSend
 fault_of step_faults.EntriesFull = EntriesFull
 fault_of step_faults.ClockFull = ClockFull

@@ -1,12 +1,15 @@
 -- The names of faults, as a report prints them.
 use Rattle.std.specs.Prelude.{ℕ, List, ◌++◌, codes, decimal}
 use Rattle.bench_core.specs.declared.fault.Fault.{Fault}
-use Rattle.bench_core.specs.declared.fault.Fault.TheVariants.{OwnReplica, AlreadyTracked, NothingToSend, EntriesFull, ClockFull, OwnMessage, NoSuchMessage, OutboxFull, UnknownNode, NoSuchStep, AlreadyUndone, NothingToUndo, HasConsequence, HistoryFull, OutOfMemory}
+use Rattle.bench_core.specs.declared.fault.Fault.TheVariants.{OwnReplica, NotKnown, NotDown, AlreadyTracked, NotTracked, NothingToSend, EntriesFull, ClockFull, OwnMessage, NoSuchMessage, OutboxFull, UnknownNode, NoSuchStep, AlreadyUndone, NothingToUndo, HasConsequence, HistoryFull, OutOfMemory}
 
 -- the fault's name, and behind that of HasConsequence the step and what holds it
 abbrev pub fault_text : Fault → List ℕ
 fault_text OwnReplica = codes "OwnReplica"
+fault_text NotKnown = codes "NotKnown"
+fault_text NotDown = codes "NotDown"
 fault_text AlreadyTracked = codes "AlreadyTracked"
+fault_text NotTracked = codes "NotTracked"
 fault_text NothingToSend = codes "NothingToSend"
 fault_text EntriesFull = codes "EntriesFull"
 fault_text ClockFull = codes "ClockFull"

@@ -10,4 +10,5 @@ pub mod Machine
 pub mod Histories
 pub mod Laws
 pub mod Headline
+pub mod Unwinds
 pub mod Benches

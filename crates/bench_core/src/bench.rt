@@ -1,16 +1,18 @@
 //! `Bench`: the machine over its nodes, its journal and its history.
-ghost use Rattle.std.specs.Prelude.{◌≡◌, ◌≢◌, ◌<◌, ◌≤◌, ◌+◌, IfOk, OnOk, OnErr, IsTrue, length, true, nat_lt, slice_get, option_copied, option_map};
+ghost use Rattle.std.specs.Prelude.{◌≡◌, ◌≢◌, ◌<◌, ◌≤◌, ◌+◌, IfOk, OnOk, OnErr, IsTrue, length, take, true, nat_lt, slice_get, option_copied, option_map};
 ghost use Rattle.std.specs.List.{list_all};
 ghost use Rattle.std.specs.FinSet as set;
 ghost use Rattle.replica_core.specs.Limits.{AreNodeLimits};
+ghost use Rattle.payload_core.specs.Answers.{GivesUnless};
 ghost use Rattle.node_core.specs.Operations.{named_in, plain};
 ghost use Rattle.journal_core.specs.Holdings.{without_held, kepts};
-ghost use Rattle.bench_core.specs.declared.fault.Fault.TheVariants.{HistoryFull};
+ghost use Rattle.bench_core.specs.declared.fault.Fault.TheVariants.{HistoryFull, OutOfMemory};
 ghost use Rattle.bench_core.specs.declared.reply.Reply.TheVariants.{Refused};
 ghost use Rattle.bench_core.specs.Acts.{plain_act, calls_of, Do, Back};
 ghost use Rattle.bench_core.specs.Clusters.{opening_of, message_for};
 ghost use Rattle.bench_core.specs.Machine.{config_of, given, free_places, knows, reply_to, undo_reply, opening_machine, AnswersAs, AllAnswered};
 ghost use Rattle.bench_core.specs.Headline.{IsReached, CanBeTakenBack, RefusedOnlyForConsequence};
+ghost use Rattle.bench_core.specs.Unwinds.{AreUndone, CanBeUndone, IsUnwound, undone_by, why_answer};
 ghost use Rattle.bench_core.specs.Benches.{GoesBack, IsBackable, IsNodeOf, IsNumbered, Steps};
 
 use crate::act::Act;
@@ -19,6 +21,7 @@ use crate::history::{Event, History};
 use crate::limits::Limits;
 use crate::names::Names;
 use crate::reply::Reply;
+use crate::unwound::Unwound;
 use dots_core::NameSet;
 use journal_core::Journal;
 use journal_core::laws::loan_law;
@@ -198,10 +201,11 @@ impl<'a, B: Allocator> Bench<'a, B> {
     {
         let count = self.names.len() as u16;
         let are_known = match step {
-            Step::Join { .. } | Step::Broadcast => true,
+            Step::Join { .. } | Step::Leave { .. } | Step::LeaveAll { .. } => true,
+            Step::Update { .. } | Step::Broadcast => true,
             Step::Extract { names } => are_below(*names, count),
             Step::Deliver { sender, .. } => *sender < count,
-            Step::Up { name } => *name < count,
+            Step::Up { name } | Step::Down { name } | Step::Permdown { name } => *name < count,
         };
         actor < count && are_known
     }
@@ -346,6 +350,62 @@ impl<'a, B: Allocator> Bench<'a, B> {
             replies.push_reserved(reply);
         }
         Ok(replies)
+    }
+
+    /// The number of a step and those of all that follows from it, greatest first: in this order they can be undone. Where
+    /// the step doesn't remain, `NoSuchStep` or `AlreadyUndone` as for its undo; `OutOfMemory` where the list can't be had.
+    pub fn why(&self, number: u64) -> Result<Vec<u64, &'a B>, Fault>
+        ensures answer { GivesUnless OutOfMemory (λ numbers. numbers.items) result (why_answer self.now.state number) }
+        ensures can_be_undone { IfOk result (λ numbers. CanBeUndone self.now numbers.items) }
+    {
+        let given = self.given();
+        if number == 0 || number > given {
+            return Err(Fault::NoSuchStep);
+        }
+        let Some(_) = self.journal.find(number) else {
+            return Err(Fault::AlreadyUndone);
+        };
+        let Ok(numbers) = self.journal.future(number) else {
+            return Err(Fault::OutOfMemory);
+        };
+        Ok(numbers)
+    }
+
+    /// Undoes these steps in turn, until an undo is refused memory. Gives how many were undone.
+    fn undo_each(&mut self, actor: u16, numbers: &[u64]) -> usize
+        requires { CanBeUndone self.old numbers.now }
+        ensures few { result ≤ length numbers.now }
+        ensures undone { AreUndone self.old actor (take result numbers.now) self.new }
+    {
+        for (i, number) in numbers.iter().enumerate() {
+            let act = Act::Undo(*number);
+            let reply = self.act(actor, &act);
+            drop(act);
+            if reply != Reply::Undone(*number) {
+                return i;
+            }
+        }
+        numbers.len()
+    }
+
+    /// Undoes a step and all that follows from it, greatest number first. Each is an undo that the actor asks, which any
+    /// number may. (Danos and Krivine: what follows from a step goes back before it.) Refused as `why`, and then nothing is
+    /// done or recorded; where an undo is refused memory, those before it stand.
+    pub fn unwind(&mut self, actor: u16, number: u64) -> Unwound<&'a B>
+        ensures answer { IsUnwound self.old.state number result }
+        ensures undone { AreUndone self.old actor (undone_by result) self.new }
+    {
+        match self.why(number) {
+            Ok(mut numbers) => {
+                let undone = self.undo_each(actor, numbers.as_slice());
+                if undone < numbers.len() {
+                    numbers.truncate(undone);
+                    return Unwound::Partial { numbers };
+                }
+                Unwound::Done(numbers)
+            }
+            Err(fault) => Unwound::Refused(fault),
+        }
     }
 }
 

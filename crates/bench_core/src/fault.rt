@@ -8,8 +8,15 @@ use std::fmt;
 pub enum Fault {
     /// A status of the own name.
     OwnReplica,
+    /// A down or a permdown of a name that the node doesn't know.
+    NotKnown,
+    /// A permdown of a name that is up.
+    NotDown,
     /// A join of a process, topic and key that an own entry has.
     AlreadyTracked,
+    /// A leave or an update of a process, topic and key that no own entry has, or a leave of all of a process that has
+    /// none.
+    NotTracked,
     /// A broadcast without a dot that wasn't sent yet.
     NothingToSend,
     /// The node would hold more entries than its limit.
@@ -47,7 +54,10 @@ impl From<StepFault> for Fault {
     fn from(fault: StepFault) -> Fault {
         match fault {
             StepFault::OwnReplica => Fault::OwnReplica,
+            StepFault::NotKnown => Fault::NotKnown,
+            StepFault::NotDown => Fault::NotDown,
             StepFault::AlreadyTracked => Fault::AlreadyTracked,
+            StepFault::NotTracked => Fault::NotTracked,
             StepFault::NothingToSend => Fault::NothingToSend,
             StepFault::EntriesFull => Fault::EntriesFull,
             StepFault::ClockFull => Fault::ClockFull,
@@ -69,7 +79,10 @@ impl fmt::Display for Fault {
     fn fmt<W: fmt::Write>(&self, f: &mut fmt::Formatter<W>) -> fmt::Result {
         match self {
             Fault::OwnReplica => write!(f, "OwnReplica"),
+            Fault::NotKnown => write!(f, "NotKnown"),
+            Fault::NotDown => write!(f, "NotDown"),
             Fault::AlreadyTracked => write!(f, "AlreadyTracked"),
+            Fault::NotTracked => write!(f, "NotTracked"),
             Fault::NothingToSend => write!(f, "NothingToSend"),
             Fault::EntriesFull => write!(f, "EntriesFull"),
             Fault::ClockFull => write!(f, "ClockFull"),

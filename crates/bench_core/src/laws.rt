@@ -2,7 +2,8 @@
 //!
 //! A crate above uses a law by calling its function.
 ghost use Rattle.bench_core.specs.Headline.{BackLaw, GivenLaw, UndoLaw};
-ghost use Rattle.bench_core.specs.Laws.{ChainLaw, LoopLaw, MiddleLaw, OwnRunLaw};
+ghost use Rattle.bench_core.specs.Unwinds.{LeastLaw};
+ghost use Rattle.bench_core.specs.Laws.{ChainLaw, LoopLaw, MiddleLaw, OwnRunLaw, UnwindLaw};
 
 /// The loop: a step at the end of a journal has no direct consequence, and taking it out gives the journal before.
 pub fn loop_law()
@@ -28,4 +29,11 @@ pub fn headline_law()
 /// state back to its opening.
 pub fn chain_law()
     ensures { ChainLaw }
+{}
+
+/// The future of a step is what follows from it, all the way: its undos are all accepted, greatest number first; and
+/// whatever undos take the step back take back all of it.
+pub fn unwind_law()
+    ensures future { UnwindLaw }
+    ensures least { LeastLaw }
 {}

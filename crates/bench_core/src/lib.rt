@@ -16,6 +16,7 @@ mod names;
 mod names_fault;
 mod reply;
 mod texts;
+mod unwound;
 
 pub use act::Act;
 pub use bench::Bench;
@@ -27,7 +28,10 @@ pub use names::Names;
 pub use names_fault::NamesFault;
 pub use node_core::{Node, NodeLimits, Step, StepFault};
 pub use reply::Reply;
+pub use unwound::Unwound;
 
+#[cfg(test)]
+mod leaves_tests;
 #[cfg(test)]
 mod memory_tests;
 #[cfg(test)]
@@ -36,3 +40,5 @@ mod names_tests;
 mod steps_tests;
 #[cfg(test)]
 mod tests;
+#[cfg(test)]
+mod unwind_tests;

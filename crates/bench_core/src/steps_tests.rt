@@ -1,194 +1,390 @@
-//! What messages bring, and which steps hold which: tables of calls and replies, and what the nodes have seen then.
-use crate::tests::{Call, answers, open};
+//! Named cases of calls with their replies, and what there is then.
+use crate::tests::{Call, Row, USUAL, limits_of, played};
 use crate::*;
 use std::alloc::Allocator;
 use std::process::Abort;
-use std::test::Fail;
 
-/// Opens a bench and makes the calls in turn, each of which gets its reply. Then node 1 has seen so much.
-fn plays<'a, B: Allocator>(
-    rt: &impl Abort,
-    alloc: &'a B,
-    limits: Limits,
-    rows: &[(u16, Call, Reply)],
+/// The first `asked` of some calls of a bench of two nodes, each with its reply. After them so many calls are recorded and
+/// so many steps remain; of the dots of node 0, node 1 has seen those up to the clock and those in the cloud; and it
+/// holds so many entries.
+struct Case {
+    name: &'static str,
+    limits: [u64; 4],
+    rows: &'static [Row],
+    asked: usize,
+    recorded: usize,
+    remaining: usize,
     clock: u64,
-    cloud: &[u64],
+    cloud: &'static [u64],
     entries: usize,
-) -> Result<(), Fail> {
-    let mut bench = open(alloc, limits)?;
-    answers(rt, alloc, &mut bench, rows)?;
-    has_seen(rt, &bench, clock, cloud, entries)
 }
 
-/// Of the dots of node 0, node 1 has seen those up to the clock and those in the cloud; and it holds so many entries.
-fn has_seen<'a, B: Allocator>(
-    rt: &impl Abort,
-    bench: &Bench<'a, B>,
-    clock: u64,
-    cloud: &[u64],
-    entries: usize,
-) -> Result<(), Fail> {
-    let replica = bench.node(1).ok_or("no node")?.replica();
-    assert_eq!(rt; replica.seen().clock_of(0), clock);
-    assert_eq!(rt; replica.seen().cloud_of(0), cloud);
-    assert_eq!(rt; replica.entries().len(), entries);
-    Ok(())
-}
+pub(crate) const HELD_1_BY_2: Fault = Fault::HasConsequence {
+    step: 1,
+    held_by: 2,
+};
 
-/// The number of the last step of a node.
-fn last_of<'a, B: Allocator>(bench: &Bench<'a, B>, node: u16) -> Option<u64> {
-    if node as usize >= bench.names().len() {
-        return None;
-    }
-    bench.remaining().last_of(node)
-}
+const HELD_1_BY_3: Fault = Fault::HasConsequence {
+    step: 1,
+    held_by: 3,
+};
 
-fn held(step: u64, held_by: u64) -> Reply {
-    Reply::Refused(Fault::HasConsequence { step, held_by })
-}
+const HELD_2_BY_4: Fault = Fault::HasConsequence {
+    step: 2,
+    held_by: 4,
+};
+
+pub(crate) const HELD_3_BY_4: Fault = Fault::HasConsequence {
+    step: 3,
+    held_by: 4,
+};
+
+const LATER_STEPS: [Row; 9] = [
+    (0, Call::Join(1), Reply::Taken(1)),
+    (0, Call::Join(1), Reply::Refused(Fault::AlreadyTracked)),
+    (0, Call::Join(2), Reply::Taken(2)),
+    (1, Call::Join(1), Reply::Taken(3)),
+    (5, Call::Undo(1), Reply::Refused(HELD_1_BY_2)),
+    (1, Call::Undo(2), Reply::Undone(2)),
+    (0, Call::Undo(1), Reply::Undone(1)),
+    (0, Call::Undo(1), Reply::Refused(Fault::AlreadyUndone)),
+    (0, Call::Join(3), Reply::Taken(4)),
+];
+
+const NO_REMAINING_STEP: [Row; 6] = [
+    (0, Call::Undo(0), Reply::Refused(Fault::NoSuchStep)),
+    (0, Call::Undo(9), Reply::Refused(Fault::NoSuchStep)),
+    (0, Call::Join(1), Reply::Taken(1)),
+    (2, Call::Undo(1), Reply::Undone(1)),
+    (2, Call::Undo(1), Reply::Refused(Fault::AlreadyUndone)),
+    (2, Call::Back(1), Reply::Refused(Fault::NothingToUndo)),
+];
+
+const NO_NODES: [Row; 5] = [
+    (7, Call::Broadcast, Reply::Refused(Fault::UnknownNode)),
+    (0, Call::Up(5), Reply::Refused(Fault::UnknownNode)),
+    (0, Call::Extract(5), Reply::Refused(Fault::UnknownNode)),
+    (0, Call::Back(2), Reply::Refused(Fault::UnknownNode)),
+    (40, Call::Undo(1), Reply::Refused(Fault::NoSuchStep)),
+];
+
+const FULL_HISTORY: [Row; 4] = [
+    (0, Call::Join(1), Reply::Taken(1)),
+    (0, Call::Join(2), Reply::Refused(Fault::HistoryFull)),
+    (0, Call::Undo(1), Reply::Undone(1)),
+    (0, Call::Undo(1), Reply::Refused(Fault::AlreadyUndone)),
+];
+
+const FULL_OF_ENTRIES: [Row; 2] = [
+    (0, Call::Join(1), Reply::Taken(1)),
+    (0, Call::Join(2), Reply::Refused(Fault::EntriesFull)),
+];
+
+const FULL_CLOCK: [Row; 2] = [
+    (0, Call::Join(1), Reply::Taken(1)),
+    (0, Call::Join(2), Reply::Refused(Fault::ClockFull)),
+];
 
 /// A join of node 0, sent and delivered to node 1.
-const DELIVERED: [(u16, Call, Reply); 4] = [
+pub(crate) const DELIVERED: [Row; 4] = [
     (0, Call::Join(1), Reply::Taken(1)),
     (1, Call::Up(0), Reply::Taken(2)),
     (0, Call::Broadcast, Reply::Taken(3)),
     (1, Call::Deliver(0, 1), Reply::Taken(4)),
 ];
 
-#[test]
-fn a_step_is_held_by_its_least_consequence(rt: HostRuntime) -> Result<(), Fail> {
-    let heap = rt.alloc();
-    let mut bench = open(&heap, Limits::usual())?;
-    answers(&rt, &heap, &mut bench, &DELIVERED)?;
-    has_seen(&rt, &bench, 1, &[], 1)?;
-    let journal = bench.remaining();
-    assert_eq!(rt; journal.first_consequence(1), Some(3));
-    assert_eq!(rt; journal.first_consequence(2), Some(4));
-    assert_eq!(rt; journal.first_consequence(3), Some(4));
-    assert_eq!(rt; journal.first_consequence(4), None);
-    assert_eq!(rt; last_of(&bench, 0), Some(3));
-    assert_eq!(rt; last_of(&bench, 1), Some(4));
-    Ok(())
+pub(crate) const DELIVERED_AND_UNDONE: [Row; 11] = [
+    (0, Call::Join(1), Reply::Taken(1)),
+    (1, Call::Up(0), Reply::Taken(2)),
+    (0, Call::Broadcast, Reply::Taken(3)),
+    (1, Call::Deliver(0, 1), Reply::Taken(4)),
+    (2, Call::Undo(1), Reply::Refused(HELD_1_BY_3)),
+    (2, Call::Undo(2), Reply::Refused(HELD_2_BY_4)),
+    (2, Call::Undo(3), Reply::Refused(HELD_3_BY_4)),
+    (2, Call::Back(0), Reply::Refused(HELD_3_BY_4)),
+    (2, Call::Undo(4), Reply::Undone(4)),
+    (2, Call::Undo(3), Reply::Undone(3)),
+    (2, Call::Back(0), Reply::Undone(1)),
+];
+
+const DELIVERED_TWICE: [Row; 5] = [
+    (0, Call::Join(1), Reply::Taken(1)),
+    (0, Call::Broadcast, Reply::Taken(2)),
+    (1, Call::Deliver(0, 1), Reply::Taken(3)),
+    (1, Call::Up(0), Reply::Taken(4)),
+    (1, Call::Deliver(0, 1), Reply::Taken(5)),
+];
+
+const UNDONE_BROADCAST: [Row; 7] = [
+    (0, Call::Join(1), Reply::Taken(1)),
+    (0, Call::Broadcast, Reply::Taken(2)),
+    (0, Call::Undo(2), Reply::Undone(2)),
+    (0, Call::Join(2), Reply::Taken(3)),
+    (0, Call::Broadcast, Reply::Taken(4)),
+    (1, Call::Up(0), Reply::Taken(5)),
+    (1, Call::Deliver(0, 1), Reply::Taken(6)),
+];
+
+pub(crate) const UNDONE_JOIN: [Row; 6] = [
+    (0, Call::Join(1), Reply::Taken(1)),
+    (0, Call::Undo(1), Reply::Undone(1)),
+    (0, Call::Join(2), Reply::Taken(2)),
+    (0, Call::Broadcast, Reply::Taken(3)),
+    (1, Call::Up(0), Reply::Taken(4)),
+    (1, Call::Deliver(0, 1), Reply::Taken(5)),
+];
+
+const EARLY_DELIVERY: [Row; 8] = [
+    (0, Call::Join(1), Reply::Taken(1)),
+    (0, Call::Broadcast, Reply::Taken(2)),
+    (0, Call::Join(2), Reply::Taken(3)),
+    (0, Call::Broadcast, Reply::Taken(4)),
+    (1, Call::Up(0), Reply::Taken(5)),
+    (1, Call::Deliver(0, 2), Reply::Taken(6)),
+    (1, Call::Deliver(0, 1), Reply::Taken(7)),
+    (2, Call::Undo(7), Reply::Undone(7)),
+];
+
+const PLACE_MADE: [Row; 7] = [
+    (0, Call::Join(1), Reply::Taken(1)),
+    (0, Call::Broadcast, Reply::Taken(2)),
+    (1, Call::Up(0), Reply::Taken(3)),
+    (1, Call::Join(9), Reply::Taken(4)),
+    (1, Call::Deliver(0, 1), Reply::Refused(Fault::EntriesFull)),
+    (2, Call::Undo(4), Reply::Undone(4)),
+    (1, Call::Deliver(0, 1), Reply::Taken(5)),
+];
+
+const FAULTS_OF_MESSAGES: [Row; 6] = [
+    (0, Call::Broadcast, Reply::Refused(Fault::NothingToSend)),
+    (0, Call::Extract(1), Reply::Taken(1)),
+    (0, Call::Extract(0), Reply::Refused(Fault::OutboxFull)),
+    (0, Call::Deliver(0, 1), Reply::Refused(Fault::OwnMessage)),
+    (1, Call::Deliver(0, 2), Reply::Refused(Fault::NoSuchMessage)),
+    (1, Call::Up(1), Reply::Refused(Fault::OwnReplica)),
+];
+
+const CASES: [Case; 18] = [
+    Case {
+        name: "an undo waits for later steps of its node",
+        limits: USUAL,
+        rows: &LATER_STEPS,
+        asked: 9,
+        recorded: 9,
+        remaining: 2,
+        clock: 0,
+        cloud: &[],
+        entries: 1,
+    },
+    Case {
+        name: "an undo of no remaining step is refused",
+        limits: USUAL,
+        rows: &NO_REMAINING_STEP,
+        asked: 6,
+        recorded: 6,
+        remaining: 0,
+        clock: 0,
+        cloud: &[],
+        entries: 0,
+    },
+    Case {
+        name: "a number that is no node's is refused",
+        limits: USUAL,
+        rows: &NO_NODES,
+        asked: 5,
+        recorded: 5,
+        remaining: 0,
+        clock: 0,
+        cloud: &[],
+        entries: 0,
+    },
+    Case {
+        name: "a full history refuses a step and no undo",
+        limits: [2, 10, 10, 10],
+        rows: &FULL_HISTORY,
+        asked: 4,
+        recorded: 2,
+        remaining: 0,
+        clock: 0,
+        cloud: &[],
+        entries: 0,
+    },
+    Case {
+        name: "a node that is full of entries refuses a join",
+        limits: [10, 1, 10, 10],
+        rows: &FULL_OF_ENTRIES,
+        asked: 2,
+        recorded: 2,
+        remaining: 1,
+        clock: 0,
+        cloud: &[],
+        entries: 0,
+    },
+    Case {
+        name: "a node with a full clock refuses a join",
+        limits: [10, 10, 1, 10],
+        rows: &FULL_CLOCK,
+        asked: 2,
+        recorded: 2,
+        remaining: 1,
+        clock: 0,
+        cloud: &[],
+        entries: 0,
+    },
+    Case {
+        name: "the entries come before the clock",
+        limits: [10, 1, 1, 10],
+        rows: &FULL_OF_ENTRIES,
+        asked: 2,
+        recorded: 2,
+        remaining: 1,
+        clock: 0,
+        cloud: &[],
+        entries: 0,
+    },
+    Case {
+        name: "a delivery brings a join",
+        limits: USUAL,
+        rows: &DELIVERED,
+        asked: 4,
+        recorded: 4,
+        remaining: 4,
+        clock: 1,
+        cloud: &[],
+        entries: 1,
+    },
+    Case {
+        name: "an undo waits for the delivery",
+        limits: USUAL,
+        rows: &DELIVERED_AND_UNDONE,
+        asked: 11,
+        recorded: 11,
+        remaining: 1,
+        clock: 0,
+        cloud: &[],
+        entries: 0,
+    },
+    Case {
+        name: "a delivery of an unknown name brings nothing",
+        limits: USUAL,
+        rows: &DELIVERED_TWICE,
+        asked: 3,
+        recorded: 3,
+        remaining: 3,
+        clock: 0,
+        cloud: &[],
+        entries: 0,
+    },
+    Case {
+        name: "a delivery brings known names alone",
+        limits: USUAL,
+        rows: &DELIVERED_TWICE,
+        asked: 5,
+        recorded: 5,
+        remaining: 5,
+        clock: 1,
+        cloud: &[],
+        entries: 1,
+    },
+    Case {
+        name: "an undone broadcast is sent with the next",
+        limits: USUAL,
+        rows: &UNDONE_BROADCAST,
+        asked: 7,
+        recorded: 7,
+        remaining: 5,
+        clock: 2,
+        cloud: &[],
+        entries: 2,
+    },
+    Case {
+        name: "an undone join leaves no dot",
+        limits: USUAL,
+        rows: &UNDONE_JOIN,
+        asked: 6,
+        recorded: 6,
+        remaining: 4,
+        clock: 1,
+        cloud: &[],
+        entries: 1,
+    },
+    Case {
+        name: "an early delivery leaves a gap",
+        limits: USUAL,
+        rows: &EARLY_DELIVERY,
+        asked: 6,
+        recorded: 6,
+        remaining: 6,
+        clock: 0,
+        cloud: &[2],
+        entries: 1,
+    },
+    Case {
+        name: "a later delivery fills the gap",
+        limits: USUAL,
+        rows: &EARLY_DELIVERY,
+        asked: 7,
+        recorded: 7,
+        remaining: 7,
+        clock: 2,
+        cloud: &[],
+        entries: 2,
+    },
+    Case {
+        name: "an undone delivery leaves the gap again",
+        limits: USUAL,
+        rows: &EARLY_DELIVERY,
+        asked: 8,
+        recorded: 8,
+        remaining: 6,
+        clock: 0,
+        cloud: &[2],
+        entries: 1,
+    },
+    Case {
+        name: "an undo makes place for a delivery",
+        limits: [100, 1, 10, 10],
+        rows: &PLACE_MADE,
+        asked: 7,
+        recorded: 7,
+        remaining: 4,
+        clock: 1,
+        cloud: &[],
+        entries: 1,
+    },
+    Case {
+        name: "each fault of a message has its name",
+        limits: [100, 10, 10, 1],
+        rows: &FAULTS_OF_MESSAGES,
+        asked: 6,
+        recorded: 6,
+        remaining: 1,
+        clock: 0,
+        cloud: &[],
+        entries: 0,
+    },
+];
+
+fn has<'a, B: Allocator>(rt: &impl Abort, bench: &Bench<'a, B>, case: &Case) {
+    assert_eq!(rt; bench.history().len(), case.recorded, "{}", case.name);
+    assert_eq!(rt; bench.remaining().len(), case.remaining, "{}", case.name);
+    let replica = bench.node(1).expect(rt, case.name).replica();
+    assert_eq!(rt; replica.seen().clock_of(0), case.clock, "{}", case.name);
+    assert_eq!(rt; replica.seen().cloud_of(0), case.cloud, "{}", case.name);
+    assert_eq!(rt; replica.entries().len(), case.entries, "{}", case.name);
+}
+
+fn plays<'a, B: Allocator>(rt: &impl Abort, alloc: &'a B, case: &Case) {
+    let limits = limits_of(rt, case.limits, case.name);
+    let rows = case.rows.get(..case.asked).expect(rt, case.name);
+    let bench = played(rt, alloc, limits, rows, case.name);
+    has(rt, &bench, case);
 }
 
 #[test]
-fn an_undo_waits_for_the_delivery(rt: HostRuntime) -> Result<(), Fail> {
+fn calls_get_their_replies(rt: HostRuntime) {
     let heap = rt.alloc();
-    let mut bench = open(&heap, Limits::usual())?;
-    answers(&rt, &heap, &mut bench, &DELIVERED)?;
-    let rows = [
-        (2, Call::Undo(1), held(1, 3)),
-        (2, Call::Undo(2), held(2, 4)),
-        (2, Call::Undo(3), held(3, 4)),
-        (2, Call::Back(0), held(3, 4)),
-        (2, Call::Undo(4), Reply::Undone(4)),
-        (2, Call::Undo(3), Reply::Undone(3)),
-        (2, Call::Back(0), Reply::Undone(1)),
-    ];
-    answers(&rt, &heap, &mut bench, &rows)?;
-    has_seen(&rt, &bench, 0, &[], 0)?;
-    assert_eq!(rt; bench.remaining().len(), 1);
-    let kept = bench.remaining().at(0).ok_or("no step")?;
-    assert_eq!(rt; (kept.number, kept.node), (2, 1));
-    assert!(rt; matches!(kept.step, Step::Up { name: 0 }));
-    Ok(())
-}
-
-#[test]
-fn a_delivery_brings_known_names_alone(rt: HostRuntime) -> Result<(), Fail> {
-    let heap = rt.alloc();
-    let rows = [
-        (0, Call::Join(1), Reply::Taken(1)),
-        (0, Call::Broadcast, Reply::Taken(2)),
-        (1, Call::Deliver(0, 1), Reply::Taken(3)),
-        (1, Call::Up(0), Reply::Taken(4)),
-        (1, Call::Deliver(0, 1), Reply::Taken(5)),
-    ];
-    plays(&rt, &heap, Limits::usual(), &rows[..3], 0, &[], 0)?;
-    plays(&rt, &heap, Limits::usual(), &rows, 1, &[], 1)
-}
-
-#[test]
-fn an_undone_broadcast_is_sent_with_the_next(rt: HostRuntime) -> Result<(), Fail> {
-    let heap = rt.alloc();
-    let rows = [
-        (0, Call::Join(1), Reply::Taken(1)),
-        (0, Call::Broadcast, Reply::Taken(2)),
-        (0, Call::Undo(2), Reply::Undone(2)),
-        (0, Call::Join(2), Reply::Taken(3)),
-        (0, Call::Broadcast, Reply::Taken(4)),
-        (1, Call::Up(0), Reply::Taken(5)),
-        (1, Call::Deliver(0, 1), Reply::Taken(6)),
-    ];
-    plays(&rt, &heap, Limits::usual(), &rows, 2, &[], 2)
-}
-
-#[test]
-fn an_undone_join_leaves_no_dot(rt: HostRuntime) -> Result<(), Fail> {
-    let heap = rt.alloc();
-    let rows = [
-        (0, Call::Join(1), Reply::Taken(1)),
-        (0, Call::Undo(1), Reply::Undone(1)),
-        (0, Call::Join(2), Reply::Taken(2)),
-        (0, Call::Broadcast, Reply::Taken(3)),
-        (1, Call::Up(0), Reply::Taken(4)),
-        (1, Call::Deliver(0, 1), Reply::Taken(5)),
-    ];
-    let mut bench = open(&heap, Limits::usual())?;
-    answers(&rt, &heap, &mut bench, &rows)?;
-    has_seen(&rt, &bench, 1, &[], 1)?;
-    let replica = bench.node(1).ok_or("no node")?.replica();
-    let entry = replica.entries().at(0).ok_or("no entry")?;
-    assert_eq!(rt; (entry.dot.name, entry.dot.clock), (0, 1));
-    assert_eq!(rt; entry.pid, 2);
-    Ok(())
-}
-
-#[test]
-fn an_early_delivery_leaves_a_gap_until_it_is_filled(rt: HostRuntime) -> Result<(), Fail> {
-    let heap = rt.alloc();
-    let rows = [
-        (0, Call::Join(1), Reply::Taken(1)),
-        (0, Call::Broadcast, Reply::Taken(2)),
-        (0, Call::Join(2), Reply::Taken(3)),
-        (0, Call::Broadcast, Reply::Taken(4)),
-        (1, Call::Up(0), Reply::Taken(5)),
-        (1, Call::Deliver(0, 2), Reply::Taken(6)),
-        (1, Call::Deliver(0, 1), Reply::Taken(7)),
-        (2, Call::Undo(7), Reply::Undone(7)),
-    ];
-    plays(&rt, &heap, Limits::usual(), &rows[..6], 0, &[2], 1)?;
-    plays(&rt, &heap, Limits::usual(), &rows[..7], 2, &[], 2)?;
-    plays(&rt, &heap, Limits::usual(), &rows, 0, &[2], 1)
-}
-
-#[test]
-fn an_undo_makes_place_for_a_delivery(rt: HostRuntime) -> Result<(), Fail> {
-    let heap = rt.alloc();
-    let limits = Limits::new(100, 1, 10, 10).ok_or("limits")?;
-    let rows = [
-        (0, Call::Join(1), Reply::Taken(1)),
-        (0, Call::Broadcast, Reply::Taken(2)),
-        (1, Call::Up(0), Reply::Taken(3)),
-        (1, Call::Join(9), Reply::Taken(4)),
-        (1, Call::Deliver(0, 1), Reply::Refused(Fault::EntriesFull)),
-        (2, Call::Undo(4), Reply::Undone(4)),
-        (1, Call::Deliver(0, 1), Reply::Taken(5)),
-    ];
-    plays(&rt, &heap, limits, &rows, 1, &[], 1)
-}
-
-#[test]
-fn each_fault_of_a_message_has_its_name(rt: HostRuntime) -> Result<(), Fail> {
-    let heap = rt.alloc();
-    let limits = Limits::new(100, 10, 10, 1).ok_or("limits")?;
-    let rows = [
-        (0, Call::Broadcast, Reply::Refused(Fault::NothingToSend)),
-        (0, Call::Extract(1), Reply::Taken(1)),
-        (0, Call::Extract(0), Reply::Refused(Fault::OutboxFull)),
-        (0, Call::Deliver(0, 1), Reply::Refused(Fault::OwnMessage)),
-        (1, Call::Deliver(0, 2), Reply::Refused(Fault::NoSuchMessage)),
-        (1, Call::Up(1), Reply::Refused(Fault::OwnReplica)),
-    ];
-    plays(&rt, &heap, limits, &rows, 0, &[], 0)
+    for case in &CASES {
+        plays(&rt, &heap, case);
+    }
 }

@@ -1,145 +1,137 @@
-//! What no contract says of the machine: that calls succeed with ample memory, by tables of calls and replies.
+//! What no contract says of the machine: that calls succeed with ample memory, and what its parts tell then.
+use crate::steps_tests::{DELIVERED, DELIVERED_AND_UNDONE, UNDONE_JOIN};
 use crate::*;
 use dots_core::NameSet;
+use journal_core::Journal;
 use payload_core::Word;
 use std::alloc::Allocator;
 use std::process::Abort;
-use std::test::Fail;
 
-/// A call in a table: a join of this process under topic `r` and key `alice`, an extract of one name, and the other acts.
+/// A call in a table: joins, leaves and updates of this process under key `alice` and topic `r`, or `s` where it says so, an
+/// extract of one name, and the other acts.
 #[derive(Clone, Copy)]
 pub(crate) enum Call {
     Join(u64),
+    JoinUnderS(u64),
+    Leave(u64),
+    LeaveAll(u64),
+    Update(u64),
     Broadcast,
     Extract(u16),
     Deliver(u16, u64),
     Up(u16),
+    Down(u16),
+    Permdown(u16),
     Undo(u64),
     Back(u16),
 }
 
+/// A node's number, a call that it makes, and the reply.
+pub(crate) type Row = (u16, Call, Reply);
+
+/// The usual limits on acts, and on a node's entries, clock and messages.
+pub(crate) const USUAL: [u64; 4] = [100_000, 10_000, 1_000_000, 10_000];
+
 impl Call {
-    pub(crate) fn act<A: Allocator + Copy>(self, alloc: A) -> Result<Act<A>, Fail> {
+    pub(crate) fn act<A: Allocator + Copy>(self, rt: &impl Abort, alloc: A) -> Act<A> {
         match self {
-            Call::Join(pid) => Ok(Act::Do(Step::Join {
-                pid,
-                topic: Word::new(alloc, "r")?,
-                key: Word::new(alloc, "alice")?,
-                metadata: Word::new(alloc, "phone")?,
-            })),
-            Call::Broadcast => Ok(Act::Do(Step::Broadcast)),
-            Call::Extract(name) if name < 32 => Ok(Act::Do(Step::Extract {
-                names: NameSet::empty().with(name),
-            })),
-            Call::Extract(_) => Err("no name")?,
-            Call::Deliver(sender, number) => Ok(Act::Do(Step::Deliver { sender, number })),
-            Call::Up(name) => Ok(Act::Do(Step::Up { name })),
-            Call::Undo(number) => Ok(Act::Undo(number)),
-            Call::Back(node) => Ok(Act::Back(node)),
+            Call::Join(pid) => Act::Do(join(rt, alloc, pid, "r")),
+            Call::JoinUnderS(pid) => Act::Do(join(rt, alloc, pid, "s")),
+            Call::Leave(pid) => Act::Do(leave(rt, alloc, pid)),
+            Call::LeaveAll(pid) => Act::Do(Step::LeaveAll { pid }),
+            Call::Update(pid) => Act::Do(update(rt, alloc, pid)),
+            Call::Broadcast => Act::Do(Step::Broadcast),
+            Call::Extract(name) => Act::Do(extract(rt, name)),
+            Call::Deliver(sender, number) => Act::Do(Step::Deliver { sender, number }),
+            Call::Up(name) => Act::Do(Step::Up { name }),
+            Call::Down(name) => Act::Do(Step::Down { name }),
+            Call::Permdown(name) => Act::Do(Step::Permdown { name }),
+            Call::Undo(number) => Act::Undo(number),
+            Call::Back(node) => Act::Back(node),
         }
     }
 }
 
-/// A bench of the nodes `a` and `b`.
-pub(crate) fn open<'a, B: Allocator>(alloc: &'a B, limits: Limits) -> Result<Bench<'a, B>, Fail> {
-    let names = Names::new(alloc, &["a", "b"])?;
-    Ok(Bench::new(alloc, names, limits)?)
+fn join<A: Allocator + Copy>(rt: &impl Abort, alloc: A, pid: u64, topic: &str) -> Step<A> {
+    Step::Join {
+        pid,
+        topic: Word::new(alloc, topic).expect(rt, "a topic"),
+        key: Word::new(alloc, "alice").expect(rt, "a key"),
+        metadata: Word::new(alloc, "phone").expect(rt, "metadata"),
+    }
 }
 
-/// Opens a bench and makes the calls in turn, each of which gets its reply. So many calls are recorded then, and so many
-/// steps remain.
-fn plays<'a, B: Allocator>(
+fn leave<A: Allocator + Copy>(rt: &impl Abort, alloc: A, pid: u64) -> Step<A> {
+    Step::Leave {
+        pid,
+        topic: Word::new(alloc, "r").expect(rt, "a topic"),
+        key: Word::new(alloc, "alice").expect(rt, "a key"),
+    }
+}
+
+fn update<A: Allocator + Copy>(rt: &impl Abort, alloc: A, pid: u64) -> Step<A> {
+    Step::Update {
+        pid,
+        topic: Word::new(alloc, "r").expect(rt, "a topic"),
+        key: Word::new(alloc, "alice").expect(rt, "a key"),
+        metadata: Word::new(alloc, "away").expect(rt, "metadata"),
+    }
+}
+
+fn extract<A: Allocator>(rt: &impl Abort, name: u16) -> Step<A> {
+    assert!(rt; name < 32);
+    Step::Extract {
+        names: NameSet::empty().with(name),
+    }
+}
+
+/// A bench of the nodes `a` and `b`.
+pub(crate) fn open<'a, B: Allocator>(
     rt: &impl Abort,
     alloc: &'a B,
     limits: Limits,
-    rows: &[(u16, Call, Reply)],
-    recorded: usize,
-    remaining: usize,
-) -> Result<(), Fail> {
-    let mut bench = open(alloc, limits)?;
-    answers(rt, alloc, &mut bench, rows)?;
-    assert_eq!(rt; bench.history().len(), recorded);
-    assert_eq!(rt; bench.remaining().len(), remaining);
-    Ok(())
+) -> Bench<'a, B> {
+    let names = Names::new(alloc, &["a", "b"]).expect(rt, "names");
+    Bench::new(alloc, names, limits).expect(rt, "a bench")
 }
 
-/// Makes the calls in turn: each gets its reply.
+pub(crate) fn limits_of(rt: &impl Abort, limits: [u64; 4], name: &str) -> Limits {
+    let [acts, entries, clock, messages] = limits;
+    Limits::new(acts, entries, clock, messages).expect(rt, name)
+}
+
+/// Makes one call, which gets its reply.
 pub(crate) fn answers<'a, B: Allocator>(
     rt: &impl Abort,
     alloc: &'a B,
     bench: &mut Bench<'a, B>,
-    rows: &[(u16, Call, Reply)],
-) -> Result<(), Fail> {
-    for (actor, call, reply) in rows {
-        let act = call.act(alloc)?;
-        assert_eq!(rt; bench.act(*actor, &act), *reply);
-    }
-    Ok(())
+    row: &Row,
+    name: &str,
+) {
+    let (actor, call, reply) = *row;
+    let act = call.act(rt, alloc);
+    let answer = bench.act(actor, &act);
+    drop(act);
+    assert_eq!(rt; answer, reply, "{name}");
 }
 
-/// Opens a bench and hands it all the calls at once, which get these replies.
-fn runs<'a, B: Allocator>(
+/// A bench that was asked these calls in turn, each of which got its reply.
+pub(crate) fn played<'a, B: Allocator>(
     rt: &impl Abort,
     alloc: &'a B,
-    calls: &[(u16, Act<&'a B>)],
-    expected: &[Reply],
-) -> Result<(), Fail> {
-    let mut bench = open(alloc, Limits::usual())?;
-    let replies = bench.run(calls)?;
-    assert_eq!(rt; replies.as_slice(), expected);
-    Ok(())
+    limits: Limits,
+    rows: &[Row],
+    name: &str,
+) -> Bench<'a, B> {
+    let mut bench = open(rt, alloc, limits);
+    for row in rows {
+        answers(rt, alloc, &mut bench, row, name);
+    }
+    bench
 }
 
 #[test]
-fn an_undo_waits_for_later_steps_of_its_node(rt: HostRuntime) -> Result<(), Fail> {
-    let heap = rt.alloc();
-    let held = Fault::HasConsequence {
-        step: 1,
-        held_by: 2,
-    };
-    let rows = [
-        (0, Call::Join(1), Reply::Taken(1)),
-        (0, Call::Join(1), Reply::Refused(Fault::AlreadyTracked)),
-        (0, Call::Join(2), Reply::Taken(2)),
-        (1, Call::Join(1), Reply::Taken(3)),
-        (5, Call::Undo(1), Reply::Refused(held)),
-        (1, Call::Undo(2), Reply::Undone(2)),
-        (0, Call::Undo(1), Reply::Undone(1)),
-        (0, Call::Undo(1), Reply::Refused(Fault::AlreadyUndone)),
-        (0, Call::Join(3), Reply::Taken(4)),
-    ];
-    plays(&rt, &heap, Limits::usual(), &rows, 9, 2)
-}
-
-#[test]
-fn an_undo_of_no_remaining_step_is_refused(rt: HostRuntime) -> Result<(), Fail> {
-    let heap = rt.alloc();
-    let rows = [
-        (0, Call::Undo(0), Reply::Refused(Fault::NoSuchStep)),
-        (0, Call::Undo(9), Reply::Refused(Fault::NoSuchStep)),
-        (0, Call::Join(1), Reply::Taken(1)),
-        (2, Call::Undo(1), Reply::Undone(1)),
-        (2, Call::Undo(1), Reply::Refused(Fault::AlreadyUndone)),
-        (2, Call::Back(1), Reply::Refused(Fault::NothingToUndo)),
-    ];
-    plays(&rt, &heap, Limits::usual(), &rows, 6, 0)
-}
-
-#[test]
-fn a_number_that_is_no_nodes_is_refused(rt: HostRuntime) -> Result<(), Fail> {
-    let heap = rt.alloc();
-    let rows = [
-        (7, Call::Broadcast, Reply::Refused(Fault::UnknownNode)),
-        (0, Call::Up(5), Reply::Refused(Fault::UnknownNode)),
-        (0, Call::Extract(5), Reply::Refused(Fault::UnknownNode)),
-        (0, Call::Back(2), Reply::Refused(Fault::UnknownNode)),
-        (40, Call::Undo(1), Reply::Refused(Fault::NoSuchStep)),
-    ];
-    plays(&rt, &heap, Limits::usual(), &rows, 5, 0)
-}
-
-#[test]
-fn a_run_of_them_gives_their_replies(rt: HostRuntime) -> Result<(), Fail> {
+fn a_run_of_calls_gives_their_replies(rt: HostRuntime) {
     let heap = rt.alloc();
     let names = NameSet::empty().with(5);
     let calls = [
@@ -151,78 +143,84 @@ fn a_run_of_them_gives_their_replies(rt: HostRuntime) -> Result<(), Fail> {
     ];
     let unknown = Reply::Refused(Fault::UnknownNode);
     let never = Reply::Refused(Fault::NoSuchStep);
-    runs(
-        &rt,
-        &heap,
-        &calls,
-        &[unknown, unknown, unknown, unknown, never],
-    )
+    let expected = [unknown, unknown, unknown, unknown, never];
+    let mut bench = open(&rt, &heap, Limits::usual());
+    let replies = bench.run(&calls).expect(&rt, "replies");
+    assert_eq!(rt; replies.as_slice(), expected.as_slice());
 }
 
 #[test]
-fn a_full_history_refuses_a_step_and_no_undo(rt: HostRuntime) -> Result<(), Fail> {
+fn an_act_is_the_same_as_its_copy(rt: HostRuntime) {
     let heap = rt.alloc();
-    let limits = Limits::new(2, 10, 10, 10).ok_or("limits")?;
-    let rows = [
-        (0, Call::Join(1), Reply::Taken(1)),
-        (0, Call::Join(2), Reply::Refused(Fault::HistoryFull)),
-        (0, Call::Undo(1), Reply::Undone(1)),
-        (0, Call::Undo(1), Reply::Refused(Fault::AlreadyUndone)),
-    ];
-    plays(&rt, &heap, limits, &rows, 2, 0)
-}
-
-#[test]
-fn a_full_node_refuses_a_join(rt: HostRuntime) -> Result<(), Fail> {
-    let heap = rt.alloc();
-    for (entries, clock, fault) in [
-        (1, 10, Fault::EntriesFull),
-        (10, 1, Fault::ClockFull),
-        (1, 1, Fault::EntriesFull),
-    ] {
-        let limits = Limits::new(10, entries, clock, 10).ok_or("limits")?;
-        let rows = [
-            (0, Call::Join(1), Reply::Taken(1)),
-            (0, Call::Join(2), Reply::Refused(fault)),
-        ];
-        plays(&rt, &heap, limits, &rows, 2, 1)?;
-    }
-    Ok(())
-}
-
-#[test]
-fn an_act_is_the_same_as_its_copy(rt: HostRuntime) -> Result<(), Fail> {
-    let heap = rt.alloc();
-    let act = Call::Join(1).act(&heap)?;
-    let copy = act.try_copy()?;
+    let act = Call::Join(1).act(&rt, &heap);
+    let copy = act.try_copy().expect(&rt, "a copy");
     assert!(rt; act.same(&copy));
-    Ok(())
 }
 
 #[test]
-fn a_bench_has_its_names_and_limits(rt: HostRuntime) -> Result<(), Fail> {
+fn a_bench_has_its_names_and_limits(rt: HostRuntime) {
     let heap = rt.alloc();
-    let bench = open(&heap, Limits::usual())?;
+    let bench = open(&rt, &heap, Limits::usual());
     assert_eq!(rt; bench.names().number_of("b"), Some(1));
     assert_eq!(rt; bench.limits().acts(), 100_000);
     assert!(rt; bench.node(1).is_some() && bench.node(2).is_none());
-    Ok(())
-}
-
-/// The reply to the first recorded call.
-fn first_reply<'a, B: Allocator>(bench: &Bench<'a, B>) -> Option<Reply> {
-    Some(bench.history().at(0)?.reply)
 }
 
 #[test]
-fn a_step_is_recorded_and_kept(rt: HostRuntime) -> Result<(), Fail> {
+fn a_step_is_recorded_and_kept(rt: HostRuntime) {
     let heap = rt.alloc();
-    let mut bench = open(&heap, Limits::usual())?;
     let rows = [(1, Call::Join(1), Reply::Taken(1))];
-    answers(&rt, &heap, &mut bench, &rows)?;
-    let kept = bench.remaining().at(0).ok_or("no step")?;
+    let bench = played(&rt, &heap, Limits::usual(), &rows, "one join");
+    let kept = bench.remaining().at(0).expect(&rt, "a step");
     assert_eq!(rt; (kept.number, kept.node), (1, 1));
-    let reply = first_reply(&bench).ok_or("no call")?;
-    assert_eq!(rt; reply, Reply::Taken(1));
-    Ok(())
+    let event = bench.history().at(0).expect(&rt, "a call");
+    assert_eq!(rt; (event.actor, event.reply), (1, Reply::Taken(1)));
+}
+
+/// Each of these steps has this least consequence.
+fn holds<'a, B: Allocator>(
+    rt: &impl Abort,
+    journal: &Journal<'a, B>,
+    consequences: &[(u64, Option<u64>)],
+) {
+    for (step, held_by) in consequences {
+        assert_eq!(rt; journal.first_consequence(*step), *held_by, "{step}");
+    }
+}
+
+/// The number of the last step of a node.
+fn last_of<'a, B: Allocator>(bench: &Bench<'a, B>, node: u16) -> Option<u64> {
+    if node as usize >= bench.names().len() {
+        return None;
+    }
+    bench.remaining().last_of(node)
+}
+
+#[test]
+fn a_step_is_held_by_its_least_consequence(rt: HostRuntime) {
+    let heap = rt.alloc();
+    let bench = played(&rt, &heap, Limits::usual(), &DELIVERED, "a delivery");
+    let held = [(1, Some(3)), (2, Some(4)), (3, Some(4)), (4, None)];
+    holds(&rt, bench.remaining(), &held);
+    assert_eq!(rt; last_of(&bench, 0), Some(3));
+    assert_eq!(rt; last_of(&bench, 1), Some(4));
+}
+
+#[test]
+fn the_step_that_remains_is_as_it_was_asked(rt: HostRuntime) {
+    let heap = rt.alloc();
+    let bench = played(&rt, &heap, Limits::usual(), &DELIVERED_AND_UNDONE, "undone");
+    let kept = bench.remaining().at(0).expect(&rt, "a step");
+    assert_eq!(rt; (kept.number, kept.node), (2, 1));
+    assert!(rt; matches!(kept.step, Step::Up { name: 0 }));
+}
+
+#[test]
+fn an_entry_of_a_later_join_has_the_dot_of_the_undone(rt: HostRuntime) {
+    let heap = rt.alloc();
+    let bench = played(&rt, &heap, Limits::usual(), &UNDONE_JOIN, "an undone join");
+    let replica = bench.node(1).expect(&rt, "a node").replica();
+    let entry = replica.entries().at(0).expect(&rt, "an entry");
+    assert_eq!(rt; (entry.dot.name, entry.dot.clock), (0, 1));
+    assert_eq!(rt; entry.pid, 2);
 }

@@ -1,3 +1,4 @@
+pub mod Gathering
 pub mod Loans
 pub mod Places
 pub mod Rising

@@ -1,3 +1,4 @@
 pub mod Holdings
 pub mod Journals
 pub mod Laws
+pub mod Futures

@@ -3,11 +3,12 @@ ghost use Rattle.std.specs.Prelude.{◌≡◌, ◌++◌, ◌∷◌, [], ◌<◌,
 ghost use Rattle.node_core.specs.Operations.{plain, delivers};
 ghost use Rattle.node_core.specs.Inverses.{plain_inverse};
 ghost use Rattle.journal_core.specs.Journals.{find_number, first_consequence, last_of};
+ghost use Rattle.journal_core.specs.Futures.{future};
 ghost use Rattle.journal_core.specs.Holdings.{kepts, find_held, inverse_of, with_inverse, without_held, AreAllHeld, IsLent, CanBeKept};
 
 use crate::held::Held;
 use crate::kept::Kept;
-use crate::search::{consequence, find, held_at, last, place};
+use crate::search::{consequence, find, future, held_at, last, place};
 use node_core::{Inverse, Oom, Step};
 use std::alloc::Allocator;
 use std::marker::Model;
@@ -95,6 +96,14 @@ impl<'a, B: Allocator> Journal<'a, B> {
         ensures { result ≡ first_consequence (kepts self.now.steps) number }
     {
         consequence(self.steps.as_slice(), number)
+    }
+
+    /// The number of a step and those of all that follows from it: of its direct consequences, of theirs, and so on.
+    /// Greatest first; none where the step doesn't remain.
+    pub fn future(&self, number: u64) -> Result<Vec<u64, &'a B>, Oom>
+        ensures { IfOk result (λ numbers. numbers.items ≡ future (kepts self.now.steps) number) }
+    {
+        future(*self.steps.allocator(), self.steps.as_slice(), number)
     }
 
     /// Makes room for one step of this node. After an `Ok` the next `keep`, if it is of such a step, isn't refused.

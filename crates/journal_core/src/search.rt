@@ -1,12 +1,14 @@
 //! What is looked up among the held steps: a number, the sender of a message, the consequences of a step.
-ghost use Rattle.std.specs.Prelude.{◌≡◌, option_copied, slice_get};
+ghost use Rattle.std.specs.Prelude.{◌≡◌, ◌==◌, ◌&&◌, ◌||◌, [], IfOk, map, reverse, nat_lt, option_copied, slice_get};
+ghost use Rattle.std.specs.List.{list_any};
 ghost use Rattle.node_core.specs.Operations.{plain};
 ghost use Rattle.journal_core.specs.Journals.{find_number, sender_of, source_of, is_consequence, first_consequence, last_of};
+ghost use Rattle.journal_core.specs.Futures.{future, gathered};
 ghost use Rattle.journal_core.specs.Holdings.{kepts, place_of};
 
 use crate::held::Held;
 use crate::kept::Kept;
-use node_core::Step;
+use node_core::{Oom, Step};
 use std::alloc::Allocator;
 
 pub(crate) fn find<'x, 'a, B: Allocator>(
@@ -72,12 +74,92 @@ fn source<'a, B: Allocator>(steps: &[Held<'a, B>], step: &Step<&'a B>) -> Option
     }
 }
 
+/// Whether `other` is a later step of the node of `kept`.
+fn is_later<A: Allocator>(kept: &Kept<A>, other: &Kept<A>) -> bool
+    ensures { result ≡ ((kept.now.node == other.now.node) && nat_lt kept.now.number other.now.number) }
+{
+    kept.node == other.node && kept.number < other.number
+}
+
 /// Whether `other` is a direct consequence of `kept`.
 fn follows<'a, B: Allocator>(steps: &[Held<'a, B>], kept: &Kept<&'a B>, other: &Kept<&'a B>) -> bool
     ensures { result ≡ is_consequence (kepts steps.now) kept.now other.now }
 {
-    kept.node == other.node && kept.number < other.number
-        || source(steps, &other.step) == Some(kept.number)
+    is_later(kept, other) || source(steps, &other.step) == Some(kept.number)
+}
+
+/// Whether `other` is a direct consequence of one of these steps.
+fn follows_any<'a, B: Allocator>(
+    steps: &[Held<'a, B>],
+    found: &[&Kept<&'a B>],
+    other: &Kept<&'a B>,
+) -> bool
+    ensures { result ≡ list_any (λ k. is_consequence (kepts steps.now) k other.now) (map (λ k. k.now) found.now) }
+{
+    let sent_by = source(steps, &other.step);
+    for kept in found {
+        if is_later(kept, other) || sent_by == Some(kept.number) {
+            return true;
+        }
+    }
+    false
+}
+
+/// Whether a step has this number or is a direct consequence of one of those found.
+fn joins<'a, B: Allocator>(
+    steps: &[Held<'a, B>],
+    found: &[&Kept<&'a B>],
+    kept: &Kept<&'a B>,
+    number: u64,
+) -> bool
+    ensures { result ≡ ((kept.now.number == number) || list_any (λ k. is_consequence (kepts steps.now) k kept.now) (map (λ k. k.now) found.now)) }
+{
+    kept.number == number || follows_any(steps, found, kept)
+}
+
+/// The step of this number and all that follows from it, in the order in which they were taken.
+fn gather<'x, 'a, B: Allocator>(
+    alloc: &'a B,
+    steps: &'x [Held<'a, B>],
+    number: u64,
+) -> Result<Vec<&'x Kept<&'a B>, &'a B>, Oom>
+    ensures { IfOk result (λ found. reverse (map (λ k. k.now) found.items) ≡ gathered (kepts steps.now) number [] (kepts steps.now)) }
+{
+    let mut found = Vec::new(alloc);
+    for held in steps {
+        let kept = held.kept();
+        if joins(steps, found.as_slice(), kept, number) {
+            found.push(kept)?;
+        }
+    }
+    Ok(found)
+}
+
+/// The numbers of these steps, that of the last one first.
+fn numbers_back<'a, B: Allocator>(
+    alloc: &'a B,
+    found: &[&Kept<&'a B>],
+) -> Result<Vec<u64, &'a B>, Oom>
+    ensures { IfOk result (λ numbers. numbers.items ≡ reverse (map (λ k. k.number) (map (λ k. k.now) found.now))) }
+{
+    let mut numbers = Vec::with_capacity(alloc, found.len())?;
+    for kept in found {
+        numbers.push(kept.number)?;
+    }
+    numbers.reverse();
+    Ok(numbers)
+}
+
+/// The numbers of this step and of all that follows from it, greatest first.
+pub(crate) fn future<'a, B: Allocator>(
+    alloc: &'a B,
+    steps: &[Held<'a, B>],
+    number: u64,
+) -> Result<Vec<u64, &'a B>, Oom>
+    ensures { IfOk result (λ numbers. numbers.items ≡ future (kepts steps.now) number) }
+{
+    let found = gather(alloc, steps, number)?;
+    numbers_back(alloc, found.as_slice())
 }
 
 pub(crate) fn consequence<'a, B: Allocator>(steps: &[Held<'a, B>], number: u64) -> Option<u64>

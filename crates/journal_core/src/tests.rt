@@ -11,6 +11,7 @@ use dots_core::NameSet;
 use node_core::{Inverse, Meter, Node, NodeLimits, Step};
 use payload_core::Word;
 use std::alloc::Allocator;
+use std::process::Abort;
 use std::test::Fail;
 use test_alloc::Refusing;
 
@@ -83,6 +84,26 @@ fn a_delivery_follows_from_its_send(rt: HostRuntime) -> Result<(), Fail> {
     assert_eq!(rt; journal.last_of(0), Some(3));
     assert_eq!(rt; journal.last_of(1), Some(4));
     Ok(())
+}
+
+fn has_future<'a, B: Allocator>(
+    rt: &impl Abort,
+    journal: &Journal<'a, B>,
+    number: u64,
+    expected: &[u64],
+) -> Result<(), Fail> {
+    let numbers = journal.future(number)?;
+    assert_eq!(rt; numbers.as_slice(), expected);
+    Ok(())
+}
+
+#[test]
+fn a_future_goes_all_the_way(rt: HostRuntime) -> Result<(), Fail> {
+    let heap = rt.alloc();
+    let journal = four_steps(&heap)?;
+    has_future(&rt, &journal, 1, &[4, 3, 1])?;
+    has_future(&rt, &journal, 2, &[4, 2])?;
+    has_future(&rt, &journal, 5, &[])
 }
 
 fn lends_and_puts_back<'a, B: Allocator>(

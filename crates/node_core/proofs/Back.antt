@@ -4,11 +4,10 @@ use Rattle.payload_core.specs.Messages.{Message}
 use Rattle.replica_core.specs.Replicas.{Replica, delta_message, without_delta, with_delta, CanBeDelta}
 use Rattle.replica_core.specs.Kept.{IsReplica}
 use Rattle.replica_core.specs.Changes as changes
-use Rattle.replica_core.specs.Changes.{ByJoin, ByMerge, ByUp}
 use Rattle.node_core.specs.Nodes.{Node, with_replica, with_sent}
 use Rattle.node_core.specs.Kept.{IsNode}
 use Rattle.node_core.specs.Inverses.{Inverse, OfChange, OfBroadcast, OfExtract, LeadsBack, LeadsSomewhere, GivesBack}
-use Rattle.node_core.specs.Laws.{OneWayBackLaw}
+use Rattle.node_core.proofs.Changes.{limits_stay}
 
 -- two lists with one more at their ends
 same_last : {X : Type 0} (xs ys : List X) (x y : X) → xs ++ x ∷ [] ≡ ys ++ y ∷ [] → (xs ≡ ys) × (x ≡ y)
@@ -38,11 +37,6 @@ module _ (before n : Node) (same : before ≡ n) where
       let replica : now ≡ a.replica = gives a.replica (subst (λ (n : Node). changes.LeadsBack change n.replica a.replica) (sym same) leads.names.0) in
       let outbox : before.outbox ≡ a.outbox = subst (λ (n : Node). n.outbox ≡ a.outbox) (sym same) leads.names.1 in
       λ i. record { replica = replica i; outbox = outbox i }
-
-  limits_stay : (a b : Replica) → changes.IsOneCall a b → b.limits ≡ a.limits
-  limits_stay a b (ByJoin p free is) = ap (λ (r : Replica). r.limits) is
-  limits_stay a b (ByMerge m free is) = ap (λ (r : Replica). r.limits) is
-  limits_stay a b (ByUp name free is) = ap (λ (r : Replica). r.limits) is
 
   change_kept : (change : changes.Change) (now : Replica) → LeadsSomewhere (OfChange change) n → changes.GivesBack change before.replica now → IsNode (with_replica before now)
   change_kept change now leads gives = subst IsNode (sym (change_back change now gives leads.0 leads.1)) leads.1.earlier

@@ -1,2 +1,3 @@
-pub mod Takes
+pub mod Changes
+pub mod Sends
 pub mod Back

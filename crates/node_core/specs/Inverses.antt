@@ -23,6 +23,12 @@ plain_inverse (variants.Change change) = OfChange change
 plain_inverse variants.Broadcast = OfBroadcast
 plain_inverse variants.Extract = OfExtract
 
+-- whether it is the inverse of a step that sent a message
+abbrev pub is_of_send : Inverse → Bool
+is_of_send (OfChange change) = false
+is_of_send OfBroadcast = true
+is_of_send OfExtract = true
+
 -- an inverse is stored as its change, if it has one, and whether it is of a broadcast
 abbrev stored : Inverse → Option changes.Change × Bool
 stored (OfChange change) = (Some change, false)

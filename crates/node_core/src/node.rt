@@ -1,11 +1,11 @@
 //! `Node`: a replica with an outbox, its steps, and the way back.
-ghost use Rattle.std.specs.Prelude.{◌≡◌, ◌↔◌, ◌<◌, ◌≢◌, ◌+◌, IsTrue, IfOk, IfErr, OnOk, OnErr, Ok, Err, None, Some, option_map};
+ghost use Rattle.std.specs.Prelude.{◌≡◌, ◌↔◌, ◌<◌, ◌≢◌, ◌+◌, IsTrue, IsOk, IfOk, IfErr, OnOk, OnErr, Ok, Err, None, Some, option_map};
 ghost use Rattle.replica_core.specs.Limits.{AreNodeLimits};
 ghost use Rattle.node_core.specs.declared.step_fault.StepFault.TheVariants.{OutOfMemory};
-ghost use Rattle.node_core.specs.Operations.{plain, AreNames, Join, Broadcast, Extract, Deliver, Up};
+ghost use Rattle.node_core.specs.Operations.{plain, AreNames, Join, Leave, LeaveAll, Update, Broadcast, Extract, Deliver, Up, Down, Permdown};
 ghost use Rattle.node_core.specs.Nodes.{opening_node, take};
 ghost use Rattle.node_core.specs.Kept.{IsNode};
-ghost use Rattle.node_core.specs.Inverses.{plain_inverse, OfChange, OfBroadcast, OfExtract, LeadsBack, LeadsSomewhere, GivesBack, Takes};
+ghost use Rattle.node_core.specs.Inverses.{plain_inverse, is_of_send, OfChange, OfBroadcast, OfExtract, LeadsBack, LeadsSomewhere, GivesBack, Takes};
 
 use crate::inverse::Inverse;
 use crate::meter::Meter;
@@ -69,12 +69,13 @@ impl<'a, B: Allocator> Node<'a, B> {
     }
 
     /// The node as it was before the step that the inverse is of, its last one. Memory that is refused leaves the node as
-    /// it was and gives the inverse back.
+    /// it was and gives the inverse back; a step that sent a message is taken back without memory.
     pub fn give_back(&mut self, inverse: Inverse<&'a B>) -> Result<(), (Inverse<&'a B>, Oom)>
         requires { LeadsSomewhere (plain_inverse inverse) self.old }
         ensures ok { OnOk result (GivesBack (plain_inverse inverse.entry) self.old self.new) }
         ensures err { OnErr result (self.new ≡ self.old) }
         ensures given_back { IfErr result (λ failed. plain_inverse failed.0 ≡ plain_inverse inverse.entry) }
+        ensures a_send_needs_no_memory { IsTrue (is_of_send (plain_inverse inverse.entry)) → IsOk result }
     {
         match inverse {
             Inverse::Change(change) => match self.undo(change) {
@@ -150,6 +151,42 @@ impl<'a, B: Allocator> Node<'a, B> {
         ensures { Takes self.old (Join (record { pid = pid; topic = topic.now; key = key.now; metadata = metadata.now })) None result self.new }
     {
         let change = self.replica.join(pid, topic, key, metadata)?;
+        self.replica.replica_law();
+        Ok(Inverse::Change(change))
+    }
+
+    fn leave(
+        &mut self,
+        pid: u64,
+        topic: &Word<&'a B>,
+        key: &Word<&'a B>,
+    ) -> Result<Inverse<&'a B>, StepFault>
+        ensures { Takes self.old (Leave pid topic.now key.now) None result self.new }
+    {
+        let change = self.replica.leave(pid, topic, key)?;
+        self.replica.replica_law();
+        Ok(Inverse::Change(change))
+    }
+
+    fn leave_all(&mut self, pid: u64) -> Result<Inverse<&'a B>, StepFault>
+        ensures { Takes self.old (LeaveAll pid) None result self.new }
+    {
+        let change = self.replica.leave_all(pid)?;
+        self.replica.replica_law();
+        Ok(Inverse::Change(change))
+    }
+
+    fn update(
+        &mut self,
+        pid: u64,
+        topic: &Word<&'a B>,
+        key: &Word<&'a B>,
+        metadata: &Word<&'a B>,
+    ) -> Result<Inverse<&'a B>, StepFault>
+        ensures { Takes self.old (Update (record { pid = pid; topic = topic.now; key = key.now; metadata = metadata.now })) None result self.new }
+    {
+        let change = self.replica.update(pid, topic, key, metadata)?;
+        self.replica.replica_law();
         Ok(Inverse::Change(change))
     }
 
@@ -204,6 +241,25 @@ impl<'a, B: Allocator> Node<'a, B> {
         ensures { Takes self.old (Up name) None result self.new }
     {
         let change = self.replica.up(name)?;
+        self.replica.replica_law();
+        Ok(Inverse::Change(change))
+    }
+
+    fn down(&mut self, name: u16) -> Result<Inverse<&'a B>, StepFault>
+        requires { name < 32 }
+        ensures { Takes self.old (Down name) None result self.new }
+    {
+        let change = self.replica.down(name)?;
+        self.replica.replica_law();
+        Ok(Inverse::Change(change))
+    }
+
+    fn permdown(&mut self, name: u16) -> Result<Inverse<&'a B>, StepFault>
+        requires { name < 32 }
+        ensures { Takes self.old (Permdown name) None result self.new }
+    {
+        let change = self.replica.permdown(name)?;
+        self.replica.replica_law();
         Ok(Inverse::Change(change))
     }
 
@@ -222,10 +278,20 @@ impl<'a, B: Allocator> Node<'a, B> {
                 key,
                 metadata,
             } => self.join(*pid, topic, key, metadata),
+            Step::Leave { pid, topic, key } => self.leave(*pid, topic, key),
+            Step::LeaveAll { pid } => self.leave_all(*pid),
+            Step::Update {
+                pid,
+                topic,
+                key,
+                metadata,
+            } => self.update(*pid, topic, key, metadata),
             Step::Broadcast => self.broadcast(),
             Step::Extract { names } => self.extract(*names),
             Step::Deliver { sender, number } => self.deliver(*sender, *number, message),
             Step::Up { name } => self.up(*name),
+            Step::Down { name } => self.down(*name),
+            Step::Permdown { name } => self.permdown(*name),
         }
     }
 

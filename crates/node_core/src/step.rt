@@ -1,6 +1,6 @@
 //! `Step`: what one node does.
 ghost use Rattle.std.specs.Prelude.{◌≡◌, ◌↔◌, IsTrue, IfOk};
-ghost use Rattle.node_core.specs.Operations.{delivers, plain, sends};
+ghost use Rattle.node_core.specs.Operations.{Join, Leave, Update, Deliver, delivers, plain, sends};
 
 use dots_core::NameSet;
 use payload_core::{Oom, Word};
@@ -11,6 +11,23 @@ use std::alloc::Allocator;
 pub enum Step<A: Allocator> {
     /// Tracks a process, a number of the node, under a topic and a key.
     Join {
+        pid: u64,
+        topic: Word<A>,
+        key: Word<A>,
+        metadata: Word<A>,
+    },
+    /// Tracks the process no longer under the topic and the key.
+    Leave {
+        pid: u64,
+        topic: Word<A>,
+        key: Word<A>,
+    },
+    /// Tracks the process no longer at all.
+    LeaveAll {
+        pid: u64,
+    },
+    /// Gives the process, as it is tracked under the topic and the key, other metadata.
+    Update {
         pid: u64,
         topic: Word<A>,
         key: Word<A>,
@@ -31,6 +48,14 @@ pub enum Step<A: Allocator> {
     Up {
         name: u16,
     },
+    /// Another name, a known one, is down.
+    Down {
+        name: u16,
+    },
+    /// Nothing more is held of another name, a known one that is down, and it is known no longer.
+    Permdown {
+        name: u16,
+    },
 }
 
 impl<A: Allocator> Step<A> {
@@ -38,36 +63,95 @@ impl<A: Allocator> Step<A> {
     pub fn same(&self, other: &Self) -> bool
         ensures { IsTrue result ↔ (plain self.now ≡ plain other.now) }
     {
-        match (self, other) {
-            (
-                Step::Join {
-                    pid,
-                    topic,
-                    key,
-                    metadata,
-                },
-                Step::Join {
-                    pid: other_pid,
-                    topic: other_topic,
-                    key: other_key,
-                    metadata: other_metadata,
-                },
-            ) => {
-                pid == other_pid
-                    && topic.same(other_topic)
-                    && key.same(other_key)
-                    && metadata.same(other_metadata)
+        match self {
+            Step::Join {
+                pid,
+                topic,
+                key,
+                metadata,
+            } => other.is_join(*pid, topic, key, metadata),
+            Step::Leave { pid, topic, key } => other.is_leave(*pid, topic, key),
+            Step::LeaveAll { pid } => {
+                matches!(other, Step::LeaveAll { pid: other } if pid == other)
             }
-            (Step::Broadcast, Step::Broadcast) => true,
-            (Step::Extract { names }, Step::Extract { names: others }) => names.same(*others),
-            (
-                Step::Deliver { sender, number },
-                Step::Deliver {
-                    sender: other_sender,
-                    number: other_number,
-                },
-            ) => sender == other_sender && number == other_number,
-            (Step::Up { name }, Step::Up { name: other_name }) => name == other_name,
+            Step::Update {
+                pid,
+                topic,
+                key,
+                metadata,
+            } => other.is_update(*pid, topic, key, metadata),
+            Step::Broadcast => matches!(other, Step::Broadcast),
+            Step::Extract { names } => {
+                matches!(other, Step::Extract { names: others } if names.same(*others))
+            }
+            Step::Deliver { sender, number } => other.is_deliver(*sender, *number),
+            Step::Up { name } => matches!(other, Step::Up { name: other } if name == other),
+            Step::Down { name } => matches!(other, Step::Down { name: other } if name == other),
+            Step::Permdown { name } => {
+                matches!(other, Step::Permdown { name: other } if name == other)
+            }
+        }
+    }
+
+    fn is_join(&self, pid: u64, topic: &Word<A>, key: &Word<A>, metadata: &Word<A>) -> bool
+        ensures { IsTrue result ↔ (plain self.now ≡ Join (record { pid = pid; topic = topic.now; key = key.now; metadata = metadata.now })) }
+    {
+        match self {
+            Step::Join {
+                pid: own_pid,
+                topic: own_topic,
+                key: own_key,
+                metadata: own_metadata,
+            } => {
+                *own_pid == pid
+                    && own_topic.same(topic)
+                    && own_key.same(key)
+                    && own_metadata.same(metadata)
+            }
+            _ => false,
+        }
+    }
+
+    fn is_leave(&self, pid: u64, topic: &Word<A>, key: &Word<A>) -> bool
+        ensures { IsTrue result ↔ (plain self.now ≡ Leave pid topic.now key.now) }
+    {
+        match self {
+            Step::Leave {
+                pid: own_pid,
+                topic: own_topic,
+                key: own_key,
+            } => *own_pid == pid && own_topic.same(topic) && own_key.same(key),
+            _ => false,
+        }
+    }
+
+    fn is_update(&self, pid: u64, topic: &Word<A>, key: &Word<A>, metadata: &Word<A>) -> bool
+        ensures { IsTrue result ↔ (plain self.now ≡ Update (record { pid = pid; topic = topic.now; key = key.now; metadata = metadata.now })) }
+    {
+        match self {
+            Step::Update {
+                pid: own_pid,
+                topic: own_topic,
+                key: own_key,
+                metadata: own_metadata,
+            } => {
+                *own_pid == pid
+                    && own_topic.same(topic)
+                    && own_key.same(key)
+                    && own_metadata.same(metadata)
+            }
+            _ => false,
+        }
+    }
+
+    fn is_deliver(&self, sender: u16, number: u64) -> bool
+        ensures { IsTrue result ↔ (plain self.now ≡ Deliver sender number) }
+    {
+        match self {
+            Step::Deliver {
+                sender: own_sender,
+                number: own_number,
+            } => *own_sender == sender && *own_number == number,
             _ => false,
         }
     }
@@ -101,12 +185,15 @@ impl<A: Allocator> Step<A> {
                 topic,
                 key,
                 metadata,
-            } => Ok(Step::Join {
-                pid: *pid,
-                topic: topic.try_copy()?,
-                key: key.try_copy()?,
-                metadata: metadata.try_copy()?,
-            }),
+            } => Step::join_of(*pid, topic, key, metadata),
+            Step::Leave { pid, topic, key } => Step::leave_of(*pid, topic, key),
+            Step::LeaveAll { pid } => Ok(Step::LeaveAll { pid: *pid }),
+            Step::Update {
+                pid,
+                topic,
+                key,
+                metadata,
+            } => Step::update_of(*pid, topic, key, metadata),
             Step::Broadcast => Ok(Step::Broadcast),
             Step::Extract { names } => Ok(Step::Extract { names: *names }),
             Step::Deliver { sender, number } => Ok(Step::Deliver {
@@ -114,6 +201,47 @@ impl<A: Allocator> Step<A> {
                 number: *number,
             }),
             Step::Up { name } => Ok(Step::Up { name: *name }),
+            Step::Down { name } => Ok(Step::Down { name: *name }),
+            Step::Permdown { name } => Ok(Step::Permdown { name: *name }),
         }
+    }
+}
+
+impl<A: Allocator + Copy> Step<A> {
+    fn join_of(pid: u64, topic: &Word<A>, key: &Word<A>, metadata: &Word<A>) -> Result<Step<A>, Oom>
+        ensures { IfOk result (λ step. plain step ≡ Join (record { pid = pid; topic = topic.now; key = key.now; metadata = metadata.now })) }
+    {
+        Ok(Step::Join {
+            pid,
+            topic: topic.try_copy()?,
+            key: key.try_copy()?,
+            metadata: metadata.try_copy()?,
+        })
+    }
+
+    fn leave_of(pid: u64, topic: &Word<A>, key: &Word<A>) -> Result<Step<A>, Oom>
+        ensures { IfOk result (λ step. plain step ≡ Leave pid topic.now key.now) }
+    {
+        Ok(Step::Leave {
+            pid,
+            topic: topic.try_copy()?,
+            key: key.try_copy()?,
+        })
+    }
+
+    fn update_of(
+        pid: u64,
+        topic: &Word<A>,
+        key: &Word<A>,
+        metadata: &Word<A>,
+    ) -> Result<Step<A>, Oom>
+        ensures { IfOk result (λ step. plain step ≡ Update (record { pid = pid; topic = topic.now; key = key.now; metadata = metadata.now })) }
+    {
+        Ok(Step::Update {
+            pid,
+            topic: topic.try_copy()?,
+            key: key.try_copy()?,
+            metadata: metadata.try_copy()?,
+        })
     }
 }

@@ -10,9 +10,18 @@ pub enum StepFault {
     /// The name is the node's own.
     #[error("OwnReplica")]
     OwnReplica,
+    /// The name is not known.
+    #[error("NotKnown")]
+    NotKnown,
+    /// The name is up.
+    #[error("NotDown")]
+    NotDown,
     /// An own entry has this process, topic and key.
     #[error("AlreadyTracked")]
     AlreadyTracked,
+    /// No own entry is the one named.
+    #[error("NotTracked")]
+    NotTracked,
     /// The delta has no dot.
     #[error("NothingToSend")]
     NothingToSend,
@@ -56,7 +65,10 @@ impl From<ReplicaFault> for StepFault {
     fn from(fault: ReplicaFault) -> StepFault {
         match fault {
             ReplicaFault::OwnReplica => StepFault::OwnReplica,
+            ReplicaFault::NotKnown => StepFault::NotKnown,
+            ReplicaFault::NotDown => StepFault::NotDown,
             ReplicaFault::AlreadyTracked => StepFault::AlreadyTracked,
+            ReplicaFault::NotTracked => StepFault::NotTracked,
             ReplicaFault::NothingToSend => StepFault::NothingToSend,
             ReplicaFault::EntriesFull => StepFault::EntriesFull,
             ReplicaFault::ClockFull => StepFault::ClockFull,

@@ -1,6 +1,7 @@
 //! What no contract says of a node: that each step succeeds with ample memory, is taken back, and changes nothing where
 //! memory is refused.
-ghost use Rattle.std.specs.Prelude.{IfOk, ◌<◌};
+ghost use Rattle.std.specs.Prelude.{◌<◌};
+ghost use Rattle.replica_core.specs.Limits.{AreNodeLimits};
 ghost use Rattle.node_core.specs.Operations.{AreNames, plain};
 
 use crate::*;
@@ -9,7 +10,6 @@ use payload_core::{Payload, Word};
 use replica_core::Replica;
 use std::alloc::{Allocator, Global};
 use std::process::Abort;
-use std::test::Fail;
 use test_alloc::Refusing;
 
 const USUAL: NodeLimits = NodeLimits {
@@ -40,128 +40,246 @@ impl Side {
 #[derive(Clone, Copy)]
 enum Ask {
     Join(u64),
+    Leave(u64),
+    LeaveAll(u64),
+    Update(u64),
     Broadcast,
     Extract(Side),
     Deliver(Side),
     Up(Side),
+    Down(Side),
+    Permdown(Side),
 }
 
+/// A step, and its fault where it is refused.
+type Row = (Ask, Option<StepFault>);
+
 impl Ask {
-    fn step<A: Allocator + Copy>(self, alloc: A) -> Result<Step<A>, Fail>
-        ensures { IfOk result (λ step. AreNames (plain step)) }
+    fn step<A: Allocator + Copy>(self, rt: &impl Abort, alloc: A) -> Step<A>
+        ensures { AreNames (plain result) }
     {
         match self {
-            Ask::Join(pid) => Ok(Step::Join {
-                pid,
-                topic: Word::new(alloc, "r")?,
-                key: Word::new(alloc, "alice")?,
-                metadata: Word::new(alloc, "phone")?,
-            }),
-            Ask::Broadcast => Ok(Step::Broadcast),
-            Ask::Extract(side) => Ok(Step::Extract {
+            Ask::Join(pid) => join(rt, alloc, pid),
+            Ask::Leave(pid) => leave(rt, alloc, pid),
+            Ask::LeaveAll(pid) => Step::LeaveAll { pid },
+            Ask::Update(pid) => update(rt, alloc, pid),
+            Ask::Broadcast => Step::Broadcast,
+            Ask::Extract(side) => Step::Extract {
                 names: NameSet::empty().with(side.name()),
-            }),
-            Ask::Deliver(side) => Ok(Step::Deliver {
+            },
+            Ask::Deliver(side) => Step::Deliver {
                 sender: side.name(),
                 number: 1,
-            }),
-            Ask::Up(side) => Ok(Step::Up { name: side.name() }),
+            },
+            Ask::Up(side) => Step::Up { name: side.name() },
+            Ask::Down(side) => Step::Down { name: side.name() },
+            Ask::Permdown(side) => Step::Permdown { name: side.name() },
         }
     }
 }
 
-/// Takes the step, which counts where it is accepted.
-fn taken<'a, B: Allocator>(
+fn word<A: Allocator>(rt: &impl Abort, alloc: A, text: &str) -> Word<A> {
+    Word::new(alloc, text).expect(rt, "a word")
+}
+
+fn join<A: Allocator + Copy>(rt: &impl Abort, alloc: A, pid: u64) -> Step<A>
+    ensures { AreNames (plain result) }
+{
+    Step::Join {
+        pid,
+        topic: word(rt, alloc, "r"),
+        key: word(rt, alloc, "alice"),
+        metadata: word(rt, alloc, "phone"),
+    }
+}
+
+fn leave<A: Allocator + Copy>(rt: &impl Abort, alloc: A, pid: u64) -> Step<A>
+    ensures { AreNames (plain result) }
+{
+    Step::Leave {
+        pid,
+        topic: word(rt, alloc, "r"),
+        key: word(rt, alloc, "alice"),
+    }
+}
+
+fn update<A: Allocator + Copy>(rt: &impl Abort, alloc: A, pid: u64) -> Step<A>
+    ensures { AreNames (plain result) }
+{
+    Step::Update {
+        pid,
+        topic: word(rt, alloc, "r"),
+        key: word(rt, alloc, "alice"),
+        metadata: word(rt, alloc, "away"),
+    }
+}
+
+/// Some steps of a node that is never given a message, with their faults.
+struct Case {
+    name: &'static str,
+    limits: NodeLimits,
+    rows: &'static [Row],
+}
+
+const SENDS: [Row; 10] = [
+    (Ask::Broadcast, Some(StepFault::NothingToSend)),
+    (Ask::Join(1), None),
+    (Ask::Join(1), Some(StepFault::AlreadyTracked)),
+    (Ask::Broadcast, None),
+    (Ask::Broadcast, Some(StepFault::NothingToSend)),
+    (Ask::Deliver(Side::Here), Some(StepFault::OwnMessage)),
+    (Ask::Deliver(Side::There), Some(StepFault::NoSuchMessage)),
+    (Ask::Up(Side::There), None),
+    (Ask::Up(Side::There), None),
+    (Ask::Up(Side::Here), Some(StepFault::OwnReplica)),
+];
+
+const LEAVES: [Row; 9] = [
+    (Ask::Leave(1), Some(StepFault::NotTracked)),
+    (Ask::LeaveAll(1), Some(StepFault::NotTracked)),
+    (Ask::Update(1), Some(StepFault::NotTracked)),
+    (Ask::Join(1), None),
+    (Ask::Update(1), None),
+    (Ask::Leave(1), None),
+    (Ask::Join(1), None),
+    (Ask::LeaveAll(1), None),
+    (Ask::Leave(1), Some(StepFault::NotTracked)),
+];
+
+const STATUSES: [Row; 10] = [
+    (Ask::Down(Side::Here), Some(StepFault::OwnReplica)),
+    (Ask::Permdown(Side::Here), Some(StepFault::OwnReplica)),
+    (Ask::Down(Side::There), Some(StepFault::NotKnown)),
+    (Ask::Permdown(Side::There), Some(StepFault::NotKnown)),
+    (Ask::Up(Side::There), None),
+    (Ask::Permdown(Side::There), Some(StepFault::NotDown)),
+    (Ask::Down(Side::There), None),
+    (Ask::Down(Side::There), None),
+    (Ask::Permdown(Side::There), None),
+    (Ask::Down(Side::There), Some(StepFault::NotKnown)),
+];
+
+const FULL_CLOCK: [Row; 8] = [
+    (Ask::Join(1), None),
+    (Ask::Join(2), Some(StepFault::ClockFull)),
+    (Ask::Leave(1), Some(StepFault::ClockFull)),
+    (Ask::LeaveAll(1), Some(StepFault::ClockFull)),
+    (Ask::Update(1), Some(StepFault::ClockFull)),
+    (Ask::Leave(2), Some(StepFault::NotTracked)),
+    (Ask::Broadcast, None),
+    (Ask::Broadcast, Some(StepFault::NothingToSend)),
+];
+
+const FULL_NODE: [Row; 6] = [
+    (Ask::Join(1), None),
+    (Ask::Join(1), Some(StepFault::AlreadyTracked)),
+    (Ask::Join(2), Some(StepFault::EntriesFull)),
+    (Ask::Extract(Side::There), None),
+    (Ask::Extract(Side::Here), Some(StepFault::OutboxFull)),
+    (Ask::Broadcast, Some(StepFault::OutboxFull)),
+];
+
+const CASES: [Case; 5] = [
+    Case {
+        name: "each fault has its step",
+        limits: USUAL,
+        rows: &SENDS,
+    },
+    Case {
+        name: "a process is tracked until it leaves",
+        limits: USUAL,
+        rows: &LEAVES,
+    },
+    Case {
+        name: "a name is forgotten only when it is down",
+        limits: USUAL,
+        rows: &STATUSES,
+    },
+    Case {
+        name: "a full clock refuses each fresh dot",
+        limits: NodeLimits {
+            entries: 2,
+            clock: 1,
+            messages: 1,
+        },
+        rows: &FULL_CLOCK,
+    },
+    Case {
+        name: "a full node refuses in order",
+        limits: NodeLimits {
+            entries: 1,
+            clock: 1,
+            messages: 1,
+        },
+        rows: &FULL_NODE,
+    },
+];
+
+fn in_range(rt: &impl Abort, limits: NodeLimits) -> NodeLimits
+    ensures { AreNodeLimits result }
+{
+    assert!(rt; 1 <= limits.entries && limits.entries <= 100_000);
+    assert!(rt; 1 <= limits.clock && limits.clock <= 1_000_000_000);
+    assert!(rt; 1 <= limits.messages && limits.messages <= 100_000);
+    limits
+}
+
+/// The fault of a step, which counts where it is accepted.
+fn fault_of<'a, B: Allocator>(
     rt: &impl Abort,
     alloc: &'a B,
     node: &mut Node<'a, B>,
     ask: Ask,
-    message: Option<&Payload<&'a B>>,
-) -> Result<Result<Inverse<&'a B>, StepFault>, Fail> {
-    let step = ask.step(alloc)?;
+) -> Option<StepFault> {
+    let step = ask.step(rt, alloc);
     let mut meter = Meter::new();
-    let answer = node.take(&step, message, &mut meter);
-    assert_eq!(rt; meter.count() == 1, answer.is_ok());
-    Ok(answer)
+    let fault = node.take(&step, None, &mut meter).err();
+    drop(step);
+    assert_eq!(rt; meter.count() == 1, fault.is_none());
+    fault
 }
 
-/// Takes the steps in turn: each is accepted, or refused with its fault. No message is there.
-fn answers<'a, B: Allocator>(
-    rt: &impl Abort,
-    alloc: &'a B,
-    node: &mut Node<'a, B>,
-    rows: &[(Ask, Option<StepFault>)],
-) -> Result<(), Fail> {
-    for (ask, fault) in rows {
-        let answer = taken(rt, alloc, node, *ask, None)?;
-        assert_eq!(rt; answer.err(), *fault);
+fn has_faults<'a, B: Allocator>(rt: &impl Abort, alloc: &'a B, case: &Case) {
+    let mut node = Node::new(alloc, 0, in_range(rt, case.limits));
+    for (ask, expected) in case.rows {
+        let fault = fault_of(rt, alloc, &mut node, *ask);
+        assert_eq!(rt; fault, *expected, "{}", case.name);
     }
-    Ok(())
 }
 
 #[test]
-fn each_fault_has_its_step(rt: HostRuntime) -> Result<(), Fail> {
+fn steps_have_their_faults(rt: HostRuntime) {
     let heap = rt.alloc();
-    let mut node = Node::new(&heap, 0, USUAL);
-    let rows = [
-        (Ask::Broadcast, Some(StepFault::NothingToSend)),
-        (Ask::Join(1), None),
-        (Ask::Join(1), Some(StepFault::AlreadyTracked)),
-        (Ask::Broadcast, None),
-        (Ask::Broadcast, Some(StepFault::NothingToSend)),
-        (Ask::Deliver(Side::Here), Some(StepFault::OwnMessage)),
-        (Ask::Deliver(Side::There), Some(StepFault::NoSuchMessage)),
-        (Ask::Up(Side::There), None),
-        (Ask::Up(Side::There), None),
-        (Ask::Up(Side::Here), Some(StepFault::OwnReplica)),
-    ];
-    answers(&rt, &heap, &mut node, &rows)
+    for case in &CASES {
+        has_faults(&rt, &heap, case);
+    }
 }
 
-#[test]
-fn full_nodes_refuse_in_order(rt: HostRuntime) -> Result<(), Fail> {
-    let heap = rt.alloc();
-    let limits = NodeLimits {
-        entries: 1,
-        clock: 1,
-        messages: 1,
-    };
-    let mut node = Node::new(&heap, 0, limits);
-    let rows = [
-        (Ask::Join(1), None),
-        (Ask::Join(1), Some(StepFault::AlreadyTracked)),
-        (Ask::Join(2), Some(StepFault::EntriesFull)),
-        (Ask::Extract(Side::There), None),
-        (Ask::Extract(Side::Here), Some(StepFault::OutboxFull)),
-        (Ask::Broadcast, Some(StepFault::OutboxFull)),
-    ];
-    answers(&rt, &heap, &mut node, &rows)?;
-    let limits = NodeLimits {
-        entries: 2,
-        clock: 1,
-        messages: 1,
-    };
-    let mut node = Node::new(&heap, 0, limits);
-    let rows = [
-        (Ask::Join(1), None),
-        (Ask::Join(2), Some(StepFault::ClockFull)),
-        (Ask::Broadcast, None),
-        (Ask::Broadcast, Some(StepFault::NothingToSend)),
-    ];
-    answers(&rt, &heap, &mut node, &rows)
-}
-
-fn joins<'a, B: Allocator>(replica: &mut Replica<&'a B>, alloc: &'a B) -> Result<(), Fail> {
-    let word = Word::new(alloc, "r")?;
-    replica.join(1, &word, &word, &word)?;
-    Ok(())
+fn joins<'a, B: Allocator>(rt: &impl Abort, alloc: &'a B, replica: &mut Replica<&'a B>) {
+    let word = word(rt, alloc, "r");
+    let change = replica.join(1, &word, &word, &word).expect(rt, "a join");
+    drop(change);
 }
 
 /// The message of node 1 that tells of its process 1.
-fn message<'a, B: Allocator>(alloc: &'a B) -> Result<Payload<&'a B>, Fail> {
+fn message<'a, B: Allocator>(rt: &impl Abort, alloc: &'a B) -> Payload<&'a B> {
     let mut replica = Replica::opening(alloc, 1, USUAL);
-    joins(&mut replica, alloc)?;
-    Ok(replica.take_delta()?)
+    joins(rt, alloc, &mut replica);
+    replica.take_delta().expect(rt, "a message")
+}
+
+/// Takes a step for which memory and the message are there.
+fn takes<'a>(
+    rt: &impl Abort,
+    heap: &'a Refusing<Global>,
+    node: &mut Node<'a, Refusing<Global>>,
+    ask: Ask,
+    message: &Payload<&'a Refusing<Global>>,
+) {
+    let step = ask.step(rt, heap);
+    let mut meter = Meter::new();
+    let inverse = node.take(&step, Some(message), &mut meter);
+    assert!(rt; inverse.is_ok());
 }
 
 /// Takes the step, and takes it back with this request for memory and all later ones refused: the node is as it was.
@@ -172,73 +290,65 @@ fn taken_back<'a>(
     ask: Ask,
     message: &Payload<&'a Refusing<Global>>,
     number: u64,
-) -> Result<(), Fail> {
-    let step = ask.step(heap)?;
-    let before = node.try_copy()?;
+) {
+    let step = ask.step(rt, heap);
+    let before = node.try_copy().expect(rt, "a copy");
     let mut meter = Meter::new();
-    let Ok(inverse) = node.take(&step, Some(message), &mut meter) else {
-        return Err("a fault")?;
-    };
+    let taken = node.take(&step, Some(message), &mut meter);
+    let inverse = taken.expect(rt, "an inverse");
     assert!(rt; !node.same(&before));
     heap.refuse_from(number);
     let done = node.give_back(inverse).is_ok();
     heap.refuse_none();
     assert!(rt; done);
     assert!(rt; node.same(&before));
-    Ok(())
 }
 
-fn are_taken_back<'a>(
-    rt: &impl Abort,
-    heap: &'a Refusing<Global>,
-    node: &mut Node<'a, Refusing<Global>>,
-    asks: &[Ask],
-    message: &Payload<&'a Refusing<Global>>,
-    number: u64,
-) -> Result<(), Fail> {
-    for ask in asks {
-        taken_back(rt, heap, node, *ask, message, number)?;
+/// What node 0 is asked in turn: to take a step, or to take it and take it back.
+#[derive(Clone, Copy)]
+enum Turn {
+    There(Ask),
+    Back(Ask),
+}
+
+const TURNS: [Turn; 14] = [
+    Turn::Back(Ask::Up(Side::There)),
+    Turn::There(Ask::Join(1)),
+    Turn::There(Ask::Up(Side::There)),
+    Turn::Back(Ask::Join(2)),
+    Turn::Back(Ask::Leave(1)),
+    Turn::Back(Ask::LeaveAll(1)),
+    Turn::Back(Ask::Update(1)),
+    Turn::Back(Ask::Broadcast),
+    Turn::Back(Ask::Extract(Side::Here)),
+    Turn::Back(Ask::Deliver(Side::There)),
+    Turn::Back(Ask::Down(Side::There)),
+    Turn::There(Ask::Deliver(Side::There)),
+    Turn::There(Ask::Down(Side::There)),
+    Turn::Back(Ask::Permdown(Side::There)),
+];
+
+fn each_is_taken_back<'a>(rt: &impl Abort, heap: &'a Refusing<Global>, number: u64) {
+    let message = message(rt, heap);
+    let mut node = Node::new(heap, 0, USUAL);
+    for turn in &TURNS {
+        match turn {
+            Turn::There(ask) => takes(rt, heap, &mut node, *ask, &message),
+            Turn::Back(ask) => taken_back(rt, heap, &mut node, *ask, &message, number),
+        }
     }
-    Ok(())
-}
-
-fn each_is_taken_back<'a>(
-    rt: &impl Abort,
-    heap: &'a Refusing<Global>,
-    number: u64,
-) -> Result<(), Fail> {
-    let message = message(heap)?;
-    let mut node = Node::new(heap, 0, USUAL);
-    let rows = [(Ask::Join(1), None), (Ask::Up(Side::There), None)];
-    answers(rt, heap, &mut node, &rows)?;
-    let asks = [
-        Ask::Join(2),
-        Ask::Broadcast,
-        Ask::Extract(Side::Here),
-        Ask::Deliver(Side::There),
-    ];
-    are_taken_back(rt, heap, &mut node, &asks, &message, number)?;
-    let mut node = Node::new(heap, 0, USUAL);
-    are_taken_back(
-        rt,
-        heap,
-        &mut node,
-        &[Ask::Up(Side::There)],
-        &message,
-        number,
-    )
 }
 
 #[test]
-fn each_step_is_taken_back(rt: HostRuntime) -> Result<(), Fail> {
+fn each_step_is_taken_back(rt: HostRuntime) {
     let heap = Refusing::new(rt.alloc());
-    each_is_taken_back(&rt, &heap, u64::MAX)
+    each_is_taken_back(&rt, &heap, u64::MAX);
 }
 
 #[test]
-fn a_step_is_taken_back_without_memory(rt: HostRuntime) -> Result<(), Fail> {
+fn a_step_is_taken_back_without_memory(rt: HostRuntime) {
     let heap = Refusing::new(rt.alloc());
-    each_is_taken_back(&rt, &heap, 1)
+    each_is_taken_back(&rt, &heap, 1);
 }
 
 /// The fault of the step with this request for memory refused.
@@ -246,86 +356,62 @@ fn fault_without<'a>(
     heap: &'a Refusing<Global>,
     node: &mut Node<'a, Refusing<Global>>,
     step: &Step<&'a Refusing<Global>>,
-    message: Option<&Payload<&'a Refusing<Global>>>,
+    message: &Payload<&'a Refusing<Global>>,
     number: u64,
 ) -> Option<StepFault>
     requires { AreNames (plain step.now) }
 {
     let mut meter = Meter::new();
     heap.refuse_only(number);
-    let fault = node.take(step, message, &mut meter).err();
+    let fault = node.take(step, Some(message), &mut meter).err();
     heap.refuse_none();
     fault
 }
 
-/// Whether the step is refused with this request for memory refused. Where it is, the node is as before.
-fn is_refused<'a>(
-    rt: &impl Abort,
-    heap: &'a Refusing<Global>,
-    node: &mut Node<'a, Refusing<Global>>,
-    before: &Node<'a, Refusing<Global>>,
-    step: &Step<&'a Refusing<Global>>,
-    message: &Payload<&'a Refusing<Global>>,
-    number: u64,
-) -> bool
-    requires { AreNames (plain step.now) }
-{
-    match fault_without(heap, node, step, Some(message), number) {
-        Some(fault) => {
-            assert_eq!(rt; fault, StepFault::OutOfMemory);
-            assert!(rt; node.same(before));
-            true
-        }
-        None => false,
-    }
-}
-
-/// Takes the step with each request for memory refused in turn, until none is.
+/// Takes the step with its first, second, .. request for memory refused, until it meets none: each refused one leaves the
+/// node as it was.
 fn is_refused_in_turn<'a>(
     rt: &impl Abort,
     heap: &'a Refusing<Global>,
     node: &mut Node<'a, Refusing<Global>>,
     step: &Step<&'a Refusing<Global>>,
     message: &Payload<&'a Refusing<Global>>,
-) -> Result<(), Fail>
+) -> bool
     requires { AreNames (plain step.now) }
 {
-    let before = node.try_copy()?;
+    let before = node.try_copy().expect(rt, "a copy");
     for number in 1..100 {
-        if !is_refused(rt, heap, node, &before, step, message, number) {
-            return Ok(());
+        match fault_without(heap, node, step, message, number) {
+            Some(fault) => assert_eq!(rt; fault, StepFault::OutOfMemory),
+            None => return true,
         }
+        assert!(rt; node.same(&before));
     }
-    Err("refused without end")?
+    false
 }
 
-fn are_refused_in_turn<'a>(
-    rt: &impl Abort,
-    heap: &'a Refusing<Global>,
-    node: &mut Node<'a, Refusing<Global>>,
-    asks: &[Ask],
-    message: &Payload<&'a Refusing<Global>>,
-) -> Result<(), Fail> {
-    for ask in asks {
-        let step = ask.step(heap)?;
-        is_refused_in_turn(rt, heap, node, &step, message)?;
-    }
-    Ok(())
-}
+const REFUSED: [Ask; 11] = [
+    Ask::Join(1),
+    Ask::Up(Side::There),
+    Ask::Deliver(Side::There),
+    Ask::Extract(Side::There),
+    Ask::Update(1),
+    Ask::Broadcast,
+    Ask::Leave(1),
+    Ask::Join(1),
+    Ask::LeaveAll(1),
+    Ask::Down(Side::There),
+    Ask::Permdown(Side::There),
+];
 
 #[test]
-fn a_step_that_is_refused_memory_changes_nothing(rt: HostRuntime) -> Result<(), Fail> {
+fn a_step_that_is_refused_memory_changes_nothing(rt: HostRuntime) {
     let heap = Refusing::new(rt.alloc());
-    let message = message(&heap)?;
+    let message = message(&rt, &heap);
     let mut node = Node::new(&heap, 0, USUAL);
-    let asks = [
-        Ask::Join(1),
-        Ask::Up(Side::There),
-        Ask::Deliver(Side::There),
-        Ask::Extract(Side::There),
-        Ask::Broadcast,
-    ];
-    are_refused_in_turn(&rt, &heap, &mut node, &asks, &message)?;
+    for ask in &REFUSED {
+        let step = ask.step(&rt, &heap);
+        assert!(rt; is_refused_in_turn(&rt, &heap, &mut node, &step, &message));
+    }
     assert_eq!(rt; node.outbox().len(), 2);
-    Ok(())
 }

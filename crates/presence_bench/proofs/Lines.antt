@@ -2,6 +2,7 @@
 use Rattle.std.proofs.Common.{◌≡◌, ℕ, ◌<◌, List, length, get_or, drop, map, Bor, Err, refl, sym, ◌∙◌, ◌≤◌, [], Ok, None, arith}
 use Rattle.std.proofs.Math.Seq.{drop-cons}
 use Rattle.presence_bench.specs.declared.fault.FaultKind.{FaultKind}
+use Rattle.presence_bench.specs.declared.fault.ScriptFault.{ScriptFault}
 use Rattle.presence_bench.specs.Grammar.{Reading, with_line, with_lines, script_of, finished}
 use Rattle.presence_bench.specs.Words.{lines_of}
 use Rattle.std.proofs.lemmas.Bool.Decides.{nat_tests}
@@ -27,3 +28,8 @@ pub script_of-read : (bytes : List ℕ) (reading : Reading) → length bytes ≤
     → script_of bytes ≡ finished reading.nodes reading.calls
 unfolding script_of
 script_of-read bytes reading few all = rw all (grind (arith, nat_tests))
+
+-- the fault of a line is the script's
+pub script_of-fault : (bytes : List ℕ) (fault : ScriptFault) → length bytes ≤ 1048576 → with_lines (record { nodes = None; calls = [] }) 1 (lines_of bytes) ≡ Err fault → script_of bytes ≡ Err fault
+unfolding script_of
+script_of-fault bytes fault few failed = rw failed (grind (arith, nat_tests))

@@ -1,29 +1,65 @@
 -- What a call does, where it is not refused, and when it is.
-use Rattle.std.proofs.Common.{◌≡◌, ◌≢◌, ℕ, ◌+◌, Bool, true, false, Option, None, [], ◌∷◌, refl, ap, sym, subst, ◌∙◌}
-use Rattle.std.proofs.lemmas.Bool.{ne_eqb}
+use Rattle.std.proofs.Common.{◌≡◌, ◌≢◌, ℕ, ◌+◌, ◌==◌, not, Bool, true, false, Option, None, List, [], ◌∷◌, length, refl, ap, sym, subst, ◌∙◌, true≢false}
+use Rattle.std.proofs.lemmas.Bool.{eq-eqb, ne_eqb}
 use Rattle.std.specs.FinMap as fin
 use Rattle.std.specs.FinSet as set
+use Rattle.dots_core.specs.declared.dot.Dot.{Dot}
 use Rattle.dots_core.specs.Dots.{Dots, IsValid}
 use Rattle.payload_core.specs.Presences.{Presence, Entry, Entries, presence_of, entry_of}
 use Rattle.replica_core.specs.declared.replica_fault.ReplicaFault.{ReplicaFault}
-use Rattle.replica_core.specs.declared.replica_fault.ReplicaFault.TheVariants.{OwnReplica, AlreadyTracked, EntriesFull, ClockFull}
+use Rattle.replica_core.specs.declared.replica_fault.ReplicaFault.TheVariants.{OwnReplica, NotKnown, NotDown, AlreadyTracked, NotTracked, EntriesFull, ClockFull}
+use Rattle.replica_core.specs.declared.status.Status.{Status}
 use Rattle.replica_core.specs.declared.status.Status.TheVariants.{Up}
 use Rattle.replica_core.specs.Views.{View}
-use Rattle.replica_core.specs.Replicas.{Replica, fresh, joined, with_status}
-use Rattle.replica_core.specs.Refusals.{first_of, is_tracked, are_too_many, is_clock_full, join_refusal, up_refusal}
+use Rattle.replica_core.specs.Replicas.{Replica, fresh, dots_of_process, is_known, is_online, joined, updated, with_status}
+use Rattle.replica_core.specs.Refusals.{first_of, is_some_dot, is_tracked, are_too_many, is_clock_full, join_refusal, leave_refusal, leave_all_refusal, update_refusal, up_refusal, down_refusal, permdown_refusal}
 use Rattle.replica_core.specs.Kept.{IsReplica}
-use Rattle.replica_core.specs.Changes.{Change, ByJoin, ByUp, LeadsBack}
+use Rattle.replica_core.specs.Changes.{Change, IsOneCall, ByJoin, ByUpdate, ByUp, LeadsBack}
 use Rattle.replica_core.proofs.Kept.{fresh_valid, fresh_absent, fresh_absent_in_delta, kept_joined}
 
 -- an up of another name is not refused
 pub up_free : (r now : Replica) (name : ℕ) → r ≡ now → name ≢ r.own → up_refusal now name ≡ None
 up_free r now name same other = ap (λ (r : Replica). up_refusal r name) (sym same) ∙ ap (λ b. first_of ((b, OwnReplica) ∷ [])) (ne_eqb name r.own other)
 
-pub up_is : (r now : Replica) (name : ℕ) (v : View) → r ≡ now → v ≡ fin.insert r.view name Up → record r { view = v } ≡ with_status name Up now
-up_is r now name v same at = ap (λ (v : View). record r { view = v }) at ∙ ap (with_status name Up) same
+pub status_is : (r now : Replica) (name : ℕ) (s : Status) (v : View) → r ≡ now → v ≡ fin.insert r.view name s → record r { view = v } ≡ with_status name s now
+status_is r now name s v same at = ap (λ (v : View). record r { view = v }) at ∙ ap (with_status name s) same
+
+-- a change that has the replica before a call leads back
+pub leads_back : (old new : Replica) (change : Change) → change.before ≡ old → IsOneCall old new → LeadsBack change new old
+leads_back old new change keeps call = record { call = call; destroyed = sym keeps }
 
 pub up_leads_back : (old new : Replica) (name : ℕ) (change : Change) → up_refusal old name ≡ None → new ≡ with_status name Up old → change.before ≡ old → LeadsBack change new old
 up_leads_back old new name change free gives keeps = record { call = ByUp name free gives; destroyed = sym keeps }
+
+-- a down and a permdown that aren't refused are of another name
+
+pub down_other : (r now : Replica) (name : ℕ) (asked : Option ReplicaFault) → r ≡ now → asked ≡ down_refusal now name → asked ≡ None → (name == r.own) ≡ false
+down_other r now name asked same is free = go (name == r.own) refl (ap (λ (r : Replica). down_refusal r name) same ∙ sym is ∙ free)
+  where
+    go : (b : Bool) → (name == r.own) ≡ b → first_of ((b, OwnReplica) ∷ (not (is_known r name), NotKnown) ∷ []) ≡ None → (name == r.own) ≡ false
+    go true at h = absurd (cc)
+    go false at h = at
+
+pub permdown_other : (r now : Replica) (name : ℕ) (asked : Option ReplicaFault) → r ≡ now → asked ≡ permdown_refusal now name → asked ≡ None → (name == r.own) ≡ false
+permdown_other r now name asked same is free = go (name == r.own) refl (ap (λ (r : Replica). permdown_refusal r name) same ∙ sym is ∙ free)
+  where
+    go : (b : Bool) → (name == r.own) ≡ b → first_of ((b, OwnReplica) ∷ (not (is_known r name), NotKnown) ∷ (is_online r name, NotDown) ∷ []) ≡ None → (name == r.own) ≡ false
+    go true at h = absurd (cc)
+    go false at h = at
+
+-- a leave that isn't refused has room for its fresh dot
+pub leave_free : (r : Replica) (pid : ℕ) (topic key : List ℕ) → leave_refusal r pid topic key ≡ None → is_clock_full r 1 ≡ false
+leave_free r pid topic key free = go (is_tracked r pid topic key) (is_clock_full r 1) refl free
+  where
+    go : (t b : Bool) → is_clock_full r 1 ≡ b → first_of ((not t, NotTracked) ∷ (b, ClockFull) ∷ []) ≡ None → is_clock_full r 1 ≡ false
+    go false b at h = absurd (cc)
+    go true true at h = absurd (cc)
+    go true false at h = at
+
+pub leave_all_free : (r : Replica) (pid : ℕ) (ds : List Dot) (len : ℕ) → ds ≡ dots_of_process r pid → len ≡ length ds → (len == 0) ≡ false → is_clock_full r len ≡ false → leave_all_refusal r pid ≡ None
+leave_all_free r pid [] len is count some free = absurd (true≢false (sym (eq-eqb len 0 count) ∙ some))
+leave_all_free r pid (d ∷ ds) len is count some free =
+    subst (λ (ds : List Dot). first_of ((not (is_some_dot ds), NotTracked) ∷ (is_clock_full r (length ds), ClockFull) ∷ []) ≡ None) is (ap (λ b. first_of ((b, ClockFull) ∷ [])) (ap (is_clock_full r) (sym count) ∙ free))
 
 -- a join
 
@@ -61,3 +97,6 @@ module _ (r : Replica) (e : Entry) (kept : IsReplica r) (fresh_is : e.dot ≡ fr
 
 pub join_leads_back : (old new : Replica) (p : Presence) (e : Entry) (change : Change) (asked : Option ReplicaFault) → asked ≡ join_refusal old p.pid p.topic p.key → asked ≡ None → e ≡ entry_of (fresh old) p → new ≡ joined (presence_of e) old → change.before ≡ old → LeadsBack change new old
 join_leads_back old new p e change asked refusal free is gives keeps = record { call = ByJoin p (sym refusal ∙ free) (gives ∙ ap (λ (e : Entry). joined (presence_of e) old) is); destroyed = sym keeps }
+
+pub update_leads_back : (old new : Replica) (p : Presence) (e : Entry) (change : Change) → update_refusal old p.pid p.topic p.key ≡ None → e ≡ entry_of (fresh old) p → new ≡ updated (presence_of e) old → change.before ≡ old → LeadsBack change new old
+update_leads_back old new p e change free is gives keeps = leads_back old new change keeps (ByUpdate p free (gives ∙ ap (λ (e : Entry). updated (presence_of e) old) is))

@@ -33,12 +33,12 @@ entries-retain m p =
 
 -- keys that rise differ
 
-both_true : (a b : Bool) → T (a && b) → T a × T b
+pub both_true : (a b : Bool) → T (a && b) → T a × T b
 both_true true true h = (tt, tt)
 both_true true false h = absurd h
 both_true false b h = absurd h
 
-lt_not_eq : (o : Ordering) → T (is_lt o) → is_eq o ≡ true → ⊥
+pub lt_not_eq : (o : Ordering) → T (is_lt o) → is_eq o ≡ true → ⊥
 lt_not_eq Less h e = true≢false (sym e)
 lt_not_eq Equal h e = h
 lt_not_eq Greater h e = h
@@ -100,6 +100,14 @@ either_out false b x = refl
 get-without_each : (ds : List Dot) (es : Entries) (q : Dot) → fin.get (without_each ds es) q ≡ cond (list_any (is_dot q) ds) None (fin.get es q)
 get-without_each [] es q = refl
 get-without_each (d ∷ ds) es q = get-without_each ds (fin.remove es d) q ∙ ap (cond (list_any (is_dot q) ds) None) (get-remove es d q) ∙ either_out (is_dot q d) (list_any (is_dot q) ds) (fin.get es q)
+
+none_either : (b : Bool) (x : Option Presence) → x ≡ None → cond b None x ≡ None
+none_either true x h = refl
+none_either false x h = h
+
+-- a dot without an entry has none after another went
+pub still_absent : (m : Entries) (k q : Dot) → fin.get m q ≡ None → fin.get (fin.remove m k) q ≡ None
+still_absent m k q none = get-remove m k q ∙ none_either (is_dot q k) (fin.get m q) none
 
 pub len-with_each : (ps : List (Dot × Presence)) (es : Entries) → AreNew ps es → fin.len (with_each ps es) ≡ fin.len es + length ps
 len-with_each [] es new = omega arith

@@ -1,5 +1,5 @@
 -- Each change of a replica keeps what each replica keeps.
-use Rattle.std.proofs.Common.{◌≡◌, ◌≢◌, ◌⊎◌, inl, inr, ℕ, ◌+◌, ◌<◌, ◌≤◌, ◌==◌, ◌&&◌, ◌||◌, Bool, true, false, cond, Option, Some, None, is_some, refl, sym, ap, ◌∙◌, subst, arith, true≢false}
+use Rattle.std.proofs.Common.{◌≡◌, ◌≢◌, ◌⊎◌, inl, inr, ℕ, ◌+◌, ◌-◌, ◌<◌, ◌≤◌, ◌==◌, ◌&&◌, ◌||◌, Bool, true, false, cond, Option, Some, None, is_some, refl, sym, ap, ◌∙◌, subst, arith, true≢false}
 use Rattle.std.proofs.lemmas.Bool.{and_parts, eq-eqb, eqb-false, ltb-false, ne_eqb}
 use Rattle.std.specs.FinMap as fin
 use Rattle.std.specs.FinSet as set
@@ -11,19 +11,19 @@ use Rattle.dots_core.proofs.Sets.{same_dots, contains-retain, contains_inserted,
 use Rattle.dots_core.proofs.OwnClock.{not_fresh, count_more, clocks_more, clocks_same, own_same}
 use Rattle.payload_core.specs.Presences.{Presence, Entries, entries_of_names}
 use Rattle.payload_core.specs.Messages.{Message, AreSeen}
-use Rattle.payload_core.proofs.EntryMaps.{get_inserted, get_insert_other}
-use Rattle.payload_core.proofs.SeenEntries.{seen_none, seen-insert, seen-names}
+use Rattle.payload_core.proofs.EntryMaps.{get_inserted, get_insert_other, get_remove_other}
+use Rattle.payload_core.proofs.SeenEntries.{seen_none, seen-insert, seen-remove, seen-names}
 use Rattle.replica_core.specs.declared.node_limits.NodeLimits.{NodeLimits}
 use Rattle.replica_core.specs.declared.status.Status.{Status}
 use Rattle.replica_core.specs.declared.status.Status.TheVariants.{Up}
 use Rattle.replica_core.specs.Limits.{AreNodeLimits}
-use Rattle.replica_core.specs.Replicas.{Replica, opening, own_clock, fresh, is_known, joined, with_status, without_delta, with_delta, CanBeDelta}
+use Rattle.replica_core.specs.Replicas.{Replica, opening, own_clock, fresh, is_known, joined, dropped, ticked, with_status, without_delta, with_delta, CanBeDelta}
 use Rattle.replica_core.specs.Deliveries.{is_other_known, merged, merged_entries}
 use Rattle.replica_core.specs.Refusals.{is_tracked, are_too_many, is_clock_full}
 use Rattle.replica_core.specs.Kept.{IsReplica}
 use Rattle.replica_core.proofs.Views.{get_insert_view}
 use Rattle.replica_core.proofs.Deliveries.{entry_after, get-merged, contains-merged}
-use Rattle.replica_core.proofs.Once.{inserted_entry, once_joined, own_is_not_other, own_entry-merged, once_merged}
+use Rattle.replica_core.proofs.Once.{inserted_entry, removed_entry, once_kept, once_joined, own_is_not_other, own_entry-merged, once_merged}
 
 -- the opening
 
@@ -116,6 +116,54 @@ module _ (r : Replica) (h : IsReplica r) where
     delta_live = seen-insert r.delta_seen r.delta_entries (fresh r) p h.delta_live;
     delta_own = λ d e. joined_delta_own d (inserted_cases r.delta_seen (fresh r) d e);
     delta_in = λ d q e. joined_delta_in p d q (inserted_entry r.delta_entries (fresh r) d p q e);
+  }
+
+  -- what a leave does: its entry goes, and a fresh dot was seen
+
+  dropped_delta_own : (x d : Dot) → x.name ≡ r.own → set.contains r.seen x ≡ true → (d ≡ x) ⊎ (set.contains r.delta_seen d ≡ true) → (d.name ≡ r.own) × (set.contains r.seen d ≡ true)
+  dropped_delta_own x d mine there (inl e) = (ap (λ (d : Dot). d.name) e ∙ mine, ap (set.contains r.seen) e ∙ there)
+  dropped_delta_own x d mine there (inr e) = h.delta_own d e
+
+  fewer : (t : Bool) (n : ℕ) → cond t (n - 1) n ≤ n
+  fewer true n = omega arith
+  fewer false n = omega arith
+
+  pub kept_dropped : (x : Dot) → x.name ≡ r.own → set.contains r.seen x ≡ true → IsReplica (dropped x r)
+  kept_dropped x mine there = record {
+    name = h.name;
+    up = h.up;
+    limits = h.limits;
+    valid = h.valid;
+    known = h.known;
+    clocks = h.clocks;
+    clock = h.clock;
+    live = seen-remove r.seen r.entries x h.live;
+    few =
+        let len = fin.len-remove dot_total r.entries x in
+        let less = fewer (is_some (fin.get r.entries x)) (fin.len r.entries) in
+        let few = h.few in
+        omega (arith, len, less, few);
+    once = once_kept r (dropped x r) refl (λ d p own e. (removed_entry r.entries x d p e).1) h.once;
+    delta_live = λ d e. contains_insert_more r.delta_seen x d (seen-remove r.delta_seen r.delta_entries x h.delta_live d e);
+    delta_own = λ d e. dropped_delta_own x d mine there (inserted_cases r.delta_seen x d e);
+    delta_in = λ d p e. let old = removed_entry r.delta_entries x d p e in get_remove_other r.entries x d old.0 ∙ h.delta_in d p old.1;
+  }
+
+  pub kept_ticked : is_clock_full r 1 ≡ false → IsReplica (ticked r)
+  kept_ticked free = record {
+    name = h.name;
+    up = h.up;
+    limits = h.limits;
+    valid = λ d e. joined_valid free d (inserted_cases r.seen (fresh r) d e);
+    known = λ d e. joined_known d (inserted_cases r.seen (fresh r) d e);
+    clocks = clocks_more r.own r.seen h.clocks;
+    clock = let more = count_more r.own r.seen h.clocks in let low = clock_below free in omega arith;
+    live = λ d e. contains_insert_more r.seen (fresh r) d (h.live d e);
+    few = h.few;
+    once = h.once;
+    delta_live = λ d e. contains_insert_more r.delta_seen (fresh r) d (h.delta_live d e);
+    delta_own = λ d e. joined_delta_own d (inserted_cases r.delta_seen (fresh r) d e);
+    delta_in = h.delta_in;
   }
 
 -- a delivery

@@ -3,6 +3,8 @@ pub mod Views
 pub mod Deliveries
 pub mod Once
 pub mod Kept
+pub mod Left
+pub mod Forgotten
 pub mod Calls
 pub mod Edits
 pub mod Collected

@@ -1,6 +1,6 @@
 -- Views, by what they answer at a name.
-use Rattle.std.proofs.Common.{◌≡◌, ℕ, ◌==◌, ◌||◌, Bool, true, false, cond, List, [], ◌∷◌, Option, Some, None, is_some, refl, sym, ap, ◌∙◌}
-use Rattle.std.proofs.lemmas.Bool.{eqb-true}
+use Rattle.std.proofs.Common.{◌≡◌, ℕ, ◌==◌, ◌&&◌, ◌||◌, not, Bool, true, false, cond, List, [], ◌∷◌, Option, Some, None, is_some, refl, sym, ap, ◌∙◌}
+use Rattle.std.proofs.lemmas.Bool.{eqb-true, and_parts, and_from}
 use Rattle.std.specs.Cmp.{nat_cmp_total, unsigned_tied}
 use Rattle.std.specs.List.{list_any}
 use Rattle.std.specs.Ordering.{nat_cmp, eq_by_cmp}
@@ -9,13 +9,16 @@ use Rattle.std.specs.FinMap as fin
 use Rattle.std.specs.FinMap.{nat_cmp-IsAntisymmetric}
 use Rattle.dots_core.specs.Names.{Names}
 use Rattle.dots_core.specs.FlagsBack.{contains-insert_name}
-use Rattle.dots_core.proofs.Names.{same_names}
+use Rattle.dots_core.proofs.Names.{same_names, contains-remove_name}
 use Rattle.replica_core.specs.declared.status.Status.{Status}
-use Rattle.replica_core.specs.declared.status.Status.TheVariants.{Up}
+use Rattle.replica_core.specs.declared.status.Status.TheVariants.{Up, Down}
 use Rattle.replica_core.specs.Views.{View, is_some_up, status_by, AreKnown, AreUpKnown, view_of}
 
 pub get_insert_view : (v : View) (k q : ℕ) (s : Status) → fin.get (fin.insert v k s) q ≡ cond (q == k) (Some s) (fin.get v q)
 get_insert_view v k q s = fin.get-insert nat_cmp_total v k s q ∙ ap (λ b. cond b (Some s) (fin.get v q)) (unsigned_tied q k)
+
+pub get_remove_view : (v : View) (k q : ℕ) → fin.get (fin.remove v k) q ≡ cond (q == k) None (fin.get v q)
+get_remove_view v k q = fin.get-remove nat_cmp_total v k q ∙ ap (λ b. cond b None (fin.get v q)) (unsigned_tied q k)
 
 pub same_views : (v w : View) → ((q : ℕ) → fin.get v q ≡ fin.get w q) → v ≡ w
 same_views v w h = fin.same_map nat_cmp_total nat_cmp-IsAntisymmetric v w h
@@ -77,6 +80,42 @@ module _ (known up : Names) where
 
   pub up_known_raised : AreUpKnown known up → (n : ℕ) → AreUpKnown (set.insert known n) (set.insert up n)
   up_known_raised h n q e = contains-insert_name known n q ∙ both_in (q == n) (set.contains known q) (set.contains up q) (h q) (sym (contains-insert_name up n q) ∙ e)
+
+  lowered : (b k u : Bool) → (b ≡ true → k ≡ true) → answer k (not b && u) ≡ cond b (Some Down) (answer k u)
+  lowered true k u h = ap (λ k. answer k false) (h refl)
+  lowered false k u h = refl
+
+  -- a known name is put down
+  pub view-lowered : (n : ℕ) → set.contains known n ≡ true → view_of (set.items known) (set.remove up n) ≡ fin.insert (view_of (set.items known) up) n Down
+  view-lowered n is = same_views _ _ (λ q.
+      get-list (set.items known) (set.remove up n) q
+      ∙ ap (λ b. answer b (set.contains (set.remove up n) q)) (sym (set.contains-items known q))
+      ∙ ap (answer (set.contains known q)) (contains-remove_name up n q)
+      ∙ lowered (q == n) (set.contains known q) (set.contains up q) (λ e. ap (set.contains known) (eqb-true q n e) ∙ is)
+      ∙ ap (cond (q == n) (Some Down)) (sym (get-view q))
+      ∙ sym (get_insert_view (view_of (set.items known) up) n q Down))
+
+  pub up_known_lowered : AreUpKnown known up → (n : ℕ) → AreUpKnown known (set.remove up n)
+  up_known_lowered h n q e = h q (and_parts (not (q == n)) (set.contains up q) (sym (contains-remove_name up n q) ∙ e)).1
+
+  taken : (b k u : Bool) → answer (not b && k) (not b && u) ≡ cond b None (answer k u)
+  taken true k u = refl
+  taken false k u = refl
+
+  -- a name is taken out
+  pub view-forgotten : (n : ℕ) → view_of (set.items (set.remove known n)) (set.remove up n) ≡ fin.remove (view_of (set.items known) up) n
+  view-forgotten n = same_views _ _ (λ q.
+      get-list (set.items (set.remove known n)) (set.remove up n) q
+      ∙ ap (λ b. answer b (set.contains (set.remove up n) q)) (sym (set.contains-items (set.remove known n) q) ∙ contains-remove_name known n q)
+      ∙ ap (answer (not (q == n) && set.contains known q)) (contains-remove_name up n q)
+      ∙ taken (q == n) (set.contains known q) (set.contains up q)
+      ∙ ap (cond (q == n) None) (sym (get-view q))
+      ∙ sym (get_remove_view (view_of (set.items known) up) n q))
+
+  pub up_known_forgotten : AreUpKnown known up → (n : ℕ) → AreUpKnown (set.remove known n) (set.remove up n)
+  up_known_forgotten h n q e =
+      let parts = and_parts (not (q == n)) (set.contains up q) (sym (contains-remove_name up n q) ∙ e) in
+      contains-remove_name known n q ∙ and_from (not (q == n)) (set.contains known q) parts.0 (h q parts.1)
 
 pub view_of_none : (up : Names) → view_of (set.items (set.empty {R = nat_cmp})) up ≡ fin.empty
 view_of_none up = same_views _ _ (λ q. get-view set.empty up q ∙ ap (λ b. answer b (set.contains up q)) (set.contains-empty nat_cmp q) ∙ sym (fin.get-empty nat_cmp q))

@@ -1,14 +1,13 @@
 -- When a replica refuses a call: the first cause, in order.
-use Rattle.std.specs.Prelude.{◌≡◌, ◌≢◌, ℕ, ◌+◌, ◌==◌, not, nat_lt, Bool, true, false, List, [], ◌∷◌, Option, None, Some, Result, Ok, Err, if◌then◌else◌}
+use Rattle.std.specs.Prelude.{◌≡◌, ◌≢◌, ℕ, ◌+◌, ◌==◌, not, nat_lt, Bool, true, false, List, [], ◌∷◌, length, Option, None, Some, Result, Ok, Err, if◌then◌else◌}
 use Rattle.std.specs.FinSet as set
 use Rattle.std.specs.FinMap as fin
 use Rattle.dots_core.specs.declared.dot.Dot.{Dot}
 use Rattle.dots_core.specs.Dots.{Dots}
-use Rattle.payload_core.specs.Presences.{is_tracked_as}
 use Rattle.payload_core.specs.Messages.{Message}
 use Rattle.replica_core.specs.declared.replica_fault.ReplicaFault.{ReplicaFault}
-use Rattle.replica_core.specs.declared.replica_fault.ReplicaFault.TheVariants.{OwnReplica, AlreadyTracked, EntriesFull, ClockFull, OutOfMemory}
-use Rattle.replica_core.specs.Replicas.{Replica, own_clock, own_dots}
+use Rattle.replica_core.specs.declared.replica_fault.ReplicaFault.TheVariants.{OwnReplica, NotKnown, NotDown, AlreadyTracked, NotTracked, EntriesFull, ClockFull, OutOfMemory}
+use Rattle.replica_core.specs.Replicas.{Replica, own_clock, tracked_dots, dots_of_process, is_known, is_online}
 use Rattle.replica_core.specs.Deliveries.{merged_entries}
 
 -- the cause of the first test that holds
@@ -28,7 +27,7 @@ is_some_dot (d ∷ ds) = true
 
 -- whether an own entry is of this process, topic and key
 abbrev pub is_tracked : Replica → ℕ → List ℕ → List ℕ → Bool
-is_tracked r pid topic key = is_some_dot (own_dots r (is_tracked_as pid topic key))
+is_tracked r pid topic key = is_some_dot (tracked_dots r pid topic key)
 
 -- whether so many entries would pass the limit
 abbrev pub are_too_many : Replica → ℕ → Bool
@@ -38,16 +37,32 @@ are_too_many r entries = nat_lt r.limits.entries entries
 abbrev pub is_clock_full : Replica → ℕ → Bool
 is_clock_full r more = nat_lt r.limits.clock (own_clock r + more)
 
--- why a join, a delivery, an up is refused, if it is: the causes in the order in which they are looked for
+-- why a call is refused, if it is: the causes in the order in which they are looked for
+
 abbrev pub join_refusal : Replica → ℕ → List ℕ → List ℕ → Option ReplicaFault
 join_refusal r pid topic key =
     first_of ((is_tracked r pid topic key, AlreadyTracked) ∷ (are_too_many r (fin.len r.entries + 1), EntriesFull) ∷ (is_clock_full r 1, ClockFull) ∷ [])
+
+abbrev pub leave_refusal : Replica → ℕ → List ℕ → List ℕ → Option ReplicaFault
+leave_refusal r pid topic key = first_of ((not (is_tracked r pid topic key), NotTracked) ∷ (is_clock_full r 1, ClockFull) ∷ [])
+
+abbrev pub leave_all_refusal : Replica → ℕ → Option ReplicaFault
+leave_all_refusal r pid = first_of ((not (is_some_dot (dots_of_process r pid)), NotTracked) ∷ (is_clock_full r (length (dots_of_process r pid)), ClockFull) ∷ [])
+
+abbrev pub update_refusal : Replica → ℕ → List ℕ → List ℕ → Option ReplicaFault
+update_refusal r pid topic key = first_of ((not (is_tracked r pid topic key), NotTracked) ∷ (is_clock_full r 1, ClockFull) ∷ [])
 
 abbrev pub merge_refusal : Replica → Message → Option ReplicaFault
 merge_refusal r m = first_of ((are_too_many r (fin.len (merged_entries m r)), EntriesFull) ∷ [])
 
 abbrev pub up_refusal : Replica → ℕ → Option ReplicaFault
 up_refusal r name = first_of ((name == r.own, OwnReplica) ∷ [])
+
+abbrev pub down_refusal : Replica → ℕ → Option ReplicaFault
+down_refusal r name = first_of ((name == r.own, OwnReplica) ∷ (not (is_known r name), NotKnown) ∷ [])
+
+abbrev pub permdown_refusal : Replica → ℕ → Option ReplicaFault
+permdown_refusal r name = first_of ((name == r.own, OwnReplica) ∷ (not (is_known r name), NotKnown) ∷ (is_online r name, NotDown) ∷ [])
 
 -- whether there is a dot
 abbrev pub has_dots : Dots → Bool

@@ -1,11 +1,12 @@
--- A replica, as sets, and what a join, a status and a send change (Phoenix.Tracker.State, as sets; the dots of RR-8083).
-use Rattle.std.specs.Prelude.{◌≡◌, ℕ, ◌+◌, Bool, true, List, Some, refl}
+-- A replica, as sets, and what a join, a leave, an update, a status and a send change (Phoenix.Tracker.State, as sets; the
+-- dots of RR-8083).
+use Rattle.std.specs.Prelude.{◌≡◌, ℕ, ◌+◌, ◌==◌, not, Bool, true, List, [], ◌∷◌, Some, refl}
 use Rattle.std.specs.Coded.{Coded, code_by, coded×, coded_ℕ}
 use Rattle.std.specs.FinSet as set
 use Rattle.std.specs.FinMap as fin
 use Rattle.dots_core.specs.declared.dot.Dot.{Dot}
-use Rattle.dots_core.specs.Dots.{Dots, dot, dot_code, count_of}
-use Rattle.payload_core.specs.Presences.{Presence, Entries, entries_code, dots_of}
+use Rattle.dots_core.specs.Dots.{Dots, dot, dot_code, count_of, of_names}
+use Rattle.payload_core.specs.Presences.{Presence, Entries, entries_code, dots_of, entries_of_names, is_tracked_as}
 use Rattle.payload_core.specs.Messages.{Message}
 use Rattle.replica_core.specs.declared.node_limits.NodeLimits.{NodeLimits}
 use Rattle.replica_core.specs.declared.status.Status.{Status}
@@ -41,6 +42,14 @@ fresh r = dot r.own (own_clock r + 1)
 abbrev pub own_dots : Replica → (Presence → Bool) → List Dot
 own_dots r test = dots_of r.own test r.entries
 
+-- the own dots of this process, topic and key: one at most, by what each replica keeps
+abbrev pub tracked_dots : Replica → ℕ → List ℕ → List ℕ → List Dot
+tracked_dots r pid topic key = own_dots r (is_tracked_as pid topic key)
+
+-- the own dots of this process, by rising clock
+abbrev pub dots_of_process : Replica → ℕ → List Dot
+dots_of_process r pid = own_dots r (λ p. p.pid == pid)
+
 -- whether the name is known
 abbrev pub is_known : Replica → ℕ → Bool
 is_known r name = fin.contains_key r.view name
@@ -58,9 +67,43 @@ joined p r = record r {
   delta_entries = fin.insert r.delta_entries (fresh r) p;
 }
 
+-- the entry at the dot goes, and of it the delta has the dot alone
+abbrev pub dropped : Dot → Replica → Replica
+dropped d r = record r { entries = fin.remove r.entries d; delta_seen = set.insert r.delta_seen d; delta_entries = fin.remove r.delta_entries d }
+
+-- the fresh dot was seen, without an entry, and nothing of it was sent
+abbrev pub ticked : Replica → Replica
+ticked r = record r { seen = set.insert r.seen (fresh r); delta_seen = set.insert r.delta_seen (fresh r) }
+
+-- a leave of the own entry at the dot
+abbrev pub left : Dot → Replica → Replica
+left d r = ticked (dropped d r)
+
+-- a leave, once for each of these
+abbrev pub left_each : List Dot → Replica → Replica
+left_each [] r = r
+left_each (d ∷ ds) r = left_each ds (left d r)
+
+-- the entries at these dots go
+abbrev pub dropped_each : List Dot → Replica → Replica
+dropped_each [] r = r
+dropped_each (d ∷ ds) r = dropped_each ds (dropped d r)
+
+-- an update: the old entry of this process, topic and key goes, and then the new one joins
+abbrev pub updated : Presence → Replica → Replica
+updated p r = joined p (dropped_each (tracked_dots r p.pid p.topic p.key) r)
+
 -- the name, known from now on, has this status
 abbrev pub with_status : ℕ → Status → Replica → Replica
 with_status name s r = record r { view = fin.insert r.view name s }
+
+-- whether the name is another one than this
+abbrev pub is_other : ℕ → ℕ → Bool
+is_other name n = not (n == name)
+
+-- nothing is held of the name: its dots were not seen, its entries are gone, and it is not known
+abbrev pub forgotten : ℕ → Replica → Replica
+forgotten name r = record r { seen = of_names (is_other name) r.seen; entries = entries_of_names (is_other name) r.entries; view = fin.remove r.view name }
 
 -- what a broadcast sends: the delta
 abbrev pub delta_message : Replica → Message

@@ -1,11 +1,11 @@
 //! A join's edit of a replica's sets.
-ghost use Rattle.std.specs.Prelude.{◌≡◌, None, OnErr, OnOk};
+ghost use Rattle.std.specs.Prelude.{◌≡◌, IfOk, None, OnErr, OnOk};
 ghost use Rattle.std.specs.FinMap as fin;
 ghost use Rattle.std.specs.FinSet as set;
 ghost use Rattle.dots_core.specs.Dots.{IsValid};
 ghost use Rattle.payload_core.specs.Presences.{presence_of};
 
-use dots_core::{DotSet, Oom};
+use dots_core::{Dot, DotSet, Oom};
 use payload_core::{Entry, EntrySet};
 use std::alloc::Allocator;
 
@@ -33,8 +33,7 @@ pub fn add<A: Allocator + Copy>(
     ensures delta_entries_stay { OnErr result (delta_entries.new.map ≡ delta_entries.old.map) }
 {
     let copy = entry.try_copy()?;
-    let mut delta = delta_seen.try_copy()?;
-    delta.insert(entry.dot)?;
+    let delta = with(delta_seen, entry.dot)?;
     entries.make_room(1)?;
     delta_entries.make_room(1)?;
     seen.insert(entry.dot)?;
@@ -42,4 +41,14 @@ pub fn add<A: Allocator + Copy>(
     delta_entries.insert(copy).unwrap();
     *delta_seen = delta;
     Ok(())
+}
+
+/// A copy of the dots with this one more.
+fn with<A: Allocator + Copy>(dots: &DotSet<A>, dot: Dot) -> Result<DotSet<A>, Oom>
+    requires { IsValid dot }
+    ensures { IfOk result (λ more. more ≡ set.insert dots.now dot) }
+{
+    let mut more = dots.try_copy()?;
+    more.insert(dot)?;
+    Ok(more)
 }

@@ -1,25 +1,28 @@
 //! `Replica`: what one node has seen, holds, knows of the others' names, and has not sent yet.
-ghost use Rattle.std.specs.Prelude.{◌≡◌, ◌↔◌, ◌<◌, ◌≤◌, IfErr, IfOk, IsOk, IsTrue, None, OnErr, OnOk};
+ghost use Rattle.std.specs.Prelude.{◌≡◌, ◌≢◌, ◌↔◌, ◌<◌, ◌≤◌, ◌^◌, ◌==◌, ◌&&◌, false, [], ◌∷◌, length, IfErr, IfOk, IsOk, IsTrue, None, OnErr, OnOk};
 ghost use Rattle.std.specs.FinMap as fin;
 ghost use Rattle.std.specs.FinSet as set;
 ghost use Rattle.payload_core.specs.EntryLists.{pairs};
 ghost use Rattle.payload_core.specs.Messages.{AreSeen, message_of_names};
 ghost use Rattle.payload_core.specs.Presences.{entry_of, presence_of};
-ghost use Rattle.replica_core.specs.declared.replica_fault.ReplicaFault.TheVariants.{NothingToSend};
-ghost use Rattle.replica_core.specs.declared.status.Status.TheVariants.{Up};
+ghost use Rattle.replica_core.specs.declared.replica_fault.ReplicaFault.TheVariants.{NothingToSend, OutOfMemory};
+ghost use Rattle.replica_core.specs.declared.status.Status.TheVariants.{Up, Down};
 ghost use Rattle.replica_core.specs.Limits.{AreNodeLimits};
-ghost use Rattle.replica_core.specs.Replicas.{opening, own_clock, fresh, is_online, joined, with_status, delta_message, without_delta, with_delta, CanBeDelta};
+ghost use Rattle.replica_core.specs.Replicas.{opening, own_clock, fresh, tracked_dots, dots_of_process, is_online, joined, left_each, updated, with_status, forgotten, delta_message, without_delta, with_delta, CanBeDelta};
 ghost use Rattle.replica_core.specs.Deliveries.{is_other_known, is_new, is_gone, arrivals, departures, merged, TakesGreaterStandings};
-ghost use Rattle.replica_core.specs.Refusals.{IsRefusedFor, are_too_many, join_refusal, merge_refusal, up_refusal, has_dots};
+ghost use Rattle.replica_core.specs.Refusals.{IsRefusedFor, is_tracked, are_too_many, is_clock_full, join_refusal, leave_refusal, leave_all_refusal, update_refusal, merge_refusal, up_refusal, down_refusal, permdown_refusal, has_dots};
 ghost use Rattle.replica_core.specs.Kept.{IsReplica};
+ghost use Rattle.replica_core.specs.Leaves.{AreOwnSeen};
 ghost use Rattle.replica_core.specs.Changes.{LeadsBack, LeadsSomewhere, GivesBack};
 
 use crate::change::Change;
 use crate::delivery::{joining, leaving, put_in, take_out};
 use crate::join::add;
+use crate::leave::{dots_of_process, tick_each};
 use crate::node_limits::NodeLimits;
 use crate::replica_fault::ReplicaFault;
 use crate::status::Status;
+use crate::update::put_in_place_of;
 use crate::view::View;
 use dots_core::{Dot, DotSet, NameSet, Oom};
 use payload_core::{Entry, EntrySet, Payload, Word};
@@ -158,16 +161,22 @@ impl<A: Allocator> Replica<A> {
     fn join_refusal(&self, pid: u64, topic: &Word<A>, key: &Word<A>) -> Option<ReplicaFault>
         ensures { result ≡ join_refusal self.now pid topic.now key.now }
     {
-        if self.entries.find(self.own, pid, topic, key).is_some() {
+        if self.is_tracked(pid, topic, key) {
             return Some(ReplicaFault::AlreadyTracked);
         }
         if self.are_too_many(self.entries.len() + 1) {
             return Some(ReplicaFault::EntriesFull);
         }
-        if self.own_clock() + 1 > self.limits.clock {
+        if self.is_clock_full(1) {
             return Some(ReplicaFault::ClockFull);
         }
         None
+    }
+
+    fn is_tracked(&self, pid: u64, topic: &Word<A>, key: &Word<A>) -> bool
+        ensures { result ≡ is_tracked self.now pid topic.now key.now }
+    {
+        self.entries.find(self.own, pid, topic, key).is_some()
     }
 
     fn are_too_many(&self, entries: usize) -> bool
@@ -180,6 +189,62 @@ impl<A: Allocator> Replica<A> {
         ensures { result ≡ is_other_known self.now name }
     {
         self.view.known().has(name) && name != self.own
+    }
+
+    /// The dot of the own entry of this process, topic and key, or why a leave or an update of it is refused.
+    fn leaving_dot(&self, pid: u64, topic: &Word<A>, key: &Word<A>) -> Result<Dot, ReplicaFault>
+        ensures dot { IfOk result (λ dot. tracked_dots self.now pid topic.now key.now ≡ dot ∷ []) }
+        ensures own { IfOk result (λ dot. AreOwnSeen (dot ∷ []) self.now) }
+        ensures refused { IsRefusedFor (leave_refusal self.now pid topic.now key.now) result }
+        ensures fault { IfErr result (λ fault. fault ≢ OutOfMemory) }
+    {
+        let Some(dot) = self.entries.find(self.own, pid, topic, key) else {
+            return Err(ReplicaFault::NotTracked);
+        };
+        if self.is_clock_full(1) {
+            return Err(ReplicaFault::ClockFull);
+        }
+        Ok(dot)
+    }
+
+    /// Whether the entry is an own one of the process.
+    pub(crate) fn is_own_of(&self, entry: &Entry<A>, pid: u64) -> bool
+        ensures { result ≡ ((entry.now.dot.name == self.now.own) && (entry.now.pid == pid)) }
+    {
+        entry.dot.name == self.own && entry.pid == pid
+    }
+
+    /// Whether so many more own dots would pass the limit of the own clock.
+    fn is_clock_full(&self, more: usize) -> bool
+        requires { more < 2 ^ 63 }
+        ensures { result ≡ is_clock_full self.now more }
+    {
+        self.own_clock() + more as u64 > self.limits.clock
+    }
+
+    /// Why a status of this other name is refused, if it is.
+    fn down_refusal(&self, name: u16) -> Option<ReplicaFault>
+        ensures { result ≡ down_refusal self.now name }
+    {
+        if name == self.own {
+            return Some(ReplicaFault::OwnReplica);
+        }
+        if !self.view.known().has(name) {
+            return Some(ReplicaFault::NotKnown);
+        }
+        None
+    }
+
+    fn permdown_refusal(&self, name: u16) -> Option<ReplicaFault>
+        ensures { result ≡ permdown_refusal self.now name }
+    {
+        if let Some(fault) = self.down_refusal(name) {
+            return Some(fault);
+        }
+        if self.online(name) {
+            return Some(ReplicaFault::NotDown);
+        }
+        None
     }
 
     /// Whether an entry of a message at this dot joins.
@@ -308,6 +373,107 @@ impl<A: Allocator + Copy> Replica<A> {
         Ok(())
     }
 
+    /// The own entry of this process, topic and key leaves: its dot and a fresh one go into the delta, the fresh one into
+    /// the seen dots. The refusals come in this order: `NotTracked`, `ClockFull`. For now it copies the replica, for the
+    /// change.
+    pub fn leave(
+        &mut self,
+        pid: u64,
+        topic: &Word<A>,
+        key: &Word<A>,
+    ) -> Result<Change<A>, ReplicaFault>
+        ensures left { OnOk result (self.new ≡ left_each (tracked_dots self.old pid topic.now key.now) self.old) }
+        ensures refused { IsRefusedFor (leave_refusal self.old pid topic.now key.now) result }
+        ensures leads_back { IfOk result (λ change. LeadsBack change self.new self.old) }
+        ensures err { OnErr result (self.new ≡ self.old) }
+    {
+        let dot = self.leaving_dot(pid, topic, key)?;
+        let before = self.try_copy()?;
+        self.let_go(&[dot])?;
+        Ok(Change::from(before))
+    }
+
+    /// All own entries of the process leave, by rising clock, each with a fresh dot of its own. The refusals come in this
+    /// order: `NotTracked` where it has none, `ClockFull` where the clock can't take all the fresh dots. It goes once over
+    /// the entries, and for now copies the replica, for the change.
+    pub fn leave_all(&mut self, pid: u64) -> Result<Change<A>, ReplicaFault>
+        ensures left { OnOk result (self.new ≡ left_each (dots_of_process self.old pid) self.old) }
+        ensures refused { IsRefusedFor (leave_all_refusal self.old pid) result }
+        ensures leads_back { IfOk result (λ change. LeadsBack change self.new self.old) }
+        ensures err { OnErr result (self.new ≡ self.old) }
+    {
+        let leaving = dots_of_process(self, pid)?;
+        if leaving.is_empty() {
+            return Err(ReplicaFault::NotTracked);
+        }
+        if self.is_clock_full(leaving.len()) {
+            return Err(ReplicaFault::ClockFull);
+        }
+        let before = self.try_copy()?;
+        self.let_go(&leaving)?;
+        Ok(Change::from(before))
+    }
+
+    /// The own entries at these dots leave. The sets of dots are copied, so that all that may be refused memory comes
+    /// first.
+    fn let_go(&mut self, dots: &[Dot]) -> Result<(), Oom>
+        requires own { AreOwnSeen dots.now self.old }
+        requires free { is_clock_full self.old (length dots.now) ≡ false }
+        ensures left { OnOk result (self.new ≡ left_each dots.now self.old) }
+        ensures err { OnErr result (self.new ≡ self.old) }
+    {
+        let clock = self.own_clock();
+        let mut seen = self.seen.try_copy()?;
+        let mut delta_seen = self.delta_seen.try_copy()?;
+        tick_each(&mut seen, &mut delta_seen, self.own, clock, dots)?;
+        take_out(&mut self.entries, dots);
+        take_out(&mut self.delta_entries, dots);
+        self.seen = seen;
+        self.delta_seen = delta_seen;
+        Ok(())
+    }
+
+    /// The own entry of this process, topic and key gets this metadata: the old one leaves, as its dot in the delta says,
+    /// and the new one joins at a fresh dot. The refusals come in this order: `NotTracked`, `ClockFull`. For now it copies
+    /// the replica, for the change.
+    pub fn update(
+        &mut self,
+        pid: u64,
+        topic: &Word<A>,
+        key: &Word<A>,
+        metadata: &Word<A>,
+    ) -> Result<Change<A>, ReplicaFault>
+        ensures updated { OnOk result (self.new ≡ updated (record { pid = pid; topic = topic.now; key = key.now; metadata = metadata.now }) self.old) }
+        ensures refused { IsRefusedFor (update_refusal self.old pid topic.now key.now) result }
+        ensures leads_back { IfOk result (λ change. LeadsBack change self.new self.old) }
+        ensures err { OnErr result (self.new ≡ self.old) }
+    {
+        let dot = self.leaving_dot(pid, topic, key)?;
+        let before = self.try_copy()?;
+        let entry = self.fresh_entry(pid, topic, key, metadata)?;
+        self.track_again(dot, entry)?;
+        Ok(Change::from(before))
+    }
+
+    /// The entry takes the place of the one at the dot.
+    fn track_again(&mut self, old: Dot, entry: Entry<A>) -> Result<(), Oom>
+        requires old { tracked_dots self.old entry.pid entry.topic entry.key ≡ old ∷ [] }
+        requires fresh { entry.dot ≡ fresh self.old }
+        requires free { is_clock_full self.old 1 ≡ false }
+        ensures updated { OnOk result (self.new ≡ updated (presence_of entry) self.old) }
+        ensures err { OnErr result (self.new ≡ self.old) }
+    {
+        put_in_place_of(
+            &mut self.seen,
+            &mut self.entries,
+            &mut self.delta_seen,
+            &mut self.delta_entries,
+            old,
+            entry,
+        )?;
+        Ok(())
+    }
+
     /// Takes in what another replica sent: of the known names but the own one, the message's entries whose dot was not
     /// seen join, and the entries that the message has seen and no longer holds leave. It is refused with `EntriesFull`
     /// where there would be too many entries in the end. The sender and its status play no part. It goes once over the
@@ -374,6 +540,43 @@ impl<A: Allocator + Copy> Replica<A> {
         }
         let before = self.try_copy()?;
         self.view.raise(name);
+        Ok(Change::from(before))
+    }
+
+    /// The name is down. The refusals come in this order: `OwnReplica`, `NotKnown`. For now it copies the replica, for the
+    /// change.
+    pub fn down(&mut self, name: u16) -> Result<Change<A>, ReplicaFault>
+        requires { name < 32 }
+        ensures down { OnOk result (self.new ≡ with_status name Down self.old) }
+        ensures refused { IsRefusedFor (down_refusal self.old name) result }
+        ensures leads_back { IfOk result (λ change. LeadsBack change self.new self.old) }
+        ensures err { OnErr result (self.new ≡ self.old) }
+    {
+        if let Some(fault) = self.down_refusal(name) {
+            return Err(fault);
+        }
+        let before = self.try_copy()?;
+        self.view.lower(name);
+        Ok(Change::from(before))
+    }
+
+    /// All that is held of the name goes: its dots, its entries, its status. The delta stays, as it has own dots alone.
+    /// The refusals come in this order: `OwnReplica`, `NotKnown`, `NotDown`. It copies the other names' entries, and for
+    /// now the replica, for the change.
+    pub fn permdown(&mut self, name: u16) -> Result<Change<A>, ReplicaFault>
+        requires { name < 32 }
+        ensures forgotten { OnOk result (self.new ≡ forgotten name self.old) }
+        ensures refused { IsRefusedFor (permdown_refusal self.old name) result }
+        ensures leads_back { IfOk result (λ change. LeadsBack change self.new self.old) }
+        ensures err { OnErr result (self.new ≡ self.old) }
+    {
+        if let Some(fault) = self.permdown_refusal(name) {
+            return Err(fault);
+        }
+        let before = self.try_copy()?;
+        self.entries = self.entries.only(self.view.known().without(name))?;
+        self.seen.drop_name(name);
+        self.view.forget(name);
         Ok(Change::from(before))
     }
 

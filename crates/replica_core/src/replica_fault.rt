@@ -8,9 +8,18 @@ pub enum ReplicaFault {
     /// The name is the replica's own.
     #[error("OwnReplica")]
     OwnReplica,
+    /// The name is not known.
+    #[error("NotKnown")]
+    NotKnown,
+    /// The name is up.
+    #[error("NotDown")]
+    NotDown,
     /// An own entry has this process, topic and key.
     #[error("AlreadyTracked")]
     AlreadyTracked,
+    /// No own entry is the one named.
+    #[error("NotTracked")]
+    NotTracked,
     /// The delta has no dot.
     #[error("NothingToSend")]
     NothingToSend,

@@ -1,8 +1,8 @@
 //! `View`: which names are known, and which of them are up.
-ghost use Rattle.std.specs.Prelude.{◌≡◌, ◌↔◌, ◌<◌, IsTrue};
+ghost use Rattle.std.specs.Prelude.{◌≡◌, ◌↔◌, ◌<◌, IsTrue, true};
 ghost use Rattle.std.specs.FinMap as fin;
 ghost use Rattle.replica_core.specs.Views.{AreKnown};
-ghost use Rattle.replica_core.specs.declared.status.Status.TheVariants.{Up};
+ghost use Rattle.replica_core.specs.declared.status.Status.TheVariants.{Up, Down};
 
 use crate::status::Status;
 use dots_core::NameSet;
@@ -69,6 +69,24 @@ impl View {
     {
         self.known = self.known.with(name);
         self.up = self.up.with(name);
+    }
+
+    /// The known name is down.
+    pub fn lower(&mut self, name: u16)
+        requires name { name < 32 }
+        requires known { fin.contains_key self.old name ≡ true }
+        ensures { self.new ≡ fin.insert self.old name Down }
+    {
+        self.up = self.up.without(name);
+    }
+
+    /// The name is not known from now on.
+    pub fn forget(&mut self, name: u16)
+        requires { name < 32 }
+        ensures { self.new ≡ fin.remove self.old name }
+    {
+        self.known = self.known.without(name);
+        self.up = self.up.without(name);
     }
 
     /// Whether both have the same names with the same statuses.

@@ -1,20 +1,18 @@
-use Rattle.std.proofs.Common.{◌≡◌, ◌≢◌, ◌+◌, ◌∙◌, ap, sym, [], None, Err, arith}
-use Rattle.std.proofs.lemmas.Bool.Decides.{nat_tests}
-use Rattle.presence_bench.specs.Grammar.{with_lines, script_of, finished}
+use Rattle.std.proofs.Common.{◌≡◌, ◌≢◌, ◌+◌, ◌∙◌, ap, sym, [], None, Err}
+use Rattle.presence_bench.specs.Grammar.{with_lines, finished}
 use Rattle.presence_bench.specs.Readings.{reading_view}
 use Rattle.presence_bench.specs.Words.{lines_of}
 use Rattle.presence_bench.specs.declared.fault.FaultKind.TheVariants.{OutOfMemory}
-use Rattle.presence_bench.proofs.Lines.{with_lines_fault, all_read, script_of-read}
+use Rattle.presence_bench.proofs.Lines.{with_lines_fault, all_read, script_of-read, script_of-fault}
 use Rattle.presence_bench.proofs.parse.parse_script.Goals as goal
 
 -- the line's fault is the script's, since the lines in front of it have none
 pub returns-in-Err : goal.returns-in-Err
-unfolding script_of
 returns-in-Err g c ne =
     let lasting : c.in-Err.kind ≢ OutOfMemory = λ e. ne (c.at.ensures.memory e) in
     let rest = with_lines_fault (reading_view c.loop-index.reading) (c.loop-index.index + 1) c.deref-line-items.result.now c.loop-index.index _ c.in-Err.kind c.loop-index-test.true (c.in-Err.ensures lasting) in
     let whole : with_lines (record { nodes = None; calls = [] }) 1 (lines_of c.args.bytes.now) ≡ Err (record { line = c.loop-index.index + 1; kind = c.in-Err.kind }) = sym c.loop-index.invariant ∙ rest in
-    rw (whole, c.at.ensures.other lasting) (grind (arith, nat_tests))
+    script_of-fault c.args.bytes.now _ c.if-bytes-gt-LONGEST_SCRIPT.false whole ∙ ap Err (sym (c.at.ensures.other lasting))
 
 -- all lines were read
 pub returns-in-Some : goal.returns-in-Some

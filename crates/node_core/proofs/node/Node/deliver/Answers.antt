@@ -1,19 +1,16 @@
 use Rattle.std.proofs.Common.{◌≡◌, Some, Ok, Err, if◌then◌else◌, option_map, sym, ap, ◌∙◌, subst}
 use Rattle.std.proofs.lemmas.Bool.{ne_eqb}
-use Rattle.replica_core.specs.Replicas.{Replica}
 use Rattle.node_core.specs.declared.step_fault.StepFault.TheVariants.{OwnMessage}
 use Rattle.node_core.specs.Operations.{Deliver}
 use Rattle.node_core.specs.Nodes.{Node, with_replica, deliver, take}
 use Rattle.node_core.specs.Inverses.{OfChange, LeadsBack}
-use Rattle.node_core.proofs.Takes.{changed, changed_kept}
+use Rattle.node_core.proofs.Changes.{changed, changed_kept}
 use Rattle.node_core.proofs.node.Node.deliver.Goals as goal
 
 pub invariant_of-self-2 : goal.invariant_of-self-2
 invariant_of-self-2 g c =
-    let before : Node = record { replica = c.self.inside.replica; outbox = c.self.inside.outbox.messages } in (
-      changed_kept before c.merge.new.self c.self.invariant.0 (ap (λ (r : Replica). r.own) c.in_ok-change.ensures.merged) (ap (λ (r : Replica). r.limits) c.in_ok-change.ensures.merged) c.replica_law.ensures,
-      c.self.invariant.1 ∙ ap (λ (r : Replica). r.limits.messages) (sym c.in_ok-change.ensures.merged),
-    )
+    let before : Node = record { replica = c.self.inside.replica; outbox = c.self.inside.outbox.messages } in
+    changed_kept before c.merge.new.self c.in_ok-change.change c.self.inside.outbox.limit c.self.invariant.0 c.self.invariant.1 c.in_ok-change.ensures.leads_back c.replica_law.ensures
 
 pub returns : goal.returns
 returns g c =

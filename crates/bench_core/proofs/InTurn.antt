@@ -1,0 +1,158 @@
+-- A step and what follows from it are undone in turn.
+use Rattle.std.proofs.Common.{◌≡◌, ◌≢◌, ◌&&◌, is_some, is_none, Option, Bool, true, false, ℕ, ◌+◌, ◌<◌, ◌≤◌, ◌==◌, ◌||◌, nat_lt, if◌then◌else◌, List, [], ◌∷◌, ◌++◌, map, length, take, drop, get_or, Some, None, Ok, Err, refl, sym, ap, ◌∙◌, subst, arith, append-nil, append_assoc}
+use Rattle.std.proofs.lemmas.Bool.{ne_eqb, le-ltb, or_from}
+use Rattle.std.proofs.lemmas.List.{take_more, drop_more, take-append-drop, map-append}
+use Rattle.bench_core.specs.declared.reply.Reply.{Reply}
+use Rattle.bench_core.specs.declared.reply.Reply.TheVariants.{Undone, Refused}
+use Rattle.bench_core.specs.declared.fault.Fault.TheVariants.{NoSuchStep}
+use Rattle.bench_core.specs.Limits.{node_limits}
+use Rattle.journal_core.specs.Journals.{Kept, find_number, first_consequence, without}
+use Rattle.journal_core.specs.Futures.{future, undo_all, without_all}
+use Rattle.bench_core.specs.Acts.{Action, Undo}
+use Rattle.bench_core.specs.Machine.{Event, Config, State, Machine, config_of, given, unheld, undo_found, undo_reply, reply_to, remaining_after, after, call, calls, replies_of, AnswersAs, Answered, Unmade}
+use Rattle.bench_core.specs.Headline.{IsReached}
+use Rattle.bench_core.specs.Unwinds.{why_found, why_answer, undos, asked_undos, undone_event, CanBeUndone, AreUndone, LeastLaw}
+use Rattle.bench_core.proofs.Reached.{kept_reached, undo_answers}
+use Rattle.bench_core.proofs.Keeps.{calls_append, reached_after}
+use Rattle.bench_core.proofs.Least.{taken_back, least_holds}
+use Rattle.bench_core.proofs.Unwind.{unwind_holds}
+
+-- what is answered of a remaining step
+pub why_gives : (s : State) (n : ℕ) (x : Kept) (numbers : List ℕ) → 0 < n → n ≤ given s.history → find_number s.remaining n ≡ Some x → numbers ≡ future s.remaining n → why_answer s n ≡ Ok numbers
+why_gives s n x numbers low high found is =
+    ap (λ (b : Bool). if b then Err NoSuchStep else why_found s.remaining n (find_number s.remaining n)) (or_from (n == 0) (nat_lt (given s.history) n) (ne_eqb n 0 (λ e. omega arith)) (le-ltb (given s.history) n high))
+    ∙ ap (why_found s.remaining n) found
+    ∙ ap Ok (sym is)
+
+-- the machine accepts the undos that the journal accepts
+accepted : (c : Config) (s : State) (actor : ℕ) (numbers : List ℕ) (left : List Kept) → IsReached c s → undo_all s.remaining numbers ≡ Some left → replies_of c s (undos actor numbers) ≡ map Undone numbers
+accepted c s actor [] left reached h = refl
+accepted c s actor (n ∷ numbers) left reached h =
+    let t = taken_back s.remaining n numbers left h in
+    let reply : undo_reply s n ≡ Undone n = undo_answers c s n t.step None reached t.found t.free in
+    let next : State = after c s actor (Undo n) (Undone n) in
+    ap (λ (r : Reply). r ∷ replies_of c (after c s actor (Undo n) r) (undos actor numbers)) reply
+    ∙ ap (λ (l : List Reply). Undone n ∷ l) (accepted c next actor numbers left (reached_after c s actor (Undo n) (Undone n) reached reply) t.later)
+
+pub can_be_undone : (m : Machine) (n : ℕ) (numbers : List ℕ) → IsReached (config_of m) m.state → numbers ≡ future m.state.remaining n → CanBeUndone m numbers
+can_be_undone m n numbers reached is actor =
+    let k = kept_reached (config_of m) m.state reached in
+    let law = unwind_holds (node_limits m.limits) (length m.names) n m.state.remaining k.cluster k.rises k.is_now in
+    subst (λ (l : List ℕ). replies_of (config_of m) m.state (undos actor l) ≡ map Undone l) (sym is) (accepted (config_of m) m.state actor (future m.state.remaining n) (without_all m.state.remaining (future m.state.remaining n)) reached law.taken_back)
+
+-- one undo after others
+
+replies_append : (c : Config) (s : State) (asked more : List (ℕ × Action)) → replies_of c s (asked ++ more) ≡ replies_of c s asked ++ replies_of c (calls c s asked) more
+replies_append c s [] more = refl
+replies_append c s (a ∷ asked) more = ap (λ (l : List Reply). reply_to c s a.0 a.1 ∷ l) (replies_append c (call c s a.0 a.1) asked more)
+
+without_all_append : (ks : List Kept) (numbers : List ℕ) (n : ℕ) → without_all ks (numbers ++ n ∷ []) ≡ without (without_all ks numbers) n
+without_all_append ks [] n = refl
+without_all_append ks (m ∷ numbers) n = without_all_append (without ks m) numbers n
+
+same_next : (rs : List Reply) (a b : Reply) (more others : List Reply) → rs ++ a ∷ more ≡ rs ++ b ∷ others → a ≡ b
+same_next [] a b more others e = cc
+same_next (r ∷ rs) a b more others e = same_next rs a b more others (cc)
+
+abbrev with_state : Machine → State → Machine
+with_state m s = record { names = m.names; limits = m.limits; state = s }
+
+pub none_undone : (m : Machine) (actor : ℕ) → AreUndone m actor [] m
+none_undone m actor = record { replies = refl; state = refl; history = sym (append-nil m.state.history); remaining = refl }
+
+module _ (old mid new : Machine) (actor n : ℕ) (first : List ℕ) (reply : Reply) (so_far : AreUndone old actor first mid) where
+  abbrev before : State
+  before = calls (config_of old) old.state (undos actor first)
+
+  one_more : AnswersAs mid actor (Undo n) reply new → reply ≡ Undone n → AreUndone old actor (first ++ n ∷ []) new
+  one_more (Unmade none same) made = absurd (cc)
+  one_more (Answered answer gives) made =
+      let here : undo_reply mid.state n ≡ undo_reply before n = ap (λ (m : Machine). undo_reply m.state n) so_far.state in
+      let is : undo_reply before n ≡ Undone n = sym here ∙ sym answer ∙ made in
+      let longer : undos actor (first ++ n ∷ []) ≡ undos actor first ++ (actor, Undo n) ∷ [] = map-append (λ (n : ℕ). (actor, Undo n)) first (n ∷ []) in
+      let made_new : new ≡ with_state mid (after (config_of mid) mid.state actor (Undo n) (Undone n)) = gives ∙ ap (λ (r : Reply). with_state mid (after (config_of mid) mid.state actor (Undo n) r)) made in
+      record {
+        replies = ap (replies_of (config_of old) old.state) longer
+            ∙ replies_append (config_of old) old.state (undos actor first) ((actor, Undo n) ∷ [])
+            ∙ ap (λ (l : List Reply). l ++ undo_reply before n ∷ []) so_far.replies
+            ∙ ap (λ (r : Reply). map Undone first ++ r ∷ []) is
+            ∙ sym (map-append Undone first (n ∷ []));
+        state = gives
+            ∙ ap (λ (m : Machine). with_state m (after (config_of m) m.state actor (Undo n) reply)) so_far.state
+            ∙ ap (λ (r : Reply). with_state old (after (config_of old) before actor (Undo n) r)) (answer ∙ here)
+            ∙ ap (with_state old) (sym (ap (calls (config_of old) old.state) longer ∙ calls_append (config_of old) old.state (undos actor first) actor (Undo n)));
+        history = ap (λ (m : Machine). m.state.history) made_new
+            ∙ ap (λ (h : List Event). h ++ undone_event actor n ∷ []) so_far.history
+            ∙ append_assoc old.state.history (map (undone_event actor) first) (undone_event actor n ∷ [])
+            ∙ ap (λ (l : List Event). old.state.history ++ l) (sym (map-append (undone_event actor) first (n ∷ [])));
+        remaining = ap (λ (m : Machine). m.state.remaining) made_new
+            ∙ ap (λ (ks : List Kept). without ks n) so_far.remaining
+            ∙ sym (without_all_append old.state.remaining first n);
+      }
+
+  -- where the next could be undone, it was not for want of memory alone
+  no_more : (rest : List ℕ) → CanBeUndone old (first ++ n ∷ rest) → AnswersAs mid actor (Undo n) reply new → reply ≢ Undone n → AreUndone old actor first new
+  no_more rest all (Unmade none same) refused = subst (AreUndone old actor first) (sym same) so_far
+  no_more rest all (Answered answer gives) refused =
+      let here : undo_reply mid.state n ≡ undo_reply before n = ap (λ (m : Machine). undo_reply m.state n) so_far.state in
+      let longer : undos actor (first ++ n ∷ rest) ≡ undos actor first ++ (actor, Undo n) ∷ undos actor rest = map-append (λ (n : ℕ). (actor, Undo n)) first (n ∷ rest) in
+      let later : State = after (config_of old) before actor (Undo n) (undo_reply before n) in
+      let parts : map Undone first ++ undo_reply before n ∷ replies_of (config_of old) later (undos actor rest) ≡ map Undone first ++ Undone n ∷ map Undone rest =
+      sym (ap (λ (l : List Reply). l ++ undo_reply before n ∷ replies_of (config_of old) later (undos actor rest)) so_far.replies)
+      ∙ sym (replies_append (config_of old) old.state (undos actor first) ((actor, Undo n) ∷ undos actor rest))
+      ∙ sym (ap (replies_of (config_of old) old.state) longer)
+      ∙ all actor
+      ∙ map-append Undone first (n ∷ rest) in
+      absurd (refused (answer ∙ here ∙ same_next (map Undone first) (undo_reply before n) (Undone n) _ _ parts))
+
+-- the same, as a loop over the numbers comes to it
+
+pub undone_next : (old mid new : Machine) (actor : ℕ) (numbers : List ℕ) (i n : ℕ) (reply : Reply) → i < length numbers → n ≡ get_or numbers i 0 → AreUndone old actor (take i numbers) mid → AnswersAs mid actor (Undo n) reply new → reply ≡ Undone n → AreUndone old actor (take (i + 1) numbers) new
+undone_next old mid new actor numbers i n reply low at so_far answer made =
+    subst (λ (l : List ℕ). AreUndone old actor l new) (sym (take_more numbers i 0 low ∙ ap (λ (n : ℕ). take i numbers ++ n ∷ []) (sym at))) (one_more old mid new actor n (take i numbers) reply so_far answer made)
+
+pub undone_no_more : (old mid new : Machine) (actor : ℕ) (numbers : List ℕ) (i n : ℕ) (reply : Reply) → i < length numbers → n ≡ get_or numbers i 0 → CanBeUndone old numbers → AreUndone old actor (take i numbers) mid → AnswersAs mid actor (Undo n) reply new → reply ≢ Undone n → AreUndone old actor (take i numbers) new
+undone_no_more old mid new actor numbers i n reply low at all so_far answer refused =
+    let whole : numbers ≡ take i numbers ++ n ∷ drop (i + 1) numbers = sym (take-append-drop i numbers) ∙ ap (λ (l : List ℕ). take i numbers ++ l) (drop_more numbers i 0 low ∙ ap (λ (n : ℕ). n ∷ drop (i + 1) numbers) (sym at)) in
+    no_more old mid new actor n (take i numbers) reply so_far (drop (i + 1) numbers) (subst (CanBeUndone old) whole all) answer refused
+
+-- undos that the machine makes
+
+undone_parts : (s : State) (n : ℕ) → undo_reply s n ≡ Undone n → ((x : Kept) × (find_number s.remaining n ≡ Some x)) × (first_consequence s.remaining n ≡ None)
+undone_parts s n is = outer ((n == 0) || nat_lt (given s.history) n) is
+  where
+    free : (o : Option ℕ) → first_consequence s.remaining n ≡ o → unheld n o ≡ Undone n → first_consequence s.remaining n ≡ None
+    free None e h = e
+    free (Some j) e h = absurd (cc)
+
+    found : (o : Option Kept) → find_number s.remaining n ≡ o → undo_found s.remaining n o ≡ Undone n → ((x : Kept) × (find_number s.remaining n ≡ Some x)) × (first_consequence s.remaining n ≡ None)
+    found None e h = absurd (cc)
+    found (Some x) e h = ((x, e), free (first_consequence s.remaining n) refl h)
+
+    outer : (b : Bool) → (if b then Refused NoSuchStep else undo_found s.remaining n (find_number s.remaining n)) ≡ Undone n → ((x : Kept) × (find_number s.remaining n ≡ Some x)) × (first_consequence s.remaining n ≡ None)
+    outer true h = absurd (cc)
+    outer false h = found (find_number s.remaining n) refl h
+
+-- the journal accepts the undos that the machine makes
+made : (c : Config) (s : State) (asked : List (ℕ × ℕ)) → IsReached c s → replies_of c s (asked_undos asked) ≡ map (λ a. Undone a.1) asked → undo_all s.remaining (map (λ a. a.1) asked) ≡ Some (calls c s (asked_undos asked)).remaining
+made c s [] reached h = refl
+made c s (a ∷ asked) reached h =
+    let reply : undo_reply s a.1 ≡ Undone a.1 = cc in
+    let next : State = call c s a.0 (Undo a.1) in
+    let others : replies_of c next (asked_undos asked) ≡ map (λ a. Undone a.1) asked = cc in
+    let parts = undone_parts s a.1 reply in
+    let out : next.remaining ≡ without s.remaining a.1 = ap (remaining_after s.remaining a.0 (Undo a.1)) reply in
+    ap (λ (o : Option Kept). if is_some o && is_none (first_consequence s.remaining a.1) then undo_all (without s.remaining a.1) (map (λ a. a.1) asked) else None) parts.0.1
+    ∙ ap (λ (o : Option ℕ). if is_none o then undo_all (without s.remaining a.1) (map (λ a. a.1) asked) else None) parts.1
+    ∙ ap (λ (ks : List Kept). undo_all ks (map (λ a. a.1) asked)) (sym out)
+    ∙ made c next asked (reached_after c s a.0 (Undo a.1) (undo_reply s a.1) reached refl) others
+
+pub least : LeastLaw
+least c s n asked reached replies gone j follows =
+    let k = kept_reached c s reached in
+    least_holds (node_limits c.limits) c.nodes n s.remaining (calls c s (asked_undos asked)).remaining k.cluster (map (λ a. a.1) asked) k.rises k.is_now (made c s asked reached replies) gone j follows
+
+-- what is left of a list
+
+pub some_left : (numbers : List ℕ) (i : ℕ) → i < length numbers → drop i numbers ≢ []
+some_left numbers i low e = let more = drop_more numbers i 0 low in absurd (cc)

@@ -1,0 +1,14 @@
+use Rattle.std.proofs.Common.{rules, ◌++◌, ◌∙◌, Ok, ap, sym, drop}
+use Rattle.std.proofs.lemmas.List.{take-append-drop}
+use Rattle.bench_core.proofs.InTurn.{some_left}
+use Rattle.bench_core.proofs.bench.Bench.unwind.Goals as goal
+
+-- the undos that were made are the first of the future, and some are left
+pub returns-then-undone-len-clause-answer : goal.returns-then-undone-len-clause-answer
+returns-then-undone-len-clause-answer g c =
+    let numbers = c.in-Ok.numbers.items in
+    let undone = c.undo_each-undone.result in (
+      drop undone numbers,
+      some_left numbers undone (search rules),
+      c.in-Ok.ensures.answer ∙ ap Ok (sym (take-append-drop undone numbers) ∙ ap (λ l. l ++ drop undone numbers) (sym c.truncate.ensures.items)),
+    )

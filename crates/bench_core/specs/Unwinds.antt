@@ -1,0 +1,63 @@
+-- What an undo of a step waits for, and the undo of a step with all that follows from it.
+use Rattle.std.specs.Prelude.{◌≡◌, ◌≢◌, ℕ, ◌==◌, ◌||◌, nat_lt, if◌then◌else◌, List, [], ◌++◌, map, Option, Some, None, Result, Ok, Err}
+use Rattle.bench_core.specs.declared.reply.Reply.TheVariants.{Undone}
+use Rattle.bench_core.specs.declared.fault.Fault.{Fault}
+use Rattle.bench_core.specs.declared.fault.Fault.TheVariants.{NoSuchStep, AlreadyUndone, OutOfMemory}
+use Rattle.bench_core.specs.declared.unwound.Unwound.{Unwound}
+use Rattle.bench_core.specs.declared.unwound.Unwound.TheVariants as unwound
+use Rattle.journal_core.specs.Journals.{Kept, find_number}
+use Rattle.journal_core.specs.Futures.{Follows, future, without_all}
+use Rattle.bench_core.specs.Acts.{Action, Undo}
+use Rattle.bench_core.specs.Machine.{Event, Config, State, Machine, config_of, given, calls, replies_of}
+use Rattle.bench_core.specs.Headline.{IsReached}
+
+abbrev pub why_found : List Kept → ℕ → Option Kept → Result (List ℕ) Fault
+why_found ks n None = Err AlreadyUndone
+why_found ks n (Some _) = Ok (future ks n)
+
+-- the numbers of step n and of all that follows from it, greatest first; or the fault of an undo of a step that doesn't remain
+abbrev pub why_answer : State → ℕ → Result (List ℕ) Fault
+why_answer s n = if (n == 0) || nat_lt (given s.history) n then Err NoSuchStep else why_found s.remaining n (find_number s.remaining n)
+
+-- the calls of an actor that undo these steps in turn
+abbrev pub undos : ℕ → List ℕ → List (ℕ × Action)
+undos actor numbers = map (λ n. (actor, Undo n)) numbers
+
+abbrev pub undone_event : ℕ → ℕ → Event
+undone_event actor n = record { actor = actor; act = Undo n; reply = Undone n }
+
+-- the undos of these steps in turn, each with who asks for it
+abbrev pub asked_undos : List (ℕ × ℕ) → List (ℕ × Action)
+asked_undos asked = map (λ a. (a.0, Undo a.1)) asked
+
+-- whatever undos the machine makes, by whomever they are asked: where they take a step back, they take back all that follows from it
+abbrev pub LeastLaw : Type 0
+LeastLaw = (c : Config) (s : State) (n : ℕ) (asked : List (ℕ × ℕ)) → IsReached c s → replies_of c s (asked_undos asked) ≡ map (λ a. Undone a.1) asked →
+    find_number (calls c s (asked_undos asked)).remaining n ≡ None → (j : ℕ) → Follows s.remaining n j → find_number (calls c s (asked_undos asked)).remaining j ≡ None
+
+-- whoever asks for the undos of these steps, in this order, each is made
+abbrev pub CanBeUndone : Machine → List ℕ → Type 0
+CanBeUndone m numbers = (actor : ℕ) → replies_of (config_of m) m.state (undos actor numbers) ≡ map Undone numbers
+
+-- an actor asked for the undos of these steps, in this order, and nothing else was done
+pub record AreUndone (old : Machine) (actor : ℕ) (numbers : List ℕ) (new : Machine) : Type 0 where
+  -- each undo was made
+  pub replies : replies_of (config_of old) old.state (undos actor numbers) ≡ map Undone numbers
+  -- the machine comes to this state by these calls
+  pub state : new ≡ record { names = old.names; limits = old.limits; state = calls (config_of old) old.state (undos actor numbers) }
+  -- the history has these undos more
+  pub history : new.state.history ≡ old.state.history ++ map (undone_event actor) numbers
+  -- these steps are gone, and the others are as they were
+  pub remaining : new.state.remaining ≡ without_all old.state.remaining numbers
+
+-- the numbers of the steps that were undone, in the order of their undos
+abbrev pub undone_by : {X : Type 0} → Unwound X → List ℕ
+undone_by (unwound.Done numbers) = numbers.items
+undone_by (unwound.Refused fault) = []
+undone_by (unwound.Partial numbers) = numbers.items
+
+-- the whole future of step n was undone; or, memory apart, the call is refused as the definition says; or the first undos of that future were made
+abbrev pub IsUnwound : {X : Type 0} → State → ℕ → Unwound X → Type 0
+IsUnwound s n (unwound.Done numbers) = why_answer s n ≡ Ok numbers.items
+IsUnwound s n (unwound.Refused fault) = fault ≢ OutOfMemory → why_answer s n ≡ Err fault
+IsUnwound s n (unwound.Partial numbers) = (rest : List ℕ) × (rest ≢ []) × (why_answer s n ≡ Ok (numbers.items ++ rest))

@@ -1,0 +1,14 @@
+//! `Unwound`: what the undo of a step with all that follows from it came to.
+use crate::fault::Fault;
+use std::alloc::Allocator;
+
+/// What the undo of a step with all that follows from it came to.
+#[derive(Drop)]
+pub enum Unwound<A: Allocator> {
+    /// The step and all that follows from it were taken back, greatest number first.
+    Done(Vec<u64, A>),
+    /// Nothing was done, and nothing is recorded.
+    Refused(Fault),
+    /// An undo was refused memory. These are taken back, the first of those that `Done` would name, perhaps none.
+    Partial { numbers: Vec<u64, A> },
+}

@@ -1,0 +1,5 @@
+pub mod Rows
+pub mod RowOrder
+pub mod Online
+pub mod Diffs
+pub mod Laws

@@ -1,0 +1,71 @@
+//! What a step changed: how two online lists differ.
+ghost use Rattle.std.specs.Prelude.{◌≡◌, IfOk};
+ghost use Rattle.diff_core.specs.Diffs.{alone, begins_with, not_below};
+ghost use Rattle.diff_core.specs.Online.{AreInOrder};
+
+use crate::online_row::OnlineRow;
+use crate::row_diff::Diff;
+use payload_core::Oom;
+use std::alloc::Allocator;
+
+/// How two online lists differ. It goes over both lists side by side.
+pub fn diff<A: Allocator + Copy>(
+    alloc: A,
+    before: &[OnlineRow<A>],
+    after: &[OnlineRow<A>],
+) -> Result<Diff<A>, Oom>
+    requires before { AreInOrder before.now }
+    requires after { AreInOrder after.now }
+    ensures left { IfOk result (λ diff. diff.left.items ≡ alone before.now after.now) }
+    ensures joined { IfOk result (λ diff. diff.joined.items ≡ alone after.now before.now) }
+{
+    Ok(Diff {
+        left: rows_alone(alloc, before, after)?,
+        joined: rows_alone(alloc, after, before)?,
+    })
+}
+
+/// Copies of the rows that are none of the others, in one pass over both.
+fn rows_alone<A: Allocator + Copy>(
+    alloc: A,
+    rows: &[OnlineRow<A>],
+    others: &[OnlineRow<A>],
+) -> Result<Vec<OnlineRow<A>, A>, Oom>
+    requires rows { AreInOrder rows.now }
+    requires others { AreInOrder others.now }
+    ensures { IfOk result (λ found. found.items ≡ alone rows.now others.now) }
+{
+    let mut found = Vec::new(alloc);
+    let mut rest = others;
+    for row in rows {
+        rest = not_below(rest, row);
+        if !begins_with(rest, row) {
+            found.push(row.try_copy()?)?;
+        }
+    }
+    Ok(found)
+}
+
+/// The rows from the first on that is not below this one.
+fn not_below<'x, A: Allocator>(rows: &'x [OnlineRow<A>], row: &OnlineRow<A>) -> &'x [OnlineRow<A>]
+    ensures { result.now ≡ not_below row.now rows.now }
+{
+    let mut rest = rows;
+    while let Some((first, others)) = rest.split_first() {
+        if first >= row {
+            break;
+        }
+        rest = others;
+    }
+    rest
+}
+
+/// Whether the first of the rows is this one.
+fn begins_with<A: Allocator>(rows: &[OnlineRow<A>], row: &OnlineRow<A>) -> bool
+    ensures { result ≡ begins_with row.now rows.now }
+{
+    match rows.first() {
+        Some(first) => first == row,
+        None => false,
+    }
+}

@@ -1,0 +1,14 @@
+//! The laws of online lists and their differences, as contracts of functions that do nothing.
+//!
+//! A crate above uses a law by calling its function.
+ghost use Rattle.diff_core.specs.Laws.{DiffLaw, OneListLaw};
+
+/// Two replicas with the same entries and statuses have the same online list.
+pub fn one_list_law()
+    ensures { OneListLaw }
+{}
+
+/// A list doesn't differ from itself, and each side of a difference is in order.
+pub fn diff_law()
+    ensures { DiffLaw }
+{}

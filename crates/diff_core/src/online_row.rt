@@ -1,0 +1,123 @@
+//! `OnlineRow`, what is shown of a live entry.
+ghost use Rattle.std.specs.Prelude.{◌≡◌, ◌↔◌, refl, IfOk, IsTrue, Some};
+ghost use Rattle.std.specs.Cmp.{partial_equiv_from_equiv};
+ghost use Rattle.std.specs.Ordering.{eq_by_cmp};
+ghost use Rattle.payload_core.specs.Presences.{presence_of};
+ghost use Rattle.diff_core.specs.Rows.{row_cmp, row_of};
+ghost use Rattle.diff_core.specs.RowOrder.{row_equiv, row_po, row_ties, row_total};
+
+use payload_core::{Entry, Oom, Word};
+use std::alloc::Allocator;
+use std::cmp::Ordering;
+use std::marker::Model;
+
+/// A live entry as an online list shows it: the name and clock are those of its dot, so no two entries of a replica have
+/// the same row. Rows are ordered by topic, key, name, process, clock and metadata, words by their bytes.
+#[derive(Debug, Drop)]
+pub struct OnlineRow<A: Allocator> {
+    pub topic: Word<A>,
+    pub key: Word<A>,
+    pub name: u16,
+    pub pid: u64,
+    pub clock: u64,
+    pub metadata: Word<A>,
+}
+
+impl<A: Allocator> Model for OnlineRow<A> {
+    ghost use Rattle.diff_core.specs.Rows.{Row};
+
+    ghost Value = { Row };
+
+    ghost view = { λ r. record { topic = r.topic; key = r.key; name = r.name; pid = r.pid; clock = r.clock; metadata = r.metadata } };
+}
+
+impl<A: Allocator> OnlineRow<A> {
+    /// The row of an entry.
+    pub fn of(entry: &Entry<A>) -> Result<OnlineRow<A>, Oom>
+    where
+        A: Copy,
+        ensures { IfOk result (λ row. row ≡ row_of (entry.now.dot, presence_of entry.now)) }
+    {
+        Ok(OnlineRow {
+            topic: entry.topic.try_copy()?,
+            key: entry.key.try_copy()?,
+            name: entry.dot.name,
+            pid: entry.pid,
+            clock: entry.dot.clock,
+            metadata: entry.metadata.try_copy()?,
+        })
+    }
+
+    /// Whether the two are alike in each field. It takes no memory.
+    pub fn same(&self, other: &OnlineRow<A>) -> bool
+        ensures { IsTrue result ↔ (self.now ≡ other.now) }
+    {
+        self.topic.same(&other.topic)
+            && self.key.same(&other.key)
+            && self.name == other.name
+            && self.pid == other.pid
+            && self.clock == other.clock
+            && self.metadata.same(&other.metadata)
+    }
+
+    /// A row with the same fields.
+    pub fn try_copy(&self) -> Result<OnlineRow<A>, Oom>
+    where
+        A: Copy,
+        ensures { IfOk result (λ copy. copy ≡ self.now) }
+    {
+        Ok(OnlineRow {
+            topic: self.topic.try_copy()?,
+            key: self.key.try_copy()?,
+            name: self.name,
+            pid: self.pid,
+            clock: self.clock,
+            metadata: self.metadata.try_copy()?,
+        })
+    }
+}
+
+impl<A: Allocator> PartialEq for OnlineRow<A> {
+    ghost eq = { eq_by_cmp row_cmp };
+
+    ghost laws = { partial_equiv_from_equiv row_equiv };
+
+    fn eq(&self, other: &Self) -> bool {
+        self.cmp(other) == Ordering::Equal
+    }
+}
+
+impl<A: Allocator> Eq for OnlineRow<A> {
+    ghost laws = { row_equiv };
+}
+
+impl<A: Allocator> PartialOrd for OnlineRow<A> {
+    ghost partial_cmp = { λ one other. Some (row_cmp one other) };
+
+    ghost laws = { row_po };
+
+    fn partial_cmp(&self, other: &Self) -> Option<Ordering> {
+        Some(self.cmp(other))
+    }
+}
+
+/// By topic, key, name, process, clock and metadata, words by their bytes.
+impl<A: Allocator> Ord for OnlineRow<A> {
+    ghost cmp = { row_cmp };
+
+    ghost total = { row_total };
+
+    ghost matches_partial_cmp = { λ one other. refl };
+
+    ghost matches_eq = { row_ties };
+
+    fn cmp(&self, other: &Self) -> Ordering {
+        self.topic
+            .cmp(&other.topic)
+            .then_with(|| self.key.cmp(&other.key))
+            .then_with(|| self.name.cmp(&other.name))
+            .then_with(|| self.pid.cmp(&other.pid))
+            .then_with(|| self.clock.cmp(&other.clock))
+            .then_with(|| self.metadata.cmp(&other.metadata))
+    }
+}
