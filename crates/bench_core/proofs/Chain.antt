@@ -1,18 +1,20 @@
 -- The chain of inverses, when a step is added and when one is taken out.
-use Rattle.std.proofs.Common.{◌≡◌, ◌≢◌, ℕ, ◌==◌, Bool, true, false, if◌then◌else◌, List, [], ◌∷◌, ◌++◌, set, slice_get, Some, None, Result, Ok, Err, refl, sym, ap, ◌∙◌, subst, arith}
-use Rattle.std.proofs.lemmas.Bool.{eqb-true}
+use Rattle.std.proofs.Common.{◌≡◌, ◌≢◌, ℕ, List, [], ◌∷◌, ◌++◌, set, slice_get, Some, None, Result, Ok, Err, sym, ap, ◌∙◌, subst}
 use Rattle.replica_core.specs.declared.node_limits.NodeLimits.{NodeLimits}
 use Rattle.node_core.specs.Inverses.{Inverse, LeadsBack}
 use Rattle.node_core.specs.Nodes.{Node, take}
 use Rattle.bench_core.specs.declared.fault.Fault.{Fault}
-use Rattle.journal_core.specs.Journals.{Kept, RisesAbove, find_number, first_consequence, without, before, is_consequence}
+use Rattle.journal_core.specs.Journals.{Kept, RisesAbove, first_consequence, without, before, is_consequence}
 use Rattle.journal_core.specs.Holdings.{Held, kepts, find_held, without_held, AreAllHeld}
 use Rattle.bench_core.specs.Clusters.{Cluster, step, opening_of}
 use Rattle.bench_core.specs.Runs.{then_runs, runs}
 use Rattle.bench_core.specs.Chains.{Link, Chain}
 use Rattle.bench_core.proofs.Clusters.{ReadsAlike, get-set_same, get-set_other, set-get, set-set_same, mapped, message-set, step-set, Stepped, stepped}
 use Rattle.bench_core.proofs.Runs.{runs_split, run_one, HasNode, Apart, step_has}
-use Rattle.bench_core.proofs.Middle.{Split, none_later, NoneOf, none_follows, stands_apart, left_out}
+use Rattle.journal_core.proofs.Each.{NoneOf, none_follows}
+use Rattle.journal_core.proofs.Rising.{kepts-append}
+use Rattle.journal_core.proofs.Split.{Split, Parts, parts}
+use Rattle.bench_core.proofs.Middle.{stands_apart, left_out}
 
 pub chain_nil : (r : Result Cluster Fault) → Chain r []
 chain_nil (Ok c) = tt
@@ -29,10 +31,6 @@ pub all_held : (r : Result Cluster Fault) (hs : List Held) (c : Cluster) → Cha
 all_held (Err e) hs c chain run = absurd (cc)
 all_held (Ok b) [] c chain run = tt
 all_held (Ok b) (h ∷ hs) c chain run = ((chain.0.inverse, chain.0.kept), all_held (step b h.kept.node h.kept.step) hs c chain.1 run)
-
-pub kepts_append : (hs js : List Held) → kepts (hs ++ js) ≡ kepts hs ++ kepts js
-kepts_append [] js = refl
-kepts_append (h ∷ hs) js = ap (λ (l : List Kept). h.kept ∷ l) (kepts_append hs js)
 
 -- the chain in two parts
 chain_first : (r : Result Cluster Fault) (hs js : List Held) → Chain r (hs ++ js) → Chain r hs
@@ -77,51 +75,6 @@ run_has (Err e) n x y ks has apart = tt
 run_has (Ok c) n x y [] has apart = has
 run_has (Ok c) n x y (k ∷ ks) has apart = run_has (step c k.node k.step) n x y ks (step_has c k n x apart.0 has) apart.1.1
 
--- a journal with its inverses round step n
-record Parts (hs : List Held) (n : ℕ) (h : Held) : Type 0 where
-  first : List Held
-  rest : List Held
-  whole : hs ≡ first ++ h ∷ rest
-  out : without_held hs n ≡ first ++ rest
-  before_is : kepts first ≡ before (kepts hs) n
-  without_is : kepts (without_held hs n) ≡ without (kepts hs) n
-  found : find_number (kepts hs) n ≡ Some h.kept
-  number : h.kept.number ≡ n
-  later : RisesAbove n (kepts rest)
-
-parts : (a : ℕ) (hs : List Held) (n : ℕ) (h : Held) → RisesAbove a (kepts hs) → find_held hs n ≡ Some h → Parts hs n h
-parts a [] n h rises is = absurd (cc)
-parts a (x ∷ hs) n h rises is = go (x.kept.number == n) refl is (parts x.kept.number hs n h rises.1)
-  where
-    go : (b : Bool) → (x.kept.number == n) ≡ b → (if b then Some x else find_held hs n) ≡ Some h → (find_held hs n ≡ Some h → Parts hs n h) → Parts (x ∷ hs) n h
-    go true at is more =
-        let same : x ≡ h = cc in
-        let number : x.kept.number ≡ n = eqb-true x.kept.number n at in
-        record {
-          first = [];
-          rest = hs;
-          whole = ap (λ (h : Held). h ∷ hs) same;
-          out = rw at refl;
-          before_is = rw at refl;
-          without_is = rw at (sym (none_later n x.kept.number (kepts hs) (omega arith) rises.1));
-          found = rw at (ap (λ (h : Held). Some h.kept) same);
-          number = ap (λ (h : Held). h.kept.number) (sym same) ∙ number;
-          later = subst (λ m. RisesAbove m (kepts hs)) number rises.1;
-        }
-    go false at is more =
-        let p = more is in
-        record {
-          first = x ∷ p.first;
-          rest = p.rest;
-          whole = ap (λ (l : List Held). x ∷ l) p.whole;
-          out = rw at (ap (λ (l : List Held). x ∷ l) p.out);
-          before_is = rw at (ap (λ (l : List Kept). x.kept ∷ l) p.before_is);
-          without_is = rw at (ap (λ (l : List Kept). x.kept ∷ l) p.without_is);
-          found = rw at p.found;
-          number = p.number;
-          later = p.later;
-        }
-
 -- what an undo of step n needs: its inverse leads back from the present node, and then the rest runs and its inverses lead back
 pub record Undoing (l : NodeLimits) (count n : ℕ) (hs : List Held) (h : Held) (c : Cluster) : Type 0 where
   pub inverse : Inverse
@@ -137,8 +90,8 @@ pub record Undoing (l : NodeLimits) (count n : ℕ) (hs : List Held) (h : Held) 
 abbrev to_split : {hs : List Held} {n : ℕ} {h : Held} → Parts hs n h → Split (kepts hs) n h.kept
 to_split {hs = hs} {n = n} {h = h} p = record {
   rest = kepts p.rest;
-  whole = ap kepts p.whole ∙ kepts_append p.first (h ∷ p.rest) ∙ ap (λ (l : List Kept). l ++ h.kept ∷ kepts p.rest) p.before_is;
-  out = sym p.without_is ∙ ap kepts p.out ∙ kepts_append p.first p.rest ∙ ap (λ (l : List Kept). l ++ kepts p.rest) p.before_is;
+  whole = ap kepts p.whole ∙ kepts-append p.first (h ∷ p.rest) ∙ ap (λ (l : List Kept). l ++ h.kept ∷ kepts p.rest) p.before_is;
+  out = sym p.without_is ∙ ap kepts p.out ∙ kepts-append p.first p.rest ∙ ap (λ (l : List Kept). l ++ kepts p.rest) p.before_is;
   number = p.number;
   later = p.later;
 }

@@ -1,28 +1,55 @@
 -- A step and what follows from it are undone in turn.
-use Rattle.std.proofs.Common.{◌≡◌, ◌≢◌, ◌&&◌, is_some, is_none, Option, Bool, true, false, ℕ, ◌+◌, ◌<◌, ◌≤◌, ◌==◌, ◌||◌, nat_lt, if◌then◌else◌, List, [], ◌∷◌, ◌++◌, map, length, take, drop, get_or, Some, None, Ok, Err, refl, sym, ap, ◌∙◌, subst, arith, append-nil, append_assoc}
-use Rattle.std.proofs.lemmas.Bool.{ne_eqb, le-ltb, or_from}
+use Rattle.std.proofs.Common.{◌≡◌, ◌≢◌, ◌⊎◌, inl, inr, ◌&&◌, is_some, is_none, Option, Bool, true, false, ℕ, ◌+◌, ◌<◌, ◌≤◌, ◌==◌, ◌||◌, nat_lt, if◌then◌else◌, List, [], ◌∷◌, ◌++◌, map, length, take, drop, get_or, Some, None, refl, sym, ap, ◌∙◌, subst, true≢false, arith, append-nil, append_assoc}
+use Rattle.std.proofs.lemmas.Bool.{eq-eqb, ne_eqb, lt-ltb, le-ltb, or_from}
 use Rattle.std.proofs.lemmas.List.{take_more, drop_more, take-append-drop, map-append}
 use Rattle.bench_core.specs.declared.reply.Reply.{Reply}
 use Rattle.bench_core.specs.declared.reply.Reply.TheVariants.{Undone, Refused}
-use Rattle.bench_core.specs.declared.fault.Fault.TheVariants.{NoSuchStep}
+use Rattle.bench_core.specs.declared.fault.Fault.TheVariants.{NoSuchStep, AlreadyUndone}
 use Rattle.bench_core.specs.Limits.{node_limits}
 use Rattle.journal_core.specs.Journals.{Kept, find_number, first_consequence, without}
-use Rattle.journal_core.specs.Futures.{future, undo_all, without_all}
+use Rattle.journal_core.specs.Futures.{undo_all, without_all}
+use Rattle.journal_core.proofs.Each.{IsBelow, each_below, each_find, or_true, finds_all, find_itself}
+use Rattle.journal_core.proofs.InTurn.{taken_back, future_holds}
 use Rattle.bench_core.specs.Acts.{Action, Undo}
 use Rattle.bench_core.specs.Machine.{Event, Config, State, Machine, config_of, given, unheld, undo_found, undo_reply, reply_to, remaining_after, after, call, calls, replies_of, AnswersAs, Answered, Unmade}
 use Rattle.bench_core.specs.Headline.{IsReached}
-use Rattle.bench_core.specs.Unwinds.{why_found, why_answer, undos, asked_undos, undone_event, CanBeUndone, AreUndone, LeastLaw}
-use Rattle.bench_core.proofs.Reached.{kept_reached, undo_answers}
+use Rattle.bench_core.specs.Unwinds.{undos, asked_undos, undone_event, CanBeUndone, AreUndone, FutureLaw, LeastLaw}
+use Rattle.bench_core.proofs.Loop.{in_order}
+use Rattle.bench_core.proofs.Reached.{IsKept, kept_reached, undo_answers}
 use Rattle.bench_core.proofs.Keeps.{calls_append, reached_after}
-use Rattle.bench_core.proofs.Least.{taken_back, least_holds}
-use Rattle.bench_core.proofs.Unwind.{unwind_holds}
 
--- what is answered of a remaining step
-pub why_gives : (s : State) (n : ℕ) (x : Kept) (numbers : List ℕ) → 0 < n → n ≤ given s.history → find_number s.remaining n ≡ Some x → numbers ≡ future s.remaining n → why_answer s n ≡ Ok numbers
-why_gives s n x numbers low high found is =
-    ap (λ (b : Bool). if b then Err NoSuchStep else why_found s.remaining n (find_number s.remaining n)) (or_from (n == 0) (nat_lt (given s.history) n) (ne_eqb n 0 (λ e. omega arith)) (le-ltb (given s.history) n high))
-    ∙ ap (why_found s.remaining n) found
-    ∙ ap Ok (sym is)
+-- a number that was not given is that of no step
+
+pub is_missing : (s : State) (n : ℕ) → (n ≡ 0) ⊎ (given s.history < n) → ((n == 0) || nat_lt (given s.history) n) ≡ true
+is_missing s n (inl zero) = ap (λ b. b || nat_lt (given s.history) n) (eq-eqb n 0 zero)
+is_missing s n (inr high) = ap (λ b. (n == 0) || b) (lt-ltb (given s.history) n high) ∙ or_true (n == 0)
+
+pub not_given : (c : Config) (s : State) (n : ℕ) → IsReached c s → ((n == 0) || nat_lt (given s.history) n) ≡ true → find_number s.remaining n ≡ None
+not_given c s n reached gone = go (find_number s.remaining n) refl
+  where
+    kept : IsKept c s
+    kept = kept_reached c s reached
+
+    within : (k : Kept) → find_number s.remaining n ≡ Some k → ((n == 0) || nat_lt (given s.history) n) ≡ false
+    within k found =
+        let number = find_itself s.remaining n k found in
+        let low = (each_find (λ j. (0 < j.number) × (find_number s.remaining j.number ≡ Some j)) s.remaining n k (finds_all 0 s.remaining kept.rises) found).0 in
+        let high = each_find (IsBelow (given s.history + 1)) s.remaining n k (each_below (given s.history + 1) s.remaining kept.numbered) found in
+        or_from (n == 0) (nat_lt (given s.history) n) (ne_eqb n 0 (λ e. omega arith)) (le-ltb (given s.history) n (omega arith))
+
+    go : (o : Option Kept) → find_number s.remaining n ≡ o → find_number s.remaining n ≡ None
+    go None found = found
+    go (Some k) found = absurd (true≢false (sym gone ∙ within k found))
+
+-- the undo of a step that doesn't remain
+
+pub refused_never_given : (s : State) (n : ℕ) → ((n == 0) || nat_lt (given s.history) n) ≡ true → undo_reply s n ≡ Refused NoSuchStep
+refused_never_given s n gone = ap (λ (b : Bool). if b then Refused NoSuchStep else undo_found s.remaining n (find_number s.remaining n)) gone
+
+pub refused_undone : (s : State) (n : ℕ) → 0 < n → n ≤ given s.history → find_number s.remaining n ≡ None → undo_reply s n ≡ Refused AlreadyUndone
+refused_undone s n low high gone =
+    ap (λ (b : Bool). if b then Refused NoSuchStep else undo_found s.remaining n (find_number s.remaining n)) (or_from (n == 0) (nat_lt (given s.history) n) (ne_eqb n 0 (λ e. omega arith)) (le-ltb (given s.history) n high))
+    ∙ ap (undo_found s.remaining n) gone
 
 -- the machine accepts the undos that the journal accepts
 accepted : (c : Config) (s : State) (actor : ℕ) (numbers : List ℕ) (left : List Kept) → IsReached c s → undo_all s.remaining numbers ≡ Some left → replies_of c s (undos actor numbers) ≡ map Undone numbers
@@ -34,11 +61,10 @@ accepted c s actor (n ∷ numbers) left reached h =
     ap (λ (r : Reply). r ∷ replies_of c (after c s actor (Undo n) r) (undos actor numbers)) reply
     ∙ ap (λ (l : List Reply). Undone n ∷ l) (accepted c next actor numbers left (reached_after c s actor (Undo n) (Undone n) reached reply) t.later)
 
-pub can_be_undone : (m : Machine) (n : ℕ) (numbers : List ℕ) → IsReached (config_of m) m.state → numbers ≡ future m.state.remaining n → CanBeUndone m numbers
-can_be_undone m n numbers reached is actor =
-    let k = kept_reached (config_of m) m.state reached in
-    let law = unwind_holds (node_limits m.limits) (length m.names) n m.state.remaining k.cluster k.rises k.is_now in
-    subst (λ (l : List ℕ). replies_of (config_of m) m.state (undos actor l) ≡ map Undone l) (sym is) (accepted (config_of m) m.state actor (future m.state.remaining n) (without_all m.state.remaining (future m.state.remaining n)) reached law.taken_back)
+pub future_undone : FutureLaw
+future_undone c s actor n numbers reached future =
+    let k = kept_reached c s reached in
+    accepted c s actor numbers (without_all s.remaining numbers) reached (future_holds.taken_back s.remaining n numbers (in_order (node_limits c.limits) c.nodes s.remaining k.cluster k.rises k.is_now) future)
 
 -- one undo after others
 
@@ -149,8 +175,7 @@ made c s (a ∷ asked) reached h =
 
 pub least : LeastLaw
 least c s n asked reached replies gone j follows =
-    let k = kept_reached c s reached in
-    least_holds (node_limits c.limits) c.nodes n s.remaining (calls c s (asked_undos asked)).remaining k.cluster (map (λ a. a.1) asked) k.rises k.is_now (made c s asked reached replies) gone j follows
+    future_holds.least s.remaining (calls c s (asked_undos asked)).remaining n (map (λ a. a.1) asked) (kept_reached c s reached).rises (made c s asked reached replies) gone j follows
 
 -- what is left of a list
 

@@ -1,5 +1,5 @@
 -- What a bench keeps is kept by each call.
-use Rattle.std.proofs.Common.{◌≡◌, ◌≢◌, ℕ, zero, suc, ◌+◌, ◌<◌, ◌≤◌, ◌==◌, not, nat_lt, Bool, true, false, if◌then◌else◌, List, [], ◌∷◌, ◌++◌, length, set, get_or, slice_get, Option, Some, None, option_map, Result, Ok, Err, refl, sym, ap, ◌∙◌, subst, subst₂, arith, length-set}
+use Rattle.std.proofs.Common.{◌≡◌, ◌≢◌, ℕ, ◌+◌, ◌<◌, ◌≤◌, ◌==◌, not, nat_lt, Bool, true, false, if◌then◌else◌, List, [], ◌∷◌, ◌++◌, length, set, get_or, slice_get, Some, None, Result, Ok, Err, refl, sym, ap, ◌∙◌, subst, subst₂, arith, length-set}
 use Rattle.std.proofs.lemmas.Bool.{le-ltb, ltb-true, ne_eqb, and_parts}
 use Rattle.std.proofs.lemmas.List.Sums.{count_by-le-length}
 use Rattle.std.proofs.lemmas.Option.{slice_get_within}
@@ -13,26 +13,26 @@ use Rattle.node_core.specs.declared.step_fault.StepFault.{StepFault}
 use Rattle.node_core.specs.declared.step_fault.StepFault.TheVariants as step_faults
 use Rattle.bench_core.specs.NameList.{Texts}
 use Rattle.bench_core.specs.Limits.{Limits, node_limits}
-use Rattle.payload_core.specs.Messages.{numbered}
-use Rattle.replica_core.specs.declared.node_limits.NodeLimits.{NodeLimits}
 use Rattle.node_core.specs.Operations.{Operation, named_in, delivers}
 use Rattle.bench_core.specs.Acts.{Action, Do}
 use Rattle.node_core.specs.Nodes.{Node}
 use Rattle.node_core.specs.Inverses.{Inverse, LeadsBack}
-use Rattle.bench_core.specs.Clusters.{Cluster, step, opening_of, fault_of, outbox_of, message_at, message_for}
-use Rattle.journal_core.specs.Journals.{Kept, sent_by, find_number, first_consequence, without, AreBelow}
+use Rattle.bench_core.specs.Clusters.{Cluster, step, opening_of, fault_of, message_for}
+use Rattle.journal_core.specs.Journals.{Kept, find_number, first_consequence, without, AreBelow}
 use Rattle.bench_core.specs.Runs.{then_runs, runs}
 use Rattle.journal_core.specs.Holdings.{Held, Journal, kepts, find_held, inverse_of, without_held, AreAllHeld, HasSender, CanBeKept}
 use Rattle.bench_core.specs.Chains.{Link, Chain}
 use Rattle.bench_core.specs.Machine.{Event, Config, State, Machine, config_of, opening_state, is_taken, given, free_places, knows, undo_reply, step_reply, do_reply, reply_to, now, is_recorded, after, call, calls, AnswersAs, Answered}
 use Rattle.bench_core.specs.Headline.{IsReached}
 use Rattle.bench_core.specs.Benches.{IsBackable, IsBench, IsNumbered, IsTaken}
+use Rattle.journal_core.proofs.Rising.{kepts-append}
 use Rattle.bench_core.proofs.Clusters.{step_takes}
-use Rattle.bench_core.proofs.Taken.{WasRead, was_read}
-use Rattle.bench_core.proofs.Runs.{runs_append, outbox_counts, numbered_runs}
+use Rattle.bench_core.proofs.Taken.{was_read}
+use Rattle.bench_core.proofs.Runs.{runs_append, numbered_runs}
 use Rattle.bench_core.proofs.OneStep.{get_at}
 use Rattle.bench_core.proofs.Reached.{kept_reached, count_push, undo_gives}
-use Rattle.bench_core.proofs.Chain.{chain_push, kepts_append, all_held, undoing}
+use Rattle.bench_core.proofs.Loop.{has_sender}
+use Rattle.bench_core.proofs.Chain.{chain_push, all_held, undoing}
 
 pub calls_append : (c : Config) (s : State) (asked : List (ℕ × Action)) (actor : ℕ) (act : Action) → calls c s (asked ++ (actor, act) ∷ []) ≡ call c (calls c s asked) actor act
 calls_append c s [] actor act = refl
@@ -157,7 +157,7 @@ taken_here names limits h nodes d hs taken actor operation i old is room t =
     let s : State = record { history = h; remaining = kepts hs } in
     let n : ℕ = taken + 1 in
     let k : Kept = record { number = n; node = actor; step = operation } in
-    let journal : kepts (hs ++ added n actor operation i ∷ []) ≡ kepts hs ++ k ∷ [] = kepts_append hs (added n actor operation i ∷ []) in
+    let journal : kepts (hs ++ added n actor operation i ∷ []) ≡ kepts hs ++ k ∷ [] = kepts-append hs (added n actor operation i ∷ []) in
     let stepped : step nodes actor operation ≡ Ok d = step_takes nodes actor operation t.earlier (Ok t.later) t.at (named_there c nodes actor operation old.size is) t.taken ∙ ap Ok (sym t.gives) in
     let number : given h + 1 ≡ n = let count = old.count in omega arith in
     let reply : do_reply c s actor operation ≡ Taken n = do_gives c s actor operation nodes (Ok d) is room old.is_now stepped ∙ ap Taken number in
@@ -348,25 +348,6 @@ found_at nodes hs n node i x b lent at =
     let stands = b.at in
     let node_is : b.later ≡ x = cc (stands, here) in
     subst₂ (λ (i : Inverse) (x : Node). LeadsBack i x b.earlier) inverse_is node_is b.leads
-
--- what is delivered was sent by a remaining step
-
-get_alike : {A B : Type 0} (xs : List A) (ys : List B) (p : ℕ) (x : A) → length xs ≡ length ys → slice_get xs p ≡ Some x → (y : B) × (slice_get ys p ≡ Some y)
-get_alike [] ys p x same h = absurd (cc)
-get_alike (z ∷ xs) [] p x same h = absurd (omega arith)
-get_alike (z ∷ xs) (w ∷ ys) zero x same h = (w, refl)
-get_alike (z ∷ xs) (w ∷ ys) (suc p) x same h = get_alike xs ys p x (omega arith) h
-
-has_sender : (l : NodeLimits) (count : ℕ) (ks : List Kept) (c : Cluster) (o : Option (ℕ × ℕ)) → runs l count ks ≡ Ok c → WasRead o (message_at c o) → HasSender ks o
-has_sender l count ks c None run read = tt
-has_sender l count ks c (Some (sender, p)) run read = go (slice_get c sender) p refl read.1
-  where
-    go : (o : Option Node) (p : ℕ) → slice_get c sender ≡ o → numbered (outbox_of o) p ≡ Some read.0 → HasSender ks (Some (sender, p))
-    go o zero at is = absurd (cc)
-    go None (suc p) at is = absurd (cc)
-    go (Some x) (suc p) at is =
-        let k = get_alike x.outbox (sent_by ks sender) p read.0 (outbox_counts l count ks c sender x run at) is in
-        (k.0.number, ap (option_map (λ (k : Kept). k.number)) k.1)
 
 -- a step that was taken can be kept, in a journal that has made room for it
 pub can_keep : (names : Texts) (limits : Limits) (h : List Event) (nodes d : Cluster) (hs : List Held) (j : Journal) (taken number actor : ℕ) (operation : Operation) (i : Inverse) →

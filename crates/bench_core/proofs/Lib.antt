@@ -14,6 +14,4 @@ pub mod OneStep
 pub mod NamesBelow
 pub mod Openings
 pub mod Keeps
-pub mod Least
-pub mod Unwind
 pub mod InTurn

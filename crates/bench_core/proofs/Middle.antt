@@ -1,78 +1,18 @@
 -- A step without consequences can be left out of a run.
-use Rattle.std.proofs.Common.{◌≡◌, ◌≢◌, ℕ, suc, ◌≤◌, ◌==◌, ◌&&◌, nat_lt, Bool, true, false, if◌then◌else◌, List, [], ◌∷◌, ◌++◌, length, set, slice_get, Some, None, option_map, unwrap_or, option_and_then, Ok, refl, sym, ap, ◌∙◌, subst, subst₂, true≢false, arith, append_assoc, le_of_eq}
-use Rattle.std.proofs.lemmas.Bool.{eqb-true, ne_eqb, eq-eqb, or_parts, lt-ltb}
+use Rattle.std.proofs.Common.{◌≡◌, ◌≢◌, ℕ, suc, ◌≤◌, ◌==◌, ◌&&◌, nat_lt, true, false, List, [], ◌∷◌, ◌++◌, length, set, slice_get, Some, option_map, unwrap_or, Ok, refl, sym, ap, ◌∙◌, subst, subst₂, true≢false, arith, append_assoc, le_of_eq}
+use Rattle.std.proofs.lemmas.Bool.{eq-eqb, or_parts, lt-ltb}
 use Rattle.replica_core.specs.declared.node_limits.NodeLimits.{NodeLimits}
 use Rattle.node_core.specs.Nodes.{Node}
-use Rattle.journal_core.specs.Journals.{Kept, RisesAbove, sender_of, delivers_from, is_consequence, find_number, first_number, first_consequence, without, before}
+use Rattle.journal_core.specs.Journals.{Kept, RisesAbove, sender_of, delivers_from, is_consequence, without, before}
 use Rattle.bench_core.specs.Clusters.{Cluster, opening_of, message_for}
 use Rattle.node_core.specs.Operations.{sends}
 use Rattle.bench_core.specs.Runs.{then_runs, runs}
 use Rattle.bench_core.specs.Laws.{MiddleLaw}
 use Rattle.bench_core.proofs.Clusters.{Stepped, ReadsAlike, get-set_same, set-get, set-set_same, mapped, stepped}
 use Rattle.bench_core.proofs.Taken.{posts}
+use Rattle.journal_core.proofs.Each.{NoneOf, each_rest, none_follows}
+use Rattle.journal_core.proofs.Split.{Split, split}
 use Rattle.bench_core.proofs.Runs.{runs_append, runs_split, run_one, outbox_counts, sender_there, reads_alike, Apart, run-set}
-
--- a journal round the step that has the number
-
-pub record Split (ks : List Kept) (n : ℕ) (k : Kept) : Type 0 where
-  pub rest : List Kept
-  pub whole : ks ≡ before ks n ++ k ∷ rest
-  pub out : without ks n ≡ before ks n ++ rest
-  pub number : k.number ≡ n
-  pub later : RisesAbove n rest
-
-pub none_later : (n m : ℕ) (ks : List Kept) → n ≤ m → RisesAbove m ks → without ks n ≡ ks
-none_later n m [] h rises = refl
-none_later n m (k ∷ ks) h rises =
-    let other : (k.number == n) ≡ false = ne_eqb k.number n (λ e. omega arith) in
-    rw other (ap (λ (l : List Kept). k ∷ l) (none_later n k.number ks (omega arith) rises.1))
-
-pub split : (a : ℕ) (ks : List Kept) (n : ℕ) (k : Kept) → RisesAbove a ks → find_number ks n ≡ Some k → Split ks n k
-split a [] n k rises found = absurd (cc)
-split a (j ∷ ks) n k rises found = go (j.number == n) refl found (split j.number ks n k rises.1)
-  where
-    go : (b : Bool) → (j.number == n) ≡ b → (if b then Some j else find_number ks n) ≡ Some k → (find_number ks n ≡ Some k → Split ks n k) → Split (j ∷ ks) n k
-    go true is found more =
-        let here : j ≡ k = cc in
-        let at : j.number ≡ n = eqb-true j.number n is in
-        record {
-          rest = ks;
-          whole = rw is (ap (λ (k : Kept). k ∷ ks) here);
-          out = rw is (none_later n j.number ks (omega arith) rises.1);
-          number = ap (λ (k : Kept). k.number) (sym here) ∙ at;
-          later = subst (λ m. RisesAbove m ks) at rises.1;
-        }
-    go false is found more =
-        let s = more found in
-        record {
-          rest = s.rest;
-          whole = rw is (ap (λ (l : List Kept). j ∷ l) s.whole);
-          out = rw is (ap (λ (l : List Kept). j ∷ l) s.out);
-          number = s.number;
-          later = s.later;
-        }
-
--- none of these steps passes the test
-
-abbrev pub NoneOf : (Kept → Bool) → List Kept → Type 0
-NoneOf test [] = Unit {0}
-NoneOf test (k ∷ ks) = (test k ≡ false) × NoneOf test ks
-
-pub none_first : (test : Kept → Bool) (ks : List Kept) → first_number test ks ≡ None → NoneOf test ks
-none_first test [] h = tt
-none_first test (k ∷ ks) h = go (test k) refl h (none_first test ks)
-  where
-    go : (b : Bool) → test k ≡ b → (if b then Some k.number else first_number test ks) ≡ None → (first_number test ks ≡ None → NoneOf test ks) → (test k ≡ false) × NoneOf test ks
-    go true is h more = absurd (cc)
-    go false is h more = (is, more h)
-
-pub first_none : (test : Kept → Bool) (ks : List Kept) → NoneOf test ks → first_number test ks ≡ None
-first_none test [] h = refl
-first_none test (k ∷ ks) h = rw h.0 (first_none test ks h.1)
-
-pub none_rest : (test : Kept → Bool) (ks js : List Kept) → NoneOf test (ks ++ js) → NoneOf test js
-none_rest test [] js h = h
-none_rest test (k ∷ ks) js h = none_rest test ks js h.1
 
 -- later steps that are no consequences of k stand apart from its node
 
@@ -92,7 +32,7 @@ apart ks k x y m (j ∷ rest) low rises none reads =
 pub stands_apart : (l : NodeLimits) (count n : ℕ) (ks : List Kept) (k : Kept) (old b : Cluster) (s : Split ks n k) → runs l count (before ks n) ≡ Ok old → (at : Stepped old k.node k.step b) →
     NoneOf (is_consequence ks k) ks → Apart k.node at.to at.from s.rest
 stands_apart l count n ks k old b s first at none =
-    let none_there = none_rest (is_consequence ks k) (before ks n ++ k ∷ []) s.rest (subst (NoneOf (is_consequence ks k)) (s.whole ∙ sym (append_assoc (before ks n) (k ∷ []) s.rest)) none) in
+    let none_there = each_rest _ (before ks n ++ k ∷ []) s.rest (subst (NoneOf (is_consequence ks k)) (s.whole ∙ sym (append_assoc (before ks n) (k ∷ []) s.rest)) none) in
     let counted = outbox_counts l count (before ks n) old k.node at.from first at.at in
     let source : sends k.step ≡ true → sender_of ks k.node (suc (length at.from.outbox)) ≡ Some k.number =
     λ h. subst₂ (λ js m. sender_of js k.node (suc m) ≡ Some k.number) (sym s.whole) (sym counted) (sender_there (before ks n) s.rest k h) in
@@ -110,9 +50,6 @@ left_out l count n ks k old b c s first at rest far =
     ∙ ap (λ r. then_runs r s.rest) (first ∙ ap Ok (sym same))
     ∙ run-set (Ok b) k.node at.to at.from s.rest has far
     ∙ ap (mapped (λ d. set d k.node at.from)) rest
-
-pub none_follows : (ks : List Kept) (n : ℕ) (k : Kept) → find_number ks n ≡ Some k → first_consequence ks n ≡ None → NoneOf (is_consequence ks k) ks
-none_follows ks n k found free = none_first _ ks (ap (option_and_then (λ j. first_number (is_consequence ks j) ks)) (sym found) ∙ free)
 
 pub middle_holds : MiddleLaw
 middle_holds l count n ks k c rises run found free =

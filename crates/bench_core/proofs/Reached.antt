@@ -18,8 +18,10 @@ use Rattle.bench_core.specs.declared.fault.Fault.TheVariants.{UnknownNode, NoSuc
 use Rattle.bench_core.specs.Machine.{Event, Config, State, opening_state, is_taken, given, free_places, unheld, undo_found, undo_reply, back_reply, step_reply, knows, do_reply, now, reply_to, with_step, remaining_after, is_recorded, after, call, calls}
 use Rattle.bench_core.specs.Headline.{IsReached, GivenLaw, BackLaw, UndoLaw}
 use Rattle.bench_core.proofs.Runs.{runs_append}
-use Rattle.bench_core.proofs.Middle.{Split, split, middle_holds}
-use Rattle.bench_core.proofs.Loop.{below_filter, find_last, loop_holds}
+use Rattle.journal_core.proofs.Rising.{rises_push, below_push, below_more, below_filter, rises_filter}
+use Rattle.journal_core.proofs.Split.{Split, split}
+use Rattle.bench_core.proofs.Middle.{middle_holds}
+use Rattle.bench_core.proofs.Loop.{find_last, loop_holds}
 
 pub count_push : (h : List Event) (e : Event) → given (h ++ e ∷ []) ≡ given h + cond (is_taken e.reply) 1 0
 count_push h e =
@@ -95,30 +97,6 @@ module _ (c : Config) (s : State) (actor : ℕ) where
       tested true = last (last_of s.remaining node)
       tested false = Stayed UnknownNode
 
-rises_push : (a n : ℕ) (ks : List Kept) (k : Kept) → a < n → k.number ≡ n → RisesAbove a ks → AreBelow n ks → RisesAbove a (ks ++ k ∷ [])
-rises_push a n [] k h is rises low = (omega arith, tt)
-rises_push a n (j ∷ ks) k h is rises low = (rises.0, rises_push j.number n ks k low.0 is rises.1 low.1)
-
-below_push : (n : ℕ) (ks : List Kept) (k : Kept) → AreBelow n ks → k.number < n → AreBelow n (ks ++ k ∷ [])
-below_push n [] k all h = (h, tt)
-below_push n (j ∷ ks) k all h = (all.0, below_push n ks k all.1 h)
-
-below_more : (m n : ℕ) (ks : List Kept) → m ≤ n → AreBelow m ks → AreBelow n ks
-below_more m n [] h all = tt
-below_more m n (k ∷ ks) h all = (omega arith, below_more m n ks h all.1)
-
-rises_lower : (a b : ℕ) (ks : List Kept) → a ≤ b → RisesAbove b ks → RisesAbove a ks
-rises_lower a b [] h rises = tt
-rises_lower a b (k ∷ ks) h rises = (omega arith, rises.1)
-
-pub rises_filter : (a : ℕ) (test : Kept → Bool) (ks : List Kept) → RisesAbove a ks → RisesAbove a (filter test ks)
-rises_filter a test [] rises = tt
-rises_filter a test (k ∷ ks) rises = go (test k) (rises_filter k.number test ks rises.1)
-  where
-    go : (b : Bool) → RisesAbove k.number (filter test ks) → RisesAbove a (cond b (k ∷ filter test ks) (filter test ks))
-    go true more = (rises.0, more)
-    go false more = rises_lower a k.number (filter test ks) (omega arith) more
-
 length_without : (ks : List Kept) (n : ℕ) (k : Kept) → Split ks n k → length (without ks n) + 1 ≡ length ks
 length_without ks n k s =
     let out = ap length s.out ∙ length-append (before ks n) s.rest in
@@ -146,7 +124,7 @@ module _ (c : Config) (s : State) (actor : ℕ) (act : Action) (old : IsKept c s
       record {
         cluster = next;
         is_now = ap (runs (node_limits c.limits) c.nodes) journal ∙ runs_append (Ok (opening_of (node_limits c.limits) c.nodes)) s.remaining (k ∷ []) ∙ ap (λ r. then_runs r (k ∷ [])) run ∙ ap (λ r. then_runs r []) taken;
-        rises = subst (RisesAbove 0) (sym journal) (rises_push 0 n s.remaining k (omega arith) refl old.rises old.numbered);
+        rises = subst (RisesAbove 0) (sym journal) (rises_push 0 s.remaining k (omega arith) old.numbered old.rises);
         numbered = subst₂ (λ m ks. AreBelow (m + 1) ks) (sym count) (sym journal) (below_push (n + 1) s.remaining k (below_more n (n + 1) s.remaining (omega arith) old.numbered) (omega arith));
         fits = let fit = old.fits in omega (arith, longer, more, size);
       }
@@ -219,7 +197,7 @@ undone_at_once c s actor operation cluster next old run taken =
     let k : Kept = record { number = n; node = actor; step = operation } in
     let e : Event = record { actor = actor; act = Do operation; reply = Taken n } in
     let count : given (s.history ++ e ∷ []) ≡ n = count_push s.history e in
-    let laws = loop_holds (node_limits c.limits) c.nodes n actor s.remaining operation cluster next (rises_push 0 n s.remaining k (omega arith) refl old.rises old.numbered) run taken in
+    let laws = loop_holds (node_limits c.limits) c.nodes n actor s.remaining operation cluster next (rises_push 0 s.remaining k (omega arith) old.numbered old.rises) run taken in
     record {
       undone = undo_gives (after c s actor (Do operation) (Taken n)) n k None (omega arith) (le_of_eq (sym count)) (find_last n s.remaining k refl old.numbered) laws.held;
       out = laws.out;

@@ -11,7 +11,8 @@ use Rattle.journal_core.specs.Journals.{Kept, sent_by, sender_of, source_at, sou
 use Rattle.bench_core.specs.Clusters.{Cluster, opening_from, opening_of, outbox_of, message_at, message_for, step}
 use Rattle.bench_core.specs.Runs.{then_runs, runs}
 use Rattle.bench_core.specs.Benches.{IsNumbered}
-use Rattle.bench_core.proofs.Clusters.{ReadAlike, get-set_same, get-set_other, get-append_at, numbered_append, numbered_push_other, mapped, ReadsAlike, message-set, step-set, Stepped, stepped}
+use Rattle.journal_core.proofs.Numbered.{get-append_at, numbered_append, numbered_push_other}
+use Rattle.bench_core.proofs.Clusters.{ReadAlike, get-set_same, get-set_other, mapped, ReadsAlike, message-set, step-set, Stepped, stepped}
 use Rattle.bench_core.proofs.Taken.{Posts, posts, owns}
 
 pub runs_append : (r : Result Cluster Fault) (ks js : List Kept) → then_runs r (ks ++ js) ≡ then_runs (then_runs r ks) js
@@ -200,11 +201,6 @@ message_stays_at c d ks (Some (sender, p)) m run h = go (slice_get c sender) ref
         let still = run_still c d ks sender x run is in
         let first : numbered x.outbox p ≡ Some m = ap (λ o. numbered (outbox_of o) p) (sym is) ∙ h in
         ap (λ o. numbered (outbox_of o) p) still.at ∙ ap (λ (xs : List Message). numbered xs p) still.grown.is ∙ numbered_append x.outbox still.grown.more p m first
-
-pub message_stays : (c d : Cluster) (ks : List Kept) (s : Operation) (m : Message) → then_runs (Ok c) ks ≡ Ok d → message_for c s ≡ Some m → message_for d s ≡ Some m
-message_stays c d ks s m run h = message_stays_at c d ks (delivers s) m run h
-
--- in a run each node keeps its name
 
 pub numbered_run : (c d : Cluster) (ks : List Kept) → IsNumbered c → then_runs (Ok c) ks ≡ Ok d → IsNumbered d
 numbered_run c d [] own h = subst IsNumbered (cc) own

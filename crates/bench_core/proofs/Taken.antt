@@ -7,7 +7,7 @@ use Rattle.replica_core.specs.declared.replica_fault.ReplicaFault.{ReplicaFault}
 use Rattle.replica_core.specs.declared.status.Status.TheVariants as statuses
 use Rattle.replica_core.specs.Replicas.{Replica, tracked_dots, dots_of_process, joined, left_each, updated, with_status, forgotten, delta_message, without_delta}
 use Rattle.replica_core.specs.Deliveries.{merged}
-use Rattle.replica_core.specs.Refusals.{join_refusal, leave_refusal, leave_all_refusal, update_refusal, merge_refusal, up_refusal, down_refusal, permdown_refusal, has_dots}
+use Rattle.replica_core.specs.Refusals.{join_refusal, leave_refusal, leave_all_refusal, merge_refusal, up_refusal, down_refusal, permdown_refusal, has_dots}
 use Rattle.node_core.specs.declared.step_fault.StepFault.TheVariants.{OwnMessage, OutboxFull}
 use Rattle.node_core.specs.Operations.{Operation, Join, Leave, LeaveAll, Update, Broadcast, Extract, Deliver, Up, Down, Permdown, delivers, sends}
 use Rattle.node_core.specs.Nodes.{Node, with_replica, with_sent, is_outbox_full, unless, unless_full, broadcast, deliver, take}
@@ -75,7 +75,7 @@ took n (LeaveAll pid) m y h =
     alone n (LeaveAll pid) m y (leave_all_refusal n.replica pid) (left_each dots n.replica) refl refl (through_leaves dots n.replica).own h
 took n (Update p) m y h =
     let dots = tracked_dots n.replica p.pid p.topic p.key in
-    alone n (Update p) m y (update_refusal n.replica p.pid p.topic p.key) (updated p n.replica) refl refl (through_drops dots n.replica).own h
+    alone n (Update p) m y (leave_refusal n.replica p.pid p.topic p.key) (updated p n.replica) refl refl (through_drops dots n.replica).own h
 took n Broadcast m y h =
     let gives = with_sent n (delta_message n.replica) (without_delta n.replica) in
     let e = broadcast_ok (has_dots n.replica.delta_seen) n y h in

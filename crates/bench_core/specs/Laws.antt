@@ -1,5 +1,5 @@
 -- The laws of runs (Danos and Krivine: the loop, and the undo of a step whose consequences are gone).
-use Rattle.std.specs.Prelude.{◌≡◌, ◌↔◌, ◌==◌, ℕ, true, List, [], ◌∷◌, ◌++◌, Some, None, Result, Ok, Err, slice_get, slice_set}
+use Rattle.std.specs.Prelude.{◌≡◌, ℕ, List, [], ◌∷◌, ◌++◌, Some, None, Result, Ok, Err, slice_get, slice_set}
 use Rattle.std.specs.Option.{option_map, unwrap_or}
 use Rattle.node_core.specs.declared.step_fault.StepFault.{StepFault}
 use Rattle.replica_core.specs.declared.node_limits.NodeLimits.{NodeLimits}
@@ -9,8 +9,6 @@ use Rattle.bench_core.specs.Clusters.{Cluster, opening_of, message_for, step}
 use Rattle.journal_core.specs.Journals.{Kept, RisesAbove, own_steps, find_number, first_consequence, without, before}
 use Rattle.bench_core.specs.Runs.{runs}
 use Rattle.journal_core.specs.Holdings.{Held, kepts}
-use Rattle.std.specs.List.{list_any}
-use Rattle.journal_core.specs.Futures.{Follows, future, undo_all, without_all}
 use Rattle.bench_core.specs.Chains.{Chain, OwnChains}
 
 -- the journal with one more step at its end
@@ -51,11 +49,3 @@ MiddleLaw = (l : NodeLimits) (count n : ℕ) (ks : List Kept) (k : Kept) (c : Cl
 -- inverses that lead back along the run lead, for each node and newest first, from its present state back to its opening
 abbrev pub ChainLaw : Type 0
 ChainLaw = (l : NodeLimits) (count : ℕ) (hs : List Held) (c : Cluster) → Chain (Ok (opening_of l count)) hs → runs l count (kepts hs) ≡ Ok c → OwnChains l c hs
-
--- the future of a step is what follows from it, all the way, and can be taken back, greatest first
-abbrev pub UnwindLaw : Type 0
-UnwindLaw = (l : NodeLimits) (count n : ℕ) (ks : List Kept) (c : Cluster) → RisesAbove 0 ks → runs l count ks ≡ Ok c →
-    record {
-      follows : (j : ℕ) → (list_any (λ m. m == j) (future ks n) ≡ true) ↔ Follows ks n j;
-      taken_back : undo_all ks (future ks n) ≡ Some (without_all ks (future ks n));
-    }

@@ -1,23 +1,25 @@
 -- What an undo of a step waits for, and the undo of a step with all that follows from it.
-use Rattle.std.specs.Prelude.{◌≡◌, ◌≢◌, ℕ, ◌==◌, ◌||◌, nat_lt, if◌then◌else◌, List, [], ◌++◌, map, Option, Some, None, Result, Ok, Err}
-use Rattle.bench_core.specs.declared.reply.Reply.TheVariants.{Undone}
+use Rattle.std.specs.Prelude.{◌≡◌, ◌≢◌, ℕ, List, [], ◌++◌, map, Some, None}
+use Rattle.bench_core.specs.declared.reply.Reply.TheVariants.{Undone, Refused}
 use Rattle.bench_core.specs.declared.fault.Fault.{Fault}
-use Rattle.bench_core.specs.declared.fault.Fault.TheVariants.{NoSuchStep, AlreadyUndone, OutOfMemory}
+use Rattle.bench_core.specs.declared.fault.Fault.TheVariants.{OutOfMemory}
 use Rattle.bench_core.specs.declared.unwound.Unwound.{Unwound}
 use Rattle.bench_core.specs.declared.unwound.Unwound.TheVariants as unwound
 use Rattle.journal_core.specs.Journals.{Kept, find_number}
-use Rattle.journal_core.specs.Futures.{Follows, future, without_all}
+use Rattle.journal_core.specs.Futures.{Follows, IsFuture, without_all}
 use Rattle.bench_core.specs.Acts.{Action, Undo}
-use Rattle.bench_core.specs.Machine.{Event, Config, State, Machine, config_of, given, calls, replies_of}
+use Rattle.bench_core.specs.Machine.{Event, Config, State, Machine, config_of, undo_reply, calls, replies_of}
 use Rattle.bench_core.specs.Headline.{IsReached}
 
-abbrev pub why_found : List Kept → ℕ → Option Kept → Result (List ℕ) Fault
-why_found ks n None = Err AlreadyUndone
-why_found ks n (Some _) = Ok (future ks n)
+-- step n remains, and these are its number and those of all that follows from it, greatest first
+pub record Explains (s : State) (n : ℕ) (numbers : List ℕ) : Type 0 where
+  pub remains : (k : Kept) × (find_number s.remaining n ≡ Some k)
+  pub future : IsFuture s.remaining n numbers
 
--- the numbers of step n and of all that follows from it, greatest first; or the fault of an undo of a step that doesn't remain
-abbrev pub why_answer : State → ℕ → Result (List ℕ) Fault
-why_answer s n = if (n == 0) || nat_lt (given s.history) n then Err NoSuchStep else why_found s.remaining n (find_number s.remaining n)
+-- why these are not told: the step doesn't remain, and its undo is refused so; or it remains, and they could not be had
+pub data Unexplained (s : State) (n : ℕ) : Fault → Type 0 where
+  Gone : (fault : Fault) → find_number s.remaining n ≡ None → undo_reply s n ≡ Refused fault → Unexplained s n fault
+  Unmade : (k : Kept) → find_number s.remaining n ≡ Some k → Unexplained s n OutOfMemory
 
 -- the calls of an actor that undo these steps in turn
 abbrev pub undos : ℕ → List ℕ → List (ℕ × Action)
@@ -29,6 +31,10 @@ undone_event actor n = record { actor = actor; act = Undo n; reply = Undone n }
 -- the undos of these steps in turn, each with who asks for it
 abbrev pub asked_undos : List (ℕ × ℕ) → List (ℕ × Action)
 asked_undos asked = map (λ a. (a.0, Undo a.1)) asked
+
+-- whoever asks for the undos of the future of a step, in turn, each is made
+abbrev pub FutureLaw : Type 0
+FutureLaw = (c : Config) (s : State) (actor n : ℕ) (numbers : List ℕ) → IsReached c s → IsFuture s.remaining n numbers → replies_of c s (undos actor numbers) ≡ map Undone numbers
 
 -- whatever undos the machine makes, by whomever they are asked: where they take a step back, they take back all that follows from it
 abbrev pub LeastLaw : Type 0
@@ -56,8 +62,8 @@ undone_by (unwound.Done numbers) = numbers.items
 undone_by (unwound.Refused fault) = []
 undone_by (unwound.Partial numbers) = numbers.items
 
--- the whole future of step n was undone; or, memory apart, the call is refused as the definition says; or the first undos of that future were made
+-- the whole future of step n was undone; or the step has none, or it could not be had; or the first undos of that future were made, and not all
 abbrev pub IsUnwound : {X : Type 0} → State → ℕ → Unwound X → Type 0
-IsUnwound s n (unwound.Done numbers) = why_answer s n ≡ Ok numbers.items
-IsUnwound s n (unwound.Refused fault) = fault ≢ OutOfMemory → why_answer s n ≡ Err fault
-IsUnwound s n (unwound.Partial numbers) = (rest : List ℕ) × (rest ≢ []) × (why_answer s n ≡ Ok (numbers.items ++ rest))
+IsUnwound s n (unwound.Done numbers) = Explains s n numbers.items
+IsUnwound s n (unwound.Refused fault) = Unexplained s n fault
+IsUnwound s n (unwound.Partial numbers) = (rest : List ℕ) × (rest ≢ []) × Explains s n (numbers.items ++ rest)

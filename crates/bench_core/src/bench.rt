@@ -1,18 +1,17 @@
 //! `Bench`: the machine over its nodes, its journal and its history.
-ghost use Rattle.std.specs.Prelude.{◌≡◌, ◌≢◌, ◌<◌, ◌≤◌, ◌+◌, IfOk, OnOk, OnErr, IsTrue, length, take, true, nat_lt, slice_get, option_copied, option_map};
+ghost use Rattle.std.specs.Prelude.{◌≡◌, ◌≢◌, ◌<◌, ◌≤◌, ◌+◌, IfErr, IfOk, OnOk, OnErr, IsTrue, length, take, true, nat_lt, slice_get, option_copied, option_map};
 ghost use Rattle.std.specs.List.{list_all};
 ghost use Rattle.std.specs.FinSet as set;
 ghost use Rattle.replica_core.specs.Limits.{AreNodeLimits};
-ghost use Rattle.payload_core.specs.Answers.{GivesUnless};
 ghost use Rattle.node_core.specs.Operations.{named_in, plain};
 ghost use Rattle.journal_core.specs.Holdings.{without_held, kepts};
-ghost use Rattle.bench_core.specs.declared.fault.Fault.TheVariants.{HistoryFull, OutOfMemory};
+ghost use Rattle.bench_core.specs.declared.fault.Fault.TheVariants.{HistoryFull};
 ghost use Rattle.bench_core.specs.declared.reply.Reply.TheVariants.{Refused};
 ghost use Rattle.bench_core.specs.Acts.{plain_act, calls_of, Do, Back};
 ghost use Rattle.bench_core.specs.Clusters.{opening_of, message_for};
 ghost use Rattle.bench_core.specs.Machine.{config_of, given, free_places, knows, reply_to, undo_reply, opening_machine, AnswersAs, AllAnswered};
 ghost use Rattle.bench_core.specs.Headline.{IsReached, CanBeTakenBack, RefusedOnlyForConsequence};
-ghost use Rattle.bench_core.specs.Unwinds.{AreUndone, CanBeUndone, IsUnwound, undone_by, why_answer};
+ghost use Rattle.bench_core.specs.Unwinds.{AreUndone, CanBeUndone, Explains, IsUnwound, Unexplained, undone_by};
 ghost use Rattle.bench_core.specs.Benches.{GoesBack, IsBackable, IsNodeOf, IsNumbered, Steps};
 
 use crate::act::Act;
@@ -355,7 +354,8 @@ impl<'a, B: Allocator> Bench<'a, B> {
     /// The number of a step and those of all that follows from it, greatest first: in this order they can be undone. Where
     /// the step doesn't remain, `NoSuchStep` or `AlreadyUndone` as for its undo; `OutOfMemory` where the list can't be had.
     pub fn why(&self, number: u64) -> Result<Vec<u64, &'a B>, Fault>
-        ensures answer { GivesUnless OutOfMemory (λ numbers. numbers.items) result (why_answer self.now.state number) }
+        ensures future { IfOk result (λ numbers. Explains self.now.state number numbers.items) }
+        ensures refused { IfErr result (λ fault. Unexplained self.now.state number fault) }
         ensures can_be_undone { IfOk result (λ numbers. CanBeUndone self.now numbers.items) }
     {
         let given = self.given();

@@ -2,8 +2,8 @@
 //!
 //! A crate above uses a law by calling its function.
 ghost use Rattle.bench_core.specs.Headline.{BackLaw, GivenLaw, UndoLaw};
-ghost use Rattle.bench_core.specs.Unwinds.{LeastLaw};
-ghost use Rattle.bench_core.specs.Laws.{ChainLaw, LoopLaw, MiddleLaw, OwnRunLaw, UnwindLaw};
+ghost use Rattle.bench_core.specs.Unwinds.{FutureLaw, LeastLaw};
+ghost use Rattle.bench_core.specs.Laws.{ChainLaw, LoopLaw, MiddleLaw, OwnRunLaw};
 
 /// The loop: a step at the end of a journal has no direct consequence, and taking it out gives the journal before.
 pub fn loop_law()
@@ -31,9 +31,9 @@ pub fn chain_law()
     ensures { ChainLaw }
 {}
 
-/// The future of a step is what follows from it, all the way: its undos are all accepted, greatest number first; and
-/// whatever undos take the step back take back all of it.
+/// Of a reached machine: the undos of the future of a step are all made, greatest number first; and whatever undos take
+/// the step back take back all of it.
 pub fn unwind_law()
-    ensures future { UnwindLaw }
+    ensures future { FutureLaw }
     ensures least { LeastLaw }
 {}

@@ -4,7 +4,7 @@ use Rattle.std.proofs.lemmas.List.{drop_more, reverse-append, map-append}
 use Rattle.std.proofs.lemmas.List.Sorted.{list_any-IsPermutation, IsPermutation-reverse}
 use Rattle.std.specs.List.{list_any}
 use Rattle.journal_core.specs.Journals.{Kept, is_consequence}
-use Rattle.journal_core.specs.Futures.{gathered, future}
+use Rattle.journal_core.specs.Gathering.{gathered, gathered_numbers}
 use Rattle.journal_core.specs.Holdings.{Held, kepts}
 
 module _ (ks : List Kept) (n : ℕ) where
@@ -44,5 +44,5 @@ numbers-reverse (k ∷ ks) =
     ∙ ap (λ (l : List ℕ). l ++ k.number ∷ []) (numbers-reverse ks)
     ∙ sym (ap (map (λ (k : Kept). k.number)) (reverse-append (k ∷ []) ks) ∙ map-append (λ (k : Kept). k.number) (reverse ks) (k ∷ []))
 
-pub numbers_are : (ks : List Kept) (n : ℕ) (found : List Kept) → reverse found ≡ gathered ks n [] ks → reverse (map (λ k. k.number) found) ≡ future ks n
+pub numbers_are : (ks : List Kept) (n : ℕ) (found : List Kept) → reverse found ≡ gathered ks n [] ks → reverse (map (λ k. k.number) found) ≡ gathered_numbers ks n
 numbers_are ks n found is = numbers-reverse found ∙ ap (map (λ (k : Kept). k.number)) is

@@ -1,5 +1,11 @@
+pub mod Each
+pub mod Futures
 pub mod Gathering
+pub mod InTurn
 pub mod Loans
+pub mod Numbered
 pub mod Places
 pub mod Rising
 pub mod Rows
+pub mod Senders
+pub mod Split

@@ -1,5 +1,5 @@
 -- What follows from a step, all the way, and undos in turn (Danos and Krivine).
-use Rattle.std.specs.Prelude.{◌≡◌, ℕ, ◌==◌, ◌&&◌, ◌||◌, true, if◌then◌else◌, List, [], ◌∷◌, map, Option, Some, None, is_some, is_none}
+use Rattle.std.specs.Prelude.{◌≡◌, ◌↔◌, ℕ, ◌<◌, ◌==◌, ◌&&◌, true, if◌then◌else◌, List, [], ◌∷◌, Option, Some, None, is_some, is_none}
 use Rattle.std.specs.List.{list_any}
 use Rattle.journal_core.specs.Journals.{Kept, find_number, first_consequence, is_consequence, without}
 
@@ -8,14 +8,22 @@ pub data Follows (ks : List Kept) (n : ℕ) : ℕ → Type 0 where
   Itself : (k : Kept) → find_number ks n ≡ Some k → Follows ks n n
   Next : (k j : Kept) → Follows ks n k.number → find_number ks k.number ≡ Some k → find_number ks j.number ≡ Some j → is_consequence ks k j ≡ true → Follows ks n j.number
 
--- step n and what follows from it, greatest first: of the steps still to come, those that follow from a step found
-abbrev pub gathered : List Kept → ℕ → List Kept → List Kept → List Kept
-gathered ks n found [] = found
-gathered ks n found (j ∷ js) = gathered ks n (if (j.number == n) || list_any (λ k. is_consequence ks k j) found then j ∷ found else found) js
+-- the numbers strictly fall, from below n
+abbrev pub FallsBelow : ℕ → List ℕ → Type 0
+FallsBelow n [] = Unit {0}
+FallsBelow n (m ∷ ms) = (m < n) × FallsBelow m ms
 
--- the numbers of step n and of all that follows from it, greatest first
-abbrev pub future : List Kept → ℕ → List ℕ
-future ks n = map (λ k. k.number) (gathered ks n [] ks)
+-- the numbers strictly fall
+abbrev pub Falls : List ℕ → Type 0
+Falls [] = Unit {0}
+Falls (n ∷ ns) = FallsBelow n ns
+
+-- the numbers of step n and of all that follows from it, greatest first. There is one such list
+pub record IsFuture (ks : List Kept) (n : ℕ) (numbers : List ℕ) : Type 0 where
+  -- a number is in the list exactly where its step follows
+  pub follows : (j : ℕ) → (list_any (λ m. m == j) numbers ≡ true) ↔ Follows ks n j
+  -- and none is in it twice
+  pub falls : Falls numbers
 
 -- the journal after these steps were taken back in turn, if each was without consequences when it was
 abbrev pub undo_all : List Kept → List ℕ → Option (List Kept)

@@ -1,5 +1,5 @@
 -- The remaining steps, and which follow from which (Danos and Krivine).
-use Rattle.std.specs.Prelude.{ℕ, ◌<◌, ◌==◌, ◌&&◌, ◌||◌, not, nat_lt, Bool, false, if◌then◌else◌, List, [], ◌∷◌, Option, Some, None, option_map, refl}
+use Rattle.std.specs.Prelude.{◌≡◌, ℕ, ◌<◌, ◌==◌, ◌&&◌, ◌||◌, not, nat_lt, Bool, false, if◌then◌else◌, List, [], ◌∷◌, Option, Some, None, option_map, refl}
 use Rattle.std.specs.Coded.{Coded, code_by, coded×, coded_ℕ}
 use Rattle.std.specs.List.{filter}
 use Rattle.std.specs.Option.{option_and_then}
@@ -39,6 +39,20 @@ source_at ks (Some m) = sender_of ks m.0 m.1
 -- the step that sent what this step delivers
 abbrev pub source_of : List Kept → Operation → Option ℕ
 source_of ks s = source_at ks (delivers s)
+
+-- what is delivered, if anything, was sent by a remaining step with a number below n
+abbrev pub IsSentBefore : List Kept → ℕ → Option (ℕ × ℕ) → Type 0
+IsSentBefore ks n None = Unit {0}
+IsSentBefore ks n (Some m) = (p : ℕ) × (source_at ks (Some m) ≡ Some p) × (p < n)
+
+-- each of these steps delivers, if anything, what a remaining step before it sent
+abbrev pub AreSentBefore : List Kept → List Kept → Type 0
+AreSentBefore ks [] = Unit {0}
+AreSentBefore ks (j ∷ js) = IsSentBefore ks j.number (delivers j.step) × AreSentBefore ks js
+
+-- the steps stand by rising number, and no delivery before the step that sent its message
+abbrev pub AreInOrder : List Kept → Type 0
+AreInOrder ks = RisesAbove 0 ks × AreSentBefore ks ks
 
 abbrev pub is_number : Option ℕ → ℕ → Bool
 is_number None n = false

@@ -2,3 +2,4 @@ pub mod Holdings
 pub mod Journals
 pub mod Laws
 pub mod Futures
+pub mod Gathering

@@ -2,8 +2,8 @@
 ghost use Rattle.std.specs.Prelude.{◌≡◌, ◌++◌, ◌∷◌, [], ◌<◌, ◌≤◌, IsOk, IfErr, IfOk, OnOk, OnErr, option_map, option_copied, slice_get, length, Some, None};
 ghost use Rattle.node_core.specs.Operations.{plain, delivers};
 ghost use Rattle.node_core.specs.Inverses.{plain_inverse};
-ghost use Rattle.journal_core.specs.Journals.{find_number, first_consequence, last_of};
-ghost use Rattle.journal_core.specs.Futures.{future};
+ghost use Rattle.journal_core.specs.Journals.{find_number, first_consequence, last_of, AreInOrder};
+ghost use Rattle.journal_core.specs.Futures.{IsFuture};
 ghost use Rattle.journal_core.specs.Holdings.{kepts, find_held, inverse_of, with_inverse, without_held, AreAllHeld, IsLent, CanBeKept};
 
 use crate::held::Held;
@@ -20,7 +20,8 @@ struct Room {
     delivers: Option<(u16, u64)>,
 }
 
-/// The steps that remain, by rising number, each with its inverse beside it.
+/// The steps that remain, by rising number, each with its inverse beside it. No delivery stands before the step that sent
+/// its message.
 ///
 /// A contract sees the steps with their inverses, an inverse that is lent as `None`, how many nodes there are, and for
 /// which step room was made.
@@ -33,7 +34,7 @@ pub struct Journal<'a, B: Allocator> {
 
 impl<'a, B: Allocator> Model for Journal<'a, B> {
     ghost use Rattle.std.specs.Prelude.{◌≡◌, ◌≢◌, ◌<◌, ◌≤◌, None, vec_len, vec_capacity};
-    ghost use Rattle.journal_core.specs.Journals.{RisesAbove};
+    ghost use Rattle.journal_core.specs.Journals.{AreInOrder};
     ghost use Rattle.journal_core.specs.Holdings.{Journal, journal_code, kepts, plain_room};
 
     ghost Value = { Journal };
@@ -42,7 +43,7 @@ impl<'a, B: Allocator> Model for Journal<'a, B> {
 
     ghost view = { λ j. record { nodes = j.nodes; steps = j.steps.items; room = plain_room j.room } };
 
-    ghost invariant = { λ j. (j.nodes ≤ 32) × (j.room ≢ None → vec_len j.steps < vec_capacity j.steps) × RisesAbove 0 (kepts j.steps.items) };
+    ghost invariant = { λ j. (j.nodes ≤ 32) × (j.room ≢ None → vec_len j.steps < vec_capacity j.steps) × AreInOrder (kepts j.steps.items) };
 }
 
 impl<'a, B: Allocator> Journal<'a, B> {
@@ -101,7 +102,8 @@ impl<'a, B: Allocator> Journal<'a, B> {
     /// The number of a step and those of all that follows from it: of its direct consequences, of theirs, and so on.
     /// Greatest first; none where the step doesn't remain.
     pub fn future(&self, number: u64) -> Result<Vec<u64, &'a B>, Oom>
-        ensures { IfOk result (λ numbers. numbers.items ≡ future (kepts self.now.steps) number) }
+        ensures future { IfOk result (λ numbers. IsFuture (kepts self.now.steps) number numbers.items) }
+        ensures in_order { AreInOrder (kepts self.now.steps) }
     {
         future(*self.steps.allocator(), self.steps.as_slice(), number)
     }

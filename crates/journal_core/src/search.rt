@@ -3,7 +3,7 @@ ghost use Rattle.std.specs.Prelude.{◌≡◌, ◌==◌, ◌&&◌, ◌||◌, [],
 ghost use Rattle.std.specs.List.{list_any};
 ghost use Rattle.node_core.specs.Operations.{plain};
 ghost use Rattle.journal_core.specs.Journals.{find_number, sender_of, source_of, is_consequence, first_consequence, last_of};
-ghost use Rattle.journal_core.specs.Futures.{future, gathered};
+ghost use Rattle.journal_core.specs.Gathering.{gathered, gathered_numbers};
 ghost use Rattle.journal_core.specs.Holdings.{kepts, place_of};
 
 use crate::held::Held;
@@ -156,7 +156,7 @@ pub(crate) fn future<'a, B: Allocator>(
     steps: &[Held<'a, B>],
     number: u64,
 ) -> Result<Vec<u64, &'a B>, Oom>
-    ensures { IfOk result (λ numbers. numbers.items ≡ future (kepts steps.now) number) }
+    ensures { IfOk result (λ numbers. numbers.items ≡ gathered_numbers (kepts steps.now) number) }
 {
     let found = gather(alloc, steps, number)?;
     numbers_back(alloc, found.as_slice())

@@ -8,7 +8,7 @@ use Rattle.replica_core.specs.declared.replica_fault.ReplicaFault.{ReplicaFault}
 use Rattle.replica_core.specs.declared.status.Status.TheVariants as statuses
 use Rattle.replica_core.specs.Replicas.{Replica, replica_code, tracked_dots, dots_of_process, opening, joined, left_each, updated, with_status, forgotten, delta_message, without_delta}
 use Rattle.replica_core.specs.Deliveries.{merged}
-use Rattle.replica_core.specs.Refusals.{join_refusal, leave_refusal, leave_all_refusal, update_refusal, merge_refusal, up_refusal, down_refusal, permdown_refusal, has_dots}
+use Rattle.replica_core.specs.Refusals.{join_refusal, leave_refusal, leave_all_refusal, merge_refusal, up_refusal, down_refusal, permdown_refusal, has_dots}
 use Rattle.node_core.specs.declared.step_fault.StepFault.{StepFault}
 use Rattle.node_core.specs.declared.step_fault.StepFault.TheVariants.{NothingToSend, OwnMessage, NoSuchMessage, OutboxFull}
 use Rattle.node_core.specs.Faults.{fault_of}
@@ -59,7 +59,7 @@ abbrev pub take : Node → Operation → Option Message → Result Node StepFaul
 take n (Join p) _ = unless (join_refusal n.replica p.pid p.topic p.key) (with_replica n (joined p n.replica))
 take n (Leave pid topic key) _ = unless (leave_refusal n.replica pid topic key) (with_replica n (left_each (tracked_dots n.replica pid topic key) n.replica))
 take n (LeaveAll pid) _ = unless (leave_all_refusal n.replica pid) (with_replica n (left_each (dots_of_process n.replica pid) n.replica))
-take n (Update p) _ = unless (update_refusal n.replica p.pid p.topic p.key) (with_replica n (updated p n.replica))
+take n (Update p) _ = unless (leave_refusal n.replica p.pid p.topic p.key) (with_replica n (updated p n.replica))
 take n Broadcast _ = broadcast (has_dots n.replica.delta_seen) n
 take n (Extract names) _ = unless_full n (with_sent n (message_of_names (set.contains names) n.replica.own n.replica.seen n.replica.entries) n.replica)
 take n (Deliver sender number) m = if sender == n.replica.own then Err OwnMessage else deliver n m

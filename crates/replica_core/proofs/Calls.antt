@@ -12,7 +12,7 @@ use Rattle.replica_core.specs.declared.status.Status.{Status}
 use Rattle.replica_core.specs.declared.status.Status.TheVariants.{Up}
 use Rattle.replica_core.specs.Views.{View}
 use Rattle.replica_core.specs.Replicas.{Replica, fresh, dots_of_process, is_known, is_online, joined, updated, with_status}
-use Rattle.replica_core.specs.Refusals.{first_of, is_some_dot, is_tracked, are_too_many, is_clock_full, join_refusal, leave_refusal, leave_all_refusal, update_refusal, up_refusal, down_refusal, permdown_refusal}
+use Rattle.replica_core.specs.Refusals.{first_of, is_some_dot, is_tracked, are_too_many, is_clock_full, join_refusal, leave_refusal, leave_all_refusal, up_refusal, down_refusal, permdown_refusal}
 use Rattle.replica_core.specs.Kept.{IsReplica}
 use Rattle.replica_core.specs.Changes.{Change, IsOneCall, ByJoin, ByUpdate, ByUp, LeadsBack}
 use Rattle.replica_core.proofs.Kept.{fresh_valid, fresh_absent, fresh_absent_in_delta, kept_joined}
@@ -98,5 +98,5 @@ module _ (r : Replica) (e : Entry) (kept : IsReplica r) (fresh_is : e.dot ≡ fr
 pub join_leads_back : (old new : Replica) (p : Presence) (e : Entry) (change : Change) (asked : Option ReplicaFault) → asked ≡ join_refusal old p.pid p.topic p.key → asked ≡ None → e ≡ entry_of (fresh old) p → new ≡ joined (presence_of e) old → change.before ≡ old → LeadsBack change new old
 join_leads_back old new p e change asked refusal free is gives keeps = record { call = ByJoin p (sym refusal ∙ free) (gives ∙ ap (λ (e : Entry). joined (presence_of e) old) is); destroyed = sym keeps }
 
-pub update_leads_back : (old new : Replica) (p : Presence) (e : Entry) (change : Change) → update_refusal old p.pid p.topic p.key ≡ None → e ≡ entry_of (fresh old) p → new ≡ updated (presence_of e) old → change.before ≡ old → LeadsBack change new old
+pub update_leads_back : (old new : Replica) (p : Presence) (e : Entry) (change : Change) → leave_refusal old p.pid p.topic p.key ≡ None → e ≡ entry_of (fresh old) p → new ≡ updated (presence_of e) old → change.before ≡ old → LeadsBack change new old
 update_leads_back old new p e change free is gives keeps = leads_back old new change keeps (ByUpdate p free (gives ∙ ap (λ (e : Entry). updated (presence_of e) old) is))

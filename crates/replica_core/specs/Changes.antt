@@ -6,7 +6,7 @@ use Rattle.payload_core.specs.Messages.{Message}
 use Rattle.replica_core.specs.declared.status.Status.TheVariants.{Up, Down}
 use Rattle.replica_core.specs.Replicas.{Replica, tracked_dots, dots_of_process, joined, left_each, updated, with_status, forgotten, replica_code}
 use Rattle.replica_core.specs.Deliveries.{merged}
-use Rattle.replica_core.specs.Refusals.{join_refusal, leave_refusal, leave_all_refusal, update_refusal, merge_refusal, up_refusal, down_refusal, permdown_refusal}
+use Rattle.replica_core.specs.Refusals.{join_refusal, leave_refusal, leave_all_refusal, merge_refusal, up_refusal, down_refusal, permdown_refusal}
 
 -- for now, the replica before the change
 pub record Change : Type 0 where
@@ -21,7 +21,7 @@ pub data IsOneCall (a b : Replica) : Type 0 where
   ByJoin : (p : Presence) → join_refusal a p.pid p.topic p.key ≡ None → b ≡ joined p a → IsOneCall a b
   ByLeave : (pid : ℕ) (topic key : List ℕ) → leave_refusal a pid topic key ≡ None → b ≡ left_each (tracked_dots a pid topic key) a → IsOneCall a b
   ByLeaveAll : (pid : ℕ) → leave_all_refusal a pid ≡ None → b ≡ left_each (dots_of_process a pid) a → IsOneCall a b
-  ByUpdate : (p : Presence) → update_refusal a p.pid p.topic p.key ≡ None → b ≡ updated p a → IsOneCall a b
+  ByUpdate : (p : Presence) → leave_refusal a p.pid p.topic p.key ≡ None → b ≡ updated p a → IsOneCall a b
   ByMerge : (m : Message) → merge_refusal a m ≡ None → b ≡ merged m a → IsOneCall a b
   ByUp : (name : ℕ) → up_refusal a name ≡ None → b ≡ with_status name Up a → IsOneCall a b
   ByDown : (name : ℕ) → down_refusal a name ≡ None → b ≡ with_status name Down a → IsOneCall a b

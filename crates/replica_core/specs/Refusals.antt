@@ -43,14 +43,12 @@ abbrev pub join_refusal : Replica → ℕ → List ℕ → List ℕ → Option R
 join_refusal r pid topic key =
     first_of ((is_tracked r pid topic key, AlreadyTracked) ∷ (are_too_many r (fin.len r.entries + 1), EntriesFull) ∷ (is_clock_full r 1, ClockFull) ∷ [])
 
+-- an update is refused as a leave
 abbrev pub leave_refusal : Replica → ℕ → List ℕ → List ℕ → Option ReplicaFault
 leave_refusal r pid topic key = first_of ((not (is_tracked r pid topic key), NotTracked) ∷ (is_clock_full r 1, ClockFull) ∷ [])
 
 abbrev pub leave_all_refusal : Replica → ℕ → Option ReplicaFault
 leave_all_refusal r pid = first_of ((not (is_some_dot (dots_of_process r pid)), NotTracked) ∷ (is_clock_full r (length (dots_of_process r pid)), ClockFull) ∷ [])
-
-abbrev pub update_refusal : Replica → ℕ → List ℕ → List ℕ → Option ReplicaFault
-update_refusal r pid topic key = first_of ((not (is_tracked r pid topic key), NotTracked) ∷ (is_clock_full r 1, ClockFull) ∷ [])
 
 abbrev pub merge_refusal : Replica → Message → Option ReplicaFault
 merge_refusal r m = first_of ((are_too_many r (fin.len (merged_entries m r)), EntriesFull) ∷ [])

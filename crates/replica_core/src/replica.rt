@@ -10,7 +10,7 @@ ghost use Rattle.replica_core.specs.declared.status.Status.TheVariants.{Up, Down
 ghost use Rattle.replica_core.specs.Limits.{AreNodeLimits};
 ghost use Rattle.replica_core.specs.Replicas.{opening, own_clock, fresh, tracked_dots, dots_of_process, is_online, joined, left_each, updated, with_status, forgotten, delta_message, without_delta, with_delta, CanBeDelta};
 ghost use Rattle.replica_core.specs.Deliveries.{is_other_known, is_new, is_gone, arrivals, departures, merged, TakesGreaterStandings};
-ghost use Rattle.replica_core.specs.Refusals.{IsRefusedFor, is_tracked, are_too_many, is_clock_full, join_refusal, leave_refusal, leave_all_refusal, update_refusal, merge_refusal, up_refusal, down_refusal, permdown_refusal, has_dots};
+ghost use Rattle.replica_core.specs.Refusals.{IsRefusedFor, is_tracked, are_too_many, is_clock_full, join_refusal, leave_refusal, leave_all_refusal, merge_refusal, up_refusal, down_refusal, permdown_refusal, has_dots};
 ghost use Rattle.replica_core.specs.Kept.{IsReplica};
 ghost use Rattle.replica_core.specs.Leaves.{AreOwnSeen};
 ghost use Rattle.replica_core.specs.Changes.{LeadsBack, LeadsSomewhere, GivesBack};
@@ -444,7 +444,7 @@ impl<A: Allocator + Copy> Replica<A> {
         metadata: &Word<A>,
     ) -> Result<Change<A>, ReplicaFault>
         ensures updated { OnOk result (self.new ≡ updated (record { pid = pid; topic = topic.now; key = key.now; metadata = metadata.now }) self.old) }
-        ensures refused { IsRefusedFor (update_refusal self.old pid topic.now key.now) result }
+        ensures refused { IsRefusedFor (leave_refusal self.old pid topic.now key.now) result }
         ensures leads_back { IfOk result (λ change. LeadsBack change self.new self.old) }
         ensures err { OnErr result (self.new ≡ self.old) }
     {

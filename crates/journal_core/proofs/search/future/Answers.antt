@@ -1,5 +1,5 @@
 use Rattle.std.proofs.Common.{◌≡◌, List, [], ℕ, IfOk, map, reverse, subst}
-use Rattle.journal_core.specs.Futures.{gathered}
+use Rattle.journal_core.specs.Gathering.{gathered}
 use Rattle.journal_core.specs.Holdings.{kepts}
 use Rattle.journal_core.proofs.Gathering.{numbers_are}
 use Rattle.journal_core.proofs.search.future.Goals as goal

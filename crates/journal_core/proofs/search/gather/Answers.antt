@@ -1,8 +1,7 @@
-use Rattle.std.proofs.Common.{◌≡◌, ◌==◌, ◌||◌, [], ◌∷◌, ◌∙◌, sym, ap, map, reverse, drop}
+use Rattle.std.proofs.Common.{◌≡◌, ◌==◌, ◌||◌, [], ◌∷◌, map}
 use Rattle.std.proofs.lemmas.List.{map-append}
 use Rattle.std.specs.List.{list_any}
 use Rattle.journal_core.specs.Journals.{is_consequence}
-use Rattle.journal_core.specs.Futures.{gathered}
 use Rattle.journal_core.specs.Holdings.{kepts}
 use Rattle.journal_core.proofs.Gathering.{joined, passed}
 use Rattle.journal_core.proofs.search.gather.Goals.{then-joins+in_ok-push, else-joins}

@@ -1,6 +1,6 @@
 use Rattle.std.proofs.Common.{◌≡◌, [], drop, map, reverse}
 use Rattle.journal_core.specs.Holdings.{kepts}
-use Rattle.journal_core.specs.Futures.{gathered}
+use Rattle.journal_core.specs.Gathering.{gathered}
 use Rattle.journal_core.proofs.search.gather.Given as goal
 
 abbrev pub invariant-loop-held : goal.invariant-loop-held

@@ -1,5 +1,6 @@
-use Rattle.std.proofs.Common.{rules, ◌++◌, ◌∙◌, Ok, ap, sym, drop}
+use Rattle.std.proofs.Common.{rules, ◌++◌, ◌∙◌, ap, sym, subst, drop}
 use Rattle.std.proofs.lemmas.List.{take-append-drop}
+use Rattle.bench_core.specs.Unwinds.{Explains}
 use Rattle.bench_core.proofs.InTurn.{some_left}
 use Rattle.bench_core.proofs.bench.Bench.unwind.Goals as goal
 
@@ -10,5 +11,5 @@ returns-then-undone-len-clause-answer g c =
     let undone = c.undo_each-undone.result in (
       drop undone numbers,
       some_left numbers undone (search rules),
-      c.in-Ok.ensures.answer ∙ ap Ok (sym (take-append-drop undone numbers) ∙ ap (λ l. l ++ drop undone numbers) (sym c.truncate.ensures.items)),
+      subst (Explains c.args.self.now.state c.args.number) (sym (take-append-drop undone numbers) ∙ ap (λ l. l ++ drop undone numbers) (sym c.truncate.ensures.items)) c.in-Ok.ensures.future,
     )

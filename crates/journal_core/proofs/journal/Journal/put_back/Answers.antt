@@ -1,9 +1,9 @@
 use Rattle.std.proofs.Common.{◌≡◌, ◌∙◌, sym, ap, subst, arith, Some, None}
 use Rattle.node_core.specs.Inverses.{plain_inverse}
-use Rattle.journal_core.specs.Journals.{RisesAbove}
+use Rattle.journal_core.specs.Journals.{AreInOrder}
 use Rattle.journal_core.specs.Holdings.{kepts, plain_room, place_of, with_inverse}
 use Rattle.journal_core.proofs.Places.{place_within, set_at, absent}
-use Rattle.journal_core.proofs.Rising.{rises_lent}
+use Rattle.journal_core.proofs.Senders.{order_lent}
 use Rattle.journal_core.proofs.journal.Journal.put_back.Goals as goal
 
 pub index_mut-requires : goal.index_mut-requires
@@ -28,4 +28,4 @@ pub invariant_of-self : goal.invariant_of-self
 invariant_of-self g c =
     let at : place_of c.self.inside.steps.items c.args.number ≡ Some c.in-Some.place = ap (λ l. place_of l c.args.number) (sym c.as_slice.ensures.value) ∙ sym c.place.ensures ∙ c.in-Some.is in
     let put = set_at c.args.number c.self.inside.steps.items c.in-Some.place c.index_mut.result.now c.put_back.new.self (Some (plain_inverse c.args.inverse)) at c.index_mut.ensures.value c.put_back.ensures in
-    (c.self.invariant.0, c.self.invariant.1, subst (λ hs. RisesAbove 0 (kepts hs)) (sym put) (rises_lent c.self.inside.steps.items c.args.number (Some (plain_inverse c.args.inverse)) c.self.invariant.2))
+    (c.self.invariant.0, c.self.invariant.1, subst (λ hs. AreInOrder (kepts hs)) (sym put) (order_lent c.self.inside.steps.items c.args.number (Some (plain_inverse c.args.inverse)) c.self.invariant.2))

@@ -1,8 +1,8 @@
 use Rattle.std.proofs.Common.{rules, ◌≡◌, ◌∙◌, sym, ap, subst, arith, Some, None}
-use Rattle.journal_core.specs.Journals.{RisesAbove}
-use Rattle.journal_core.specs.Holdings.{Journal, kepts, plain_room, place_of, without_held}
+use Rattle.journal_core.specs.Journals.{AreInOrder, first_consequence}
+use Rattle.journal_core.specs.Holdings.{IsLent, Journal, kepts, plain_room, place_of, without_held}
 use Rattle.journal_core.proofs.Places.{place_within, remove_at, absent}
-use Rattle.journal_core.proofs.Rising.{rises_out}
+use Rattle.journal_core.proofs.Senders.{order_out}
 use Rattle.journal_core.proofs.journal.Journal.take_out.Goals as goal
 
 pub remove-requires : goal.remove-requires
@@ -14,7 +14,9 @@ pub invariant_of-self : goal.invariant_of-self
 invariant_of-self g c =
     let at : place_of c.self.inside.steps.items c.args.number ≡ Some c.in-Some.place = ap (λ l. place_of l c.args.number) (sym c.as_slice.ensures.value) ∙ sym c.place.ensures ∙ c.in-Some.is in
     let out = c.remove.ensures.items ∙ remove_at c.args.number c.self.inside.steps.items c.in-Some.place at in
-    (c.self.invariant.0, search rules, subst (λ hs. RisesAbove 0 (kepts hs)) (sym out) (rises_out c.self.inside.steps.items c.args.number c.self.invariant.2))
+    let lent : IsLent c.self.inside.steps.items c.args.number = subst (λ (j : Journal). IsLent j.steps c.args.number) (sym c.self.view_is) c.requires.lent in
+    let free : first_consequence (kepts c.self.inside.steps.items) c.args.number ≡ None = ap (λ (j : Journal). first_consequence (kepts j.steps) c.args.number) c.self.view_is ∙ c.requires.free in
+    (c.self.invariant.0, search rules, subst (λ hs. AreInOrder (kepts hs)) (sym out) (order_out c.self.inside.steps.items c.args.number lent free c.self.invariant.2))
 
 pub returns-in-Some : goal.returns-in-Some
 returns-in-Some g c =
