@@ -4,6 +4,7 @@ use Rattle.std.specs.declared.cmp.Ordering.TheVariants.{Less}
 use Rattle.std.specs.Ordering.{is_lt}
 use Rattle.std.specs.List.{AllByRecursion}
 use Rattle.std.specs.List.Sorted.{IsStrictlySortedBy}
+use Rattle.std.proofs.lemmas.Bool.{or_right}
 use Rattle.std.proofs.lemmas.List.{append_assoc, drop_more}
 use Rattle.std.proofs.lemmas.List.Kept.{IsStrictlySortedBy-filter}
 use Rattle.diff_core.specs.Rows.{Row, row_cmp, is_among}
@@ -11,18 +12,14 @@ use Rattle.diff_core.specs.RowOrder.{row_total}
 use Rattle.diff_core.specs.Online.{AreInOrder}
 use Rattle.diff_core.specs.Diffs.{alone, not_below, begins_with}
 use Rattle.diff_core.specs.Laws.{DiffLaw}
-use Rattle.diff_core.proofs.Order.{is_row, is_row-itself, is_row-below, is_row-above, less_of, cases_row}
-
-or-true : (b : Bool) → (b || true) ≡ true
-or-true true = refl
-or-true false = refl
+use Rattle.diff_core.proofs.Order.{is_row, is_row-itself, is_row-below, is_row-above, less_of, cases_row, all_above}
 
 -- nothing of a part of a list is alone beside the list
 none_alone : (all part : List Row) → ((r : Row) → is_among part r ≡ true → is_among all r ≡ true) → alone part all ≡ []
 none_alone all [] within = refl
 none_alone all (r ∷ rs) within =
     let here : is_among all r ≡ true = within r (ap (λ b. b || is_among rs r) (is_row-itself r)) in
-    ap (λ b. cond (not b) (r ∷ alone rs all) (alone rs all)) here ∙ none_alone all rs (λ x h. within x (ap (λ b. is_row x r || b) h ∙ or-true (is_row x r)))
+    ap (λ b. cond (not b) (r ∷ alone rs all) (alone rs all)) here ∙ none_alone all rs (λ x h. within x (or_right (is_row x r) (is_among rs x) h))
 
 pub diff_holds : DiffLaw
 diff_holds = record { itself = λ rows. none_alone rows rows (λ r h. h); in_order = λ rows others h. IsStrictlySortedBy-filter row_cmp (λ row. not (is_among others row)) rows h }
@@ -57,10 +54,6 @@ none_above : (row : Row) (rs : List Row) → AllByRecursion (λ r. row_cmp row r
 none_above row [] all = refl
 none_above row (r ∷ rs) all = ap (λ b. b || is_among rs row) (is_row-below row r all.0) ∙ none_above row rs all.1
 
-above_all : (row r : Row) (rs : List Row) → row_cmp row r ≡ Less → AllByRecursion (λ x. row_cmp r x ≡ Less) rs → AllByRecursion (λ x. row_cmp row x ≡ Less) rs
-above_all row r [] below all = tt
-above_all row r (x ∷ xs) below all = (row_total.trans row r x below all.0, above_all row r xs below all.1)
-
 -- of rows in order that are not below a row, the first is it or none is
 pub first_or_none : (row : Row) (rs : List Row) → AreInOrder rs → is_among (not_below row rs) row ≡ begins_with row (not_below row rs)
 unfolding IsStrictlySortedBy
@@ -68,7 +61,7 @@ first_or_none row [] order = refl
 first_or_none row (r ∷ rs) order = go (first_or_none row rs order.1) (is_lt (row_cmp r row)) refl
   where
     other : row_cmp row r ≡ Less → is_among (r ∷ rs) row ≡ begins_with row (r ∷ rs)
-    other below = ap (λ b. b || is_among rs row) (is_row-below row r below) ∙ none_above row rs (above_all row r rs below order.0) ∙ sym (is_row-above row r below)
+    other below = ap (λ b. b || is_among rs row) (is_row-below row r below) ∙ none_above row rs (all_above row r rs below order.0) ∙ sym (is_row-above row r below)
 
     same : r ≡ row → is_among (r ∷ rs) row ≡ begins_with row (r ∷ rs)
     same e = ap (λ b. b || is_among rs row) (ap (is_row row) e ∙ is_row-itself row) ∙ sym (ap (λ x. is_row x row) e ∙ is_row-itself row)

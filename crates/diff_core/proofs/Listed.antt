@@ -1,33 +1,34 @@
 -- That a walk over the entries collects what is shown, that a sort puts it in order, and that one list is so.
-use Rattle.std.proofs.Common.{◌≡◌, ℕ, zero, suc, ◌+◌, ◌<◌, ◌≤◌, T, Bool, true, false, cond, ◌&&◌, List, [], ◌∷◌, ◌++◌, map, filter, take, length, slice_index_or, Some, refl, sym, ap, ◌∙◌, subst, true≢false, arith}
-use Rattle.std.specs.declared.cmp.Ordering.{Ordering}
-use Rattle.std.specs.declared.cmp.Ordering.TheVariants.{Less, Equal, Greater}
+use Rattle.std.proofs.Common.{◌≡◌, ℕ, zero, suc, ◌+◌, ◌<◌, ◌≤◌, T, Bool, true, false, cond, List, [], ◌∷◌, ◌++◌, map, filter, take, length, slice_index_or, Some, refl, sym, ap, ◌∙◌, subst, true≢false, arith}
+use Rattle.std.specs.declared.cmp.Ordering.TheVariants.{Less}
 use Rattle.std.specs.Ordering.{is_lt, is_eq}
 use Rattle.std.specs.List.{AllByRecursion, sum_by}
 use Rattle.std.specs.List.Sorted.{IsPermutation, IsSorted, IsStrictlySortedBy}
 use Rattle.std.specs.FinMap as fin
 use Rattle.std.specs.FinMap.Entries.{is_sorted, below_all}
+use Rattle.std.proofs.Math.Facts.{and_yes}
+use Rattle.std.proofs.lemmas.List.{map-append}
 use Rattle.std.proofs.lemmas.List.Sorted.{sum_by-IsPermutation, sorted_far, ranks_by}
 use Rattle.std.proofs.lemmas.List.Sums.{sum_by-cons}
 use Rattle.dots_core.specs.declared.dot.Dot.{Dot}
 use Rattle.dots_core.specs.Dots.{dot_cmp, dot}
-use Rattle.dots_core.proofs.Order.{is_dot, is_dot-true, is_dot_same}
+use Rattle.dots_core.proofs.Order.{less, is_dot, is_dot-true, is_dot_same}
 use Rattle.payload_core.specs.EntryLists.{pair_of}
 use Rattle.payload_core.specs.Presences.{Presence, Entry, Entries}
 use Rattle.replica_core.specs.Replicas.{Replica}
 use Rattle.replica_core.specs.Views.{View, is_some_up}
-use Rattle.replica_core.proofs.Collected.{entry_at, map-push, passed}
+use Rattle.replica_core.proofs.Collected.{entry_at, passed}
 use Rattle.diff_core.specs.Rows.{Row, row_cmp, row_of}
 use Rattle.diff_core.specs.RowOrder.{row_total}
 use Rattle.diff_core.specs.Online.{AreInOrder, IsOnlineList, shown, is_shown}
 use Rattle.diff_core.specs.Laws.{OneListLaw}
-use Rattle.diff_core.proofs.Order.{is_row, is_row-itself, is_row-true, cases_row}
+use Rattle.diff_core.proofs.Order.{is_row, is_row-itself, is_row-true, cases_row, all_above}
 
 -- one more entry that passes, with its row
 pub row_collected : (test : Dot × Presence → Bool) (ps : List (Dot × Presence)) (i : ℕ) (e : Entry) (row : Row) (rows after : List Row) → Some e ≡ entry_at ps i → test (pair_of e) ≡ true → rows ≡ map row_of (filter test (take i ps)) → after ≡ rows ++ row ∷ [] → row ≡ row_of (pair_of e) →
     after ≡ map row_of (filter test (take (i + 1) ps))
 row_collected test ps i e row rows after at passes so_far is same =
-    is ∙ ap (λ rs. rs ++ row ∷ []) so_far ∙ ap (λ r. map row_of (filter test (take i ps)) ++ r ∷ []) same ∙ sym (map-push row_of (filter test (take i ps)) (pair_of e)) ∙ ap (map row_of) (sym (passed test ps i e at passes))
+    is ∙ ap (λ rs. rs ++ row ∷ []) so_far ∙ ap (λ r. map row_of (filter test (take i ps)) ++ r ∷ []) same ∙ sym (map-append row_of (filter test (take i ps)) (pair_of e ∷ [])) ∙ ap (map row_of) (sym (passed test ps i e at passes))
 
 -- how often a row stands in a list, and a dot among the keys of one
 abbrev one : Bool → ℕ
@@ -45,19 +46,6 @@ dot_of r = dot r.name r.clock
 one_le : (a b : Bool) → (a ≡ true → b ≡ true) → one a ≤ one b
 one_le true b h = let e = ap one (h refl) in omega arith
 one_le false b h = omega arith
-
-t_first : (a b : Bool) → T (a && b) → T a
-t_first true b h = tt
-t_first false b h = absurd h
-
-t_second : (a b : Bool) → T (a && b) → T b
-t_second true b h = h
-t_second false b h = absurd h
-
-less_of_T : (r : Ordering) → T (is_lt r) → r ≡ Less
-less_of_T Less h = refl
-less_of_T Equal h = absurd h
-less_of_T Greater h = absurd h
 
 same_dot : (x : Row) (e : Dot × Presence) → is_row x (row_of e) ≡ true → is_dot (dot_of x) e.0 ≡ true
 same_dot x e h = ap (λ r. is_dot (dot_of r) e.0) (is_row-true x (row_of e) h) ∙ is_dot_same e.0
@@ -81,14 +69,14 @@ row_le test x (e ∷ es) = go (row_le test x es) (test e)
 none_at : (d : Dot) (es : List (Dot × Presence)) → T (below_all dot_cmp d es) → times_at d es ≡ 0
 none_at d [] below = refl
 none_at d (e ∷ es) below =
-    let first = ap (λ r. one (is_eq r)) (less_of_T (dot_cmp d e.0) (t_first (is_lt (dot_cmp d e.0)) (below_all dot_cmp d es) below)) in
-    let rest = none_at d es (t_second (is_lt (dot_cmp d e.0)) (below_all dot_cmp d es) below) in
+    let first = ap (λ r. one (is_eq r)) (less (dot_cmp d e.0) (and_yes (is_lt (dot_cmp d e.0)) (below_all dot_cmp d es) below).0) in
+    let rest = none_at d es (and_yes (is_lt (dot_cmp d e.0)) (below_all dot_cmp d es) below).1 in
     let dots = sum_by-cons (λ (f : Dot × Presence). one (is_dot d f.0)) e es in
     omega (arith, first, rest, dots)
 
 once_at : (d : Dot) (es : List (Dot × Presence)) → T (is_sorted dot_cmp es) → times_at d es ≤ 1
 once_at d [] sorted = omega arith
-once_at d (e ∷ es) sorted = go (once_at d es (t_second (below_all dot_cmp e.0 es) (is_sorted dot_cmp es) sorted)) (is_dot d e.0) refl
+once_at d (e ∷ es) sorted = go (once_at d es (and_yes (below_all dot_cmp e.0 es) (is_sorted dot_cmp es) sorted).1) (is_dot d e.0) refl
   where
     dots : times_at d (e ∷ es) ≡ one (is_dot d e.0) + times_at d es
     dots = sum_by-cons (λ (f : Dot × Presence). one (is_dot d f.0)) e es
@@ -96,7 +84,7 @@ once_at d (e ∷ es) sorted = go (once_at d es (t_second (below_all dot_cmp e.0 
     go : times_at d es ≤ 1 → (b : Bool) → is_dot d e.0 ≡ b → times_at d (e ∷ es) ≤ 1
     go rest true h =
         let here = ap one h in
-        let none = none_at d es (subst (λ x. T (below_all dot_cmp x es)) (sym (is_dot-true d e.0 h)) (t_first (below_all dot_cmp e.0 es) (is_sorted dot_cmp es) sorted)) in
+        let none = none_at d es (subst (λ x. T (below_all dot_cmp x es)) (sym (is_dot-true d e.0 h)) (and_yes (below_all dot_cmp e.0 es) (is_sorted dot_cmp es) sorted).0) in
         omega (arith, dots, here, none)
     go rest false h =
         let here = ap one h in
@@ -150,10 +138,6 @@ listed r collected sorted all moved in_order =
 none_times : (x : Row) (rs : List Row) → AllByRecursion (λ r. row_cmp x r ≡ Less) rs → times x rs ≡ 0
 none_times x [] all = refl
 none_times x (r ∷ rs) all = let rows = sum_by-cons (λ y. one (is_row x y)) r rs in let here = ap (λ o. one (is_eq o)) all.0 in let rest = none_times x rs all.1 in omega (arith, rows, here, rest)
-
-all_above : (x y : Row) (rs : List Row) → row_cmp x y ≡ Less → AllByRecursion (λ r. row_cmp y r ≡ Less) rs → AllByRecursion (λ r. row_cmp x r ≡ Less) rs
-all_above x y [] below all = tt
-all_above x y (r ∷ rs) below all = (row_total.trans x y r below all.0, all_above x y rs below all.1)
 
 -- a first row below the first of other rows in order is none of these
 first_missing : (x y : Row) (xs ys : List Row) → row_cmp x y ≡ Less → AllByRecursion (λ r. row_cmp y r ≡ Less) ys → times x (x ∷ xs) ≡ times x (y ∷ ys) → ⊥

@@ -1,7 +1,8 @@
 -- Rows that tie are one; the answers of their order.
-use Rattle.std.proofs.Common.{◌≡◌, ℕ, List, Bool, true, false, refl, ap, ◌∙◌}
+use Rattle.std.proofs.Common.{◌≡◌, ℕ, List, [], ◌∷◌, Bool, true, false, refl, ap, ◌∙◌}
 use Rattle.std.specs.declared.cmp.Ordering.{Ordering}
 use Rattle.std.specs.declared.cmp.Ordering.TheVariants.{Less, Equal, Greater}
+use Rattle.std.specs.List.{AllByRecursion}
 use Rattle.std.specs.Ordering.{is_lt, is_eq, eq_by_cmp, ordering_reverse}
 use Rattle.std.specs.Cmp.{tied_itself}
 use Rattle.std.proofs.lemmas.Map.Lookups.{exact_pairs, exact_unsigned, exact_bytes}
@@ -55,6 +56,11 @@ is_row-below a b h = ap is_eq h
 
 pub is_row-above : (a b : Row) → row_cmp a b ≡ Less → is_row b a ≡ false
 is_row-above a b h = ap is_eq (row_total.antisymm b a ∙ ap ordering_reverse h)
+
+-- a row below one that is below all of these is below all of them
+pub all_above : (a b : Row) (rows : List Row) → row_cmp a b ≡ Less → AllByRecursion (λ r. row_cmp b r ≡ Less) rows → AllByRecursion (λ r. row_cmp a r ≡ Less) rows
+all_above a b [] below all = tt
+all_above a b (r ∷ rows) below all = (row_total.trans a b r below all.0, all_above a b rows below all.1)
 
 pub not_itself : (a : Row) → row_cmp a a ≡ Less → ⊥
 not_itself a h = let tie = tied_itself row_total a in absurd (cc)

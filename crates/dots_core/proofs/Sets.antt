@@ -1,14 +1,14 @@
 -- Sets of dots, by what they answer at a dot.
 use Rattle.std.proofs.Common.{◌≡◌, ◌≢◌, ◌⊎◌, inl, inr, ℕ, ◌&&◌, ◌||◌, Bool, true, false, refl, sym, ap, ◌∙◌}
 use Rattle.std.proofs.Math.Bool.{and-false}
-use Rattle.std.proofs.lemmas.Bool.{and_parts}
+use Rattle.std.proofs.lemmas.Bool.{and_parts, or_right}
 use Rattle.std.specs.FinSet as set
 use Rattle.dots_core.specs.declared.dot.Dot.{Dot}
 use Rattle.dots_core.specs.Dots.{Dots, of_names}
-use Rattle.dots_core.proofs.Order.{dot_total, dot_exact, is_dot, is_dot_same, is_dot_other, dot_cases}
+use Rattle.dots_core.proofs.Order.{dot_total, dot_exact, same_of_tied, is_dot, is_dot_same, is_dot_other, dot_cases}
 
 pub contains-retain : (s : Dots) (p : Dot → Bool) (q : Dot) → set.contains (set.retain s p) q ≡ (set.contains s q && p q)
-contains-retain s p q = set.contains-retain s p q (λ x e. ap p (sym (dot_exact q x e)))
+contains-retain s p q = set.contains-retain s p q (same_of_tied p q)
 
 pub contains-insert : (s : Dots) (k q : Dot) → set.contains (set.insert s k) q ≡ (is_dot q k || set.contains s q)
 contains-insert s k q = set.contains-insert dot_total s k q
@@ -22,12 +22,8 @@ contains_inserted s k = contains-insert s k k ∙ ap (λ b. b || set.contains s 
 pub contains_insert_other : (s : Dots) (k q : Dot) → q ≢ k → set.contains (set.insert s k) q ≡ set.contains s q
 contains_insert_other s k q h = contains-insert s k q ∙ ap (λ b. b || set.contains s q) (is_dot_other q k h)
 
-pub or_true : (a : Bool) → (a || true) ≡ true
-or_true true = refl
-or_true false = refl
-
 pub contains_insert_more : (s : Dots) (k q : Dot) → set.contains s q ≡ true → set.contains (set.insert s k) q ≡ true
-contains_insert_more s k q h = contains-insert s k q ∙ ap (λ b. is_dot q k || b) h ∙ or_true (is_dot q k)
+contains_insert_more s k q h = contains-insert s k q ∙ or_right (is_dot q k) (set.contains s q) h
 
 pub and_alike : (b c t : Bool) → (t ≡ true → b ≡ c) → (b && t) ≡ (c && t)
 and_alike b c true h = ap (λ x. x && true) (h refl)

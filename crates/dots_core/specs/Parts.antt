@@ -1,6 +1,7 @@
 -- A set of dots, kept as the clocks of each name, by rising name.
 use Rattle.std.specs.Prelude.{◌≡◌, ℕ, zero, suc, List, [], ◌∷◌, ◌++◌, map, length, slice_index_or}
 use Rattle.std.specs.FinSet as set
+use Rattle.std.specs.List.{AllByRecursion}
 use Rattle.dots_core.specs.declared.dot.Dot.{Dot}
 use Rattle.dots_core.specs.Dots.{Dots, dot}
 use Rattle.dots_core.specs.Clocks.{Clocks, no_clocks, IsCanonical}
@@ -23,8 +24,7 @@ abbrev pub part_at : List Clocks → ℕ → Clocks
 part_at ps n = slice_index_or ps n no_clocks
 
 abbrev pub AllCanonical : List Clocks → Type 0
-AllCanonical [] = Unit {0}
-AllCanonical (p ∷ ps) = IsCanonical p × AllCanonical ps
+AllCanonical ps = AllByRecursion IsCanonical ps
 
 -- one part for each name, each kept in the one way
 pub record AreParts (ps : List Clocks) : Type 0 where

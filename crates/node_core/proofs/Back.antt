@@ -1,12 +1,12 @@
 -- The way back from one step, by its inverse.
-use Rattle.std.proofs.Common.{◌≡◌, ℕ, ◌≤◌, List, [], ◌∷◌, ◌++◌, length, Result, Ok, Err, OnOk, OnErr, refl, sym, ap, ◌∙◌, subst}
+use Rattle.std.proofs.Common.{◌≡◌, List, [], ◌∷◌, ◌++◌, Result, Ok, Err, OnOk, OnErr, refl, sym, ap, ◌∙◌, subst}
 use Rattle.payload_core.specs.Messages.{Message}
 use Rattle.replica_core.specs.Replicas.{Replica, delta_message, without_delta, with_delta, CanBeDelta}
 use Rattle.replica_core.specs.Kept.{IsReplica}
 use Rattle.replica_core.specs.Changes as changes
 use Rattle.node_core.specs.Nodes.{Node, with_replica, with_sent}
 use Rattle.node_core.specs.Kept.{IsNode}
-use Rattle.node_core.specs.Inverses.{Inverse, OfChange, OfBroadcast, OfExtract, LeadsBack, LeadsSomewhere, GivesBack}
+use Rattle.node_core.specs.Inverses.{Inverse, OfChange, OfBroadcast, OfExtract, LeadsSomewhere, GivesBack}
 use Rattle.node_core.proofs.Changes.{limits_stay}
 
 -- two lists with one more at their ends

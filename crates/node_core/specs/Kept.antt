@@ -1,5 +1,6 @@
 -- What each node keeps, whatever steps it took and took back.
-use Rattle.std.specs.Prelude.{◌≡◌, ℕ, ◌≤◌, List, [], ◌∷◌, length}
+use Rattle.std.specs.Prelude.{◌≡◌, ℕ, ◌≤◌, List, length}
+use Rattle.std.specs.List.{AllByRecursion}
 use Rattle.dots_core.specs.Dots.{AreValid}
 use Rattle.payload_core.specs.Messages.{Message, AreSeen}
 use Rattle.replica_core.specs.Kept.{IsReplica}
@@ -12,8 +13,7 @@ pub record IsMessageOf (sender : ℕ) (m : Message) : Type 0 where
   pub live : AreSeen m.seen m.entries
 
 abbrev pub AreMessagesOf : ℕ → List Message → Type 0
-AreMessagesOf sender [] = Unit {0}
-AreMessagesOf sender (m ∷ ms) = IsMessageOf sender m × AreMessagesOf sender ms
+AreMessagesOf sender ms = AllByRecursion (IsMessageOf sender) ms
 
 pub record IsNode (n : Node) : Type 0 where
   pub replica : IsReplica n.replica

@@ -1,7 +1,9 @@
 -- A list of entries that rises by dot: what an edit of it, and a search in it, are for the map of its presences.
 use Rattle.std.proofs.Common.{◌≡◌, ◌==◌, ℕ, zero, suc, ◌+◌, ◌<◌, ◌≤◌, Bool, true, false, cond, ◌&&◌, T, List, [], ◌∷◌, length, map, filter, get_or, Option, Some, None, Result, Ok, Err, Ordering, Less, Equal, Greater, refl, sym, ap, subst, ◌∙◌, arith}
+use Rattle.std.proofs.Math.Facts.{and_yes, yes_and}
 use Rattle.std.specs.List.{slice_get, insert, remove, AllWithin}
 use Rattle.std.specs.List.{find as list_find}
+use Rattle.std.proofs.lemmas.List.{length-map}
 use Rattle.std.proofs.lemmas.Option.{slice_get_read}
 use Rattle.std.specs.List.Sorted.{IsBinarySearchResult, IsSearchInRange}
 use Rattle.std.specs.Option.{option_map}
@@ -12,26 +14,9 @@ use Rattle.std.specs.FinMap.Entries.{by_order, put, find, below_all, is_sorted, 
 use Rattle.std.proofs.lemmas.List.Sorted.{searchable_from_sorted}
 use Rattle.dots_core.specs.declared.dot.Dot.{Dot}
 use Rattle.dots_core.specs.Dots.{dot_cmp}
-use Rattle.dots_core.proofs.Order.{dot_total, dot_exact, is_dot, is_dot-true}
+use Rattle.dots_core.proofs.Order.{dot_total, dot_exact, same_of_tied, less, is_dot, is_dot-true}
 use Rattle.payload_core.specs.Presences.{Presence, Entry, Entries, presence_of, entry_of, dots_of}
 use Rattle.payload_core.specs.EntryLists.{pair_of, pairs, Rises, entries_of, one_later, spot}
-
-first : (a b : Bool) → T (a && b) → T a
-first true b p = tt
-first false b p = p
-
-second : (a b : Bool) → T (a && b) → T b
-second true b p = p
-second false b p = absurd p
-
-both : (a b : Bool) → T a → T b → T (a && b)
-both true b p q = q
-both false b p q = p
-
-less : (o : Ordering) → T (is_lt o) → o ≡ Less
-less Less p = refl
-less Equal p = absurd p
-less Greater p = absurd p
 
 -- the list's map
 
@@ -41,12 +26,8 @@ entries-entries_of es h = fin.entries-from_sorted dot_cmp (pairs es) h
 pub get-entries_of : (es : List Entry) (d : Dot) → Rises es → fin.get (entries_of es) d ≡ find dot_cmp d (pairs es)
 get-entries_of es d h = fin.get-from_sorted dot_cmp (pairs es) d h
 
-length_pairs : (es : List Entry) → length (pairs es) ≡ length es
-length_pairs [] = refl
-length_pairs (e ∷ es) = ap suc (length_pairs es)
-
 pub len-entries_of : (es : List Entry) → Rises es → fin.len (entries_of es) ≡ length es
-len-entries_of es h = fin.len-entries (entries_of es) ∙ ap length (entries-entries_of es h) ∙ length_pairs es
+len-entries_of es h = fin.len-entries (entries_of es) ∙ ap length (entries-entries_of es h) ∙ length-map es pair_of
 
 abbrev entry_of_pair : Dot × Presence → Entry
 entry_of_pair p = entry_of p.0 p.1
@@ -75,16 +56,16 @@ entry_at es i h = ap (λ ps. option_map entry_of_pair (slice_get ps i)) (entries
 below_through : (d x : Dot) (ps : List (Dot × Presence)) → dot_cmp d x ≡ Less → T (below_all dot_cmp x ps) → T (below_all dot_cmp d ps)
 below_through d x [] l h = tt
 below_through d x (p ∷ ps) l h =
-    both _ _ (subst (λ o. T (is_lt o)) (sym (dot_total.trans d x p.0 l (less _ (first _ _ h)))) tt) (below_through d x ps l (second _ _ h))
+    yes_and _ _ (subst (λ o. T (is_lt o)) (sym (dot_total.trans d x p.0 l (less _ (and_yes _ _ h).0))) tt) (below_through d x ps l (and_yes _ _ h).1)
 
 none_below : (d : Dot) (ps : List (Dot × Presence)) → T (below_all dot_cmp d ps) → find dot_cmp d ps ≡ None
 none_below d [] h = refl
-none_below d (p ∷ ps) h = ap (λ o. cond (is_eq o) (Some p.1) (find dot_cmp d ps)) (less _ (first _ _ h)) ∙ none_below d ps (second _ _ h)
+none_below d (p ∷ ps) h = ap (λ o. cond (is_eq o) (Some p.1) (find dot_cmp d ps)) (less _ (and_yes _ _ h).0) ∙ none_below d ps (and_yes _ _ h).1
 
 below_at : (d : Dot) (es : List Entry) (k : ℕ) (x : Entry) → T (below_all dot_cmp d (pairs es)) → k < length es → dot_cmp d (get_or es k x).dot ≡ Less
 below_at d [] k x h within = absurd (omega arith)
-below_at d (e ∷ es) zero x h within = less _ (first _ _ h)
-below_at d (e ∷ es) (suc k) x h within = below_at d es k x (second _ _ h) (omega arith)
+below_at d (e ∷ es) zero x h within = less _ (and_yes _ _ h).0
+below_at d (e ∷ es) (suc k) x h within = below_at d es k x (and_yes _ _ h).1 (omega arith)
 
 turned : (a b : Dot) (o : Ordering) → dot_cmp a b ≡ o → dot_cmp b a ≡ ordering_reverse o
 turned a b o e = dot_total.antisymm b a ∙ ap ordering_reverse e
@@ -105,10 +86,10 @@ module _ (d : Dot) where
   found_spot [] k h within tie = absurd (omega arith)
   found_spot (e ∷ es) zero h within tie = at_equal e es (turned e.dot d Equal (tie e))
   found_spot (e ∷ es) (suc k) h within tie =
-      let below : dot_cmp e.dot (get_or es k e).dot ≡ Less = below_at e.dot es k e (first _ _ h) (omega arith) in
+      let below : dot_cmp e.dot (get_or es k e).dot ≡ Less = below_at e.dot es k e (and_yes _ _ h).0 (omega arith) in
       let here : (get_or es k e).dot ≡ d = dot_exact _ _ (tie e) in
       at_greater e es (turned e.dot d Less (subst (λ x. dot_cmp e.dot x ≡ Less) here below))
-      ∙ ap one_later (found_spot es k (second _ _ h) (omega arith) tie)
+      ∙ ap one_later (found_spot es k (and_yes _ _ h).1 (omega arith) tie)
 
   missed_spot : (es : List Entry) (i : ℕ) → i ≤ length es → AllWithin (λ (x : Entry). dot_cmp x.dot d ≡ Less) es 0 i → AllWithin (λ (x : Entry). dot_cmp x.dot d ≡ Greater) es i (length es) → spot d es ≡ Err i
   missed_spot [] i within low high = let none : i ≡ 0 = omega arith in ap Err (sym none)
@@ -119,8 +100,8 @@ module _ (d : Dot) where
 
 rising_pairs : (es : List Entry) (k : ℕ) (x : Entry) → Rises es → suc k < length es → is_lt (dot_cmp (get_or es (suc k) x).dot (get_or es k x).dot) ≡ false
 rising_pairs [] k x h within = absurd (omega arith)
-rising_pairs (e ∷ es) zero x h within = ap is_lt (turned e.dot (get_or es 0 x).dot Less (below_at e.dot es 0 x (first _ _ h) (omega arith)))
-rising_pairs (e ∷ es) (suc k) x h within = rising_pairs es k x (second _ _ h) (omega arith)
+rising_pairs (e ∷ es) zero x h within = ap is_lt (turned e.dot (get_or es 0 x).dot Less (below_at e.dot es 0 x (and_yes _ _ h).0 (omega arith)))
+rising_pairs (e ∷ es) (suc k) x h within = rising_pairs es k x (and_yes _ _ h).1 (omega arith)
 
 -- what a binary search answers
 pub searched : (d : Dot) (es : List Entry) (r : Result ℕ ℕ) → Rises es → IsSearchInRange r (length es) → IsBinarySearchResult (λ (e : Entry). dot_cmp e.dot d) es r → r ≡ spot d es
@@ -168,13 +149,13 @@ module _ (d : Dot) where
 
   pub missing_at : (es : List Entry) (i : ℕ) → Rises es → spot d es ≡ Err i → (i ≤ length es) × (find dot_cmp d (pairs es) ≡ None)
   missing_at [] i h e = let here : 0 ≡ i = cc in (omega arith, refl)
-  missing_at (x ∷ es) i h e = go (dot_cmp d x.dot) refl (λ j. missing_at es j (second _ _ h)) e
+  missing_at (x ∷ es) i h e = go (dot_cmp d x.dot) refl (λ j. missing_at es j (and_yes _ _ h).1) e
     where
       go : (o : Ordering) → dot_cmp d x.dot ≡ o → ((j : ℕ) → spot d es ≡ Err j → (j ≤ length es) × (find dot_cmp d (pairs es) ≡ None)) → by_order o (Err 0) (Ok 0) (one_later (spot d es)) ≡ Err i → (i ≤ suc (length es)) × (cond (is_eq (dot_cmp d x.dot)) (Some (presence_of x)) (find dot_cmp d (pairs es)) ≡ None)
       go Less o again e =
           let here : 0 ≡ i = cc in (
             omega arith,
-            ap (λ t. cond (is_eq t) (Some (presence_of x)) (find dot_cmp d (pairs es))) o ∙ none_below d (pairs es) (below_through d x.dot (pairs es) o (first _ _ h)),
+            ap (λ t. cond (is_eq t) (Some (presence_of x)) (find dot_cmp d (pairs es))) o ∙ none_below d (pairs es) (below_through d x.dot (pairs es) o (and_yes _ _ h).0),
           )
       go Equal o again e = absurd (cc)
       go Greater o again e =
@@ -209,14 +190,14 @@ entries_of-insert e es i h up =
 below_remove : (d : Dot) (es : List Entry) (i : ℕ) → T (below_all dot_cmp d (pairs es)) → T (below_all dot_cmp d (pairs (remove es i)))
 below_remove d [] zero h = tt
 below_remove d [] (suc i) h = tt
-below_remove d (e ∷ es) zero h = second _ _ h
-below_remove d (e ∷ es) (suc i) h = both _ _ (first _ _ h) (below_remove d es i (second _ _ h))
+below_remove d (e ∷ es) zero h = (and_yes _ _ h).1
+below_remove d (e ∷ es) (suc i) h = yes_and _ _ (and_yes _ _ h).0 (below_remove d es i (and_yes _ _ h).1)
 
 pub Rises-remove : (es : List Entry) (i : ℕ) → Rises es → Rises (remove es i)
 Rises-remove [] zero h = tt
 Rises-remove [] (suc i) h = tt
-Rises-remove (e ∷ es) zero h = second _ _ h
-Rises-remove (e ∷ es) (suc i) h = both _ _ (below_remove e.dot es i (first _ _ h)) (Rises-remove es i (second _ _ h))
+Rises-remove (e ∷ es) zero h = (and_yes _ _ h).1
+Rises-remove (e ∷ es) (suc i) h = yes_and _ _ (below_remove e.dot es i (and_yes _ _ h).0) (Rises-remove es i (and_yes _ _ h).1)
 
 -- the entry at the head, behind one that is to go
 skips_first : (a b : Bool) (x : Presence) (r s : Option Presence) → (a ≡ true → b ≡ true → ⊥) → r ≡ cond a None s → cond b (Some x) r ≡ cond a None (cond b (Some x) s)
@@ -232,7 +213,7 @@ takes_first false x r none = refl
 module _ (d q : Dot) where
   find-remove : (es : List Entry) (i : ℕ) → Rises es → spot d es ≡ Ok i → find dot_cmp q (pairs (remove es i)) ≡ cond (is_dot q d) None (find dot_cmp q (pairs es))
   find-remove [] i h e = absurd (cc)
-  find-remove (x ∷ es) i h e = go (dot_cmp d x.dot) refl (λ j. find-remove es j (second _ _ h)) e
+  find-remove (x ∷ es) i h e = go (dot_cmp d x.dot) refl (λ j. find-remove es j (and_yes _ _ h).1) e
     where
       go : (o : Ordering) → dot_cmp d x.dot ≡ o → ((j : ℕ) → spot d es ≡ Ok j → find dot_cmp q (pairs (remove es j)) ≡ cond (is_dot q d) None (find dot_cmp q (pairs es))) →
           by_order o (Err 0) (Ok 0) (one_later (spot d es)) ≡ Ok i → find dot_cmp q (pairs (remove (x ∷ es) i)) ≡ cond (is_dot q d) None (cond (is_dot q x.dot) (Some (presence_of x)) (find dot_cmp q (pairs es)))
@@ -240,7 +221,7 @@ module _ (d q : Dot) where
       go Equal o again e =
           let here : i ≡ 0 = cc in
           let same : x.dot ≡ d = sym (dot_exact d x.dot o) in
-          let gone : is_dot q d ≡ true → find dot_cmp q (pairs es) ≡ None = λ t. none_below q (pairs es) (subst (λ k. T (below_all dot_cmp k (pairs es))) (same ∙ sym (is_dot-true q d t)) (first _ _ h)) in
+          let gone : is_dot q d ≡ true → find dot_cmp q (pairs es) ≡ None = λ t. none_below q (pairs es) (subst (λ k. T (below_all dot_cmp k (pairs es))) (same ∙ sym (is_dot-true q d t)) (and_yes _ _ h).0) in
           ap (λ k. find dot_cmp q (pairs (remove (x ∷ es) k))) here
           ∙ takes_first (is_dot q d) (presence_of x) (find dot_cmp q (pairs es)) gone
           ∙ ap (λ k. cond (is_dot q d) None (cond (is_dot q k) (Some (presence_of x)) (find dot_cmp q (pairs es)))) (sym same)
@@ -281,17 +262,14 @@ pairs_filter p (e ∷ es) =
 pub Rises-filter : (p : Dot → Bool) (es : List Entry) → Rises es → Rises (filter (λ (e : Entry). p e.dot) es)
 Rises-filter p es h = subst (λ ps. T (is_sorted dot_cmp ps)) (sym (pairs_filter p es)) (is_sorted-where_key dot_cmp p (pairs es) h)
 
-alike : (p : Dot → Bool) (q x : Dot) → dot_cmp q x ≡ Equal → p x ≡ p q
-alike p q x t = ap p (sym (dot_exact q x t))
-
 pub entries_of-filter : (p : Dot → Bool) (es : List Entry) → Rises es → entries_of (filter (λ (e : Entry). p e.dot) es) ≡ fin.retain_keys (entries_of es) p
 entries_of-filter p es h =
     fin.same_map dot_total dot_exact _ _ (λ q.
     get-entries_of (filter (λ (e : Entry). p e.dot) es) q (Rises-filter p es h)
     ∙ ap (find dot_cmp q) (pairs_filter p es)
-    ∙ find-where_key dot_cmp p q (alike p q) (pairs es)
+    ∙ find-where_key dot_cmp p q (same_of_tied p q) (pairs es)
     ∙ ap (λ o. cond (p q) o None) (sym (get-entries_of es q h))
-    ∙ sym (fin.get-retain_keys (entries_of es) p q (alike p q)))
+    ∙ sym (fin.get-retain_keys (entries_of es) p q (same_of_tied p q)))
 
 -- the dots of a name whose presence passes a test
 
@@ -309,7 +287,7 @@ dots_found name test es h = ap (λ ps. map (λ (e : Dot × Presence). e.0) (filt
 
 -- what a set of entries reads off its list
 
-slice_get_none : {A : Type 0} (xs : List A) (i : ℕ) → slice_get xs i ≡ None → length xs ≤ i
+pub slice_get_none : {A : Type 0} (xs : List A) (i : ℕ) → slice_get xs i ≡ None → length xs ≤ i
 slice_get_none [] i e = omega arith
 slice_get_none (x ∷ xs) zero e = absurd (cc)
 slice_get_none (x ∷ xs) (suc i) e = let more = slice_get_none xs i e in omega (arith, more)

@@ -4,11 +4,11 @@ use Rattle.std.specs.Option.{option_or}
 use Rattle.std.specs.FinMap as fin
 use Rattle.dots_core.specs.declared.dot.Dot.{Dot}
 use Rattle.dots_core.specs.Dots.{dot_cmp}
-use Rattle.dots_core.proofs.Order.{dot_total, dot_exact, is_dot, is_dot_same, is_dot_other}
+use Rattle.dots_core.proofs.Order.{dot_total, dot_exact, same_of_tied, is_dot, is_dot_same, is_dot_other}
 use Rattle.payload_core.specs.Presences.{Presence, Entries, entries_of_names, put_all, over}
 
 pub get-retain : (m : Entries) (p : Dot → Bool) (q : Dot) → fin.get (fin.retain_keys m p) q ≡ cond (p q) (fin.get m q) None
-get-retain m p q = fin.get-retain_keys m p q (λ x e. ap p (sym (dot_exact q x e)))
+get-retain m p q = fin.get-retain_keys m p q (same_of_tied p q)
 
 pub get-insert : (m : Entries) (k q : Dot) (v : Presence) → fin.get (fin.insert m k v) q ≡ cond (is_dot q k) (Some v) (fin.get m q)
 get-insert m k q v = fin.get-insert dot_total m k v q

@@ -1,14 +1,16 @@
 -- The dots of a name whose presence passes a test: each is live, and where there are none, none passes.
-use Rattle.std.proofs.Common.{◌≡◌, ℕ, ◌==◌, ◌&&◌, T, Bool, true, false, cond, List, [], ◌∷◌, map, filter, Some, Ordering, Less, Equal, Greater, refl, sym, ap, ◌∙◌, subst, true≢false}
+use Rattle.std.proofs.Common.{◌≡◌, ℕ, ◌==◌, ◌&&◌, T, Bool, true, false, cond, List, [], ◌∷◌, map, filter, Some, refl, sym, ap, ◌∙◌, subst}
+use Rattle.std.proofs.Math.Facts.{and_yes}
 use Rattle.std.proofs.lemmas.Bool.{eq-eqb, eqb-true, and_parts, and_from}
 use Rattle.std.specs.Cmp.Lexicographic.{bytes_decides}
-use Rattle.std.specs.Ordering.{is_lt, is_eq}
+use Rattle.std.specs.Ordering.{is_lt}
 use Rattle.std.specs.Str.{bytes_eq}
 use Rattle.std.specs.FinMap as fin
 use Rattle.std.specs.FinMap.Entries.{below_all}
+use Rattle.std.specs.List.{AllByRecursion}
 use Rattle.dots_core.specs.declared.dot.Dot.{Dot}
 use Rattle.dots_core.specs.Dots.{dot_cmp}
-use Rattle.dots_core.proofs.Order.{is_dot, is_dot-true, is_dot_same, is_dot_other}
+use Rattle.dots_core.proofs.Order.{is_dot, is_dot-true, is_dot_same, is_dot_above}
 use Rattle.payload_core.specs.Presences.{Presence, Entries, is_tracked_as, dots_of}
 
 -- a process, a topic and a key
@@ -29,34 +31,20 @@ as_tracked pid topic key p h =
 -- each entry of a map is found at its dot
 
 abbrev Found : List (Dot × Presence) → List (Dot × Presence) → Type 0
-Found es [] = Unit {0}
-Found es (f ∷ fs) = (fin.find dot_cmp f.0 es ≡ Some f.1) × Found es fs
-
-both_true : (a b : Bool) → T (a && b) → T a × T b
-both_true true true h = (tt, tt)
-both_true true false h = absurd h
-both_true false b h = absurd h
-
-lt_not_eq : (o : Ordering) → T (is_lt o) → is_eq o ≡ true → ⊥
-lt_not_eq Less h e = true≢false (sym e)
-lt_not_eq Equal h e = h
-lt_not_eq Greater h e = h
-
-below_apart : (k q : Dot) → T (is_lt (dot_cmp k q)) → is_dot q k ≡ false
-below_apart k q h = is_dot_other q k (λ e. lt_not_eq (dot_cmp k k) (subst (λ x. T (is_lt (dot_cmp k x))) e h) (is_dot_same k))
+Found es fs = AllByRecursion (λ (f : Dot × Presence). fin.find dot_cmp f.0 es ≡ Some f.1) fs
 
 found_cons : (e : Dot × Presence) (es fs : List (Dot × Presence)) → T (below_all dot_cmp e.0 fs) → Found es fs → Found (e ∷ es) fs
 found_cons e es [] below found = tt
 found_cons e es (f ∷ fs) below found =
-    let parts = both_true (is_lt (dot_cmp e.0 f.0)) (below_all dot_cmp e.0 fs) below in (
-      ap (λ b. cond b (Some e.1) (fin.find dot_cmp f.0 es)) (below_apart e.0 f.0 parts.0) ∙ found.0,
+    let parts = and_yes (is_lt (dot_cmp e.0 f.0)) (below_all dot_cmp e.0 fs) below in (
+      ap (λ b. cond b (Some e.1) (fin.find dot_cmp f.0 es)) (is_dot_above e.0 f.0 parts.0) ∙ found.0,
       found_cons e es fs parts.1 found.1,
     )
 
 found_all : (es : List (Dot × Presence)) → T (fin.is_sorted dot_cmp es) → Found es es
 found_all [] h = tt
 found_all (e ∷ es) h =
-    let parts = both_true (below_all dot_cmp e.0 es) (fin.is_sorted dot_cmp es) h in (
+    let parts = and_yes (below_all dot_cmp e.0 es) (fin.is_sorted dot_cmp es) h in (
       ap (λ b. cond b (Some e.1) (fin.find dot_cmp e.0 es)) (is_dot_same e.0),
       found_cons e es es parts.0 (found_all es parts.1),
     )
@@ -69,8 +57,7 @@ module _ (name : ℕ) (test : Presence → Bool) (m : Entries) where
 
   -- each dot has the name, and its presence passes
   abbrev pub EachPasses : List Dot → Type 0
-  EachPasses [] = Unit {0}
-  EachPasses (d ∷ ds) = ((d.name ≡ name) × ((p : Presence) × (fin.get m d ≡ Some p) × (test p ≡ true))) × EachPasses ds
+  EachPasses ds = AllByRecursion (λ (d : Dot). (d.name ≡ name) × ((p : Presence) × (fin.get m d ≡ Some p) × (test p ≡ true))) ds
 
   passing : (es : List (Dot × Presence)) → Found (fin.entries m) es → EachPasses (map (λ e. e.0) (filter passes es))
   unfolding passes

@@ -1,11 +1,13 @@
 -- A walk over a list of entries that collects those that pass a test.
-use Rattle.std.proofs.Common.{◌≡◌, ℕ, zero, suc, ◌+◌, ◌<◌, ◌≤◌, Bool, true, false, cond, List, [], ◌∷◌, ◌++◌, map, length, filter, take, slice_get, Option, Some, None, refl, sym, ap, ◌∙◌, arith, take_all}
+use Rattle.std.proofs.Common.{◌≡◌, ℕ, ◌+◌, ◌<◌, ◌≤◌, Bool, true, false, cond, List, [], ◌∷◌, ◌++◌, map, length, filter, take, slice_get, Option, Some, None, refl, sym, ap, ◌∙◌, arith, take_all}
+use Rattle.std.proofs.lemmas.List.{map-append, append-nil}
 use Rattle.std.proofs.lemmas.List.Elements.{filter_more}
 use Rattle.std.proofs.lemmas.Option.{slice_get_within, get_or_from_slice_get}
 use Rattle.std.specs.Option.{option_map}
 use Rattle.dots_core.specs.declared.dot.Dot.{Dot}
 use Rattle.payload_core.specs.EntryLists.{pair_of, pairs}
 use Rattle.payload_core.specs.Presences.{Presence, Entry, entry_of}
+use Rattle.payload_core.proofs.EntryLists.{slice_get_none}
 
 -- the entry at a place, as a read of it answers
 abbrev pub entry_at : List (Dot × Presence) → ℕ → Option Entry
@@ -18,17 +20,12 @@ found ps i e h = go (slice_get ps i) h
     go None h = absurd (cc)
     go (Some p) h = let same : e ≡ entry_of p.0 p.1 = cc in ap (λ e. Some (pair_of e)) (sym same)
 
-past : (ps : List (Dot × Presence)) (i : ℕ) → slice_get ps i ≡ None → length ps ≤ i
-past [] i h = omega arith
-past (p ∷ ps) zero h = absurd (cc)
-past (p ∷ ps) (suc i) h = let more = past ps i h in omega arith
-
 -- there is an entry at each place within the list
 pub no_gap : (ps : List (Dot × Presence)) (i : ℕ) → None ≡ entry_at ps i → i < length ps → ⊥
 no_gap ps i h within = go (slice_get ps i) refl h
   where
     go : (o : Option (Dot × Presence)) → slice_get ps i ≡ o → None ≡ option_map (λ (p : Dot × Presence). entry_of p.0 p.1) o → ⊥
-    go None is h = let end = past ps i is in omega arith
+    go None is h = let end = slice_get_none ps i is in omega arith
     go (Some p) is h = absurd (cc)
 
 module _ (test : Dot × Presence → Bool) (ps : List (Dot × Presence)) (i : ℕ) (e : Entry) (at : Some e ≡ entry_at ps i) where
@@ -41,15 +38,7 @@ module _ (test : Dot × Presence → Bool) (ps : List (Dot × Presence)) (i : �
   passed h = more ∙ ap (λ b. filter test (take i ps) ++ cond b (pair_of e ∷ []) []) h
 
   pub failed : test (pair_of e) ≡ false → filter test (take (i + 1) ps) ≡ filter test (take i ps)
-  failed h = more ∙ ap (λ b. filter test (take i ps) ++ cond b (pair_of e ∷ []) []) h ∙ end (filter test (take i ps))
-    where
-      end : (xs : List (Dot × Presence)) → xs ++ [] ≡ xs
-      end [] = refl
-      end (x ∷ xs) = ap (λ xs. x ∷ xs) (end xs)
-
-pub map-push : {X Y : Type 0} (f : X → Y) (xs : List X) (x : X) → map f (xs ++ x ∷ []) ≡ map f xs ++ f x ∷ []
-map-push f [] x = refl
-map-push f (y ∷ xs) x = ap (λ ys. f y ∷ ys) (map-push f xs x)
+  failed h = more ∙ ap (λ b. filter test (take i ps) ++ cond b (pair_of e ∷ []) []) h ∙ append-nil (filter test (take i ps))
 
 -- the walk at its end, and one place on
 module _ (test : Dot × Presence → Bool) (ps : List (Dot × Presence)) where
@@ -58,12 +47,12 @@ module _ (test : Dot × Presence → Bool) (ps : List (Dot × Presence)) where
 
   pub pair_collected : (i : ℕ) (e copy : Entry) (items after : List Entry) → Some e ≡ entry_at ps i → test (pair_of e) ≡ true → pairs items ≡ filter test (take i ps) → after ≡ items ++ copy ∷ [] → copy ≡ e → pairs after ≡ filter test (take (i + 1) ps)
   pair_collected i e copy items after at passes so_far is copied =
-      ap pairs is ∙ map-push pair_of items copy ∙ ap (λ xs. xs ++ pair_of copy ∷ []) so_far ∙ ap (λ e. filter test (take i ps) ++ pair_of e ∷ []) copied ∙ sym (passed test ps i e at passes)
+      ap pairs is ∙ map-append pair_of items (copy ∷ []) ∙ ap (λ xs. xs ++ pair_of copy ∷ []) so_far ∙ ap (λ e. filter test (take i ps) ++ pair_of e ∷ []) copied ∙ sym (passed test ps i e at passes)
 
   pub dot_collected : (i : ℕ) (e : Entry) (d : Dot) (items after : List Dot) → Some e ≡ entry_at ps i → test (pair_of e) ≡ true → items ≡ map (λ (p : Dot × Presence). p.0) (filter test (take i ps)) → after ≡ items ++ d ∷ [] → d ≡ e.dot →
       after ≡ map (λ (p : Dot × Presence). p.0) (filter test (take (i + 1) ps))
   dot_collected i e d items after at passes so_far is same =
-      is ∙ ap (λ ds. ds ++ d ∷ []) so_far ∙ ap (λ d. map (λ (p : Dot × Presence). p.0) (filter test (take i ps)) ++ d ∷ []) same ∙ sym (map-push (λ (p : Dot × Presence). p.0) (filter test (take i ps)) (pair_of e)) ∙ ap (map (λ (p : Dot × Presence). p.0)) (sym (passed test ps i e at passes))
+      is ∙ ap (λ ds. ds ++ d ∷ []) so_far ∙ ap (λ d. map (λ (p : Dot × Presence). p.0) (filter test (take i ps)) ++ d ∷ []) same ∙ sym (map-append (λ (p : Dot × Presence). p.0) (filter test (take i ps)) (pair_of e ∷ [])) ∙ ap (map (λ (p : Dot × Presence). p.0)) (sym (passed test ps i e at passes))
 
   pub dot_passed_over : (i : ℕ) (e : Entry) (items : List Dot) → Some e ≡ entry_at ps i → test (pair_of e) ≡ false → items ≡ map (λ (p : Dot × Presence). p.0) (filter test (take i ps)) → items ≡ map (λ (p : Dot × Presence). p.0) (filter test (take (i + 1) ps))
   dot_passed_over i e items at fails so_far = so_far ∙ ap (map (λ (p : Dot × Presence). p.0)) (sym (failed test ps i e at fails))

@@ -1,5 +1,6 @@
 -- A delivery, dot by dot.
 use Rattle.std.proofs.Common.{if◌then◌else◌, max, ◌≡◌, ℕ, [], ◌∷◌, ◌&&◌, ◌||◌, not, Bool, true, false, cond, Option, Some, None, is_some, refl, sym, ap, ◌∙◌, true≢false}
+use Rattle.std.proofs.Math.Bool.{or-false}
 use Rattle.std.specs.Option.{option_or}
 use Rattle.std.specs.FinSet as set
 use Rattle.std.specs.FinMap as fin
@@ -175,10 +176,6 @@ greater false true None (Some q) le lx = refl
 greater false false None (Some q) le lx = absurd (true≢false (sym lx))
 greater false false None None le lx = refl
 
-or_false : (s : Bool) → (s || false) ≡ s
-or_false true = refl
-or_false false = refl
-
 stands_after : (m : Message) (r : Replica) (d : Dot) (k : Bool) → is_other_known r d.name ≡ k →
     standing (merged m r).seen (merged m r).entries d ≡ stands (set.contains r.seen d || (k && set.contains m.seen d)) (entry_after k (set.contains r.seen d) (fin.get r.entries d) (set.contains m.seen d) (fin.get m.entries d))
 stands_after m r d k known =
@@ -189,5 +186,5 @@ stands_after m r d k known =
 pub standing_holds : StandingLaw
 standing_holds m r lr lm = record {
   known = λ d other. stands_after m r d true other ∙ greater (set.contains r.seen d) (set.contains m.seen d) (fin.get r.entries d) (fin.get m.entries d) (live_at r.seen r.entries lr d) (live_at m.seen m.entries lm d);
-  others = λ d other. stands_after m r d false other ∙ ap (λ s. stands s (fin.get r.entries d)) (or_false (set.contains r.seen d));
+  others = λ d other. stands_after m r d false other ∙ ap (λ s. stands s (fin.get r.entries d)) (or-false (set.contains r.seen d));
 }

@@ -1,15 +1,16 @@
 -- A delivery's edits, one entry after another, give the entries of the definition.
-use Rattle.std.proofs.Common.{◌≡◌, ◌+◌, ◌&&◌, ◌||◌, not, T, Bool, true, false, cond, List, [], ◌∷◌, length, Option, Some, None, is_some, Ordering, Less, Equal, Greater, refl, sym, ap, ◌∙◌, subst, arith, true≢false}
+use Rattle.std.proofs.Common.{◌≡◌, ◌+◌, ◌&&◌, ◌||◌, not, T, Bool, true, false, cond, List, [], ◌∷◌, length, Option, Some, None, is_some, refl, sym, ap, ◌∙◌, subst, arith, true≢false}
+use Rattle.std.proofs.Math.Facts.{and_yes}
 use Rattle.std.proofs.lemmas.List.Filters.{length-filter_both}
-use Rattle.std.specs.List.{list_any}
+use Rattle.std.specs.List.{AllByRecursion, list_any}
 use Rattle.std.specs.Option.{option_or}
-use Rattle.std.specs.Ordering.{is_lt, is_eq}
+use Rattle.std.specs.Ordering.{is_lt}
 use Rattle.std.specs.FinMap as fin
 use Rattle.std.specs.FinMap.Entries.{below_all, is_sorted, where_key, is_sorted-where_key, find-where_key}
 use Rattle.std.specs.FinSet as set
 use Rattle.dots_core.specs.declared.dot.Dot.{Dot}
 use Rattle.dots_core.specs.Dots.{dot_cmp}
-use Rattle.dots_core.proofs.Order.{dot_total, dot_exact, is_dot, is_dot-true, is_dot_same, is_dot_other}
+use Rattle.dots_core.proofs.Order.{dot_total, same_of_tied, is_dot, is_dot-true, is_dot_below, is_dot_above}
 use Rattle.payload_core.specs.Presences.{Presence, Entries}
 use Rattle.payload_core.specs.Messages.{Message, AreSeen}
 use Rattle.payload_core.proofs.EntryMaps.{get-retain, get-insert, get-remove, get-over, same_entries}
@@ -18,57 +19,37 @@ use Rattle.replica_core.specs.Deliveries.{is_other_known, is_new, is_gone, arriv
 use Rattle.replica_core.specs.Edits.{with_each, without_each, AreNew}
 
 -- the entries of a part of a map
-alike : (p : Dot → Bool) (q x : Dot) → dot_cmp q x ≡ Equal → p x ≡ p q
-alike p q x t = ap p (sym (dot_exact q x t))
-
 pub entries-retain : (m : Entries) (p : Dot → Bool) → fin.entries (fin.retain_keys m p) ≡ where_key dot_cmp p (fin.entries m)
 entries-retain m p =
     let sorted = is_sorted-where_key dot_cmp p (fin.entries m) (fin.entries_sorted m) in
     ap fin.entries (same_entries (fin.retain_keys m p) (fin.from_sorted (where_key dot_cmp p (fin.entries m))) (λ q.
     get-retain m p q
     ∙ ap (λ o. cond (p q) o None) (fin.get-entries m q)
-    ∙ sym (find-where_key dot_cmp p q (alike p q) (fin.entries m))
+    ∙ sym (find-where_key dot_cmp p q (same_of_tied p q) (fin.entries m))
     ∙ sym (fin.get-from_sorted dot_cmp (where_key dot_cmp p (fin.entries m)) q sorted)))
     ∙ fin.entries-from_sorted dot_cmp (where_key dot_cmp p (fin.entries m)) sorted
 
 -- keys that rise differ
 
-pub both_true : (a b : Bool) → T (a && b) → T a × T b
-both_true true true h = (tt, tt)
-both_true true false h = absurd h
-both_true false b h = absurd h
-
-pub lt_not_eq : (o : Ordering) → T (is_lt o) → is_eq o ≡ true → ⊥
-lt_not_eq Less h e = true≢false (sym e)
-lt_not_eq Equal h e = h
-lt_not_eq Greater h e = h
-
-below_apart : (k q : Dot) → T (is_lt (dot_cmp k q)) → is_dot q k ≡ false
-below_apart k q h = is_dot_other q k (λ e. lt_not_eq (dot_cmp k k) (subst (λ x. T (is_lt (dot_cmp k x))) e h) (is_dot_same k))
-
-apart_below : (k q : Dot) → T (is_lt (dot_cmp k q)) → is_dot k q ≡ false
-apart_below k q h = is_dot_other k q (λ e. lt_not_eq (dot_cmp k k) (subst (λ x. T (is_lt (dot_cmp k x))) (sym e) h) (is_dot_same k))
-
 find_below : (k : Dot) (ps : List (Dot × Presence)) → T (below_all dot_cmp k ps) → fin.find dot_cmp k ps ≡ None
 find_below k [] h = refl
-find_below k (p ∷ ps) h = let parts = both_true (is_lt (dot_cmp k p.0)) (below_all dot_cmp k ps) h in ap (λ b. cond b (Some p.1) (fin.find dot_cmp k ps)) (apart_below k p.0 parts.0) ∙ find_below k ps parts.1
+find_below k (p ∷ ps) h = let parts = and_yes (is_lt (dot_cmp k p.0)) (below_all dot_cmp k ps) h in ap (λ b. cond b (Some p.1) (fin.find dot_cmp k ps)) (is_dot_below k p.0 parts.0) ∙ find_below k ps parts.1
 
 -- none of these dots is in the map
 abbrev AreAbsent : List (Dot × Presence) → Entries → Type 0
-AreAbsent [] es = Unit {0}
-AreAbsent (p ∷ ps) es = (fin.get es p.0 ≡ None) × AreAbsent ps es
+AreAbsent ps es = AllByRecursion (λ (p : Dot × Presence). fin.get es p.0 ≡ None) ps
 
 absent-insert : (k : Dot) (v : Presence) (ps : List (Dot × Presence)) (es : Entries) → T (below_all dot_cmp k ps) → AreAbsent ps es → AreAbsent ps (fin.insert es k v)
 absent-insert k v [] es below absent = tt
 absent-insert k v (p ∷ ps) es below absent =
-    let parts = both_true (is_lt (dot_cmp k p.0)) (below_all dot_cmp k ps) below in (
-      get-insert es k p.0 v ∙ ap (λ b. cond b (Some v) (fin.get es p.0)) (below_apart k p.0 parts.0) ∙ absent.0,
+    let parts = and_yes (is_lt (dot_cmp k p.0)) (below_all dot_cmp k ps) below in (
+      get-insert es k p.0 v ∙ ap (λ b. cond b (Some v) (fin.get es p.0)) (is_dot_above k p.0 parts.0) ∙ absent.0,
       absent-insert k v ps es parts.1 absent.1,
     )
 
 new_absent : (ps : List (Dot × Presence)) (es : Entries) → T (is_sorted dot_cmp ps) → AreAbsent ps es → AreNew ps es
 new_absent [] es sorted absent = tt
-new_absent (p ∷ ps) es sorted absent = let parts = both_true (below_all dot_cmp p.0 ps) (is_sorted dot_cmp ps) sorted in (absent.0, new_absent ps (fin.insert es p.0 p.1) parts.1 (absent-insert p.0 p.1 ps es parts.0 absent.1))
+new_absent (p ∷ ps) es sorted absent = let parts = and_yes (below_all dot_cmp p.0 ps) (is_sorted dot_cmp ps) sorted in (absent.0, new_absent ps (fin.insert es p.0 p.1) parts.1 (absent-insert p.0 p.1 ps es parts.0 absent.1))
 
 absent_where : (passes : Dot → Bool) (ps : List (Dot × Presence)) (es : Entries) → ((d : Dot) → passes d ≡ true → fin.get es d ≡ None) → AreAbsent (where_key dot_cmp passes ps) es
 absent_where passes [] es none = tt
@@ -87,7 +68,7 @@ put_later false v found x h = refl
 get-with_each : (ps : List (Dot × Presence)) (es : Entries) (q : Dot) → T (is_sorted dot_cmp ps) → fin.get (with_each ps es) q ≡ option_or (fin.find dot_cmp q ps) (fin.get es q)
 get-with_each [] es q sorted = refl
 get-with_each (p ∷ ps) es q sorted =
-    let parts = both_true (below_all dot_cmp p.0 ps) (is_sorted dot_cmp ps) sorted in
+    let parts = and_yes (below_all dot_cmp p.0 ps) (is_sorted dot_cmp ps) sorted in
     get-with_each ps (fin.insert es p.0 p.1) q parts.1
     ∙ ap (option_or (fin.find dot_cmp q ps)) (get-insert es p.0 q p.1)
     ∙ put_later (is_dot q p.0) p.1 (fin.find dot_cmp q ps) (fin.get es q) (λ e. ap (λ d. fin.find dot_cmp d ps) (is_dot-true q p.0 e) ∙ find_below p.0 ps parts.0)

@@ -1,13 +1,14 @@
 -- A delivery's calls, put together.
-use Rattle.std.proofs.Common.{◌≡◌, ℕ, ◌+◌, ◌-◌, ◌≤◌, ◌==◌, ◌&&◌, not, Bool, true, false, List, [], ◌∷◌, map, length, None, refl, sym, ap, subst, ◌∙◌, arith}
+use Rattle.std.proofs.Common.{◌≡◌, ℕ, ◌+◌, ◌-◌, ◌≤◌, ◌==◌, ◌&&◌, not, Bool, true, false, List, [], ◌∷◌, length, None, refl, sym, ap, subst, ◌∙◌, arith}
 use Rattle.std.proofs.lemmas.Bool.{ltb-false}
+use Rattle.std.proofs.lemmas.List.{length-map}
 use Rattle.std.specs.FinMap as fin
 use Rattle.std.specs.FinSet as set
 use Rattle.dots_core.specs.declared.dot.Dot.{Dot}
 use Rattle.dots_core.specs.Dots.{Dots, AreValid, of_names}
 use Rattle.dots_core.specs.Names.{Names}
 use Rattle.dots_core.proofs.Sets.{contains-retain, same_dots}
-use Rattle.payload_core.specs.EntryLists.{pairs}
+use Rattle.payload_core.specs.EntryLists.{pair_of, pairs}
 use Rattle.payload_core.specs.Messages.{Message, AreSeen}
 use Rattle.payload_core.specs.Presences.{Presence, Entry, Entries}
 use Rattle.replica_core.specs.declared.replica_fault.ReplicaFault.TheVariants.{EntriesFull}
@@ -21,17 +22,9 @@ use Rattle.replica_core.specs.Changes.{Change, ByMerge, LeadsBack}
 use Rattle.replica_core.proofs.Edits.{without_departures, with_arrivals, new_arrivals, len-merged, len-remaining}
 use Rattle.replica_core.proofs.Kept.{kept_merged}
 
-length-pairs : (es : List Entry) → length (pairs es) ≡ length es
-length-pairs [] = refl
-length-pairs (e ∷ es) = let rest = length-pairs es in omega (arith, rest)
-
-length-firsts : (ps : List (Dot × Presence)) → length (map (λ (p : Dot × Presence). p.0) ps) ≡ length ps
-length-firsts [] = refl
-length-firsts (p ∷ ps) = let rest = length-firsts ps in omega (arith, rest)
-
 module _ (m : Message) (r : Replica) (joining : List Entry) (leaving : List Dot) (joining_are : pairs joining ≡ fin.entries (arrivals m r)) (leaving_are : leaving ≡ fin.keys (departures m r)) where
   len-leaving : length leaving ≡ fin.len (departures m r)
-  len-leaving = ap length leaving_are ∙ length-firsts (fin.entries (departures m r)) ∙ sym (fin.len-entries (departures m r))
+  len-leaving = ap length leaving_are ∙ length-map (fin.entries (departures m r)) (λ (p : Dot × Presence). p.0) ∙ sym (fin.len-entries (departures m r))
 
   pub leaving_fit : length leaving ≤ fin.len r.entries
   leaving_fit = let gone = len-leaving in let all = len-remaining m r in omega arith
@@ -40,7 +33,7 @@ module _ (m : Message) (r : Replica) (joining : List Entry) (leaving : List Dot)
   len_after live =
       let gone = len-leaving in
       let all = len-remaining m r in
-      let new = sym (length-pairs joining) ∙ ap length joining_are in
+      let new = sym (length-map joining pair_of) ∙ ap length joining_are in
       let after = len-merged m r live in
       omega arith
 

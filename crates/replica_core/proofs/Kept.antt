@@ -1,5 +1,6 @@
 -- Each change of a replica keeps what each replica keeps.
 use Rattle.std.proofs.Common.{◌≡◌, ◌≢◌, ◌⊎◌, inl, inr, ℕ, ◌+◌, ◌-◌, ◌<◌, ◌≤◌, ◌==◌, ◌&&◌, ◌||◌, Bool, true, false, cond, Option, Some, None, is_some, refl, sym, ap, ◌∙◌, subst, arith, true≢false}
+use Rattle.std.proofs.Math.Bool.{or-false}
 use Rattle.std.proofs.lemmas.Bool.{and_parts, eq-eqb, eqb-false, ltb-false, ne_eqb}
 use Rattle.std.specs.FinMap as fin
 use Rattle.std.specs.FinSet as set
@@ -172,10 +173,6 @@ or_cases : (a b : Bool) → (a || b) ≡ true → (a ≡ true) ⊎ (b ≡ true)
 or_cases true b h = inl refl
 or_cases false b h = inr h
 
-or_false : (a : Bool) → (a || false) ≡ a
-or_false true = refl
-or_false false = refl
-
 live_after : (k s a : Bool) (e x : Option Presence) → (is_some e ≡ true → s ≡ true) → (is_some x ≡ true → a ≡ true) → is_some (entry_after k s e a x) ≡ true → (s || (k && a)) ≡ true
 live_after k true a e x le lx h = refl
 live_after true false true e x le lx h = refl
@@ -188,7 +185,7 @@ module _ (m : Message) (r : Replica) (h : IsReplica r) (valid : AreValid m.seen)
   seen_more d e = contains-merged m r d ∙ ap (λ b. b || (is_other_known r d.name && set.contains m.seen d)) e
 
   merged_own : (d : Dot) → d.name ≡ r.own → set.contains r.seen d ≡ set.contains (merged m r).seen d
-  merged_own d e = sym (contains-merged m r d ∙ ap (λ b. set.contains r.seen d || (b && set.contains m.seen d)) (own_is_not_other r d e) ∙ or_false (set.contains r.seen d))
+  merged_own d e = sym (contains-merged m r d ∙ ap (λ b. set.contains r.seen d || (b && set.contains m.seen d)) (own_is_not_other r d e) ∙ or-false (set.contains r.seen d))
 
   merged_valid : (d : Dot) → (set.contains r.seen d ≡ true) ⊎ ((is_other_known r d.name && set.contains m.seen d) ≡ true) → IsValid d
   merged_valid d (inl e) = h.valid d e

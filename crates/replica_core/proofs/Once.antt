@@ -1,5 +1,6 @@
 -- Own entries differ in process, topic or key: what keeps them so.
 use Rattle.std.proofs.Common.{◌≡◌, ◌≢◌, ◌⊎◌, inl, inr, ℕ, ◌==◌, ◌&&◌, not, T, Bool, true, false, cond, List, [], ◌∷◌, map, filter, slice_get, Some, None, refl, sym, ap, subst, ◌∙◌, true≢false}
+use Rattle.std.proofs.Math.Facts.{and_yes}
 use Rattle.std.proofs.lemmas.Bool.{and_right, eq-eqb}
 use Rattle.std.specs.Ordering.{is_lt}
 use Rattle.std.specs.FinMap as fin
@@ -7,7 +8,7 @@ use Rattle.std.specs.FinMap.Entries.{below_all, is_sorted}
 use Rattle.std.specs.FinSet as set
 use Rattle.dots_core.specs.declared.dot.Dot.{Dot}
 use Rattle.dots_core.specs.Dots.{dot_cmp}
-use Rattle.dots_core.proofs.Order.{dot_cases, is_dot_same}
+use Rattle.dots_core.proofs.Order.{dot_cases, is_dot, is_dot_same, is_dot_below}
 use Rattle.payload_core.specs.Presences.{Presence, Entries, is_tracked_as}
 use Rattle.payload_core.specs.Messages.{Message}
 use Rattle.payload_core.proofs.EntryMaps.{get_inserted, get_insert_other, get_removed, get_remove_other}
@@ -17,7 +18,6 @@ use Rattle.replica_core.specs.Deliveries.{is_other_known, merged}
 use Rattle.replica_core.specs.Refusals.{is_some_dot, is_tracked}
 use Rattle.replica_core.specs.Kept.{IsOnce}
 use Rattle.replica_core.proofs.Deliveries.{entry_after, get-merged}
-use Rattle.replica_core.proofs.Edits.{both_true, lt_not_eq}
 
 -- an entry after an insert is the new one or was there
 pub inserted_entry : (m : Entries) (k q : Dot) (v w : Presence) → fin.get (fin.insert m k v) q ≡ Some w → ((q ≡ k) × (w ≡ v)) ⊎ ((q ≢ k) × (fin.get m q ≡ Some w))
@@ -62,7 +62,7 @@ once_joined r p once free d e a b md me at bt ep et ek = go (inserted_entry r.en
 
 below_first : (test : Dot × Presence → Bool) (k d : Dot) (ds : List Dot) (ps : List (Dot × Presence)) → T (below_all dot_cmp k ps) → map (λ (p : Dot × Presence). p.0) (filter test ps) ≡ d ∷ ds → T (is_lt (dot_cmp k d))
 below_first test k d ds [] below is = absurd (cc)
-below_first test k d ds (p ∷ ps) below is = let parts = both_true (is_lt (dot_cmp k p.0)) (below_all dot_cmp k ps) below in go (test p) is parts.0 (below_first test k d ds ps parts.1)
+below_first test k d ds (p ∷ ps) below is = let parts = and_yes (is_lt (dot_cmp k p.0)) (below_all dot_cmp k ps) below in go (test p) is parts.0 (below_first test k d ds ps parts.1)
   where
     go : (b : Bool) → map (λ (p : Dot × Presence). p.0) (cond b (p ∷ filter test ps) (filter test ps)) ≡ d ∷ ds → T (is_lt (dot_cmp k p.0)) → (map (λ (p : Dot × Presence). p.0) (filter test ps) ≡ d ∷ ds → T (is_lt (dot_cmp k d))) → T (is_lt (dot_cmp k d))
     go true is here later = let head : p.0 ≡ d = cc in subst (λ x. T (is_lt (dot_cmp k x))) head here
@@ -70,7 +70,7 @@ below_first test k d ds (p ∷ ps) below is = let parts = both_true (is_lt (dot_
 
 first_below : (test : Dot × Presence → Bool) (d e : Dot) (ds : List Dot) (ps : List (Dot × Presence)) → T (is_sorted dot_cmp ps) → map (λ (p : Dot × Presence). p.0) (filter test ps) ≡ d ∷ e ∷ ds → T (is_lt (dot_cmp d e))
 first_below test d e ds [] sorted is = absurd (cc)
-first_below test d e ds (p ∷ ps) sorted is = let parts = both_true (below_all dot_cmp p.0 ps) (is_sorted dot_cmp ps) sorted in go (test p) is parts.0 (first_below test d e ds ps parts.1)
+first_below test d e ds (p ∷ ps) sorted is = let parts = and_yes (below_all dot_cmp p.0 ps) (is_sorted dot_cmp ps) sorted in go (test p) is parts.0 (first_below test d e ds ps parts.1)
   where
     go : (b : Bool) → map (λ (p : Dot × Presence). p.0) (cond b (p ∷ filter test ps) (filter test ps)) ≡ d ∷ e ∷ ds → T (below_all dot_cmp p.0 ps) → (map (λ (p : Dot × Presence). p.0) (filter test ps) ≡ d ∷ e ∷ ds → T (is_lt (dot_cmp d e))) → T (is_lt (dot_cmp d e))
     go true is below later =
@@ -95,7 +95,7 @@ module _ (r : Replica) (once : IsOnce r) (pid : ℕ) (topic key : List ℕ) wher
   only_one (e ∷ f ∷ ds) d is such first =
       let below = first_below (λ (p : Dot × Presence). (p.0.name == r.own) && is_tracked_as pid topic key p.1) e f ds (fin.entries r.entries) (fin.entries_sorted r.entries) is in
       let same = such_are_same f e such.1.0 such.0 in
-      absurd (lt_not_eq (dot_cmp e e) (subst (λ x. T (is_lt (dot_cmp e x))) same below) (is_dot_same e))
+      absurd (true≢false (sym (is_dot_same e) ∙ ap (is_dot e) (sym same) ∙ is_dot_below e f below))
 
   pub one_tracked : (d : Dot) → slice_get (tracked_dots r pid topic key) 0 ≡ Some d → tracked_dots r pid topic key ≡ d ∷ []
   one_tracked d first = only_one (tracked_dots r pid topic key) d refl (dots_of_pass r.own (is_tracked_as pid topic key) r.entries) first

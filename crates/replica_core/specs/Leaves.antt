@@ -1,6 +1,7 @@
 -- Leaves one after another, as edits of a replica's sets.
 use Rattle.std.specs.Prelude.{◌≡◌, ℕ, ◌+◌, true, List, [], ◌∷◌}
 use Rattle.std.specs.FinSet as set
+use Rattle.std.specs.List.{AllByRecursion}
 use Rattle.dots_core.specs.declared.dot.Dot.{Dot}
 use Rattle.dots_core.specs.Dots.{Dots, dot}
 use Rattle.replica_core.specs.Replicas.{Replica}
@@ -17,5 +18,4 @@ delta_after own clock (d ∷ ds) s = delta_after own (clock + 1) ds (set.insert 
 
 -- each of these is an own dot that was seen
 abbrev pub AreOwnSeen : List Dot → Replica → Type 0
-AreOwnSeen [] r = Unit {0}
-AreOwnSeen (d ∷ ds) r = ((d.name ≡ r.own) × (set.contains r.seen d ≡ true)) × AreOwnSeen ds r
+AreOwnSeen ds r = AllByRecursion (λ (d : Dot). (d.name ≡ r.own) × (set.contains r.seen d ≡ true)) ds
