@@ -12,8 +12,7 @@ use Rattle.bench_core.specs.Chains.{Link, Chain}
 use Rattle.bench_core.proofs.Clusters.{ReadsAlike, get-set_same, get-set_other, set-get, set-set_same, mapped, message-set, step-set, Stepped, stepped}
 use Rattle.bench_core.proofs.Runs.{runs_split, run_one, HasNode, Apart, step_has}
 use Rattle.journal_core.proofs.Each.{NoneOf, none_follows}
-use Rattle.journal_core.proofs.Rising.{kepts-append}
-use Rattle.journal_core.proofs.Split.{Split, Parts, parts}
+use Rattle.journal_core.proofs.Split.{Parts, parts, found_kept, split_kepts, kepts_out}
 use Rattle.bench_core.proofs.Middle.{stands_apart, left_out}
 
 pub chain_nil : (r : Result Cluster Fault) → Chain r []
@@ -87,24 +86,16 @@ pub record Undoing (l : NodeLimits) (count n : ℕ) (hs : List Held) (h : Held) 
   pub run : runs l count (without (kepts hs) n) ≡ Ok (set c h.kept.node earlier)
   pub chain : Chain (Ok (opening_of l count)) (without_held hs n)
 
-abbrev to_split : {hs : List Held} {n : ℕ} {h : Held} → Parts hs n h → Split (kepts hs) n h.kept
-to_split {hs = hs} {n = n} {h = h} p = record {
-  rest = kepts p.rest;
-  whole = ap kepts p.whole ∙ kepts-append p.first (h ∷ p.rest) ∙ ap (λ (l : List Kept). l ++ h.kept ∷ kepts p.rest) p.before_is;
-  out = sym p.without_is ∙ ap kepts p.out ∙ kepts-append p.first p.rest ∙ ap (λ (l : List Kept). l ++ kepts p.rest) p.before_is;
-  number = p.number;
-  later = p.later;
-}
-
-taken_out : (l : NodeLimits) (count n : ℕ) (hs : List Held) (h : Held) (c : Cluster) (p : Parts hs n h) (old b : Cluster) → runs l count (before (kepts hs) n) ≡ Ok old →
+taken_out : (l : NodeLimits) (count n : ℕ) (hs : List Held) (h : Held) (c : Cluster) → RisesAbove 0 (kepts hs) → find_held hs n ≡ Some h → (p : Parts hs n h) (old b : Cluster) → runs l count (before (kepts hs) n) ≡ Ok old →
     then_runs (Ok (opening_of l count)) (kepts p.first) ≡ Ok old → step old h.kept.node h.kept.step ≡ Ok b → then_runs (Ok b) (kepts p.rest) ≡ Ok c → NoneOf (is_consequence (kepts hs) h.kept) (kepts hs) →
     Chain (Ok (opening_of l count)) p.first → Link old h → Chain (Ok b) p.rest → Undoing l count n hs h c
-taken_out l count n hs h c p old b first first_runs taken rest none chain link more =
+taken_out l count n hs h c rises found p old b first first_runs taken rest none chain link more =
+    let round = split_kepts 0 hs n h rises found p in
     let one = stepped old h.kept.node h.kept.step b taken in
     let from_is : one.from ≡ link.earlier = cc (one.at, link.at) in
     let to_is : one.to ≡ link.later = cc (one.taken, link.taken) in
     let at : Stepped old h.kept.node h.kept.step b = record { from = link.earlier; to = link.later; at = link.at; named = one.named; taken = link.taken; gives = one.gives ∙ ap (set old h.kept.node) to_is } in
-    let far : Apart h.kept.node link.later link.earlier (kepts p.rest) = stands_apart l count n (kepts hs) h.kept old b (to_split p) first at none in
+    let far : Apart h.kept.node link.later link.earlier (kepts p.rest) = stands_apart l count n (kepts hs) h.kept old b round first at none in
     let has : slice_get b h.kept.node ≡ Some link.later = ap (λ (d : Cluster). slice_get d h.kept.node) at.gives ∙ get-set_same old h.kept.node link.earlier link.later link.at in
     let same : set b h.kept.node link.earlier ≡ old = ap (λ (d : Cluster). set d h.kept.node link.earlier) at.gives ∙ set-set_same old h.kept.node link.later link.earlier ∙ set-get old h.kept.node link.earlier link.at in
     let moved = chain_set (Ok b) h.kept.node link.later link.earlier p.rest has far more in
@@ -115,19 +106,20 @@ taken_out l count n hs h c p old b first first_runs taken rest none chain link m
       later = link.later;
       at = subst (HasNode h.kept.node link.later) rest (run_has (Ok b) h.kept.node link.later link.earlier (kepts p.rest) has far);
       leads = link.leads;
-      remains = p.without_is;
-      run = left_out l count n (kepts hs) h.kept old b c (to_split p) first at rest far;
+      remains = kepts_out 0 hs n h rises found;
+      run = left_out l count n (kepts hs) h.kept old b c round first at rest far;
       chain = subst (Chain (Ok (opening_of l count))) (sym p.out) (chain_join (Ok (opening_of l count)) p.first p.rest chain (subst (λ r. Chain r p.rest) (ap Ok same ∙ sym first_runs) moved));
     }
 
 pub undoing : (l : NodeLimits) (count n : ℕ) (hs : List Held) (h : Held) (c : Cluster) → RisesAbove 0 (kepts hs) → runs l count (kepts hs) ≡ Ok c → find_held hs n ≡ Some h → first_consequence (kepts hs) n ≡ None →
     Chain (Ok (opening_of l count)) hs → Undoing l count n hs h c
 undoing l count n hs h c rises run found free chain =
-    let p = parts 0 hs n h rises found in
+    let p = parts hs n h found in
+    let found_step = found_kept hs n h found in
     let start : Result Cluster Fault = Ok (opening_of l count) in
-    let two = runs_split start (before (kepts hs) n) (h.kept ∷ kepts p.rest) c (ap (then_runs start) (sym (to_split p).whole) ∙ run) in
+    let two = runs_split start (before (kepts hs) n) (h.kept ∷ kepts p.rest) c (ap (then_runs start) (sym (split_kepts 0 hs n h rises found p).whole) ∙ run) in
     let one = run_one two.0 c h.kept (kepts p.rest) two.2 in
     let split : Chain start (p.first ++ h ∷ p.rest) = subst (Chain start) p.whole chain in
     let first_runs : then_runs start (kepts p.first) ≡ Ok two.0 = ap (then_runs start) p.before_is ∙ two.1 in
     let links : Chain (Ok two.0) (h ∷ p.rest) = subst (λ r. Chain r (h ∷ p.rest)) first_runs (chain_rest start p.first (h ∷ p.rest) split) in
-    taken_out l count n hs h c p two.0 one.0 two.1 first_runs one.1 one.2 (none_follows (kepts hs) n h.kept p.found free) (chain_first start p.first (h ∷ p.rest) split) links.0 (subst (λ r. Chain r p.rest) one.1 links.1)
+    taken_out l count n hs h c rises found p two.0 one.0 two.1 first_runs one.1 one.2 (none_follows (kepts hs) n h.kept found_step free) (chain_first start p.first (h ∷ p.rest) split) links.0 (subst (λ r. Chain r p.rest) one.1 links.1)

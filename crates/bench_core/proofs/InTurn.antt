@@ -1,6 +1,6 @@
 -- A step and what follows from it are undone in turn.
 use Rattle.std.proofs.Common.{◌≡◌, ◌≢◌, ◌⊎◌, inl, inr, ◌&&◌, is_some, is_none, Option, Bool, true, false, ℕ, ◌+◌, ◌<◌, ◌≤◌, ◌==◌, ◌||◌, nat_lt, if◌then◌else◌, List, [], ◌∷◌, ◌++◌, map, length, take, drop, get_or, Some, None, refl, sym, ap, ◌∙◌, subst, true≢false, arith, append-nil, append_assoc}
-use Rattle.std.proofs.lemmas.Bool.{eq-eqb, ne_eqb, lt-ltb, le-ltb, or_from}
+use Rattle.std.proofs.lemmas.Bool.{eq-eqb, ne_eqb, lt-ltb, le-ltb, or_from, or_right}
 use Rattle.std.proofs.lemmas.List.{take_more, drop_more, take-append-drop, map-append}
 use Rattle.bench_core.specs.declared.reply.Reply.{Reply}
 use Rattle.bench_core.specs.declared.reply.Reply.TheVariants.{Undone, Refused}
@@ -8,12 +8,12 @@ use Rattle.bench_core.specs.declared.fault.Fault.TheVariants.{NoSuchStep, Alread
 use Rattle.bench_core.specs.Limits.{node_limits}
 use Rattle.journal_core.specs.Journals.{Kept, find_number, first_consequence, without}
 use Rattle.journal_core.specs.Futures.{undo_all, without_all}
-use Rattle.journal_core.proofs.Each.{IsBelow, each_below, each_find, or_true, finds_all, find_itself}
+use Rattle.journal_core.proofs.Each.{each_find, finds_all, find_itself}
 use Rattle.journal_core.proofs.InTurn.{taken_back, future_holds}
 use Rattle.bench_core.specs.Acts.{Action, Undo}
-use Rattle.bench_core.specs.Machine.{Event, Config, State, Machine, config_of, given, unheld, undo_found, undo_reply, reply_to, remaining_after, after, call, calls, replies_of, AnswersAs, Answered, Unmade}
+use Rattle.bench_core.specs.Machine.{Event, Config, State, Machine, with_state, config_of, given, unheld, undo_found, undo_reply, reply_to, remaining_after, after, call, calls, replies_of, AnswersAs, Answered, Unmade}
 use Rattle.bench_core.specs.Headline.{IsReached}
-use Rattle.bench_core.specs.Unwinds.{undos, asked_undos, undone_event, CanBeUndone, AreUndone, FutureLaw, LeastLaw}
+use Rattle.bench_core.specs.Unwinds.{undos, asked_undos, undone_event, CanBeUndone, AreUndone, UndoneInTurnLaw, LeastLaw}
 use Rattle.bench_core.proofs.Loop.{in_order}
 use Rattle.bench_core.proofs.Reached.{IsKept, kept_reached, undo_answers}
 use Rattle.bench_core.proofs.Keeps.{calls_append, reached_after}
@@ -22,7 +22,7 @@ use Rattle.bench_core.proofs.Keeps.{calls_append, reached_after}
 
 pub is_missing : (s : State) (n : ℕ) → (n ≡ 0) ⊎ (given s.history < n) → ((n == 0) || nat_lt (given s.history) n) ≡ true
 is_missing s n (inl zero) = ap (λ b. b || nat_lt (given s.history) n) (eq-eqb n 0 zero)
-is_missing s n (inr high) = ap (λ b. (n == 0) || b) (lt-ltb (given s.history) n high) ∙ or_true (n == 0)
+is_missing s n (inr high) = or_right (n == 0) _ (lt-ltb (given s.history) n high)
 
 pub not_given : (c : Config) (s : State) (n : ℕ) → IsReached c s → ((n == 0) || nat_lt (given s.history) n) ≡ true → find_number s.remaining n ≡ None
 not_given c s n reached gone = go (find_number s.remaining n) refl
@@ -34,7 +34,7 @@ not_given c s n reached gone = go (find_number s.remaining n) refl
     within k found =
         let number = find_itself s.remaining n k found in
         let low = (each_find (λ j. (0 < j.number) × (find_number s.remaining j.number ≡ Some j)) s.remaining n k (finds_all 0 s.remaining kept.rises) found).0 in
-        let high = each_find (IsBelow (given s.history + 1)) s.remaining n k (each_below (given s.history + 1) s.remaining kept.numbered) found in
+        let high = each_find _ s.remaining n k kept.numbered found in
         or_from (n == 0) (nat_lt (given s.history) n) (ne_eqb n 0 (λ e. omega arith)) (le-ltb (given s.history) n (omega arith))
 
     go : (o : Option Kept) → find_number s.remaining n ≡ o → find_number s.remaining n ≡ None
@@ -61,7 +61,7 @@ accepted c s actor (n ∷ numbers) left reached h =
     ap (λ (r : Reply). r ∷ replies_of c (after c s actor (Undo n) r) (undos actor numbers)) reply
     ∙ ap (λ (l : List Reply). Undone n ∷ l) (accepted c next actor numbers left (reached_after c s actor (Undo n) (Undone n) reached reply) t.later)
 
-pub future_undone : FutureLaw
+pub future_undone : UndoneInTurnLaw
 future_undone c s actor n numbers reached future =
     let k = kept_reached c s reached in
     accepted c s actor numbers (without_all s.remaining numbers) reached (future_holds.taken_back s.remaining n numbers (in_order (node_limits c.limits) c.nodes s.remaining k.cluster k.rises k.is_now) future)
@@ -79,9 +79,6 @@ without_all_append ks (m ∷ numbers) n = without_all_append (without ks m) numb
 same_next : (rs : List Reply) (a b : Reply) (more others : List Reply) → rs ++ a ∷ more ≡ rs ++ b ∷ others → a ≡ b
 same_next [] a b more others e = cc
 same_next (r ∷ rs) a b more others e = same_next rs a b more others (cc)
-
-abbrev with_state : Machine → State → Machine
-with_state m s = record { names = m.names; limits = m.limits; state = s }
 
 pub none_undone : (m : Machine) (actor : ℕ) → AreUndone m actor [] m
 none_undone m actor = record { replies = refl; state = refl; history = sym (append-nil m.state.history); remaining = refl }

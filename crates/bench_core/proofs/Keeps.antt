@@ -1,5 +1,5 @@
 -- What a bench keeps is kept by each call.
-use Rattle.std.proofs.Common.{◌≡◌, ◌≢◌, ℕ, ◌+◌, ◌<◌, ◌≤◌, ◌==◌, not, nat_lt, Bool, true, false, if◌then◌else◌, List, [], ◌∷◌, ◌++◌, length, set, get_or, slice_get, Some, None, Result, Ok, Err, refl, sym, ap, ◌∙◌, subst, subst₂, arith, length-set}
+use Rattle.std.proofs.Common.{◌≡◌, ◌≢◌, ℕ, ◌+◌, ◌<◌, ◌≤◌, ◌==◌, not, nat_lt, true, false, List, [], ◌∷◌, ◌++◌, length, set, get_or, slice_get, Option, Some, None, option_map, Result, Ok, Err, refl, sym, ap, ◌∙◌, subst, subst₂, arith, length-set}
 use Rattle.std.proofs.lemmas.Bool.{le-ltb, ltb-true, ne_eqb, and_parts}
 use Rattle.std.proofs.lemmas.List.Sums.{count_by-le-length}
 use Rattle.std.proofs.lemmas.Option.{slice_get_within}
@@ -25,7 +25,7 @@ use Rattle.bench_core.specs.Chains.{Link, Chain}
 use Rattle.bench_core.specs.Machine.{Event, Config, State, Machine, config_of, opening_state, is_taken, given, free_places, knows, undo_reply, step_reply, do_reply, reply_to, now, is_recorded, after, call, calls, AnswersAs, Answered}
 use Rattle.bench_core.specs.Headline.{IsReached}
 use Rattle.bench_core.specs.Benches.{IsBackable, IsBench, IsNumbered, IsTaken}
-use Rattle.journal_core.proofs.Rising.{kepts-append}
+use Rattle.journal_core.proofs.Rising.{kepts-append, find_kepts}
 use Rattle.bench_core.proofs.Clusters.{step_takes}
 use Rattle.bench_core.proofs.Taken.{was_read}
 use Rattle.bench_core.proofs.Runs.{runs_append, numbered_runs}
@@ -250,12 +250,11 @@ refused_asked names limits h later nodes d hs mid taken count actor asked copy a
 -- undoing
 
 find_kept : (hs : List Held) (n : ℕ) (k : Kept) → find_number (kepts hs) n ≡ Some k → (h : Held) × (find_held hs n ≡ Some h) × (h.kept ≡ k)
-find_kept [] n k is = absurd (cc)
-find_kept (x ∷ hs) n k is = go (x.kept.number == n) is (find_kept hs n k)
+find_kept hs n k is = go (find_held hs n) refl (sym (find_kepts hs n) ∙ is)
   where
-    go : (b : Bool) → (if b then Some x.kept else find_number (kepts hs) n) ≡ Some k → (find_number (kepts hs) n ≡ Some k → (h : Held) × (find_held hs n ≡ Some h) × (h.kept ≡ k)) → (h : Held) × ((if b then Some x else find_held hs n) ≡ Some h) × (h.kept ≡ k)
-    go true is more = (x, refl, cc)
-    go false is more = more is
+    go : (o : Option Held) → find_held hs n ≡ o → option_map (λ (h : Held). h.kept) o ≡ Some k → (h : Held) × (find_held hs n ≡ Some h) × (h.kept ≡ k)
+    go None at is = absurd (cc)
+    go (Some h) at is = (h, at, cc)
 
 -- what the code finds where step n may be taken back: the inverse that is lent, the node, and what they become
 pub record UndoAt (c : Config) (nodes : Cluster) (hs : List Held) (n : ℕ) (k : Kept) : Type 0 where

@@ -1,6 +1,6 @@
 -- The machine keeps its journal in order, and its remaining steps run.
 use Rattle.std.proofs.Common.{◌≡◌, ◌⊎◌, inl, inr, ℕ, ◌+◌, ◌<◌, ◌≤◌, ◌==◌, ◌||◌, not, nat_lt, Bool, true, false, cond, if◌then◌else◌, List, [], ◌∷◌, ◌++◌, length, filter, Option, Some, None, Result, Ok, Err, refl, sym, ap, ◌∙◌, subst, subst₂, arith, length-append, le_of_eq}
-use Rattle.std.proofs.lemmas.Bool.{eqb-true, eqb-false, eq-eqb, lt-ltb, ne_eqb, ltb-false, le-ltb, not-true, or_from}
+use Rattle.std.proofs.lemmas.Bool.{eqb-false, eq-eqb, lt-ltb, ne_eqb, ltb-false, le-ltb, not-true, or_from}
 use Rattle.std.proofs.lemmas.List.Sums.{length-filter}
 use Rattle.std.proofs.lemmas.List.Elements.{filter-append}
 use Rattle.node_core.specs.Operations.{Operation}
@@ -18,7 +18,8 @@ use Rattle.bench_core.specs.declared.fault.Fault.TheVariants.{UnknownNode, NoSuc
 use Rattle.bench_core.specs.Machine.{Event, Config, State, opening_state, is_taken, given, free_places, unheld, undo_found, undo_reply, back_reply, step_reply, knows, do_reply, now, reply_to, with_step, remaining_after, is_recorded, after, call, calls}
 use Rattle.bench_core.specs.Headline.{IsReached, GivenLaw, BackLaw, UndoLaw}
 use Rattle.bench_core.proofs.Runs.{runs_append}
-use Rattle.journal_core.proofs.Rising.{rises_push, below_push, below_more, below_filter, rises_filter}
+use Rattle.journal_core.proofs.Each.{each_push, each_filter, each_find, finds_all, find_itself}
+use Rattle.journal_core.proofs.Rising.{rises_push, below_more, rises_filter}
 use Rattle.journal_core.proofs.Split.{Split, split}
 use Rattle.bench_core.proofs.Middle.{middle_holds}
 use Rattle.bench_core.proofs.Loop.{find_last, loop_holds}
@@ -125,7 +126,7 @@ module _ (c : Config) (s : State) (actor : ℕ) (act : Action) (old : IsKept c s
         cluster = next;
         is_now = ap (runs (node_limits c.limits) c.nodes) journal ∙ runs_append (Ok (opening_of (node_limits c.limits) c.nodes)) s.remaining (k ∷ []) ∙ ap (λ r. then_runs r (k ∷ [])) run ∙ ap (λ r. then_runs r []) taken;
         rises = subst (RisesAbove 0) (sym journal) (rises_push 0 s.remaining k (omega arith) old.numbered old.rises);
-        numbered = subst₂ (λ m ks. AreBelow (m + 1) ks) (sym count) (sym journal) (below_push (n + 1) s.remaining k (below_more n (n + 1) s.remaining (omega arith) old.numbered) (omega arith));
+        numbered = subst₂ (λ m ks. AreBelow (m + 1) ks) (sym count) (sym journal) (each_push _ s.remaining k (below_more n (n + 1) s.remaining (omega arith) old.numbered) (omega arith));
         fits = let fit = old.fits in omega (arith, longer, more, size);
       }
 
@@ -139,7 +140,7 @@ module _ (c : Config) (s : State) (actor : ℕ) (act : Action) (old : IsKept c s
         cluster = put_back x.node m.0 old.cluster;
         is_now = m.2;
         rises = rises_filter 0 _ s.remaining old.rises;
-        numbered = subst (λ m. AreBelow (m + 1) (without s.remaining k)) (sym count) (below_filter (given s.history + 1) _ s.remaining old.numbered);
+        numbered = subst (λ m. AreBelow (m + 1) (without s.remaining k)) (sym count) (each_filter _ _ s.remaining old.numbered);
         fits = let fit = old.fits in omega (arith, longer, less);
       }
 
@@ -232,22 +233,6 @@ back_holds c s actor other k operation reached took = go (reply_to c s actor (Do
 
 -- an undo of a remaining step
 
-number_within : (n m : ℕ) (ks : List Kept) (k : Kept) → AreBelow n ks → find_number ks m ≡ Some k → k.number < n
-number_within n m [] k all h = absurd (cc)
-number_within n m (j ∷ ks) k all h = go (j.number == m) h (number_within n m ks k all.1)
-  where
-    go : (b : Bool) → (if b then Some j else find_number ks m) ≡ Some k → (find_number ks m ≡ Some k → k.number < n) → k.number < n
-    go true h more = let same : j ≡ k = cc in subst (λ (j : Kept). j.number < n) same all.0
-    go false h more = more h
-
-number_above : (a m : ℕ) (ks : List Kept) (k : Kept) → RisesAbove a ks → find_number ks m ≡ Some k → a < k.number
-number_above a m [] k rises h = absurd (cc)
-number_above a m (j ∷ ks) k rises h = go (j.number == m) h (number_above j.number m ks k rises.1)
-  where
-    go : (b : Bool) → (if b then Some j else find_number ks m) ≡ Some k → (find_number ks m ≡ Some k → j.number < k.number) → a < k.number
-    go true h more = let same : j ≡ k = cc in subst (λ (j : Kept). a < j.number) same rises.0
-    go false h more = let later = more h in omega arith
-
 pub undo_holds : UndoLaw
 undo_holds c s actor x cluster reached found run = go (first_consequence s.remaining x.number) refl
   where
@@ -256,8 +241,8 @@ undo_holds c s actor x cluster reached found run = go (first_consequence s.remai
 
     reply : (o : Option ℕ) → first_consequence s.remaining x.number ≡ o → undo_reply s x.number ≡ unheld x.number o
     reply o is =
-        let high = number_within (given s.history + 1) x.number s.remaining x old.numbered found in
-        undo_gives s x.number x o (number_above 0 x.number s.remaining x old.rises found) (omega arith) found is
+        let high = each_find _ s.remaining x.number x old.numbered found in
+        undo_gives s x.number x o (each_find _ s.remaining x.number x (finds_all 0 s.remaining old.rises) found).0 (omega arith) found is
 
     go : (o : Option ℕ) → first_consequence s.remaining x.number ≡ o →
         record {
@@ -283,21 +268,13 @@ undo_holds c s actor x cluster reached found run = go (first_consequence s.remai
       as_it_was = ap (remaining_after s.remaining actor (Undo x.number)) (reply (Some j) is);
     })
 
-found_number : (ks : List Kept) (k : ℕ) (x : Kept) → find_number ks k ≡ Some x → x.number ≡ k
-found_number [] k x h = absurd (cc)
-found_number (j ∷ ks) k x h = go (j.number == k) refl h (found_number ks k x)
-  where
-    go : (b : Bool) → (j.number == k) ≡ b → (if b then Some j else find_number ks k) ≡ Some x → (find_number ks k ≡ Some x → x.number ≡ k) → x.number ≡ k
-    go true is h more = let same : j ≡ x = cc in ap (λ (j : Kept). j.number) (sym same) ∙ eqb-true j.number k is
-    go false is h more = more h
-
 -- the number of a remaining step was given
 pub number_given : (c : Config) (s : State) (k : ℕ) (x : Kept) → IsReached c s → find_number s.remaining k ≡ Some x → (0 < k) × (k ≤ given s.history)
 number_given c s k x reached found =
     let old = kept_reached c s reached in
-    let number = found_number s.remaining k x found in
-    let high = number_within (given s.history + 1) k s.remaining x old.numbered found in
-    let low = number_above 0 k s.remaining x old.rises found in
+    let number = find_itself s.remaining k x found in
+    let high = each_find _ s.remaining k x old.numbered found in
+    let low = (each_find _ s.remaining k x (finds_all 0 s.remaining old.rises) found).0 in
     (omega arith, omega arith)
 
 -- what an undo of a remaining step is answered

@@ -1,12 +1,12 @@
 -- Lists of texts, and the lists that are accepted as names.
-use Rattle.std.proofs.Common.{◌≡◌, ◌≢◌, Result, ℕ, ◌+◌, ◌<◌, ◌≤◌, Bool, true, false, List, [], ◌∷◌, ◌++◌, length, map, not, Ok, Err, position, if◌then◌else◌, String, suc, refl, sym, ap, subst, true≢false, ◌∙◌, append_assoc, append-nil, arith}
+use Rattle.std.proofs.Common.{◌≡◌, ◌≢◌, Result, ℕ, ◌+◌, ◌<◌, ◌≤◌, Bool, true, false, List, [], ◌∷◌, ◌++◌, length, map, not, Ok, Err, position, if◌then◌else◌, String, refl, sym, ap, subst, true≢false, ◌∙◌, append_assoc, append-nil, arith}
 use Rattle.std.specs.Bool.{Decides}
 use Rattle.std.specs.Cmp.Derive.Mapped.{pointwise-map}
 use Rattle.std.specs.Cmp.Lexicographic.{pointwise}
 use Rattle.std.specs.List.{list_any, prefix_len, AllZip}
 use Rattle.std.specs.Str.{bytes_eq}
 use Rattle.std.specs.String.{string_bytes, string_eq}
-use Rattle.std.proofs.lemmas.List.{map-append}
+use Rattle.std.proofs.lemmas.List.{length-map, map-append}
 use Rattle.std.proofs.lemmas.Bool.Decides.{nat_tests}
 use Rattle.std.proofs.lemmas.Slice.Eq.{slice_eq-Decides, bytes_eq-Decides}
 use Rattle.bench_core.specs.declared.names_fault.NamesFault.TheVariants.{WrongCount, BadName, Twice, OutOfMemory}
@@ -24,12 +24,8 @@ prefix_len-map : {X Y : Type 0} (p : Y → Bool) (f : X → Y) (xs : List X) →
 prefix_len-map p f [] = refl
 prefix_len-map p f (x ∷ xs) = rw (prefix_len-map p f xs) refl
 
-length-map-own : {X Y : Type 0} (f : X → Y) (xs : List X) → length (map f xs) ≡ length xs
-length-map-own f [] = refl
-length-map-own f (x ∷ xs) = ap (λ n. suc n) (length-map-own f xs)
-
 pub position-map : {X Y : Type 0} (p : Y → Bool) (f : X → Y) (xs : List X) → position p (map f xs) ≡ position (λ x. p (f x)) xs
-position-map p f xs = rw (prefix_len-map (λ y. not (p y)) f xs, length-map-own f xs) refl
+position-map p f xs = rw (prefix_len-map (λ y. not (p y)) f xs, length-map xs f) refl
 
 with_name_ok : (before all : Texts) (text : List ℕ) → with_name before text ≡ Ok all → all ≡ before ++ text ∷ []
 with_name_ok before all text e = by (is_name text) (list_any (bytes_eq text) before) e

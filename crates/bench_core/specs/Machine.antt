@@ -143,6 +143,10 @@ machine_code reply_code =
     code_by (Texts × (Limits × State)) (coded× (coded_list (coded_list coded_ℕ)) (coded× limits_code (state_code reply_code)))
     (λ m. (m.names, (m.limits, m.state))) (λ t. record { names = t.0; limits = t.1.0; state = t.1.1 }) (λ _. refl)
 
+-- the same names and limits in another state
+abbrev pub with_state : Machine → State → Machine
+with_state m s = record { names = m.names; limits = m.limits; state = s }
+
 abbrev pub config_of : Machine → Config
 config_of m = record { nodes = length m.names; limits = m.limits }
 
@@ -155,7 +159,7 @@ cluster_of m = now (config_of m) m.state
 
 -- a call is answered as the machine answers it; or memory was refused, and nothing changed
 pub data AnswersAs (old : Machine) (actor : ℕ) (act : Action) (reply : Reply) (new : Machine) : Type 0 where
-  Answered : reply ≡ reply_to (config_of old) old.state actor act → new ≡ record { names = old.names; limits = old.limits; state = after (config_of old) old.state actor act reply } → AnswersAs old actor act reply new
+  Answered : reply ≡ reply_to (config_of old) old.state actor act → new ≡ with_state old (after (config_of old) old.state actor act reply) → AnswersAs old actor act reply new
   Unmade : reply ≡ Refused OutOfMemory → new ≡ old → AnswersAs old actor act reply new
 
 -- one reply for each call, in order, each as a call is answered

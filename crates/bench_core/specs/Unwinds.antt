@@ -8,7 +8,7 @@ use Rattle.bench_core.specs.declared.unwound.Unwound.TheVariants as unwound
 use Rattle.journal_core.specs.Journals.{Kept, find_number}
 use Rattle.journal_core.specs.Futures.{Follows, IsFuture, without_all}
 use Rattle.bench_core.specs.Acts.{Action, Undo}
-use Rattle.bench_core.specs.Machine.{Event, Config, State, Machine, config_of, undo_reply, calls, replies_of}
+use Rattle.bench_core.specs.Machine.{Event, Config, State, Machine, with_state, config_of, undo_reply, calls, replies_of}
 use Rattle.bench_core.specs.Headline.{IsReached}
 
 -- step n remains, and these are its number and those of all that follows from it, greatest first
@@ -33,8 +33,8 @@ abbrev pub asked_undos : List (ℕ × ℕ) → List (ℕ × Action)
 asked_undos asked = map (λ a. (a.0, Undo a.1)) asked
 
 -- whoever asks for the undos of the future of a step, in turn, each is made
-abbrev pub FutureLaw : Type 0
-FutureLaw = (c : Config) (s : State) (actor n : ℕ) (numbers : List ℕ) → IsReached c s → IsFuture s.remaining n numbers → replies_of c s (undos actor numbers) ≡ map Undone numbers
+abbrev pub UndoneInTurnLaw : Type 0
+UndoneInTurnLaw = (c : Config) (s : State) (actor n : ℕ) (numbers : List ℕ) → IsReached c s → IsFuture s.remaining n numbers → replies_of c s (undos actor numbers) ≡ map Undone numbers
 
 -- whatever undos the machine makes, by whomever they are asked: where they take a step back, they take back all that follows from it
 abbrev pub LeastLaw : Type 0
@@ -50,7 +50,7 @@ pub record AreUndone (old : Machine) (actor : ℕ) (numbers : List ℕ) (new : M
   -- each undo was made
   pub replies : replies_of (config_of old) old.state (undos actor numbers) ≡ map Undone numbers
   -- the machine comes to this state by these calls
-  pub state : new ≡ record { names = old.names; limits = old.limits; state = calls (config_of old) old.state (undos actor numbers) }
+  pub state : new ≡ with_state old (calls (config_of old) old.state (undos actor numbers))
   -- the history has these undos more
   pub history : new.state.history ≡ old.state.history ++ map (undone_event actor) numbers
   -- these steps are gone, and the others are as they were

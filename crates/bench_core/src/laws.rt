@@ -2,7 +2,7 @@
 //!
 //! A crate above uses a law by calling its function.
 ghost use Rattle.bench_core.specs.Headline.{BackLaw, GivenLaw, UndoLaw};
-ghost use Rattle.bench_core.specs.Unwinds.{FutureLaw, LeastLaw};
+ghost use Rattle.bench_core.specs.Unwinds.{LeastLaw, UndoneInTurnLaw};
 ghost use Rattle.bench_core.specs.Laws.{ChainLaw, LoopLaw, MiddleLaw, OwnRunLaw};
 
 /// The loop: a step at the end of a journal has no direct consequence, and taking it out gives the journal before.
@@ -34,6 +34,6 @@ pub fn chain_law()
 /// Of a reached machine: the undos of the future of a step are all made, greatest number first; and whatever undos take
 /// the step back take back all of it.
 pub fn unwind_law()
-    ensures future { FutureLaw }
+    ensures future { UndoneInTurnLaw }
     ensures least { LeastLaw }
 {}

@@ -1,12 +1,8 @@
 -- What each step of a list has, and lists of which no step passes a test.
 use Rattle.std.proofs.Common.{◌≡◌, ℕ, ◌<◌, ◌==◌, ◌||◌, Bool, true, false, cond, if◌then◌else◌, List, [], ◌∷◌, ◌++◌, filter, Some, None, option_and_then, refl, sym, ap, ◌∙◌, subst, arith}
-use Rattle.std.proofs.lemmas.Bool.{eqb-true, eq-eqb, ne_eqb}
-use Rattle.std.specs.List.{list_any}
-use Rattle.journal_core.specs.Journals.{Kept, RisesAbove, AreBelow, is_consequence, find_number, first_number, first_consequence}
-
-abbrev pub Each : (Kept → Type 0) → List Kept → Type 0
-Each P [] = Unit {0}
-Each P (k ∷ ks) = P k × Each P ks
+use Rattle.std.proofs.lemmas.Bool.{eqb-true, eq-eqb, ne_eqb, or_right}
+use Rattle.std.specs.List.{AllByRecursion as Each, list_any}
+use Rattle.journal_core.specs.Journals.{Kept, RisesAbove, is_consequence, find_number, first_number, first_consequence}
 
 pub each_push : (P : Kept → Type 0) (ks : List Kept) (k : Kept) → Each P ks → P k → Each P (ks ++ k ∷ [])
 each_push P [] k all h = (h, tt)
@@ -36,6 +32,9 @@ each_where P Q test f (k ∷ ks) all = go (test k) refl (each_where P Q test f k
     go true is more = (f k all.0 is, more)
     go false is more = more
 
+pub each_filter : (P : Kept → Type 0) (test : Kept → Bool) (ks : List Kept) → Each P ks → Each P (filter test ks)
+each_filter P test ks all = each_where P P test (λ k h passes. h) ks all
+
 pub each_find : (P : Kept → Type 0) (ks : List Kept) (n : ℕ) (k : Kept) → Each P ks → find_number ks n ≡ Some k → P k
 each_find P [] n k all h = absurd (cc)
 each_find P (j ∷ ks) n k all h = go (j.number == n) h (each_find P ks n k all.1)
@@ -45,10 +44,6 @@ each_find P (j ∷ ks) n k all h = go (j.number == n) h (each_find P ks n k all.
     go false h more = more h
 
 -- one that passes a test
-
-pub or_true : (a : Bool) → (a || true) ≡ true
-or_true true = refl
-or_true false = refl
 
 pub any_of : (P : Kept → Type 0) (test : Kept → Bool) (ks : List Kept) → Each P ks → list_any test ks ≡ true → (k : Kept) × P k × (test k ≡ true)
 any_of P test [] all h = absurd (cc)
@@ -60,7 +55,7 @@ any_of P test (k ∷ ks) all h = go (test k) refl h (any_of P test ks all.1)
 
 pub any_at : (test : Kept → Bool) (first rest : List Kept) (k : Kept) → test k ≡ true → list_any test (first ++ k ∷ rest) ≡ true
 any_at test [] rest k h = ap (λ b. b || list_any test rest) h
-any_at test (j ∷ first) rest k h = ap (λ b. test j || b) (any_at test first rest k h) ∙ or_true (test j)
+any_at test (j ∷ first) rest k h = or_right (test j) _ (any_at test first rest k h)
 
 -- none that passes a test
 
@@ -83,13 +78,6 @@ pub none_follows : (ks : List Kept) (n : ℕ) (k : Kept) → find_number ks n �
 none_follows ks n k found free = none_first _ ks (ap (option_and_then (λ j. first_number (is_consequence ks j) ks)) (sym found) ∙ free)
 
 -- steps by their numbers
-
-abbrev pub IsBelow : ℕ → Kept → Type 0
-IsBelow n k = k.number < n
-
-pub each_below : (n : ℕ) (ks : List Kept) → AreBelow n ks → Each (IsBelow n) ks
-each_below n [] all = tt
-each_below n (k ∷ ks) all = (all.0, each_below n ks all.1)
 
 pub finds_all : (a : ℕ) (ks : List Kept) → RisesAbove a ks → Each (λ j. (a < j.number) × (find_number ks j.number ≡ Some j)) ks
 finds_all a [] rises = tt

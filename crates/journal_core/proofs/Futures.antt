@@ -1,11 +1,11 @@
 -- What is gathered from a step on is its future, and the only one.
 use Rattle.std.proofs.Common.{◌≡◌, ◌⊎◌, inl, inr, ℕ, ◌+◌, ◌<◌, ◌≤◌, ◌==◌, ◌||◌, Bool, true, false, if◌then◌else◌, List, [], ◌∷◌, ◌++◌, map, Some, refl, sym, ap, ◌∙◌, subst, true≢false, arith, append-nil, append_assoc}
-use Rattle.std.proofs.lemmas.Bool.{eqb-true, eq-eqb, ne_eqb, or_cases}
-use Rattle.std.specs.List.{list_any}
+use Rattle.std.proofs.lemmas.Bool.{eqb-true, eq-eqb, ne_eqb, or_cases, or_right}
+use Rattle.std.specs.List.{AllByRecursion as Each, list_any}
 use Rattle.journal_core.specs.Journals.{Kept, RisesAbove, AreInOrder, is_consequence, find_number}
 use Rattle.journal_core.specs.Gathering.{gathered, gathered_numbers}
 use Rattle.journal_core.specs.Futures.{Follows, Itself, Next, FallsBelow, Falls, IsFuture}
-use Rattle.journal_core.proofs.Each.{Each, each_push, each_front, each_rest, each_imp, each_find, or_true, any_of, NoneOf, finds_all, find_itself}
+use Rattle.journal_core.proofs.Each.{each_push, each_front, each_rest, each_imp, each_both, each_find, any_of, NoneOf, finds_all, find_itself}
 use Rattle.journal_core.proofs.Senders.{none_up_to}
 
 abbrev pub numbers : List Kept → List ℕ
@@ -22,11 +22,8 @@ abbrev pub Closed : List Kept → ℕ → List Kept → List Kept → Type 0
 Closed ks n found seen = Each (λ j. follows_found ks n found j ≡ true → is_in j.number found ≡ true) seen
 
 closed_more : (ks : List Kept) (n : ℕ) (found : List Kept) (k : Kept) (seen : List Kept) → NoneOf (is_consequence ks k) seen → Closed ks n found seen → Closed ks n (k ∷ found) seen
-closed_more ks n found k [] none closed = tt
-closed_more ks n found k (j ∷ seen) none closed = (
-  (λ h. ap (λ b. (k.number == j.number) || b) (closed.0 (sym (ap (λ b. (j.number == n) || (b || list_any (λ k. is_consequence ks k j) found)) none.0) ∙ h)) ∙ or_true (k.number == j.number)),
-  closed_more ks n found k seen none.1 closed.1,
-)
+closed_more ks n found k seen none closed =
+    each_imp _ _ (λ j h test. or_right (k.number == j.number) _ (h.1 (sym (ap (λ b. (j.number == n) || (b || list_any (λ k. is_consequence ks k j) found)) h.0) ∙ test))) seen (each_both _ _ seen none closed)
 
 closed_all : (n : ℕ) (ks : List Kept) → AreInOrder ks → (found seen rest : List Kept) → ks ≡ seen ++ rest → Closed ks n found seen → Closed ks n (gathered ks n found rest) (seen ++ rest)
 closed_all n ks order found seen [] is closed = subst (Closed ks n found) (sym (append-nil seen)) closed
@@ -82,7 +79,7 @@ falls m (n ∷ ns) h = h.1
 
 -- a step is gathered exactly where it follows
 
-any_numbers : (j : ℕ) (ks : List Kept) → list_any (λ m. m == j) (numbers ks) ≡ is_in j ks
+pub any_numbers : (j : ℕ) (ks : List Kept) → list_any (λ m. m == j) (numbers ks) ≡ is_in j ks
 any_numbers j [] = refl
 any_numbers j (k ∷ ks) = ap (λ b. (k.number == j) || b) (any_numbers j ks)
 
@@ -94,7 +91,7 @@ any_in ks (x ∷ found) m k test all fk h passes = go (x.number == m) refl h (λ
     go true is h more =
         let same : k ≡ x = let one : Some k ≡ Some x = sym fk ∙ ap (find_number ks) (sym (eqb-true x.number m is)) ∙ all.0 in cc in
         ap (λ b. b || list_any test found) (subst (λ (k : Kept). test k ≡ true) same passes)
-    go false is h more = ap (λ b. test x || b) (more h) ∙ or_true (test x)
+    go false is h more = or_right (test x) _ (more h)
 
 module _ (n : ℕ) (ks : List Kept) (order : AreInOrder ks) where
   abbrev all : List Kept
@@ -120,7 +117,7 @@ module _ (n : ℕ) (ks : List Kept) (order : AreInOrder ks) where
       (each_find _ ks n k closed fk (ap (λ b. b || list_any (λ x. is_consequence ks x k) all) (eq-eqb k.number n e)))
   follows_in _ (Next k j earlier fk fj follows) =
       each_find (λ j. follows_found ks n all j ≡ true → is_in j.number all ≡ true) ks j.number j closed fj
-      (ap (λ b. (j.number == n) || b) (any_in ks all k.number k (λ x. is_consequence ks x j) found_there fk (follows_in k.number earlier) follows) ∙ or_true (j.number == n))
+      (or_right (j.number == n) _ (any_in ks all k.number k (λ x. is_consequence ks x j) found_there fk (follows_in k.number earlier) follows))
 
   in_follows : (j : ℕ) → is_in j all ≡ true → Follows ks n j
   unfolding IsFound
@@ -154,7 +151,7 @@ same_rest : (x y : ℕ) (xs ys : List ℕ) → x ≡ y → FallsBelow x xs → (
 same_rest x y xs ys same falls all j h =
     let low = has_below x xs j falls h in
     let other : (y == j) ≡ false = ne_eqb y j (λ e. omega arith) in
-    sym (ap (λ b. b || has j ys) other) ∙ all j (ap (λ b. (x == j) || b) h ∙ or_true (x == j))
+    sym (ap (λ b. b || has j ys) other) ∙ all j (or_right (x == j) _ h)
 
 same_falls : (xs ys : List ℕ) → Falls xs → Falls ys → ((j : ℕ) → has j xs ≡ true → has j ys ≡ true) → ((j : ℕ) → has j ys ≡ true → has j xs ≡ true) → xs ≡ ys
 same_falls [] [] a b to from = refl

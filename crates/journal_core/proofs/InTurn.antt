@@ -1,16 +1,16 @@
 -- The future of a step can be taken back in turn, and no undos take the step back without it.
 use Rattle.std.proofs.Common.{◌≡◌, ◌≢◌, ◌⊎◌, inl, inr, ℕ, ◌+◌, ◌<◌, ◌≤◌, ◌==◌, ◌&&◌, ◌||◌, not, nat_lt, Bool, true, false, cond, if◌then◌else◌, List, [], ◌∷◌, ◌++◌, Option, Some, None, is_some, is_none, option_and_then, refl, sym, ap, ◌∙◌, subst, true≢false, arith, append_assoc}
-use Rattle.std.proofs.lemmas.Bool.{cases_eq, eqb-true, eqb-false, ne_eqb, or_parts, not-true, false_from_ne_true}
-use Rattle.std.specs.List.{list_any}
-use Rattle.journal_core.specs.Journals.{Kept, RisesAbove, AreInOrder, source_of, is_number, delivers_from, is_consequence, find_number, first_number, first_consequence, without}
+use Rattle.std.proofs.lemmas.Bool.{cases_eq, eqb-true, eqb-false, ne_eqb, or_parts, or_right, not-true, false_from_ne_true}
+use Rattle.std.specs.List.{AllByRecursion as Each, list_any}
+use Rattle.journal_core.specs.Journals.{Kept, RisesAbove, AreBelow, AreInOrder, source_of, is_number, delivers_from, is_consequence, find_number, first_number, first_consequence, without}
 use Rattle.journal_core.specs.Gathering.{gathered, gathered_numbers}
 use Rattle.journal_core.specs.Futures.{Follows, Itself, Next, FallsBelow, undo_all, without_all}
 use Rattle.journal_core.specs.Laws.{FutureLaw}
-use Rattle.journal_core.proofs.Each.{Each, IsBelow, each_imp, each_both, each_where, each_find, or_true, any_at, NoneOf, first_none, none_follows}
+use Rattle.journal_core.proofs.Each.{each_imp, each_both, each_where, each_find, any_at, NoneOf, first_none, none_follows}
 use Rattle.journal_core.proofs.Rising.{rises_filter}
 use Rattle.journal_core.proofs.Split.{Split, split}
 use Rattle.journal_core.proofs.Senders.{later_only, source_kept, order_without}
-use Rattle.journal_core.proofs.Futures.{numbers, is_in, follows_found, closed, finds, found_there, falls_below, is_future, one_future}
+use Rattle.journal_core.proofs.Futures.{numbers, is_in, follows_found, closed, finds, found_there, falls_below, is_future, one_future, has_below, any_numbers}
 
 -- finding in a journal without a step
 
@@ -36,17 +36,12 @@ find_out (k ∷ ks) m = go (k.number == m) refl (find_out ks m)
 abbrev Stays : List Kept → List Kept → List Kept → List Kept → Kept → Type 0
 Stays ks cur all left x = (source_of cur x.step ≡ source_of ks x.step) × ((is_in x.number all ≡ true → is_in x.number left ≡ true) × (find_number ks x.number ≡ Some x))
 
-falls_each : (a b : ℕ) (ks : List Kept) → a ≤ b → FallsBelow a (numbers ks) → Each (IsBelow b) ks
+falls_each : (a b : ℕ) (ks : List Kept) → a ≤ b → FallsBelow a (numbers ks) → AreBelow b ks
 falls_each a b [] h falls = tt
 falls_each a b (k ∷ ks) h falls = (let low = falls.0 in omega arith, falls_each k.number b ks (let low = falls.0 in omega arith) falls.1)
 
 in_below : (m : ℕ) (ks : List Kept) (j : ℕ) → FallsBelow m (numbers ks) → is_in j ks ≡ true → j < m
-in_below m [] j falls h = absurd (cc)
-in_below m (k ∷ ks) j falls h = go (k.number == j) refl h (in_below k.number ks j falls.1)
-  where
-    go : (b : Bool) → (k.number == j) ≡ b → (b || is_in j ks) ≡ true → (is_in j ks ≡ true → j < k.number) → j < m
-    go true is h more = let at = eqb-true k.number j is in let first = falls.0 in omega arith
-    go false is h more = let at = more h in let first = falls.0 in omega arith
+in_below m ks j falls h = has_below m (numbers ks) j falls (any_numbers j ks ∙ h)
 
 module _ (n : ℕ) (ks : List Kept) (order : AreInOrder ks) where
   abbrev all : List Kept
@@ -59,7 +54,7 @@ module _ (n : ℕ) (ks : List Kept) (order : AreInOrder ks) where
       gathered_too : (x : Kept) → find_number ks x.number ≡ Some x → is_consequence ks g x ≡ true → is_in x.number all ≡ true
       gathered_too x fx h =
           each_find (λ j. follows_found ks n all j ≡ true → is_in j.number all ≡ true) ks x.number x (closed n ks order) fx
-          (ap (λ b. (x.number == n) || b) (ap (list_any (λ k. is_consequence ks k x)) is ∙ any_at (λ k. is_consequence ks k x) pre left g h) ∙ or_true (x.number == n))
+          (or_right (x.number == n) _ (ap (list_any (λ k. is_consequence ks k x)) is ∙ any_at (λ k. is_consequence ks k x) pre left g h))
 
       one : (x : Kept) → Stays ks cur all (g ∷ left) x → is_consequence cur g x ≡ false
       one x s = ap (λ o. ((g.node == x.node) && nat_lt g.number x.number) || is_number o g.number) s.0 ∙ false_from_ne_true (is_consequence ks g x) (λ h.
@@ -77,7 +72,7 @@ module _ (n : ℕ) (ks : List Kept) (order : AreInOrder ks) where
       ap (λ o. if is_some o && is_none (first_consequence cur g.number) then undo_all (without cur g.number) (numbers left) else None) there.0
       ∙ ap (λ o. if is_none o then undo_all (without cur g.number) (numbers left) else None) first
       ∙ accepted (without cur g.number) (pre ++ g ∷ []) left g.number (order_without cur g.number g there.0 none up) (is ∙ sym (append_assoc pre (g ∷ []) left)) falls.1
-      (each_imp _ _ (λ x h. find-without cur g.number x.number (λ e. let low = h.1 in omega arith) ∙ h.0) left (each_both _ (IsBelow g.number) left there.1 (falls_each g.number g.number left (omega arith) falls.1)))
+      (each_imp _ _ (λ x h. find-without cur g.number x.number (λ e. let low = h.1 in omega arith) ∙ h.0) left (each_both _ _ left there.1 (falls_each g.number g.number left (omega arith) falls.1)))
       (each_where _ (Stays ks (without cur g.number) all left) (λ k. not (k.number == g.number)) (λ x h out. stay x h out at none) cur (each_both _ (λ x. is_consequence cur g x ≡ false) cur stays none))
     where
       stay : (x : Kept) → Stays ks cur all (g ∷ left) x × (is_consequence cur g x ≡ false) → not (x.number == g.number) ≡ true → Split cur g.number g → NoneOf (is_consequence cur g) cur → Stays ks (without cur g.number) all left x

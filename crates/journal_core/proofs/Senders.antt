@@ -1,5 +1,5 @@
 -- What sent the message of a delivery stands before it, whatever is kept and taken out.
-use Rattle.std.proofs.Common.{◌≡◌, ◌≢◌, ◌⊎◌, inl, inr, ℕ, zero, suc, ◌+◌, ◌<◌, ◌≤◌, ◌==◌, ◌&&◌, not, nat_lt, Bool, true, false, cond, List, [], ◌∷◌, ◌++◌, length, filter, slice_get, Option, Some, None, option_map, refl, sym, ap, ◌∙◌, subst, true≢false, arith, append-nil, append_assoc, le_of_eq}
+use Rattle.std.proofs.Common.{◌≡◌, ◌≢◌, ◌⊎◌, inl, inr, ℕ, zero, suc, ◌+◌, ◌<◌, ◌≤◌, ◌==◌, ◌&&◌, nat_lt, Bool, true, false, cond, List, [], ◌∷◌, ◌++◌, length, slice_get, Option, Some, None, option_map, refl, sym, ap, ◌∙◌, subst, true≢false, arith, append-nil, append_assoc, le_of_eq}
 use Rattle.std.proofs.lemmas.Bool.{cases_eq, cases_lt, eqb-true, ne_eqb, eq-eqb, or_parts, or_from, and_parts, and_right, lt-ltb, le-ltb}
 use Rattle.std.proofs.lemmas.List.Elements.{filter-append}
 use Rattle.payload_core.specs.Messages.{numbered}
@@ -7,10 +7,10 @@ use Rattle.node_core.specs.Operations.{Operation, delivers, sends}
 use Rattle.node_core.specs.Inverses.{Inverse}
 use Rattle.journal_core.specs.Journals.{Kept, RisesAbove, AreBelow, sent_by, sender_of, source_at, source_of, IsSentBefore, AreSentBefore, AreInOrder, is_number, delivers_from, is_consequence, find_number, first_consequence, without, before}
 use Rattle.journal_core.specs.Holdings.{Held, HasSender, IsLent, kepts, with_inverse, without_held}
-use Rattle.journal_core.proofs.Each.{Each, each_find, each_rest, NoneOf, none_follows}
+use Rattle.journal_core.proofs.Each.{each_push, each_front, each_rest, each_imp, each_both, each_where, each_filter, each_find, NoneOf, none_follows}
 use Rattle.journal_core.proofs.Numbered.{get-append_at, numbered_append, numbered_push_other}
-use Rattle.journal_core.proofs.Rising.{kepts-append, kepts_with, rises_push, below_push, below_more, below_filter, rises_filter, below_part}
-use Rattle.journal_core.proofs.Split.{Split, split, parts}
+use Rattle.journal_core.proofs.Rising.{kepts-append, kepts_with, rises_push, below_more, rises_filter, below_part}
+use Rattle.journal_core.proofs.Split.{Split, split, found_kept, kepts_out}
 
 below_at : (n : ℕ) (ks : List Kept) (i : ℕ) (k : Kept) → AreBelow n ks → slice_get ks i ≡ Some k → k.number < n
 below_at n [] i k all h = absurd (cc)
@@ -28,7 +28,7 @@ source_below n ks (Some (sender, q)) p low is = go (numbered (sent_by ks sender)
   where
     go : (o : Option Kept) → numbered (sent_by ks sender) q ≡ o → option_map (λ (k : Kept). k.number) o ≡ Some p → p < n
     go None at h = absurd (cc)
-    go (Some k) at h = let number : k.number ≡ p = cc in subst (λ m. m < n) number (below_numbered n (sent_by ks sender) q k (below_filter n _ ks low) at)
+    go (Some k) at h = let number : k.number ≡ p = cc in subst (λ m. m < n) number (below_numbered n (sent_by ks sender) q k (each_filter _ _ ks low) at)
 
 -- what was sent stays sent when more is kept
 source_stays : (ks js : List Kept) (o : Option (ℕ × ℕ)) (p : ℕ) → source_at ks o ≡ Some p → source_at (ks ++ js) o ≡ Some p
@@ -51,18 +51,6 @@ pub sent_at_end : (ks js : List Kept) (n : ℕ) (o : Option (ℕ × ℕ)) → Ar
 sent_at_end ks js n None low h = tt
 sent_at_end ks js n (Some m) low h = sent_before_stays ks js n (Some m) (h.0, h.1, source_below n ks (Some m) h.0 low h.1)
 
-each_sent : (ks xs : List Kept) → AreSentBefore ks xs → Each (λ j. IsSentBefore ks j.number (delivers j.step)) xs
-each_sent ks [] h = tt
-each_sent ks (x ∷ xs) h = (h.0, each_sent ks xs h.1)
-
-sent_stay : (ks js xs : List Kept) → AreSentBefore ks xs → AreSentBefore (ks ++ js) xs
-sent_stay ks js [] h = tt
-sent_stay ks js (x ∷ xs) h = (sent_before_stays ks js x.number (delivers x.step) h.0, sent_stay ks js xs h.1)
-
-sent_push : (ks xs : List Kept) (k : Kept) → AreSentBefore ks xs → IsSentBefore ks k.number (delivers k.step) → AreSentBefore ks (xs ++ k ∷ [])
-sent_push ks [] k h last = (last, tt)
-sent_push ks (x ∷ xs) k h last = (h.0, sent_push ks xs k h.1 last)
-
 -- only a later step is a consequence
 
 not_from : (ks : List Kept) (n m : ℕ) (o : Option (ℕ × ℕ)) → IsSentBefore ks n o → n ≤ m → is_number (source_at ks o) m ≡ false
@@ -77,21 +65,16 @@ later_only ks k j order found follows = go (cases_lt k.number j.number)
   where
     go : (k.number < j.number) ⊎ (j.number ≤ k.number) → k.number < j.number
     go (inl low) = low
-    go (inr le) = absurd (true≢false (sym follows ∙ no_consequence ks k j le (each_find _ ks j.number j (each_sent ks ks order.1) found)))
+    go (inr le) = absurd (true≢false (sym follows ∙ no_consequence ks k j le (each_find _ ks j.number j order.1 found)))
 
 none_of : (ks xs : List Kept) (k : Kept) → AreBelow (k.number + 1) xs → AreSentBefore ks xs → NoneOf (is_consequence ks k) xs
-none_of ks [] k low sent = tt
-none_of ks (x ∷ xs) k low sent = (no_consequence ks k x (let h = low.0 in omega arith) sent.0, none_of ks xs k low.1 sent.1)
-
-sent_front : (ks xs ys : List Kept) → AreSentBefore ks (xs ++ ys) → AreSentBefore ks xs
-sent_front ks [] ys h = tt
-sent_front ks (x ∷ xs) ys h = (h.0, sent_front ks xs ys h.1)
+none_of ks xs k low sent = each_imp _ _ (λ x h. no_consequence ks k x (let low = h.0 in omega arith) h.1) xs (each_both _ _ xs low sent)
 
 -- up to a step, nothing follows from it
 pub none_up_to : (ks first rest : List Kept) (k : Kept) → AreInOrder ks → ks ≡ first ++ k ∷ rest → NoneOf (is_consequence ks k) (first ++ k ∷ [])
 none_up_to ks first rest k order is =
-    none_of ks (first ++ k ∷ []) k (below_push (k.number + 1) first k (below_more k.number (k.number + 1) first (omega arith) (below_part 0 first rest k (subst (RisesAbove 0) is order.0)).1) (omega arith))
-    (sent_front ks (first ++ k ∷ []) rest (subst (AreSentBefore ks) (is ∙ sym (append_assoc first (k ∷ []) rest)) order.1))
+    none_of ks (first ++ k ∷ []) k (each_push _ first k (below_more k.number (k.number + 1) first (omega arith) (below_part 0 first rest k (subst (RisesAbove 0) is order.0)).1) (omega arith))
+    (each_front _ (first ++ k ∷ []) rest (subst (AreSentBefore ks) (is ∙ sym (append_assoc first (k ∷ []) rest)) order.1))
 
 -- a step without consequences is the last of its node, and takes with it no message that is delivered
 
@@ -147,11 +130,11 @@ source_kept ks n k s at none other = source_kept_at ks n k (delivers s) at none 
 pub order_more : (ks : List Kept) (k : Kept) → 0 < k.number → AreBelow k.number ks → HasSender ks (delivers k.step) → AreInOrder ks → AreInOrder (ks ++ k ∷ [])
 order_more ks k low below sender order = (
   rises_push 0 ks k low below order.0,
-  sent_push (ks ++ k ∷ []) ks k (sent_stay ks (k ∷ []) ks order.1) (sent_at_end ks (k ∷ []) k.number (delivers k.step) below sender),
+  each_push _ ks k (each_imp _ _ (λ x. sent_before_stays ks (k ∷ []) x.number (delivers x.step)) ks order.1) (sent_at_end ks (k ∷ []) k.number (delivers k.step) below sender),
 )
 
 pub order_without : (ks : List Kept) (n : ℕ) (k : Kept) → find_number ks n ≡ Some k → NoneOf (is_consequence ks k) ks → AreInOrder ks → AreInOrder (without ks n)
-order_without ks n k found none order = (rises_filter 0 _ ks order.0, sent ks none order.1)
+order_without ks n k found none order = (rises_filter 0 _ ks order.0, each_where _ _ _ (λ x h remains. sent x h.0 h.1) ks (each_both _ _ ks none order.1))
   where
     at : Split ks n k
     at = split 0 ks n k order.0 found
@@ -160,13 +143,8 @@ order_without ks n k found none order = (rises_filter 0 _ ks order.0, sent ks no
     stays m None other h = tt
     stays m (Some x) other h = (h.0, source_kept_at ks n k (Some x) at none (subst (λ p. is_number (source_at ks (Some x)) p ≡ false) at.number other) ∙ h.1, h.2)
 
-    sent : (xs : List Kept) → NoneOf (is_consequence ks k) xs → AreSentBefore ks xs → AreSentBefore (without ks n) (filter (λ x. not (x.number == n)) xs)
-    sent [] free h = tt
-    sent (x ∷ xs) free h = go (not (x.number == n)) (sent xs free.1 h.1)
-      where
-        go : (b : Bool) → AreSentBefore (without ks n) (filter (λ x. not (x.number == n)) xs) → AreSentBefore (without ks n) (cond b (x ∷ filter (λ x. not (x.number == n)) xs) (filter (λ x. not (x.number == n)) xs))
-        go true more = (stays x.number (delivers x.step) (or_parts ((k.node == x.node) && nat_lt k.number x.number) (delivers_from ks x k) free.0).1 h.0, more)
-        go false more = more
+    sent : (x : Kept) → is_consequence ks k x ≡ false → IsSentBefore ks x.number (delivers x.step) → IsSentBefore (without ks n) x.number (delivers x.step)
+    sent x free h = stays x.number (delivers x.step) (or_parts ((k.node == x.node) && nat_lt k.number x.number) (delivers_from ks x k) free).1 h
 
 pub order_kept : (hs : List Held) (h : Held) → 0 < h.kept.number → AreBelow h.kept.number (kepts hs) → HasSender (kepts hs) (delivers h.kept.step) → AreInOrder (kepts hs) → AreInOrder (kepts (hs ++ h ∷ []))
 order_kept hs h low below sender order = subst AreInOrder (sym (kepts-append hs (h ∷ []))) (order_more (kepts hs) h.kept low below sender order)
@@ -176,5 +154,6 @@ order_lent hs n o order = subst AreInOrder (sym (kepts_with hs n o)) order
 
 pub order_out : (hs : List Held) (n : ℕ) → IsLent hs n → first_consequence (kepts hs) n ≡ None → AreInOrder (kepts hs) → AreInOrder (kepts (without_held hs n))
 order_out hs n lent free order =
-    let p = parts 0 hs n (record { kept = lent.0; inverse = None }) order.0 lent.1 in
-    subst AreInOrder (sym p.without_is) (order_without (kepts hs) n lent.0 p.found (none_follows (kepts hs) n lent.0 p.found free) order)
+    let h : Held = record { kept = lent.0; inverse = None } in
+    let found = found_kept hs n h lent.1 in
+    subst AreInOrder (sym (kepts_out 0 hs n h order.0 lent.1)) (order_without (kepts hs) n lent.0 found (none_follows (kepts hs) n lent.0 found free) order)

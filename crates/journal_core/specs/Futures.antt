@@ -22,7 +22,7 @@ Falls (n ∷ ns) = FallsBelow n ns
 pub record IsFuture (ks : List Kept) (n : ℕ) (numbers : List ℕ) : Type 0 where
   -- a number is in the list exactly where its step follows
   pub follows : (j : ℕ) → (list_any (λ m. m == j) numbers ≡ true) ↔ Follows ks n j
-  -- and none is in it twice
+  -- greatest first, and none twice
   pub falls : Falls numbers
 
 -- the journal after these steps were taken back in turn, if each was without consequences when it was

@@ -1,6 +1,7 @@
 -- The remaining steps with their inverses beside them, as a journal holds them and lends them.
 use Rattle.std.specs.Prelude.{◌≡◌, ℕ, ◌+◌, ◌<◌, ◌==◌, if◌then◌else◌, List, [], ◌∷◌, Option, Some, None, option_map, refl}
 use Rattle.std.specs.Coded.{Coded, code_by, coded×, coded_ℕ, coded_list, coded_option}
+use Rattle.std.specs.List.{AllByRecursion}
 use Rattle.node_core.specs.Operations.{Operation, delivers}
 use Rattle.node_core.specs.Inverses.{Inverse, inverse_code}
 use Rattle.journal_core.specs.declared.journal.Room as declared
@@ -65,8 +66,7 @@ without_held (h ∷ hs) n = if h.kept.number == n then hs else h ∷ without_hel
 
 -- no inverse is lent
 abbrev pub AreAllHeld : List Held → Type 0
-AreAllHeld [] = Unit {0}
-AreAllHeld (h ∷ hs) = ((i : Inverse) × (h.inverse ≡ Some i)) × AreAllHeld hs
+AreAllHeld hs = AllByRecursion (λ (h : Held). (i : Inverse) × (h.inverse ≡ Some i)) hs
 
 -- step n remains, and its inverse is lent
 abbrev pub IsLent : List Held → ℕ → Type 0

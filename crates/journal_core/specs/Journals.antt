@@ -1,7 +1,7 @@
 -- The remaining steps, and which follow from which (Danos and Krivine).
 use Rattle.std.specs.Prelude.{◌≡◌, ℕ, ◌<◌, ◌==◌, ◌&&◌, ◌||◌, not, nat_lt, Bool, false, if◌then◌else◌, List, [], ◌∷◌, Option, Some, None, option_map, refl}
 use Rattle.std.specs.Coded.{Coded, code_by, coded×, coded_ℕ}
-use Rattle.std.specs.List.{filter}
+use Rattle.std.specs.List.{AllByRecursion, filter}
 use Rattle.std.specs.Option.{option_and_then}
 use Rattle.payload_core.specs.Messages.{numbered}
 use Rattle.node_core.specs.Operations.{Operation, operation_code, delivers, sends}
@@ -47,8 +47,7 @@ IsSentBefore ks n (Some m) = (p : ℕ) × (source_at ks (Some m) ≡ Some p) × 
 
 -- each of these steps delivers, if anything, what a remaining step before it sent
 abbrev pub AreSentBefore : List Kept → List Kept → Type 0
-AreSentBefore ks [] = Unit {0}
-AreSentBefore ks (j ∷ js) = IsSentBefore ks j.number (delivers j.step) × AreSentBefore ks js
+AreSentBefore ks js = AllByRecursion (λ (j : Kept). IsSentBefore ks j.number (delivers j.step)) js
 
 -- the steps stand by rising number, and no delivery before the step that sent its message
 abbrev pub AreInOrder : List Kept → Type 0
@@ -98,5 +97,4 @@ last_of ks node = last_own None ks node
 
 -- each step's number is below n
 abbrev pub AreBelow : ℕ → List Kept → Type 0
-AreBelow n [] = Unit {0}
-AreBelow n (k ∷ ks) = (k.number < n) × AreBelow n ks
+AreBelow n ks = AllByRecursion (λ (k : Kept). k.number < n) ks
