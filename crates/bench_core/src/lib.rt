@@ -2,8 +2,10 @@
 //! them, and keeps its nodes what the remaining steps give.
 //!
 //! It stands on `node_core` (one node, its steps and the way back) and `journal_core` (the steps that remain, with their
-//! inverses); words come from `payload_core`, memory's refusal from `dots_core`. The modules come in the order in which
-//! data flows: who and how much, what is asked and answered, the history, the machine, its laws.
+//! inverses); words come from `payload_core`, memory's refusal from `dots_core`.
+//!
+//! In the order to read them: `names`, over `names_fault` and `texts`, and `limits`, for whom and how much; `act`, `fault`,
+//! `reply` and `unwound`, what is asked and answered; `history`; `bench`, the machine; `laws`.
 #![tactic(auto)]
 
 mod act;

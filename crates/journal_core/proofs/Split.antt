@@ -37,10 +37,10 @@ split_at a ks rest n k rises found whole =
       rest = rest;
       whole = whole;
       out =
-        ap (λ (l : List Kept). without l n) whole
-            ∙ filter-append (λ j. not (j.number == n)) (before ks n) (k ∷ rest)
-            ∙ ap (λ (l : List Kept). l ++ without (k ∷ rest) n) (none_before ks n)
-            ∙ ap (λ (l : List Kept). before ks n ++ l) (ap (λ b. cond (not b) (k ∷ without rest n) (without rest n)) (eq-eqb k.number n number) ∙ none_later n n rest (le_refl n) later);
+          ap (λ (l : List Kept). without l n) whole
+          ∙ filter-append (λ j. not (j.number == n)) (before ks n) (k ∷ rest)
+          ∙ ap (λ (l : List Kept). l ++ without (k ∷ rest) n) (none_before ks n)
+          ∙ ap (λ (l : List Kept). before ks n ++ l) (ap (λ b. cond (not b) (k ∷ without rest n) (without rest n)) (eq-eqb k.number n number) ∙ none_later n n rest (le_refl n) later);
       number = number;
       later = later;
     }

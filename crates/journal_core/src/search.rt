@@ -11,6 +11,7 @@ use crate::kept::Kept;
 use node_core::{Oom, Step};
 use std::alloc::Allocator;
 
+/// The step of this number.
 pub(crate) fn find<'x, 'a, B: Allocator>(
     steps: &'x [Held<'a, B>],
     number: u64,
@@ -25,6 +26,7 @@ pub(crate) fn find<'x, 'a, B: Allocator>(
     None
 }
 
+/// The step at this place, from 0.
 pub(crate) fn held_at<'x, 'a, B: Allocator>(
     steps: &'x [Held<'a, B>],
     place: usize,
@@ -34,6 +36,7 @@ pub(crate) fn held_at<'x, 'a, B: Allocator>(
     steps.get(place)
 }
 
+/// The place of the step of this number, from 0.
 pub(crate) fn place<'a, B: Allocator>(steps: &[Held<'a, B>], number: u64) -> Option<usize>
     ensures { result ≡ place_of steps.now number }
 {
@@ -162,6 +165,7 @@ pub(crate) fn future<'a, B: Allocator>(
     numbers_back(alloc, found.as_slice())
 }
 
+/// The number of the least direct consequence of this step.
 pub(crate) fn consequence<'a, B: Allocator>(steps: &[Held<'a, B>], number: u64) -> Option<u64>
     ensures { result ≡ first_consequence (kepts steps.now) number }
 {
@@ -174,6 +178,7 @@ pub(crate) fn consequence<'a, B: Allocator>(steps: &[Held<'a, B>], number: u64) 
     None
 }
 
+/// The number of the last step of this node.
 pub(crate) fn last<'a, B: Allocator>(steps: &[Held<'a, B>], node: u16) -> Option<u64>
     ensures { result ≡ last_of (kepts steps.now) node }
 {

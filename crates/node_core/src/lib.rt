@@ -2,8 +2,8 @@
 //! record takes it back.
 //!
 //! It stands on `replica_core` (the replica and its changes), `payload_core` (words, messages, outboxes) and `dots_core`
-//! (sets of names). The modules come in the order in which data flows: what is asked, what is counted, what is answered,
-//! what leads back, the node, its laws.
+//! (sets of names). In the order to read them: `step` and `step_fault`; `meter`, which counts the steps that were taken;
+//! `inverse`, what leads back from one; `node`; `laws`.
 #![tactic(auto)]
 
 mod inverse;
