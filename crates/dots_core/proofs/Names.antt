@@ -1,7 +1,7 @@
 -- Sets of names, by what they answer at a number, and the lists that keep them.
-use Rattle.std.proofs.Common.{◌≡◌, ◌≢◌, ℕ, ◌<◌, ◌==◌, ◌&&◌, ◌||◌, ◌⊎◌, inl, inr, not, Bool, true, false, List, length, get_or, slice_set, sym, ap, subst, ◌∙◌, get_or-set_same, get_or-set_other}
-use Rattle.std.proofs.lemmas.Bool.{eq-eqb, ne_eqb, cases_eq}
-use Rattle.std.proofs.lemmas.List.{ext_get_or}
+use Rattle.std.proofs.Common.{◌≡◌, ◌≢◌, ℕ, ◌<◌, ◌≤◌, ◌==◌, ◌&&◌, ◌||◌, ◌⊎◌, inl, inr, not, Bool, true, false, List, length, get_or, slice_set, sym, ap, subst, ◌∙◌, get_or-set_same, get_or-set_other, true≢false}
+use Rattle.std.proofs.lemmas.Bool.{eq-eqb, ne_eqb, cases_eq, cases_lt}
+use Rattle.std.proofs.lemmas.List.{ext_get_or, get_or_past}
 use Rattle.std.specs.Cmp.{nat_cmp_total, unsigned_tied}
 use Rattle.std.specs.FinSet as set
 use Rattle.std.specs.FinMap.{nat_cmp-IsAntisymmetric}
@@ -42,3 +42,11 @@ names_of-without bs i h = same_names _ _ (λ q.
 
 pub same_flags : (bs cs : List Bool) → length bs ≡ length cs → names_of bs ≡ names_of cs → bs ≡ cs
 same_flags bs cs l e = ext_get_or false bs cs l (λ k _. sym (contains-names_of bs k) ∙ ap (λ s. set.contains s k) e ∙ contains-names_of cs k)
+
+-- a flag that is set stands in the list
+pub flag_below : (bs : List Bool) (n : ℕ) → get_or bs n false ≡ true → n < length bs
+flag_below bs n t = go (cases_lt n (length bs))
+  where
+    go : (n < length bs) ⊎ (length bs ≤ n) → n < length bs
+    go (inl below) = below
+    go (inr past) = absurd (true≢false (sym t ∙ get_or_past bs n false past))

@@ -2,7 +2,7 @@
 
 ghost use Rattle.std.specs.Prelude.{◌≡◌, ◌<◌, ◌↔◌, IsTrue};
 ghost use Rattle.std.specs.FinSet as set;
-ghost use Rattle.dots_core.specs.Names.{HasAll};
+ghost use Rattle.dots_core.specs.Names.{AreNamesBelow, HasAll};
 
 use std::marker::Model;
 
@@ -71,6 +71,13 @@ impl NameSet {
         ensures { IsTrue result ↔ (self ≡ other) }
     {
         self.has == other.has
+    }
+
+    /// Does nothing. Its contract says that each of the names is below 32.
+    pub fn names_law(self)
+        ensures { AreNamesBelow 32 self }
+    {
+        let _ = &self.has;
     }
 
     pub(crate) fn all() -> NameSet

@@ -93,9 +93,11 @@ impl<A: Allocator> EntrySet<A> {
         }
     }
 
-    /// After an `Ok` as many inserts succeed. The entries stay, also where memory is refused.
+    /// After an `Ok` as many inserts succeed. The entries stay, and so does the room that was made before, also where
+    /// memory is refused.
     pub fn make_room(&mut self, count: usize) -> Result<(), Oom>
         ensures map { self.new.map ≡ self.old.map }
+        ensures room_stays { self.old.room ≤ self.new.room }
         ensures ok { OnOk result (count ≤ self.new.room) }
     {
         self.entries.reserve(count)

@@ -103,10 +103,12 @@ impl<'a, B: Allocator> Outbox<'a, B> {
         self.messages.pop()
     }
 
-    /// After an `Ok` one push is not refused memory. The messages stay, also where memory is refused.
+    /// After an `Ok` one push is not refused memory. The messages stay, and so does the room that was made before, also
+    /// where memory is refused.
     pub fn make_room(&mut self) -> Result<(), Oom>
         ensures messages { self.new.messages ≡ self.old.messages }
         ensures limit { self.new.limit ≡ self.old.limit }
+        ensures room_stays { self.old.room ≤ self.new.room }
         ensures ok { OnOk result (0 < self.new.room) }
     {
         self.messages.reserve(1)

@@ -24,12 +24,16 @@ up_free r now name same other = ap (λ (r : Replica). up_refusal r name) (sym sa
 pub status_is : (r now : Replica) (name : ℕ) (s : Status) (v : View) → r ≡ now → v ≡ fin.insert r.view name s → record r { view = v } ≡ with_status name s now
 status_is r now name s v same at = ap (λ (v : View). record r { view = v }) at ∙ ap (with_status name s) same
 
--- a change that has the replica before a call leads back
-pub leads_back : (old new : Replica) (change : Change) → change.before ≡ old → IsOneCall old new → LeadsBack change new old
-leads_back old new change keeps call = record { call = call; destroyed = sym keeps }
+-- the change has this replica
+abbrev pub Keeps : Change → Replica → Type 0
+Keeps change old = (change.before ≡ old) × IsReplica change.before
 
-pub up_leads_back : (old new : Replica) (name : ℕ) (change : Change) → up_refusal old name ≡ None → new ≡ with_status name Up old → change.before ≡ old → LeadsBack change new old
-up_leads_back old new name change free gives keeps = record { call = ByUp name free gives; destroyed = sym keeps }
+-- a change that has the replica before a call leads back
+pub leads_back : (old new : Replica) (change : Change) → Keeps change old → IsOneCall old new → LeadsBack change new old
+leads_back old new change keeps call = record { call = call; destroyed = sym keeps.0; earlier = subst IsReplica keeps.0 keeps.1 }
+
+pub up_leads_back : (old new : Replica) (name : ℕ) (change : Change) → up_refusal old name ≡ None → new ≡ with_status name Up old → Keeps change old → LeadsBack change new old
+up_leads_back old new name change free gives keeps = leads_back old new change keeps (ByUp name free gives)
 
 -- a down and a permdown that aren't refused are of another name
 
@@ -95,8 +99,8 @@ module _ (r : Replica) (e : Entry) (kept : IsReplica r) (fresh_is : e.dot ≡ fr
     pub kept_join : IsReplica (record r { seen = seen; entries = es; delta_seen = delta_seen; delta_entries = delta_es })
     kept_join = subst IsReplica (sym joined_is) (kept_joined r kept (presence_of e) tests.0 tests.1 tests.2)
 
-pub join_leads_back : (old new : Replica) (p : Presence) (e : Entry) (change : Change) (asked : Option ReplicaFault) → asked ≡ join_refusal old p.pid p.topic p.key → asked ≡ None → e ≡ entry_of (fresh old) p → new ≡ joined (presence_of e) old → change.before ≡ old → LeadsBack change new old
-join_leads_back old new p e change asked refusal free is gives keeps = record { call = ByJoin p (sym refusal ∙ free) (gives ∙ ap (λ (e : Entry). joined (presence_of e) old) is); destroyed = sym keeps }
+pub join_leads_back : (old new : Replica) (p : Presence) (e : Entry) (change : Change) (asked : Option ReplicaFault) → asked ≡ join_refusal old p.pid p.topic p.key → asked ≡ None → e ≡ entry_of (fresh old) p → new ≡ joined (presence_of e) old → Keeps change old → LeadsBack change new old
+join_leads_back old new p e change asked refusal free is gives keeps = leads_back old new change keeps (ByJoin p (sym refusal ∙ free) (gives ∙ ap (λ (e : Entry). joined (presence_of e) old) is))
 
-pub update_leads_back : (old new : Replica) (p : Presence) (e : Entry) (change : Change) → leave_refusal old p.pid p.topic p.key ≡ None → e ≡ entry_of (fresh old) p → new ≡ updated (presence_of e) old → change.before ≡ old → LeadsBack change new old
+pub update_leads_back : (old new : Replica) (p : Presence) (e : Entry) (change : Change) → leave_refusal old p.pid p.topic p.key ≡ None → e ≡ entry_of (fresh old) p → new ≡ updated (presence_of e) old → Keeps change old → LeadsBack change new old
 update_leads_back old new p e change free is gives keeps = leads_back old new change keeps (ByUpdate p free (gives ∙ ap (λ (e : Entry). updated (presence_of e) old) is))

@@ -21,6 +21,7 @@ use Rattle.replica_core.specs.Kept.{IsReplica}
 use Rattle.replica_core.specs.Changes.{Change, ByMerge, LeadsBack}
 use Rattle.replica_core.proofs.Edits.{without_departures, with_arrivals, new_arrivals, len-merged, len-remaining}
 use Rattle.replica_core.proofs.Kept.{kept_merged}
+use Rattle.replica_core.proofs.Calls.{Keeps, leads_back}
 
 module _ (m : Message) (r : Replica) (joining : List Entry) (leaving : List Dot) (joining_are : pairs joining ≡ fin.entries (arrivals m r)) (leaving_are : leaving ≡ fin.keys (departures m r)) where
   len-leaving : length leaving ≡ fin.len (departures m r)
@@ -69,8 +70,8 @@ kept_merge m r heard seen es h heard_is valid live free seen_is es_are = subst I
 pub merge_asked : (m : Message) (r : Replica) (asked b : Bool) (len : ℕ) → asked ≡ are_too_many r len → len ≡ fin.len (merged_entries m r) → asked ≡ b → merge_refusal r m ≡ first_of ((b, EntriesFull) ∷ [])
 merge_asked m r asked b len is len_is answer = ap (λ b. first_of ((b, EntriesFull) ∷ [])) (ap (are_too_many r) (sym len_is) ∙ sym is ∙ answer)
 
-pub merge_leads_back : (m : Message) (old new : Replica) (change : Change) → merge_refusal old m ≡ None → new ≡ merged m old → change.before ≡ old → LeadsBack change new old
-merge_leads_back m old new change free gives keeps = record { call = ByMerge m free gives; destroyed = sym keeps }
+pub merge_leads_back : (m : Message) (old new : Replica) (change : Change) → merge_refusal old m ≡ None → new ≡ merged m old → Keeps change old → LeadsBack change new old
+merge_leads_back m old new change free gives keeps = leads_back old new change keeps (ByMerge m free gives)
 
 -- how many entries there are to be, by three lengths that were read
 pub len_read : (m : Message) (r now : Replica) (joining : List Entry) (leaving : List Dot) (held left joined : ℕ) → r ≡ now → AreSeen r.seen r.entries → pairs joining ≡ fin.entries (arrivals m now) → leaving ≡ fin.keys (departures m now) →

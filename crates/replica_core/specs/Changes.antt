@@ -6,6 +6,7 @@ use Rattle.payload_core.specs.Messages.{Message}
 use Rattle.replica_core.specs.declared.status.Status.TheVariants.{Up, Down}
 use Rattle.replica_core.specs.Replicas.{Replica, tracked_dots, dots_of_process, joined, left_each, updated, with_status, forgotten, replica_code}
 use Rattle.replica_core.specs.Deliveries.{merged}
+use Rattle.replica_core.specs.Kept.{IsReplica}
 use Rattle.replica_core.specs.Refusals.{join_refusal, leave_refusal, leave_all_refusal, merge_refusal, up_refusal, down_refusal, permdown_refusal}
 
 -- for now, the replica before the change
@@ -28,10 +29,11 @@ pub data IsOneCall (a b : Replica) : Type 0 where
   ByPermdown : (name : ℕ) → permdown_refusal a name ≡ None → b ≡ forgotten name a → IsOneCall a b
 
 -- the change leads from replica b back to replica a: one accepted call takes a to b, and the change names what that call
--- destroyed of a
+-- destroyed of a, which is a replica
 pub record LeadsBack (change : Change) (b a : Replica) : Type 0 where
   pub call : IsOneCall a b
   pub destroyed : a ≡ change.before
+  pub earlier : IsReplica a
 
 -- the change leads back to some replica
 abbrev pub LeadsSomewhere : Change → Replica → Type 0

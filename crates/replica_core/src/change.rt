@@ -1,5 +1,6 @@
 //! `Change`: what a call destroyed, kept to take the call back.
 ghost use Rattle.std.specs.Prelude.{◌≡◌};
+ghost use Rattle.replica_core.specs.Kept.{IsReplica};
 
 use crate::replica::Replica;
 use std::alloc::Allocator;
@@ -24,8 +25,10 @@ impl<A: Allocator> Model for Change<A> {
 
 impl<A: Allocator> Change<A> {
     pub(crate) fn from(before: Replica<A>) -> Change<A>
-        ensures { result.before ≡ before }
+        ensures before { result.before ≡ before }
+        ensures kept { IsReplica result.before }
     {
+        before.replica_law();
         Change { before }
     }
 

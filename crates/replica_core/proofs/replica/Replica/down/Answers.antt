@@ -12,5 +12,5 @@ invariant_of-self g c =
 
 pub returns-clause-leads_back : goal.returns-clause-leads_back
 returns-clause-leads_back g c =
-    leads_back c.args.self.now _ c.from.result (c.from.ensures ∙ c.in_ok-before.ensures)
+    leads_back c.args.self.now _ c.from.result (c.from.ensures.before ∙ c.in_ok-before.ensures, c.from.ensures.kept)
     (ByDown c.args.name (sym c.down_refusal.ensures ∙ c.in_default.is) (status_is _ c.args.self.now c.args.name Down c.lower.new.self c.self.view_is c.lower.ensures))

@@ -12,5 +12,5 @@ returns-clause-refused g c =
 
 pub returns-clause-leads_back : goal.returns-clause-leads_back
 returns-clause-leads_back g c =
-    leads_back c.args.self.now c.let_go.new.self c.from.result (c.from.ensures ∙ c.in_ok-before.ensures)
+    leads_back c.args.self.now c.let_go.new.self c.from.result (c.from.ensures.before ∙ c.in_ok-before.ensures, c.from.ensures.kept)
     (ByLeaveAll c.args.pid (returns-clause-refused g c) (c.in_ok-let_go.ensures.left ∙ ap (λ ds. left_each ds c.args.self.now) (c.deref.ensures.value ∙ c.in_ok-leaving.ensures.dots)))

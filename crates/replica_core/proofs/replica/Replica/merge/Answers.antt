@@ -35,4 +35,4 @@ returns-clause-refused g c =
 
 pub returns-clause-leads_back : goal.returns-clause-leads_back
 returns-clause-leads_back g c =
-    merge_leads_back c.args.message.now c.args.self.now c.exchange.new.self c.from.result (returns-clause-refused g c) c.in_ok-exchange.ensures.merged (c.from.ensures ∙ c.in_ok-before.ensures)
+    merge_leads_back c.args.message.now c.args.self.now c.exchange.new.self c.from.result (returns-clause-refused g c) c.in_ok-exchange.ensures.merged (c.from.ensures.before ∙ c.in_ok-before.ensures, c.from.ensures.kept)

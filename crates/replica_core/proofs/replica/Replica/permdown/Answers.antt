@@ -15,4 +15,4 @@ returns-clause-forgotten g c =
 
 pub returns-clause-leads_back : goal.returns-clause-leads_back
 returns-clause-leads_back g c =
-    leads_back c.args.self.now _ c.from.result (c.from.ensures ∙ c.in_ok-before.ensures) (ByPermdown c.args.name (sym c.permdown_refusal.ensures ∙ c.in_default.is) (returns-clause-forgotten g c))
+    leads_back c.args.self.now _ c.from.result (c.from.ensures.before ∙ c.in_ok-before.ensures, c.from.ensures.kept) (ByPermdown c.args.name (sym c.permdown_refusal.ensures ∙ c.in_default.is) (returns-clause-forgotten g c))

@@ -13,4 +13,4 @@ returns-clause-refused g c = up_free _ c.args.self.now c.args.name c.self.view_i
 
 pub returns-clause-leads_back : goal.returns-clause-leads_back
 returns-clause-leads_back g c =
-    up_leads_back c.args.self.now _ c.args.name c.from.result (up_free _ c.args.self.now c.args.name c.self.view_is c.if-name-self.false) (status_is _ c.args.self.now c.args.name Up c.raise.new.self c.self.view_is c.raise.ensures) (c.from.ensures ∙ c.in_ok-before.ensures)
+    up_leads_back c.args.self.now _ c.args.name c.from.result (up_free _ c.args.self.now c.args.name c.self.view_is c.if-name-self.false) (status_is _ c.args.self.now c.args.name Up c.raise.new.self c.self.view_is c.raise.ensures) (c.from.ensures.before ∙ c.in_ok-before.ensures, c.from.ensures.kept)
