@@ -14,11 +14,11 @@ pub record AgainLaw : Type 0 where
   pub accepted : (m : Message) (r : Replica) → merge_refusal r m ≡ None → merge_refusal (merged m r) m ≡ None
   pub same : (m : Message) (r : Replica) → merged m (merged m r) ≡ merged m r
 
--- the two maps have no two entries at one dot
+-- the two maps have no two different entries at one dot
 abbrev pub Agree : Entries → Entries → Type 0
 Agree one other = (d : Dot) (p q : Presence) → fin.get one d ≡ Some p → fin.get other d ≡ Some q → p ≡ q
 
--- two messages that have no two entries at one dot give the same replica in either order
+-- two messages that have no two different entries at one dot give the same replica in either order, whatever the limits
 abbrev pub OrderLaw : Type 0
 OrderLaw = (m n : Message) (r : Replica) → AreSeen r.seen r.entries → AreSeen m.seen m.entries → AreSeen n.seen n.entries → Agree m.entries n.entries → merged n (merged m r) ≡ merged m (merged n r)
 

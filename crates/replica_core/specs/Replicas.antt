@@ -14,8 +14,8 @@ use Rattle.replica_core.specs.declared.status.Status.TheVariants.{Up}
 use Rattle.replica_core.specs.Limits.{node_limits_code}
 use Rattle.replica_core.specs.Views.{View, view_code, is_some_up}
 
--- the own name, the limits, all dots that were seen, the live entries, the statuses of the known names; and the delta:
--- the own dots of which nothing was sent yet, and the entries among them
+-- the own name, the limits, all dots that were seen, the live entries, the statuses of the known names; and the delta: the
+-- own dots that its steps touched since it last sent it, and the live entries among them
 pub record Replica : Type 0 where
   pub own : ℕ
   pub limits : NodeLimits

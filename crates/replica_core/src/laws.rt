@@ -9,7 +9,8 @@ pub fn again_law()
     ensures { AgainLaw }
 {}
 
-/// Two messages that have no two entries at one dot give the same replica in either order.
+/// Two messages that hold no two different entries at one dot give the same replica in either order, where neither order
+/// is refused for its entries.
 #[tactic(auto, using(crate::proofs::Deliveries::order_holds))]
 pub fn order_law()
     ensures { OrderLaw }
