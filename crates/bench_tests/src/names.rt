@@ -1,5 +1,5 @@
 //! Tests of `Names` and `Limits`.
-use crate::*;
+use bench_core::{Limits, Names, NamesFault};
 use std::alloc::{Allocator, Global};
 use std::process::Abort;
 use test_alloc::Refusing;

@@ -1,7 +1,7 @@
 //! What calls of the machine leave where memory is refused.
-use crate::steps_tests::HELD_1_BY_2;
-use crate::tests::{Call, Row, open};
-use crate::*;
+use crate::calls::{Call, Row, limits_of, open, played};
+use crate::steps::HELD_1_BY_2;
+use bench_core::{Act, Bench, Fault, Limits, Node, Reply};
 use std::alloc::Global;
 use std::process::Abort;
 use test_alloc::Refusing;
@@ -110,6 +110,55 @@ fn a_call_that_is_refused_memory_changes_nothing(rt: HostRuntime) {
         let most = all_refused_in_turn(&rt, &heap, &rows);
         assert!(rt; 3 < most && most < 100);
     }
+}
+
+/// Seven acts are allowed, and these leave no free place.
+const FILLED: [Row; 5] = [
+    (0, Call::Join(1), Reply::Taken(1)),
+    (0, Call::Join(2), Reply::Taken(2)),
+    (0, Call::Join(3), Reply::Taken(3)),
+    (0, Call::Undo(3), Reply::Undone(3)),
+    (0, Call::Undo(9), Reply::Refused(Fault::NoSuchStep)),
+];
+
+const UNRECORDED: [Row; 8] = [
+    (0, Call::Join(4), Reply::Refused(Fault::HistoryFull)),
+    (7, Call::Join(4), Reply::Refused(Fault::UnknownNode)),
+    (0, Call::Up(5), Reply::Refused(Fault::UnknownNode)),
+    (0, Call::Undo(9), Reply::Refused(Fault::NoSuchStep)),
+    (0, Call::Undo(3), Reply::Refused(Fault::AlreadyUndone)),
+    (0, Call::Undo(1), Reply::Refused(HELD_1_BY_2)),
+    (0, Call::Back(2), Reply::Refused(Fault::UnknownNode)),
+    (0, Call::Back(1), Reply::Refused(Fault::NothingToUndo)),
+];
+
+/// Makes the call with all memory refused: it gets its reply and makes no request.
+fn needs_no_memory<'a>(
+    rt: &impl Abort,
+    heap: &'a Refusing<Global>,
+    bench: &mut Bench<'a, Refusing<Global>>,
+    row: &Row,
+) {
+    let (actor, call, reply) = *row;
+    let act = call.act(rt, heap);
+    heap.refuse_from(1);
+    let answer = bench.act(actor, &act);
+    drop(act);
+    assert_eq!(rt; answer, reply);
+    assert_eq!(rt; heap.requests(), 0);
+    heap.refuse_none();
+}
+
+#[test]
+fn what_is_not_recorded_takes_no_memory(rt: HostRuntime) {
+    let heap = Refusing::new(rt.alloc());
+    let name = "no free place";
+    let limits = limits_of(&rt, [7, 10, 10, 10], name);
+    let mut bench = played(&rt, &heap, limits, &FILLED, name);
+    for row in &UNRECORDED {
+        needs_no_memory(&rt, &heap, &mut bench, row);
+    }
+    assert_eq!(rt; counts_of(&bench), (2, 5));
 }
 
 // A body that always answers want of memory would keep every contract.

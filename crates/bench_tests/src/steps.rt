@@ -1,6 +1,6 @@
 //! Named cases of calls with their replies, and what there is then.
-use crate::tests::{Call, Row, USUAL, limits_of, played};
-use crate::*;
+use crate::calls::{Call, Row, USUAL, limits_of, played};
+use bench_core::{Bench, Fault, Reply};
 use std::alloc::Allocator;
 use std::process::Abort;
 

@@ -1,7 +1,7 @@
 //! What follows from a step, and its undo with all of that: worked rows, and refused memory.
-use crate::steps_tests::DELIVERED;
-use crate::tests::{Call, Row, played};
-use crate::*;
+use crate::calls::{Call, Row, played};
+use crate::steps::DELIVERED;
+use bench_core::{Bench, Fault, Limits, Reply, Unwound};
 use std::alloc::{Allocator, Global};
 use std::process::Abort;
 use test_alloc::Refusing;

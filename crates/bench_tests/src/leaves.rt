@@ -1,7 +1,7 @@
 //! Named cases of leaves, updates and statuses with their replies, and what a node holds then.
-use crate::steps_tests::HELD_3_BY_4;
-use crate::tests::{Call, Row, USUAL, limits_of, played};
-use crate::*;
+use crate::calls::{Call, Row, USUAL, limits_of, played};
+use crate::steps::HELD_3_BY_4;
+use bench_core::{Bench, Fault, Limits, Reply};
 use replica_core::Status;
 use std::alloc::Allocator;
 use std::process::Abort;
@@ -75,7 +75,7 @@ const FULL: [Row; 7] = [
 
 const ALL_LEFT: [Row; 4] = [
     (0, Call::Join(1), Reply::Taken(1)),
-    (0, Call::JoinUnderS(1), Reply::Taken(2)),
+    (0, Call::JoinAs(1, "s", "alice", "phone"), Reply::Taken(2)),
     (0, Call::LeaveAll(1), Reply::Taken(3)),
     (2, Call::Back(0), Reply::Undone(3)),
 ];
