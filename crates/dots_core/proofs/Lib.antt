@@ -2,6 +2,7 @@ pub mod Order
 pub mod Sets
 pub mod OwnClock
 pub mod Names
+pub mod NamesBelow
 pub mod Clocks
 pub mod Parts
 pub mod Changes

@@ -1,6 +1,7 @@
 //! A set of replicas' names.
 
-ghost use Rattle.std.specs.Prelude.{◌≡◌, ◌<◌, ◌↔◌, IsTrue};
+ghost use Rattle.std.specs.Prelude.{◌≡◌, ◌<◌, ◌↔◌, IsTrue, nat_lt};
+ghost use Rattle.std.specs.List.{list_all};
 ghost use Rattle.std.specs.FinSet as set;
 ghost use Rattle.dots_core.specs.Names.{AreNamesBelow, HasAll};
 
@@ -64,6 +65,13 @@ impl NameSet {
         ensures { result ≡ set.contains self name }
     {
         name < 32 && self.has[usize::from(name)]
+    }
+
+    /// Whether each name in the set is below `count`.
+    pub fn is_below(self, count: u16) -> bool
+        ensures { result ≡ list_all (λ name. nat_lt name count) (set.items self) }
+    {
+        self.has.iter().skip(usize::from(count)).all(|has| !*has)
     }
 
     /// Whether the two sets have the same names.

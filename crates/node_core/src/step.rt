@@ -1,6 +1,7 @@
 //! `Step`: what one node does.
-ghost use Rattle.std.specs.Prelude.{◌≡◌, ◌↔◌, IsTrue, IfOk};
-ghost use Rattle.node_core.specs.Operations.{Join, Leave, Update, Deliver, delivers, plain, sends};
+ghost use Rattle.std.specs.Prelude.{◌≡◌, ◌↔◌, IsTrue, IfOk, nat_lt};
+ghost use Rattle.std.specs.List.{list_all};
+ghost use Rattle.node_core.specs.Operations.{Join, Leave, Update, Deliver, delivers, named_in, plain, sends};
 
 use dots_core::NameSet;
 use payload_core::{Oom, Word};
@@ -171,6 +172,19 @@ impl<A: Allocator> Step<A> {
         ensures { result ≡ sends (plain self.now) }
     {
         matches!(self, Step::Broadcast | Step::Extract { .. })
+    }
+
+    /// Whether each number that names a node in the step is below `count`.
+    pub fn names_below(&self, count: u16) -> bool
+        ensures { result ≡ list_all (λ name. nat_lt name count) (named_in (plain self.now)) }
+    {
+        match self {
+            Step::Join { .. } | Step::Leave { .. } | Step::LeaveAll { .. } => true,
+            Step::Update { .. } | Step::Broadcast => true,
+            Step::Extract { names } => names.is_below(count),
+            Step::Deliver { sender, .. } => *sender < count,
+            Step::Up { name } | Step::Down { name } | Step::Permdown { name } => *name < count,
+        }
     }
 
     /// A second step that asks the same.
