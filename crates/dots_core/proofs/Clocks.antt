@@ -1,5 +1,6 @@
 -- The clocks of one name: what a cloud has, that it rises, and that there is one way to keep a set of clocks.
-use Rattle.std.proofs.Common.{◌≡◌, ◌≢◌, ◌⊎◌, inl, inr, ℕ, zero, suc, ◌+◌, ◌<◌, ◌≤◌, ◌==◌, nat_lt, nat_le, ◌&&◌, ◌||◌, not, Bool, true, false, List, [], ◌∷◌, ◌++◌, length, get_or, take, drop, if◌then◌else◌, refl, sym, ap, subst, ◌∙◌, arith, true≢false}
+use Rattle.std.proofs.Common.{◌≡◌, ◌≢◌, ◌⊎◌, inl, inr, ℕ, zero, suc, ◌+◌, ◌<◌, ◌≤◌, ◌==◌, nat_lt, nat_le, ◌&&◌, ◌||◌, not, Bool, true, false, List, [], ◌∷◌}
+use Rattle.std.proofs.Common.{◌++◌, length, get_or, take, drop, if◌then◌else◌, refl, sym, ap, subst, ◌∙◌, arith, true≢false}
 use Rattle.std.proofs.Math.Bool.{or_assoc}
 use Rattle.std.proofs.lemmas.Bool.{eq-eqb, eqb-true, eqb-false, ne_eqb, cases_eq, cases_lt, false_from_ne_true, or_left, or_right, or_cases}
 use Rattle.std.proofs.lemmas.Bool.Decides.{nat_tests}
@@ -43,7 +44,8 @@ pub among_place : (xs : List ℕ) (k : ℕ) → is_among k xs ≡ true → (i : 
 among_place [] k h = absurd (true≢false (sym h))
 among_place (x ∷ xs) k h = go (among_place xs k) (among_cases k x xs h)
   where
-    go : (is_among k xs ≡ true → (i : ℕ) × (i < length xs) × (get_or xs i 0 ≡ k)) → (k ≡ x) ⊎ (is_among k xs ≡ true) → (i : ℕ) × (i < suc (length xs)) × (get_or (x ∷ xs) i 0 ≡ k)
+    go : (is_among k xs ≡ true → (i : ℕ) × (i < length xs) × (get_or xs i 0 ≡ k)) → (k ≡ x) ⊎ (is_among k xs ≡ true) →
+        (i : ℕ) × (i < suc (length xs)) × (get_or (x ∷ xs) i 0 ≡ k)
     go later (inl e) = (0, omega arith, sym e)
     go later (inr t) = let p = later t in (suc p.0, omega arith, p.2)
 
@@ -108,16 +110,23 @@ among-insert k x [] (suc i) = refl
 among-insert k x (y ∷ xs) (suc i) = ap (λ b. (k == y) || b) (among-insert k x xs i) ∙ or_swap (k == y) (k == x) (is_among k xs)
 
 pub rises-insert : (b x : ℕ) (xs : List ℕ) (i : ℕ) → RisesAbove b xs → b < x → x ≤ 1000000000 → i ≤ length xs
-    → ((k : ℕ) → k < i → get_or xs k 0 < x) → ((k : ℕ) → i ≤ k → k < length xs → x < get_or xs k 0) → RisesAbove b (take i xs ++ x ∷ drop i xs)
+    → ((k : ℕ) → k < i → get_or xs k 0 < x) → ((k : ℕ) → i ≤ k → k < length xs → x < get_or xs k 0) →
+    RisesAbove b (take i xs ++ x ∷ drop i xs)
 rises-insert b x [] zero h up last lt low high = (up, last, tt)
 rises-insert b x [] (suc i) h up last lt low high = absurd (omega arith)
 rises-insert b x (y ∷ xs) zero h up last lt low high = (up, last, (high 0 (omega arith) (omega arith), h.1, h.2))
-rises-insert b x (y ∷ xs) (suc i) h up last lt low high =
-    (h.0, h.1, rises-insert y x xs i h.2 (low 0 (omega arith)) last (omega arith) (λ k p. low (suc k) (omega arith)) (λ k p q. high (suc k) (omega arith) (omega arith)))
+rises-insert b x (y ∷ xs) (suc i) h up last lt low high = (
+  h.0,
+  h.1,
+  rises-insert y x xs i h.2 (low 0 (omega arith)) last (omega arith) (λ k p. low (suc k) (omega arith))
+      (λ k p q. high (suc k) (omega arith) (omega arith)),
+)
 
-pub rises-append : (b x : ℕ) (xs : List ℕ) → RisesAbove b xs → b < x → x ≤ 1000000000 → ((k : ℕ) → is_among k xs ≡ true → k < x) → RisesAbove b (xs ++ x ∷ [])
+pub rises-append : (b x : ℕ) (xs : List ℕ) → RisesAbove b xs → b < x → x ≤ 1000000000 → ((k : ℕ) → is_among k xs ≡ true → k < x) →
+    RisesAbove b (xs ++ x ∷ [])
 rises-append b x [] h up last below = (up, last, tt)
-rises-append b x (y ∷ xs) h up last below = (h.0, h.1, rises-append y x xs h.2 (below y (among_head y xs)) last (λ k t. below k (among_tail k y xs t)))
+rises-append b x (y ∷ xs) h up last below =
+    (h.0, h.1, rises-append y x xs h.2 (below y (among_head y xs)) last (λ k t. below k (among_tail k y xs t)))
 
 pub rises-remove : (b : ℕ) (xs : List ℕ) (i : ℕ) → RisesAbove b xs → RisesAbove b (take i xs ++ drop (suc i) xs)
 rises-remove b [] zero h = tt
@@ -125,7 +134,8 @@ rises-remove b [] (suc i) h = tt
 rises-remove b (x ∷ xs) zero h = rises_lower b x xs (omega arith) h.2
 rises-remove b (x ∷ xs) (suc i) h = (h.0, h.1, rises-remove x xs i h.2)
 
-pub among-remove : (b k : ℕ) (xs : List ℕ) (i : ℕ) → RisesAbove b xs → i < length xs → is_among k (take i xs ++ drop (suc i) xs) ≡ (not (k == get_or xs i 0) && is_among k xs)
+pub among-remove : (b k : ℕ) (xs : List ℕ) (i : ℕ) → RisesAbove b xs → i < length xs →
+    is_among k (take i xs ++ drop (suc i) xs) ≡ (not (k == get_or xs i 0) && is_among k xs)
 among-remove b k [] i h lt = absurd (omega arith)
 among-remove b k (x ∷ xs) zero h lt = go (cases_eq k x)
   where
@@ -135,12 +145,16 @@ among-remove b k (x ∷ xs) zero h lt = go (cases_eq k x)
 among-remove b k (x ∷ xs) (suc i) h lt =
     ap (λ t. (k == x) || t) (among-remove x k xs i h.2 (omega arith)) ∙ go (cases_eq k x)
   where
-    go : (k ≡ x) ⊎ (k ≢ x) → ((k == x) || (not (k == get_or xs i 0) && is_among k xs)) ≡ (not (k == get_or xs i 0) && ((k == x) || is_among k xs))
+    go : (k ≡ x) ⊎ (k ≢ x) → ((k == x) || (not (k == get_or xs i 0) && is_among k xs)) ≡
+        (not (k == get_or xs i 0) && ((k == x) || is_among k xs))
     go (inl e) =
         let up = rises_at x xs h.2 i (omega arith) in
         let other : (k == get_or xs i 0) ≡ false = ne_eqb k _ (λ q. absurd (omega arith)) in
-        ap (λ t. t || (not (k == get_or xs i 0) && is_among k xs)) (eq-eqb k x e) ∙ sym (ap (λ t. not t && ((k == x) || is_among k xs)) other ∙ ap (λ t. t || is_among k xs) (eq-eqb k x e))
-    go (inr d) = ap (λ t. t || (not (k == get_or xs i 0) && is_among k xs)) (ne_eqb k x d) ∙ sym (ap (λ t. not (k == get_or xs i 0) && (t || is_among k xs)) (ne_eqb k x d))
+        ap (λ t. t || (not (k == get_or xs i 0) && is_among k xs)) (eq-eqb k x e)
+        ∙ sym (ap (λ t. not t && ((k == x) || is_among k xs)) other ∙ ap (λ t. t || is_among k xs) (eq-eqb k x e))
+    go (inr d) =
+        ap (λ t. t || (not (k == get_or xs i 0) && is_among k xs)) (ne_eqb k x d)
+        ∙ sym (ap (λ t. not (k == get_or xs i 0) && (t || is_among k xs)) (ne_eqb k x d))
 
 -- the clocks that a part has
 
@@ -176,17 +190,25 @@ pub same_clocks : (p q : Clocks) → IsCanonical p → IsCanonical q → ((k : �
 same_clocks p q h k e = λ i. record { clock = clock i; cloud = cloud i }
   where
     no_less : (a b : Clocks) → IsCanonical a → IsCanonical b → ((k : ℕ) → holds a k ≡ holds b k) → b.clock ≤ a.clock
-    no_less a b h k e = omega (arith, λ (lt : a.clock < b.clock). true≢false (sym (holds_low b (a.clock + 1) (omega arith) (omega arith)) ∙ sym (e (a.clock + 1)) ∙ holds_next a h))
+    no_less a b h k e =
+        omega (
+          arith,
+          λ (lt : a.clock < b.clock). true≢false
+              (sym (holds_low b (a.clock + 1) (omega arith) (omega arith)) ∙ sym (e (a.clock + 1)) ∙ holds_next a h),
+        )
 
     clock : p.clock ≡ q.clock
     clock = let a = no_less p q h k e in let b = no_less q p k h (λ n. sym (e n)) in omega arith
 
     members : (n : ℕ) → (p.clock + 1 < n) ⊎ (n ≤ p.clock + 1) → is_among n p.cloud ≡ is_among n q.cloud
-    members n (inr le) = not_among (p.clock + 1) p.cloud n h.rises le ∙ sym (not_among (q.clock + 1) q.cloud n k.rises (omega (arith, clock)))
+    members n (inr le) =
+        not_among (p.clock + 1) p.cloud n h.rises le ∙ sym (not_among (q.clock + 1) q.cloud n k.rises (omega (arith, clock)))
     members n (inl lt) = sym (holds_high p n (omega arith)) ∙ e n ∙ holds_high q n (omega (arith, clock))
 
     cloud : p.cloud ≡ q.cloud
-    cloud = same_rising (p.clock + 1) p.cloud q.cloud h.rises (rises_lower (p.clock + 1) (q.clock + 1) q.cloud (omega (arith, clock)) k.rises) (λ n. members n (cases_lt (p.clock + 1) n))
+    cloud =
+        same_rising (p.clock + 1) p.cloud q.cloud h.rises (rises_lower (p.clock + 1) (q.clock + 1) q.cloud (omega (arith, clock)) k.rises)
+        (λ n. members n (cases_lt (p.clock + 1) n))
 
 -- the cloud goes into the clock
 
@@ -197,7 +219,8 @@ pub absorbs : (c : ℕ) (xs : List ℕ) → RisesAbove c xs → (k : ℕ) → ho
 absorbs c [] h k = refl
 absorbs c (x ∷ xs) h k = go (x == c + 1) refl (λ up. absorbs (c + 1) xs up k)
   where
-    go : (b : Bool) → (x == c + 1) ≡ b → (RisesAbove (c + 1) xs → holds (absorbed (c + 1) xs) k ≡ holds (record { clock = c + 1; cloud = xs }) k)
+    go : (b : Bool) → (x == c + 1) ≡ b →
+        (RisesAbove (c + 1) xs → holds (absorbed (c + 1) xs) k ≡ holds (record { clock = c + 1; cloud = xs }) k)
         → holds (if b then absorbed (c + 1) xs else record { clock = c; cloud = x ∷ xs }) k ≡ holds (record { clock = c; cloud = x ∷ xs }) k
     go true e later =
         let next : x ≡ c + 1 = eqb-true x (c + 1) e in
@@ -208,7 +231,8 @@ pub absorbed_canonical : (c : ℕ) (xs : List ℕ) → c ≤ 1000000000 → Rise
 absorbed_canonical c [] last h = record { last = last; rises = tt }
 absorbed_canonical c (x ∷ xs) last h = go (x == c + 1) refl (absorbed_canonical (c + 1) xs)
   where
-    go : (b : Bool) → (x == c + 1) ≡ b → (c + 1 ≤ 1000000000 → RisesAbove (c + 1) xs → IsCanonical (absorbed (c + 1) xs)) → IsCanonical (if b then absorbed (c + 1) xs else record { clock = c; cloud = x ∷ xs })
+    go : (b : Bool) → (x == c + 1) ≡ b → (c + 1 ≤ 1000000000 → RisesAbove (c + 1) xs → IsCanonical (absorbed (c + 1) xs)) →
+        IsCanonical (if b then absorbed (c + 1) xs else record { clock = c; cloud = x ∷ xs })
     go true e later = let next : x ≡ c + 1 = eqb-true x (c + 1) e in later (omega arith) (subst (λ z. RisesAbove z xs) next h.2)
     go false e later = let other : x ≢ c + 1 = eqb-false x (c + 1) e in record { last = last; rises = (omega arith, h.1, h.2) }
 
@@ -220,9 +244,15 @@ among-numbers k a (suc n) = ap (λ b. (k == a) || b) (among-numbers k (suc a) n)
 
 pub numbers_more : (a n : ℕ) → numbers a n ++ (a + n) ∷ [] ≡ numbers a (suc n)
 numbers_more a zero = let e : a + 0 ≡ a = omega arith in ap (λ z. z ∷ []) e
-numbers_more a (suc n) = let e : a + suc n ≡ suc a + n = omega arith in ap (λ z. a ∷ (numbers (suc a) n ++ z ∷ [])) e ∙ ap (λ z. a ∷ z) (numbers_more (suc a) n)
+numbers_more a (suc n) =
+    let e : a + suc n ≡ suc a + n = omega arith in ap (λ z. a ∷ (numbers (suc a) n ++ z ∷ [])) e ∙ ap (λ z. a ∷ z) (numbers_more (suc a) n)
 
-pub rises-numbers : (b a n : ℕ) (xs : List ℕ) → b < a → a + n ≤ 1000000001 → RisesAbove b xs → RisesAbove (a + n) xs → RisesAbove b (numbers a n ++ xs)
+pub rises-numbers : (b a n : ℕ) (xs : List ℕ) → b < a → a + n ≤ 1000000001 → RisesAbove b xs → RisesAbove (a + n) xs →
+    RisesAbove b (numbers a n ++ xs)
 rises-numbers b a zero xs lt last h up = h
-rises-numbers b a (suc n) xs lt last h up =
-    (lt, omega arith, rises-numbers a (suc a) n xs (omega arith) (omega arith) (rises_lower a (a + suc n) xs (omega arith) up) (rises_lower (suc a + n) (a + suc n) xs (omega arith) up))
+rises-numbers b a (suc n) xs lt last h up = (
+  lt,
+  omega arith,
+  rises-numbers a (suc a) n xs (omega arith) (omega arith) (rises_lower a (a + suc n) xs (omega arith) up)
+      (rises_lower (suc a + n) (a + suc n) xs (omega arith) up),
+)

@@ -13,7 +13,8 @@ pub dot_total : IsTotalOrder dot_cmp
 dot_total = then_total (on_total (λ (d : Dot). d.name) nat_cmp_total) (on_total (λ (d : Dot). d.clock) nat_cmp_total)
 
 pub dot_exact : fin.IsAntisymmetric dot_cmp
-dot_exact a b h = ap (λ (p : ℕ × ℕ). dot p.0 p.1) (exact_pairs nat_cmp nat_cmp exact_unsigned exact_unsigned (a.name, a.clock) (b.name, b.clock) h)
+dot_exact a b h =
+    ap (λ (p : ℕ × ℕ). dot p.0 p.1) (exact_pairs nat_cmp nat_cmp exact_unsigned exact_unsigned (a.name, a.clock) (b.name, b.clock) h)
 
 -- what a test says of a dot, it says of those that tie with it
 pub same_of_tied : (test : Dot → Bool) (a b : Dot) → dot_cmp a b ≡ Equal → test b ≡ test a

@@ -1,5 +1,7 @@
 -- The dots of a list of parts, by what they are at a name and a clock.
-use Rattle.std.proofs.Common.{◌≡◌, ◌≢◌, ◌⊎◌, inl, inr, ℕ, zero, suc, ◌+◌, ◌<◌, ◌≤◌, ◌==◌, nat_lt, nat_le, ◌&&◌, ◌||◌, not, Bool, true, false, List, [], ◌∷◌, ◌++◌, map, length, get_or, slice_set, Contains, refl, sym, ap, subst, ◌∙◌, arith, true≢false, get_or-set_same, get_or-set_other, length-set, ext_get_or}
+use Rattle.std.proofs.Common.{◌≡◌, ◌≢◌, ◌⊎◌, inl, inr, ℕ, zero, suc, ◌+◌, ◌<◌, ◌≤◌, ◌==◌, nat_lt, nat_le, ◌&&◌, ◌||◌, not, Bool, true, false, List, [], ◌∷◌}
+use Rattle.std.proofs.Common.{◌++◌, map, length, get_or, slice_set, Contains, refl, sym, ap, subst, ◌∙◌, arith, true≢false, get_or-set_same}
+use Rattle.std.proofs.Common.{get_or-set_other, length-set, ext_get_or}
 use Rattle.std.proofs.Math.Bool.{and-false, and-true, and_comm, and-or_distrib_left, or-false, or_assoc}
 use Rattle.std.proofs.lemmas.List.{get_or_default}
 use Rattle.std.proofs.lemmas.Bool.{eq-eqb, eqb-true, ne_eqb, cases_eq, cases_lt, false_from_ne_true, and_parts, and_from}
@@ -10,18 +12,22 @@ use Rattle.dots_core.specs.declared.dot.Dot.{Dot}
 use Rattle.dots_core.specs.Dots.{IsValid, Dots, dot, dot_cmp, of_names}
 use Rattle.dots_core.specs.Clocks.{Clocks, RisesAbove, no_clocks, is_among, holds, IsCanonical, Gains, Loses}
 use Rattle.dots_core.specs.Contexts.{IsContext, IsCloud, IsCloudOf, IsPartOf, OnePartLaw, others, PartLaw}
-use Rattle.dots_core.specs.Parts.{count_down, dots_from, dots_of, part_at, AllCanonical, AreParts}
+use Rattle.dots_core.specs.Parts.{count_down, dots_from, dots_of_parts, part_at, AllCanonical, AreParts}
 use Rattle.dots_core.proofs.Order.{dot_total, is_dot, is_dot-true, is_dot_same}
 use Rattle.dots_core.proofs.Sets.{contains-retain, contains-insert, and_alike, same_dots}
-use Rattle.dots_core.proofs.Clocks.{same_tests, among_place, among_at, among-append, not_among, rises_lower, holds_low, holds_high, holds_next, holds_valid, same_rising, same_clocks}
+use Rattle.dots_core.proofs.Clocks.{same_tests, among_place, among_at, among-append, not_among, rises_lower, holds_low, holds_high, holds_next, holds_valid}
+use Rattle.dots_core.proofs.Clocks.{same_rising, same_clocks}
 
 -- the clocks of a name
 
 is_dot-fields : (q : Dot) (n k : ℕ) → is_dot q (dot n k) ≡ ((q.name == n) && (q.clock == k))
 is_dot-fields q n k =
     same_tests _ _
-    (λ h. let e = is_dot-true q (dot n k) h in and_from (q.name == n) (q.clock == k) (eq-eqb q.name n (ap (λ (d : Dot). d.name) e)) (eq-eqb q.clock k (ap (λ (d : Dot). d.clock) e)))
-    (λ h. let e = and_parts (q.name == n) (q.clock == k) h in let name : q.name ≡ n = eqb-true q.name n e.0 in let clock : q.clock ≡ k = eqb-true q.clock k e.1 in
+    (λ h. let e = is_dot-true q (dot n k) h in
+    and_from (q.name == n) (q.clock == k) (eq-eqb q.name n (ap (λ (d : Dot). d.name) e))
+    (eq-eqb q.clock k (ap (λ (d : Dot). d.clock) e)))
+    (λ h. let e = and_parts (q.name == n) (q.clock == k) h in let name : q.name ≡ n = eqb-true q.name n e.0 in
+    let clock : q.clock ≡ k = eqb-true q.clock k e.1 in
     let same : q ≡ dot n k = λ i. record { name = name i; clock = clock i } in ap (λ d. is_dot d (dot n k)) same ∙ is_dot_same (dot n k))
 
 any-append : {X : Type 0} (p : X → Bool) (xs ys : List X) → list_any p (xs ++ ys) ≡ (list_any p xs || list_any p ys)
@@ -30,16 +36,19 @@ any-append p (x ∷ xs) ys = ap (λ b. p x || b) (any-append p xs ys) ∙ sym (o
 
 any-dots : (q : Dot) (n : ℕ) (ks : List ℕ) → list_any (is_dot q) (map (dot n) ks) ≡ ((q.name == n) && is_among q.clock ks)
 any-dots q n [] = sym (and-false (q.name == n))
-any-dots q n (k ∷ ks) = (λ i. is_dot-fields q n k i || any-dots q n ks i) ∙ sym (and-or_distrib_left (q.name == n) (q.clock == k) (is_among q.clock ks))
+any-dots q n (k ∷ ks) =
+    (λ i. is_dot-fields q n k i || any-dots q n ks i) ∙ sym (and-or_distrib_left (q.name == n) (q.clock == k) (is_among q.clock ks))
 
 among-count_down : (k c : ℕ) → is_among k (count_down c) ≡ (nat_lt 0 k && nat_le k c)
 among-count_down k zero = grind (arith, nat_tests)
 among-count_down k (suc c) = ap (λ b. (k == suc c) || b) (among-count_down k c) ∙ grind (arith, nat_tests)
 
-any-part : (q : Dot) (n : ℕ) (p : Clocks) → list_any (is_dot q) (map (dot n) (count_down p.clock ++ p.cloud)) ≡ ((q.name == n) && holds p q.clock)
+any-part : (q : Dot) (n : ℕ) (p : Clocks) →
+    list_any (is_dot q) (map (dot n) (count_down p.clock ++ p.cloud)) ≡ ((q.name == n) && holds p q.clock)
 any-part q n p =
     any-dots q n (count_down p.clock ++ p.cloud)
-    ∙ ap (λ b. (q.name == n) && b) (among-append q.clock (count_down p.clock) p.cloud ∙ ap (λ b. b || is_among q.clock p.cloud) (among-count_down q.clock p.clock))
+    ∙ ap (λ b. (q.name == n) && b)
+    (among-append q.clock (count_down p.clock) p.cloud ∙ ap (λ b. b || is_among q.clock p.cloud) (among-count_down q.clock p.clock))
 
 pub holds_none : (k : ℕ) → holds no_clocks k ≡ false
 holds_none k = grind (arith, nat_tests)
@@ -66,8 +75,8 @@ from q n (p ∷ ps) (suc j) e =
     ∙ from q (suc n) ps j (omega arith)
 
 -- a dot is in the set where its name's part has its clock
-pub contains-dots_of : (ps : List Clocks) (q : Dot) → set.contains (dots_of ps) q ≡ holds (part_at ps q.name) q.clock
-contains-dots_of ps q = set.contains-from_list dot_total (dots_from 0 ps) q ∙ from q 0 ps q.name (omega arith)
+pub contains-dots_of_parts : (ps : List Clocks) (q : Dot) → set.contains (dots_of_parts ps) q ≡ holds (part_at ps q.name) q.clock
+contains-dots_of_parts ps q = set.contains-from_list dot_total (dots_from 0 ps) q ∙ from q 0 ps q.name (omega arith)
 
 pub part_past : (ps : List Clocks) (n : ℕ) → length ps ≤ n → part_at ps n ≡ no_clocks
 part_past [] n h = refl
@@ -88,9 +97,9 @@ pub parts_set : (ps : List Clocks) (n : ℕ) (p : Clocks) → AreParts ps → Is
 parts_set ps n p h k = record { names = length-set ps n p ∙ h.names; canonical = canonical_set ps n p h.canonical k }
 
 -- each dot of the set may be in a set
-pub valid_dot : (ps : List Clocks) (q : Dot) → AreParts ps → set.contains (dots_of ps) q ≡ true → IsValid q
+pub valid_dot : (ps : List Clocks) (q : Dot) → AreParts ps → set.contains (dots_of_parts ps) q ≡ true → IsValid q
 valid_dot ps q h t =
-    let held : holds (part_at ps q.name) q.clock ≡ true = sym (contains-dots_of ps q) ∙ t in
+    let held : holds (part_at ps q.name) q.clock ≡ true = sym (contains-dots_of_parts ps q) ∙ t in
     let clock = holds_valid (part_at ps q.name) q.clock (canonical_at ps q.name h.canonical) held in
     record { name = go held (cases_lt q.name 32); first = omega arith; last = clock.1 }
   where
@@ -102,53 +111,60 @@ valid_dot ps q h t =
 
 -- one part changes
 
-pub at_set : (ps : List Clocks) (n : ℕ) (p : Clocks) (j : ℕ) → n < length ps → (P : Clocks → Type 0) → (j ≡ n → P p) → (j ≢ n → P (part_at ps j)) → P (part_at (slice_set ps n p) j)
+pub at_set : (ps : List Clocks) (n : ℕ) (p : Clocks) (j : ℕ) → n < length ps → (P : Clocks → Type 0) → (j ≡ n → P p) →
+    (j ≢ n → P (part_at ps j)) → P (part_at (slice_set ps n p) j)
 at_set ps n p j h P same other = go (cases_eq j n)
   where
     go : (j ≡ n) ⊎ (j ≢ n) → P (part_at (slice_set ps n p) j)
     go (inl e) = subst P (sym (ap (part_at (slice_set ps n p)) e ∙ get_or-set_same ps n p no_clocks h)) (same e)
     go (inr d) = subst P (sym (get_or-set_other ps n j p no_clocks d)) (other d)
 
-pub dots_of-gains : (ps : List Clocks) (n k : ℕ) (p : Clocks) → n < length ps → Gains (part_at ps n) k p → dots_of (slice_set ps n p) ≡ set.insert (dots_of ps) (dot n k)
-dots_of-gains ps n k p h gains = same_dots _ _ (λ q.
-    contains-dots_of (slice_set ps n p) q
+pub dots_of_parts-gains : (ps : List Clocks) (n k : ℕ) (p : Clocks) → n < length ps → Gains (part_at ps n) k p →
+    dots_of_parts (slice_set ps n p) ≡ set.insert (dots_of_parts ps) (dot n k)
+dots_of_parts-gains ps n k p h gains = same_dots _ _ (λ q.
+    contains-dots_of_parts (slice_set ps n p) q
     ∙ at_set ps n p q.name h (λ x. holds x q.clock ≡ (((q.name == n) && (q.clock == k)) || holds (part_at ps q.name) q.clock))
     (λ e. gains q.clock ∙ sym ((λ i. (eq-eqb q.name n e i && (q.clock == k)) || holds (part_at ps (e i)) q.clock)))
     (λ d. sym (ap (λ b. (b && (q.clock == k)) || holds (part_at ps q.name) q.clock) (ne_eqb q.name n d)))
-    ∙ sym (contains-insert (dots_of ps) (dot n k) q ∙ (λ i. is_dot-fields q n k i || contains-dots_of ps q i)))
+    ∙ sym (contains-insert (dots_of_parts ps) (dot n k) q ∙ (λ i. is_dot-fields q n k i || contains-dots_of_parts ps q i)))
 
-pub dots_of-loses : (ps : List Clocks) (n k : ℕ) (p : Clocks) → n < length ps → Loses (part_at ps n) k p → dots_of (slice_set ps n p) ≡ set.remove (dots_of ps) (dot n k)
-dots_of-loses ps n k p h loses = same_dots _ _ (λ q.
-    contains-dots_of (slice_set ps n p) q
+pub dots_of_parts-loses : (ps : List Clocks) (n k : ℕ) (p : Clocks) → n < length ps → Loses (part_at ps n) k p →
+    dots_of_parts (slice_set ps n p) ≡ set.remove (dots_of_parts ps) (dot n k)
+dots_of_parts-loses ps n k p h loses = same_dots _ _ (λ q.
+    contains-dots_of_parts (slice_set ps n p) q
     ∙ at_set ps n p q.name h (λ x. holds x q.clock ≡ (not ((q.name == n) && (q.clock == k)) && holds (part_at ps q.name) q.clock))
     (λ e. loses q.clock ∙ sym ((λ i. not (eq-eqb q.name n e i && (q.clock == k)) && holds (part_at ps (e i)) q.clock)))
     (λ d. sym (ap (λ b. not (b && (q.clock == k)) && holds (part_at ps q.name) q.clock) (ne_eqb q.name n d)))
-    ∙ sym (set.contains-remove dot_total (dots_of ps) (dot n k) q ∙ (λ i. not (is_dot-fields q n k i) && contains-dots_of ps q i)))
+    ∙ sym (set.contains-remove dot_total (dots_of_parts ps) (dot n k) q
+    ∙ (λ i. not (is_dot-fields q n k i) && contains-dots_of_parts ps q i)))
 
 -- the dots of the other names stay
-pub others_set : (ps : List Clocks) (n : ℕ) (p : Clocks) → n < length ps → others n (dots_of (slice_set ps n p)) ≡ others n (dots_of ps)
+pub others_set : (ps : List Clocks) (n : ℕ) (p : Clocks) → n < length ps →
+    others n (dots_of_parts (slice_set ps n p)) ≡ others n (dots_of_parts ps)
 others_set ps n p h = same_dots _ _ (λ q.
-    contains-retain (dots_of (slice_set ps n p)) (λ d. not (d.name == n)) q
+    contains-retain (dots_of_parts (slice_set ps n p)) (λ d. not (d.name == n)) q
     ∙ and_alike _ _ (not (q.name == n)) (λ other.
-    contains-dots_of (slice_set ps n p) q
-    ∙ at_set ps n p q.name h (λ x. holds x q.clock ≡ holds (part_at ps q.name) q.clock) (λ e. absurd (true≢false (sym other ∙ ap not (eq-eqb q.name n e)))) (λ d. refl)
-    ∙ sym (contains-dots_of ps q))
-    ∙ sym (contains-retain (dots_of ps) (λ d. not (d.name == n)) q))
+    contains-dots_of_parts (slice_set ps n p) q
+    ∙ at_set ps n p q.name h (λ x. holds x q.clock ≡ holds (part_at ps q.name) q.clock)
+    (λ e. absurd (true≢false (sym other ∙ ap not (eq-eqb q.name n e)))) (λ d. refl)
+    ∙ sym (contains-dots_of_parts ps q))
+    ∙ sym (contains-retain (dots_of_parts ps) (λ d. not (d.name == n)) q))
 
 -- a name without clocks
-pub dropped : (ps : List Clocks) (n : ℕ) → n < length ps → dots_of (slice_set ps n no_clocks) ≡ others n (dots_of ps)
+pub dropped : (ps : List Clocks) (n : ℕ) → n < length ps → dots_of_parts (slice_set ps n no_clocks) ≡ others n (dots_of_parts ps)
 dropped ps n h = same_dots _ _ (λ q.
-    contains-dots_of (slice_set ps n no_clocks) q
+    contains-dots_of_parts (slice_set ps n no_clocks) q
     ∙ at_set ps n no_clocks q.name h (λ x. holds x q.clock ≡ (holds (part_at ps q.name) q.clock && not (q.name == n)))
-    (λ e. holds_none q.clock ∙ sym (ap (λ b. holds (part_at ps q.name) q.clock && not b) (eq-eqb q.name n e) ∙ and-false (holds (part_at ps q.name) q.clock)))
+    (λ e. holds_none q.clock ∙ sym (ap (λ b. holds (part_at ps q.name) q.clock && not b) (eq-eqb q.name n e)
+    ∙ and-false (holds (part_at ps q.name) q.clock)))
     (λ d. sym (ap (λ b. holds (part_at ps q.name) q.clock && not b) (ne_eqb q.name n d) ∙ and-true (holds (part_at ps q.name) q.clock)))
-    ∙ sym (contains-retain (dots_of ps) (λ d. not (d.name == n)) q ∙ ap (λ b. b && not (q.name == n)) (contains-dots_of ps q)))
+    ∙ sym (contains-retain (dots_of_parts ps) (λ d. not (d.name == n)) q ∙ ap (λ b. b && not (q.name == n)) (contains-dots_of_parts ps q)))
 
 -- lists of parts with the same dots are one
-pub same_parts : (ps qs : List Clocks) → AreParts ps → AreParts qs → dots_of ps ≡ dots_of qs → ps ≡ qs
+pub same_parts : (ps qs : List Clocks) → AreParts ps → AreParts qs → dots_of_parts ps ≡ dots_of_parts qs → ps ≡ qs
 same_parts ps qs h k e = ext_get_or no_clocks ps qs (h.names ∙ sym k.names) (λ n _.
     same_clocks (part_at ps n) (part_at qs n) (canonical_at ps n h.canonical) (canonical_at qs n k.canonical) (λ c.
-    sym (contains-dots_of ps (dot n c)) ∙ ap (λ s. set.contains s (dot n c)) e ∙ contains-dots_of qs (dot n c)))
+    sym (contains-dots_of_parts ps (dot n c)) ∙ ap (λ s. set.contains s (dot n c)) e ∙ contains-dots_of_parts qs (dot n c)))
 
 -- contexts and clouds
 
@@ -158,27 +174,30 @@ among_contains xs k h = let p = among_place xs k h in (p.0, p.1, get_or_default 
 contains_among : (xs : List ℕ) (k : ℕ) → Contains xs k → is_among k xs ≡ true
 contains_among xs k h = among_at xs h.0 k h.1 (get_or_default xs h.0 0 k h.1 ∙ h.2)
 
-pub context_at : (ps : List Clocks) (n : ℕ) → AreParts ps → IsContext (dots_of ps) n (part_at ps n).clock
+pub context_at : (ps : List Clocks) (n : ℕ) → AreParts ps → IsContext (dots_of_parts ps) n (part_at ps n).clock
 context_at ps n h =
     let canonical = canonical_at ps n h.canonical in
     record {
-      all = λ k le. ((λ t. let v = holds_valid (part_at ps n) k canonical (sym (contains-dots_of ps (dot n k)) ∙ t) in v.0), (λ pos. contains-dots_of ps (dot n k) ∙ holds_low (part_at ps n) k pos le));
-      greatest = contains-dots_of ps (dot n ((part_at ps n).clock + 1)) ∙ holds_next (part_at ps n) canonical;
+      all = λ k le. (
+        (λ t. let v = holds_valid (part_at ps n) k canonical (sym (contains-dots_of_parts ps (dot n k)) ∙ t) in v.0),
+        (λ pos. contains-dots_of_parts ps (dot n k) ∙ holds_low (part_at ps n) k pos le),
+      );
+      greatest = contains-dots_of_parts ps (dot n ((part_at ps n).clock + 1)) ∙ holds_next (part_at ps n) canonical;
     }
 
-pub cloud_at : (ps : List Clocks) (n : ℕ) → AreParts ps → IsCloud (dots_of ps) n (part_at ps n).clock (part_at ps n).cloud
+pub cloud_at : (ps : List Clocks) (n : ℕ) → AreParts ps → IsCloud (dots_of_parts ps) n (part_at ps n).clock (part_at ps n).cloud
 cloud_at ps n h =
     let p = part_at ps n in
     let canonical = canonical_at ps n h.canonical in
     record {
       rises = rises_lower p.clock (p.clock + 1) p.cloud (omega arith) canonical.rises;
       others = λ k lt. (
-        (λ t. among_contains p.cloud k (sym (holds_high p k lt) ∙ sym (contains-dots_of ps (dot n k)) ∙ t)),
-        (λ c. contains-dots_of ps (dot n k) ∙ holds_high p k lt ∙ contains_among p.cloud k c),
+        (λ t. among_contains p.cloud k (sym (holds_high p k lt) ∙ sym (contains-dots_of_parts ps (dot n k)) ∙ t)),
+        (λ c. contains-dots_of_parts ps (dot n k) ∙ holds_high p k lt ∙ contains_among p.cloud k c),
       );
     }
 
-pub part_is : (ps : List Clocks) (n : ℕ) → AreParts ps → IsPartOf (dots_of ps) n (part_at ps n)
+pub part_is : (ps : List Clocks) (n : ℕ) → AreParts ps → IsPartOf (dots_of_parts ps) n (part_at ps n)
 part_is ps n h = record { context = context_at ps n h; cloud = cloud_at ps n h }
 
 -- there is one context clock
@@ -192,9 +211,10 @@ one_context s n b c h k = let le = no_less b c h k in let ge = no_less c b k h i
         go (inl lt) = absurd (true≢false (sym ((k.all (b + 1) (omega arith)).1 (omega arith)) ∙ h.greatest))
         go (inr le) = le
 
-pub cloud_of_at : (ps : List Clocks) (n : ℕ) → AreParts ps → IsCloudOf (dots_of ps) n (part_at ps n).cloud
+pub cloud_of_at : (ps : List Clocks) (n : ℕ) → AreParts ps → IsCloudOf (dots_of_parts ps) n (part_at ps n).cloud
 cloud_of_at ps n h c k =
-    subst (λ z. IsCloud (dots_of ps) n z (part_at ps n).cloud) (one_context (dots_of ps) n (part_at ps n).clock c (context_at ps n h) k) (cloud_at ps n h)
+    subst (λ z. IsCloud (dots_of_parts ps) n z (part_at ps n).cloud)
+    (one_context (dots_of_parts ps) n (part_at ps n).clock c (context_at ps n h) k) (cloud_at ps n h)
 
 up_to : (c k : ℕ) → (k ≤ c) ⊎ (c < k)
 up_to c k = go (cases_lt c k)
@@ -230,12 +250,16 @@ part_law s t name part h k e = same_dots s t (λ q. go q (cases_eq q.name name))
   where
     at_clock : (clock : ℕ) → (clock ≤ part.clock) ⊎ (part.clock < clock) → set.contains s (dot name clock) ≡ set.contains t (dot name clock)
     at_clock clock (inl le) =
-        same_tests _ _ (λ a. (k.context.all clock le).1 ((h.context.all clock le).0 a)) (λ a. (h.context.all clock le).1 ((k.context.all clock le).0 a))
+        same_tests _ _ (λ a. (k.context.all clock le).1 ((h.context.all clock le).0 a))
+        (λ a. (h.context.all clock le).1 ((k.context.all clock le).0 a))
     at_clock clock (inr lt) =
-        same_tests _ _ (λ a. (k.cloud.others clock lt).1 ((h.cloud.others clock lt).0 a)) (λ a. (h.cloud.others clock lt).1 ((k.cloud.others clock lt).0 a))
+        same_tests _ _ (λ a. (k.cloud.others clock lt).1 ((h.cloud.others clock lt).0 a))
+        (λ a. (h.cloud.others clock lt).1 ((k.cloud.others clock lt).0 a))
 
     kept : (s : Dots) (q : Dot) → q.name ≢ name → set.contains (others name s) q ≡ set.contains s q
-    kept s q d = contains-retain s (λ d. not (d.name == name)) q ∙ ap (λ b. set.contains s q && not b) (ne_eqb q.name name d) ∙ and-true (set.contains s q)
+    kept s q d =
+        contains-retain s (λ d. not (d.name == name)) q ∙ ap (λ b. set.contains s q && not b) (ne_eqb q.name name d)
+        ∙ and-true (set.contains s q)
 
     go : (q : Dot) → (q.name ≡ name) ⊎ (q.name ≢ name) → set.contains s q ≡ set.contains t q
     go q (inl n) =
@@ -246,37 +270,54 @@ part_law s t name part h k e = same_dots s t (λ q. go q (cases_eq q.name name))
 -- the part that the code reads, and what it puts in its place
 
 pub read_part : (ps : List Clocks) (i n : ℕ) (d : Clocks) → AreParts ps → i ≡ n → n < 32 → get_or ps i d ≡ part_at ps n
-read_part ps i n d h e lt = let within : i < length ps = omega (arith, h.names) in get_or_default ps i d no_clocks within ∙ ap (part_at ps) e
+read_part ps i n d h e lt =
+    let within : i < length ps = omega (arith, h.names) in get_or_default ps i d no_clocks within ∙ ap (part_at ps) e
 
-pub held_at : (ps : List Clocks) (i : ℕ) (q : Dot) (d : Clocks) (s : Dots) → AreParts ps → i ≡ q.name → q.name < 32 → dots_of ps ≡ s → holds (get_or ps i d) q.clock ≡ set.contains s q
-held_at ps i q d s h e lt view = ap (λ p. holds p q.clock) (read_part ps i q.name d h e lt) ∙ sym (contains-dots_of ps q) ∙ ap (λ s. set.contains s q) view
+pub held_at : (ps : List Clocks) (i : ℕ) (q : Dot) (d : Clocks) (s : Dots) → AreParts ps → i ≡ q.name → q.name < 32 → dots_of_parts ps ≡ s →
+    holds (get_or ps i d) q.clock ≡ set.contains s q
+held_at ps i q d s h e lt view =
+    ap (λ p. holds p q.clock) (read_part ps i q.name d h e lt) ∙ sym (contains-dots_of_parts ps q) ∙ ap (λ s. set.contains s q) view
 
-pub absent : (ps : List Clocks) (q : Dot) → AreParts ps → 32 ≤ q.name → set.contains (dots_of ps) q ≡ false
+pub absent : (ps : List Clocks) (q : Dot) → AreParts ps → 32 ≤ q.name → set.contains (dots_of_parts ps) q ≡ false
 absent ps q h le = false_from_ne_true _ (λ t. let v = valid_dot ps q h t in let name = v.name in absurd (omega arith))
 
-pub insert_at : (ps : List Clocks) (i : ℕ) (q : Dot) (d p : Clocks) (s : Dots) → AreParts ps → i ≡ q.name → q.name < 32 → dots_of ps ≡ s → Gains (get_or ps i d) q.clock p → dots_of (slice_set ps i p) ≡ set.insert s q
+pub insert_at : (ps : List Clocks) (i : ℕ) (q : Dot) (d p : Clocks) (s : Dots) → AreParts ps → i ≡ q.name → q.name < 32 →
+    dots_of_parts ps ≡ s → Gains (get_or ps i d) q.clock p → dots_of_parts (slice_set ps i p) ≡ set.insert s q
 insert_at ps i q d p s h e lt view gains =
     let at : get_or ps i d ≡ part_at ps i = read_part ps i i d h refl (omega arith) in
-    dots_of-gains ps i q.clock p (omega (arith, h.names)) (subst (λ z. Gains z q.clock p) at gains) ∙ (λ j. set.insert (view j) (dot (e j) q.clock))
+    dots_of_parts-gains ps i q.clock p (omega (arith, h.names)) (subst (λ z. Gains z q.clock p) at gains)
+    ∙ (λ j. set.insert (view j) (dot (e j) q.clock))
 
-pub remove_at : (ps : List Clocks) (i : ℕ) (q : Dot) (d p : Clocks) (s : Dots) → AreParts ps → i ≡ q.name → q.name < 32 → dots_of ps ≡ s → Loses (get_or ps i d) q.clock p → dots_of (slice_set ps i p) ≡ set.remove s q
+pub remove_at : (ps : List Clocks) (i : ℕ) (q : Dot) (d p : Clocks) (s : Dots) → AreParts ps → i ≡ q.name → q.name < 32 →
+    dots_of_parts ps ≡ s → Loses (get_or ps i d) q.clock p → dots_of_parts (slice_set ps i p) ≡ set.remove s q
 remove_at ps i q d p s h e lt view loses =
     let at : get_or ps i d ≡ part_at ps i = read_part ps i i d h refl (omega arith) in
-    dots_of-loses ps i q.clock p (omega (arith, h.names)) (subst (λ z. Loses z q.clock p) at loses) ∙ (λ j. set.remove (view j) (dot (e j) q.clock))
+    dots_of_parts-loses ps i q.clock p (omega (arith, h.names)) (subst (λ z. Loses z q.clock p) at loses)
+    ∙ (λ j. set.remove (view j) (dot (e j) q.clock))
 
-pub part_read : (ps : List Clocks) (i n : ℕ) (d : Clocks) (s : Dots) → AreParts ps → i ≡ n → n < 32 → dots_of ps ≡ s → IsPartOf s n (get_or ps i d)
-part_read ps i n d s h e lt view = subst (λ s. IsPartOf s n (get_or ps i d)) view (subst (IsPartOf (dots_of ps) n) (sym (read_part ps i n d h e lt)) (part_is ps n h))
+pub part_read : (ps : List Clocks) (i n : ℕ) (d : Clocks) (s : Dots) → AreParts ps → i ≡ n → n < 32 → dots_of_parts ps ≡ s →
+    IsPartOf s n (get_or ps i d)
+part_read ps i n d s h e lt view =
+    subst (λ s. IsPartOf s n (get_or ps i d)) view
+    (subst (IsPartOf (dots_of_parts ps) n) (sym (read_part ps i n d h e lt)) (part_is ps n h))
 
-pub part_put : (ps : List Clocks) (i n : ℕ) (p : Clocks) → AreParts ps → i ≡ n → n < 32 → IsCanonical p → IsPartOf (dots_of (slice_set ps i p)) n p
+pub part_put : (ps : List Clocks) (i n : ℕ) (p : Clocks) → AreParts ps → i ≡ n → n < 32 → IsCanonical p →
+    IsPartOf (dots_of_parts (slice_set ps i p)) n p
 part_put ps i n p h e lt canonical =
-    let same : part_at (slice_set ps i p) n ≡ p = ap (part_at (slice_set ps i p)) (sym e) ∙ get_or-set_same ps i p no_clocks (omega (arith, h.names)) in
-    subst (IsPartOf (dots_of (slice_set ps i p)) n) same (part_is (slice_set ps i p) n (parts_set ps i p h canonical))
+    let same : part_at (slice_set ps i p) n ≡ p = ap (part_at (slice_set ps i p)) (sym e)
+    ∙ get_or-set_same ps i p no_clocks (omega (arith, h.names)) in
+    subst (IsPartOf (dots_of_parts (slice_set ps i p)) n) same (part_is (slice_set ps i p) n (parts_set ps i p h canonical))
 
-pub rest_put : (ps : List Clocks) (i n : ℕ) (p : Clocks) (s : Dots) → AreParts ps → i ≡ n → n < 32 → dots_of ps ≡ s → others n (dots_of (slice_set ps i p)) ≡ others n s
-rest_put ps i n p s h e lt view = ap (λ m. others m (dots_of (slice_set ps i p))) (sym e) ∙ others_set ps i p (omega (arith, h.names)) ∙ (λ j. others (e j) (view j))
+pub rest_put : (ps : List Clocks) (i n : ℕ) (p : Clocks) (s : Dots) → AreParts ps → i ≡ n → n < 32 → dots_of_parts ps ≡ s →
+    others n (dots_of_parts (slice_set ps i p)) ≡ others n s
+rest_put ps i n p s h e lt view =
+    ap (λ m. others m (dots_of_parts (slice_set ps i p))) (sym e) ∙ others_set ps i p (omega (arith, h.names))
+    ∙ (λ j. others (e j) (view j))
 
-pub drop_at : (ps : List Clocks) (i n : ℕ) (p : Clocks) (s : Dots) → AreParts ps → i ≡ n → n < 32 → p ≡ no_clocks → dots_of ps ≡ s → dots_of (slice_set ps i p) ≡ others n s
-drop_at ps i n p s h e lt none view = ap (λ p. dots_of (slice_set ps i p)) none ∙ dropped ps i (omega (arith, h.names)) ∙ (λ j. others (e j) (view j))
+pub drop_at : (ps : List Clocks) (i n : ℕ) (p : Clocks) (s : Dots) → AreParts ps → i ≡ n → n < 32 → p ≡ no_clocks → dots_of_parts ps ≡ s →
+    dots_of_parts (slice_set ps i p) ≡ others n s
+drop_at ps i n p s h e lt none view =
+    ap (λ p. dots_of_parts (slice_set ps i p)) none ∙ dropped ps i (omega (arith, h.names)) ∙ (λ j. others (e j) (view j))
 
 -- the empty set
 
@@ -285,28 +326,34 @@ none_canonical = record { last = omega arith; rises = tt }
 
 canonical_each : (ps : List Clocks) → ((n : ℕ) → n < length ps → part_at ps n ≡ no_clocks) → AllCanonical ps
 canonical_each [] h = tt
-canonical_each (p ∷ ps) h = (subst IsCanonical (sym (h 0 (omega arith))) none_canonical, canonical_each ps (λ n lt. h (suc n) (omega arith)))
+canonical_each (p ∷ ps) h =
+    (subst IsCanonical (sym (h 0 (omega arith))) none_canonical, canonical_each ps (λ n lt. h (suc n) (omega arith)))
 
 pub no_parts : (ps : List Clocks) → length ps ≡ 32 → ((n : ℕ) → n < length ps → part_at ps n ≡ no_clocks) → AreParts ps
 no_parts ps l h = record { names = l; canonical = canonical_each ps h }
 
-pub empty_set : (ps : List Clocks) → ((n : ℕ) → n < length ps → part_at ps n ≡ no_clocks) → dots_of ps ≡ set.empty
-empty_set ps h = same_dots _ _ (λ q. contains-dots_of ps q ∙ ap (λ p. holds p q.clock) (go q.name (cases_lt q.name (length ps))) ∙ holds_none q.clock ∙ sym (set.contains-empty dot_cmp q))
+pub empty_set : (ps : List Clocks) → ((n : ℕ) → n < length ps → part_at ps n ≡ no_clocks) → dots_of_parts ps ≡ set.empty
+empty_set ps h =
+    same_dots _ _ (λ q. contains-dots_of_parts ps q ∙ ap (λ p. holds p q.clock) (go q.name (cases_lt q.name (length ps)))
+    ∙ holds_none q.clock ∙ sym (set.contains-empty dot_cmp q))
   where
     go : (n : ℕ) → (n < length ps) ⊎ (length ps ≤ n) → part_at ps n ≡ no_clocks
     go n (inl lt) = h n lt
     go n (inr le) = part_past ps n le
 
-pub empty_part : (ps : List Clocks) (n : ℕ) → AreParts ps → dots_of ps ≡ set.empty → part_at ps n ≡ no_clocks
+pub empty_part : (ps : List Clocks) (n : ℕ) → AreParts ps → dots_of_parts ps ≡ set.empty → part_at ps n ≡ no_clocks
 empty_part ps n h e = same_clocks (part_at ps n) no_clocks (canonical_at ps n h.canonical) none_canonical (λ k.
-    sym (contains-dots_of ps (dot n k)) ∙ ap (λ s. set.contains s (dot n k)) e ∙ set.contains-empty dot_cmp (dot n k) ∙ sym (holds_none k))
+    sym (contains-dots_of_parts ps (dot n k)) ∙ ap (λ s. set.contains s (dot n k)) e ∙ set.contains-empty dot_cmp (dot n k)
+    ∙ sym (holds_none k))
 
 -- lists of parts that agree at each name
 pub agreeing_parts : (ps qs : List Clocks) → AreParts ps → AreParts qs → ((n : ℕ) → n < 32 → part_at ps n ≡ part_at qs n) → ps ≡ qs
 agreeing_parts ps qs h k same = ext_get_or no_clocks ps qs (h.names ∙ sym k.names) (λ n lt. same n (omega (arith, h.names)))
 
 -- the dots of some names, part by part
-pub chosen_dots : (ps qs : List Clocks) (p : ℕ → Bool) (s : Dots) → ((n k : ℕ) → holds (part_at qs n) k ≡ (p n && holds (part_at ps n) k)) → dots_of ps ≡ s → dots_of qs ≡ of_names p s
+pub chosen_dots : (ps qs : List Clocks) (p : ℕ → Bool) (s : Dots) → ((n k : ℕ) → holds (part_at qs n) k ≡ (p n && holds (part_at ps n) k)) →
+    dots_of_parts ps ≡ s → dots_of_parts qs ≡ of_names p s
 chosen_dots ps qs p s h view = same_dots _ _ (λ q.
-    contains-dots_of qs q ∙ h q.name q.clock ∙ and_comm (p q.name) (holds (part_at ps q.name) q.clock) ∙ ap (λ b. b && p q.name) (sym (contains-dots_of ps q))
+    contains-dots_of_parts qs q ∙ h q.name q.clock ∙ and_comm (p q.name) (holds (part_at ps q.name) q.clock)
+    ∙ ap (λ b. b && p q.name) (sym (contains-dots_of_parts ps q))
     ∙ ap (λ s. set.contains s q && p q.name) view ∙ sym (contains-retain s (λ d. p d.name) q))

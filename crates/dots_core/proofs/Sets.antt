@@ -37,7 +37,8 @@ inserted_cases s k q h = go (dot_cases q k)
     go (inl e) = inl e
     go (inr d) = inr (sym (contains_insert_other s k q d) ∙ h)
 
-pub of_names_cases : (s : Dots) (p : ℕ → Bool) (q : Dot) → set.contains (of_names p s) q ≡ true → (set.contains s q ≡ true) × (p q.name ≡ true)
+pub of_names_cases : (s : Dots) (p : ℕ → Bool) (q : Dot) → set.contains (of_names p s) q ≡ true →
+    (set.contains s q ≡ true) × (p q.name ≡ true)
 of_names_cases s p q h = and_parts _ _ (sym (contains-retain s (λ d. p d.name) q) ∙ h)
 
 pub of_names_has : (s : Dots) (p : ℕ → Bool) (q : Dot) → set.contains s q ≡ true → p q.name ≡ true → set.contains (of_names p s) q ≡ true

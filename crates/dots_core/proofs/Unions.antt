@@ -1,5 +1,7 @@
 -- The union of two parts, taken from the least clock on.
-use Rattle.std.proofs.Common.{◌≡◌, ◌≢◌, ◌⊎◌, inl, inr, ℕ, zero, suc, ◌+◌, ◌<◌, ◌≤◌, ◌==◌, nat_lt, nat_le, ◌&&◌, ◌||◌, not, min, max, Bool, true, false, List, [], ◌∷◌, ◌++◌, length, get_or, slice_set, get_or-set_same, get_or-set_other, take, if◌then◌else◌, Some, None, refl, sym, ap, subst, ◌∙◌, arith, true≢false}
+use Rattle.std.proofs.Common.{◌≡◌, ◌≢◌, ◌⊎◌, inl, inr, ℕ, zero, suc, ◌+◌, ◌<◌, ◌≤◌, ◌==◌, nat_lt, nat_le, ◌&&◌, ◌||◌, not, min, max, Bool, true, false}
+use Rattle.std.proofs.Common.{List, [], ◌∷◌, ◌++◌, length, get_or, slice_set, get_or-set_same, get_or-set_other, take, if◌then◌else◌, Some, None, refl, sym}
+use Rattle.std.proofs.Common.{ap, subst, ◌∙◌, arith, true≢false}
 use Rattle.std.proofs.Math.Bool.{and-false, or-false, or_comm}
 use Rattle.std.proofs.lemmas.Bool.{eq-eqb, eqb-true, eqb-false, cases_eq, cases_lt, or_left, or_right, or_cases}
 use Rattle.std.proofs.lemmas.Bool.Decides.{nat_tests}
@@ -9,16 +11,17 @@ use Rattle.dots_core.specs.declared.dot.Dot.{Dot}
 use Rattle.dots_core.specs.Dots.{Dots, of_names}
 use Rattle.dots_core.specs.Names.{Names, HasAll}
 use Rattle.dots_core.specs.Clocks.{Clocks, no_clocks, is_among, holds, RisesAbove, IsCanonical, Gains, IsUnion}
-use Rattle.dots_core.specs.Parts.{dots_of, part_at, AreParts}
+use Rattle.dots_core.specs.Parts.{dots_of_parts, part_at, AreParts}
 use Rattle.dots_core.specs.Unions.{IsLeast, without_first, AddsOnly, HasEach, IsGrown, IsUnionFrom}
 use Rattle.dots_core.proofs.Clocks.{or_swap, among_head, among_cases, rises_lower, rises_within, rises-append, holds_low, holds_cases, same_clocks}
 use Rattle.dots_core.proofs.Names.{contains-remove_name}
 use Rattle.dots_core.proofs.Sets.{contains-retain, contains-union, same_dots}
-use Rattle.dots_core.proofs.Parts.{contains-dots_of, part_past, canonical_at, parts_set, at_set, read_part, holds_none, empty_part, chosen_dots}
+use Rattle.dots_core.proofs.Parts.{contains-dots_of_parts, part_past, canonical_at, parts_set, at_set, read_part, holds_none, empty_part, chosen_dots}
 
 -- the first of a list that rises is its least
 
-pub first_least : (xs : List ℕ) (x : ℕ) → RisesAbove 0 xs → Some x ≡ slice_get xs 0 → (is_among x xs ≡ true) × ((k : ℕ) → is_among k xs ≡ true → x ≤ k)
+pub first_least : (xs : List ℕ) (x : ℕ) → RisesAbove 0 xs → Some x ≡ slice_get xs 0 →
+    (is_among x xs ≡ true) × ((k : ℕ) → is_among k xs ≡ true → x ≤ k)
 first_least [] x h e = absurd (cc)
 first_least (y ∷ ys) x h e = let first : x ≡ y = cc in (or_left (x == y) _ (eq-eqb x y first), λ k t. go k first (among_cases k y ys t))
   where
@@ -32,7 +35,8 @@ none_first (y ∷ ys) e k t = absurd (cc)
 
 pub least_alone : (xs ys : List ℕ) (x : ℕ) → RisesAbove 0 xs → Some x ≡ slice_get xs 0 → None ≡ slice_get ys 0 → IsLeast xs ys (Some x)
 least_alone xs ys x h e none =
-    let first = first_least xs x h e in (or_left (is_among x xs) (is_among x ys) first.0, λ k t. go k first.1 (or_cases (is_among k xs) (is_among k ys) t))
+    let first = first_least xs x h e in
+    (or_left (is_among x xs) (is_among x ys) first.0, λ k t. go k first.1 (or_cases (is_among k xs) (is_among k ys) t))
   where
     go : (k : ℕ) → ((k : ℕ) → is_among k xs ≡ true → x ≤ k) → (is_among k xs ≡ true) ⊎ (is_among k ys ≡ true) → x ≤ k
     go k least (inl t) = least k t
@@ -41,19 +45,23 @@ least_alone xs ys x h e none =
 pub least_turned : (xs ys : List ℕ) (n : ℕ) → IsLeast xs ys (Some n) → IsLeast ys xs (Some n)
 least_turned xs ys n h = (or_comm (is_among n ys) (is_among n xs) ∙ h.0, λ k t. h.1 k (or_comm (is_among k xs) (is_among k ys) ∙ t))
 
-pub least_of_both : (xs ys : List ℕ) (x y n : ℕ) → RisesAbove 0 xs → RisesAbove 0 ys → Some x ≡ slice_get xs 0 → Some y ≡ slice_get ys 0 → n ≤ x → n ≤ y → (n ≡ x) ⊎ (n ≡ y) → IsLeast xs ys (Some n)
+pub least_of_both : (xs ys : List ℕ) (x y n : ℕ) → RisesAbove 0 xs → RisesAbove 0 ys → Some x ≡ slice_get xs 0 → Some y ≡ slice_get ys 0 →
+    n ≤ x → n ≤ y → (n ≡ x) ⊎ (n ≡ y) → IsLeast xs ys (Some n)
 least_of_both xs ys x y n h k e f le le' which =
-    let left = first_least xs x h e in let right = first_least ys y k f in (there left.0 right.0 which, λ j t. go j left.1 right.1 (or_cases (is_among j xs) (is_among j ys) t))
+    let left = first_least xs x h e in let right = first_least ys y k f in
+    (there left.0 right.0 which, λ j t. go j left.1 right.1 (or_cases (is_among j xs) (is_among j ys) t))
   where
     there : is_among x xs ≡ true → is_among y ys ≡ true → (n ≡ x) ⊎ (n ≡ y) → (is_among n xs || is_among n ys) ≡ true
     there a b (inl e) = or_left (is_among n xs) _ (ap (λ z. is_among z xs) e ∙ a)
     there a b (inr e) = or_right (is_among n xs) _ (ap (λ z. is_among z ys) e ∙ b)
 
-    go : (j : ℕ) → ((k : ℕ) → is_among k xs ≡ true → x ≤ k) → ((k : ℕ) → is_among k ys ≡ true → y ≤ k) → (is_among j xs ≡ true) ⊎ (is_among j ys ≡ true) → n ≤ j
+    go : (j : ℕ) → ((k : ℕ) → is_among k xs ≡ true → x ≤ k) → ((k : ℕ) → is_among k ys ≡ true → y ≤ k) →
+        (is_among j xs ≡ true) ⊎ (is_among j ys ≡ true) → n ≤ j
     go j a b (inl t) = let low = a j t in omega arith
     go j a b (inr t) = let low = b j t in omega arith
 
-pub least_lower : (xs ys : List ℕ) (x y n : ℕ) → RisesAbove 0 xs → RisesAbove 0 ys → Some x ≡ slice_get xs 0 → Some y ≡ slice_get ys 0 → n ≡ min x y → IsLeast xs ys (Some n)
+pub least_lower : (xs ys : List ℕ) (x y n : ℕ) → RisesAbove 0 xs → RisesAbove 0 ys → Some x ≡ slice_get xs 0 → Some y ≡ slice_get ys 0 →
+    n ≡ min x y → IsLeast xs ys (Some n)
 least_lower xs ys x y n h k e f is = least_of_both xs ys x y n h k e f (omega arith) (omega arith) (go (cases_lt x y))
   where
     go : (x < y) ⊎ (y ≤ x) → (n ≡ x) ⊎ (n ≡ y)
@@ -72,7 +80,8 @@ among-without_first k n [] = refl
 among-without_first k n (x ∷ xs) = go (x == n) refl
   where
     go : (b : Bool) → (x == n) ≡ b → (is_among k (if b then xs else x ∷ xs) || (k == n)) ≡ (((k == x) || is_among k xs) || (k == n))
-    go true e = let is : x ≡ n = eqb-true x n e in drops (k == n) (is_among k xs) ∙ ap (λ z. ((k == z) || is_among k xs) || (k == n)) (sym is)
+    go true e =
+        let is : x ≡ n = eqb-true x n e in drops (k == n) (is_among k xs) ∙ ap (λ z. ((k == z) || is_among k xs) || (k == n)) (sym is)
     go false e = refl
 
 pub rises-without_first : (b n : ℕ) (xs : List ℕ) → RisesAbove b xs → RisesAbove b (without_first n xs)
@@ -84,7 +93,8 @@ rises-without_first b n (x ∷ xs) h = go (x == n)
     go false = h
 
 -- they rise above the least
-pub rises_above_least : (b n : ℕ) (xs : List ℕ) → RisesAbove b xs → ((k : ℕ) → is_among k xs ≡ true → n ≤ k) → RisesAbove n (without_first n xs)
+pub rises_above_least : (b n : ℕ) (xs : List ℕ) → RisesAbove b xs → ((k : ℕ) → is_among k xs ≡ true → n ≤ k) →
+    RisesAbove n (without_first n xs)
 rises_above_least b n [] h least = tt
 rises_above_least b n (x ∷ xs) h least = go (x == n) refl (least x (among_head x xs))
   where
@@ -100,7 +110,8 @@ without_first_le n (x ∷ xs) = go (x == n)
     go true = omega arith
     go false = omega arith
 
-pub without_first_lt : (n : ℕ) (xs : List ℕ) → RisesAbove 0 xs → is_among n xs ≡ true → ((k : ℕ) → is_among k xs ≡ true → n ≤ k) → length (without_first n xs) < length xs
+pub without_first_lt : (n : ℕ) (xs : List ℕ) → RisesAbove 0 xs → is_among n xs ≡ true → ((k : ℕ) → is_among k xs ≡ true → n ≤ k) →
+    length (without_first n xs) < length xs
 without_first_lt n [] h t least = absurd (true≢false (sym t))
 without_first_lt n (x ∷ xs) h t least = go (x == n) refl (first (among_cases n x xs t) (least x (among_head x xs)))
   where
@@ -112,12 +123,17 @@ without_first_lt n (x ∷ xs) h t least = go (x == n) refl (first (among_cases n
     go true e is = omega arith
     go false e is = absurd (true≢false (sym (eq-eqb x n (sym is)) ∙ e))
 
-pub rest_shorter : (xs ys : List ℕ) (n : ℕ) → RisesAbove 0 xs → RisesAbove 0 ys → IsLeast xs ys (Some n) → length (without_first n xs) + length (without_first n ys) < length xs + length ys
+pub rest_shorter : (xs ys : List ℕ) (n : ℕ) → RisesAbove 0 xs → RisesAbove 0 ys → IsLeast xs ys (Some n) →
+    length (without_first n xs) + length (without_first n ys) < length xs + length ys
 rest_shorter xs ys n h k least = go (or_cases (is_among n xs) (is_among n ys) least.0)
   where
     go : (is_among n xs ≡ true) ⊎ (is_among n ys ≡ true) → length (without_first n xs) + length (without_first n ys) < length xs + length ys
-    go (inl t) = let a = without_first_lt n xs h t (λ j t. least.1 j (or_left (is_among j xs) (is_among j ys) t)) in let b = without_first_le n ys in omega arith
-    go (inr t) = let a = without_first_le n xs in let b = without_first_lt n ys k t (λ j t. least.1 j (or_right (is_among j xs) (is_among j ys) t)) in omega arith
+    go (inl t) =
+        let a = without_first_lt n xs h t (λ j t. least.1 j (or_left (is_among j xs) (is_among j ys) t)) in let b = without_first_le n ys in
+        omega arith
+    go (inr t) =
+        let a = without_first_le n xs in
+        let b = without_first_lt n ys k t (λ j t. least.1 j (or_right (is_among j xs) (is_among j ys) t)) in omega arith
 
 -- the union, as far as it is made: its clocks with those left are those of both parts, and what is left rises above its cloud
 pub record Merges (p q u : Clocks) (xs ys : List ℕ) : Type 0 where
@@ -127,11 +143,13 @@ pub record Merges (p q u : Clocks) (xs ys : List ℕ) : Type 0 where
   pub right : RisesAbove 0 ys
   pub above : (k : ℕ) → is_among k u.cloud ≡ true → RisesAbove k xs × RisesAbove k ys
 
-from_max : (a b m k : ℕ) (x y : Bool) → a ≤ m → b ≤ m → (m ≡ a) ⊎ (m ≡ b) → (((nat_lt 0 k && nat_le k m) || false) || (x || y)) ≡ (((nat_lt 0 k && nat_le k a) || x) || ((nat_lt 0 k && nat_le k b) || y))
+from_max : (a b m k : ℕ) (x y : Bool) → a ≤ m → b ≤ m → (m ≡ a) ⊎ (m ≡ b) →
+    (((nat_lt 0 k && nat_le k m) || false) || (x || y)) ≡ (((nat_lt 0 k && nat_le k a) || x) || ((nat_lt 0 k && nat_le k b) || y))
 from_max a b m k x y h h' (inl e) = grind (arith, nat_tests)
 from_max a b m k x y h h' (inr e) = grind (arith, nat_tests)
 
-pub merges_first : (p q : Clocks) (m : ℕ) → IsCanonical p → IsCanonical q → p.clock ≤ m → q.clock ≤ m → (m ≡ p.clock) ⊎ (m ≡ q.clock) → Merges p q (record { clock = m; cloud = [] }) p.cloud q.cloud
+pub merges_first : (p q : Clocks) (m : ℕ) → IsCanonical p → IsCanonical q → p.clock ≤ m → q.clock ≤ m → (m ≡ p.clock) ⊎ (m ≡ q.clock) →
+    Merges p q (record { clock = m; cloud = [] }) p.cloud q.cloud
 merges_first p q m h k le le' which = record {
   canonical = record { last = low which; rises = tt };
   clocks = λ j. from_max p.clock q.clock m j (is_among j p.cloud) (is_among j q.cloud) le le' which;
@@ -144,7 +162,8 @@ merges_first p q m h k le le' which = record {
     low (inl e) = let l = h.last in omega arith
     low (inr e) = let l = k.last in omega arith
 
-pub merges_start : (p q r s : Clocks) (m : ℕ) (us xs ys : List ℕ) → p ≡ r → q ≡ s → IsCanonical p → IsCanonical q → m ≡ max p.clock q.clock → us ≡ [] → xs ≡ p.cloud → ys ≡ q.cloud → Merges r s (record { clock = m; cloud = us }) xs ys
+pub merges_start : (p q r s : Clocks) (m : ℕ) (us xs ys : List ℕ) → p ≡ r → q ≡ s → IsCanonical p → IsCanonical q →
+    m ≡ max p.clock q.clock → us ≡ [] → xs ≡ p.cloud → ys ≡ q.cloud → Merges r s (record { clock = m; cloud = us }) xs ys
 merges_start p q r s m us xs ys pe qe h k me ue xe ye =
     subst (λ r. Merges r s (record { clock = m; cloud = us }) xs ys) pe
     (subst (λ s. Merges p s (record { clock = m; cloud = us }) xs ys) qe
@@ -157,22 +176,28 @@ merges_start p q r s m us xs ys pe qe h k me ue xe ye =
     go (inl lt) = inr (omega arith)
     go (inr le) = inl (omega arith)
 
-pub next_valid : (p q u : Clocks) (left right : List ℕ) (n : ℕ) → Merges p q u left right → IsLeast left right (Some n) → (0 < n) × (n ≤ 1000000000) × ((k : ℕ) → is_among k u.cloud ≡ true → k < n)
+pub next_valid : (p q u : Clocks) (left right : List ℕ) (n : ℕ) → Merges p q u left right → IsLeast left right (Some n) →
+    (0 < n) × (n ≤ 1000000000) × ((k : ℕ) → is_among k u.cloud ≡ true → k < n)
 next_valid p q u left right n h least = go (or_cases (is_among n left) (is_among n right) least.0)
   where
     go : (is_among n left ≡ true) ⊎ (is_among n right ≡ true) → (0 < n) × (n ≤ 1000000000) × ((k : ℕ) → is_among k u.cloud ≡ true → k < n)
     go (inl t) = let r = rises_within 0 left n h.left t in (r.0, r.1, λ k s. (rises_within k left n (h.above k s).0 t).0)
     go (inr t) = let r = rises_within 0 right n h.right t in (r.0, r.1, λ k s. (rises_within k right n (h.above k s).1 t).0)
 
-step : (e l l' r r' h : Bool) → (l' || e) ≡ (l || e) → (r' || e) ≡ (r || e) → (e ≡ true → (l || r) ≡ true) → ((e || h) || (l' || r')) ≡ (h || (l || r))
+step : (e l l' r r' h : Bool) → (l' || e) ≡ (l || e) → (r' || e) ≡ (r || e) → (e ≡ true → (l || r) ≡ true) →
+    ((e || h) || (l' || r')) ≡ (h || (l || r))
 step true l l' r r' h p q t = sym (or_right h (l || r) (t refl))
-step false l l' r r' h p q t = let left : l' ≡ l = sym (or-false l') ∙ p ∙ or-false l in let right : r' ≡ r = sym (or-false r') ∙ q ∙ or-false r in λ i. h || (left i || right i)
+step false l l' r r' h p q t =
+    let left : l' ≡ l = sym (or-false l') ∙ p ∙ or-false l in let right : r' ≡ r = sym (or-false r') ∙ q ∙ or-false r in
+    λ i. h || (left i || right i)
 
-pub merges_more : (p q u v : Clocks) (left right : List ℕ) (n : ℕ) → Merges p q u left right → IsLeast left right (Some n) → IsCanonical v → Gains u n v → AddsOnly u.cloud n v.cloud → Merges p q v (without_first n left) (without_first n right)
+pub merges_more : (p q u v : Clocks) (left right : List ℕ) (n : ℕ) → Merges p q u left right → IsLeast left right (Some n) → IsCanonical v →
+    Gains u n v → AddsOnly u.cloud n v.cloud → Merges p q v (without_first n left) (without_first n right)
 merges_more p q u v left right n h least canonical gains adds = record {
   canonical = canonical;
   clocks = λ k. ap (λ b. b || (is_among k (without_first n left) || is_among k (without_first n right))) (gains k)
-      ∙ step (k == n) (is_among k left) (is_among k (without_first n left)) (is_among k right) (is_among k (without_first n right)) (holds u k)
+      ∙ step (k == n) (is_among k left) (is_among k (without_first n left)) (is_among k right) (is_among k (without_first n right))
+      (holds u k)
       (among-without_first k n left) (among-without_first k n right)
       (λ e. ap (λ z. is_among z left || is_among z right) (eqb-true k n e) ∙ least.0)
       ∙ h.clocks k;
@@ -184,11 +209,14 @@ merges_more p q u v left right n h least canonical gains adds = record {
     go : (k : ℕ) → (is_among k u.cloud ≡ true) ⊎ (k ≡ n) → RisesAbove k (without_first n left) × RisesAbove k (without_first n right)
     go k (inl t) = let a = h.above k t in (rises-without_first k n left a.0, rises-without_first k n right a.1)
     go k (inr e) = (
-      subst (λ z. RisesAbove z (without_first n left)) (sym e) (rises_above_least 0 n left h.left (λ j t. least.1 j (or_left (is_among j left) (is_among j right) t))),
-      subst (λ z. RisesAbove z (without_first n right)) (sym e) (rises_above_least 0 n right h.right (λ j t. least.1 j (or_right (is_among j left) (is_among j right) t))),
+      subst (λ z. RisesAbove z (without_first n left)) (sym e)
+          (rises_above_least 0 n left h.left (λ j t. least.1 j (or_left (is_among j left) (is_among j right) t))),
+      subst (λ z. RisesAbove z (without_first n right)) (sym e)
+          (rises_above_least 0 n right h.right (λ j t. least.1 j (or_right (is_among j left) (is_among j right) t))),
     )
 
-pub merges_last : (p q u : Clocks) (left right : List ℕ) → Merges p q u left right → IsLeast left right None → (k : ℕ) → holds u k ≡ (holds p k || holds q k)
+pub merges_last : (p q u : Clocks) (left right : List ℕ) → Merges p q u left right → IsLeast left right None → (k : ℕ) →
+    holds u k ≡ (holds p k || holds q k)
 merges_last p q u left right h none k =
     sym (or-false (holds u k)) ∙ ap (λ b. holds u k || b) (sym (λ i. is_among k (none.0 i) || is_among k (none.1 i))) ∙ h.clocks k
 
@@ -209,7 +237,8 @@ among-take k i [] t = absurd (true≢false (sym t))
 among-take k zero (x ∷ ks) t = among_cases k x [] t
 among-take k (suc i) (x ∷ ks) t = go (among-take k i ks) (among_cases k x (take (suc i) ks) t)
   where
-    go : (is_among k (take (suc i) ks) ≡ true → (k ≡ get_or ks i 0) ⊎ (is_among k (take i ks) ≡ true)) → (k ≡ x) ⊎ (is_among k (take (suc i) ks) ≡ true)
+    go : (is_among k (take (suc i) ks) ≡ true → (k ≡ get_or ks i 0) ⊎ (is_among k (take i ks) ≡ true)) →
+        (k ≡ x) ⊎ (is_among k (take (suc i) ks) ≡ true)
         → (k ≡ get_or ks i 0) ⊎ (((k == x) || is_among k (take i ks)) ≡ true)
     go later (inl e) = inr (or_left (k == x) (is_among k (take i ks)) (eq-eqb k x e))
     go later (inr t) = after (later t)
@@ -219,23 +248,30 @@ among-take k (suc i) (x ∷ ks) t = go (among-take k i ks) (among_cases k x (tak
         after (inr t) = inr (or_right (k == x) (is_among k (take i ks)) t)
 
 -- one clock more that the part has
-pub each_more : (p : Clocks) (ks : List ℕ) (i : ℕ) → HasEach p (take i ks) → i < length ks → holds p (get_or ks i 0) ≡ true → HasEach p (take (i + 1) ks)
-each_more p ks i each lt one k t = let next : i + 1 ≡ suc i = omega arith in go (among-take k i ks (sym (ap (λ j. is_among k (take j ks)) next) ∙ t))
+pub each_more : (p : Clocks) (ks : List ℕ) (i : ℕ) → HasEach p (take i ks) → i < length ks → holds p (get_or ks i 0) ≡ true →
+    HasEach p (take (i + 1) ks)
+each_more p ks i each lt one k t =
+    let next : i + 1 ≡ suc i = omega arith in go (among-take k i ks (sym (ap (λ j. is_among k (take j ks)) next) ∙ t))
   where
     go : (k ≡ get_or ks i 0) ⊎ (is_among k (take i ks) ≡ true) → holds p k ≡ true
     go (inl e) = ap (holds p) e ∙ one
     go (inr t) = each k t
 
 -- a clock at the end of a cloud
-pub end_canonical : (c k : ℕ) (xs ys : List ℕ) → IsCanonical (record { clock = c; cloud = xs }) → c + 1 < k → k ≤ 1000000000 → ((j : ℕ) → is_among j xs ≡ true → j < k) → ys ≡ xs ++ k ∷ [] → IsCanonical (record { clock = c; cloud = ys })
-end_canonical c k xs ys h above last below e = record { last = h.last; rises = subst (RisesAbove (c + 1)) (sym e) (rises-append (c + 1) k xs h.rises above last below) }
+pub end_canonical : (c k : ℕ) (xs ys : List ℕ) → IsCanonical (record { clock = c; cloud = xs }) → c + 1 < k → k ≤ 1000000000 →
+    ((j : ℕ) → is_among j xs ≡ true → j < k) → ys ≡ xs ++ k ∷ [] → IsCanonical (record { clock = c; cloud = ys })
+end_canonical c k xs ys h above last below e =
+    record { last = h.last; rises = subst (RisesAbove (c + 1)) (sym e) (rises-append (c + 1) k xs h.rises above last below) }
 
 pub among-end : (j k : ℕ) (xs : List ℕ) → is_among j (xs ++ k ∷ []) ≡ ((j == k) || is_among j xs)
 among-end j k [] = refl
 among-end j k (x ∷ xs) = ap (λ b. (j == x) || b) (among-end j k xs) ∙ or_swap (j == x) (j == k) (is_among j xs)
 
-pub gains_at_end : (c k : ℕ) (xs ys : List ℕ) → ys ≡ xs ++ k ∷ [] → (j : ℕ) → holds (record { clock = c; cloud = ys }) j ≡ ((j == k) || holds (record { clock = c; cloud = xs }) j)
-gains_at_end c k xs ys e j = ap (λ zs. (nat_lt 0 j && nat_le j c) || is_among j zs) e ∙ ap (λ b. (nat_lt 0 j && nat_le j c) || b) (among-end j k xs) ∙ or_swap (nat_lt 0 j && nat_le j c) (j == k) (is_among j xs)
+pub gains_at_end : (c k : ℕ) (xs ys : List ℕ) → ys ≡ xs ++ k ∷ [] → (j : ℕ) →
+    holds (record { clock = c; cloud = ys }) j ≡ ((j == k) || holds (record { clock = c; cloud = xs }) j)
+gains_at_end c k xs ys e j =
+    ap (λ zs. (nat_lt 0 j && nat_le j c) || is_among j zs) e ∙ ap (λ b. (nat_lt 0 j && nat_le j c) || b) (among-end j k xs)
+    ∙ or_swap (nat_lt 0 j && nat_le j c) (j == k) (is_among j xs)
 
 pub adds_at_end : (k : ℕ) (xs ys : List ℕ) → ys ≡ xs ++ k ∷ [] → AddsOnly xs k ys
 adds_at_end k xs ys e j t = go (or_cases (j == k) (is_among j xs) (sym (ap (is_among j) e ∙ among-end j k xs) ∙ t))
@@ -267,9 +303,13 @@ union_done names ps qs h k = record {
     none : (n : ℕ) (b c : Bool) → n < 32 → ((nat_le 32 n && b) && c) ≡ false
     none n b c lt = grind (arith, nat_tests)
 
-    go : (n j : ℕ) → (n < 32) ⊎ (32 ≤ n) → holds (part_at ps n) j ≡ (holds (part_at ps n) j || ((nat_le 32 n && set.contains names n) && holds (part_at qs n) j))
-    go n j (inl lt) = sym (ap (λ b. holds (part_at ps n) j || b) (none n (set.contains names n) (holds (part_at qs n) j) lt) ∙ or-false (holds (part_at ps n) j))
-    go n j (inr le) = sym (ap (λ b. holds (part_at ps n) j || ((nat_le 32 n && set.contains names n) && b)) (past_last qs n j k le) ∙ ap (λ b. holds (part_at ps n) j || b) (and-false (nat_le 32 n && set.contains names n)) ∙ or-false (holds (part_at ps n) j))
+    go : (n j : ℕ) → (n < 32) ⊎ (32 ≤ n) →
+        holds (part_at ps n) j ≡ (holds (part_at ps n) j || ((nat_le 32 n && set.contains names n) && holds (part_at qs n) j))
+    go n j (inl lt) =
+        sym (ap (λ b. holds (part_at ps n) j || b) (none n (set.contains names n) (holds (part_at qs n) j) lt)
+        ∙ or-false (holds (part_at ps n) j))
+    go n j (inr le) = sym (ap (λ b. holds (part_at ps n) j || ((nat_le 32 n && set.contains names n) && b)) (past_last qs n j k le)
+        ∙ ap (λ b. holds (part_at ps n) j || b) (and-false (nat_le 32 n && set.contains names n)) ∙ or-false (holds (part_at ps n) j))
 
 later : (n name : ℕ) (b c : Bool) → n ≢ name → ((nat_le (name + 1) n && b) && c) ≡ ((nat_le name n && b) && c)
 later n name b c other = grind (arith, nat_tests)
@@ -285,43 +325,62 @@ left_out true b c e = ap (λ b. b && c) e
 left_out false b c e = refl
 
 -- a name that is none of these
-pub union_skip : (names : Names) (name : ℕ) (ps qs rs : List Clocks) → set.contains names name ≡ false → IsUnionFrom names (name + 1) ps qs rs → IsUnionFrom names name ps qs rs
+pub union_skip : (names : Names) (name : ℕ) (ps qs rs : List Clocks) → set.contains names name ≡ false →
+    IsUnionFrom names (name + 1) ps qs rs → IsUnionFrom names name ps qs rs
 union_skip names name ps qs rs off h = record {
   parts = h.parts;
   clocks = λ n k. h.clocks n k ∙ ap (λ b. holds (part_at ps n) k || b) (go n k (cases_eq n name));
 }
   where
-    go : (n k : ℕ) → (n ≡ name) ⊎ (n ≢ name) → ((nat_le (name + 1) n && set.contains names n) && holds (part_at qs n) k) ≡ ((nat_le name n && set.contains names n) && holds (part_at qs n) k)
-    go n k (inl e) = now_off n name (set.contains names n) (holds (part_at qs n) k) e ∙ sym (left_out (nat_le name n) (set.contains names n) (holds (part_at qs n) k) (ap (set.contains names) e ∙ off))
+    go : (n k : ℕ) → (n ≡ name) ⊎ (n ≢ name) →
+        ((nat_le (name + 1) n && set.contains names n) && holds (part_at qs n) k) ≡
+        ((nat_le name n && set.contains names n) && holds (part_at qs n) k)
+    go n k (inl e) =
+        now_off n name (set.contains names n) (holds (part_at qs n) k) e
+        ∙ sym (left_out (nat_le name n) (set.contains names n) (holds (part_at qs n) k) (ap (set.contains names) e ∙ off))
     go n k (inr d) = later n name (set.contains names n) (holds (part_at qs n) k) d
 
 -- a name whose union is put in place, or is there already
-pub union_put : (names : Names) (name : ℕ) (ps qs rs ts : List Clocks) (u : Clocks) → set.contains names name ≡ true → IsUnion (part_at ps name) (part_at qs name) u → AreParts ts
-    → part_at ts name ≡ u → ((n : ℕ) → n ≢ name → part_at ts n ≡ part_at rs n) → IsUnionFrom names (name + 1) ps qs rs → IsUnionFrom names name ps qs ts
+pub union_put : (names : Names) (name : ℕ) (ps qs rs ts : List Clocks) (u : Clocks) → set.contains names name ≡ true →
+    IsUnion (part_at ps name) (part_at qs name) u → AreParts ts
+    → part_at ts name ≡ u → ((n : ℕ) → n ≢ name → part_at ts n ≡ part_at rs n) → IsUnionFrom names (name + 1) ps qs rs →
+    IsUnionFrom names name ps qs ts
 union_put names name ps qs rs ts u on is parts here there h = record {
   parts = parts;
   clocks = λ n k. go n k (cases_eq n name);
 }
   where
-    go : (n k : ℕ) → (n ≡ name) ⊎ (n ≢ name) → holds (part_at ts n) k ≡ (holds (part_at ps n) k || ((nat_le name n && set.contains names n) && holds (part_at qs n) k))
+    go : (n k : ℕ) → (n ≡ name) ⊎ (n ≢ name) →
+        holds (part_at ts n) k ≡ (holds (part_at ps n) k || ((nat_le name n && set.contains names n) && holds (part_at qs n) k))
     go n k (inl e) =
         ap (λ p. holds p k) (ap (part_at ts) e ∙ here) ∙ is k
-        ∙ sym (ap (λ b. holds (part_at ps n) k || b) (now_on n name (set.contains names n) (holds (part_at qs n) k) e (ap (set.contains names) e ∙ on)) ∙ ap (λ m. holds (part_at ps m) k || holds (part_at qs m) k) e)
-    go n k (inr d) = ap (λ p. holds p k) (there n d) ∙ h.clocks n k ∙ ap (λ b. holds (part_at ps n) k || b) (later n name (set.contains names n) (holds (part_at qs n) k) d)
+        ∙ sym (ap (λ b. holds (part_at ps n) k || b)
+        (now_on n name (set.contains names n) (holds (part_at qs n) k) e (ap (set.contains names) e ∙ on))
+        ∙ ap (λ m. holds (part_at ps m) k || holds (part_at qs m) k) e)
+    go n k (inr d) =
+        ap (λ p. holds p k) (there n d) ∙ h.clocks n k
+        ∙ ap (λ b. holds (part_at ps n) k || b) (later n name (set.contains names n) (holds (part_at qs n) k) d)
 
 -- the part of the name has not been touched yet
-pub union_before : (names : Names) (name : ℕ) (ps qs rs : List Clocks) → AreParts ps → IsUnionFrom names (name + 1) ps qs rs → part_at rs name ≡ part_at ps name
-union_before names name ps qs rs h u = same_clocks (part_at rs name) (part_at ps name) (canonical_at rs name u.parts.canonical) (canonical_at ps name h.canonical) (λ k.
-    u.clocks name k ∙ ap (λ b. holds (part_at ps name) k || b) (now_off name name (set.contains names name) (holds (part_at qs name) k) refl) ∙ or-false (holds (part_at ps name) k))
+pub union_before : (names : Names) (name : ℕ) (ps qs rs : List Clocks) → AreParts ps → IsUnionFrom names (name + 1) ps qs rs →
+    part_at rs name ≡ part_at ps name
+union_before names name ps qs rs h u =
+    same_clocks (part_at rs name) (part_at ps name) (canonical_at rs name u.parts.canonical) (canonical_at ps name h.canonical) (λ k.
+    u.clocks name k ∙ ap (λ b. holds (part_at ps name) k || b) (now_off name name (set.contains names name) (holds (part_at qs name) k)
+    refl) ∙ or-false (holds (part_at ps name) k))
 
-pub union_grown : (names : Names) (name : ℕ) (ps qs rs : List Clocks) (u : Clocks) → name < 32 → set.contains names name ≡ true → IsCanonical u × IsUnion (part_at ps name) (part_at qs name) u
+pub union_grown : (names : Names) (name : ℕ) (ps qs rs : List Clocks) (u : Clocks) → name < 32 → set.contains names name ≡ true →
+    IsCanonical u × IsUnion (part_at ps name) (part_at qs name) u
     → IsUnionFrom names (name + 1) ps qs rs → IsUnionFrom names name ps qs (slice_set rs name u)
 union_grown names name ps qs rs u lt on is h =
-    union_put names name ps qs rs (slice_set rs name u) u on is.1 (parts_set rs name u h.parts is.0) (get_or-set_same rs name u no_clocks (omega (arith, h.parts.names))) (λ n d. get_or-set_other rs name n u no_clocks d) h
+    union_put names name ps qs rs (slice_set rs name u) u on is.1 (parts_set rs name u h.parts is.0)
+    (get_or-set_same rs name u no_clocks (omega (arith, h.parts.names))) (λ n d. get_or-set_other rs name n u no_clocks d) h
 
-pub union_kept : (names : Names) (name : ℕ) (ps qs rs : List Clocks) → AreParts ps → set.contains names name ≡ true → IsUnion (part_at ps name) (part_at qs name) (part_at ps name)
+pub union_kept : (names : Names) (name : ℕ) (ps qs rs : List Clocks) → AreParts ps → set.contains names name ≡ true →
+    IsUnion (part_at ps name) (part_at qs name) (part_at ps name)
     → IsUnionFrom names (name + 1) ps qs rs → IsUnionFrom names name ps qs rs
-union_kept names name ps qs rs k on is h = union_put names name ps qs rs rs (part_at ps name) on is h.parts (union_before names name ps qs rs k h) (λ n d. refl) h
+union_kept names name ps qs rs k on is h =
+    union_put names name ps qs rs rs (part_at ps name) on is h.parts (union_before names name ps qs rs k h) (λ n d. refl) h
 
 turned : (x y b : Bool) → ((true && (x && y)) && b) ≡ (b && (y && x))
 turned true true true = refl
@@ -334,38 +393,45 @@ turned false false true = refl
 turned false false false = refl
 
 -- the same at the place and with the parts that the code reads
-pub union_grown_at : (names : Names) (name at : ℕ) (ps qs rs : List Clocks) (d e u : Clocks) → AreParts ps → AreParts qs → at ≡ name → name < 32 → set.contains names name ≡ true → IsGrown (get_or ps at d) (get_or qs at e) (Some u)
+pub union_grown_at : (names : Names) (name at : ℕ) (ps qs rs : List Clocks) (d e u : Clocks) → AreParts ps → AreParts qs → at ≡ name →
+    name < 32 → set.contains names name ≡ true → IsGrown (get_or ps at d) (get_or qs at e) (Some u)
     → IsUnionFrom names (name + 1) ps qs rs → IsUnionFrom names name ps qs (slice_set rs at u)
 union_grown_at names name at ps qs rs d e u h k is lt on grown union =
     let own = read_part ps at name d h is lt in
     let other = read_part qs at name e k is lt in
-    subst (λ n. IsUnionFrom names name ps qs (slice_set rs n u)) (sym is) (union_grown names name ps qs rs u lt on (grown.0, λ j. grown.1 j ∙ (λ i. holds (own i) j || holds (other i) j)) union)
+    subst (λ n. IsUnionFrom names name ps qs (slice_set rs n u)) (sym is)
+    (union_grown names name ps qs rs u lt on (grown.0, λ j. grown.1 j ∙ (λ i. holds (own i) j || holds (other i) j)) union)
 
-pub union_kept_at : (names : Names) (name at : ℕ) (ps qs rs : List Clocks) (d e : Clocks) → AreParts ps → AreParts qs → at ≡ name → name < 32 → set.contains names name ≡ true → IsGrown (get_or ps at d) (get_or qs at e) None
+pub union_kept_at : (names : Names) (name at : ℕ) (ps qs rs : List Clocks) (d e : Clocks) → AreParts ps → AreParts qs → at ≡ name →
+    name < 32 → set.contains names name ≡ true → IsGrown (get_or ps at d) (get_or qs at e) None
     → IsUnionFrom names (name + 1) ps qs rs → IsUnionFrom names name ps qs rs
 union_kept_at names name at ps qs rs d e h k is lt on grown union =
     let own = read_part ps at name d h is lt in
     let other = read_part qs at name e k is lt in
     union_kept names name ps qs rs h on (λ j. sym (ap (λ p. holds p j) own) ∙ grown j ∙ (λ i. holds (own i) j || holds (other i) j)) union
 
-pub union_dots : (known : Names) (own : ℕ) (ps qs rs : List Clocks) (s t : Dots) → dots_of ps ≡ s → dots_of qs ≡ t → IsUnionFrom (set.remove known own) 0 ps qs rs
-    → dots_of rs ≡ set.union s (of_names (λ n. set.contains known n && not (n == own)) t)
+pub union_dots : (known : Names) (own : ℕ) (ps qs rs : List Clocks) (s t : Dots) → dots_of_parts ps ≡ s → dots_of_parts qs ≡ t →
+    IsUnionFrom (set.remove known own) 0 ps qs rs
+    → dots_of_parts rs ≡ set.union s (of_names (λ n. set.contains known n && not (n == own)) t)
 union_dots known own ps qs rs s t se te h = same_dots _ _ (λ q.
     let low : nat_le 0 q.name ≡ true = grind (arith, nat_tests) in
-    let old : holds (part_at ps q.name) q.clock ≡ set.contains s q = sym (contains-dots_of ps q) ∙ ap (λ s. set.contains s q) se in
-    let other : holds (part_at qs q.name) q.clock ≡ set.contains t q = sym (contains-dots_of qs q) ∙ ap (λ t. set.contains t q) te in
-    let named : set.contains (set.remove known own) q.name ≡ (not (q.name == own) && set.contains known q.name) = contains-remove_name known own q.name in
-    contains-dots_of rs q ∙ h.clocks q.name q.clock
+    let old : holds (part_at ps q.name) q.clock ≡ set.contains s q = sym (contains-dots_of_parts ps q) ∙ ap (λ s. set.contains s q) se in
+    let other : holds (part_at qs q.name) q.clock ≡ set.contains t q = sym (contains-dots_of_parts qs q) ∙ ap (λ t. set.contains t q) te in
+    let named : set.contains (set.remove known own) q.name ≡ (not (q.name == own) && set.contains known q.name) =
+    contains-remove_name known own q.name in
+    contains-dots_of_parts rs q ∙ h.clocks q.name q.clock
     ∙ (λ i. old i || ((low i && named i) && other i))
     ∙ ap (λ b. set.contains s q || b) (turned (not (q.name == own)) (set.contains known q.name) (set.contains t q))
-    ∙ sym (contains-union s (of_names (λ n. set.contains known n && not (n == own)) t) q ∙ ap (λ b. set.contains s q || b) (contains-retain t (λ d. set.contains known d.name && not (d.name == own)) q)))
+    ∙ sym (contains-union s (of_names (λ n. set.contains known n && not (n == own)) t) q
+    ∙ ap (λ b. set.contains s q || b) (contains-retain t (λ d. set.contains known d.name && not (d.name == own)) q)))
 
 -- the parts of some names, as far as they are copied
 pub record IsChosen (ps : List Clocks) (names : Names) (i : ℕ) (qs : List Clocks) : Type 0 where
   pub parts : AreParts qs
   pub clocks : (n k : ℕ) → holds (part_at qs n) k ≡ ((nat_lt n i && set.contains names n) && holds (part_at ps n) k)
 
-pub chosen_none : (ps : List Clocks) (names : Names) (qs : List Clocks) → AreParts qs → dots_of qs ≡ set.empty → IsChosen ps names 0 qs
+pub chosen_none : (ps : List Clocks) (names : Names) (qs : List Clocks) → AreParts qs → dots_of_parts qs ≡ set.empty →
+    IsChosen ps names 0 qs
 chosen_none ps names qs h e = record {
   parts = h;
   clocks = λ n k. ap (λ p. holds p k) (empty_part qs n h e) ∙ holds_none k ∙ sym (none n (set.contains names n) (holds (part_at ps n) k));
@@ -383,38 +449,51 @@ not_yet n i b c is = grind (arith, nat_tests)
 chosen_now : (n i : ℕ) (b c : Bool) → n ≡ i → b ≡ true → ((nat_lt n (i + 1) && b) && c) ≡ c
 chosen_now n i b c is on = grind (arith, nat_tests)
 
-pub chosen_skip : (ps : List Clocks) (names : Names) (i : ℕ) (qs : List Clocks) → set.contains names i ≡ false → IsChosen ps names i qs → IsChosen ps names (i + 1) qs
+pub chosen_skip : (ps : List Clocks) (names : Names) (i : ℕ) (qs : List Clocks) → set.contains names i ≡ false → IsChosen ps names i qs →
+    IsChosen ps names (i + 1) qs
 chosen_skip ps names i qs off h = record { parts = h.parts; clocks = λ n k. h.clocks n k ∙ go n k (cases_eq n i) }
   where
-    go : (n k : ℕ) → (n ≡ i) ⊎ (n ≢ i) → ((nat_lt n i && set.contains names n) && holds (part_at ps n) k) ≡ ((nat_lt n (i + 1) && set.contains names n) && holds (part_at ps n) k)
-    go n k (inl e) = not_yet n i (set.contains names n) (holds (part_at ps n) k) e ∙ sym (left_out (nat_lt n (i + 1)) (set.contains names n) (holds (part_at ps n) k) (ap (set.contains names) e ∙ off))
+    go : (n k : ℕ) → (n ≡ i) ⊎ (n ≢ i) →
+        ((nat_lt n i && set.contains names n) && holds (part_at ps n) k) ≡
+        ((nat_lt n (i + 1) && set.contains names n) && holds (part_at ps n) k)
+    go n k (inl e) =
+        not_yet n i (set.contains names n) (holds (part_at ps n) k) e
+        ∙ sym (left_out (nat_lt n (i + 1)) (set.contains names n) (holds (part_at ps n) k) (ap (set.contains names) e ∙ off))
     go n k (inr d) = sym (before n i (set.contains names n) (holds (part_at ps n) k) d)
 
-pub chosen_set : (ps : List Clocks) (names : Names) (i at : ℕ) (qs : List Clocks) (p d : Clocks) → AreParts ps → i < 32 → at ≡ i → set.contains names i ≡ true → p ≡ get_or ps at d → IsChosen ps names i qs → IsChosen ps names (i + 1) (slice_set qs at p)
+pub chosen_set : (ps : List Clocks) (names : Names) (i at : ℕ) (qs : List Clocks) (p d : Clocks) → AreParts ps → i < 32 → at ≡ i →
+    set.contains names i ≡ true → p ≡ get_or ps at d → IsChosen ps names i qs → IsChosen ps names (i + 1) (slice_set qs at p)
 chosen_set ps names i at qs p d h lt is on e chosen = record {
   parts = parts_set qs at p chosen.parts (subst IsCanonical (sym same) (canonical_at ps i h.canonical));
-  clocks = λ n k. at_set qs at p n (omega (arith, chosen.parts.names)) (λ x. holds x k ≡ ((nat_lt n (i + 1) && set.contains names n) && holds (part_at ps n) k))
-      (λ t. let here : n ≡ i = t ∙ is in ap (λ p. holds p k) (same ∙ ap (part_at ps) (sym here)) ∙ sym (chosen_now n i (set.contains names n) (holds (part_at ps n) k) here (ap (set.contains names) here ∙ on)))
+  clocks =
+      λ n k. at_set qs at p n (omega (arith, chosen.parts.names))
+      (λ x. holds x k ≡ ((nat_lt n (i + 1) && set.contains names n) && holds (part_at ps n) k))
+      (λ t. let here : n ≡ i = t ∙ is in ap (λ p. holds p k) (same ∙ ap (part_at ps) (sym here))
+      ∙ sym (chosen_now n i (set.contains names n) (holds (part_at ps n) k) here (ap (set.contains names) here ∙ on)))
       (λ t. chosen.clocks n k ∙ sym (before n i (set.contains names n) (holds (part_at ps n) k) (λ z. t (z ∙ sym is))));
 }
   where
     same : p ≡ part_at ps i
     same = e ∙ read_part ps at i d h is lt
 
-pub chosen_all : (ps : List Clocks) (names : Names) (i : ℕ) (qs : List Clocks) (s : Dots) → AreParts ps → 32 ≤ i → dots_of ps ≡ s → IsChosen ps names i qs → dots_of qs ≡ of_names (set.contains names) s
-chosen_all ps names i qs s h le view chosen = chosen_dots ps qs (set.contains names) s (λ n k. chosen.clocks n k ∙ go n k (cases_lt n 32)) view
+pub chosen_all : (ps : List Clocks) (names : Names) (i : ℕ) (qs : List Clocks) (s : Dots) → AreParts ps → 32 ≤ i → dots_of_parts ps ≡ s →
+    IsChosen ps names i qs → dots_of_parts qs ≡ of_names (set.contains names) s
+chosen_all ps names i qs s h le view chosen =
+    chosen_dots ps qs (set.contains names) s (λ n k. chosen.clocks n k ∙ go n k (cases_lt n 32)) view
   where
     yes : (n : ℕ) (b c : Bool) → n < 32 → ((nat_lt n i && b) && c) ≡ (b && c)
     yes n b c lt = grind (arith, nat_tests)
 
-    go : (n k : ℕ) → (n < 32) ⊎ (32 ≤ n) → ((nat_lt n i && set.contains names n) && holds (part_at ps n) k) ≡ (set.contains names n && holds (part_at ps n) k)
+    go : (n k : ℕ) → (n < 32) ⊎ (32 ≤ n) →
+        ((nat_lt n i && set.contains names n) && holds (part_at ps n) k) ≡ (set.contains names n && holds (part_at ps n) k)
     go n k (inl lt) = yes n (set.contains names n) (holds (part_at ps n) k) lt
     go n k (inr past) =
         ap (λ b. (nat_lt n i && set.contains names n) && b) (past_last ps n k h past) ∙ and-false (nat_lt n i && set.contains names n)
         ∙ sym (ap (λ b. set.contains names n && b) (past_last ps n k h past) ∙ and-false (set.contains names n))
 
 -- a set whose names are all among these
-pub all_chosen : (names : Names) (s : Dots) → HasAll names → ((q : Dot) → set.contains s q ≡ true → q.name < 32) → of_names (set.contains names) s ≡ s
+pub all_chosen : (names : Names) (s : Dots) → HasAll names → ((q : Dot) → set.contains s q ≡ true → q.name < 32) →
+    of_names (set.contains names) s ≡ s
 all_chosen names s all low = same_dots _ _ (λ q. contains-retain s (λ d. set.contains names d.name) q ∙ go q (set.contains s q) refl)
   where
     go : (q : Dot) (b : Bool) → set.contains s q ≡ b → (b && set.contains names q.name) ≡ b

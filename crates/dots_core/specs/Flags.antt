@@ -8,8 +8,8 @@ abbrev pub names_from : ℕ → List Bool → Names
 names_from n [] = set.empty
 names_from n (b ∷ bs) = if b then set.insert (names_from (suc n) bs) n else names_from (suc n) bs
 
-abbrev pub names_of : List Bool → Names
-names_of bs = names_from 0 bs
+abbrev pub names_of_flags : List Bool → Names
+names_of_flags bs = names_from 0 bs
 
 -- whether the set has n, the next number, and so on for m of them
 unfoldable pub flags_from : ℕ → ℕ → Names → List Bool

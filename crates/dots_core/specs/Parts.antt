@@ -16,8 +16,8 @@ abbrev pub dots_from : ℕ → List Clocks → List Dot
 dots_from n [] = []
 dots_from n (p ∷ ps) = map (dot n) (count_down p.clock ++ p.cloud) ++ dots_from (suc n) ps
 
-abbrev pub dots_of : List Clocks → Dots
-dots_of ps = set.from_list (dots_from 0 ps)
+abbrev pub dots_of_parts : List Clocks → Dots
+dots_of_parts ps = set.from_list (dots_from 0 ps)
 
 -- the clocks of the name
 abbrev pub part_at : List Clocks → ℕ → Clocks

@@ -31,4 +31,5 @@ AddsOnly before n after = (k : ℕ) → is_among k after ≡ true → (is_among 
 -- after has the clocks of before, and from the name on also those that the others have of the names
 pub record IsUnionFrom (names : Names) (name : ℕ) (before others after : List Clocks) : Type 0 where
   pub parts : AreParts after
-  pub clocks : (n k : ℕ) → holds (part_at after n) k ≡ (holds (part_at before n) k || ((nat_le name n && set.contains names n) && holds (part_at others n) k))
+  pub clocks : (n k : ℕ) → holds (part_at after n) k ≡ (holds (part_at before n) k ||
+      ((nat_le name n && set.contains names n) && holds (part_at others n) k))

@@ -27,13 +27,13 @@ pub struct DotSet<A: Allocator = Global> {
 impl<A: Allocator> Model for DotSet<A> {
     ghost use Rattle.std.specs.FinSet as set;
     ghost use Rattle.dots_core.specs.Dots.{Dots, dot_code};
-    ghost use Rattle.dots_core.specs.Parts.{dots_of, AreParts};
+    ghost use Rattle.dots_core.specs.Parts.{dots_of_parts, AreParts};
 
     ghost Value = { Dots };
 
     ghost coded = { set.code dot_code };
 
-    ghost view = { λ s. dots_of s.parts };
+    ghost view = { λ s. dots_of_parts s.parts };
 
     ghost invariant = { λ s. AreParts s.parts };
 }

@@ -18,20 +18,20 @@ impl Model for NameSet {
     ghost use Rattle.std.specs.Coded.{coded_ℕ};
     ghost use Rattle.std.specs.FinSet as set;
     ghost use Rattle.dots_core.specs.Names.{Names};
-    ghost use Rattle.dots_core.specs.Flags.{names_of, flags_of};
-    ghost use Rattle.dots_core.specs.FlagsBack.{flags_of-names_of};
+    ghost use Rattle.dots_core.specs.Flags.{names_of_flags, flags_of};
+    ghost use Rattle.dots_core.specs.FlagsBack.{flags_of-names_of_flags};
 
     ghost Value = { Names };
 
     ghost coded = { set.code coded_ℕ };
 
-    ghost view = { λ s. names_of s.has };
+    ghost view = { λ s. names_of_flags s.has };
 
     ghost invariant = { λ s. length s.has ≡ 32 };
 
     ghost inverse = { λ names. record { has = flags_of names } };
 
-    ghost inverse_ok = { λ s h i. record { has = flags_of-names_of s.has h i } };
+    ghost inverse_ok = { λ s h i. record { has = flags_of-names_of_flags s.has h i } };
 }
 
 impl NameSet {

@@ -2,10 +2,10 @@
 use Rattle.std.proofs.Common.{◌≡◌, List, [], ◌∷◌, ◌++◌, Result, Ok, Err, OnOk, OnErr, refl, sym, ap, ◌∙◌, subst}
 use Rattle.payload_core.specs.Messages.{Message}
 use Rattle.replica_core.specs.Replicas.{Replica, delta_message, without_delta, with_delta, CanBeDelta}
-use Rattle.replica_core.specs.Kept.{IsReplica}
+use Rattle.replica_core.specs.Invariant.{IsReplica}
 use Rattle.replica_core.specs.Changes as changes
 use Rattle.node_core.specs.Nodes.{Node, with_replica, with_sent}
-use Rattle.node_core.specs.Kept.{IsNode}
+use Rattle.node_core.specs.Invariant.{IsNode}
 use Rattle.node_core.specs.Inverses.{Inverse, OfChange, OfBroadcast, OfExtract, LeadsSomewhere, GivesBack}
 use Rattle.node_core.proofs.Changes.{limits_stay}
 
@@ -29,33 +29,42 @@ can_be_given r h = record { no_dots = refl; no_entries = refl; sender = refl; ow
 -- `before` is the node as its parts say it
 module _ (before n : Node) (same : before ≡ n) where
   -- a change of the replica
-  pub change_leads : (change : changes.Change) → LeadsSomewhere (OfChange change) n → changes.LeadsSomewhere change before.replica
-  change_leads change leads = (leads.0.replica, subst (λ (n : Node). changes.LeadsBack change n.replica leads.0.replica) (sym same) leads.1.names.0)
+  pub change_leads : (change : changes.Change) → LeadsSomewhere (OfChange change) n → changes.ChangeLeadsSomewhere change before.replica
+  change_leads change leads =
+      (leads.0.replica, subst (λ (n : Node). changes.ChangeLeadsBack change n.replica leads.0.replica) (sym same) leads.1.names.0)
 
-  pub change_back : (change : changes.Change) (now : Replica) → changes.GivesBack change before.replica now → GivesBack (OfChange change) n (with_replica before now)
+  pub change_back : (change : changes.Change) (now : Replica) → changes.ChangeGivesBack change before.replica now →
+      GivesBack (OfChange change) n (with_replica before now)
   change_back change now gives a leads =
-      let replica : now ≡ a.replica = gives a.replica (subst (λ (n : Node). changes.LeadsBack change n.replica a.replica) (sym same) leads.names.0) in
+      let replica : now ≡ a.replica =
+      gives a.replica (subst (λ (n : Node). changes.ChangeLeadsBack change n.replica a.replica) (sym same) leads.names.0) in
       let outbox : before.outbox ≡ a.outbox = subst (λ (n : Node). n.outbox ≡ a.outbox) (sym same) leads.names.1 in
       λ i. record { replica = replica i; outbox = outbox i }
 
-  change_kept : (change : changes.Change) (now : Replica) → LeadsSomewhere (OfChange change) n → changes.GivesBack change before.replica now → IsNode (with_replica before now)
+  change_kept : (change : changes.Change) (now : Replica) → LeadsSomewhere (OfChange change) n →
+      changes.ChangeGivesBack change before.replica now → IsNode (with_replica before now)
   change_kept change now leads gives = subst IsNode (sym (change_back change now gives leads.0 leads.1)) leads.1.earlier
 
-  change_limits : (change : changes.Change) (now : Replica) → LeadsSomewhere (OfChange change) n → changes.GivesBack change before.replica now → now.limits ≡ before.replica.limits
+  change_limits : (change : changes.Change) (now : Replica) → LeadsSomewhere (OfChange change) n →
+      changes.ChangeGivesBack change before.replica now → now.limits ≡ before.replica.limits
   change_limits change now leads gives =
       let back = change_leads change leads in
       ap (λ (r : Replica). r.limits) (gives back.0 back.1) ∙ sym (limits_stay back.0 before.replica back.1.call)
 
   -- whether the way back was open or not
-  pub either_back : {X E : Type 0} (result : Result X E) (change : changes.Change) (now : Replica) → OnOk result (changes.GivesBack change before.replica now) → OnOk result (GivesBack (OfChange change) n (with_replica before now))
+  pub either_back : {X E : Type 0} (result : Result X E) (change : changes.Change) (now : Replica) →
+      OnOk result (changes.ChangeGivesBack change before.replica now) →
+      OnOk result (GivesBack (OfChange change) n (with_replica before now))
   either_back (Ok x) change now gives = change_back change now gives
   either_back (Err e) change now gives = tt
 
   pub either_kept : {X E : Type 0} (result : Result X E) (change : changes.Change) (now : Replica) →
-      LeadsSomewhere (OfChange change) n → IsNode before → OnOk result (changes.GivesBack change before.replica now) → OnErr result (now ≡ before.replica) →
+      LeadsSomewhere (OfChange change) n → IsNode before → OnOk result (changes.ChangeGivesBack change before.replica now) →
+      OnErr result (now ≡ before.replica) →
       IsNode (with_replica before now) × (now.limits ≡ before.replica.limits)
   either_kept (Ok x) change now leads kept gives stays = (change_kept change now leads gives, change_limits change now leads gives)
-  either_kept (Err e) change now leads kept gives stays = (subst (λ r. IsNode (with_replica before r)) (sym stays) kept, ap (λ (r : Replica). r.limits) stays)
+  either_kept (Err e) change now leads kept gives stays =
+      (subst (λ r. IsNode (with_replica before r)) (sym stays) kept, ap (λ (r : Replica). r.limits) stays)
 
   -- a send, whose message is the last
   module _ (rest : List Message) (last : Message) (popped : before.outbox ≡ rest ++ last ∷ []) where
@@ -68,12 +77,15 @@ module _ (before n : Node) (same : before ≡ n) where
     pub broadcast_leads : LeadsSomewhere OfBroadcast n → CanBeDelta last before.replica
     broadcast_leads (a, leads) =
         subst (λ m. CanBeDelta m before.replica) (sym (sent_rest a (delta_message a.replica) (without_delta a.replica) leads.names).1)
-        (subst (CanBeDelta (delta_message a.replica)) (sym (sent_replica a (delta_message a.replica) (without_delta a.replica) leads.names)) (can_be_given a.replica leads.earlier.replica))
+        (subst (CanBeDelta (delta_message a.replica)) (sym (sent_replica a (delta_message a.replica) (without_delta a.replica) leads.names))
+        (can_be_given a.replica leads.earlier.replica))
 
-    pub broadcast_back : (now : Replica) → now ≡ with_delta last before.replica → GivesBack OfBroadcast n (record { replica = now; outbox = rest })
+    pub broadcast_back : (now : Replica) → now ≡ with_delta last before.replica →
+        GivesBack OfBroadcast n (record { replica = now; outbox = rest })
     broadcast_back now is a leads =
         let parts = sent_rest a (delta_message a.replica) (without_delta a.replica) leads.names in
-        let replica : now ≡ a.replica = is ∙ ap (λ m. with_delta m before.replica) parts.1 ∙ ap (with_delta (delta_message a.replica)) (sent_replica a (delta_message a.replica) (without_delta a.replica) leads.names) in
+        let replica : now ≡ a.replica = is ∙ ap (λ m. with_delta m before.replica) parts.1
+        ∙ ap (with_delta (delta_message a.replica)) (sent_replica a (delta_message a.replica) (without_delta a.replica) leads.names) in
         let outbox : rest ≡ a.outbox = parts.0 in
         λ i. record { replica = replica i; outbox = outbox i }
 

@@ -5,12 +5,12 @@ use Rattle.payload_core.specs.Messages.{Message}
 use Rattle.replica_core.specs.declared.node_limits.NodeLimits.{NodeLimits}
 use Rattle.replica_core.specs.declared.replica_fault.ReplicaFault.{ReplicaFault}
 use Rattle.replica_core.specs.Replicas.{Replica, tracked_dots, dots_of_process, left, left_each, dropped, dropped_each}
-use Rattle.replica_core.specs.Kept.{IsReplica}
+use Rattle.replica_core.specs.Invariant.{IsReplica}
 use Rattle.replica_core.specs.Changes as changes
 use Rattle.replica_core.specs.Changes.{ByJoin, ByLeave, ByLeaveAll, ByUpdate, ByMerge, ByUp, ByDown, ByPermdown}
 use Rattle.node_core.specs.Operations.{Operation}
 use Rattle.node_core.specs.Nodes.{Node, with_replica, unless, take}
-use Rattle.node_core.specs.Kept.{AreMessagesOf, IsNode}
+use Rattle.node_core.specs.Invariant.{AreMessagesOf, IsNode}
 use Rattle.node_core.specs.Inverses.{OfChange, LeadsBack}
 
 -- the name and the limits are the same
@@ -19,7 +19,8 @@ pub record Stays (a b : Replica) : Type 0 where
   pub limits : b.limits ≡ a.limits
 
 after : (a b c : Replica) → c ≡ b → Stays a b → Stays a c
-after a b c is stays = record { own = ap (λ (r : Replica). r.own) is ∙ stays.own; limits = ap (λ (r : Replica). r.limits) is ∙ stays.limits }
+after a b c is stays =
+    record { own = ap (λ (r : Replica). r.own) is ∙ stays.own; limits = ap (λ (r : Replica). r.limits) is ∙ stays.limits }
 
 pub through_leaves : (ds : List Dot) (r : Replica) → Stays r (left_each ds r)
 through_leaves [] r = record { own = refl; limits = refl }
@@ -36,7 +37,8 @@ through_drops (d ∷ ds) r =
 -- no call changes the name or the limits
 stays : (a b : Replica) → changes.IsOneCall a b → Stays a b
 stays a b (ByJoin p free is) = record { own = ap (λ (r : Replica). r.own) is; limits = ap (λ (r : Replica). r.limits) is }
-stays a b (ByLeave pid topic key free is) = after a (left_each (tracked_dots a pid topic key) a) b is (through_leaves (tracked_dots a pid topic key) a)
+stays a b (ByLeave pid topic key free is) =
+    after a (left_each (tracked_dots a pid topic key) a) b is (through_leaves (tracked_dots a pid topic key) a)
 stays a b (ByLeaveAll pid free is) = after a (left_each (dots_of_process a pid) a) b is (through_leaves (dots_of_process a pid) a)
 stays a b (ByUpdate p free is) =
     let drops = through_drops (tracked_dots a p.pid p.topic p.key) a in
@@ -51,7 +53,7 @@ limits_stay a b call = (stays a b call).limits
 
 -- the node keeps what each node keeps, and its outbox the limit that it had
 pub changed_kept : (before : Node) (now : Replica) (change : changes.Change) (limit : ℕ) →
-    IsNode before → limit ≡ before.replica.limits.messages → changes.LeadsBack change now before.replica → IsReplica now →
+    IsNode before → limit ≡ before.replica.limits.messages → changes.ChangeLeadsBack change now before.replica → IsReplica now →
     IsNode (with_replica before now) × (limit ≡ now.limits.messages)
 changed_kept before now change limit kept same leads whole =
     let parts = stays before.replica now leads.call in (
@@ -69,12 +71,13 @@ accepted cause gives n free is = ap (λ c. unless c gives) free ∙ ap (λ (n : 
 
 -- the step leads back by its change; `before` is the node as its parts say it
 module _ (before n : Node) (s : Operation) (m : Option Message) (cause : Option ReplicaFault) (gives now : Replica)
-    (kept : IsNode before) (takes : take before s m ≡ unless cause (with_replica before gives)) (free : cause ≡ None) (is : now ≡ gives) where
-  taken : take before s m ≡ Ok (with_replica before now)
-  taken = takes ∙ accepted cause (with_replica before gives) (with_replica before now) free (ap (with_replica before) is)
+    (kept : IsNode before) (takes : take before s m ≡ unless cause (with_replica before gives)) (free : cause ≡ None) (is : now ≡ gives)
+  where
+    taken : take before s m ≡ Ok (with_replica before now)
+    taken = takes ∙ accepted cause (with_replica before gives) (with_replica before now) free (ap (with_replica before) is)
 
-  pub changed : (change : changes.Change) → before ≡ n → changes.LeadsBack change now before.replica →
-      (take n s m ≡ Ok (with_replica before now)) × LeadsBack (OfChange change) (with_replica before now) n
-  changed change same leads =
-      subst (λ n. (take n s m ≡ Ok (with_replica before now)) × LeadsBack (OfChange change) (with_replica before now) n) same
-      (taken, record { operation = s; message = m; taken = taken; names = (leads, refl); earlier = kept })
+    pub changed : (change : changes.Change) → before ≡ n → changes.ChangeLeadsBack change now before.replica →
+        (take n s m ≡ Ok (with_replica before now)) × LeadsBack (OfChange change) (with_replica before now) n
+    changed change same leads =
+        subst (λ n. (take n s m ≡ Ok (with_replica before now)) × LeadsBack (OfChange change) (with_replica before now) n) same
+        (taken, record { operation = s; message = m; taken = taken; names = (leads, refl); earlier = kept })

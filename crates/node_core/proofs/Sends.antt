@@ -1,5 +1,6 @@
 -- A step that sends a message: what it keeps, and that it leads back.
-use Rattle.std.proofs.Common.{◌≡◌, ℕ, ◌<◌, ◌≤◌, not, nat_lt, Bool, true, false, if◌then◌else◌, List, [], ◌∷◌, ◌++◌, length, Option, None, Ok, Err, refl, sym, ◌∙◌, subst, arith, length-append}
+use Rattle.std.proofs.Common.{◌≡◌, ℕ, ◌<◌, ◌≤◌, not, nat_lt, Bool, true, false, if◌then◌else◌, List, [], ◌∷◌, ◌++◌, length, Option, None, Ok, Err, refl}
+use Rattle.std.proofs.Common.{sym, ◌∙◌, subst, arith, length-append}
 use Rattle.std.proofs.lemmas.Bool.{and_parts, ltb-true}
 use Rattle.std.specs.FinSet as set
 use Rattle.dots_core.specs.Names as name_sets
@@ -9,12 +10,12 @@ use Rattle.payload_core.proofs.SeenEntries.{seen-names}
 use Rattle.replica_core.specs.declared.node_limits.NodeLimits.{NodeLimits}
 use Rattle.replica_core.specs.Replicas.{Replica, delta_message, without_delta}
 use Rattle.replica_core.specs.Refusals.{has_dots}
-use Rattle.replica_core.specs.Kept.{IsReplica}
-use Rattle.replica_core.proofs.Kept.{kept_without_delta}
+use Rattle.replica_core.specs.Invariant.{IsReplica}
+use Rattle.replica_core.proofs.Invariant.{kept_without_delta}
 use Rattle.node_core.specs.declared.step_fault.StepFault.TheVariants.{OutboxFull}
 use Rattle.node_core.specs.Operations.{Operation, Broadcast, Extract}
 use Rattle.node_core.specs.Nodes.{Node, with_sent, is_outbox_full, unless_full, broadcast, take}
-use Rattle.node_core.specs.Kept.{IsMessageOf, AreMessagesOf, IsNode}
+use Rattle.node_core.specs.Invariant.{IsMessageOf, AreMessagesOf, IsNode}
 use Rattle.node_core.specs.Inverses.{Inverse, Names, LeadsBack}
 
 -- a send leads back by its kind; `before` is the node as its parts say it
@@ -36,10 +37,13 @@ there_is_room n h = ltb-true (length n.outbox) n.replica.limits.messages (go (na
     go true h = refl
     go false h = absurd (cc)
 
-sent_kept : (n : Node) (m : Message) (r : Replica) → IsNode n → r.own ≡ n.replica.own → r.limits ≡ n.replica.limits → is_outbox_full n ≡ false → IsReplica r → IsMessageOf n.replica.own m → IsNode (with_sent n m r)
+sent_kept : (n : Node) (m : Message) (r : Replica) → IsNode n → r.own ≡ n.replica.own → r.limits ≡ n.replica.limits →
+    is_outbox_full n ≡ false → IsReplica r → IsMessageOf n.replica.own m → IsNode (with_sent n m r)
 sent_kept n m r h own limits free kept one = record {
   replica = kept;
-  few = subst (λ (l : NodeLimits). length (n.outbox ++ m ∷ []) ≤ l.messages) (sym limits) (let room = there_is_room n free in let longer = length-append n.outbox (m ∷ []) in omega (arith, room, longer));
+  few =
+      subst (λ (l : NodeLimits). length (n.outbox ++ m ∷ []) ≤ l.messages) (sym limits)
+      (let room = there_is_room n free in let longer = length-append n.outbox (m ∷ []) in omega (arith, room, longer));
   messages = subst (λ own. AreMessagesOf own (n.outbox ++ m ∷ [])) (sym own) (one_more n.replica.own n.outbox m h.messages one);
 }
 
@@ -60,17 +64,20 @@ unless_full_ok n gives d h = go (is_outbox_full n) refl h
     go true e h = absurd (cc)
     go false e h = (e, cc)
 
-broadcast_ok : (some : Bool) (n d : Node) → broadcast some n ≡ Ok d → (is_outbox_full n ≡ false) × (d ≡ with_sent n (delta_message n.replica) (without_delta n.replica))
+broadcast_ok : (some : Bool) (n d : Node) → broadcast some n ≡ Ok d →
+    (is_outbox_full n ≡ false) × (d ≡ with_sent n (delta_message n.replica) (without_delta n.replica))
 broadcast_ok true n d h = unless_full_ok n (with_sent n (delta_message n.replica) (without_delta n.replica)) d h
 broadcast_ok false n d h = absurd (cc)
 
 pub broadcast_kept : (n d : Node) → IsNode n → take n Broadcast None ≡ Ok d → IsNode d
 broadcast_kept n d h taken =
     let ok = broadcast_ok (has_dots n.replica.delta_seen) n d taken in
-    subst IsNode (sym ok.1) (sent_kept n (delta_message n.replica) (without_delta n.replica) h refl refl ok.0 (kept_without_delta n.replica h.replica) (delta_sound n.replica h.replica))
+    subst IsNode (sym ok.1) (sent_kept n (delta_message n.replica) (without_delta n.replica) h refl refl ok.0
+    (kept_without_delta n.replica h.replica) (delta_sound n.replica h.replica))
 
 pub extract_kept : (n d : Node) (asked : name_sets.Names) → IsNode n → take n (Extract asked) None ≡ Ok d → IsNode d
 extract_kept n d asked h taken =
     let message = message_of_names (set.contains asked) n.replica.own n.replica.seen n.replica.entries in
     let ok = unless_full_ok n (with_sent n message n.replica) d taken in
-    subst IsNode (sym ok.1) (sent_kept n message n.replica h refl refl ok.0 h.replica (extract_sound (set.contains asked) n.replica h.replica))
+    subst IsNode (sym ok.1) (sent_kept n message n.replica h refl refl ok.0 h.replica
+    (extract_sound (set.contains asked) n.replica h.replica))

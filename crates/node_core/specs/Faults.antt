@@ -2,15 +2,16 @@
 use Rattle.replica_core.specs.declared.replica_fault.ReplicaFault.{ReplicaFault}
 use Rattle.replica_core.specs.declared.replica_fault.ReplicaFault.TheVariants as replica_faults
 use Rattle.node_core.specs.declared.step_fault.StepFault.{StepFault}
-use Rattle.node_core.specs.declared.step_fault.StepFault.TheVariants.{OwnReplica, NotKnown, NotDown, AlreadyTracked, NotTracked, NothingToSend, EntriesFull, ClockFull, OutOfMemory}
+use Rattle.node_core.specs.declared.step_fault.StepFault.TheVariants.{OwnReplica, NotKnown, NotDown, AlreadyTracked, NotTracked, NothingToSend, EntriesFull}
+use Rattle.node_core.specs.declared.step_fault.StepFault.TheVariants.{ClockFull, OutOfMemory}
 
-abbrev pub fault_of : ReplicaFault → StepFault
-fault_of replica_faults.OwnReplica = OwnReplica
-fault_of replica_faults.NotKnown = NotKnown
-fault_of replica_faults.NotDown = NotDown
-fault_of replica_faults.AlreadyTracked = AlreadyTracked
-fault_of replica_faults.NotTracked = NotTracked
-fault_of replica_faults.NothingToSend = NothingToSend
-fault_of replica_faults.EntriesFull = EntriesFull
-fault_of replica_faults.ClockFull = ClockFull
-fault_of replica_faults.OutOfMemory = OutOfMemory
+abbrev pub step_fault_of : ReplicaFault → StepFault
+step_fault_of replica_faults.OwnReplica = OwnReplica
+step_fault_of replica_faults.NotKnown = NotKnown
+step_fault_of replica_faults.NotDown = NotDown
+step_fault_of replica_faults.AlreadyTracked = AlreadyTracked
+step_fault_of replica_faults.NotTracked = NotTracked
+step_fault_of replica_faults.NothingToSend = NothingToSend
+step_fault_of replica_faults.EntriesFull = EntriesFull
+step_fault_of replica_faults.ClockFull = ClockFull
+step_fault_of replica_faults.OutOfMemory = OutOfMemory

@@ -10,7 +10,7 @@ use Rattle.node_core.specs.declared.step_fault.StepFault.{StepFault}
 use Rattle.node_core.specs.declared.step_fault.StepFault.TheVariants.{OutOfMemory}
 use Rattle.node_core.specs.Operations.{Operation}
 use Rattle.node_core.specs.Nodes.{Node, take, with_sent}
-use Rattle.node_core.specs.Kept.{IsNode}
+use Rattle.node_core.specs.Invariant.{IsNode}
 
 -- a step changed the replica; or it sent the delta; or it sent a message beside it
 pub data Inverse : Type 0 where
@@ -49,11 +49,13 @@ from_stored-stored OfBroadcast = refl
 from_stored-stored OfExtract = refl
 
 abbrev pub inverse_code : Coded Inverse
-inverse_code = code_by (Option changes.Change × Bool) (coded× (coded_option changes.change_code) coded_bool) stored (λ t. from_stored t.0 t.1) from_stored-stored
+inverse_code =
+    code_by (Option changes.Change × Bool) (coded× (coded_option changes.change_code) coded_bool) stored (λ t. from_stored t.0 t.1)
+    from_stored-stored
 
 -- the inverse names what a step from a to b destroyed of a
 abbrev pub Names : Inverse → Node → Node → Type 0
-Names (OfChange change) b a = changes.LeadsBack change b.replica a.replica × (b.outbox ≡ a.outbox)
+Names (OfChange change) b a = changes.ChangeLeadsBack change b.replica a.replica × (b.outbox ≡ a.outbox)
 Names OfBroadcast b a = b ≡ with_sent a (delta_message a.replica) (without_delta a.replica)
 Names OfExtract b a = (m : Message) × (b ≡ with_sent a m a.replica)
 

@@ -1,6 +1,6 @@
 pub mod Faults
 pub mod Inverses
-pub mod Kept
+pub mod Invariant
 pub mod Laws
 pub mod Meters
 pub mod Nodes

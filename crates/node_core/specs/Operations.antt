@@ -142,4 +142,6 @@ from_stored-stored (Down name) = refl
 from_stored-stored (Permdown name) = refl
 
 abbrev pub operation_code : Coded Operation
-operation_code = code_by Stored (coded× coded_ℕ (coded× presence_code (coded× (set.code coded_ℕ) (coded× coded_ℕ coded_ℕ)))) stored from_stored from_stored-stored
+operation_code =
+    code_by Stored (coded× coded_ℕ (coded× presence_code (coded× (set.code coded_ℕ) (coded× coded_ℕ coded_ℕ)))) stored from_stored
+    from_stored-stored

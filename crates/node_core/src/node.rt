@@ -4,7 +4,7 @@ ghost use Rattle.replica_core.specs.Limits.{AreNodeLimits};
 ghost use Rattle.node_core.specs.declared.step_fault.StepFault.TheVariants.{OutOfMemory};
 ghost use Rattle.node_core.specs.Operations.{plain, AreNames, Join, Leave, LeaveAll, Update, Broadcast, Extract, Deliver, Up, Down, Permdown};
 ghost use Rattle.node_core.specs.Nodes.{opening_node, take};
-ghost use Rattle.node_core.specs.Kept.{IsNode};
+ghost use Rattle.node_core.specs.Invariant.{IsNode};
 ghost use Rattle.node_core.specs.Inverses.{plain_inverse, is_of_send, OfChange, OfBroadcast, OfExtract, LeadsBack, LeadsSomewhere, GivesBack, Takes};
 
 use crate::inverse::Inverse;
@@ -27,7 +27,7 @@ pub struct Node<'a, B: Allocator> {
 impl<'a, B: Allocator> Model for Node<'a, B> {
     ghost use Rattle.std.specs.Prelude.{◌≡◌};
     ghost use Rattle.node_core.specs.Nodes.{Node, node_code};
-    ghost use Rattle.node_core.specs.Kept.{IsNode};
+    ghost use Rattle.node_core.specs.Invariant.{IsNode};
 
     ghost Value = { Node };
 

@@ -58,9 +58,9 @@ impl From<Oom> for StepFault {
 
 impl From<ReplicaFault> for StepFault {
     ghost use Rattle.std.specs.Prelude.{◌≡◌};
-    ghost use Rattle.node_core.specs.Faults.{fault_of};
+    ghost use Rattle.node_core.specs.Faults.{step_fault_of};
 
-    ghost from_gives = { λ fault step_fault. step_fault ≡ fault_of fault };
+    ghost from_gives = { λ fault step_fault. step_fault ≡ step_fault_of fault };
 
     fn from(fault: ReplicaFault) -> StepFault {
         match fault {

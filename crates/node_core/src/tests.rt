@@ -225,7 +225,7 @@ fn in_range(rt: &impl Abort, limits: NodeLimits) -> NodeLimits
 }
 
 /// The fault of a step, which counts where it is accepted.
-fn fault_of<'a, B: Allocator>(
+fn step_fault_of<'a, B: Allocator>(
     rt: &impl Abort,
     alloc: &'a B,
     node: &mut Node<'a, B>,
@@ -242,7 +242,7 @@ fn fault_of<'a, B: Allocator>(
 fn has_faults<'a, B: Allocator>(rt: &impl Abort, alloc: &'a B, case: &Case) {
     let mut node = Node::new(alloc, 0, in_range(rt, case.limits));
     for (ask, expected) in case.rows {
-        let fault = fault_of(rt, alloc, &mut node, *ask);
+        let fault = step_fault_of(rt, alloc, &mut node, *ask);
         assert_eq!(rt; fault, *expected, "{}", case.name);
     }
 }

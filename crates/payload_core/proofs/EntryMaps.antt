@@ -20,7 +20,8 @@ cond-option_or : (t : Bool) (v : Presence) (x y : Option Presence) → cond t (S
 cond-option_or true v x y = refl
 cond-option_or false v x y = refl
 
-get-put_all : (es : List (Dot × Presence)) (m : Entries) (q : Dot) → fin.get (put_all es m) q ≡ option_or (fin.find dot_cmp q es) (fin.get m q)
+get-put_all : (es : List (Dot × Presence)) (m : Entries) (q : Dot) →
+    fin.get (put_all es m) q ≡ option_or (fin.find dot_cmp q es) (fin.get m q)
 get-put_all [] m q = refl
 get-put_all (e ∷ es) m q =
     get-insert (put_all es m) e.0 q e.1

@@ -15,16 +15,19 @@ pub seen_none : (seen : Dots) → AreSeen seen fin.empty
 seen_none seen d h = absurd (true≢false (sym h ∙ ap is_some (fin.get-empty dot_cmp d)))
 
 -- more dots are seen
-pub seen_more : (seen more : Dots) (es : Entries) → ((d : Dot) → set.contains seen d ≡ true → set.contains more d ≡ true) → AreSeen seen es → AreSeen more es
+pub seen_more : (seen more : Dots) (es : Entries) → ((d : Dot) → set.contains seen d ≡ true → set.contains more d ≡ true) →
+    AreSeen seen es → AreSeen more es
 seen_more seen more es grows all d h = grows d (all d h)
 
-added : (t b : Bool) (x : Option Presence) (v : Presence) → (is_some x ≡ true → b ≡ true) → is_some (cond t (Some v) x) ≡ true → (t || b) ≡ true
+added : (t b : Bool) (x : Option Presence) (v : Presence) → (is_some x ≡ true → b ≡ true) → is_some (cond t (Some v) x) ≡ true →
+    (t || b) ≡ true
 added true b x v all h = refl
 added false b x v all h = all h
 
 pub seen-insert : (seen : Dots) (es : Entries) (k : Dot) (v : Presence) → AreSeen seen es → AreSeen (set.insert seen k) (fin.insert es k v)
 seen-insert seen es k v all d h =
-    contains-insert seen k d ∙ added (is_dot d k) (set.contains seen d) (fin.get es d) v (all d) (ap is_some (sym (get-insert es k d v)) ∙ h)
+    contains-insert seen k d ∙ added (is_dot d k) (set.contains seen d) (fin.get es d) v (all d)
+    (ap is_some (sym (get-insert es k d v)) ∙ h)
 
 kept : (t : Bool) (x : Option Presence) → is_some (cond t None x) ≡ true → is_some x ≡ true
 kept true x h = absurd (true≢false (sym h))
@@ -38,6 +41,8 @@ both_named true b x all h = ap (λ b. b && true) (all h)
 both_named false b x all h = absurd (true≢false (sym h))
 
 -- the message of some names
-pub seen-names : (named : ℕ → Bool) (seen : Dots) (es : Entries) → AreSeen seen es → AreSeen (of_names named seen) (entries_of_names named es)
+pub seen-names : (named : ℕ → Bool) (seen : Dots) (es : Entries) → AreSeen seen es →
+    AreSeen (of_names named seen) (entries_of_names named es)
 seen-names named seen es all d h =
-    contains-retain seen (λ d. named d.name) d ∙ both_named (named d.name) (set.contains seen d) (fin.get es d) (all d) (ap is_some (sym (get-names es named d)) ∙ h)
+    contains-retain seen (λ d. named d.name) d
+    ∙ both_named (named d.name) (set.contains seen d) (fin.get es d) (all d) (ap is_some (sym (get-names es named d)) ∙ h)

@@ -26,7 +26,8 @@ tracked_as pid topic key p h =
 
 pub as_tracked : (pid : ℕ) (topic key : List ℕ) (p : Presence) → IsAs pid topic key p → is_tracked_as pid topic key p ≡ true
 as_tracked pid topic key p h =
-    and_from (p.pid == pid) _ (eq-eqb p.pid pid h.0) (and_from (bytes_eq p.topic topic) (bytes_eq p.key key) ((bytes_decides p.topic topic).1 h.1) ((bytes_decides p.key key).1 h.2))
+    and_from (p.pid == pid) _ (eq-eqb p.pid pid h.0)
+    (and_from (bytes_eq p.topic topic) (bytes_eq p.key key) ((bytes_decides p.topic topic).1 h.1) ((bytes_decides p.key key).1 h.2))
 
 -- each entry of a map is found at its dot
 
@@ -64,8 +65,11 @@ module _ (name : ℕ) (test : Presence → Bool) (m : Entries) where
   passing [] found = tt
   passing (e ∷ es) found = go (passes e) refl (passing es found.1)
     where
-      go : (b : Bool) → passes e ≡ b → EachPasses (map (λ e. e.0) (filter passes es)) → EachPasses (map (λ e. e.0) (cond b (e ∷ filter passes es) (filter passes es)))
-      go true is more = let parts = and_parts (e.0.name == name) (test e.1) is in ((eqb-true e.0.name name parts.0, (e.1, fin.get-entries m e.0 ∙ found.0, parts.1)), more)
+      go : (b : Bool) → passes e ≡ b → EachPasses (map (λ e. e.0) (filter passes es)) →
+          EachPasses (map (λ e. e.0) (cond b (e ∷ filter passes es) (filter passes es)))
+      go true is more =
+          let parts = and_parts (e.0.name == name) (test e.1) is in
+          ((eqb-true e.0.name name parts.0, (e.1, fin.get-entries m e.0 ∙ found.0, parts.1)), more)
       go false is more = more
 
   -- each of them has the name, and holds a presence that passes
@@ -73,12 +77,14 @@ module _ (name : ℕ) (test : Presence → Bool) (m : Entries) where
   unfolding passes
   dots_of_pass = passing (fin.entries m) (found_all (fin.entries m) (fin.entries_sorted m))
 
-  missed : (es : List (Dot × Presence)) (d : Dot) (p : Presence) → d.name ≡ name → fin.find dot_cmp d es ≡ Some p → map (λ e. e.0) (filter passes es) ≡ [] → test p ≡ false
+  missed : (es : List (Dot × Presence)) (d : Dot) (p : Presence) → d.name ≡ name → fin.find dot_cmp d es ≡ Some p →
+      map (λ e. e.0) (filter passes es) ≡ [] → test p ≡ false
   unfolding passes
   missed [] d p named h none = absurd (cc)
   missed (e ∷ es) d p named h none = go (is_dot d e.0) (passes e) refl refl h none (missed es d p named)
     where
-      go : (b t : Bool) → is_dot d e.0 ≡ b → passes e ≡ t → cond b (Some e.1) (fin.find dot_cmp d es) ≡ Some p → map (λ e. e.0) (cond t (e ∷ filter passes es) (filter passes es)) ≡ [] →
+      go : (b t : Bool) → is_dot d e.0 ≡ b → passes e ≡ t → cond b (Some e.1) (fin.find dot_cmp d es) ≡ Some p →
+          map (λ e. e.0) (cond t (e ∷ filter passes es) (filter passes es)) ≡ [] →
           (fin.find dot_cmp d es ≡ Some p → map (λ e. e.0) (filter passes es) ≡ [] → test p ≡ false) → test p ≡ false
       go b true eb et h none more = absurd (cc)
       go true false eb et h none more =

@@ -10,4 +10,5 @@ pub record EntrySet : Type 0 where
 
 -- it is stored as the pair of its fields
 abbrev pub entry_set_code : Coded EntrySet
-entry_set_code = code_by (Entries × ℕ) (coded× entries_code coded_ℕ) (λ s. (s.map, s.room)) (λ p. record { map = p.0; room = p.1 }) (λ _. refl)
+entry_set_code =
+    code_by (Entries × ℕ) (coded× entries_code coded_ℕ) (λ s. (s.map, s.room)) (λ p. record { map = p.0; room = p.1 }) (λ _. refl)

@@ -16,7 +16,8 @@ pub record Message : Type 0 where
 -- a message is stored as the tuple of its fields
 abbrev pub message_code : Coded Message
 message_code =
-    code_by (ℕ × (Dots × Entries)) (coded× coded_ℕ (coded× (set.code dot_code) entries_code)) (λ m. (m.sender, (m.seen, m.entries))) (λ t. record { sender = t.0; seen = t.1.0; entries = t.1.1 }) (λ _. refl)
+    code_by (ℕ × (Dots × Entries)) (coded× coded_ℕ (coded× (set.code dot_code) entries_code)) (λ m. (m.sender, (m.seen, m.entries)))
+    (λ t. record { sender = t.0; seen = t.1.0; entries = t.1.1 }) (λ _. refl)
 
 -- each entry's dot is among the seen ones
 abbrev pub AreSeen : Dots → Entries → Type 0

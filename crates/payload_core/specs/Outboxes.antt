@@ -12,4 +12,5 @@ pub record Outbox : Type 0 where
 -- it is stored as the tuple of its fields
 abbrev pub outbox_code : Coded Outbox
 outbox_code =
-    code_by (ℕ × (List Message × ℕ)) (coded× coded_ℕ (coded× (coded_list message_code) coded_ℕ)) (λ o. (o.limit, (o.messages, o.room))) (λ t. record { limit = t.0; messages = t.1.0; room = t.1.1 }) (λ _. refl)
+    code_by (ℕ × (List Message × ℕ)) (coded× coded_ℕ (coded× (coded_list message_code) coded_ℕ)) (λ o. (o.limit, (o.messages, o.room)))
+    (λ t. record { limit = t.0; messages = t.1.0; room = t.1.1 }) (λ _. refl)

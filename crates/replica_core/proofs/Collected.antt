@@ -1,5 +1,6 @@
 -- A walk over a list of entries that collects those that pass a test.
-use Rattle.std.proofs.Common.{◌≡◌, ℕ, ◌+◌, ◌<◌, ◌≤◌, Bool, true, false, cond, List, [], ◌∷◌, ◌++◌, map, length, filter, take, slice_get, Option, Some, None, refl, sym, ap, ◌∙◌, arith, take_all}
+use Rattle.std.proofs.Common.{◌≡◌, ℕ, ◌+◌, ◌<◌, ◌≤◌, Bool, true, false, cond, List, [], ◌∷◌, ◌++◌, map, length, filter, take, slice_get, Option, Some, None}
+use Rattle.std.proofs.Common.{refl, sym, ap, ◌∙◌, arith, take_all}
 use Rattle.std.proofs.lemmas.List.{map-append, append-nil}
 use Rattle.std.proofs.lemmas.List.Elements.{filter_more}
 use Rattle.std.proofs.lemmas.Option.{slice_get_within, get_or_from_slice_get}
@@ -32,7 +33,9 @@ module _ (test : Dot × Presence → Bool) (ps : List (Dot × Presence)) (i : �
   more : filter test (take (i + 1) ps) ≡ filter test (take i ps) ++ cond (test (pair_of e)) (pair_of e ∷ []) []
   more =
       let here = found ps i e at in
-      filter_more test ps i (pair_of e) (slice_get_within ps i (pair_of e) here) ∙ ap (λ (p : Dot × Presence). filter test (take i ps) ++ cond (test p) (p ∷ []) []) (get_or_from_slice_get ps i (pair_of e) (pair_of e) here)
+      filter_more test ps i (pair_of e) (slice_get_within ps i (pair_of e) here)
+      ∙ ap (λ (p : Dot × Presence). filter test (take i ps) ++ cond (test p) (p ∷ []) [])
+      (get_or_from_slice_get ps i (pair_of e) (pair_of e) here)
 
   pub passed : test (pair_of e) ≡ true → filter test (take (i + 1) ps) ≡ filter test (take i ps) ++ pair_of e ∷ []
   passed h = more ∙ ap (λ b. filter test (take i ps) ++ cond b (pair_of e ∷ []) []) h
@@ -45,16 +48,23 @@ module _ (test : Dot × Presence → Bool) (ps : List (Dot × Presence)) where
   pub all_walked : (i : ℕ) → length ps ≤ i → filter test (take i ps) ≡ filter test ps
   all_walked i end = ap (filter test) (take_all i ps end)
 
-  pub pair_collected : (i : ℕ) (e copy : Entry) (items after : List Entry) → Some e ≡ entry_at ps i → test (pair_of e) ≡ true → pairs items ≡ filter test (take i ps) → after ≡ items ++ copy ∷ [] → copy ≡ e → pairs after ≡ filter test (take (i + 1) ps)
+  pub pair_collected : (i : ℕ) (e copy : Entry) (items after : List Entry) → Some e ≡ entry_at ps i → test (pair_of e) ≡ true →
+      pairs items ≡ filter test (take i ps) → after ≡ items ++ copy ∷ [] → copy ≡ e → pairs after ≡ filter test (take (i + 1) ps)
   pair_collected i e copy items after at passes so_far is copied =
-      ap pairs is ∙ map-append pair_of items (copy ∷ []) ∙ ap (λ xs. xs ++ pair_of copy ∷ []) so_far ∙ ap (λ e. filter test (take i ps) ++ pair_of e ∷ []) copied ∙ sym (passed test ps i e at passes)
+      ap pairs is ∙ map-append pair_of items (copy ∷ []) ∙ ap (λ xs. xs ++ pair_of copy ∷ []) so_far
+      ∙ ap (λ e. filter test (take i ps) ++ pair_of e ∷ []) copied ∙ sym (passed test ps i e at passes)
 
-  pub dot_collected : (i : ℕ) (e : Entry) (d : Dot) (items after : List Dot) → Some e ≡ entry_at ps i → test (pair_of e) ≡ true → items ≡ map (λ (p : Dot × Presence). p.0) (filter test (take i ps)) → after ≡ items ++ d ∷ [] → d ≡ e.dot →
+  pub dot_collected : (i : ℕ) (e : Entry) (d : Dot) (items after : List Dot) → Some e ≡ entry_at ps i → test (pair_of e) ≡ true →
+      items ≡ map (λ (p : Dot × Presence). p.0) (filter test (take i ps)) → after ≡ items ++ d ∷ [] → d ≡ e.dot →
       after ≡ map (λ (p : Dot × Presence). p.0) (filter test (take (i + 1) ps))
   dot_collected i e d items after at passes so_far is same =
-      is ∙ ap (λ ds. ds ++ d ∷ []) so_far ∙ ap (λ d. map (λ (p : Dot × Presence). p.0) (filter test (take i ps)) ++ d ∷ []) same ∙ sym (map-append (λ (p : Dot × Presence). p.0) (filter test (take i ps)) (pair_of e ∷ [])) ∙ ap (map (λ (p : Dot × Presence). p.0)) (sym (passed test ps i e at passes))
+      is ∙ ap (λ ds. ds ++ d ∷ []) so_far ∙ ap (λ d. map (λ (p : Dot × Presence). p.0) (filter test (take i ps)) ++ d ∷ []) same
+      ∙ sym (map-append (λ (p : Dot × Presence). p.0) (filter test (take i ps)) (pair_of e ∷ []))
+      ∙ ap (map (λ (p : Dot × Presence). p.0)) (sym (passed test ps i e at passes))
 
-  pub dot_passed_over : (i : ℕ) (e : Entry) (items : List Dot) → Some e ≡ entry_at ps i → test (pair_of e) ≡ false → items ≡ map (λ (p : Dot × Presence). p.0) (filter test (take i ps)) → items ≡ map (λ (p : Dot × Presence). p.0) (filter test (take (i + 1) ps))
+  pub dot_passed_over : (i : ℕ) (e : Entry) (items : List Dot) → Some e ≡ entry_at ps i → test (pair_of e) ≡ false →
+      items ≡ map (λ (p : Dot × Presence). p.0) (filter test (take i ps)) →
+      items ≡ map (λ (p : Dot × Presence). p.0) (filter test (take (i + 1) ps))
   dot_passed_over i e items at fails so_far = so_far ∙ ap (map (λ (p : Dot × Presence). p.0)) (sym (failed test ps i e at fails))
 
 -- the test at a dot, as it was answered

@@ -2,7 +2,7 @@ pub mod Dots
 pub mod Views
 pub mod Deliveries
 pub mod Once
-pub mod Kept
+pub mod Invariant
 pub mod Left
 pub mod Forgotten
 pub mod Calls

@@ -30,10 +30,13 @@ answer known up = cond known (Some (status_by up)) None
 get-list : (ns : List ℕ) (up : Names) (q : ℕ) → fin.get (view_of ns up) q ≡ answer (list_any (eq_by_cmp nat_cmp q) ns) (set.contains up q)
 get-list [] up q = fin.get-empty nat_cmp q
 get-list (n ∷ ns) up q =
-    get_insert_view (view_of ns up) n q (status_by (set.contains up n)) ∙ ap (cond (q == n) (Some (status_by (set.contains up n)))) (get-list ns up q) ∙ go (q == n) refl (list_any (eq_by_cmp nat_cmp q) ns)
+    get_insert_view (view_of ns up) n q (status_by (set.contains up n))
+    ∙ ap (cond (q == n) (Some (status_by (set.contains up n)))) (get-list ns up q)
+    ∙ go (q == n) refl (list_any (eq_by_cmp nat_cmp q) ns)
     ∙ ap (λ b. answer (b || list_any (eq_by_cmp nat_cmp q) ns) (set.contains up q)) (sym (unsigned_tied q n))
   where
-    go : (b : Bool) → (q == n) ≡ b → (rest : Bool) → cond b (Some (status_by (set.contains up n))) (answer rest (set.contains up q)) ≡ answer (b || rest) (set.contains up q)
+    go : (b : Bool) → (q == n) ≡ b → (rest : Bool) →
+        cond b (Some (status_by (set.contains up n))) (answer rest (set.contains up q)) ≡ answer (b || rest) (set.contains up q)
     go true e rest = ap (λ k. Some (status_by (set.contains up k))) (sym (eqb-true q n e))
     go false e rest = refl
 
@@ -41,7 +44,8 @@ module _ (known up : Names) where
   pub get-view : (q : ℕ) → fin.get (view_of (set.items known) up) q ≡ answer (set.contains known q) (set.contains up q)
   get-view q = get-list (set.items known) up q ∙ ap (λ b. answer b (set.contains up q)) (sym (set.contains-items known q))
 
-  pub answered : (q : ℕ) (k u : Bool) → set.contains known q ≡ k → set.contains up q ≡ u → fin.get (view_of (set.items known) up) q ≡ answer k u
+  pub answered : (q : ℕ) (k u : Bool) → set.contains known q ≡ k → set.contains up q ≡ u →
+      fin.get (view_of (set.items known) up) q ≡ answer k u
   answered q k u e f = get-view q ∙ ap (λ b. answer b (set.contains up q)) e ∙ ap (answer k) f
 
   is_some-answer : (k u : Bool) → is_some (answer k u) ≡ k
@@ -68,7 +72,8 @@ module _ (known up : Names) where
   pub view-raised : (n : ℕ) → view_of (set.items (set.insert known n)) (set.insert up n) ≡ fin.insert (view_of (set.items known) up) n Up
   view-raised n = same_views _ _ (λ q.
       get-list (set.items (set.insert known n)) (set.insert up n) q
-      ∙ ap (λ b. answer b (set.contains (set.insert up n) q)) (sym (set.contains-items (set.insert known n) q) ∙ contains-insert_name known n q)
+      ∙ ap (λ b. answer b (set.contains (set.insert up n) q))
+      (sym (set.contains-items (set.insert known n) q) ∙ contains-insert_name known n q)
       ∙ ap (answer ((q == n) || set.contains known q)) (contains-insert_name up n q)
       ∙ raised (q == n) (set.contains known q) (set.contains up q)
       ∙ ap (cond (q == n) (Some Up)) (sym (get-view q))
@@ -79,14 +84,17 @@ module _ (known up : Names) where
   both_in false k u h e = h e
 
   pub up_known_raised : AreUpKnown known up → (n : ℕ) → AreUpKnown (set.insert known n) (set.insert up n)
-  up_known_raised h n q e = contains-insert_name known n q ∙ both_in (q == n) (set.contains known q) (set.contains up q) (h q) (sym (contains-insert_name up n q) ∙ e)
+  up_known_raised h n q e =
+      contains-insert_name known n q
+      ∙ both_in (q == n) (set.contains known q) (set.contains up q) (h q) (sym (contains-insert_name up n q) ∙ e)
 
   lowered : (b k u : Bool) → (b ≡ true → k ≡ true) → answer k (not b && u) ≡ cond b (Some Down) (answer k u)
   lowered true k u h = ap (λ k. answer k false) (h refl)
   lowered false k u h = refl
 
   -- a known name is put down
-  pub view-lowered : (n : ℕ) → set.contains known n ≡ true → view_of (set.items known) (set.remove up n) ≡ fin.insert (view_of (set.items known) up) n Down
+  pub view-lowered : (n : ℕ) → set.contains known n ≡ true →
+      view_of (set.items known) (set.remove up n) ≡ fin.insert (view_of (set.items known) up) n Down
   view-lowered n is = same_views _ _ (λ q.
       get-list (set.items known) (set.remove up n) q
       ∙ ap (λ b. answer b (set.contains (set.remove up n) q)) (sym (set.contains-items known q))
@@ -106,7 +114,8 @@ module _ (known up : Names) where
   pub view-forgotten : (n : ℕ) → view_of (set.items (set.remove known n)) (set.remove up n) ≡ fin.remove (view_of (set.items known) up) n
   view-forgotten n = same_views _ _ (λ q.
       get-list (set.items (set.remove known n)) (set.remove up n) q
-      ∙ ap (λ b. answer b (set.contains (set.remove up n) q)) (sym (set.contains-items (set.remove known n) q) ∙ contains-remove_name known n q)
+      ∙ ap (λ b. answer b (set.contains (set.remove up n) q))
+      (sym (set.contains-items (set.remove known n) q) ∙ contains-remove_name known n q)
       ∙ ap (answer (not (q == n) && set.contains known q)) (contains-remove_name up n q)
       ∙ taken (q == n) (set.contains known q) (set.contains up q)
       ∙ ap (cond (q == n) None) (sym (get-view q))
@@ -118,11 +127,15 @@ module _ (known up : Names) where
       contains-remove_name known n q ∙ and_from (not (q == n)) (set.contains known q) parts.0 (h q parts.1)
 
 pub view_of_none : (up : Names) → view_of (set.items (set.empty {R = nat_cmp})) up ≡ fin.empty
-view_of_none up = same_views _ _ (λ q. get-view set.empty up q ∙ ap (λ b. answer b (set.contains up q)) (set.contains-empty nat_cmp q) ∙ sym (fin.get-empty nat_cmp q))
+view_of_none up =
+    same_views _ _ (λ q. get-view set.empty up q ∙ ap (λ b. answer b (set.contains up q)) (set.contains-empty nat_cmp q)
+    ∙ sym (fin.get-empty nat_cmp q))
 
 -- the sets of names are told by the view
 pub same_known : (k l up other : Names) → view_of (set.items k) up ≡ view_of (set.items l) other → k ≡ l
 same_known k l up other e = same_names k l (λ q. known_names k up q ∙ ap (λ v. is_some (fin.get v q)) e ∙ sym (known_names l other q))
 
-pub same_up : (k l up other : Names) → AreUpKnown k up → AreUpKnown l other → view_of (set.items k) up ≡ view_of (set.items l) other → up ≡ other
-same_up k l up other h i e = same_names up other (λ q. sym (up_names k up h q) ∙ ap (λ v. is_some_up (fin.get v q)) e ∙ up_names l other i q)
+pub same_up : (k l up other : Names) → AreUpKnown k up → AreUpKnown l other → view_of (set.items k) up ≡ view_of (set.items l) other →
+    up ≡ other
+same_up k l up other h i e =
+    same_names up other (λ q. sym (up_names k up h q) ∙ ap (λ v. is_some_up (fin.get v q)) e ∙ up_names l other i q)

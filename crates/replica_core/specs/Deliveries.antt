@@ -47,5 +47,7 @@ standing seen es d = if fin.contains_key es d then 1 else (if set.contains seen 
 
 -- each dot of another known name has the greater of its two standings, and each other dot the one that it had
 pub record TakesGreaterStandings (m : Message) (before after : Replica) : Type 0 where
-  pub known : (d : Dot) → is_other_known before d.name ≡ true → standing after.seen after.entries d ≡ max (standing before.seen before.entries d) (standing m.seen m.entries d)
-  pub others : (d : Dot) → is_other_known before d.name ≡ false → standing after.seen after.entries d ≡ standing before.seen before.entries d
+  pub known : (d : Dot) → is_other_known before d.name ≡ true →
+      standing after.seen after.entries d ≡ max (standing before.seen before.entries d) (standing m.seen m.entries d)
+  pub others : (d : Dot) → is_other_known before d.name ≡ false →
+      standing after.seen after.entries d ≡ standing before.seen before.entries d

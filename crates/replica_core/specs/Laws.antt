@@ -7,7 +7,7 @@ use Rattle.payload_core.specs.Messages.{Message, AreSeen}
 use Rattle.replica_core.specs.Replicas.{Replica, CanBeDelta, delta_message, without_delta, with_delta}
 use Rattle.replica_core.specs.Deliveries.{merged, TakesGreaterStandings}
 use Rattle.replica_core.specs.Refusals.{merge_refusal}
-use Rattle.replica_core.specs.Kept.{IsReplica}
+use Rattle.replica_core.specs.Invariant.{IsReplica}
 
 -- a message merged again is accepted and changes nothing
 pub record AgainLaw : Type 0 where
@@ -20,7 +20,9 @@ Agree one other = (d : Dot) (p q : Presence) → fin.get one d ≡ Some p → fi
 
 -- two messages that have no two different entries at one dot give the same replica in either order, whatever the limits
 abbrev pub OrderLaw : Type 0
-OrderLaw = (m n : Message) (r : Replica) → AreSeen r.seen r.entries → AreSeen m.seen m.entries → AreSeen n.seen n.entries → Agree m.entries n.entries → merged n (merged m r) ≡ merged m (merged n r)
+OrderLaw =
+    (m n : Message) (r : Replica) → AreSeen r.seen r.entries → AreSeen m.seen m.entries → AreSeen n.seen n.entries →
+    Agree m.entries n.entries → merged n (merged m r) ≡ merged m (merged n r)
 
 -- after a delivery each dot of another known name has the greater of its two standings, and each other dot the one it had
 abbrev pub StandingLaw : Type 0
@@ -29,5 +31,6 @@ StandingLaw = (m : Message) (r : Replica) → AreSeen r.seen r.entries → AreSe
 -- taking the delta and giving it back are inverse to each other
 pub record DeltaLaw : Type 0 where
   pub given_back : (r : Replica) → with_delta (delta_message r) (without_delta r) ≡ r
-  pub taken_again : (m : Message) (r : Replica) → CanBeDelta m r → (delta_message (with_delta m r) ≡ m) × (without_delta (with_delta m r) ≡ r)
+  pub taken_again : (m : Message) (r : Replica) → CanBeDelta m r →
+      (delta_message (with_delta m r) ≡ m) × (without_delta (with_delta m r) ≡ r)
   pub can_be_given : (r : Replica) → IsReplica r → CanBeDelta (delta_message r) (without_delta r)

@@ -14,4 +14,6 @@ pub record AreNodeLimits (limits : NodeLimits) : Type 0 where
 
 -- limits are stored as the tuple of their fields
 abbrev pub node_limits_code : Coded NodeLimits
-node_limits_code = code_by (ℕ × (ℕ × ℕ)) (coded× coded_ℕ (coded× coded_ℕ coded_ℕ)) (λ l. (l.entries, (l.clock, l.messages))) (λ t. record { entries = t.0; clock = t.1.0; messages = t.1.1 }) (λ _. refl)
+node_limits_code =
+    code_by (ℕ × (ℕ × ℕ)) (coded× coded_ℕ (coded× coded_ℕ coded_ℕ)) (λ l. (l.entries, (l.clock, l.messages)))
+    (λ t. record { entries = t.0; clock = t.1.0; messages = t.1.1 }) (λ _. refl)

@@ -28,7 +28,16 @@ pub record Replica : Type 0 where
 -- it has seen nothing, and knows itself, up
 abbrev pub opening : ℕ → NodeLimits → Replica
 opening own limits =
-    record { own = own; limits = limits; seen = set.empty; entries = fin.empty; view = fin.insert fin.empty own Up; delta_seen = set.empty; delta_entries = fin.empty }
+    record {
+      own = own;
+      limits = limits;
+      seen = set.empty;
+      entries = fin.empty;
+      view = fin.insert fin.empty own Up;
+      delta_seen =
+          set.empty;
+      delta_entries = fin.empty;
+    }
 
 -- the own clock: the number of own dots that were seen
 abbrev pub own_clock : Replica → ℕ
@@ -69,7 +78,8 @@ joined p r = record r {
 
 -- the entry at the dot goes, and of it the delta has the dot alone
 abbrev pub dropped : Dot → Replica → Replica
-dropped d r = record r { entries = fin.remove r.entries d; delta_seen = set.insert r.delta_seen d; delta_entries = fin.remove r.delta_entries d }
+dropped d r =
+    record r { entries = fin.remove r.entries d; delta_seen = set.insert r.delta_seen d; delta_entries = fin.remove r.delta_entries d }
 
 -- the fresh dot was seen, without an entry, and nothing of it was sent
 abbrev pub ticked : Replica → Replica
@@ -103,7 +113,8 @@ is_other name n = not (n == name)
 
 -- nothing is held of the name: its dots were not seen, its entries are gone, and it is not known
 abbrev pub forgotten : ℕ → Replica → Replica
-forgotten name r = record r { seen = of_names (is_other name) r.seen; entries = entries_of_names (is_other name) r.entries; view = fin.remove r.view name }
+forgotten name r =
+    record r { seen = of_names (is_other name) r.seen; entries = entries_of_names (is_other name) r.entries; view = fin.remove r.view name }
 
 -- what a broadcast sends: the delta
 abbrev pub delta_message : Replica → Message
@@ -130,6 +141,17 @@ pub record CanBeDelta (m : Message) (r : Replica) : Type 0 where
 -- a replica is stored as the tuple of its fields
 abbrev pub replica_code : Coded Replica
 replica_code =
-    code_by (ℕ × (NodeLimits × (Dots × (Entries × (View × (Dots × Entries)))))) (coded× coded_ℕ (coded× node_limits_code (coded× (set.code dot_code) (coded× entries_code (coded× view_code (coded× (set.code dot_code) entries_code))))))
+    code_by (ℕ × (NodeLimits × (Dots × (Entries × (View × (Dots × Entries))))))
+    (coded× coded_ℕ (coded× node_limits_code (coded× (set.code dot_code)
+    (coded× entries_code (coded× view_code (coded× (set.code dot_code) entries_code))))))
     (λ r. (r.own, (r.limits, (r.seen, (r.entries, (r.view, (r.delta_seen, r.delta_entries)))))))
-    (λ t. record { own = t.0; limits = t.1.0; seen = t.1.1.0; entries = t.1.1.1.0; view = t.1.1.1.1.0; delta_seen = t.1.1.1.1.1.0; delta_entries = t.1.1.1.1.1.1 }) (λ _. refl)
+    (λ t. record {
+      own = t.0;
+      limits = t.1.0;
+      seen = t.1.1.0;
+      entries = t.1.1.1.0;
+      view = t.1.1.1.1.0;
+      delta_seen =
+          t.1.1.1.1.1.0;
+      delta_entries = t.1.1.1.1.1.1;
+    }) (λ _. refl)

@@ -1,6 +1,6 @@
 //! `Change`: what a call destroyed, kept to take the call back.
 ghost use Rattle.std.specs.Prelude.{◌≡◌};
-ghost use Rattle.replica_core.specs.Kept.{IsReplica};
+ghost use Rattle.replica_core.specs.Invariant.{IsReplica};
 
 use crate::replica::Replica;
 use std::alloc::Allocator;

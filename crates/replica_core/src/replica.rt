@@ -11,9 +11,9 @@ ghost use Rattle.replica_core.specs.Limits.{AreNodeLimits};
 ghost use Rattle.replica_core.specs.Replicas.{opening, own_clock, fresh, tracked_dots, dots_of_process, is_online, joined, left_each, updated, with_status, forgotten, delta_message, without_delta, with_delta, CanBeDelta};
 ghost use Rattle.replica_core.specs.Deliveries.{is_other_known, is_new, is_gone, arrivals, departures, merged, TakesGreaterStandings};
 ghost use Rattle.replica_core.specs.Refusals.{IsRefusedFor, is_tracked, are_too_many, is_clock_full, join_refusal, leave_refusal, leave_all_refusal, merge_refusal, up_refusal, down_refusal, permdown_refusal, has_dots};
-ghost use Rattle.replica_core.specs.Kept.{IsReplica};
+ghost use Rattle.replica_core.specs.Invariant.{IsReplica};
 ghost use Rattle.replica_core.specs.Leaves.{AreOwnSeen};
-ghost use Rattle.replica_core.specs.Changes.{LeadsBack, LeadsSomewhere, GivesBack};
+ghost use Rattle.replica_core.specs.Changes.{ChangeLeadsBack, ChangeLeadsSomewhere, ChangeGivesBack};
 
 use crate::change::Change;
 use crate::delivery::{joining, leaving, put_in, take_out};
@@ -48,7 +48,7 @@ pub struct Replica<A: Allocator> {
 }
 
 impl<A: Allocator> Model for Replica<A> {
-    ghost use Rattle.replica_core.specs.Kept.{IsReplica};
+    ghost use Rattle.replica_core.specs.Invariant.{IsReplica};
     ghost use Rattle.replica_core.specs.Replicas.{Replica, replica_code};
 
     ghost Value = { Replica };
@@ -266,8 +266,8 @@ impl<A: Allocator> Replica<A> {
     /// The replica that the change leads back to. The change is that of the last call: the replica is as that call left
     /// it. For now it takes no memory.
     pub fn undo(&mut self, change: Change<A>) -> Result<(), (Change<A>, Oom)>
-        requires { LeadsSomewhere change self.old }
-        ensures ok { OnOk result (GivesBack change self.old self.new) }
+        requires { ChangeLeadsSomewhere change self.old }
+        ensures ok { OnOk result (ChangeGivesBack change self.old self.new) }
         ensures err { OnErr result (self.new ≡ self.old) }
         ensures given_back { IfErr result (λ failed. failed.0 ≡ change) }
     {
@@ -322,7 +322,7 @@ impl<A: Allocator + Copy> Replica<A> {
     ) -> Result<Change<A>, ReplicaFault>
         ensures joined { OnOk result (self.new ≡ joined (record { pid = pid; topic = topic.now; key = key.now; metadata = metadata.now }) self.old) }
         ensures refused { IsRefusedFor (join_refusal self.old pid topic.now key.now) result }
-        ensures leads_back { IfOk result (λ change. LeadsBack change self.new self.old) }
+        ensures leads_back { IfOk result (λ change. ChangeLeadsBack change self.new self.old) }
         ensures err { OnErr result (self.new ≡ self.old) }
     {
         if let Some(fault) = self.join_refusal(pid, topic, key) {
@@ -384,7 +384,7 @@ impl<A: Allocator + Copy> Replica<A> {
     ) -> Result<Change<A>, ReplicaFault>
         ensures left { OnOk result (self.new ≡ left_each (tracked_dots self.old pid topic.now key.now) self.old) }
         ensures refused { IsRefusedFor (leave_refusal self.old pid topic.now key.now) result }
-        ensures leads_back { IfOk result (λ change. LeadsBack change self.new self.old) }
+        ensures leads_back { IfOk result (λ change. ChangeLeadsBack change self.new self.old) }
         ensures err { OnErr result (self.new ≡ self.old) }
     {
         let dot = self.leaving_dot(pid, topic, key)?;
@@ -399,7 +399,7 @@ impl<A: Allocator + Copy> Replica<A> {
     pub fn leave_all(&mut self, pid: u64) -> Result<Change<A>, ReplicaFault>
         ensures left { OnOk result (self.new ≡ left_each (dots_of_process self.old pid) self.old) }
         ensures refused { IsRefusedFor (leave_all_refusal self.old pid) result }
-        ensures leads_back { IfOk result (λ change. LeadsBack change self.new self.old) }
+        ensures leads_back { IfOk result (λ change. ChangeLeadsBack change self.new self.old) }
         ensures err { OnErr result (self.new ≡ self.old) }
     {
         let leaving = dots_of_process(self, pid)?;
@@ -445,7 +445,7 @@ impl<A: Allocator + Copy> Replica<A> {
     ) -> Result<Change<A>, ReplicaFault>
         ensures updated { OnOk result (self.new ≡ updated (record { pid = pid; topic = topic.now; key = key.now; metadata = metadata.now }) self.old) }
         ensures refused { IsRefusedFor (leave_refusal self.old pid topic.now key.now) result }
-        ensures leads_back { IfOk result (λ change. LeadsBack change self.new self.old) }
+        ensures leads_back { IfOk result (λ change. ChangeLeadsBack change self.new self.old) }
         ensures err { OnErr result (self.new ≡ self.old) }
     {
         let dot = self.leaving_dot(pid, topic, key)?;
@@ -485,7 +485,7 @@ impl<A: Allocator + Copy> Replica<A> {
         ensures merged { OnOk result (self.new ≡ merged message.now self.old) }
         ensures greater_standings { OnOk result (TakesGreaterStandings message.now self.old self.new) }
         ensures refused { IsRefusedFor (merge_refusal self.old message.now) result }
-        ensures leads_back { IfOk result (λ change. LeadsBack change self.new self.old) }
+        ensures leads_back { IfOk result (λ change. ChangeLeadsBack change self.new self.old) }
         ensures err { OnErr result (self.new ≡ self.old) }
     {
         let _ = message.entries(); // the proof reads that their dots are seen
@@ -532,7 +532,7 @@ impl<A: Allocator + Copy> Replica<A> {
         requires { name < 32 }
         ensures up { OnOk result (self.new ≡ with_status name Up self.old) }
         ensures refused { IsRefusedFor (up_refusal self.old name) result }
-        ensures leads_back { IfOk result (λ change. LeadsBack change self.new self.old) }
+        ensures leads_back { IfOk result (λ change. ChangeLeadsBack change self.new self.old) }
         ensures err { OnErr result (self.new ≡ self.old) }
     {
         if name == self.own {
@@ -549,7 +549,7 @@ impl<A: Allocator + Copy> Replica<A> {
         requires { name < 32 }
         ensures down { OnOk result (self.new ≡ with_status name Down self.old) }
         ensures refused { IsRefusedFor (down_refusal self.old name) result }
-        ensures leads_back { IfOk result (λ change. LeadsBack change self.new self.old) }
+        ensures leads_back { IfOk result (λ change. ChangeLeadsBack change self.new self.old) }
         ensures err { OnErr result (self.new ≡ self.old) }
     {
         if let Some(fault) = self.down_refusal(name) {
@@ -567,7 +567,7 @@ impl<A: Allocator + Copy> Replica<A> {
         requires { name < 32 }
         ensures forgotten { OnOk result (self.new ≡ forgotten name self.old) }
         ensures refused { IsRefusedFor (permdown_refusal self.old name) result }
-        ensures leads_back { IfOk result (λ change. LeadsBack change self.new self.old) }
+        ensures leads_back { IfOk result (λ change. ChangeLeadsBack change self.new self.old) }
         ensures err { OnErr result (self.new ≡ self.old) }
     {
         if let Some(fault) = self.permdown_refusal(name) {

@@ -1,7 +1,7 @@
 //! What no clause says: that calls succeed with memory, what a refusal of memory leaves, and that reads take none; and
 //! context clocks and clouds in rows of several calls.
 ghost use Rattle.std.specs.Prelude.{◌<◌, IfOk};
-ghost use Rattle.replica_core.specs.Changes.{LeadsBack};
+ghost use Rattle.replica_core.specs.Changes.{ChangeLeadsBack};
 ghost use Rattle.replica_core.specs.Limits.{AreNodeLimits};
 
 use super::*;
@@ -128,7 +128,7 @@ impl Call {
         replica: &mut Replica<&'a B>,
         inputs: &Inputs<&'a B>,
     ) -> Result<Change<&'a B>, ReplicaFault>
-        ensures { IfOk result (λ change. LeadsBack change replica.new replica.old) }
+        ensures { IfOk result (λ change. ChangeLeadsBack change replica.new replica.old) }
     {
         let words = &inputs.words;
         match self {

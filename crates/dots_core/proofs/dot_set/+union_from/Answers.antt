@@ -10,25 +10,33 @@ pub returns-in-Some-clause-parts : goal.returns-in-Some-clause-parts
 returns-in-Some-clause-parts g t c =
     let own = get_or c.args.parts.now c.from-at.result c.index-parts-at.result in
     let other = get_or c.args.others.now c.from-at.result c.index-others-at.result in
-    let grown : IsGrown own other (Some c.in-Some.part) = subst (λ (z : Clocks). IsGrown own z (Some c.in-Some.part)) c.index-others-at.is (subst (IsGrown own c.index-others-at.result) c.in-Some.is c.in_ok-new.ensures) in
+    let grown : IsGrown own other (Some c.in-Some.part) =
+    subst (λ (z : Clocks). IsGrown own z (Some c.in-Some.part)) c.index-others-at.is
+    (subst (IsGrown own c.index-others-at.result) c.in-Some.is c.in_ok-new.ensures) in
     parts_set c.union_from-2.new.parts c.from-at.result c.in-Some.part c.union_from-2.ensures.parts grown.0
 
 pub returns-in-Some-clause-ok : goal.returns-in-Some-clause-ok
 returns-in-Some-clause-ok g t c =
     let own = get_or c.args.parts.now c.from-at.result c.index-parts-at.result in
     let other = get_or c.args.others.now c.from-at.result c.index-others-at.result in
-    let grown : IsGrown own other (Some c.in-Some.part) = subst (λ (z : Clocks). IsGrown own z (Some c.in-Some.part)) c.index-others-at.is (subst (IsGrown own c.index-others-at.result) c.in-Some.is c.in_ok-new.ensures) in
+    let grown : IsGrown own other (Some c.in-Some.part) =
+    subst (λ (z : Clocks). IsGrown own z (Some c.in-Some.part)) c.index-others-at.is
+    (subst (IsGrown own c.index-others-at.result) c.in-Some.is c.in_ok-new.ensures) in
     let name : c.args.name < 32 = omega (arith, c.requires.name, c.if-name-eq32.false) in
     let on : set.contains c.args.names c.args.name ≡ true = cc (c.has.ensures, c.if-not-has.false) in
-    union_grown_at c.args.names c.args.name c.from-at.result c.args.parts.now c.args.others.now c.union_from-2.new.parts c.index-parts-at.result c.index-others-at.result c.in-Some.part
+    union_grown_at c.args.names c.args.name c.from-at.result c.args.parts.now c.args.others.now c.union_from-2.new.parts
+    c.index-parts-at.result c.index-others-at.result c.in-Some.part
     c.requires.own c.requires.other c.from-at.ensures name on grown c.in_ok-union_from.ensures.ok
 
 pub returns-clause-ok : goal.returns-clause-ok
 returns-clause-ok g t c =
     let own = get_or c.args.parts.now c.from-at.result c.index-parts-at.result in
     let other = get_or c.args.others.now c.from-at.result c.index-others-at.result in
-    let grown : IsGrown own other None = subst (λ (z : Clocks). IsGrown own z None) c.index-others-at.is (subst (IsGrown own c.index-others-at.result) c.in_default.is c.in_ok-new.ensures) in
+    let grown : IsGrown own other None =
+    subst (λ (z : Clocks). IsGrown own z None) c.index-others-at.is
+    (subst (IsGrown own c.index-others-at.result) c.in_default.is c.in_ok-new.ensures) in
     let name : c.args.name < 32 = omega (arith, c.requires.name, c.if-name-eq32.false) in
     let on : set.contains c.args.names c.args.name ≡ true = cc (c.has.ensures, c.if-not-has.false) in
-    union_kept_at c.args.names c.args.name c.from-at.result c.args.parts.now c.args.others.now c.union_from-2.new.parts c.index-parts-at.result c.index-others-at.result
+    union_kept_at c.args.names c.args.name c.from-at.result c.args.parts.now c.args.others.now c.union_from-2.new.parts
+    c.index-parts-at.result c.index-others-at.result
     c.requires.own c.requires.other c.from-at.ensures name on grown c.in_ok-union_from.ensures.ok

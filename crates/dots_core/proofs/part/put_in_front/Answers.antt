@@ -13,6 +13,7 @@ loop-clock-preserved g c =
       items = c.push_reserved.ensures.items
           ∙ ap (λ xs. xs ++ c.loop-clock.clock ∷ []) c.loop-clock.invariant.items
           ∙ append_assoc c.args.cloud.now.items (numbers from done) (c.loop-clock.clock ∷ [])
-          ∙ ap (λ xs. c.args.cloud.now.items ++ xs) (ap (λ z. numbers from done ++ z ∷ []) at ∙ numbers_more from done ∙ sym (ap (numbers from) more));
+          ∙ ap (λ xs. c.args.cloud.now.items ++ xs)
+          (ap (λ z. numbers from done ++ z ∷ []) at ∙ numbers_more from done ∙ sym (ap (numbers from) more));
       room = omega arith;
     }

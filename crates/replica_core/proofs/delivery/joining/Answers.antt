@@ -13,13 +13,19 @@ loop-place-preserved g c =
     let ps = fin.entries c.entries-entries.result.now.map in
     elim c.match-at.branch [
       | in-Some+then-is_new+in_ok-try_copy+in_ok-push w ↦
-          let new = answered (is_new c.args.replica.now) w.entry.inside.dot w.in-Some.entry.now w.is_new.result true (ap (λ (e : Entry). e.dot) w.entry.view_is) w.is_new.ensures w.if-is_new.true in
+          let new = answered (is_new c.args.replica.now) w.entry.inside.dot w.in-Some.entry.now w.is_new.result true
+          (ap (λ (e : Entry). e.dot) w.entry.view_is) w.is_new.ensures w.if-is_new.true in
           rw w.joining-is
-          (pair_collected (λ (p : Dot × Presence). is_new c.args.replica.now p.0) ps c.loop-place.place w.in-Some.entry.now w.in_ok-try_copy.field-0 c.loop-place.joining.items w.push.new.self.items w.in-Some.ensures new c.loop-place.invariant w.in_ok-push.ensures.items w.in_ok-try_copy.ensures)
+          (pair_collected (λ (p : Dot × Presence). is_new c.args.replica.now p.0) ps c.loop-place.place w.in-Some.entry.now
+          w.in_ok-try_copy.field-0 c.loop-place.joining.items w.push.new.self.items w.in-Some.ensures new c.loop-place.invariant
+          w.in_ok-push.ensures.items w.in_ok-try_copy.ensures)
       | in-Some+else-is_new w ↦
-          let old = answered (is_new c.args.replica.now) w.entry.inside.dot w.in-Some.entry.now w.is_new.result false (ap (λ (e : Entry). e.dot) w.entry.view_is) w.is_new.ensures w.if-is_new.false in
-          rw w.joining-is (c.loop-place.invariant ∙ sym (failed (λ (p : Dot × Presence). is_new c.args.replica.now p.0) ps c.loop-place.place w.in-Some.entry.now w.in-Some.ensures old))
-      | in_default w ↦ let len = fin.len-entries c.entries-entries.result.now.map in absurd (no_gap ps c.loop-place.place w.in_default.ensures (omega arith))
+          let old = answered (is_new c.args.replica.now) w.entry.inside.dot w.in-Some.entry.now w.is_new.result false
+          (ap (λ (e : Entry). e.dot) w.entry.view_is) w.is_new.ensures w.if-is_new.false in
+          rw w.joining-is (c.loop-place.invariant ∙ sym (failed (λ (p : Dot × Presence). is_new c.args.replica.now p.0) ps
+          c.loop-place.place w.in-Some.entry.now w.in-Some.ensures old))
+      | in_default w ↦ let len =
+          fin.len-entries c.entries-entries.result.now.map in absurd (no_gap ps c.loop-place.place w.in_default.ensures (omega arith))
     ]
 
 pub returns : goal.returns
@@ -27,6 +33,7 @@ returns g c =
     let len = fin.len-entries c.entries-entries.result.now.map in
     let end : length (fin.entries c.entries-entries.result.now.map) ≤ c.loop-place.place = omega arith in
     c.loop-place.invariant
-    ∙ all_walked (λ (p : Dot × Presence). is_new c.args.replica.now p.0) (fin.entries c.entries-entries.result.now.map) c.loop-place.place end
+    ∙ all_walked (λ (p : Dot × Presence). is_new c.args.replica.now p.0) (fin.entries c.entries-entries.result.now.map) c.loop-place.place
+    end
     ∙ sym (entries-retain c.entries-entries.result.now.map (is_new c.args.replica.now))
     ∙ ap (λ (es : Entries). fin.entries (fin.retain_keys es (is_new c.args.replica.now))) c.entries-entries.ensures.entries

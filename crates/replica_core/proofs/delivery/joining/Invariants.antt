@@ -8,4 +8,5 @@ use Rattle.replica_core.proofs.delivery.joining.Given as goal
 
 -- those of the entries so far that are new
 abbrev pub invariant-loop-place : goal.invariant-loop-place
-invariant-loop-place g l = pairs l.joining.items ≡ filter (λ (e : Dot × Presence). is_new l.replica e.0) (take l.place (fin.entries l.entries.map))
+invariant-loop-place g l =
+    pairs l.joining.items ≡ filter (λ (e : Dot × Presence). is_new l.replica e.0) (take l.place (fin.entries l.entries.map))

@@ -7,4 +7,6 @@ use Rattle.replica_core.proofs.delivery.leaving.Given as goal
 
 -- the dots of those of the entries so far that are gone
 abbrev pub invariant-loop-place : goal.invariant-loop-place
-invariant-loop-place g l = l.leaving.items ≡ map (λ (e : Dot × Presence). e.0) (filter (λ (e : Dot × Presence). is_gone l.message l.replica e.0) (take l.place (fin.entries l.entries.map)))
+invariant-loop-place g l =
+    l.leaving.items ≡ map (λ (e : Dot × Presence). e.0) (filter (λ (e : Dot × Presence). is_gone l.message l.replica e.0)
+    (take l.place (fin.entries l.entries.map)))

@@ -15,10 +15,14 @@ loop-place-preserved g c =
     elim c.match-at.branch [
       | in-Some+then-is_own_of+in_ok-push w ↦
           rw w.leaving-is
-          (dot_collected test ps c.loop-place.place w.in-Some.entry.now w.entry.inside.dot c.loop-place.leaving.items w.push.new.self.items w.in-Some.ensures (sym w.is_own_of.ensures ∙ w.if-is_own_of.true) c.loop-place.invariant w.in_ok-push.ensures.items (ap (λ (e : Entry). e.dot) w.entry.view_is))
+          (dot_collected test ps c.loop-place.place w.in-Some.entry.now w.entry.inside.dot c.loop-place.leaving.items w.push.new.self.items
+          w.in-Some.ensures (sym w.is_own_of.ensures ∙ w.if-is_own_of.true) c.loop-place.invariant w.in_ok-push.ensures.items
+          (ap (λ (e : Entry). e.dot) w.entry.view_is))
       | in-Some+else-is_own_of w ↦
-          rw w.leaving-is (dot_passed_over test ps c.loop-place.place w.in-Some.entry.now c.loop-place.leaving.items w.in-Some.ensures (sym w.is_own_of.ensures ∙ w.if-is_own_of.false) c.loop-place.invariant)
-      | in_default w ↦ let len = fin.len-entries c.entries-entries.result.now.map in absurd (no_gap ps c.loop-place.place w.in_default.ensures (omega arith))
+          rw w.leaving-is (dot_passed_over test ps c.loop-place.place w.in-Some.entry.now c.loop-place.leaving.items w.in-Some.ensures
+          (sym w.is_own_of.ensures ∙ w.if-is_own_of.false) c.loop-place.invariant)
+      | in_default w ↦ let len =
+          fin.len-entries c.entries-entries.result.now.map in absurd (no_gap ps c.loop-place.place w.in_default.ensures (omega arith))
     ]
 
 pub returns-clause-dots : goal.returns-clause-dots
@@ -31,4 +35,6 @@ returns-clause-dots g c =
     ∙ ap (λ (es : Entries). map (λ (p : Dot × Presence). p.0) (filter test (fin.entries es))) c.entries-entries.ensures
 
 pub returns-clause-own : goal.returns-clause-own
-returns-clause-own g c = subst (λ ds. AreOwnSeen ds c.args.replica.now) (sym (returns-clause-dots g c)) (own_dots_seen c.args.replica.now (λ (p : Presence). p.pid == c.args.pid) c.replica_law.ensures)
+returns-clause-own g c =
+    subst (λ ds. AreOwnSeen ds c.args.replica.now) (sym (returns-clause-dots g c))
+    (own_dots_seen c.args.replica.now (λ (p : Presence). p.pid == c.args.pid) c.replica_law.ensures)

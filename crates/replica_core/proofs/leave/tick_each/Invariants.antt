@@ -7,5 +7,6 @@ abbrev pub invariant-loop-dot : goal.invariant-loop-dot
 invariant-loop-dot g l = record {
   clock : l.last ≡ l.fn.clock + l.dot-index;
   seen : seen_after l.own l.last (drop l.dot-index l.leaving) l.seen ≡ seen_after l.own l.fn.clock l.leaving l.initial.seen;
-  delta_seen : delta_after l.own l.last (drop l.dot-index l.leaving) l.delta_seen ≡ delta_after l.own l.fn.clock l.leaving l.initial.delta_seen;
+  delta_seen : delta_after l.own l.last (drop l.dot-index l.leaving) l.delta_seen ≡
+      delta_after l.own l.fn.clock l.leaving l.initial.delta_seen;
 }

@@ -1,7 +1,7 @@
 use Rattle.std.proofs.Common.{sym, subst, ◌∙◌}
 use Rattle.dots_core.specs.Clocks.{Clocks}
 use Rattle.dots_core.specs.Contexts.{IsContext}
-use Rattle.dots_core.specs.Parts.{dots_of}
+use Rattle.dots_core.specs.Parts.{dots_of_parts}
 use Rattle.dots_core.proofs.Parts.{read_part, context_at}
 use Rattle.dots_core.proofs.dot_set.DotSet.clock_of.Goals as goal
 
@@ -10,4 +10,5 @@ returns g c =
     let ps = c.self.inside.parts in
     let at = read_part ps c.from.result c.args.name c.index-self-from.result c.self.invariant c.from.ensures c.requires in
     subst (λ s. IsContext s c.args.name c.part.inside.clock) c.self.view_is
-    (subst (λ (p : Clocks). IsContext (dots_of ps) c.args.name p.clock) (sym (c.part.view_is ∙ at)) (context_at ps c.args.name c.self.invariant))
+    (subst (λ (p : Clocks). IsContext (dots_of_parts ps) c.args.name p.clock) (sym (c.part.view_is ∙ at))
+    (context_at ps c.args.name c.self.invariant))

@@ -1,7 +1,7 @@
 use Rattle.std.proofs.Common.{◌<◌, sym, ap, ◌∙◌, arith}
 use Rattle.std.specs.FinSet as set
 use Rattle.dots_core.specs.Clocks.{holds}
-use Rattle.dots_core.proofs.Parts.{contains-dots_of, read_part, absent}
+use Rattle.dots_core.proofs.Parts.{contains-dots_of_parts, read_part, absent}
 use Rattle.dots_core.proofs.dot_set.DotSet.contains.Goals as goal
 
 pub returns-in-None : goal.returns-in-None
@@ -13,5 +13,7 @@ returns-in-None g c =
 pub returns-in-Some : goal.returns-in-Some
 returns-in-Some g c =
     let within : c.args.dot.name < 32 = omega (arith, c.in-Some.ensures.lookup.3.0, c.self.invariant.names, c.from.ensures) in
-    let part = c.in-Some.ensures.lookup.1 ∙ read_part c.self.inside.parts c.from.result c.args.dot.name c.in-Some.part.now c.self.invariant c.from.ensures within in
-    c.has.ensures ∙ ap (λ p. holds p c.args.dot.clock) part ∙ sym (contains-dots_of c.self.inside.parts c.args.dot) ∙ ap (λ s. set.contains s c.args.dot) c.self.view_is
+    let part = c.in-Some.ensures.lookup.1
+    ∙ read_part c.self.inside.parts c.from.result c.args.dot.name c.in-Some.part.now c.self.invariant c.from.ensures within in
+    c.has.ensures ∙ ap (λ p. holds p c.args.dot.clock) part ∙ sym (contains-dots_of_parts c.self.inside.parts c.args.dot)
+    ∙ ap (λ s. set.contains s c.args.dot) c.self.view_is

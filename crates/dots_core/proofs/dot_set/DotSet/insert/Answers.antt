@@ -10,10 +10,14 @@ invariant_of-self g c = parts_set c.self.inside.parts c.from.result c.insert.new
 
 pub returns-clause-ok : goal.returns-clause-ok
 returns-clause-ok g c = on_ok_weaker c.insert.result
-    (insert_at c.self.inside.parts c.from.result c.args.dot c.index-self-from.result c.insert.new.self c.args.self.now c.self.invariant c.from.ensures c.requires.name c.self.view_is)
+    (insert_at c.self.inside.parts c.from.result c.args.dot c.index-self-from.result c.insert.new.self c.args.self.now c.self.invariant
+    c.from.ensures c.requires.name c.self.view_is)
     c.insert.ensures.ok
 
 pub returns-clause-new : goal.returns-clause-new
 returns-clause-new g c =
-    let held = held_at c.self.inside.parts c.from.result c.args.dot c.index-self-from.result c.args.self.now c.self.invariant c.from.ensures c.requires.name c.self.view_is in
-    IfOk-weaker c.insert.result (λ (new : Bool). new ≡ not (holds (get_or c.self.inside.parts c.from.result c.index-self-from.result) c.args.dot.clock)) (λ (new : Bool). new ≡ not (set.contains c.args.self.now c.args.dot)) (λ new e. e ∙ ap not held) c.insert.ensures.new
+    let held = held_at c.self.inside.parts c.from.result c.args.dot c.index-self-from.result c.args.self.now c.self.invariant c.from.ensures
+    c.requires.name c.self.view_is in
+    IfOk-weaker c.insert.result (λ (new : Bool). new ≡ not (holds (get_or c.self.inside.parts c.from.result c.index-self-from.result)
+    c.args.dot.clock)) (λ (new : Bool). new ≡ not (set.contains c.args.self.now c.args.dot)) (λ new e. e ∙ ap not held)
+    c.insert.ensures.new

@@ -7,5 +7,7 @@ use Rattle.dots_core.proofs.dot_set.DotSet.part_of.Goals as goal
 
 pub returns : goal.returns
 returns g c =
-    let part = part_read c.self.inside.parts c.from.result c.args.name c.index-self-from.result c.args.self.now c.self.invariant c.from.ensures c.requires c.self.view_is in
-    IfOk-weaker c.try_copy.result (λ (copy : Clocks). copy ≡ get_or c.self.inside.parts c.from.result c.index-self-from.result) (IsPartOf c.args.self.now c.args.name) (λ copy e. subst (IsPartOf c.args.self.now c.args.name) (sym e) part) c.try_copy.ensures
+    let part = part_read c.self.inside.parts c.from.result c.args.name c.index-self-from.result c.args.self.now c.self.invariant
+    c.from.ensures c.requires c.self.view_is in
+    IfOk-weaker c.try_copy.result (λ (copy : Clocks). copy ≡ get_or c.self.inside.parts c.from.result c.index-self-from.result)
+    (IsPartOf c.args.self.now c.args.name) (λ copy e. subst (IsPartOf c.args.self.now c.args.name) (sym e) part) c.try_copy.ensures

@@ -10,10 +10,13 @@ invariant_of-self g c = parts_set c.self.inside.parts c.from.result c.remove.new
 
 pub returns-clause-ok : goal.returns-clause-ok
 returns-clause-ok g c = on_ok_weaker c.remove.result
-    (remove_at c.self.inside.parts c.from.result c.args.dot c.index-self-from.result c.remove.new.self c.args.self.now c.self.invariant c.from.ensures c.requires.name c.self.view_is)
+    (remove_at c.self.inside.parts c.from.result c.args.dot c.index-self-from.result c.remove.new.self c.args.self.now c.self.invariant
+    c.from.ensures c.requires.name c.self.view_is)
     c.remove.ensures.ok
 
 pub returns-clause-was : goal.returns-clause-was
 returns-clause-was g c =
-    let held = held_at c.self.inside.parts c.from.result c.args.dot c.index-self-from.result c.args.self.now c.self.invariant c.from.ensures c.requires.name c.self.view_is in
-    IfOk-weaker c.remove.result (λ (was : Bool). was ≡ holds (get_or c.self.inside.parts c.from.result c.index-self-from.result) c.args.dot.clock) (λ (was : Bool). was ≡ set.contains c.args.self.now c.args.dot) (λ was e. e ∙ held) c.remove.ensures.was
+    let held = held_at c.self.inside.parts c.from.result c.args.dot c.index-self-from.result c.args.self.now c.self.invariant c.from.ensures
+    c.requires.name c.self.view_is in
+    IfOk-weaker c.remove.result (λ (was : Bool). was ≡ holds (get_or c.self.inside.parts c.from.result c.index-self-from.result)
+    c.args.dot.clock) (λ (was : Bool). was ≡ set.contains c.args.self.now c.args.dot) (λ was e. e ∙ held) c.remove.ensures.was

@@ -4,10 +4,15 @@ use Rattle.dots_core.proofs.Parts.{parts_set, part_put, rest_put}
 use Rattle.dots_core.proofs.dot_set.DotSet.set_part.Goals as goal
 
 pub invariant_of-self : goal.invariant_of-self
-invariant_of-self g c = parts_set c.self.inside.parts c.from.result c.args.part c.self.invariant (subst IsCanonical c.part.view_is c.part.invariant)
+invariant_of-self g c =
+    parts_set c.self.inside.parts c.from.result c.args.part c.self.invariant (subst IsCanonical c.part.view_is c.part.invariant)
 
 pub returns-clause-part : goal.returns-clause-part
-returns-clause-part g c = part_put c.self.inside.parts c.from.result c.args.name c.args.part c.self.invariant c.from.ensures c.requires (subst IsCanonical c.part.view_is c.part.invariant)
+returns-clause-part g c =
+    part_put c.self.inside.parts c.from.result c.args.name c.args.part c.self.invariant c.from.ensures c.requires
+    (subst IsCanonical c.part.view_is c.part.invariant)
 
 pub returns-clause-rest : goal.returns-clause-rest
-returns-clause-rest g c = rest_put c.self.inside.parts c.from.result c.args.name c.args.part c.args.self.now c.self.invariant c.from.ensures c.requires c.self.view_is
+returns-clause-rest g c =
+    rest_put c.self.inside.parts c.from.result c.args.name c.args.part c.args.self.now c.self.invariant c.from.ensures c.requires
+    c.self.view_is

@@ -10,6 +10,7 @@ use Rattle.dots_core.proofs.name_set.NameSet.is_below.Goals as goal
 
 pub returns : goal.returns
 returns c =
-    all_from_yields_List not _ _ c.all.result c.all.ensures.ran (YieldsList-from_skip c.args.count (YieldsList-from_slice c.self.inside.has cc) cc) (λ x b q k. search (rules, tests))
+    all_from_yields_List not _ _ c.all.result c.all.ensures.ran
+    (YieldsList-from_skip c.args.count (YieldsList-from_slice c.self.inside.has cc) cc) (λ x b q k. search (rules, tests))
     ∙ none_above c.self.inside.has c.args.count
     ∙ ap (λ (names : Names). list_all (λ name. nat_lt name c.args.count) (set.items names)) c.self.view_is

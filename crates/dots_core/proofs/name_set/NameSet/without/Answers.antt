@@ -1,8 +1,8 @@
 use Rattle.std.proofs.Common.{◌<◌, length, ◌∙◌, arith}
-use Rattle.dots_core.proofs.Names.{names_of-without}
+use Rattle.dots_core.proofs.Names.{names_of_flags-without}
 use Rattle.dots_core.proofs.name_set.NameSet.without.Goals as goal
 
 pub returns : goal.returns
 returns c =
     let within : c.from.result < length c.self.inside.has = omega (arith, c.self.invariant, c.from.ensures, c.requires) in
-    names_of-without c.self.inside.has c.from.result within ∙ cc (c.self.view_is, c.from.ensures)
+    names_of_flags-without c.self.inside.has c.from.result within ∙ cc (c.self.view_is, c.from.ensures)

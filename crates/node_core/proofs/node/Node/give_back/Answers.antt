@@ -12,10 +12,13 @@ pub take_back_extract-requires : goal.take_back_extract-requires
 take_back_extract-requires g c = (search rules, subst (λ i. LeadsSomewhere (plain_inverse i) c.args.self.now) c.in-Extract.is c.requires)
 
 pub returns-in-Ok-clause-ok : goal.returns-in-Ok-clause-ok
-returns-in-Ok-clause-ok g c = subst (λ i. GivesBack (plain_inverse i) c.args.self.now c.undo.new.self) (sym c.in-Change.is) c.in-Ok.ensures.ok
+returns-in-Ok-clause-ok g c =
+    subst (λ i. GivesBack (plain_inverse i) c.args.self.now c.undo.new.self) (sym c.in-Change.is) c.in-Ok.ensures.ok
 
 pub returns-in-Broadcast-clause-ok : goal.returns-in-Broadcast-clause-ok
-returns-in-Broadcast-clause-ok g c = subst (λ i. GivesBack (plain_inverse i) c.args.self.now c.take_back_delta.new.self) (sym c.in-Broadcast.is) c.take_back_delta.ensures
+returns-in-Broadcast-clause-ok g c =
+    subst (λ i. GivesBack (plain_inverse i) c.args.self.now c.take_back_delta.new.self) (sym c.in-Broadcast.is) c.take_back_delta.ensures
 
 pub returns-in-Extract-clause-ok : goal.returns-in-Extract-clause-ok
-returns-in-Extract-clause-ok g c = subst (λ i. GivesBack (plain_inverse i) c.args.self.now c.take_back_extract.new.self) (sym c.in-Extract.is) c.take_back_extract.ensures
+returns-in-Extract-clause-ok g c =
+    subst (λ i. GivesBack (plain_inverse i) c.args.self.now c.take_back_extract.new.self) (sym c.in-Extract.is) c.take_back_extract.ensures

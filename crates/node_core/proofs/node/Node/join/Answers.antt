@@ -7,9 +7,13 @@ use Rattle.node_core.proofs.node.Node.join.Goals as goal
 pub invariant_of-self-2 : goal.invariant_of-self-2
 invariant_of-self-2 g c =
     let before : Node = record { replica = c.self.inside.replica; outbox = c.self.inside.outbox.messages } in
-    changed_kept before c.join.new.self c.in_ok-change.change c.self.inside.outbox.limit c.self.invariant.0 c.self.invariant.1 c.in_ok-change.ensures.leads_back c.replica_law.ensures
+    changed_kept before c.join.new.self c.in_ok-change.change c.self.inside.outbox.limit c.self.invariant.0 c.self.invariant.1
+    c.in_ok-change.ensures.leads_back c.replica_law.ensures
 
 pub returns : goal.returns
 returns g c =
     let before : Node = record { replica = c.self.inside.replica; outbox = c.self.inside.outbox.messages } in
-    changed before c.args.self.now (Join (record { pid = c.args.pid; topic = c.args.topic.now; key = c.args.key.now; metadata = c.args.metadata.now })) None _ _ c.join.new.self c.self.invariant.0 refl c.in_ok-change.ensures.refused c.in_ok-change.ensures.joined c.in_ok-change.change c.self.view_is c.in_ok-change.ensures.leads_back
+    changed before c.args.self.now
+    (Join (record { pid = c.args.pid; topic = c.args.topic.now; key = c.args.key.now; metadata = c.args.metadata.now })) None _ _
+    c.join.new.self c.self.invariant.0 refl c.in_ok-change.ensures.refused c.in_ok-change.ensures.joined c.in_ok-change.change
+    c.self.view_is c.in_ok-change.ensures.leads_back

@@ -23,6 +23,7 @@ invariant_of-self g c =
     let now : Node = record { replica = c.give_delta.new.self; outbox = c.pop.new.self.messages } in (
       back_kept OfBroadcast c.args.self.now now c.requires
           (broadcast_back before c.args.self.now c.self.view_is c.pop.new.self.messages c.unwrap-payload.result
-          (c.pop.ensures.messages ∙ ap (λ o. c.pop.new.self.messages ++ option_to_list o) c.unwrap-payload.ensures) c.give_delta.new.self c.give_delta.ensures),
+          (c.pop.ensures.messages ∙ ap (λ o. c.pop.new.self.messages ++ option_to_list o) c.unwrap-payload.ensures) c.give_delta.new.self
+          c.give_delta.ensures),
       c.pop.ensures.limit ∙ c.self.invariant.1 ∙ ap (λ (r : Replica). r.limits.messages) (sym c.give_delta.ensures),
     )

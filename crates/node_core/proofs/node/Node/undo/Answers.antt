@@ -12,7 +12,8 @@ undo-requires g c =
 pub invariant_of-self : goal.invariant_of-self
 invariant_of-self g c =
     let before : Node = record { replica = c.self.inside.replica; outbox = c.self.inside.outbox.messages } in
-    let kept = either_kept before c.args.self.now c.self.view_is c.undo.result c.args.change c.undo.new.self c.requires c.self.invariant.0 c.undo.ensures.ok c.undo.ensures.err in
+    let kept = either_kept before c.args.self.now c.self.view_is c.undo.result c.args.change c.undo.new.self c.requires c.self.invariant.0
+    c.undo.ensures.ok c.undo.ensures.err in
     (kept.0, c.self.invariant.1 ∙ ap (λ (l : NodeLimits). l.messages) (sym kept.1))
 
 pub returns-clause-ok : goal.returns-clause-ok

@@ -9,6 +9,9 @@ use Rattle.payload_core.proofs.entry_set.EntrySet.find.Goals as goal
 pub returns : goal.returns
 returns g c =
     c.first_tracked.ensures
-    ∙ ap (λ es. option_map (λ (e : Entry). e.dot) (find (λ (e : Entry). (e.dot.name == c.args.name) && is_tracked_as c.args.pid c.args.topic.now c.args.key.now (presence_of e)) es)) c.deref.ensures.value
+    ∙ ap (λ es. option_map (λ (e : Entry). e.dot)
+    (find (λ (e : Entry). (e.dot.name == c.args.name) && is_tracked_as c.args.pid c.args.topic.now c.args.key.now (presence_of e)) es))
+    c.deref.ensures.value
     ∙ sym (first_dot c.args.name (is_tracked_as c.args.pid c.args.topic.now c.args.key.now) c.self.inside.entries.items c.self.invariant)
-    ∙ ap (λ (s : EntrySet). slice_get (dots_of c.args.name (is_tracked_as c.args.pid c.args.topic.now c.args.key.now) s.map) 0) c.self.view_is
+    ∙ ap (λ (s : EntrySet). slice_get (dots_of c.args.name (is_tracked_as c.args.pid c.args.topic.now c.args.key.now) s.map) 0)
+    c.self.view_is

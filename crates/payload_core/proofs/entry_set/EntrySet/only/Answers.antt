@@ -9,13 +9,15 @@ use Rattle.payload_core.proofs.entry_set.EntrySet.only.Goals as goal
 pub invariant_of-result : goal.invariant_of-result
 invariant_of-result g c =
     let all : c.loop-entry.entries.items ≡ filter (λ (e : Entry). set.contains c.args.names e.dot.name) c.self.inside.entries.items =
-    c.loop-entry.invariant ∙ ap (filter (λ (e : Entry). set.contains c.args.names e.dot.name)) (take_all c.loop-entry.entry-index c.deref-entry-items.result.now c.loop-entry-test.false ∙ c.deref-entry-items.ensures.value) in
+    c.loop-entry.invariant ∙ ap (filter (λ (e : Entry). set.contains c.args.names e.dot.name))
+    (take_all c.loop-entry.entry-index c.deref-entry-items.result.now c.loop-entry-test.false ∙ c.deref-entry-items.ensures.value) in
     rw all (Rises-filter (λ d. set.contains c.args.names d.name) c.self.inside.entries.items c.self.invariant)
 
 pub returns : goal.returns
 returns g c =
     let all : c.loop-entry.entries.items ≡ filter (λ (e : Entry). set.contains c.args.names e.dot.name) c.self.inside.entries.items =
-    c.loop-entry.invariant ∙ ap (filter (λ (e : Entry). set.contains c.args.names e.dot.name)) (take_all c.loop-entry.entry-index c.deref-entry-items.result.now c.loop-entry-test.false ∙ c.deref-entry-items.ensures.value) in
+    c.loop-entry.invariant ∙ ap (filter (λ (e : Entry). set.contains c.args.names e.dot.name))
+    (take_all c.loop-entry.entry-index c.deref-entry-items.result.now c.loop-entry-test.false ∙ c.deref-entry-items.ensures.value) in
     ap entries_of all
     ∙ entries_of-filter (λ d. set.contains c.args.names d.name) c.self.inside.entries.items c.self.invariant
     ∙ ap (λ (s : EntrySet). entries_of_names (set.contains c.args.names) s.map) c.self.view_is

@@ -5,4 +5,5 @@ use Rattle.replica_core.proofs.Dots.{not_empty}
 use Rattle.replica_core.proofs.replica.Replica.has_delta.Goals as goal
 
 pub returns : goal.returns
-returns g c = not_empty c.self.inside.delta_seen c.is_empty.result c.is_empty.ensures ∙ ap (λ (r : Replica). has_dots r.delta_seen) c.self.view_is
+returns g c =
+    not_empty c.self.inside.delta_seen c.is_empty.result c.is_empty.ensures ∙ ap (λ (r : Replica). has_dots r.delta_seen) c.self.view_is

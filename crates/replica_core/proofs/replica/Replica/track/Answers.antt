@@ -7,11 +7,20 @@ use Rattle.replica_core.proofs.replica.Replica.track.Goals as goal
 pub add-requires : goal.add-requires
 add-requires g c =
     let fresh_is = subst (λ (r : Replica). c.args.entry.dot ≡ fresh r) (sym c.self.view_is) c.requires.fresh in
-    let free = subst (λ (r : Replica). join_refusal r c.args.entry.pid c.args.entry.topic c.args.entry.key ≡ None) (sym c.self.view_is) c.requires.free in
-    (search rules, (entry_valid _ c.args.entry c.self.invariant fresh_is free, (entry_absent _ c.args.entry c.self.invariant fresh_is free, entry_absent_in_delta _ c.args.entry c.self.invariant fresh_is free)))
+    let free = subst (λ (r : Replica). join_refusal r c.args.entry.pid c.args.entry.topic c.args.entry.key ≡ None) (sym c.self.view_is)
+    c.requires.free in (
+      search rules,
+      (
+        entry_valid _ c.args.entry c.self.invariant fresh_is free,
+        (entry_absent _ c.args.entry c.self.invariant fresh_is free, entry_absent_in_delta _ c.args.entry c.self.invariant fresh_is free),
+      ),
+    )
 
 pub invariant_of-self-2 : goal.invariant_of-self-2
 invariant_of-self-2 g c =
     let fresh_is = subst (λ (r : Replica). c.args.entry.dot ≡ fresh r) (sym c.self.view_is) c.requires.fresh in
-    let free = subst (λ (r : Replica). join_refusal r c.args.entry.pid c.args.entry.topic c.args.entry.key ≡ None) (sym c.self.view_is) c.requires.free in
-    kept_join _ c.args.entry c.self.invariant fresh_is free c.add.new.seen c.add.new.delta_seen c.add.new.entries.map c.add.new.delta_entries.map c.in_ok-add.ensures.seen c.in_ok-add.ensures.entries c.in_ok-add.ensures.delta_seen c.in_ok-add.ensures.delta_entries
+    let free = subst (λ (r : Replica). join_refusal r c.args.entry.pid c.args.entry.topic c.args.entry.key ≡ None) (sym c.self.view_is)
+    c.requires.free in
+    kept_join _ c.args.entry c.self.invariant fresh_is free c.add.new.seen c.add.new.delta_seen c.add.new.entries.map
+    c.add.new.delta_entries.map c.in_ok-add.ensures.seen c.in_ok-add.ensures.entries c.in_ok-add.ensures.delta_seen
+    c.in_ok-add.ensures.delta_entries

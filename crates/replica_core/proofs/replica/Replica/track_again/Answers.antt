@@ -10,8 +10,10 @@ put_in_place_of-requires g c = (
     (
       new_valid _ c.args.self.now c.args.entry c.args.old c.self.view_is c.self.invariant c.requires.old c.requires.fresh c.requires.free,
       (
-        new_absent _ c.args.self.now c.args.entry c.args.old c.self.view_is c.self.invariant c.requires.old c.requires.fresh c.requires.free,
-        new_absent_in_delta _ c.args.self.now c.args.entry c.args.old c.self.view_is c.self.invariant c.requires.old c.requires.fresh c.requires.free,
+        new_absent _ c.args.self.now c.args.entry c.args.old c.self.view_is c.self.invariant c.requires.old c.requires.fresh
+            c.requires.free,
+        new_absent_in_delta _ c.args.self.now c.args.entry c.args.old c.self.view_is c.self.invariant c.requires.old c.requires.fresh
+            c.requires.free,
       ),
     ),
   ),
@@ -20,9 +22,13 @@ put_in_place_of-requires g c = (
 pub invariant_of-self-2 : goal.invariant_of-self-2
 invariant_of-self-2 g c =
     kept_update _ c.args.self.now c.args.entry c.args.old c.self.view_is c.self.invariant c.requires.old c.requires.fresh c.requires.free
-    c.put_in_place_of.new.seen c.put_in_place_of.new.delta_seen c.put_in_place_of.new.entries.map c.put_in_place_of.new.delta_entries.map c.in_ok-put_in_place_of.ensures.seen c.in_ok-put_in_place_of.ensures.entries c.in_ok-put_in_place_of.ensures.delta_seen c.in_ok-put_in_place_of.ensures.delta_entries
+    c.put_in_place_of.new.seen c.put_in_place_of.new.delta_seen c.put_in_place_of.new.entries.map c.put_in_place_of.new.delta_entries.map
+    c.in_ok-put_in_place_of.ensures.seen c.in_ok-put_in_place_of.ensures.entries c.in_ok-put_in_place_of.ensures.delta_seen
+    c.in_ok-put_in_place_of.ensures.delta_entries
 
 pub returns-clause-updated : goal.returns-clause-updated
 returns-clause-updated g c =
     updated_is _ c.args.self.now c.args.entry c.args.old c.self.view_is c.self.invariant c.requires.old c.requires.fresh c.requires.free
-    c.put_in_place_of.new.seen c.put_in_place_of.new.delta_seen c.put_in_place_of.new.entries.map c.put_in_place_of.new.delta_entries.map c.in_ok-put_in_place_of.ensures.seen c.in_ok-put_in_place_of.ensures.entries c.in_ok-put_in_place_of.ensures.delta_seen c.in_ok-put_in_place_of.ensures.delta_entries
+    c.put_in_place_of.new.seen c.put_in_place_of.new.delta_seen c.put_in_place_of.new.entries.map c.put_in_place_of.new.delta_entries.map
+    c.in_ok-put_in_place_of.ensures.seen c.in_ok-put_in_place_of.ensures.entries c.in_ok-put_in_place_of.ensures.delta_seen
+    c.in_ok-put_in_place_of.ensures.delta_entries

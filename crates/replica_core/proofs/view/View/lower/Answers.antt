@@ -12,7 +12,8 @@ invariant_of-self c = rw c.without-self-inside.ensures (up_known_lowered c.self.
 
 pub returns : goal.returns
 returns c =
-    let known : set.contains c.self.inside.known c.args.name ≡ true = known_names c.self.inside.known c.self.inside.up c.args.name ∙ ap (λ (v : View). fin.contains_key v c.args.name) c.self.view_is ∙ c.requires.known in
+    let known : set.contains c.self.inside.known c.args.name ≡ true = known_names c.self.inside.known c.self.inside.up c.args.name
+    ∙ ap (λ (v : View). fin.contains_key v c.args.name) c.self.view_is ∙ c.requires.known in
     ap (λ (s : Names). view_of (set.items c.self.inside.known) s) c.without-self-inside.ensures
     ∙ view-lowered c.self.inside.known c.self.inside.up c.args.name known
     ∙ ap (λ (v : View). fin.insert v c.args.name Down) c.self.view_is

@@ -1,5 +1,6 @@
 -- Each change of a replica keeps what each replica keeps.
-use Rattle.std.proofs.Common.{◌≡◌, ◌≢◌, ◌⊎◌, inl, inr, ℕ, ◌+◌, ◌-◌, ◌<◌, ◌≤◌, ◌==◌, ◌&&◌, ◌||◌, Bool, true, false, cond, Option, Some, None, is_some, refl, sym, ap, ◌∙◌, subst, arith, true≢false}
+use Rattle.std.proofs.Common.{◌≡◌, ◌≢◌, ◌⊎◌, inl, inr, ℕ, ◌+◌, ◌-◌, ◌<◌, ◌≤◌, ◌==◌, ◌&&◌, ◌||◌, Bool, true, false, cond, Option, Some, None, is_some, refl}
+use Rattle.std.proofs.Common.{sym, ap, ◌∙◌, subst, arith, true≢false}
 use Rattle.std.proofs.Math.Bool.{or-false}
 use Rattle.std.proofs.lemmas.Bool.{and_parts, eq-eqb, eqb-false, ltb-false, ne_eqb}
 use Rattle.std.specs.FinMap as fin
@@ -18,10 +19,11 @@ use Rattle.replica_core.specs.declared.node_limits.NodeLimits.{NodeLimits}
 use Rattle.replica_core.specs.declared.status.Status.{Status}
 use Rattle.replica_core.specs.declared.status.Status.TheVariants.{Up}
 use Rattle.replica_core.specs.Limits.{AreNodeLimits}
-use Rattle.replica_core.specs.Replicas.{Replica, opening, own_clock, fresh, is_known, joined, dropped, ticked, with_status, without_delta, with_delta, CanBeDelta}
+use Rattle.replica_core.specs.Replicas.{Replica, opening, own_clock, fresh, is_known, joined, dropped, ticked, with_status, without_delta, with_delta}
+use Rattle.replica_core.specs.Replicas.{CanBeDelta}
 use Rattle.replica_core.specs.Deliveries.{is_other_known, merged, merged_entries}
 use Rattle.replica_core.specs.Refusals.{is_tracked, are_too_many, is_clock_full}
-use Rattle.replica_core.specs.Kept.{IsReplica}
+use Rattle.replica_core.specs.Invariant.{IsReplica}
 use Rattle.replica_core.proofs.Views.{get_insert_view}
 use Rattle.replica_core.proofs.Deliveries.{entry_after, get-merged, contains-merged}
 use Rattle.replica_core.proofs.Once.{inserted_entry, removed_entry, once_kept, once_joined, own_is_not_other, own_entry-merged, once_merged}
@@ -35,7 +37,9 @@ no_entry : (d : Dot) (p : Presence) → fin.get {R = dot_cmp} fin.empty d ≡ So
 no_entry d p e = let none = fin.get-empty {X = Presence} dot_cmp d in cc
 
 no_count : (own : ℕ) → count_of own set.empty ≡ 0
-no_count own = ap set.len (same_dots (of_names (λ n. n == own) set.empty) set.empty (λ q. contains-retain set.empty (λ d. d.name == own) q ∙ ap (λ b. b && (q.name == own)) (set.contains-empty dot_cmp q) ∙ sym (set.contains-empty dot_cmp q))) ∙ set.len-empty dot_cmp
+no_count own = ap set.len (same_dots (of_names (λ n. n == own) set.empty) set.empty
+    (λ q. contains-retain set.empty (λ d. d.name == own) q ∙ ap (λ b. b && (q.name == own)) (set.contains-empty dot_cmp q)
+    ∙ sym (set.contains-empty dot_cmp q))) ∙ set.len-empty dot_cmp
 
 pub kept_opening : (own : ℕ) (l : NodeLimits) → own < 32 → AreNodeLimits l → IsReplica (opening own l)
 kept_opening own l name limits = record {
@@ -65,7 +69,8 @@ module _ (r : Replica) (h : IsReplica r) where
 
   -- the fresh dot can be put in
   pub fresh_valid : is_clock_full r 1 ≡ false → IsValid (fresh r)
-  fresh_valid free = let low = clock_below free in let bound = h.limits.clock_few in record { name = h.name; first = omega arith; last = omega arith }
+  fresh_valid free =
+      let low = clock_below free in let bound = h.limits.clock_few in record { name = h.name; first = omega arith; last = omega arith }
 
   -- it has no entry
   pub fresh_absent : fin.get r.entries (fresh r) ≡ None
@@ -91,15 +96,21 @@ module _ (r : Replica) (h : IsReplica r) where
   joined_known d (inl e) = known_own d (ap (λ (d : Dot). d.name) e)
   joined_known d (inr e) = h.known d e
 
-  joined_delta_own : (d : Dot) → (d ≡ fresh r) ⊎ (set.contains r.delta_seen d ≡ true) → (d.name ≡ r.own) × (set.contains (set.insert r.seen (fresh r)) d ≡ true)
-  joined_delta_own d (inl e) = (ap (λ (d : Dot). d.name) e, ap (set.contains (set.insert r.seen (fresh r))) e ∙ contains_inserted r.seen (fresh r))
+  joined_delta_own : (d : Dot) → (d ≡ fresh r) ⊎ (set.contains r.delta_seen d ≡ true) →
+      (d.name ≡ r.own) × (set.contains (set.insert r.seen (fresh r)) d ≡ true)
+  joined_delta_own d (inl e) =
+      (ap (λ (d : Dot). d.name) e, ap (set.contains (set.insert r.seen (fresh r))) e ∙ contains_inserted r.seen (fresh r))
   joined_delta_own d (inr e) = let old = h.delta_own d e in (old.0, contains_insert_more r.seen (fresh r) d old.1)
 
-  joined_delta_in : (p : Presence) (d : Dot) (q : Presence) → ((d ≡ fresh r) × (q ≡ p)) ⊎ ((d ≢ fresh r) × (fin.get r.delta_entries d ≡ Some q)) → fin.get (fin.insert r.entries (fresh r) p) d ≡ Some q
-  joined_delta_in p d q (inl e) = ap (fin.get (fin.insert r.entries (fresh r) p)) e.0 ∙ get_inserted r.entries (fresh r) p ∙ ap Some (sym e.1)
+  joined_delta_in : (p : Presence) (d : Dot) (q : Presence) →
+      ((d ≡ fresh r) × (q ≡ p)) ⊎ ((d ≢ fresh r) × (fin.get r.delta_entries d ≡ Some q)) →
+      fin.get (fin.insert r.entries (fresh r) p) d ≡ Some q
+  joined_delta_in p d q (inl e) =
+      ap (fin.get (fin.insert r.entries (fresh r) p)) e.0 ∙ get_inserted r.entries (fresh r) p ∙ ap Some (sym e.1)
   joined_delta_in p d q (inr e) = get_insert_other r.entries (fresh r) d p e.0 ∙ h.delta_in d q e.1
 
-  pub kept_joined : (p : Presence) → is_tracked r p.pid p.topic p.key ≡ false → are_too_many r (fin.len r.entries + 1) ≡ false → is_clock_full r 1 ≡ false → IsReplica (joined p r)
+  pub kept_joined : (p : Presence) → is_tracked r p.pid p.topic p.key ≡ false → are_too_many r (fin.len r.entries + 1) ≡ false →
+      is_clock_full r 1 ≡ false → IsReplica (joined p r)
   kept_joined p new few free = record {
     name = h.name;
     up = h.up;
@@ -110,7 +121,8 @@ module _ (r : Replica) (h : IsReplica r) where
     clock = let more = count_more r.own r.seen h.clocks in let low = clock_below free in omega arith;
     live = seen-insert r.seen r.entries (fresh r) p h.live;
     few =
-        let len : fin.len (fin.insert r.entries (fresh r) p) ≡ fin.len r.entries + 1 = fin.len-insert dot_total r.entries (fresh r) p ∙ ap (λ (o : Option Presence). cond (is_some o) (fin.len r.entries) (fin.len r.entries + 1)) fresh_absent in
+        let len : fin.len (fin.insert r.entries (fresh r) p) ≡ fin.len r.entries + 1 = fin.len-insert dot_total r.entries (fresh r) p
+        ∙ ap (λ (o : Option Presence). cond (is_some o) (fin.len r.entries) (fin.len r.entries + 1)) fresh_absent in
         let fits = ltb-false r.limits.entries (fin.len r.entries + 1) few in
         omega arith;
     once = once_joined r p h.once new;
@@ -121,7 +133,8 @@ module _ (r : Replica) (h : IsReplica r) where
 
   -- what a leave does: its entry goes, and a fresh dot was seen
 
-  dropped_delta_own : (x d : Dot) → x.name ≡ r.own → set.contains r.seen x ≡ true → (d ≡ x) ⊎ (set.contains r.delta_seen d ≡ true) → (d.name ≡ r.own) × (set.contains r.seen d ≡ true)
+  dropped_delta_own : (x d : Dot) → x.name ≡ r.own → set.contains r.seen x ≡ true → (d ≡ x) ⊎ (set.contains r.delta_seen d ≡ true) →
+      (d.name ≡ r.own) × (set.contains r.seen d ≡ true)
   dropped_delta_own x d mine there (inl e) = (ap (λ (d : Dot). d.name) e ∙ mine, ap (set.contains r.seen) e ∙ there)
   dropped_delta_own x d mine there (inr e) = h.delta_own d e
 
@@ -173,7 +186,8 @@ or_cases : (a b : Bool) → (a || b) ≡ true → (a ≡ true) ⊎ (b ≡ true)
 or_cases true b h = inl refl
 or_cases false b h = inr h
 
-live_after : (k s a : Bool) (e x : Option Presence) → (is_some e ≡ true → s ≡ true) → (is_some x ≡ true → a ≡ true) → is_some (entry_after k s e a x) ≡ true → (s || (k && a)) ≡ true
+live_after : (k s a : Bool) (e x : Option Presence) → (is_some e ≡ true → s ≡ true) → (is_some x ≡ true → a ≡ true) →
+    is_some (entry_after k s e a x) ≡ true → (s || (k && a)) ≡ true
 live_after k true a e x le lx h = refl
 live_after true false true e x le lx h = refl
 live_after true false false e None le lx h = le h
@@ -185,13 +199,16 @@ module _ (m : Message) (r : Replica) (h : IsReplica r) (valid : AreValid m.seen)
   seen_more d e = contains-merged m r d ∙ ap (λ b. b || (is_other_known r d.name && set.contains m.seen d)) e
 
   merged_own : (d : Dot) → d.name ≡ r.own → set.contains r.seen d ≡ set.contains (merged m r).seen d
-  merged_own d e = sym (contains-merged m r d ∙ ap (λ b. set.contains r.seen d || (b && set.contains m.seen d)) (own_is_not_other r d e) ∙ or-false (set.contains r.seen d))
+  merged_own d e =
+      sym (contains-merged m r d ∙ ap (λ b. set.contains r.seen d || (b && set.contains m.seen d)) (own_is_not_other r d e)
+      ∙ or-false (set.contains r.seen d))
 
   merged_valid : (d : Dot) → (set.contains r.seen d ≡ true) ⊎ ((is_other_known r d.name && set.contains m.seen d) ≡ true) → IsValid d
   merged_valid d (inl e) = h.valid d e
   merged_valid d (inr e) = valid d (and_parts _ _ e).1
 
-  merged_known : (d : Dot) → (set.contains r.seen d ≡ true) ⊎ ((is_other_known r d.name && set.contains m.seen d) ≡ true) → is_known r d.name ≡ true
+  merged_known : (d : Dot) → (set.contains r.seen d ≡ true) ⊎ ((is_other_known r d.name && set.contains m.seen d) ≡ true) →
+      is_known r d.name ≡ true
   merged_known d (inl e) = h.known d e
   merged_known d (inr e) = (and_parts _ _ (and_parts _ _ e).0).0
 
@@ -203,10 +220,13 @@ module _ (m : Message) (r : Replica) (h : IsReplica r) (valid : AreValid m.seen)
     valid = λ d e. merged_valid d (or_cases _ _ (sym (contains-merged m r d) ∙ e));
     known = λ d e. merged_known d (or_cases _ _ (sym (contains-merged m r d) ∙ e));
     clocks = clocks_same r.own r.seen (merged m r).seen merged_own h.clocks;
-    clock = let same : own_clock (merged m r) ≡ own_clock r = sym (ap set.len (own_same r.own r.seen (merged m r).seen merged_own)) in let low = h.clock in omega arith;
+    clock =
+        let same : own_clock (merged m r) ≡ own_clock r = sym (ap set.len (own_same r.own r.seen (merged m r).seen merged_own)) in
+        let low = h.clock in omega arith;
     live = λ d e.
         contains-merged m r d
-        ∙ live_after (is_other_known r d.name) (set.contains r.seen d) (set.contains m.seen d) (fin.get r.entries d) (fin.get m.entries d) (h.live d) (live d) (ap is_some (sym (get-merged m r d)) ∙ e);
+        ∙ live_after (is_other_known r d.name) (set.contains r.seen d) (set.contains m.seen d) (fin.get r.entries d) (fin.get m.entries d)
+        (h.live d) (live d) (ap is_some (sym (get-merged m r d)) ∙ e);
     few = few;
     once = once_merged m r h.once;
     delta_live = h.delta_live;
@@ -277,8 +297,10 @@ kept_without_delta r h = record {
 }
 
 -- a message of some names has its entries' dots
-pub parts_seen : (named : ℕ → Bool) (r : Replica) (seen : Dots) (es : Entries) → IsReplica r → seen ≡ of_names named r.seen → es ≡ entries_of_names named r.entries → AreSeen seen es
+pub parts_seen : (named : ℕ → Bool) (r : Replica) (seen : Dots) (es : Entries) → IsReplica r → seen ≡ of_names named r.seen →
+    es ≡ entries_of_names named r.entries → AreSeen seen es
 parts_seen named r seen es h e f = rw (e, f) (seen-names named r.seen r.entries h.live)
 
-pub kept_sent : (r : Replica) (seen : Dots) (es : Entries) → IsReplica r → seen ≡ set.empty → es ≡ fin.empty → IsReplica (record r { delta_seen = seen; delta_entries = es })
+pub kept_sent : (r : Replica) (seen : Dots) (es : Entries) → IsReplica r → seen ≡ set.empty → es ≡ fin.empty →
+    IsReplica (record r { delta_seen = seen; delta_entries = es })
 kept_sent r seen es h e f = rw (e, f) (kept_without_delta r h)

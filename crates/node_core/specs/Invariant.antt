@@ -3,7 +3,7 @@ use Rattle.std.specs.Prelude.{◌≡◌, ℕ, ◌≤◌, List, length}
 use Rattle.std.specs.List.{AllByRecursion}
 use Rattle.dots_core.specs.Dots.{AreValid}
 use Rattle.payload_core.specs.Messages.{Message, AreSeen}
-use Rattle.replica_core.specs.Kept.{IsReplica}
+use Rattle.replica_core.specs.Invariant.{IsReplica}
 use Rattle.node_core.specs.Nodes.{Node}
 
 -- the message is this sender's, of valid dots, and its entries' dots are among them
