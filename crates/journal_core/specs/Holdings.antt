@@ -1,8 +1,8 @@
 -- The remaining steps with their inverses beside them, as a journal holds them and lends them.
-use Rattle.std.specs.Prelude.{◌≡◌, ℕ, ◌+◌, ◌<◌, ◌==◌, if◌then◌else◌, List, [], ◌∷◌, Option, Some, None, option_map, refl}
-use Rattle.std.specs.Coded.{Coded, code_by, coded×, coded_ℕ, coded_list, coded_option}
+use Rattle.std.specs.Prelude.{◌≡◌, ℕ, ◌+◌, ◌<◌, ◌==◌, Bool, if◌then◌else◌, List, [], ◌∷◌, Option, Some, None, option_map, refl}
+use Rattle.std.specs.Coded.{Coded, code_by, coded×, coded_ℕ, coded_bool, coded_list, coded_option}
 use Rattle.std.specs.List.{AllByRecursion}
-use Rattle.node_core.specs.Operations.{Operation, delivers}
+use Rattle.node_core.specs.Operations.{Operation, delivers, sends}
 use Rattle.node_core.specs.Inverses.{Inverse, inverse_code}
 use Rattle.journal_core.specs.declared.journal.Room as declared
 use Rattle.journal_core.specs.Journals.{Kept, kept_code, source_at, AreBelow}
@@ -12,29 +12,36 @@ pub record Held : Type 0 where
   pub kept : Kept
   pub inverse : Option Inverse
 
--- for which step there is room: its node, and the sender and number of the message that it delivers
+-- for which steps there is room: those of a node that deliver this message, if any, and that send one or don't
 pub record Room : Type 0 where
   pub node : ℕ
   pub delivers : Option (ℕ × ℕ)
+  pub sends : Bool
 
--- how many nodes there are, the remaining steps, and for which step room was made
+-- the room that a step of a node needs
+abbrev pub room_for : ℕ → Operation → Room
+room_for node s = record { node = node; delivers = delivers s; sends = sends s }
+
+-- how many nodes there are, the remaining steps, and what room was made since a step was last kept
 pub record Journal : Type 0 where
   pub nodes : ℕ
   pub steps : List Held
-  pub room : Option Room
+  pub room : List Room
 
-abbrev pub plain_room : Option declared.Room → Option Room
-plain_room room = option_map (λ r. record { node = r.node; delivers = r.delivers }) room
+abbrev pub plain_room : declared.Room → Room
+plain_room room = record { node = room.node; delivers = room.delivers; sends = room.sends }
 
 abbrev pub held_code : Coded Held
 held_code = code_by (Kept × Option Inverse) (coded× kept_code (coded_option inverse_code)) (λ h. (h.kept, h.inverse)) (λ t. record { kept = t.0; inverse = t.1 }) (λ _. refl)
 
 abbrev room_code : Coded Room
-room_code = code_by (ℕ × Option (ℕ × ℕ)) (coded× coded_ℕ (coded_option (coded× coded_ℕ coded_ℕ))) (λ r. (r.node, r.delivers)) (λ t. record { node = t.0; delivers = t.1 }) (λ _. refl)
+room_code =
+    code_by (ℕ × (Option (ℕ × ℕ) × Bool)) (coded× coded_ℕ (coded× (coded_option (coded× coded_ℕ coded_ℕ)) coded_bool))
+    (λ r. (r.node, (r.delivers, r.sends))) (λ t. record { node = t.0; delivers = t.1.0; sends = t.1.1 }) (λ _. refl)
 
 abbrev pub journal_code : Coded Journal
 journal_code =
-    code_by (ℕ × (List Held × Option Room)) (coded× coded_ℕ (coded× (coded_list held_code) (coded_option room_code)))
+    code_by (ℕ × (List Held × List Room)) (coded× coded_ℕ (coded× (coded_list held_code) (coded_list room_code)))
     (λ j. (j.nodes, (j.steps, j.room))) (λ t. record { nodes = t.0; steps = t.1.0; room = t.1.1 }) (λ _. refl)
 
 -- the steps without their inverses

@@ -1,10 +1,11 @@
 //! `Journal`: the steps that remain, each with its inverse.
-ghost use Rattle.std.specs.Prelude.{◌≡◌, ◌++◌, ◌∷◌, [], ◌<◌, ◌≤◌, IsOk, IfErr, IfOk, OnOk, OnErr, option_map, option_copied, slice_get, length, Some, None};
-ghost use Rattle.node_core.specs.Operations.{plain, delivers};
+ghost use Rattle.std.specs.Prelude.{◌≡◌, ◌↔◌, ◌++◌, ◌∷◌, [], ◌<◌, ◌≤◌, IsTrue, IsOk, IfErr, IfOk, OnOk, OnErr, map, option_map, option_copied, slice_get, length, Some, None};
+ghost use Rattle.std.specs.List.{Contains};
+ghost use Rattle.node_core.specs.Operations.{plain};
 ghost use Rattle.node_core.specs.Inverses.{plain_inverse};
 ghost use Rattle.journal_core.specs.Journals.{find_number, first_consequence, last_of, AreInOrder};
 ghost use Rattle.journal_core.specs.Futures.{IsFuture};
-ghost use Rattle.journal_core.specs.Holdings.{kepts, find_held, inverse_of, with_inverse, without_held, AreAllHeld, IsLent, CanBeKept};
+ghost use Rattle.journal_core.specs.Holdings.{kepts, find_held, inverse_of, with_inverse, without_held, plain_room, room_for, AreAllHeld, IsLent, CanBeKept};
 
 use crate::held::Held;
 use crate::kept::Kept;
@@ -13,27 +14,48 @@ use node_core::{Inverse, Oom, Step};
 use std::alloc::Allocator;
 use std::marker::Model;
 
-/// For which step room was made: its node, and the message that it delivers.
+/// For which steps room was made: those of a node that deliver this message, if any, and that send one or don't.
 #[derive(Clone, Copy, PartialEq, Eq)]
 struct Room {
     node: u16,
     delivers: Option<(u16, u64)>,
+    sends: bool,
+}
+
+impl Room {
+    /// The room that a step of this node needs.
+    fn of<A: Allocator>(node: u16, step: &Step<A>) -> Room
+        ensures { plain_room result ≡ room_for node (plain step.now) }
+    {
+        Room {
+            node,
+            delivers: step.delivers(),
+            sends: step.sends(),
+        }
+    }
+
+    /// Whether this room is among what was made.
+    fn is_in(self, made: &[Room]) -> bool
+        ensures { IsTrue result ↔ Contains (map plain_room made.now) (plain_room self) }
+    {
+        made.contains(&self)
+    }
 }
 
 /// The steps that remain, by rising number, each with its inverse beside it. No delivery stands before the step that sent
 /// its message.
 ///
 /// A contract sees the steps with their inverses, an inverse that is lent as `None`, how many nodes there are, and for
-/// which step room was made.
+/// which steps room was made since one was last kept.
 #[derive(Drop)]
 pub struct Journal<'a, B: Allocator> {
     nodes: u16,
     steps: Vec<Held<'a, B>, &'a B>,
-    room: Option<Room>,
+    room: Vec<Room, &'a B>,
 }
 
 impl<'a, B: Allocator> Model for Journal<'a, B> {
-    ghost use Rattle.std.specs.Prelude.{◌≡◌, ◌≢◌, ◌<◌, ◌≤◌, None, vec_len, vec_capacity};
+    ghost use Rattle.std.specs.Prelude.{◌≡◌, ◌≢◌, ◌<◌, ◌≤◌, [], map, vec_len, vec_capacity};
     ghost use Rattle.journal_core.specs.Journals.{AreInOrder};
     ghost use Rattle.journal_core.specs.Holdings.{Journal, journal_code, kepts, plain_room};
 
@@ -41,21 +63,21 @@ impl<'a, B: Allocator> Model for Journal<'a, B> {
 
     ghost coded = { journal_code };
 
-    ghost view = { λ j. record { nodes = j.nodes; steps = j.steps.items; room = plain_room j.room } };
+    ghost view = { λ j. record { nodes = j.nodes; steps = j.steps.items; room = map plain_room j.room.items } };
 
-    ghost invariant = { λ j. (j.nodes ≤ 32) × (j.room ≢ None → vec_len j.steps < vec_capacity j.steps) × AreInOrder (kepts j.steps.items) };
+    ghost invariant = { λ j. (j.nodes ≤ 32) × (j.room.items ≢ [] → vec_len j.steps < vec_capacity j.steps) × AreInOrder (kepts j.steps.items) };
 }
 
 impl<'a, B: Allocator> Journal<'a, B> {
     /// A journal of so many nodes, without a step.
     pub fn new(alloc: &'a B, nodes: u16) -> Result<Self, Oom>
         requires { nodes ≤ 32 }
-        ensures { IfOk result (λ journal. journal ≡ record { nodes = nodes; steps = []; room = None }) }
+        ensures { IfOk result (λ journal. journal ≡ record { nodes = nodes; steps = []; room = [] }) }
     {
         Ok(Journal {
             nodes,
             steps: Vec::new(alloc),
-            room: None,
+            room: Vec::new(alloc),
         })
     }
 
@@ -108,19 +130,17 @@ impl<'a, B: Allocator> Journal<'a, B> {
         future(*self.steps.allocator(), self.steps.as_slice(), number)
     }
 
-    /// Makes room for one step of this node. After an `Ok` the next `keep`, if it is of such a step, isn't refused.
+    /// Makes room for one step of this node. After an `Ok` the next `keep`, if it is of such a step, isn't refused; room
+    /// that was made before stays.
     pub fn make_room(&mut self, node: u16, step: &Step<&'a B>) -> Result<(), Oom>
         requires { node < self.old.nodes }
         ensures nodes { self.new.nodes ≡ self.old.nodes }
         ensures steps { self.new.steps ≡ self.old.steps }
-        ensures ok { OnOk result (self.new.room ≡ Some (record { node = node; delivers = delivers (plain step.now) })) }
+        ensures ok { OnOk result (self.new.room ≡ self.old.room ++ room_for node (plain step.now) ∷ []) }
         ensures err { OnErr result (self.new ≡ self.old) }
     {
         self.steps.reserve(1)?;
-        self.room = Some(Room {
-            node,
-            delivers: step.delivers(),
-        });
+        self.room.push(Room::of(node, step))?;
         Ok(())
     }
 
@@ -133,23 +153,19 @@ impl<'a, B: Allocator> Journal<'a, B> {
         inverse: Inverse<&'a B>,
     ) -> Result<(), (Step<&'a B>, Inverse<&'a B>, Oom)>
         requires { CanBeKept self.old number node (plain step) }
-        ensures ok { OnOk result (self.new ≡ record { nodes = self.old.nodes; steps = self.old.steps ++ (record { kept = record { number = number; node = node; step = plain step.entry }; inverse = Some (plain_inverse inverse.entry) }) ∷ []; room = None }) }
-        ensures succeeds { self.old.room ≡ Some (record { node = node; delivers = delivers (plain step.entry) }) → IsOk result }
+        ensures ok { OnOk result (self.new ≡ record { nodes = self.old.nodes; steps = self.old.steps ++ (record { kept = record { number = number; node = node; step = plain step.entry }; inverse = Some (plain_inverse inverse.entry) }) ∷ []; room = [] }) }
+        ensures succeeds { Contains self.old.room (room_for node (plain step.entry)) → IsOk result }
         ensures err { OnErr result (self.new ≡ self.old) }
         ensures step_given_back { IfErr result (λ failed. plain failed.0 ≡ plain step.entry) }
         ensures inverse_given_back { IfErr result (λ failed. plain_inverse failed.1 ≡ plain_inverse inverse.entry) }
     {
-        let ready = self.room
-            == Some(Room {
-                node,
-                delivers: step.delivers(),
-            });
+        let ready = Room::of(node, &step).is_in(self.room.as_slice());
         if !ready && self.steps.reserve(1).is_err() {
             return Err((step, inverse, Oom));
         }
         let kept = Kept { number, node, step };
         self.steps.push_reserved(Held::new(kept, inverse));
-        self.room = None;
+        self.room.clear();
         Ok(())
     }
 

@@ -50,7 +50,7 @@ fn keeps<'a, B: Allocator>(
     inverse: Inverse<&'a B>,
 ) -> Result<(), Fail>
     requires { CanBeKept journal.old number node (plain step) }
-    ensures { OnOk result (journal.new ≡ record { nodes = journal.old.nodes; steps = journal.old.steps ++ (record { kept = record { number = number; node = node; step = plain step.entry }; inverse = Some (plain_inverse inverse.entry) }) ∷ []; room = None }) }
+    ensures { OnOk result (journal.new ≡ record { nodes = journal.old.nodes; steps = journal.old.steps ++ (record { kept = record { number = number; node = node; step = plain step.entry }; inverse = Some (plain_inverse inverse.entry) }) ∷ []; room = [] }) }
 {
     match journal.keep(number, node, step, inverse) {
         Ok(()) => Ok(()),
@@ -147,7 +147,7 @@ fn one_send<'a, B: Allocator>(alloc: &'a B) -> Result<Journal<'a, B>, Fail> {
 
 /// A send that is taken out again.
 fn an_undone_send<'a, B: Allocator>(alloc: &'a B) -> Result<Journal<'a, B>, Fail>
-    ensures { IfOk result (λ journal. journal ≡ record { nodes = 2; steps = []; room = None }) }
+    ensures { IfOk result (λ journal. journal ≡ record { nodes = 2; steps = []; room = [] }) }
 {
     let mut journal = Journal::new(alloc, 2)?;
     let send = Step::Extract {

@@ -1,4 +1,4 @@
-use Rattle.std.proofs.Common.{rules, refl, sym, ap, subst, List, ◌≡◌, ◌++◌, ◌∷◌, [], ◌<◌, ◌∙◌}
+use Rattle.std.proofs.Common.{rules, sym, ap, subst, List, ◌≡◌, ◌++◌, ◌∷◌, [], ◌<◌, ◌∙◌}
 use Rattle.node_core.specs.Operations.{plain, delivers}
 use Rattle.journal_core.specs.Journals.{AreBelow, AreInOrder}
 use Rattle.journal_core.specs.Holdings.{HasSender, Held, Journal, kepts}
@@ -13,4 +13,4 @@ invariant_of-self-2 g c =
     let low = subst (λ n. 0 < n) number c.requires.positive in
     let step = sym (ap (λ (h : Held). h.kept.step) c.new.ensures) in
     let sender = subst (λ o. HasSender (kepts c.self.inside.steps.items) (delivers o)) step (subst (λ (j : Journal). HasSender (kepts j.steps) (delivers (plain c.args.step))) (sym c.self.view_is) c.requires.sender) in
-    (search rules, λ none. absurd (none refl), subst (λ (hs : List Held). AreInOrder (kepts hs)) (sym (c.push_reserved.ensures.items ∙ ap (λ (hs : List Held). hs ++ c.new.result ∷ []) same)) (order_kept c.self.inside.steps.items c.new.result low below sender c.self.invariant.2))
+    (search rules, λ some. absurd (some c.clear.ensures.items), subst (λ (hs : List Held). AreInOrder (kepts hs)) (sym (c.push_reserved.ensures.items ∙ ap (λ (hs : List Held). hs ++ c.new.result ∷ []) same)) (order_kept c.self.inside.steps.items c.new.result low below sender c.self.invariant.2))
