@@ -1,7 +1,8 @@
 -- A journal's steps without their inverses, and the rising of their numbers.
-use Rattle.std.proofs.Common.{◌≡◌, ℕ, ◌<◌, ◌≤◌, ◌==◌, Bool, true, false, cond, if◌then◌else◌, List, [], ◌∷◌, ◌++◌, filter, Option, Some, option_map, refl, ap, arith}
+use Rattle.std.proofs.Common.{◌≡◌, ℕ, ◌<◌, ◌≤◌, ◌==◌, Bool, true, false, cond, if◌then◌else◌, List, [], ◌∷◌, ◌++◌, filter, Option, Some, option_map, refl}
+use Rattle.std.proofs.Common.{ap, arith}
 use Rattle.node_core.specs.Inverses.{Inverse}
-use Rattle.journal_core.specs.Journals.{Kept, RisesAbove, AreBelow, find_number}
+use Rattle.journal_core.specs.Journals.{Kept, NumbersRise, AreBelow, find_number}
 use Rattle.journal_core.specs.Holdings.{Held, kepts, find_held, with_inverse}
 use Rattle.journal_core.proofs.Each.{each_imp}
 
@@ -13,7 +14,8 @@ pub kepts_with : (hs : List Held) (n : ℕ) (o : Option Inverse) → kepts (with
 kepts_with [] n o = refl
 kepts_with (x ∷ hs) n o = go (x.kept.number == n) (kepts_with hs n o)
   where
-    go : (b : Bool) → kepts (with_inverse hs n o) ≡ kepts hs → kepts (if b then record { kept = x.kept; inverse = o } ∷ hs else x ∷ with_inverse hs n o) ≡ x.kept ∷ kepts hs
+    go : (b : Bool) → kepts (with_inverse hs n o) ≡ kepts hs →
+        kepts (if b then record { kept = x.kept; inverse = o } ∷ hs else x ∷ with_inverse hs n o) ≡ x.kept ∷ kepts hs
     go true more = refl
     go false more = ap (λ (ks : List Kept). x.kept ∷ ks) more
 
@@ -21,34 +23,35 @@ pub find_kepts : (hs : List Held) (n : ℕ) → find_number (kepts hs) n ≡ opt
 find_kepts [] n = refl
 find_kepts (x ∷ hs) n = go (x.kept.number == n) (find_kepts hs n)
   where
-    go : (b : Bool) → find_number (kepts hs) n ≡ option_map (λ (h : Held). h.kept) (find_held hs n) → (if b then Some x.kept else find_number (kepts hs) n) ≡ option_map (λ (h : Held). h.kept) (if b then Some x else find_held hs n)
+    go : (b : Bool) → find_number (kepts hs) n ≡ option_map (λ (h : Held). h.kept) (find_held hs n) →
+        (if b then Some x.kept else find_number (kepts hs) n) ≡ option_map (λ (h : Held). h.kept) (if b then Some x else find_held hs n)
     go true more = refl
     go false more = more
 
-pub rises_push : (b : ℕ) (ks : List Kept) (k : Kept) → b < k.number → AreBelow k.number ks → RisesAbove b ks → RisesAbove b (ks ++ k ∷ [])
+pub rises_push : (b : ℕ) (ks : List Kept) (k : Kept) → b < k.number → AreBelow k.number ks → NumbersRise b ks → NumbersRise b (ks ++ k ∷ [])
 rises_push b [] k low below rises = (low, tt)
 rises_push b (x ∷ ks) k low below rises = (rises.0, rises_push x.number ks k below.0 below.1 rises.1)
 
 pub below_more : (m n : ℕ) (ks : List Kept) → m ≤ n → AreBelow m ks → AreBelow n ks
 below_more m n ks h all = each_imp _ _ (λ k low. omega arith) ks all
 
-rises_lower : (a b : ℕ) (ks : List Kept) → a ≤ b → RisesAbove b ks → RisesAbove a ks
+rises_lower : (a b : ℕ) (ks : List Kept) → a ≤ b → NumbersRise b ks → NumbersRise a ks
 rises_lower a b [] h rises = tt
 rises_lower a b (k ∷ ks) h rises = (let first = rises.0 in omega arith, rises.1)
 
-pub rises_filter : (a : ℕ) (test : Kept → Bool) (ks : List Kept) → RisesAbove a ks → RisesAbove a (filter test ks)
+pub rises_filter : (a : ℕ) (test : Kept → Bool) (ks : List Kept) → NumbersRise a ks → NumbersRise a (filter test ks)
 rises_filter a test [] rises = tt
 rises_filter a test (k ∷ ks) rises = go (test k) (rises_filter k.number test ks rises.1)
   where
-    go : (b : Bool) → RisesAbove k.number (filter test ks) → RisesAbove a (cond b (k ∷ filter test ks) (filter test ks))
+    go : (b : Bool) → NumbersRise k.number (filter test ks) → NumbersRise a (cond b (k ∷ filter test ks) (filter test ks))
     go true more = (rises.0, more)
     go false more = rises_lower a k.number (filter test ks) (let first = rises.0 in omega arith) more
 
 -- what stands before a step is below it, and what stands after it above it
-pub below_part : (a : ℕ) (first rest : List Kept) (k : Kept) → RisesAbove a (first ++ k ∷ rest) → (a < k.number) × AreBelow k.number first
+pub below_part : (a : ℕ) (first rest : List Kept) (k : Kept) → NumbersRise a (first ++ k ∷ rest) → (a < k.number) × AreBelow k.number first
 below_part a [] rest k rises = (rises.0, tt)
 below_part a (j ∷ first) rest k rises = let more = below_part j.number first rest k rises.1 in (omega arith, (more.0, more.1))
 
-pub rises_after : (a : ℕ) (first rest : List Kept) (k : Kept) → RisesAbove a (first ++ k ∷ rest) → RisesAbove k.number rest
+pub rises_after : (a : ℕ) (first rest : List Kept) (k : Kept) → NumbersRise a (first ++ k ∷ rest) → NumbersRise k.number rest
 rises_after a [] rest k rises = rises.1
 rises_after a (j ∷ first) rest k rises = rises_after j.number first rest k rises.1

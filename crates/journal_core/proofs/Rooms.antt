@@ -1,5 +1,6 @@
 -- Whether room was made, as the search among what was made tells.
-use Rattle.std.proofs.Common.{◌≡◌, ℕ, zero, suc, ◌<◌, ◌==◌, ◌&&◌, ◌||◌, ◌↔◌, IsTrue, Bool, true, false, List, [], ◌∷◌, Option, Some, None, map, length, get_or, refl, sym, ap, ◌∙◌, subst, arith}
+use Rattle.std.proofs.Common.{◌≡◌, ℕ, zero, suc, ◌<◌, ◌==◌, ◌&&◌, ◌||◌, ◌↔◌, IsTrue, Bool, true, false, List, [], ◌∷◌, Option, Some, None, map, length}
+use Rattle.std.proofs.Common.{get_or, refl, sym, ap, ◌∙◌, subst, arith}
 use Rattle.std.proofs.lemmas.Bool.{eqb-true, eq-eqb, and_parts, and_from}
 use mathlib.Core.Bool.{beq}
 use Rattle.std.specs.Option.{option_eq}
@@ -50,7 +51,8 @@ only_same a b is =
 
 all_same : (a b : declared.Room) → plain_room a ≡ plain_room b → same_room a b ≡ true
 all_same a b is =
-    and_from (a.node == b.node) (option_eq same_pair a.delivers b.delivers && beq a.sends b.sends) (eq-eqb a.node b.node (ap (λ (r : Room). r.node) is))
+    and_from (a.node == b.node) (option_eq same_pair a.delivers b.delivers && beq a.sends b.sends)
+    (eq-eqb a.node b.node (ap (λ (r : Room). r.node) is))
     (and_from (option_eq same_pair a.delivers b.delivers) (beq a.sends b.sends)
     (subst (λ o. option_eq same_pair a.delivers o ≡ true) (ap (λ (r : Room). r.delivers) is) (option_itself a.delivers))
     (subst (λ s. beq a.sends s ≡ true) (ap (λ (r : Room). r.sends) is) (bool_itself a.sends)))
@@ -68,11 +70,14 @@ module _ (x : declared.Room) where
   found [] any = absurd (cc)
   found (a ∷ made) any = go (same_room a x) refl any (found made)
     where
-      go : (b : Bool) → same_room a x ≡ b → (b || list_any (λ a. same_room a x) made) ≡ true → (list_any (λ a. same_room a x) made ≡ true → Contains (map plain_room made) (plain_room x)) → Contains (plain_room a ∷ map plain_room made) (plain_room x)
+      go : (b : Bool) → same_room a x ≡ b → (b || list_any (λ a. same_room a x) made) ≡ true →
+          (list_any (λ a. same_room a x) made ≡ true → Contains (map plain_room made) (plain_room x)) →
+          Contains (plain_room a ∷ map plain_room made) (plain_room x)
       go true is any more = here a (map plain_room made) (plain_room x) (only_same a x is)
       go false is any more = there (plain_room a) (map plain_room made) (plain_room x) (more any)
 
-  finds : (made : List declared.Room) (k : ℕ) → k < length (map plain_room made) → get_or (map plain_room made) k (plain_room x) ≡ plain_room x → list_any (λ a. same_room a x) made ≡ true
+  finds : (made : List declared.Room) (k : ℕ) → k < length (map plain_room made) →
+      get_or (map plain_room made) k (plain_room x) ≡ plain_room x → list_any (λ a. same_room a x) made ≡ true
   finds [] k low at = absurd (omega arith)
   finds (a ∷ made) zero low at = ap (λ b. b || list_any (λ a. same_room a x) made) (all_same a x at)
   finds (a ∷ made) (suc k) low at = go (same_room a x) (finds made k (omega arith) at)
@@ -81,5 +86,6 @@ module _ (x : declared.Room) where
       go true more = refl
       go false more = more
 
-  pub is_found : (made : List declared.Room) (r : Bool) → r ≡ list_any (λ a. same_room a x) made → IsTrue r ↔ Contains (map plain_room made) (plain_room x)
+  pub is_found : (made : List declared.Room) (r : Bool) → r ≡ list_any (λ a. same_room a x) made →
+      IsTrue r ↔ Contains (map plain_room made) (plain_room x)
   is_found made r is = (λ e. found made (sym is ∙ e), λ c. is ∙ finds made c.0 c.1 c.2)

@@ -6,7 +6,8 @@ use Rattle.journal_core.specs.Journals.{Kept, find_number, first_consequence, is
 -- step n where it remains, its direct consequences, theirs, and so on
 pub data Follows (ks : List Kept) (n : ℕ) : ℕ → Type 0 where
   Itself : (k : Kept) → find_number ks n ≡ Some k → Follows ks n n
-  Next : (k j : Kept) → Follows ks n k.number → find_number ks k.number ≡ Some k → find_number ks j.number ≡ Some j → is_consequence ks k j ≡ true → Follows ks n j.number
+  Next : (k j : Kept) → Follows ks n k.number → find_number ks k.number ≡ Some k → find_number ks j.number ≡ Some j →
+      is_consequence ks k j ≡ true → Follows ks n j.number
 
 -- the numbers strictly fall, from below n
 abbrev pub FallsBelow : ℕ → List ℕ → Type 0

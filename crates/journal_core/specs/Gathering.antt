@@ -6,7 +6,8 @@ use Rattle.journal_core.specs.Journals.{Kept, is_consequence}
 -- step n and what follows from it, greatest first: of the steps still to come, those that follow from a step found
 abbrev pub gathered : List Kept → ℕ → List Kept → List Kept → List Kept
 gathered ks n found [] = found
-gathered ks n found (j ∷ js) = gathered ks n (if (j.number == n) || list_any (λ k. is_consequence ks k j) found then j ∷ found else found) js
+gathered ks n found (j ∷ js) =
+    gathered ks n (if (j.number == n) || list_any (λ k. is_consequence ks k j) found then j ∷ found else found) js
 
 -- their numbers
 abbrev pub gathered_numbers : List Kept → ℕ → List ℕ

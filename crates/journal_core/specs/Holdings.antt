@@ -32,7 +32,9 @@ abbrev pub plain_room : declared.Room → Room
 plain_room room = record { node = room.node; delivers = room.delivers; sends = room.sends }
 
 abbrev pub held_code : Coded Held
-held_code = code_by (Kept × Option Inverse) (coded× kept_code (coded_option inverse_code)) (λ h. (h.kept, h.inverse)) (λ t. record { kept = t.0; inverse = t.1 }) (λ _. refl)
+held_code =
+    code_by (Kept × Option Inverse) (coded× kept_code (coded_option inverse_code)) (λ h. (h.kept, h.inverse))
+    (λ t. record { kept = t.0; inverse = t.1 }) (λ _. refl)
 
 abbrev room_code : Coded Room
 room_code =

@@ -13,12 +13,14 @@ pub record Kept : Type 0 where
   pub step : Operation
 
 abbrev pub kept_code : Coded Kept
-kept_code = code_by (ℕ × (ℕ × Operation)) (coded× coded_ℕ (coded× coded_ℕ operation_code)) (λ k. (k.number, (k.node, k.step))) (λ t. record { number = t.0; node = t.1.0; step = t.1.1 }) (λ _. refl)
+kept_code =
+    code_by (ℕ × (ℕ × Operation)) (coded× coded_ℕ (coded× coded_ℕ operation_code)) (λ k. (k.number, (k.node, k.step)))
+    (λ t. record { number = t.0; node = t.1.0; step = t.1.1 }) (λ _. refl)
 
 -- the numbers strictly rise, from above n
-abbrev pub RisesAbove : ℕ → List Kept → Type 0
-RisesAbove n [] = Unit {0}
-RisesAbove n (k ∷ ks) = (n < k.number) × RisesAbove k.number ks
+abbrev pub NumbersRise : ℕ → List Kept → Type 0
+NumbersRise n [] = Unit {0}
+NumbersRise n (k ∷ ks) = (n < k.number) × NumbersRise k.number ks
 
 -- the steps of a node
 abbrev pub own_steps : List Kept → ℕ → List Kept
@@ -50,8 +52,8 @@ abbrev pub AreSentBefore : List Kept → List Kept → Type 0
 AreSentBefore ks js = AllByRecursion (λ (j : Kept). IsSentBefore ks j.number (delivers j.step)) js
 
 -- the steps stand by rising number, and no delivery before the step that sent its message
-abbrev pub AreInOrder : List Kept → Type 0
-AreInOrder ks = RisesAbove 0 ks × AreSentBefore ks ks
+abbrev pub AreInCausalOrder : List Kept → Type 0
+AreInCausalOrder ks = NumbersRise 0 ks × AreSentBefore ks ks
 
 abbrev pub is_number : Option ℕ → ℕ → Bool
 is_number None n = false
@@ -82,9 +84,9 @@ abbrev pub without : List Kept → ℕ → List Kept
 without ks n = filter (λ k. not (k.number == n)) ks
 
 -- the steps up to step n
-abbrev pub before : List Kept → ℕ → List Kept
-before [] n = []
-before (k ∷ ks) n = if k.number == n then [] else k ∷ before ks n
+abbrev pub steps_before : List Kept → ℕ → List Kept
+steps_before [] n = []
+steps_before (k ∷ ks) n = if k.number == n then [] else k ∷ steps_before ks n
 
 -- the last of the node's steps, after those of which o was the last
 abbrev pub last_own : Option ℕ → List Kept → ℕ → Option ℕ

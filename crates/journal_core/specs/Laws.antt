@@ -1,22 +1,25 @@
 -- The laws of loans and of futures.
 use Rattle.std.specs.Prelude.{◌≡◌, ℕ, List, Some, None}
 use Rattle.node_core.specs.Inverses.{Inverse}
-use Rattle.journal_core.specs.Journals.{Kept, RisesAbove, AreInOrder, find_number}
+use Rattle.journal_core.specs.Journals.{Kept, NumbersRise, AreInCausalOrder, find_number}
 use Rattle.journal_core.specs.Futures.{Follows, IsFuture, undo_all, without_all}
 use Rattle.journal_core.specs.Holdings.{Held, find_held, inverse_of, with_inverse, without_held}
 
 pub record LoanLaw : Type 0 where
   -- what is lent and put back is as before
-  pub put_back : (hs : List Held) (n : ℕ) (i : Inverse) → inverse_of (find_held hs n) ≡ Some i → with_inverse (with_inverse hs n None) n (Some i) ≡ hs
+  pub put_back : (hs : List Held) (n : ℕ) (i : Inverse) → inverse_of (find_held hs n) ≡ Some i →
+      with_inverse (with_inverse hs n None) n (Some i) ≡ hs
   -- what is lent and taken out leaves the others as they were
   pub taken_out : (hs : List Held) (n : ℕ) → without_held (with_inverse hs n None) n ≡ without_held hs n
 
 pub record FutureLaw : Type 0 where
   -- each number has a future, which is empty where its step doesn't remain
-  pub some : (ks : List Kept) (n : ℕ) → AreInOrder ks → (numbers : List ℕ) × IsFuture ks n numbers
+  pub some : (ks : List Kept) (n : ℕ) → AreInCausalOrder ks → (numbers : List ℕ) × IsFuture ks n numbers
   -- and only one
   pub one : (ks : List Kept) (n : ℕ) (a b : List ℕ) → IsFuture ks n a → IsFuture ks n b → a ≡ b
   -- its steps can be taken back in turn
-  pub taken_back : (ks : List Kept) (n : ℕ) (numbers : List ℕ) → AreInOrder ks → IsFuture ks n numbers → undo_all ks numbers ≡ Some (without_all ks numbers)
+  pub taken_back : (ks : List Kept) (n : ℕ) (numbers : List ℕ) → AreInCausalOrder ks → IsFuture ks n numbers →
+      undo_all ks numbers ≡ Some (without_all ks numbers)
   -- whatever undos take a step back, they take back all that follows from it
-  pub least : (ks left : List Kept) (n : ℕ) (undos : List ℕ) → RisesAbove 0 ks → undo_all ks undos ≡ Some left → find_number left n ≡ None → (j : ℕ) → Follows ks n j → find_number left j ≡ None
+  pub least : (ks left : List Kept) (n : ℕ) (undos : List ℕ) → NumbersRise 0 ks → undo_all ks undos ≡ Some left →
+      find_number left n ≡ None → (j : ℕ) → Follows ks n j → find_number left j ≡ None

@@ -3,13 +3,13 @@ ghost use Rattle.std.specs.Prelude.{◌≡◌, ◌↔◌, ◌++◌, ◌∷◌, [
 ghost use Rattle.std.specs.List.{Contains};
 ghost use Rattle.node_core.specs.Operations.{plain};
 ghost use Rattle.node_core.specs.Inverses.{plain_inverse};
-ghost use Rattle.journal_core.specs.Journals.{find_number, first_consequence, last_of, AreInOrder};
+ghost use Rattle.journal_core.specs.Journals.{find_number, first_consequence, last_of, AreInCausalOrder};
 ghost use Rattle.journal_core.specs.Futures.{IsFuture};
 ghost use Rattle.journal_core.specs.Holdings.{kepts, find_held, inverse_of, with_inverse, without_held, plain_room, room_for, AreAllHeld, IsLent, CanBeKept};
 
 use crate::held::Held;
 use crate::kept::Kept;
-use crate::search::{consequence, find, future, held_at, last, place};
+use crate::search::{find, first_consequence, future, held_at, last_of, place};
 use node_core::{Inverse, Oom, Step};
 use std::alloc::Allocator;
 use std::marker::Model;
@@ -56,7 +56,7 @@ pub struct Journal<'a, B: Allocator> {
 
 impl<'a, B: Allocator> Model for Journal<'a, B> {
     ghost use Rattle.std.specs.Prelude.{◌≡◌, ◌≢◌, ◌<◌, ◌≤◌, [], map, vec_len, vec_capacity};
-    ghost use Rattle.journal_core.specs.Journals.{AreInOrder};
+    ghost use Rattle.journal_core.specs.Journals.{AreInCausalOrder};
     ghost use Rattle.journal_core.specs.Holdings.{Journal, journal_code, kepts, plain_room};
 
     ghost Value = { Journal };
@@ -65,7 +65,7 @@ impl<'a, B: Allocator> Model for Journal<'a, B> {
 
     ghost view = { λ j. record { nodes = j.nodes; steps = j.steps.items; room = map plain_room j.room.items } };
 
-    ghost invariant = { λ j. (j.nodes ≤ 32) × (j.room.items ≢ [] → vec_len j.steps < vec_capacity j.steps) × AreInOrder (kepts j.steps.items) };
+    ghost invariant = { λ j. (j.nodes ≤ 32) × (j.room.items ≢ [] → vec_len j.steps < vec_capacity j.steps) × AreInCausalOrder (kepts j.steps.items) };
 }
 
 impl<'a, B: Allocator> Journal<'a, B> {
@@ -110,7 +110,7 @@ impl<'a, B: Allocator> Journal<'a, B> {
         requires { node < self.now.nodes }
         ensures { result ≡ last_of (kepts self.now.steps) node }
     {
-        last(self.steps.as_slice(), node)
+        last_of(self.steps.as_slice(), node)
     }
 
     /// The number of the least direct consequence of a step: of the steps that are later ones of its node, or deliver what
@@ -118,14 +118,14 @@ impl<'a, B: Allocator> Journal<'a, B> {
     pub fn first_consequence(&self, number: u64) -> Option<u64>
         ensures { result ≡ first_consequence (kepts self.now.steps) number }
     {
-        consequence(self.steps.as_slice(), number)
+        first_consequence(self.steps.as_slice(), number)
     }
 
     /// The number of a step and those of all that follows from it: of its direct consequences, of theirs, and so on.
     /// Greatest first; none where the step doesn't remain.
     pub fn future(&self, number: u64) -> Result<Vec<u64, &'a B>, Oom>
         ensures future { IfOk result (λ numbers. IsFuture (kepts self.now.steps) number numbers.items) }
-        ensures in_order { AreInOrder (kepts self.now.steps) }
+        ensures in_order { AreInCausalOrder (kepts self.now.steps) }
     {
         future(*self.steps.allocator(), self.steps.as_slice(), number)
     }

@@ -49,7 +49,7 @@ pub(crate) fn place<'a, B: Allocator>(steps: &[Held<'a, B>], number: u64) -> Opt
 }
 
 /// The number of the step that sent this message of the node.
-fn sender<'a, B: Allocator>(steps: &[Held<'a, B>], node: u16, number: u64) -> Option<u64>
+fn sender_of<'a, B: Allocator>(steps: &[Held<'a, B>], node: u16, number: u64) -> Option<u64>
     ensures { result ≡ sender_of (kepts steps.now) node number }
 {
     let mut left = number;
@@ -68,11 +68,11 @@ fn sender<'a, B: Allocator>(steps: &[Held<'a, B>], node: u16, number: u64) -> Op
 }
 
 /// The number of the step that sent what this step delivers.
-fn source<'a, B: Allocator>(steps: &[Held<'a, B>], step: &Step<&'a B>) -> Option<u64>
+fn source_of<'a, B: Allocator>(steps: &[Held<'a, B>], step: &Step<&'a B>) -> Option<u64>
     ensures { result ≡ source_of (kepts steps.now) (plain step.now) }
 {
     match step.delivers() {
-        Some((node, number)) => sender(steps, node, number),
+        Some((node, number)) => sender_of(steps, node, number),
         None => None,
     }
 }
@@ -85,21 +85,25 @@ fn is_later<A: Allocator>(kept: &Kept<A>, other: &Kept<A>) -> bool
 }
 
 /// Whether `other` is a direct consequence of `kept`.
-fn follows<'a, B: Allocator>(steps: &[Held<'a, B>], kept: &Kept<&'a B>, other: &Kept<&'a B>) -> bool
+fn is_consequence<'a, B: Allocator>(
+    steps: &[Held<'a, B>],
+    kept: &Kept<&'a B>,
+    other: &Kept<&'a B>,
+) -> bool
     ensures { result ≡ is_consequence (kepts steps.now) kept.now other.now }
 {
-    is_later(kept, other) || source(steps, &other.step) == Some(kept.number)
+    is_later(kept, other) || source_of(steps, &other.step) == Some(kept.number)
 }
 
 /// Whether `other` is a direct consequence of one of these steps.
-fn follows_any<'a, B: Allocator>(
+fn is_consequence_of_any<'a, B: Allocator>(
     steps: &[Held<'a, B>],
     found: &[&Kept<&'a B>],
     other: &Kept<&'a B>,
 ) -> bool
     ensures { result ≡ list_any (λ k. is_consequence (kepts steps.now) k other.now) (map (λ k. k.now) found.now) }
 {
-    let sent_by = source(steps, &other.step);
+    let sent_by = source_of(steps, &other.step);
     for kept in found {
         if is_later(kept, other) || sent_by == Some(kept.number) {
             return true;
@@ -109,7 +113,7 @@ fn follows_any<'a, B: Allocator>(
 }
 
 /// Whether a step has this number or is a direct consequence of one of those found.
-fn joins<'a, B: Allocator>(
+fn is_gathered<'a, B: Allocator>(
     steps: &[Held<'a, B>],
     found: &[&Kept<&'a B>],
     kept: &Kept<&'a B>,
@@ -117,7 +121,7 @@ fn joins<'a, B: Allocator>(
 ) -> bool
     ensures { result ≡ ((kept.now.number == number) || list_any (λ k. is_consequence (kepts steps.now) k kept.now) (map (λ k. k.now) found.now)) }
 {
-    kept.number == number || follows_any(steps, found, kept)
+    kept.number == number || is_consequence_of_any(steps, found, kept)
 }
 
 /// The step of this number and all that follows from it, in the order in which they were taken.
@@ -131,7 +135,7 @@ fn gather<'x, 'a, B: Allocator>(
     let mut found = Vec::new(alloc);
     for held in steps {
         let kept = held.kept();
-        if joins(steps, found.as_slice(), kept, number) {
+        if is_gathered(steps, found.as_slice(), kept, number) {
             found.push(kept)?;
         }
     }
@@ -166,12 +170,12 @@ pub(crate) fn future<'a, B: Allocator>(
 }
 
 /// The number of the least direct consequence of this step.
-pub(crate) fn consequence<'a, B: Allocator>(steps: &[Held<'a, B>], number: u64) -> Option<u64>
+pub(crate) fn first_consequence<'a, B: Allocator>(steps: &[Held<'a, B>], number: u64) -> Option<u64>
     ensures { result ≡ first_consequence (kepts steps.now) number }
 {
     let kept = find(steps, number)?;
     for held in steps {
-        if follows(steps, kept, held.kept()) {
+        if is_consequence(steps, kept, held.kept()) {
             return Some(held.number());
         }
     }
@@ -179,7 +183,7 @@ pub(crate) fn consequence<'a, B: Allocator>(steps: &[Held<'a, B>], number: u64) 
 }
 
 /// The number of the last step of this node.
-pub(crate) fn last<'a, B: Allocator>(steps: &[Held<'a, B>], node: u16) -> Option<u64>
+pub(crate) fn last_of<'a, B: Allocator>(steps: &[Held<'a, B>], node: u16) -> Option<u64>
     ensures { result ≡ last_of (kepts steps.now) node }
 {
     let mut last = None;

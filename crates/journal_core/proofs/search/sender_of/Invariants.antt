@@ -1,7 +1,7 @@
 use Rattle.std.proofs.Common.{◌≡◌, ◌<◌, drop}
 use Rattle.journal_core.specs.Holdings.{kepts}
 use Rattle.journal_core.specs.Journals.{sender_of}
-use Rattle.journal_core.proofs.search.sender.Given as goal
+use Rattle.journal_core.proofs.search.sender_of.Given as goal
 
 abbrev pub invariant-loop-held : goal.invariant-loop-held
 invariant-loop-held g l = record {
