@@ -33,6 +33,8 @@ pub use reply::Reply;
 pub use unwound::Unwound;
 
 #[cfg(test)]
+mod laws_tests;
+#[cfg(test)]
 mod leaves_tests;
 #[cfg(test)]
 mod memory_tests;
