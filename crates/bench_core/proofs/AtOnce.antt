@@ -24,7 +24,7 @@ module _ (old : Machine) (actor : ℕ) (reached : IsReached (config_of old) old.
 
   back_at_once : (operation : Operation) (k : ℕ) → reply_to c old.state actor (Do operation) ≡ Taken k → (new : Machine) → new ≡ with_state old (call c old.state actor (Do operation)) →
       (other : ℕ) (reply : Reply) (later : Machine) → AnswersAs new other (Undo k) reply later → UndoneAtOnce old new k reply later
-  back_at_once operation k took new is other reply later (machine.Unmade none same) = NoMemory none same
+  back_at_once operation k took new is other reply later (machine.Unmade recorded none same) = NoMemory none same
   back_at_once operation k took new is other reply later (machine.Answered answer gives) =
       let law = back_holds c old.state actor other k operation reached took in
       let taken = call c old.state actor (Do operation) in
@@ -39,7 +39,7 @@ module _ (old : Machine) (actor : ℕ) (reached : IsReached (config_of old) old.
       back_at_once t.0 k (ap (reply_to c old.state actor) (sym t.1) ∙ sym took) new (is ∙ ap (λ r. with_state old (after c old.state actor act r)) took ∙ ap (λ a. with_state old (call c old.state actor a)) t.1)
 
   pub can_be_taken_back : (act : Action) (r : Reply) (new : Machine) → AnswersAs old actor act r new → CanBeTakenBack old r new
-  can_be_taken_back act (Taken k) new (machine.Unmade none same) = absurd (cc)
+  can_be_taken_back act (Taken k) new (machine.Unmade recorded none same) = absurd (cc)
   can_be_taken_back act (Taken k) new (machine.Answered took is) = taken_at_once act k new took is
   can_be_taken_back act (Undone k) new answers = tt
   can_be_taken_back act (Refused f) new answers = tt
@@ -60,9 +60,9 @@ module _ (old : Machine) (actor : ℕ) (reached : IsReached (config_of old) old.
 
   pub refused_only : (act : Action) (r : Reply) (new : Machine) → AnswersAs old actor act r new → RefusedOnlyForConsequence old act r new
   refused_only (Do operation) r new answers = tt
-  refused_only (Undo k) r new (machine.Unmade none same) = λ step found. Unmade none same
+  refused_only (Undo k) r new (machine.Unmade recorded none same) = λ step found. Unmade none same
   refused_only (Undo k) r new (machine.Answered answer is) = λ step found. undo_ends (Undo k) k r new step (first_consequence old.state.remaining k) refl found refl answer is
-  refused_only (Back node) r new (machine.Unmade none same) = λ k there last. Unmade none same
+  refused_only (Back node) r new (machine.Unmade recorded none same) = λ k there last. Unmade none same
   refused_only (Back node) r new (machine.Answered answer is) = λ k there last.
       let found = last_found old.state.remaining node k last in
       undo_ends (Back node) k r new found.0 (first_consequence old.state.remaining k) (back_comes c old.state actor node k there last) found.1 refl answer is

@@ -88,7 +88,7 @@ module _ (old mid new : Machine) (actor n : ℕ) (first : List ℕ) (reply : Rep
   before = calls (config_of old) old.state (undos actor first)
 
   one_more : AnswersAs mid actor (Undo n) reply new → reply ≡ Undone n → AreUndone old actor (first ++ n ∷ []) new
-  one_more (Unmade none same) made = absurd (cc)
+  one_more (Unmade recorded none same) made = absurd (cc)
   one_more (Answered answer gives) made =
       let here : undo_reply mid.state n ≡ undo_reply before n = ap (λ (m : Machine). undo_reply m.state n) so_far.state in
       let is : undo_reply before n ≡ Undone n = sym here ∙ sym answer ∙ made in
@@ -115,7 +115,7 @@ module _ (old mid new : Machine) (actor n : ℕ) (first : List ℕ) (reply : Rep
 
   -- where the next could be undone, it was not for want of memory alone
   no_more : (rest : List ℕ) → CanBeUndone old (first ++ n ∷ rest) → AnswersAs mid actor (Undo n) reply new → reply ≢ Undone n → AreUndone old actor first new
-  no_more rest all (Unmade none same) refused = subst (AreUndone old actor first) (sym same) so_far
+  no_more rest all (Unmade recorded none same) refused = subst (AreUndone old actor first) (sym same) so_far
   no_more rest all (Answered answer gives) refused =
       let here : undo_reply mid.state n ≡ undo_reply before n = ap (λ (m : Machine). undo_reply m.state n) so_far.state in
       let longer : undos actor (first ++ n ∷ rest) ≡ undos actor first ++ (actor, Undo n) ∷ undos actor rest = map-append (λ (n : ℕ). (actor, Undo n)) first (n ∷ rest) in

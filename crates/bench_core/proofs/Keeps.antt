@@ -1,6 +1,6 @@
 -- What a bench keeps is kept by each call.
-use Rattle.std.proofs.Common.{◌≡◌, ◌≢◌, ℕ, ◌+◌, ◌<◌, ◌≤◌, ◌==◌, not, nat_lt, true, false, List, [], ◌∷◌, ◌++◌, length, set, get_or, slice_get, Option, Some, None, option_map, Result, Ok, Err, refl, sym, ap, ◌∙◌, subst, subst₂, arith, length-set}
-use Rattle.std.proofs.lemmas.Bool.{le-ltb, ltb-true, ne_eqb, and_parts}
+use Rattle.std.proofs.Common.{◌≡◌, ◌≢◌, ◌⊎◌, inl, inr, Bool, if◌then◌else◌, ℕ, ◌+◌, ◌<◌, ◌≤◌, ◌==◌, not, nat_lt, true, false, List, [], ◌∷◌, ◌++◌, length, set, get_or, slice_get, Option, Some, None, option_map, Result, Ok, Err, refl, sym, ap, ◌∙◌, subst, subst₂, arith, length-set}
+use Rattle.std.proofs.lemmas.Bool.{cases_eq, le-ltb, ltb-true, ne_eqb, and_parts}
 use Rattle.std.proofs.lemmas.List.Sums.{count_by-le-length}
 use Rattle.std.proofs.lemmas.Option.{slice_get_within}
 use Rattle.std.specs.List.{list_all}
@@ -8,29 +8,32 @@ use Rattle.payload_core.specs.Answers.{◌>>=◌}
 use Rattle.bench_core.specs.declared.reply.Reply.{Reply}
 use Rattle.bench_core.specs.declared.reply.Reply.TheVariants.{Taken, Undone, Refused}
 use Rattle.bench_core.specs.declared.fault.Fault.{Fault}
-use Rattle.bench_core.specs.declared.fault.Fault.TheVariants.{UnknownNode, HistoryFull}
+use Rattle.bench_core.specs.declared.fault.Fault.TheVariants.{UnknownNode, HistoryFull, OutOfMemory}
 use Rattle.node_core.specs.declared.step_fault.StepFault.{StepFault}
 use Rattle.node_core.specs.declared.step_fault.StepFault.TheVariants as step_faults
 use Rattle.bench_core.specs.NameList.{Texts}
 use Rattle.bench_core.specs.Limits.{Limits, node_limits}
+use Rattle.replica_core.specs.declared.node_limits.NodeLimits.{NodeLimits}
+use Rattle.replica_core.specs.Replicas.{own_clock}
 use Rattle.node_core.specs.Operations.{Operation, named_in, delivers}
 use Rattle.bench_core.specs.Acts.{Action, Do}
-use Rattle.node_core.specs.Nodes.{Node}
+use Rattle.node_core.specs.Nodes.{Node, take}
+use Rattle.node_core.specs.Kept.{IsNode}
 use Rattle.node_core.specs.Inverses.{Inverse, LeadsBack}
-use Rattle.bench_core.specs.Clusters.{Cluster, step, opening_of, fault_of, message_for}
+use Rattle.bench_core.specs.Clusters.{Cluster, step, node_step, with_node, of_node, opening_of, fault_of, message_for}
 use Rattle.journal_core.specs.Journals.{Kept, find_number, first_consequence, without, AreBelow}
 use Rattle.bench_core.specs.Runs.{then_runs, runs}
 use Rattle.journal_core.specs.Holdings.{Held, Journal, kepts, find_held, inverse_of, without_held, AreAllHeld, HasSender, CanBeKept}
 use Rattle.bench_core.specs.Chains.{Link, Chain}
-use Rattle.bench_core.specs.Machine.{Event, Config, State, Machine, config_of, opening_state, is_taken, given, free_places, knows, undo_reply, step_reply, do_reply, reply_to, now, is_recorded, after, call, calls, AnswersAs, Answered}
+use Rattle.bench_core.specs.Machine.{Event, Config, State, Machine, config_of, opening_state, is_taken, given, free_places, knows, undo_reply, step_reply, do_reply, reply_to, now, is_recorded, after, call, calls, AnswersAs, Answered, Unmade}
 use Rattle.bench_core.specs.Headline.{IsReached}
-use Rattle.bench_core.specs.Benches.{IsBackable, IsBench, IsNumbered, IsTaken}
+use Rattle.bench_core.specs.Benches.{AreNodes, HasCluster, IsBackable, IsBench, IsMachine, IsNumbered, IsTaken}
 use Rattle.journal_core.proofs.Rising.{kepts-append, find_kepts}
-use Rattle.bench_core.proofs.Clusters.{step_takes}
+use Rattle.bench_core.proofs.Clusters.{get-set_same, get-set_other, step_takes}
 use Rattle.bench_core.proofs.Taken.{was_read}
-use Rattle.bench_core.proofs.Runs.{runs_append, numbered_runs}
+use Rattle.bench_core.proofs.Runs.{runs_append, numbered_runs, limited_runs}
 use Rattle.bench_core.proofs.OneStep.{get_at}
-use Rattle.bench_core.proofs.Reached.{kept_reached, count_push, undo_gives}
+use Rattle.bench_core.proofs.Reached.{kept_reached, count_push, undo_answers}
 use Rattle.bench_core.proofs.Loop.{has_sender}
 use Rattle.bench_core.proofs.Chain.{chain_push, all_held, undoing}
 
@@ -80,6 +83,27 @@ fault_of_other step_faults.NoSuchMessage e = cc
 fault_of_other step_faults.OutboxFull e = cc
 fault_of_other step_faults.OutOfMemory e = cc
 
+-- the fault of a step is no want of room either
+step_other : (c : Cluster) (n : ℕ) (s : Operation) (e : Fault) → step c n s ≡ Err e → e ≢ HistoryFull
+step_other c n s e h = found (slice_get c n) h
+  where
+    took : (r : Result Node StepFault) → with_node c n (of_node r) ≡ Err e → e ≢ HistoryFull
+    took (Ok x) h = absurd (cc)
+    took (Err f) h = λ full. let same : fault_of f ≡ e = cc in fault_of_other f (same ∙ full)
+
+    tested : (x : Node) (b : Bool) → with_node c n (if b then of_node (take x s (message_for c s)) else Err UnknownNode) ≡ Err e → e ≢ HistoryFull
+    tested x true h = took (take x s (message_for c s)) h
+    tested x false h = λ full. cc
+
+    found : (o : Option Node) → with_node c n (node_step (length c) o s (message_for c s)) ≡ Err e → e ≢ HistoryFull
+    found None h = λ full. cc
+    found (Some x) h = tested x (list_all (λ k. nat_lt k (length c)) (named_in s)) h
+
+-- where a place is free, such a refusal would be recorded, and so memory may be refused
+pub unmade_refusal : (actor : ℕ) (act : Action) (f : Fault) (m new : Machine) → reply_to (config_of m) m.state actor act ≡ Refused f → f ≢ HistoryFull → free_places (config_of m) m.state ≢ 0 → new ≡ m → AnswersAs m actor act (Refused OutOfMemory) new
+unmade_refusal actor act f m new is other room same =
+    Unmade (ap (is_recorded (config_of m) m.state) is ∙ recorded_if (config_of m) m.state f other ∙ ap not (ne_eqb (free_places (config_of m) m.state) 0 room)) refl same
+
 -- a refusal that is recorded
 refused_noted : (c : Config) (s : State) (nodes : Cluster) (hs : List Held) (taken actor : ℕ) (act : Action) (f : Fault) → IsBench c s nodes hs taken → reply_to c s actor act ≡ Refused f → f ≢ HistoryFull → (free_places c s == 0) ≡ false →
     record {
@@ -100,9 +124,10 @@ refused_noted c s nodes hs taken actor act f old is other room =
         chain = old.chain;
         count = omega (arith, count, more);
         fits = (kept_reached c _ reached).fits;
-        bound = old.bound;
+        limits = old.limits;
         size = old.size;
         few = old.few;
+        kept = old.kept;
       };
     }
 
@@ -131,11 +156,36 @@ refused_full actor act f m is other full =
     let recorded : is_recorded (config_of m) m.state (Refused f) ≡ false = recorded_if (config_of m) m.state f other ∙ ap (λ n. not (n == 0)) full in
     Answered (sym is) (rw recorded refl)
 
+-- one node replaced by another
+nodes_set : (c : Cluster) (n : ℕ) (x y : Node) → AreNodes c → slice_get c n ≡ Some x → IsNode y → AreNodes (set c n y)
+nodes_set c n x y all at is m z here = go (cases_eq m n)
+  where
+    go : (m ≡ n) ⊎ (m ≢ n) → IsNode z
+    go (inl e) =
+        let there : slice_get (set c n y) m ≡ Some y = ap (slice_get (set c n y)) e ∙ get-set_same c n x y at in
+        let same : y ≡ z = cc in
+        subst IsNode same is
+    go (inr other) = all m z (sym (get-set_other c n m y other) ∙ here)
+
 -- what a step is answered
 
 pub do_gives : (c : Config) (s : State) (actor : ℕ) (operation : Operation) (nodes : Cluster) (r : Result Cluster Fault) → knows c actor operation ≡ true → 2 ≤ free_places c s → now c s ≡ Ok nodes → step nodes actor operation ≡ r → do_reply c s actor operation ≡ step_reply (given s.history + 1) r
 do_gives c s actor operation nodes r is room run taken =
     rw (is, le-ltb (free_places c s) 2 room) (ap (λ r. step_reply (given s.history + 1) (r >>= λ cluster. step cluster actor operation)) run ∙ ap (step_reply (given s.history + 1)) taken)
+
+step_recorded : (c : Config) (s : State) (nodes : Cluster) (actor : ℕ) (operation : Operation) (r : Result Cluster Fault) → step nodes actor operation ≡ r → 2 ≤ free_places c s → is_recorded c s (step_reply (given s.history + 1) r) ≡ true
+step_recorded c s nodes actor operation (Ok d) is room = refl
+step_recorded c s nodes actor operation (Err e) is room = recorded_if c s e (step_other nodes actor operation e is) ∙ ap not (ne_eqb (free_places c s) 0 (λ none. omega arith))
+
+-- while two places are free, the answer to a known step would be recorded, and so memory may be refused
+pub unmade_step : (names : Texts) (limits : Limits) (h : List Event) (nodes : Cluster) (hs : List Held) (taken actor : ℕ) (operation : Operation) (act : Action) (m new : Machine) → machine names limits h (kepts hs) ≡ m →
+    IsBench (config names limits) (record { history = h; remaining = kepts hs }) nodes hs taken →
+    act ≡ Do operation → knows (config_of m) actor operation ≡ true → 2 ≤ free_places (config_of m) m.state → new ≡ m → AnswersAs m actor act (Refused OutOfMemory) new
+unmade_step names limits h nodes hs taken actor operation act m new at old asks is room same =
+    let run : now (config_of m) m.state ≡ Ok nodes = subst (λ (m : Machine). now (config_of m) m.state ≡ Ok nodes) at old.is_now in
+    let gives = do_gives (config_of m) m.state actor operation nodes (step nodes actor operation) is room run refl in
+    let recorded = step_recorded (config_of m) m.state nodes actor operation (step nodes actor operation) refl room in
+    Unmade (ap (λ a. is_recorded (config_of m) m.state (reply_to (config_of m) m.state actor a)) asks ∙ ap (is_recorded (config_of m) m.state) gives ∙ recorded) refl same
 
 -- the nodes that a known step names are nodes of the cluster
 pub named_there : (c : Config) (nodes : Cluster) (actor : ℕ) (operation : Operation) → length nodes ≡ c.nodes → knows c actor operation ≡ true → list_all (λ k. nat_lt k (length nodes)) (named_in operation) ≡ true
@@ -172,9 +222,10 @@ taken_here names limits h nodes d hs taken actor operation i old is room t =
         chain = chain_push (Ok (opening_of l c.nodes)) hs (added n actor operation i) nodes old.chain old.is_now link;
         count = omega (arith, number, more);
         fits = (kept_reached c _ reached).fits;
-        bound = old.bound;
+        limits = old.limits;
         size = ap length t.gives ∙ length-set nodes actor t.later ∙ old.size;
         few = old.few;
+        kept = subst AreNodes (sym t.gives) (nodes_set nodes actor t.earlier t.later old.kept t.at t.kept);
       };
       answers = Answered (sym reply) (ap (λ (s : State). record { names = names; limits = limits; state = s }) state);
     }
@@ -257,19 +308,19 @@ find_kept hs n k is = go (find_held hs n) refl (sym (find_kepts hs n) ∙ is)
     go (Some h) at is = (h, at, cc)
 
 -- what the code finds where step n may be taken back: the inverse that is lent, the node, and what they become
-pub record UndoAt (c : Config) (nodes : Cluster) (hs : List Held) (n : ℕ) (k : Kept) : Type 0 where
-  pub backable : IsBackable nodes hs n k.node
+pub record UndoAt (c : Config) (nodes : Cluster) (hs : List Held) (n node : ℕ) : Type 0 where
+  pub backable : IsBackable nodes hs n node
   pub remains : kepts (without_held hs n) ≡ without (kepts hs) n
-  pub run : runs (node_limits c.limits) c.nodes (without (kepts hs) n) ≡ Ok (set nodes k.node backable.earlier)
+  pub run : runs (node_limits c.limits) c.nodes (without (kepts hs) n) ≡ Ok (set nodes node backable.earlier)
   pub chain : Chain (Ok (opening_of (node_limits c.limits) c.nodes)) (without_held hs n)
 
-pub undo_at : (c : Config) (h : List Event) (nodes : Cluster) (hs : List Held) (taken n : ℕ) (k : Kept) → IsBench c (record { history = h; remaining = kepts hs }) nodes hs taken →
-    find_number (kepts hs) n ≡ Some k → first_consequence (kepts hs) n ≡ None → UndoAt c nodes hs n k
-undo_at c h nodes hs taken n k old found free =
+pub undo_at : (c : Config) (h : List Event) (nodes : Cluster) (hs : List Held) (taken n node : ℕ) (k : Kept) → IsBench c (record { history = h; remaining = kepts hs }) nodes hs taken →
+    find_number (kepts hs) n ≡ Some k → k.node ≡ node → first_consequence (kepts hs) n ≡ None → UndoAt c nodes hs n node
+undo_at c h nodes hs taken n node k old found of free =
     let f = find_kept hs n k found in
     let kept = kept_reached c (record { history = h; remaining = kepts hs }) old.reached in
     let u = undoing (node_limits c.limits) c.nodes n hs f.0 nodes kept.rises old.is_now f.1 free old.chain in
-    let node : f.0.kept.node ≡ k.node = ap (λ (k : Kept). k.node) f.2 in
+    let same : f.0.kept.node ≡ node = ap (λ (k : Kept). k.node) f.2 ∙ of in
     record {
       backable = record {
         free = free;
@@ -278,26 +329,26 @@ undo_at c h nodes hs taken n k old found free =
         kept = ap inverse_of f.1 ∙ u.kept;
         earlier = u.earlier;
         later = u.later;
-        at = subst (λ m. slice_get nodes m ≡ Some u.later) node u.at;
+        at = subst (λ m. slice_get nodes m ≡ Some u.later) same u.at;
         leads = u.leads;
       };
       remains = u.remains;
-      run = u.run ∙ ap (λ m. Ok (set nodes m u.earlier)) node;
+      run = u.run ∙ ap (λ m. Ok (set nodes m u.earlier)) same;
       chain = u.chain;
     }
 
-undone_here : (names : Texts) (limits : Limits) (h : List Event) (nodes : Cluster) (hs : List Held) (taken actor n : ℕ) (act : Action) (k : Kept) → IsBench (config names limits) (record { history = h; remaining = kepts hs }) nodes hs taken →
-    reply_to (config names limits) (record { history = h; remaining = kepts hs }) actor act ≡ undo_reply (record { history = h; remaining = kepts hs }) n → 0 < n → n ≤ taken →
-    find_number (kepts hs) n ≡ Some k → first_consequence (kepts hs) n ≡ None → (u : UndoAt (config names limits) nodes hs n k) →
+undone_here : (names : Texts) (limits : Limits) (h : List Event) (nodes : Cluster) (hs : List Held) (taken actor n node : ℕ) (act : Action) (k : Kept) → IsBench (config names limits) (record { history = h; remaining = kepts hs }) nodes hs taken →
+    reply_to (config names limits) (record { history = h; remaining = kepts hs }) actor act ≡ undo_reply (record { history = h; remaining = kepts hs }) n →
+    find_number (kepts hs) n ≡ Some k → first_consequence (kepts hs) n ≡ None → (u : UndoAt (config names limits) nodes hs n node) → IsNode u.backable.earlier →
     record {
-      keeps : IsBench (config names limits) (record { history = note actor act (Undone n) h; remaining = kepts (without_held hs n) }) (set nodes k.node u.backable.earlier) (without_held hs n) taken;
+      keeps : IsBench (config names limits) (record { history = note actor act (Undone n) h; remaining = kepts (without_held hs n) }) (set nodes node u.backable.earlier) (without_held hs n) taken;
       answers : AnswersAs (machine names limits h (kepts hs)) actor act (Undone n) (machine names limits (note actor act (Undone n) h) (kepts (without_held hs n)));
     }
-undone_here names limits h nodes hs taken actor n act k old same low high found free u =
+undone_here names limits h nodes hs taken actor n node act k old same found free u earlier =
     let c : Config = config names limits in
     let s : State = record { history = h; remaining = kepts hs } in
     let count = old.count in
-    let reply : reply_to c s actor act ≡ Undone n = same ∙ undo_gives s n k None low (omega arith) found free in
+    let reply : reply_to c s actor act ≡ Undone n = same ∙ undo_answers c s n k None old.reached found free in
     let state : record { history = note actor act (Undone n) h; remaining = kepts (without_held hs n) } ≡ after c s actor act (Undone n) = ap (λ (ks : List Kept). record { history = note actor act (Undone n) h; remaining = ks }) u.remains in
     let reached = subst (IsReached c) (sym state) (reached_after c s actor act (Undone n) old.reached reply) in
     let more = count_push h (record { actor = actor; act = act; reply = Undone n }) in
@@ -308,31 +359,36 @@ undone_here names limits h nodes hs taken actor n act k old same low high found 
         chain = u.chain;
         count = omega (arith, count, more);
         fits = (kept_reached c _ reached).fits;
-        bound = old.bound;
-        size = length-set nodes k.node u.backable.earlier ∙ old.size;
+        limits = old.limits;
+        size = length-set nodes node u.backable.earlier ∙ old.size;
         few = old.few;
+        kept = nodes_set nodes node u.backable.later u.backable.earlier old.kept u.backable.at earlier;
       };
       answers = Answered (sym reply) (ap (λ (s : State). record { names = names; limits = limits; state = s }) state);
     }
 
+-- an undo that is made would be recorded, and so memory may be refused
+pub unmade_undo : (actor n : ℕ) (act : Action) (k : Kept) (m new : Machine) → IsReached (config_of m) m.state → reply_to (config_of m) m.state actor act ≡ undo_reply m.state n →
+    find_number m.state.remaining n ≡ Some k → first_consequence m.state.remaining n ≡ None → new ≡ m → AnswersAs m actor act (Refused OutOfMemory) new
+unmade_undo actor n act k m new reached comes found free same =
+    Unmade (ap (is_recorded (config_of m) m.state) (comes ∙ undo_answers (config_of m) m.state n k None reached found free)) refl same
+
 -- a step that was taken back, as the code comes to it
-pub undone : (names : Texts) (limits : Limits) (h later : List Event) (nodes d : Cluster) (hs next : List Held) (taken actor n : ℕ) (act : Action) (k : Kept) (m : Machine) → machine names limits h (kepts hs) ≡ m →
+pub undone : (names : Texts) (limits : Limits) (h later : List Event) (nodes d : Cluster) (hs next : List Held) (taken actor n node : ℕ) (act : Action) (k : Kept) (m : Machine) → machine names limits h (kepts hs) ≡ m →
     later ≡ note actor act (Undone n) h → next ≡ without_held hs n →
     IsBench (config names limits) (record { history = h; remaining = kepts hs }) nodes hs taken →
-    reply_to (config_of m) m.state actor act ≡ undo_reply m.state n → 0 < n → n ≤ given m.state.history →
-    find_number (kepts hs) n ≡ Some k → first_consequence (kepts hs) n ≡ None → (u : UndoAt (config names limits) nodes hs n k) → d ≡ set nodes k.node u.backable.earlier →
+    reply_to (config_of m) m.state actor act ≡ undo_reply m.state n →
+    find_number (kepts hs) n ≡ Some k → first_consequence (kepts hs) n ≡ None → (u : UndoAt (config names limits) nodes hs n node) → (d ≡ set nodes node u.backable.earlier) × IsNode u.backable.earlier →
     record {
       keeps : IsBench (config names limits) (record { history = later; remaining = kepts next }) d next taken;
       answers : AnswersAs m actor act (Undone n) (machine names limits later (kepts next));
     }
-undone names limits h later nodes d hs next taken actor n act k m at longer shorter old same low high found free u gives =
-    let count = old.count in
-    let high_here : n ≤ given h = subst (λ (m : Machine). n ≤ given m.state.history) (sym at) high in
+undone names limits h later nodes d hs next taken actor n node act k m at longer shorter old same found free u gives =
     let same_here = subst (λ (m : Machine). reply_to (config_of m) m.state actor act ≡ undo_reply m.state n) (sym at) same in
-    let r = undone_here names limits h nodes hs taken actor n act k old same_here low (omega arith) found free u in
+    let r = undone_here names limits h nodes hs taken actor n node act k old same_here found free u gives.1 in
     record {
-      keeps = subst (λ (d : Cluster). IsBench (config names limits) (record { history = later; remaining = kepts next }) d next taken) (sym gives)
-          (subst₂ (λ (h : List Event) (b : List Held). IsBench (config names limits) (record { history = h; remaining = kepts b }) (set nodes k.node u.backable.earlier) b taken) (sym longer) (sym shorter) r.keeps);
+      keeps = subst (λ (d : Cluster). IsBench (config names limits) (record { history = later; remaining = kepts next }) d next taken) (sym gives.0)
+          (subst₂ (λ (h : List Event) (b : List Held). IsBench (config names limits) (record { history = h; remaining = kepts b }) (set nodes node u.backable.earlier) b taken) (sym longer) (sym shorter) r.keeps);
       answers = subst (λ (m : Machine). AnswersAs m actor act (Undone n) (machine names limits later (kepts next))) at
           (subst₂ (λ (h' : List Event) (b : List Held). AnswersAs (machine names limits h (kepts hs)) actor act (Undone n) (machine names limits h' (kepts b))) (sym longer) (sym shorter) r.answers);
     }
@@ -382,7 +438,7 @@ can_step names limits h nodes hs taken actor asked copy m at old copied is =
     let few = old.few in
     let count = old.count in
     let fits = old.fits in
-    let bound = old.bound in
+    let bound = old.limits.acts_few in
     let low : given h ≤ length h = count_by-le-length (λ e. is_taken e.reply) h in
     record {
       known = known;
@@ -392,3 +448,22 @@ can_step names limits h nodes hs taken actor asked copy m at old copied is =
       numbered = numbered_runs (node_limits limits) (length names) (kepts hs) nodes old.is_now;
       meter = omega arith;
     }
+
+-- what a bench keeps, as its callers see it
+pub is_machine : (names : Texts) (limits : Limits) (h : List Event) (nodes : Cluster) (hs : List Held) (taken : ℕ) (m : Machine) →
+    machine names limits h (kepts hs) ≡ m → IsBench (config names limits) (record { history = h; remaining = kepts hs }) nodes hs taken → IsMachine m
+is_machine names limits h nodes hs taken m at old = subst IsMachine at (record {
+  reached = old.reached;
+  cluster = record { cluster = nodes; is_now = old.is_now; size = old.size; limits = limited; clocks = λ n x at. clock_of x (limited n x at) (old.kept n x at) };
+  fits = old.fits;
+  taken = let low = count_by-le-length (λ (e : Event). is_taken e.reply) h in let fits = old.fits in omega arith;
+  numbers = (kept_reached (config names limits) (record { history = h; remaining = kepts hs }) old.reached).numbered;
+  limits = old.limits;
+  few = old.few;
+})
+  where
+    limited : (n : ℕ) (x : Node) → slice_get nodes n ≡ Some x → x.replica.limits ≡ node_limits limits
+    limited = limited_runs (node_limits limits) (length names) (kepts hs) nodes old.is_now
+
+    clock_of : (x : Node) → x.replica.limits ≡ node_limits limits → IsNode x → own_clock x.replica ≤ limits.clock
+    clock_of x same is = subst (λ (l : NodeLimits). own_clock x.replica ≤ l.clock) same is.replica.clock

@@ -11,7 +11,7 @@ pub mod AtOnce
 pub mod Chain
 pub mod OwnChain
 pub mod OneStep
-pub mod NamesBelow
 pub mod Openings
 pub mod Keeps
 pub mod InTurn
+pub mod Gone

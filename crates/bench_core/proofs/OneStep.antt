@@ -8,6 +8,7 @@ use Rattle.node_core.specs.declared.step_fault.StepFault.{StepFault}
 use Rattle.node_core.specs.declared.step_fault.StepFault.TheVariants.{OwnMessage, OutOfMemory}
 use Rattle.node_core.specs.Operations.{Operation, Join, Leave, LeaveAll, Update, Broadcast, Extract, Deliver, Up, Down, Permdown, named_in, AreNames}
 use Rattle.node_core.specs.Nodes.{Node, deliver, take}
+use Rattle.node_core.specs.Kept.{IsNode}
 use Rattle.node_core.specs.Inverses.{plain_inverse, LeadsBack}
 use Rattle.bench_core.specs.Clusters.{Cluster, outbox_of, message_for}
 use Rattle.bench_core.specs.Benches.{IsNumbered, Steps}
@@ -55,9 +56,9 @@ module _ (c : Cluster) (n : ℕ) (s : Operation) (x y z other : Node) (m : Optio
   alike : take z s m ≡ take x s (message_for c s)
   alike = ap (λ z. take z s m) same ∙ ap (take x s) is ∙ take_alike c n s x other (own n x at)
 
-  pub one_step : {X : Type 0} (r : Result (declared.Inverse X) StepFault) → OnOk r (take z s m ≡ Ok y) → IfOk r (λ i. LeadsBack (plain_inverse i) y z) → IfErr r (λ fault. fault ≢ OutOfMemory → take z s m ≡ Err fault) → OnErr r (y ≡ z) → Steps c n s r (set (set c n other) n y)
-  one_step (Ok i) taken leads fault stays = record { earlier = x; later = y; at = at; taken = sym alike ∙ taken; leads = subst (λ z. LeadsBack (plain_inverse i) y z) same leads; gives = set-set_same c n other y }
-  one_step (Err e) taken leads fault stays = (
+  pub one_step : {X : Type 0} (r : Result (declared.Inverse X) StepFault) → OnOk r (take z s m ≡ Ok y) → IfOk r (λ i. LeadsBack (plain_inverse i) y z) → IfErr r (λ fault. fault ≢ OutOfMemory → take z s m ≡ Err fault) → OnErr r (y ≡ z) → IsNode y → Steps c n s r (set (set c n other) n y)
+  one_step (Ok i) taken leads fault stays kept = record { earlier = x; later = y; at = at; taken = sym alike ∙ taken; leads = subst (λ z. LeadsBack (plain_inverse i) y z) same leads; gives = set-set_same c n other y; kept = kept }
+  one_step (Err e) taken leads fault stays kept = (
     set-set_same c n other y ∙ ap (set c n) (stays ∙ same) ∙ set-get c n x at,
     λ some. step_takes c n s x (Err e) at named (sym alike ∙ fault some),
   )

@@ -1,15 +1,16 @@
 -- The opening cluster, and lists of calls.
-use Rattle.std.proofs.Common.{◌≡◌, ℕ, zero, suc, ◌+◌, ◌<◌, ◌≤◌, List, [], ◌∷◌, ◌++◌, length, Ok, refl, sym, ap, ◌∙◌, subst, subst₂, arith, add-zero, take, get_or}
+use Rattle.std.proofs.Common.{◌≡◌, ℕ, zero, suc, ◌+◌, ◌<◌, ◌≤◌, List, [], ◌∷◌, ◌++◌, length, slice_get, Some, Ok, refl, sym, ap, ◌∙◌, subst, subst₂, arith, add-zero, take, get_or}
 use Rattle.std.proofs.lemmas.List.{take_more}
 use Rattle.replica_core.specs.declared.node_limits.NodeLimits.{NodeLimits}
-use Rattle.node_core.specs.Nodes.{opening_node}
+use Rattle.node_core.specs.Nodes.{Node, opening_node}
+use Rattle.node_core.specs.Kept.{IsNode}
 use Rattle.bench_core.specs.declared.act.Act.{Act}
 use Rattle.bench_core.specs.Acts.{Action, plain_act, calls_of}
 use Rattle.bench_core.specs.declared.reply.Reply.{Reply}
 use Rattle.bench_core.specs.Clusters.{Cluster, opening_from, opening_of}
-use Rattle.bench_core.specs.Limits.{node_limits}
+use Rattle.bench_core.specs.Limits.{AreLimits, node_limits}
 use Rattle.bench_core.specs.Machine.{Config, Machine, AnswersAs, AllAnswered, opening_state}
-use Rattle.bench_core.specs.Benches.{IsBench}
+use Rattle.bench_core.specs.Benches.{AreNodes, IsBench}
 
 opening_from_push : (l : NodeLimits) (first count : ℕ) → opening_from l first (suc count) ≡ opening_from l first count ++ opening_node (first + count) l ∷ []
 opening_from_push l first zero = ap (λ n. opening_node n l ∷ []) (sym (add-zero first))
@@ -27,16 +28,24 @@ opening_from_length : (l : NodeLimits) (first count : ℕ) → length (opening_f
 opening_from_length l first zero = refl
 opening_from_length l first (suc count) = let e = opening_from_length l (first + 1) count in omega (arith, e)
 
-pub opens : (c : Config) (nodes : Cluster) → c.limits.acts ≤ 1000000 → c.nodes ≤ 32 → nodes ≡ opening_of (node_limits c.limits) c.nodes → IsBench c opening_state nodes [] 0
-opens c nodes bound few is = record {
+-- one node more
+pub nodes_push : (c : Cluster) (x : Node) → AreNodes c → IsNode x → AreNodes (c ++ x ∷ [])
+nodes_push [] x all is zero y at = let same : x ≡ y = cc in subst IsNode same is
+nodes_push [] x all is (suc n) y at = absurd (cc)
+nodes_push (z ∷ c) x all is zero y at = all 0 y at
+nodes_push (z ∷ c) x all is (suc n) y at = nodes_push c x (λ n y at. all (suc n) y at) is n y at
+
+pub opens : (c : Config) (nodes : Cluster) → AreLimits c.limits → c.nodes ≤ 32 → nodes ≡ opening_of (node_limits c.limits) c.nodes → AreNodes nodes → IsBench c opening_state nodes [] 0
+opens c nodes limits few is kept = record {
   reached = ([], refl);
   is_now = ap Ok (sym is);
   chain = tt;
   count = refl;
   fits = omega arith;
-  bound = bound;
+  limits = limits;
   size = ap length is ∙ opening_from_length (node_limits c.limits) 0 c.nodes;
   few = few;
+  kept = kept;
 }
 
 pub answered_push : (old mid new : Machine) (calls : List (ℕ × Action)) (rs : List Reply) (a : ℕ × Action) (r : Reply) → AllAnswered old calls rs mid → AnswersAs mid a.0 a.1 r new → AllAnswered old (calls ++ a ∷ []) (rs ++ r ∷ []) new

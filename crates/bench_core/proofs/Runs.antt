@@ -5,7 +5,7 @@ use Rattle.std.proofs.lemmas.List.Elements.{filter-append}
 use Rattle.replica_core.specs.declared.node_limits.NodeLimits.{NodeLimits}
 use Rattle.node_core.specs.Operations.{Operation, delivers, sends}
 use Rattle.payload_core.specs.Messages.{Message, numbered}
-use Rattle.node_core.specs.Nodes.{Node, opening_node}
+use Rattle.node_core.specs.Nodes.{Node, opening_node, take}
 use Rattle.bench_core.specs.declared.fault.Fault.{Fault}
 use Rattle.journal_core.specs.Journals.{Kept, sent_by, sender_of, source_at, source_of, is_number}
 use Rattle.bench_core.specs.Clusters.{Cluster, opening_from, opening_of, outbox_of, message_at, message_for, step}
@@ -13,7 +13,7 @@ use Rattle.bench_core.specs.Runs.{then_runs, runs}
 use Rattle.bench_core.specs.Benches.{IsNumbered}
 use Rattle.journal_core.proofs.Numbered.{get-append_at, numbered_append, numbered_push_other}
 use Rattle.bench_core.proofs.Clusters.{ReadAlike, get-set_same, get-set_other, mapped, ReadsAlike, message-set, step-set, Stepped, stepped}
-use Rattle.bench_core.proofs.Taken.{Posts, posts, owns}
+use Rattle.bench_core.proofs.Taken.{Posts, posts, owns, keeps_limits}
 
 pub runs_append : (r : Result Cluster Fault) (ks js : List Kept) → then_runs r (ks ++ js) ≡ then_runs (then_runs r ks) js
 runs_append (Err e) ks js = refl
@@ -202,20 +202,33 @@ message_stays_at c d ks (Some (sender, p)) m run h = go (slice_get c sender) ref
         let first : numbered x.outbox p ≡ Some m = ap (λ o. numbered (outbox_of o) p) (sym is) ∙ h in
         ap (λ o. numbered (outbox_of o) p) still.at ∙ ap (λ (xs : List Message). numbered xs p) still.grown.is ∙ numbered_append x.outbox still.grown.more p m first
 
-pub numbered_run : (c d : Cluster) (ks : List Kept) → IsNumbered c → then_runs (Ok c) ks ≡ Ok d → IsNumbered d
-numbered_run c d [] own h = subst IsNumbered (cc) own
-numbered_run c d (k ∷ ks) own h = let one = run_one c d k ks h in numbered_run one.0 d ks (step_numbered one.0 one.1) one.2
-  where
-    step_numbered : (b : Cluster) → step c k.node k.step ≡ Ok b → IsNumbered b
-    step_numbered b is n x at = go (stepped c k.node k.step b is) (cases_eq k.node n)
-      where
-        go : Stepped c k.node k.step b → (k.node ≡ n) ⊎ (k.node ≢ n) → x.replica.own ≡ n
-        go s (inl e) =
-            let there : slice_get (set c n s.to) n ≡ Some s.to = get-set_same c n s.from s.to (subst (λ m. slice_get c m ≡ Some s.from) e s.at) in
-            let here : slice_get (set c n s.to) n ≡ Some x = subst (λ m. slice_get (set c m s.to) n ≡ Some x) e (ap (λ (d : Cluster). slice_get d n) (sym s.gives) ∙ at) in
-            let same : x ≡ s.to = cc in
-            ap (λ (x : Node). x.replica.own) same ∙ owns s.from k.step (message_for c k.step) s.to s.taken ∙ own k.node s.from s.at ∙ e
-        go s (inr d) = own n x (sym (get-set_other c k.node n s.to (λ e. d (sym e))) ∙ ap (λ (d : Cluster). slice_get d n) (sym s.gives) ∙ at)
+-- what each accepted step keeps of its node holds of each node after a run
+
+abbrev Each : (ℕ → Node → Type 0) → Cluster → Type 0
+Each P c = (n : ℕ) (x : Node) → slice_get c n ≡ Some x → P n x
+
+module _ (P : ℕ → Node → Type 0) (keeps : (n : ℕ) (x : Node) (s : Operation) (m : Option Message) (y : Node) → take x s m ≡ Ok y → P n x → P n y) where
+  step_each : (c d : Cluster) (k : Kept) → Each P c → step c k.node k.step ≡ Ok d → Each P d
+  step_each c d k each is n x at = go (stepped c k.node k.step d is) (cases_eq k.node n)
+    where
+      go : Stepped c k.node k.step d → (k.node ≡ n) ⊎ (k.node ≢ n) → P n x
+      go s (inl e) =
+          let before : slice_get c n ≡ Some s.from = subst (λ m. slice_get c m ≡ Some s.from) e s.at in
+          let there : slice_get (set c n s.to) n ≡ Some s.to = get-set_same c n s.from s.to before in
+          let here : slice_get (set c n s.to) n ≡ Some x = subst (λ m. slice_get (set c m s.to) n ≡ Some x) e (ap (λ (d : Cluster). slice_get d n) (sym s.gives) ∙ at) in
+          let same : s.to ≡ x = cc in
+          subst (P n) same (keeps n s.from k.step (message_for c k.step) s.to s.taken (each n s.from before))
+      go s (inr other) = each n x (sym (get-set_other c k.node n s.to (λ e. other (sym e))) ∙ ap (λ (d : Cluster). slice_get d n) (sym s.gives) ∙ at)
+
+  run_each : (c d : Cluster) (ks : List Kept) → Each P c → then_runs (Ok c) ks ≡ Ok d → Each P d
+  run_each c d [] each h = subst (Each P) (cc) each
+  run_each c d (k ∷ ks) each h = let one = run_one c d k ks h in run_each one.0 d ks (step_each c one.0 k each one.1) one.2
 
 pub numbered_runs : (l : NodeLimits) (count : ℕ) (ks : List Kept) (c : Cluster) → runs l count ks ≡ Ok c → IsNumbered c
-numbered_runs l count ks c h = numbered_run (opening_of l count) c ks (λ n x at. ap (λ (x : Node). x.replica.own) (opening_at l count n x at)) h
+numbered_runs l count ks c h =
+    run_each (λ n (x : Node). x.replica.own ≡ n) (λ n x s m y taken own. owns x s m y taken ∙ own) (opening_of l count) c ks (λ n x at. ap (λ (x : Node). x.replica.own) (opening_at l count n x at)) h
+
+-- each node has the limits that it was opened with
+pub limited_runs : (l : NodeLimits) (count : ℕ) (ks : List Kept) (c : Cluster) → runs l count ks ≡ Ok c → (n : ℕ) (x : Node) → slice_get c n ≡ Some x → x.replica.limits ≡ l
+limited_runs l count ks c h =
+    run_each (λ n (x : Node). x.replica.limits ≡ l) (λ n x s m y taken same. keeps_limits x s m y taken ∙ same) (opening_of l count) c ks (λ n x at. ap (λ (x : Node). x.replica.limits) (opening_at l count n x at)) h

@@ -1,4 +1,4 @@
--- What an accepted step does to the outbox of its node, what it read, and that the node keeps its name. Here alone the
+-- What an accepted step does to the outbox of its node, what it read, and that the node keeps its name and limits. Here alone the
 -- steps are told apart.
 use Rattle.std.proofs.Common.{◌≡◌, ℕ, ◌==◌, Bool, true, false, if◌then◌else◌, List, [], ◌∷◌, ◌++◌, Option, Some, None, Ok, Err, refl, sym, ap, ◌∙◌, subst}
 use Rattle.std.specs.FinSet as set
@@ -11,7 +11,7 @@ use Rattle.replica_core.specs.Refusals.{join_refusal, leave_refusal, leave_all_r
 use Rattle.node_core.specs.declared.step_fault.StepFault.TheVariants.{OwnMessage, OutboxFull}
 use Rattle.node_core.specs.Operations.{Operation, Join, Leave, LeaveAll, Update, Broadcast, Extract, Deliver, Up, Down, Permdown, delivers, sends}
 use Rattle.node_core.specs.Nodes.{Node, with_replica, with_sent, is_outbox_full, unless, unless_full, broadcast, deliver, take}
-use Rattle.node_core.proofs.Changes.{through_leaves, through_drops}
+use Rattle.node_core.proofs.Changes.{Stays, through_leaves, through_drops}
 
 -- what a step does to the outbox
 abbrev pub Posts : Bool → List Message → List Message → Type 0
@@ -27,6 +27,7 @@ record Took (n : Node) (s : Operation) (m : Option Message) (y : Node) : Type 0 
   posts : Posts (sends s) n.outbox y.outbox
   was_read : WasRead (delivers s) m
   owns : y.replica.own ≡ n.replica.own
+  limits : y.replica.limits ≡ n.replica.limits
 
 unless_ok : (cause : Option ReplicaFault) (gives y : Node) → unless cause gives ≡ Ok y → y ≡ gives
 unless_ok None gives y h = cc
@@ -54,44 +55,48 @@ outbox_at y z e = ap (λ (x : Node). x.outbox) e
 own_at : (y z : Node) → y ≡ z → y.replica.own ≡ z.replica.own
 own_at y z e = ap (λ (x : Node). x.replica.own) e
 
+limits_at : (y z : Node) → y ≡ z → y.replica.limits ≡ z.replica.limits
+limits_at y z e = ap (λ (x : Node). x.replica.limits) e
+
 -- a step that changes the replica alone
 alone : (n : Node) (s : Operation) (m : Option Message) (y : Node) (cause : Option ReplicaFault) (r : Replica) →
-    sends s ≡ false → delivers s ≡ None → r.own ≡ n.replica.own → unless cause (with_replica n r) ≡ Ok y → Took n s m y
-alone n s m y cause r silent unread own h =
+    sends s ≡ false → delivers s ≡ None → Stays n.replica r → unless cause (with_replica n r) ≡ Ok y → Took n s m y
+alone n s m y cause r silent unread stays h =
     let e = unless_ok cause (with_replica n r) y h in
     record {
       posts = subst (λ b. Posts b n.outbox y.outbox) (sym silent) (outbox_at y (with_replica n r) e);
       was_read = subst (λ at. WasRead at m) (sym unread) tt;
-      owns = own_at y (with_replica n r) e ∙ own;
+      owns = own_at y (with_replica n r) e ∙ stays.own;
+      limits = limits_at y (with_replica n r) e ∙ stays.limits;
     }
 
 took : (n : Node) (s : Operation) (m : Option Message) (y : Node) → take n s m ≡ Ok y → Took n s m y
-took n (Join p) m y h = alone n (Join p) m y (join_refusal n.replica p.pid p.topic p.key) (joined p n.replica) refl refl refl h
+took n (Join p) m y h = alone n (Join p) m y (join_refusal n.replica p.pid p.topic p.key) (joined p n.replica) refl refl (record { own = refl; limits = refl }) h
 took n (Leave pid topic key) m y h =
     let dots = tracked_dots n.replica pid topic key in
-    alone n (Leave pid topic key) m y (leave_refusal n.replica pid topic key) (left_each dots n.replica) refl refl (through_leaves dots n.replica).own h
+    alone n (Leave pid topic key) m y (leave_refusal n.replica pid topic key) (left_each dots n.replica) refl refl (through_leaves dots n.replica) h
 took n (LeaveAll pid) m y h =
     let dots = dots_of_process n.replica pid in
-    alone n (LeaveAll pid) m y (leave_all_refusal n.replica pid) (left_each dots n.replica) refl refl (through_leaves dots n.replica).own h
+    alone n (LeaveAll pid) m y (leave_all_refusal n.replica pid) (left_each dots n.replica) refl refl (through_leaves dots n.replica) h
 took n (Update p) m y h =
-    let dots = tracked_dots n.replica p.pid p.topic p.key in
-    alone n (Update p) m y (leave_refusal n.replica p.pid p.topic p.key) (updated p n.replica) refl refl (through_drops dots n.replica).own h
+    let drops = through_drops (tracked_dots n.replica p.pid p.topic p.key) n.replica in
+    alone n (Update p) m y (leave_refusal n.replica p.pid p.topic p.key) (updated p n.replica) refl refl (record { own = drops.own; limits = drops.limits }) h
 took n Broadcast m y h =
     let gives = with_sent n (delta_message n.replica) (without_delta n.replica) in
     let e = broadcast_ok (has_dots n.replica.delta_seen) n y h in
-    record { posts = (delta_message n.replica, outbox_at y gives e); was_read = tt; owns = own_at y gives e }
+    record { posts = (delta_message n.replica, outbox_at y gives e); was_read = tt; owns = own_at y gives e; limits = limits_at y gives e }
 took n (Extract names) m y h =
     let message = message_of_names (set.contains names) n.replica.own n.replica.seen n.replica.entries in
     let gives = with_sent n message n.replica in
     let e = unless_full_ok n gives y h in
-    record { posts = (message, outbox_at y gives e); was_read = tt; owns = own_at y gives e }
+    record { posts = (message, outbox_at y gives e); was_read = tt; owns = own_at y gives e; limits = limits_at y gives e }
 took n (Deliver sender number) m y h =
     let d = deliver_ok (sender == n.replica.own) n m y h in
     let gives = with_replica n (merged d.0 n.replica) in
-    record { posts = outbox_at y gives d.2; was_read = (d.0, d.1); owns = own_at y gives d.2 }
-took n (Up name) m y h = alone n (Up name) m y (up_refusal n.replica name) (with_status name statuses.Up n.replica) refl refl refl h
-took n (Down name) m y h = alone n (Down name) m y (down_refusal n.replica name) (with_status name statuses.Down n.replica) refl refl refl h
-took n (Permdown name) m y h = alone n (Permdown name) m y (permdown_refusal n.replica name) (forgotten name n.replica) refl refl refl h
+    record { posts = outbox_at y gives d.2; was_read = (d.0, d.1); owns = own_at y gives d.2; limits = limits_at y gives d.2 }
+took n (Up name) m y h = alone n (Up name) m y (up_refusal n.replica name) (with_status name statuses.Up n.replica) refl refl (record { own = refl; limits = refl }) h
+took n (Down name) m y h = alone n (Down name) m y (down_refusal n.replica name) (with_status name statuses.Down n.replica) refl refl (record { own = refl; limits = refl }) h
+took n (Permdown name) m y h = alone n (Permdown name) m y (permdown_refusal n.replica name) (forgotten name n.replica) refl refl (record { own = refl; limits = refl }) h
 
 pub posts : (n : Node) (s : Operation) (m : Option Message) (y : Node) → take n s m ≡ Ok y → Posts (sends s) n.outbox y.outbox
 posts n s m y h = (took n s m y h).posts
@@ -102,3 +107,7 @@ was_read n s m y h = (took n s m y h).was_read
 -- a node keeps its name
 pub owns : (n : Node) (s : Operation) (m : Option Message) (y : Node) → take n s m ≡ Ok y → y.replica.own ≡ n.replica.own
 owns n s m y h = (took n s m y h).owns
+
+-- and its limits
+pub keeps_limits : (n : Node) (s : Operation) (m : Option Message) (y : Node) → take n s m ≡ Ok y → y.replica.limits ≡ n.replica.limits
+keeps_limits n s m y h = (took n s m y h).limits

@@ -1,18 +1,27 @@
 -- What a bench keeps, and what a step of one of its nodes and a step back are answered.
 use Rattle.std.specs.Prelude.{◌≡◌, ◌≢◌, ℕ, ◌+◌, ◌≤◌, List, length, slice_get, slice_set, Option, Some, None, Result, Ok, Err}
+use Rattle.replica_core.specs.Replicas.{own_clock}
 use Rattle.node_core.specs.declared.inverse.Inverse as declared
 use Rattle.node_core.specs.declared.step_fault.StepFault.{StepFault}
 use Rattle.node_core.specs.declared.step_fault.StepFault.TheVariants.{OutOfMemory}
 use Rattle.node_core.specs.Operations.{Operation}
 use Rattle.node_core.specs.Nodes.{Node, take}
+use Rattle.node_core.specs.Kept.{IsNode}
 use Rattle.node_core.specs.Inverses.{Inverse, plain_inverse, LeadsBack}
-use Rattle.journal_core.specs.Journals.{first_consequence}
+use Rattle.journal_core.specs.Journals.{Kept, find_number, first_consequence, AreBelow}
 use Rattle.journal_core.specs.Holdings.{Held, kepts, find_held, inverse_of, AreAllHeld}
-use Rattle.bench_core.specs.Limits.{node_limits}
+use Rattle.bench_core.specs.declared.reply.Reply.TheVariants.{Refused}
+use Rattle.bench_core.specs.declared.fault.Fault.{Fault}
+use Rattle.bench_core.specs.declared.fault.Fault.TheVariants.{HistoryFull}
+use Rattle.bench_core.specs.Limits.{AreLimits, node_limits}
 use Rattle.bench_core.specs.Chains.{Chain}
 use Rattle.bench_core.specs.Clusters.{Cluster, step, opening_of, message_for, fault_of}
-use Rattle.bench_core.specs.Machine.{Config, State, Machine, config_of, given, now}
+use Rattle.bench_core.specs.Machine.{Config, State, Machine, config_of, cluster_of, given, undo_reply, now}
 use Rattle.bench_core.specs.Headline.{IsReached}
+
+-- the nodes are such as steps make them
+abbrev pub AreNodes : Cluster → Type 0
+AreNodes c = (n : ℕ) (x : Node) → slice_get c n ≡ Some x → IsNode x
 
 -- what each bench keeps, at rest
 pub record IsBench (c : Config) (s : State) (nodes : Cluster) (hs : List Held) (taken : ℕ) : Type 0 where
@@ -25,9 +34,33 @@ pub record IsBench (c : Config) (s : State) (nodes : Cluster) (hs : List Held) (
   -- so many steps were ever taken
   pub count : taken ≡ given s.history
   pub fits : length s.history + length s.remaining ≤ c.limits.acts
-  pub bound : c.limits.acts ≤ 1000000
+  pub limits : AreLimits c.limits
   pub size : length nodes ≡ c.nodes
   pub few : c.nodes ≤ 32
+  pub kept : AreNodes nodes
+
+-- the cluster that the remaining steps give: it has a node for each name, and no own clock is above its limit
+pub record HasCluster (m : Machine) : Type 0 where
+  pub cluster : Cluster
+  pub is_now : cluster_of m ≡ Ok cluster
+  pub size : length cluster ≡ length m.names
+  pub limits : (n : ℕ) (x : Node) → slice_get cluster n ≡ Some x → x.replica.limits ≡ node_limits m.limits
+  pub clocks : (n : ℕ) (x : Node) → slice_get cluster n ≡ Some x → own_clock x.replica ≤ m.limits.clock
+
+-- what each bench keeps, as its callers see it
+pub record IsMachine (m : Machine) : Type 0 where
+  -- some calls lead to its state
+  pub reached : IsReached (config_of m) m.state
+  -- its nodes
+  pub cluster : HasCluster m
+  -- the history and the remaining steps keep within their bound, and so do the numbers that were given
+  pub fits : length m.state.history + length m.state.remaining ≤ m.limits.acts
+  pub taken : given m.state.history ≤ m.limits.acts
+  -- the remaining steps have numbers that were given
+  pub numbers : AreBelow (given m.state.history + 1) m.state.remaining
+  -- the limits are in their ranges, and the names are few
+  pub limits : AreLimits m.limits
+  pub few : length m.names ≤ 32
 
 -- each node has its place for its name
 abbrev pub IsNumbered : Cluster → Type 0
@@ -41,6 +74,7 @@ pub record IsTaken (c : Cluster) (n : ℕ) (s : Operation) (i : Inverse) (d : Cl
   pub taken : take earlier s (message_for c s) ≡ Ok later
   pub leads : LeadsBack i later earlier
   pub gives : d ≡ slice_set c n later
+  pub kept : IsNode later
 
 -- a step of node n was accepted, or refused, memory apart, for the fault of the definition, and nothing changed
 abbrev pub Steps : {X : Type 0} → Cluster → ℕ → Operation → Result (declared.Inverse X) StepFault → Cluster → Type 0
@@ -60,7 +94,17 @@ pub record IsBackable (nodes : Cluster) (hs : List Held) (n node : ℕ) : Type 0
 
 -- the node became what the inverse of step n leads back to
 abbrev pub GoesBack : Cluster → List Held → ℕ → ℕ → Cluster → Type 0
-GoesBack nodes hs n node d = (b : IsBackable nodes hs n node) → d ≡ slice_set nodes node b.earlier
+GoesBack nodes hs n node d = (b : IsBackable nodes hs n node) → (d ≡ slice_set nodes node b.earlier) × IsNode b.earlier
+
+-- step n remains, and is of this node
+abbrev pub IsStepOf : State → ℕ → ℕ → Type 0
+IsStepOf s n node = (k : Kept) × (find_number s.remaining n ≡ Some k) × (k.node ≡ node)
+
+-- step n doesn't remain, and its undo is refused so
+pub record IsGone (s : State) (n : ℕ) (fault : Fault) : Type 0 where
+  pub gone : find_number s.remaining n ≡ None
+  pub refused : undo_reply s n ≡ Refused fault
+  pub other : fault ≢ HistoryFull
 
 -- the node of this number, where there is one, in what the remaining steps give
 abbrev pub IsNodeOf : Machine → ℕ → Option Node → Type 0

@@ -5,7 +5,7 @@ use Rattle.node_core.specs.Nodes.{Node, opening_node, take}
 use Rattle.node_core.specs.Inverses.{Inverse, LeadsBack}
 use Rattle.journal_core.specs.Holdings.{Held}
 use Rattle.bench_core.specs.declared.fault.Fault.{Fault}
-use Rattle.bench_core.specs.Clusters.{Cluster, message_for, step}
+use Rattle.bench_core.specs.Clusters.{Cluster, opening_of, message_for, step}
 
 -- the inverse kept beside a step leads from its node just after it back to its node just before it
 pub record Link (c : Cluster) (h : Held) : Type 0 where
@@ -23,16 +23,22 @@ Chain (Err e) hs = Unit {0}
 Chain (Ok c) [] = Unit {0}
 Chain (Ok c) (h ∷ hs) = Link c h × Chain (step c h.kept.node h.kept.step) hs
 
--- node n's steps, newest first
-abbrev pub own_back : List Held → ℕ → List Held
-own_back [] n = []
-own_back (h ∷ hs) n = if h.kept.node == n then own_back hs n ++ h ∷ [] else own_back hs n
+-- a step of a run, and the cluster just before it
+pub record Passed : Type 0 where
+  pub before : Cluster
+  pub held : Held
 
--- the inverses lead, one after the other, from b back to a
-abbrev pub LeadBack : Node → List Held → Node → Type 0
-LeadBack b [] a = b ≡ a
-LeadBack b (h ∷ hs) a = (i : Inverse) × (mid : Node) × (h.inverse ≡ Some i) × LeadsBack i b mid × LeadBack mid hs a
+-- node n's steps, newest first, as the run of the steps passes them
+abbrev pub own_back : Result Cluster Fault → List Held → ℕ → List Passed
+own_back (Err e) hs n = []
+own_back (Ok c) [] n = []
+own_back (Ok c) (h ∷ hs) n = if h.kept.node == n then own_back (step c h.kept.node h.kept.step) hs n ++ record { before = c; held = h } ∷ [] else own_back (step c h.kept.node h.kept.step) hs n
 
--- from each present node, its own inverses lead back to its opening
-abbrev pub OwnChains : NodeLimits → Cluster → List Held → Type 0
-OwnChains l c hs = (n : ℕ) (x : Node) → slice_get c n ≡ Some x → LeadBack x (own_back hs n) (opening_node n l)
+-- the inverses lead, one after the other, from b back to a, each to what node n was just before its step
+abbrev pub LeadBack : ℕ → Node → List Passed → Node → Type 0
+LeadBack n b [] a = b ≡ a
+LeadBack n b (p ∷ ps) a = (i : Inverse) × (mid : Node) × (p.held.inverse ≡ Some i) × LeadsBack i b mid × (slice_get p.before n ≡ Some mid) × LeadBack n mid ps a
+
+-- from each present node, its own inverses lead back to its opening, through what it was in the run of the steps
+abbrev pub OwnChains : NodeLimits → ℕ → Cluster → List Held → Type 0
+OwnChains l count c hs = (n : ℕ) (x : Node) → slice_get c n ≡ Some x → LeadBack n x (own_back (Ok (opening_of l count)) hs n) (opening_node n l)

@@ -46,6 +46,6 @@ MiddleLaw = (l : NodeLimits) (count n : ℕ) (ks : List Kept) (k : Kept) (c : Cl
     RisesAbove 0 ks → runs l count ks ≡ Ok c → find_number ks n ≡ Some k → first_consequence ks n ≡ None →
     (old : Cluster) × (runs l count (before ks n) ≡ Ok old) × (runs l count (without ks n) ≡ Ok (put_back k.node old c))
 
--- inverses that lead back along the run lead, for each node and newest first, from its present state back to its opening
+-- inverses that lead back along the run lead, for each node and newest first, from its present state through those that it had in the run back to its opening
 abbrev pub ChainLaw : Type 0
-ChainLaw = (l : NodeLimits) (count : ℕ) (hs : List Held) (c : Cluster) → Chain (Ok (opening_of l count)) hs → runs l count (kepts hs) ≡ Ok c → OwnChains l c hs
+ChainLaw = (l : NodeLimits) (count : ℕ) (hs : List Held) (c : Cluster) → Chain (Ok (opening_of l count)) hs → runs l count (kepts hs) ≡ Ok c → OwnChains l count c hs

@@ -157,10 +157,10 @@ opening_machine names limits = record { names = names; limits = limits; state = 
 abbrev pub cluster_of : Machine → Result Cluster Fault
 cluster_of m = now (config_of m) m.state
 
--- a call is answered as the machine answers it; or memory was refused, and nothing changed
+-- a call is answered as the machine answers it; or memory was refused, where that answer would be recorded, and nothing changed
 pub data AnswersAs (old : Machine) (actor : ℕ) (act : Action) (reply : Reply) (new : Machine) : Type 0 where
   Answered : reply ≡ reply_to (config_of old) old.state actor act → new ≡ with_state old (after (config_of old) old.state actor act reply) → AnswersAs old actor act reply new
-  Unmade : reply ≡ Refused OutOfMemory → new ≡ old → AnswersAs old actor act reply new
+  Unmade : is_recorded (config_of old) old.state (reply_to (config_of old) old.state actor act) ≡ true → reply ≡ Refused OutOfMemory → new ≡ old → AnswersAs old actor act reply new
 
 -- one reply for each call, in order, each as a call is answered
 abbrev pub AllAnswered : Machine → List (ℕ × Action) → List Reply → Machine → Type 0

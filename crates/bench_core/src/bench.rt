@@ -1,18 +1,19 @@
 //! `Bench`: the machine over its nodes, its journal and its history.
-ghost use Rattle.std.specs.Prelude.{◌≡◌, ◌≢◌, ◌<◌, ◌≤◌, ◌+◌, IfErr, IfOk, OnOk, OnErr, IsTrue, length, take, true, nat_lt, slice_get, option_copied, option_map};
+ghost use Rattle.std.specs.Prelude.{◌≡◌, ◌≢◌, ◌↔◌, ◌<◌, ◌≤◌, ◌+◌, Ok, IfErr, IfOk, IsSome, OnOk, OnErr, length, take, true, nat_lt, option_map};
 ghost use Rattle.std.specs.List.{list_all};
-ghost use Rattle.std.specs.FinSet as set;
 ghost use Rattle.replica_core.specs.Limits.{AreNodeLimits};
 ghost use Rattle.node_core.specs.Operations.{named_in, plain};
 ghost use Rattle.journal_core.specs.Holdings.{without_held, kepts};
 ghost use Rattle.bench_core.specs.declared.fault.Fault.TheVariants.{HistoryFull};
 ghost use Rattle.bench_core.specs.declared.reply.Reply.TheVariants.{Refused};
 ghost use Rattle.bench_core.specs.Acts.{plain_act, calls_of, Do, Back};
+ghost use Rattle.bench_core.specs.Limits.{node_limits};
 ghost use Rattle.bench_core.specs.Clusters.{opening_of, message_for};
-ghost use Rattle.bench_core.specs.Machine.{config_of, given, free_places, knows, reply_to, undo_reply, opening_machine, AnswersAs, AllAnswered};
-ghost use Rattle.bench_core.specs.Headline.{IsReached, CanBeTakenBack, RefusedOnlyForConsequence};
+ghost use Rattle.bench_core.specs.Chains.{Chain};
+ghost use Rattle.bench_core.specs.Machine.{config_of, free_places, knows, reply_to, undo_reply, opening_machine, AnswersAs, AllAnswered};
+ghost use Rattle.bench_core.specs.Headline.{CanBeTakenBack, RefusedOnlyForConsequence};
 ghost use Rattle.bench_core.specs.Unwinds.{AreUndone, CanBeUndone, Explains, IsUnwound, Unexplained, undone_by};
-ghost use Rattle.bench_core.specs.Benches.{GoesBack, IsBackable, IsNodeOf, IsNumbered, Steps};
+ghost use Rattle.bench_core.specs.Benches.{AreNodes, GoesBack, IsBackable, IsGone, IsMachine, IsNodeOf, IsNumbered, IsStepOf, Steps};
 
 use crate::act::Act;
 use crate::fault::Fault;
@@ -21,7 +22,6 @@ use crate::limits::Limits;
 use crate::names::Names;
 use crate::reply::Reply;
 use crate::unwound::Unwound;
-use dots_core::NameSet;
 use journal_core::Journal;
 use journal_core::laws::loan_law;
 use node_core::{Inverse, Meter, Node, NodeLimits, Oom, Step, StepFault};
@@ -29,18 +29,6 @@ use payload_core::Payload;
 use std::alloc::Allocator;
 use std::marker::Model;
 use std::mem;
-
-/// Whether each of these names is one of the first `count` numbers.
-fn are_below(names: NameSet, count: u16) -> bool
-    requires { count ≤ 32 }
-    ensures { result ≡ list_all (λ name. nat_lt name count) (set.items names) }
-{
-    let mut others = names;
-    for name in 0..count {
-        others = others.without(name);
-    }
-    others.same(NameSet::empty())
-}
 
 /// The message that a step delivers.
 fn message<'x, 'a, B: Allocator>(
@@ -79,6 +67,7 @@ fn step_node<'a, B: Allocator>(
     let place = &mut nodes[actor as usize];
     let mut receiver = mem::replace(place, other);
     let result = receiver.take(step, message(nodes.as_slice(), step), meter);
+    receiver.node_law();
     nodes[actor as usize] = receiver;
     result
 }
@@ -103,6 +92,7 @@ fn take_back<'a, B: Allocator>(
         journal.put_back(number, inverse);
         return Err(Oom);
     }
+    place.node_law();
     journal.take_out(number);
     Ok(())
 }
@@ -176,15 +166,24 @@ impl<'a, B: Allocator> Bench<'a, B> {
     pub fn remaining(&self) -> &Journal<'a, B>
         ensures steps { kepts result.now.steps ≡ self.now.state.remaining }
         ensures nodes { result.now.nodes ≡ length self.now.names }
+        ensures inverses { Chain (Ok (opening_of (node_limits self.now.limits) (length self.now.names))) result.now.steps }
     {
         &self.journal
     }
 
     /// The node of this number, as the remaining steps give it from empty nodes.
     pub fn node(&self, number: u16) -> Option<&Node<'a, B>>
-        ensures { IsNodeOf self.now number (option_map (λ n. n.now) result) }
+        ensures value { IsNodeOf self.now number (option_map (λ n. n.now) result) }
+        ensures each { IsSome result ↔ (number < length self.now.names) }
     {
         self.nodes.get(number as usize)
+    }
+
+    /// Does nothing. Its contract says what each bench keeps, besides what `remaining` says of the inverses.
+    pub fn bench_law(&self)
+        ensures { IsMachine self.now }
+    {
+        let _ = &self.journal;
     }
 
     /// How many more calls and steps there is room for.
@@ -199,23 +198,21 @@ impl<'a, B: Allocator> Bench<'a, B> {
         ensures { result ≡ knows (config_of self.now) actor (plain step.now) }
     {
         let count = self.names.len() as u16;
-        let are_known = match step {
-            Step::Join { .. } | Step::Leave { .. } | Step::LeaveAll { .. } => true,
-            Step::Update { .. } | Step::Broadcast => true,
-            Step::Extract { names } => are_below(*names, count),
-            Step::Deliver { sender, .. } => *sender < count,
-            Step::Up { name } | Step::Down { name } | Step::Permdown { name } => *name < count,
-        };
-        actor < count && are_known
+        actor < count && step.names_below(count)
     }
 
-    /// How many steps were ever taken.
-    fn given(&self) -> u64
-        ensures given { result ≡ given self.now.state.history }
-        ensures few { result ≤ 1000000 }
-        ensures reached { IsReached (config_of self.now) self.now.state }
+    /// The node of a step that remains, or why its undo is refused.
+    fn node_of(&self, number: u64) -> Result<u16, Fault>
+        ensures remains { IfOk result (λ node. IsStepOf self.now.state number node) }
+        ensures gone { IfErr result (λ fault. IsGone self.now.state number fault) }
     {
-        self.meter.count()
+        if number == 0 || number > self.meter.count() {
+            return Err(Fault::NoSuchStep);
+        }
+        match self.journal.find(number) {
+            Some(kept) => Ok(kept.node),
+            None => Err(Fault::AlreadyUndone),
+        }
     }
 
     /// A refusal, recorded while a place is free.
@@ -275,17 +272,15 @@ impl<'a, B: Allocator> Bench<'a, B> {
         }
     }
 
-    /// `act` comes to the undo of a step that was given.
+    /// `act` comes to the undo of this step.
     fn undo(&mut self, actor: u16, act: &Act<&'a B>, number: u64) -> Reply
-        requires comes { reply_to (config_of self.old) self.old.state actor (plain_act act.now) ≡ undo_reply self.old.state number }
-        requires some { 0 < number }
-        requires given { number ≤ given self.old.state.history }
+        requires { reply_to (config_of self.old) self.old.state actor (plain_act act.now) ≡ undo_reply self.old.state number }
         ensures { AnswersAs self.old actor (plain_act act.now) result self.new }
     {
-        let Some(kept) = self.journal.find(number) else {
-            return self.refuse(actor, act, Fault::AlreadyUndone);
+        let node = match self.node_of(number) {
+            Ok(node) => node,
+            Err(fault) => return self.refuse(actor, act, fault),
         };
-        let node = kept.node;
         if let Some(held_by) = self.journal.first_consequence(number) {
             let fault = Fault::HasConsequence {
                 step: number,
@@ -324,15 +319,10 @@ impl<'a, B: Allocator> Bench<'a, B> {
         ensures taken_back_at_once { CanBeTakenBack self.old result self.new }
         ensures refused_only_for_a_named_consequence { RefusedOnlyForConsequence self.old (plain_act act.now) result self.new }
     {
-        let given = self.given();
+        self.bench_law();
         match act {
             Act::Do(step) => self.take(actor, act, step),
-            Act::Undo(number) => {
-                if *number == 0 || *number > given {
-                    return self.refuse(actor, act, Fault::NoSuchStep);
-                }
-                self.undo(actor, act, *number)
-            }
+            Act::Undo(number) => self.undo(actor, act, *number),
             Act::Back(node) => self.back(actor, act, *node),
         }
     }
@@ -358,13 +348,8 @@ impl<'a, B: Allocator> Bench<'a, B> {
         ensures refused { IfErr result (λ fault. Unexplained self.now.state number fault) }
         ensures can_be_undone { IfOk result (λ numbers. CanBeUndone self.now numbers.items) }
     {
-        let given = self.given();
-        if number == 0 || number > given {
-            return Err(Fault::NoSuchStep);
-        }
-        let Some(_) = self.journal.find(number) else {
-            return Err(Fault::AlreadyUndone);
-        };
+        self.bench_law();
+        self.node_of(number)?;
         let Ok(numbers) = self.journal.future(number) else {
             return Err(Fault::OutOfMemory);
         };
@@ -417,11 +402,14 @@ fn open_nodes<'a, B: Allocator>(
 ) -> Result<Vec<Node<'a, B>, &'a B>, Oom>
     requires few { count ≤ 32 }
     requires limits { AreNodeLimits limits }
-    ensures { IfOk result (λ nodes. nodes.items ≡ opening_of limits count) }
+    ensures opening { IfOk result (λ nodes. nodes.items ≡ opening_of limits count) }
+    ensures kept { IfOk result (λ nodes. AreNodes nodes.items) }
 {
     let mut nodes = Vec::with_capacity(alloc, count)?;
     for number in 0..count as u16 {
-        nodes.push(Node::new(alloc, number, limits))?;
+        let node = Node::new(alloc, number, limits);
+        node.node_law();
+        nodes.push(node)?;
     }
     Ok(nodes)
 }

@@ -29,7 +29,7 @@ replies-AllAnswered old (a ∷ asked) (r ∷ rs) new answers made =
         let there : replies_of (config_of answers.0) answers.0.state asked ≡ replies_of c (after c old.state a.0 a.1 r) asked = ap (λ (m : Machine). replies_of (config_of m) m.state asked) done in
         let next : replies_of c (after c old.state a.0 a.1 r) asked ≡ replies_of c (call c old.state a.0 a.1) asked = ap (λ reply. replies_of c (after c old.state a.0 a.1 reply) asked) said in
         ap (λ reply. reply ∷ rs) said ∙ ap (λ replies. reply_to c old.state a.0 a.1 ∷ replies) (rest ∙ there ∙ next)
-    by (Unmade said kept) rest made = absurd (true≢false (sym (ap is_unmade said) ∙ made))
+    by (Unmade recorded said kept) rest made = absurd (true≢false (sym (ap is_unmade said) ∙ made))
 
 -- and their lines are the report
 pub report-AllAnswered : (limits : Limits) (script : Script) (bench new : Machine) (asked : List (ℕ × Action)) (replies : List Reply) → bench ≡ opening_machine script.names limits → asked ≡ script.calls

@@ -13,4 +13,4 @@ returns-clause-steps g c =
     let at = get_at nodes c.args.actor c.index_mut-place.result.now c.requires.there c.index_mut-place.ensures.value in
     one_step nodes c.args.actor (plain c.args.step.now) c.index_mut-place.result.now c.take-result.new.self c.replace-receiver.result c.replace-receiver.new.dest (option_map (λ m. m.now) c.message.result) c.requires.numbered at c.requires.named
     (c.message.ensures ∙ ap (λ (d : Cluster). message_for d (plain c.args.step.now)) c.as_slice.ensures.value) c.replace-receiver.ensures.value c.take-result.result
-    c.take-result.ensures.taken c.take-result.ensures.leads_back c.take-result.ensures.fault c.take-result.ensures.err
+    c.take-result.ensures.taken c.take-result.ensures.leads_back c.take-result.ensures.fault c.take-result.ensures.err c.node_law.ensures

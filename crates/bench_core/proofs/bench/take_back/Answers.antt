@@ -1,4 +1,5 @@
 use Rattle.std.proofs.Common.{◌≡◌, ◌∙◌, sym, ap, subst, Some, None, set, option_map, arith}
+use Rattle.node_core.specs.Kept.{IsNode}
 use Rattle.node_core.specs.Inverses.{plain_inverse, LeadsSomewhere}
 use Rattle.journal_core.specs.Journals.{first_consequence}
 use Rattle.journal_core.specs.Holdings.{Journal, find_held, inverse_of, kepts, with_inverse, without_held, IsLent}
@@ -43,7 +44,8 @@ returns-in-Err-clause-err_journal g c =
 pub returns-clause-node : goal.returns-clause-node
 returns-clause-node g c = λ b.
     let lent : inverse_of (find_held c.args.journal.now.steps c.args.number) ≡ Some (plain_inverse c.unwrap-inverse.result) = sym c.lend.ensures.value ∙ ap (option_map plain_inverse) c.unwrap-inverse.ensures in
-    ap (set c.args.nodes.now.items c.args.node) (c.in_default.ensures.ok b.earlier (found_at c.args.nodes.now.items c.args.journal.now.steps c.args.number c.args.node (plain_inverse c.unwrap-inverse.result) c.index_mut-place.result.now b lent c.index_mut-place.ensures.value))
+    let back : c.give_back.new.self ≡ b.earlier = c.in_default.ensures.ok b.earlier (found_at c.args.nodes.now.items c.args.journal.now.steps c.args.number c.args.node (plain_inverse c.unwrap-inverse.result) c.index_mut-place.result.now b lent c.index_mut-place.ensures.value) in
+    (ap (set c.args.nodes.now.items c.args.node) back, subst IsNode back c.node_law.ensures)
 
 pub returns-clause-journal : goal.returns-clause-journal
 returns-clause-journal g c =

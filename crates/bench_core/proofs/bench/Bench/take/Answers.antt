@@ -1,4 +1,4 @@
-use Rattle.std.proofs.Common.{◌≡◌, ◌≢◌, ◌≤◌, ◌++◌, ◌∷◌, [], ◌∙◌, ap, true, None, arith, rules}
+use Rattle.std.proofs.Common.{◌≡◌, ◌≢◌, ◌≤◌, ◌++◌, ◌∷◌, [], ◌∙◌, ap, true, arith, rules}
 use Rattle.node_core.specs.declared.step_fault.StepFault.TheVariants as step_faults
 use Rattle.node_core.specs.Operations.{plain}
 use Rattle.node_core.specs.Inverses.{plain_inverse}
@@ -7,7 +7,7 @@ use Rattle.bench_core.specs.declared.reply.Reply.TheVariants.{Taken, Refused}
 use Rattle.bench_core.specs.Acts.{plain_act}
 use Rattle.bench_core.specs.Histories.{History}
 use Rattle.bench_core.specs.Machine.{config_of, free_places, knows}
-use Rattle.bench_core.proofs.Keeps.{noted, added, can_step, can_keep, taken_asked, refused_asked}
+use Rattle.bench_core.proofs.Keeps.{noted, added, can_step, can_keep, taken_asked, refused_asked, unmade_step}
 use Rattle.bench_core.proofs.bench.Bench.take.Goals as goal
 
 pub step_node-requires : goal.step_node-requires
@@ -49,7 +49,7 @@ pub invariant_of-self-in-Ok-step_node : goal.invariant_of-self-in-Ok-step_node
 invariant_of-self-in-Ok-step_node g c =
     let is : knows (config_of c.args.self.now) c.args.actor (plain c.args.step.now) ≡ true = search rules in
     let room : 2 ≤ free_places (config_of c.args.self.now) c.args.self.now.state = omega arith in
-    let grown : c.keep.new.self ≡ record { nodes = c.make_room-2.new.self.nodes; steps = c.make_room-2.new.self.steps ++ added c.count-number.result c.args.actor (plain c.in-Ok.step) (plain_inverse c.in-Ok-step_node.inverse) ∷ []; room = None } = search rules in (
+    let grown : c.keep.new.self ≡ record { nodes = c.make_room-2.new.self.nodes; steps = c.make_room-2.new.self.steps ++ added c.count-number.result c.args.actor (plain c.in-Ok.step) (plain_inverse c.in-Ok-step_node.inverse) ∷ []; room = [] } = search rules in (
       (taken_asked c.self.inside.names c.self.inside.limits c.self.inside.history.events c.record-in-Ok-step_node.new.self.events c.self.inside.nodes.items c.step_node.new.nodes.items c.self.inside.journal.steps c.make_room-2.new.self.steps c.keep.new.self.steps c.self.inside.meter.count c.step_node.new.meter.count c.count-number.result c.args.actor (plain c.args.step.now) (plain c.in-Ok.step) (plain_act c.args.act.now) (plain_inverse c.in-Ok-step_node.inverse) c.args.self.now c.self.view_is
           c.in-Ok-step_node.ensures.ticks c.count-number.ensures
           (noted c.args.actor (plain_act c.args.act.now) (plain_act c.in-Ok-make_room.act) (Taken c.count-number.result) c.self.inside.history.events c.make_room.new.self.events c.record-in-Ok-step_node.new.self.events (ap (λ (h : History). h.events) c.record-in-Ok-step_node.ensures) c.make_room.ensures.events c.in-Ok-make_room.ensures.copy)
@@ -61,7 +61,7 @@ pub returns-in-Ok-step_node : goal.returns-in-Ok-step_node
 returns-in-Ok-step_node g c =
     let is : knows (config_of c.args.self.now) c.args.actor (plain c.args.step.now) ≡ true = search rules in
     let room : 2 ≤ free_places (config_of c.args.self.now) c.args.self.now.state = omega arith in
-    let grown : c.keep.new.self ≡ record { nodes = c.make_room-2.new.self.nodes; steps = c.make_room-2.new.self.steps ++ added c.count-number.result c.args.actor (plain c.in-Ok.step) (plain_inverse c.in-Ok-step_node.inverse) ∷ []; room = None } = search rules in
+    let grown : c.keep.new.self ≡ record { nodes = c.make_room-2.new.self.nodes; steps = c.make_room-2.new.self.steps ++ added c.count-number.result c.args.actor (plain c.in-Ok.step) (plain_inverse c.in-Ok-step_node.inverse) ∷ []; room = [] } = search rules in
     (taken_asked c.self.inside.names c.self.inside.limits c.self.inside.history.events c.record-in-Ok-step_node.new.self.events c.self.inside.nodes.items c.step_node.new.nodes.items c.self.inside.journal.steps c.make_room-2.new.self.steps c.keep.new.self.steps c.self.inside.meter.count c.step_node.new.meter.count c.count-number.result c.args.actor (plain c.args.step.now) (plain c.in-Ok.step) (plain_act c.args.act.now) (plain_inverse c.in-Ok-step_node.inverse) c.args.self.now c.self.view_is
     c.in-Ok-step_node.ensures.ticks c.count-number.ensures
     (noted c.args.actor (plain_act c.args.act.now) (plain_act c.in-Ok-make_room.act) (Taken c.count-number.result) c.self.inside.history.events c.make_room.new.self.events c.record-in-Ok-step_node.new.self.events (ap (λ (h : History). h.events) c.record-in-Ok-step_node.ensures) c.make_room.ensures.events c.in-Ok-make_room.ensures.copy)
