@@ -373,6 +373,14 @@ pub unmade_undo : (actor n : ℕ) (act : Action) (k : Kept) (m new : Machine) �
 unmade_undo actor n act k m new reached comes found free same =
     Unmade (ap (is_recorded (config_of m) m.state) (comes ∙ undo_answers (config_of m) m.state n k None reached found free)) refl same
 
+-- where nothing was undone, a bench keeps what it kept
+pub same_bench : (names : Texts) (limits : Limits) (h mid : List Event) (nodes d : Cluster) (j next : Journal) (taken : ℕ) → mid ≡ h → d ≡ nodes → next ≡ j →
+    IsBench (config names limits) (record { history = h; remaining = kepts j.steps }) nodes j.steps taken × (j.nodes ≡ length names) →
+    IsBench (config names limits) (record { history = mid; remaining = kepts next.steps }) d next.steps taken × (next.nodes ≡ length names)
+same_bench names limits h mid nodes d j next taken longer stays same old =
+    subst (λ (j : Journal). IsBench (config names limits) (record { history = mid; remaining = kepts j.steps }) d j.steps taken × (j.nodes ≡ length names)) (sym same)
+    (subst₂ (λ (h : List Event) (d : Cluster). IsBench (config names limits) (record { history = h; remaining = kepts j.steps }) d j.steps taken × (j.nodes ≡ length names)) (sym longer) (sym stays) old)
+
 -- a step that was taken back, as the code comes to it
 pub undone : (names : Texts) (limits : Limits) (h later : List Event) (nodes d : Cluster) (hs next : List Held) (taken actor n node : ℕ) (act : Action) (k : Kept) (m : Machine) → machine names limits h (kepts hs) ≡ m →
     later ≡ note actor act (Undone n) h → next ≡ without_held hs n →

@@ -1,13 +1,15 @@
-use Rattle.std.proofs.Common.{◌≡◌, ◌≢◌, ◌≤◌, ◌++◌, ◌∷◌, [], ◌∙◌, ap, true, arith, rules}
+use Rattle.std.proofs.Common.{◌≡◌, ◌≢◌, ◌≤◌, ◌++◌, ◌∷◌, [], ◌∙◌, List, sym, ap, subst, true, arith, rules}
+use Rattle.std.specs.List.{Contains}
+use Rattle.std.proofs.lemmas.List.Elements.{Contains-push}
 use Rattle.node_core.specs.declared.step_fault.StepFault.TheVariants as step_faults
 use Rattle.node_core.specs.Operations.{plain}
 use Rattle.node_core.specs.Inverses.{plain_inverse}
-use Rattle.journal_core.specs.Holdings.{Journal}
+use Rattle.journal_core.specs.Holdings.{Journal, Room, room_for}
 use Rattle.bench_core.specs.declared.reply.Reply.TheVariants.{Taken, Refused}
 use Rattle.bench_core.specs.Acts.{plain_act}
 use Rattle.bench_core.specs.Histories.{History}
 use Rattle.bench_core.specs.Machine.{config_of, free_places, knows}
-use Rattle.bench_core.proofs.Keeps.{noted, added, can_step, can_keep, taken_asked, refused_asked, unmade_step}
+use Rattle.bench_core.proofs.Keeps.{noted, added, can_step, can_keep, taken_asked, refused_asked}
 use Rattle.bench_core.proofs.bench.Bench.take.Goals as goal
 
 pub step_node-requires : goal.step_node-requires
@@ -66,3 +68,8 @@ returns-in-Ok-step_node g c =
     c.in-Ok-step_node.ensures.ticks c.count-number.ensures
     (noted c.args.actor (plain_act c.args.act.now) (plain_act c.in-Ok-make_room.act) (Taken c.count-number.result) c.self.inside.history.events c.make_room.new.self.events c.record-in-Ok-step_node.new.self.events (ap (λ (h : History). h.events) c.record-in-Ok-step_node.ensures) c.make_room.ensures.events c.in-Ok-make_room.ensures.copy)
     c.make_room-2.ensures.steps (ap (λ (j : Journal). j.steps) grown) c.in-Ok.ensures c.requires c.self.invariant.0 is room c.in-Ok-step_node.ensures.steps).answers
+
+pub unwrap-requires : goal.unwrap-requires
+unwrap-requires g c =
+    let made : c.make_room-2.new.self.room ≡ c.self.inside.journal.room ++ room_for c.args.actor (plain c.in-Ok.step) ∷ [] = search rules in
+    c.keep.ensures.succeeds (subst (λ (l : List Room). Contains l (room_for c.args.actor (plain c.in-Ok.step))) (sym made) (Contains-push c.self.inside.journal.room (room_for c.args.actor (plain c.in-Ok.step))))

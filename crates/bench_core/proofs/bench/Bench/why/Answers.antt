@@ -1,4 +1,5 @@
-use Rattle.std.proofs.Common.{subst}
+use Rattle.std.proofs.Common.{◌≡◌, subst}
+use Rattle.std.proofs.lemmas.Result.{err_from_is_err_and}
 use Rattle.journal_core.specs.Futures.{IsFuture}
 use Rattle.bench_core.specs.Machine.{Machine, config_of}
 use Rattle.bench_core.specs.Unwinds.{Gone, Unmade}
@@ -6,7 +7,11 @@ use Rattle.bench_core.proofs.InTurn.{future_undone}
 use Rattle.bench_core.proofs.bench.Bench.why.Goals as goal
 
 pub returns-in_err-node_of-clause-refused : goal.returns-in_err-node_of-clause-refused
-returns-in_err-node_of-clause-refused g c = ?
+returns-in_err-node_of-clause-refused g c =
+    let p = err_from_is_err_and c.from_residual.result c.from_residual.ensures.1 in
+    let gone = c.in_err-node_of.ensures.gone in
+    let same : p.0 ≡ c.in_err-node_of.field-0.0 = cc (p.1, p.2) in
+    rw (p.1, same) (Gone c.in_err-node_of.field-0.0 gone.gone gone.refused)
 
 pub returns-in_default-clause-refused : goal.returns-in_default-clause-refused
 returns-in_default-clause-refused g c = let step = c.in_ok-node_of.ensures.remains in Unmade step.0 step.1
