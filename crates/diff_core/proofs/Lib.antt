@@ -1,3 +1,4 @@
 pub mod Order
 pub mod Alone
 pub mod Listed
+pub mod Sorting

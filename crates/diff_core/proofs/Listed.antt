@@ -31,10 +31,10 @@ row_collected test ps i e row rows after at passes so_far is same =
     is ∙ ap (λ rs. rs ++ row ∷ []) so_far ∙ ap (λ r. map row_of (filter test (take i ps)) ++ r ∷ []) same ∙ sym (map-append row_of (filter test (take i ps)) (pair_of e ∷ [])) ∙ ap (map row_of) (sym (passed test ps i e at passes))
 
 -- how often a row stands in a list, and a dot among the keys of one
-abbrev one : Bool → ℕ
+abbrev pub one : Bool → ℕ
 one b = cond b 1 0
 
-abbrev times : Row → List Row → ℕ
+abbrev pub times : Row → List Row → ℕ
 times x rows = sum_by (λ r. one (is_row x r)) rows
 
 abbrev times_at : Dot → List (Dot × Presence) → ℕ
@@ -91,7 +91,7 @@ once_at d (e ∷ es) sorted = go (once_at d es (and_yes (below_all dot_cmp e.0 e
         omega (arith, dots, here, rest)
 
 -- no row is shown twice
-once_shown : (r : Replica) (x : Row) → times x (shown r) ≤ 1
+pub once_shown : (r : Replica) (x : Row) → times x (shown r) ≤ 1
 once_shown r x =
     let rows = row_le (is_shown r) x (fin.entries r.entries) in
     let dots = once_at (dot_of x) (fin.entries r.entries) (fin.entries_sorted r.entries) in
@@ -135,7 +135,7 @@ listed r collected sorted all moved in_order =
       in_order = rises sorted (λ x. subst (λ n. n ≤ 1) (sym (sum_by-IsPermutation (λ y. one (is_row x y)) (shown r) sorted perm)) (once_shown r x)) (λ i j d below within. sorted_far _ (ranks_by row_total (λ a. a)) sorted in_order i j d (omega arith) within);
     }
 
-none_times : (x : Row) (rs : List Row) → AllByRecursion (λ r. row_cmp x r ≡ Less) rs → times x rs ≡ 0
+pub none_times : (x : Row) (rs : List Row) → AllByRecursion (λ r. row_cmp x r ≡ Less) rs → times x rs ≡ 0
 none_times x [] all = refl
 none_times x (r ∷ rs) all = let rows = sum_by-cons (λ y. one (is_row x y)) r rs in let here = ap (λ o. one (is_eq o)) all.0 in let rest = none_times x rs all.1 in omega (arith, rows, here, rest)
 
@@ -148,7 +148,7 @@ first_missing x y xs ys below all same =
     omega (arith, one_side, here, none, same)
 
 -- rows in order are given by how often each row stands among them
-same_rows : (xs ys : List Row) → AreInOrder xs → AreInOrder ys → ((x : Row) → times x xs ≡ times x ys) → xs ≡ ys
+pub same_rows : (xs ys : List Row) → AreInOrder xs → AreInOrder ys → ((x : Row) → times x xs ≡ times x ys) → xs ≡ ys
 unfolding IsStrictlySortedBy
 same_rows [] [] up also same = refl
 same_rows [] (y ∷ ys) up also same = let all = sum_by-cons (λ r. one (is_row y r)) y ys in let here = ap one (is_row-itself y) in let none = same y in absurd (omega (arith, all, here, none))

@@ -1,9 +1,10 @@
 -- Laws of online lists and their differences.
-use Rattle.std.specs.Prelude.{◌≡◌, List, []}
+use Rattle.std.specs.Prelude.{◌≡◌, ◌↔◌, List, []}
 use Rattle.replica_core.specs.Replicas.{Replica}
 use Rattle.diff_core.specs.Rows.{Row}
 use Rattle.diff_core.specs.Online.{IsOnlineList, AreInOrder}
 use Rattle.diff_core.specs.Diffs.{alone}
+use Rattle.diff_core.specs.Sorting.{online_of}
 
 -- two replicas with the same entries and statuses have the same list
 abbrev pub OneListLaw : Type 0
@@ -13,3 +14,7 @@ OneListLaw = (r s : Replica) (xs ys : List Row) → r.entries ≡ s.entries → 
 pub record DiffLaw : Type 0 where
   pub itself : (rows : List Row) → alone rows rows ≡ []
   pub in_order : (rows others : List Row) → AreInOrder rows → AreInOrder (alone rows others)
+
+-- a replica has one online list
+abbrev pub OnlineLaw : Type 0
+OnlineLaw = (r : Replica) (rows : List Row) → IsOnlineList r rows ↔ (rows ≡ online_of r)

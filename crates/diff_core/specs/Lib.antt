@@ -2,4 +2,5 @@ pub mod Rows
 pub mod RowOrder
 pub mod Online
 pub mod Diffs
+pub mod Sorting
 pub mod Laws

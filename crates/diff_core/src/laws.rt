@@ -1,7 +1,7 @@
 //! The laws of online lists and their differences, as contracts of functions that do nothing.
 //!
 //! A crate above uses a law by calling its function.
-ghost use Rattle.diff_core.specs.Laws.{DiffLaw, OneListLaw};
+ghost use Rattle.diff_core.specs.Laws.{DiffLaw, OneListLaw, OnlineLaw};
 
 /// Two replicas with the same entries and statuses have the same online list.
 pub fn one_list_law()
@@ -11,4 +11,9 @@ pub fn one_list_law()
 /// A list doesn't differ from itself, and each side of a difference is in order.
 pub fn diff_law()
     ensures { DiffLaw }
+{}
+
+/// A replica has one online list, which `online_of` gives.
+pub fn online_law()
+    ensures { OnlineLaw }
 {}

@@ -1,6 +1,7 @@
 //! The online list of a replica.
-ghost use Rattle.std.specs.Prelude.{IfOk};
+ghost use Rattle.std.specs.Prelude.{◌≡◌, IfOk};
 ghost use Rattle.diff_core.specs.Online.{IsOnlineList};
+ghost use Rattle.diff_core.specs.Sorting.{online_of};
 
 use crate::online_row::OnlineRow;
 use payload_core::Oom;
@@ -13,7 +14,8 @@ pub fn online_list<A: Allocator + Copy>(
     alloc: A,
     replica: &Replica<A>,
 ) -> Result<Vec<OnlineRow<A>, A>, Oom>
-    ensures { IfOk result (λ rows. IsOnlineList replica.now rows.items) }
+    ensures rows { IfOk result (λ rows. IsOnlineList replica.now rows.items) }
+    ensures value { IfOk result (λ rows. rows.items ≡ online_of replica.now) }
 {
     let entries = replica.entries();
     let mut rows = Vec::new(alloc);

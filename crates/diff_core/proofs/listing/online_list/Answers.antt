@@ -7,6 +7,7 @@ use Rattle.replica_core.proofs.Collected.{answered, no_gap, failed, all_walked}
 use Rattle.diff_core.specs.Rows.{row_of}
 use Rattle.diff_core.specs.Online.{is_shown}
 use Rattle.diff_core.proofs.Listed.{row_collected, listed}
+use Rattle.diff_core.proofs.Sorting.{online_holds}
 use Rattle.diff_core.proofs.listing.online_list.Goals as goal
 use Rattle.diff_core.proofs.listing.online_list.Goals.{in-Some+then-online+in_ok-of+in_ok-push, in-Some+else-online, in_default}
 
@@ -24,8 +25,8 @@ loop-place-preserved g c =
       | in_default w ↦ let len = fin.len-entries c.entries-entries.result.now.map in absurd (no_gap ps c.loop-place.place w.in_default.ensures (omega arith))
     ]
 
-pub returns : goal.returns
-returns g c =
+is_listed : goal.returns-clause-rows
+is_listed g c =
     let len = fin.len-entries c.entries-entries.result.now.map in
     let end : length (fin.entries c.entries-entries.result.now.map) ≤ c.loop-place.place = omega arith in
     listed c.args.replica.now c.loop-place.rows.items c.sort_unstable.new.self.items
@@ -33,3 +34,9 @@ returns g c =
     ∙ ap (map row_of) (all_walked (is_shown c.args.replica.now) (fin.entries c.entries-entries.result.now.map) c.loop-place.place end)
     ∙ ap (λ (es : Entries). map row_of (filter (is_shown c.args.replica.now) (fin.entries es))) c.entries-entries.ensures)
     c.sort_unstable.ensures.permutation c.sort_unstable.ensures.sorted
+
+pub returns-clause-rows : goal.returns-clause-rows
+returns-clause-rows g c = is_listed g c
+
+pub returns-clause-value : goal.returns-clause-value
+returns-clause-value g c = (online_holds c.args.replica.now c.sort_unstable.new.self.items).0 (is_listed g c)
