@@ -26,10 +26,11 @@ pub use fault::Fault;
 pub use history::{Event, History};
 pub use journal_core::{Journal, Kept};
 pub use limits::Limits;
-pub use names::Names;
+pub use names::{Names, is_name};
 pub use names_fault::NamesFault;
 pub use node_core::{Node, NodeLimits, Step, StepFault};
 pub use reply::Reply;
+pub use texts::TextSet;
 pub use unwound::Unwound;
 
 #[cfg(test)]

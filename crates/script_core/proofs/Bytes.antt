@@ -6,10 +6,10 @@ use Rattle.std.proofs.lemmas.Grind.{common_steps}
 use Rattle.std.proofs.lemmas.Bool.Decides.{nat_tests}
 use Rattle.std.specs.Io.KnownBytes.{Appends, Consumes, IsAtEnd}
 use Rattle.bench_core.specs.Limits.{Limits}
-use Rattle.presence_bench.specs.Grammar.{script_of}
-use Rattle.presence_bench.specs.declared.fault.FaultKind.TheVariants.{TooLong}
-use Rattle.presence_bench.specs.declared.fault.PlayFault.TheVariants as faults
-use Rattle.presence_bench.specs.Play.{IsWhole, IsLonger, TakesAtMost, EndsAt}
+use Rattle.script_core.specs.Grammar.{script_of}
+use Rattle.script_core.specs.declared.fault.FaultKind.TheVariants.{TooLong}
+use Rattle.script_core.specs.declared.fault.PlayFault.TheVariants as faults
+use Rattle.script_core.specs.Play.{IsWhole, IsLonger, TakesAtMost, EndsAt}
 
 -- the first w bytes went out, and then the first n of the others
 pub sent_more : (old mid new : Option (List ℕ)) (bytes : List ℕ) (w n : ℕ) → Appends old mid (take w bytes) → Appends mid new (take n (take (length bytes - w) (drop w bytes))) → Appends old new (take (w + n) bytes)

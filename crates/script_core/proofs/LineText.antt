@@ -8,7 +8,7 @@ use Rattle.std.specs.Str.Parse.{ParsesUnsigned, digits_value}
 use Rattle.std.proofs.lemmas.Str.{IsUtf8-from_ascii}
 use Rattle.std.proofs.lemmas.Str.Parse.{IsNumeralModel, numerals_by_value, parse_digits}
 use Rattle.std.proofs.lemmas.Bool.Decides.{nat_tests}
-use Rattle.presence_bench.specs.Words.{is_text, is_numeral, is_visible, number_of, words_of}
+use Rattle.script_core.specs.Words.{is_text, is_numeral, is_visible, number_of, words_of}
 use Rattle.payload_core.specs.Words.{is_word_byte}
 
 both : (a b : Bool) → (a && b) ≡ true → (a ≡ true) × (b ≡ true)

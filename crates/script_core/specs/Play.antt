@@ -2,11 +2,11 @@
 use Rattle.std.specs.Prelude.{◌≡◌, ◌≢◌, ℕ, ◌<◌, ◌≤◌, List, length, take, ⊤, Option, None, Some, Result, Ok, Err, IsOkAnd}
 use Rattle.std.specs.Io.KnownBytes.{Appends, Consumes, Keeps}
 use Rattle.bench_core.specs.Limits.{Limits}
-use Rattle.presence_bench.specs.Grammar.{script_of}
-use Rattle.presence_bench.specs.Report.{report_of}
-use Rattle.presence_bench.specs.declared.fault.FaultKind.TheVariants.{OutOfMemory}
-use Rattle.presence_bench.specs.declared.fault.PlayFault.{PlayFault}
-use Rattle.presence_bench.specs.declared.fault.PlayFault.TheVariants as faults
+use Rattle.script_core.specs.Grammar.{script_of}
+use Rattle.script_core.specs.Report.{report_of}
+use Rattle.script_core.specs.declared.fault.FaultKind.TheVariants.{OutOfMemory}
+use Rattle.script_core.specs.declared.fault.PlayFault.{PlayFault}
+use Rattle.script_core.specs.declared.fault.PlayFault.TheVariants as faults
 
 -- these are all the bytes that a reader had, where they are known
 abbrev pub IsWhole : Option (List ℕ) → List ℕ → Type 0

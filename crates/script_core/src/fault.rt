@@ -1,6 +1,6 @@
 //! Why a script is refused, and why a play ends early.
 ghost use Rattle.std.specs.Prelude.{◌≡◌, ◌≢◌};
-ghost use Rattle.presence_bench.specs.declared.fault.FaultKind.TheVariants.{OutOfMemory};
+ghost use Rattle.script_core.specs.declared.fault.FaultKind.TheVariants.{OutOfMemory};
 
 use bench_core::NamesFault;
 use payload_core::Oom;
@@ -19,15 +19,18 @@ pub enum FaultKind {
     /// The first significant line isn't `nodes`, or there is no such line.
     #[error("NoNodes")]
     NoNodes,
-    /// A second `nodes` line, or a name that was given before.
+    /// A second `nodes` or `consoles` line, or a name that was given before.
     #[error("Twice")]
     Twice,
-    /// A first word that is no node's name, or a second word that is no verb.
+    /// A first word that is no actor's name, or a second word that is no verb.
     #[error("UnknownWord")]
     UnknownWord,
     /// Too few or too many words.
     #[error("WrongCount")]
     WrongCount,
+    /// A console's line whose verb is for nodes, or a line that is no act where acts alone are asked for.
+    #[error("NotAllowed")]
+    NotAllowed,
     /// A number that isn't one.
     #[error("BadNumber")]
     BadNumber,
@@ -57,7 +60,7 @@ impl<T: Drop> From<AllocFailed<T>> for FaultKind {
 
 impl From<NamesFault> for FaultKind {
     ghost use Rattle.std.specs.Prelude.{◌≡◌};
-    ghost use Rattle.presence_bench.specs.Grammar.{kind_of};
+    ghost use Rattle.script_core.specs.Grammar.{kind_of};
 
     ghost from_gives = { λ fault kind. kind ≡ kind_of fault };
 
@@ -80,7 +83,7 @@ pub struct ScriptFault {
 }
 
 impl ScriptFault {
-    ghost use Rattle.presence_bench.specs.declared.fault.FaultKind.TheVariants.{OutOfMemory};
+    ghost use Rattle.script_core.specs.declared.fault.FaultKind.TheVariants.{OutOfMemory};
 
     /// A line's fault. Want of memory is of no line.
     pub fn at(line: u64, kind: FaultKind) -> ScriptFault
@@ -105,6 +108,17 @@ impl From<Oom> for ScriptFault {
     }
 }
 
+impl<T: Drop> From<AllocFailed<T>> for ScriptFault {
+    ghost from_gives = { λ _ fault. fault ≡ record { line = 0; kind = OutOfMemory } };
+
+    fn from(_refused: AllocFailed<T>) -> ScriptFault {
+        ScriptFault {
+            line: 0,
+            kind: FaultKind::OutOfMemory,
+        }
+    }
+}
+
 /// Why input could not be taken in.
 #[derive(Clone, Copy, Debug, PartialEq, Eq, Error)]
 pub enum InputFault {
@@ -121,7 +135,7 @@ pub enum InputFault {
 
 impl From<Oom> for InputFault {
     ghost use Rattle.std.specs.Prelude.{◌≡◌};
-    ghost use Rattle.presence_bench.specs.declared.fault.InputFault.TheVariants.{OutOfMemory};
+    ghost use Rattle.script_core.specs.declared.fault.InputFault.TheVariants.{OutOfMemory};
 
     ghost from_gives = { λ _ fault. fault ≡ OutOfMemory };
 

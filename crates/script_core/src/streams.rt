@@ -1,7 +1,7 @@
 //! All bytes of a reader, and all bytes to a writer. A failed read or write isn't tried again.
 ghost use Rattle.std.specs.Prelude.{◌≡◌, ◌+◌, ◌<◌, ◌≤◌, length, take, Err, IfOk, IfErr, OnOk};
 ghost use Rattle.std.specs.Io.KnownBytes.{Appends, IsAtEnd};
-ghost use Rattle.presence_bench.specs.Play.{IsWhole, IsLonger, TakesAtMost};
+ghost use Rattle.script_core.specs.Play.{IsWhole, IsLonger, TakesAtMost};
 
 use crate::fault::{InputFault, WriteFault};
 use std::alloc::Allocator;

@@ -2,7 +2,7 @@
 ghost use Rattle.std.specs.Prelude.{◌≡◌, map, IfOk, if◌then◌else◌, option_copied, Some, None};
 ghost use Rattle.std.specs.List.{list_all};
 ghost use Rattle.std.specs.Char.{is_ascii_digit};
-ghost use Rattle.presence_bench.specs.Words.{lines_of, words_of, is_text, is_numeral, number_of};
+ghost use Rattle.script_core.specs.Words.{lines_of, words_of, is_text, is_numeral, number_of};
 
 use payload_core::Oom;
 use std::alloc::Allocator;

@@ -1,7 +1,7 @@
 use Rattle.std.proofs.Common.{◌≡◌, true, rules}
-use Rattle.presence_bench.specs.Words.{is_text}
-use Rattle.presence_bench.proofs.LineText.{words_of_text}
-use Rattle.presence_bench.proofs.parse.read_line.Goals as goal
+use Rattle.script_core.specs.Words.{is_text}
+use Rattle.script_core.proofs.LineText.{words_of_text}
+use Rattle.script_core.proofs.parse.read_line.Goals as goal
 
 pub read_words-requires : goal.read_words-requires
 read_words-requires g c =

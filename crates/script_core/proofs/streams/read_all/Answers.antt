@@ -1,7 +1,7 @@
 use Rattle.std.proofs.Common.{◌<◌, ◌≤◌, ◌+◌, length, arith}
 use Rattle.std.proofs.lemmas.Grind.{common_steps}
-use Rattle.presence_bench.proofs.Bytes.{whole_at_end, taken_more}
-use Rattle.presence_bench.proofs.streams.read_all.Goals as goal
+use Rattle.script_core.proofs.Bytes.{whole_at_end, taken_more}
+use Rattle.script_core.proofs.streams.read_all.Goals as goal
 
 -- there was room for a byte, and the reader gave none
 pub returns-then-count-eq0-clause-whole : goal.returns-then-count-eq0-clause-whole

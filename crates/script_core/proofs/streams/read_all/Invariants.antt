@@ -1,6 +1,6 @@
 use Rattle.std.proofs.Common.{◌≤◌, length}
 use Rattle.std.specs.Io.KnownBytes.{Consumes}
-use Rattle.presence_bench.proofs.streams.read_all.Given as goal
+use Rattle.script_core.proofs.streams.read_all.Given as goal
 
 -- the bytes so far came from the reader, at least one in each turn
 abbrev pub invariant-loop-turn : goal.invariant-loop-turn

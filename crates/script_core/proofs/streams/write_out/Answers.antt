@@ -1,7 +1,7 @@
 use Rattle.std.proofs.Common.{arith}
 use Rattle.std.proofs.lemmas.Grind.{common_steps}
-use Rattle.presence_bench.proofs.Bytes.{sent_more}
-use Rattle.presence_bench.proofs.streams.write_out.Goals as goal
+use Rattle.script_core.proofs.Bytes.{sent_more}
+use Rattle.script_core.proofs.streams.write_out.Goals as goal
 
 pub loop-written-preserved : goal.loop-written-preserved
 loop-written-preserved g c = record {

@@ -1,6 +1,6 @@
 use Rattle.std.proofs.Common.{◌≤◌, ◌-◌, length, take}
 use Rattle.std.specs.Io.KnownBytes.{Appends}
-use Rattle.presence_bench.proofs.streams.write_out.Given as goal
+use Rattle.script_core.proofs.streams.write_out.Given as goal
 
 -- the first `written` bytes went out
 abbrev pub invariant-loop-written : goal.invariant-loop-written

@@ -1,7 +1,7 @@
 use Rattle.std.proofs.Common.{◌≡◌, true, rules, ◌∙◌}
-use Rattle.presence_bench.proofs.LineText.{number-parse}
-use Rattle.presence_bench.specs.Words.{is_numeral}
-use Rattle.presence_bench.proofs.words.number_of.Goals as goal
+use Rattle.script_core.proofs.LineText.{number-parse}
+use Rattle.script_core.specs.Words.{is_numeral}
+use Rattle.script_core.proofs.words.number_of.Goals as goal
 
 pub returns : goal.returns
 returns c =

@@ -1,7 +1,7 @@
 use Rattle.std.proofs.Common.{◌≡◌, true, rules}
-use Rattle.presence_bench.proofs.LineText.{IsUtf8-is_text}
-use Rattle.presence_bench.specs.Words.{is_text}
-use Rattle.presence_bench.proofs.words.text_of.Goals as goal
+use Rattle.script_core.proofs.LineText.{IsUtf8-is_text}
+use Rattle.script_core.specs.Words.{is_text}
+use Rattle.script_core.proofs.words.text_of.Goals as goal
 
 pub returns-in-Err : goal.returns-in-Err
 returns-in-Err c =

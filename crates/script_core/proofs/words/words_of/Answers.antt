@@ -1,7 +1,7 @@
 use Rattle.std.proofs.Common.{rules, tests, length, not, ◌==◌, lit<}
 use Rattle.std.proofs.lemmas.Iterator.Consumers.{map_from_collect, YieldsList-from_filter}
 use Rattle.std.proofs.lemmas.Iterator.Splits.{YieldsList-from_str_split}
-use Rattle.presence_bench.proofs.words.words_of.Goals as goal
+use Rattle.script_core.proofs.words.words_of.Goals as goal
 
 pub returns : goal.returns
 returns g c =
