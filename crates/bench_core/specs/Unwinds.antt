@@ -7,6 +7,7 @@ use Rattle.bench_core.specs.declared.unwound.Unwound.{Unwound}
 use Rattle.bench_core.specs.declared.unwound.Unwound.TheVariants as unwound
 use Rattle.journal_core.specs.Journals.{Kept, find_number}
 use Rattle.journal_core.specs.Futures.{Follows, IsFuture, without_all}
+use Rattle.journal_core.specs.Gathering.{gathered_numbers}
 use Rattle.bench_core.specs.Acts.{Action, Undo}
 use Rattle.bench_core.specs.Machine.{Event, Config, State, Machine, with_state, config_of, undo_reply, calls, replies_of}
 use Rattle.bench_core.specs.Headline.{IsReached}
@@ -67,3 +68,9 @@ abbrev pub IsUnwound : {X : Type 0} → State → ℕ → Unwound X → Type 0
 IsUnwound s n (unwound.Done numbers) = Explains s n numbers.items
 IsUnwound s n (unwound.Refused fault) = Unexplained s n fault
 IsUnwound s n (unwound.Partial numbers) = (rest : List ℕ) × (rest ≢ []) × Explains s n (numbers.items ++ rest)
+
+-- where the whole future was undone, it is the one that is gathered from the step on
+abbrev pub IsWhole : {X : Type 0} → State → ℕ → Unwound X → Type 0
+IsWhole s n (unwound.Done numbers) = numbers.items ≡ gathered_numbers s.remaining n
+IsWhole s n (unwound.Refused fault) = Unit {0}
+IsWhole s n (unwound.Partial numbers) = Unit {0}

@@ -3,6 +3,7 @@ ghost use Rattle.std.specs.Prelude.{◌≡◌, ◌≢◌, ◌↔◌, ◌<◌, �
 ghost use Rattle.std.specs.List.{list_all};
 ghost use Rattle.replica_core.specs.Limits.{AreNodeLimits};
 ghost use Rattle.node_core.specs.Operations.{named_in, plain};
+ghost use Rattle.journal_core.specs.Gathering.{gathered_numbers};
 ghost use Rattle.journal_core.specs.Holdings.{without_held, kepts};
 ghost use Rattle.bench_core.specs.declared.fault.Fault.TheVariants.{HistoryFull};
 ghost use Rattle.bench_core.specs.declared.reply.Reply.TheVariants.{Refused};
@@ -12,7 +13,7 @@ ghost use Rattle.bench_core.specs.Clusters.{opening_of, message_for};
 ghost use Rattle.bench_core.specs.Chains.{Chain};
 ghost use Rattle.bench_core.specs.Machine.{config_of, free_places, knows, reply_to, undo_reply, opening_machine, AnswersAs, AllAnswered};
 ghost use Rattle.bench_core.specs.Headline.{CanBeTakenBack, RefusedOnlyForConsequence};
-ghost use Rattle.bench_core.specs.Unwinds.{AreUndone, CanBeUndone, Explains, IsUnwound, Unexplained, undone_by};
+ghost use Rattle.bench_core.specs.Unwinds.{AreUndone, CanBeUndone, Explains, IsUnwound, IsWhole, Unexplained, undone_by};
 ghost use Rattle.bench_core.specs.Benches.{AreNodes, GoesBack, IsBackable, IsGone, IsMachine, IsNodeOf, IsNumbered, IsStepOf, Steps};
 
 use crate::act::Act;
@@ -347,6 +348,7 @@ impl<'a, B: Allocator> Bench<'a, B> {
         ensures future { IfOk result (λ numbers. Explains self.now.state number numbers.items) }
         ensures refused { IfErr result (λ fault. Unexplained self.now.state number fault) }
         ensures can_be_undone { IfOk result (λ numbers. CanBeUndone self.now numbers.items) }
+        ensures gathered { IfOk result (λ numbers. numbers.items ≡ gathered_numbers self.now.state.remaining number) }
     {
         self.bench_law();
         self.node_of(number)?;
@@ -379,6 +381,7 @@ impl<'a, B: Allocator> Bench<'a, B> {
     pub fn unwind(&mut self, actor: u16, number: u64) -> Unwound<&'a B>
         ensures answer { IsUnwound self.old.state number result }
         ensures undone { AreUndone self.old actor (undone_by result) self.new }
+        ensures whole { IsWhole self.old.state number result }
     {
         match self.why(number) {
             Ok(mut numbers) => {

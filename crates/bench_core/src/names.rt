@@ -23,7 +23,8 @@ fn has_name_bytes(bytes: &[u8]) -> bool
     bytes.iter().all(|byte| is_name_byte(*byte))
 }
 
-fn is_name(text: &str) -> bool
+/// Whether the text may be a name: 1 to 16 bytes of `a-z0-9_`.
+pub fn is_name(text: &str) -> bool
     ensures { result ≡ is_name text.now }
 {
     if text.is_empty() || text.len() > 16 {

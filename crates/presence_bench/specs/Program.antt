@@ -2,9 +2,9 @@
 use Rattle.std.specs.Prelude.{◌≡◌, ℕ, List, Option, Result, Ok, Err, OnOk, IfErr}
 use Rattle.std.specs.Io.KnownBytes.{IsAtEnd}
 use Rattle.bench_core.specs.Limits.{Limits}
-use Rattle.presence_bench.specs.Play.{EndsAt, KeepsBefore, TellsMemory}
-use Rattle.presence_bench.specs.declared.fault.PlayFault.{PlayFault}
-use Rattle.presence_bench.specs.declared.fault.PlayFault.TheVariants as faults
+use Rattle.script_core.specs.Play.{EndsAt, KeepsBefore, TellsMemory}
+use Rattle.script_core.specs.declared.fault.PlayFault.{PlayFault}
+use Rattle.script_core.specs.declared.fault.PlayFault.TheVariants as faults
 
 -- the status of an answer
 abbrev pub status_of : Result (Unit {0}) PlayFault → ℕ

@@ -1,38 +1,37 @@
-//! The program: it reads a script from standard input, plays it on a bench, and writes the replies to
-//! standard output.
+//! The program: it reads its words, plays the script on standard input on a bench, and writes the report to standard output.
 //!
-//! Stands on `bench_core` (the machine and its names) and `payload_core` (words). In the order in which data flows:
-//! `streams` takes the input in; `words`, `keyword`, `calls` and `parse` make a `script` of it, or a `fault`;
-//! `playing` runs it on a bench, and `report` is the text that goes out; `program` gives the status. `fakes` and
-//! `tests` are there for tests alone.
+//! Stands on `script_core` (scripts and their reports) and `bench_core` (limits). In the order to read them: `chosen` and
+//! `line`, what the words of the command line ask, with `help`, the text that teaches it; `program`, what is done, and the
+//! status.
 #![tactic(auto)]
 
-mod calls;
-#[cfg(test)]
-mod fakes;
-mod fault;
-mod keyword;
-mod parse;
-mod playing;
+mod chosen;
+mod help;
+mod line;
 mod program;
-mod report;
-mod script;
-mod streams;
 #[cfg(test)]
 mod tests;
-mod words;
 
 use bench_core::Limits;
 use std::process::ExitCode;
+use std::{env, io};
 
 fn main(rt: HostRuntime) -> ExitCode {
-    let alloc = rt.alloc();
-    let mut input = rt.stdin();
-    let mut output = rt.stdout();
+    let words = match env::args(&rt) {
+        Ok(words) => words,
+        Err(fault) if fault.kind() == io::ErrorKind::OutOfMemory => return ExitCode::from(4),
+        Err(_) => return ExitCode::from(2),
+    };
+    let Ok(words) = words.skip(1).collect::<Vec<String>>(rt.alloc()) else {
+        return ExitCode::from(4);
+    };
+    let mut output = io::writer(&rt);
     let mut errors = rt.stderr();
-    let status = program::run(
-        &alloc,
-        &mut input,
+    let status = program::program(
+        rt.alloc(),
+        &rt.alloc(),
+        &words,
+        &mut rt.reader(),
         &mut output,
         &mut errors,
         Limits::usual(),

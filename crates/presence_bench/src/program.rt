@@ -3,13 +3,16 @@ ghost use Rattle.std.specs.Prelude.{◌≡◌};
 ghost use Rattle.std.specs.Io.KnownBytes.{Keeps};
 ghost use Rattle.presence_bench.specs.Program.{status_of, Exits};
 
-use crate::fault::PlayFault;
-use crate::playing::play;
+use crate::chosen::Subcommand;
+use crate::line::choice;
 use bench_core::Limits;
-use std::alloc::Allocator;
+use clap::error::ErrorKind;
+use script_core::{PlayFault, play};
+use std::alloc::{Allocator, Global};
+use std::convert::AsStr;
 use std::io::{Read, Write};
 
-/// The status with which the program ends.
+/// The status with which a play ends the program.
 fn status_of(answer: Result<(), PlayFault>) -> u8
     ensures { result ≡ status_of answer }
 {
@@ -22,7 +25,7 @@ fn status_of(answer: Result<(), PlayFault>) -> u8
 }
 
 /// Plays the input, and gives the status. A fault goes as one line to the errors, where these can be written.
-pub fn run<B: Allocator, R: Read, W: Write, E: Write>(
+fn run_play<B: Allocator, R: Read, W: Write, E: Write>(
     alloc: &B,
     reader: &mut R,
     writer: &mut W,
@@ -37,4 +40,44 @@ pub fn run<B: Allocator, R: Read, W: Write, E: Write>(
         let _ = writeln!(errors, "presence_bench: {fault}");
     }
     status_of(answer)
+}
+
+/// Answers words that choose nothing: help and the version go to the output, a fault of the words to the errors.
+fn refuse<W: Write, E: Write>(fault: &clap::Error, writer: &mut W, errors: &mut E) -> u8
+    ensures quiet { result ≡ 0 → Keeps (E.contents errors.old) (E.contents errors.new) }
+{
+    if fault.kind() == ErrorKind::OutOfMemory {
+        let _ = writeln!(errors, "presence_bench: out of memory");
+        return 4;
+    }
+    if fault.use_stderr() {
+        let _ = write!(errors, "{fault}");
+        return 2;
+    }
+    if write!(writer, "{fault}").is_err() {
+        let _ = writeln!(errors, "presence_bench: write fault");
+        return 3;
+    }
+    0
+}
+
+/// Does what the words after the program's name ask, and gives the status. The words are read in memory of `words_alloc`, and
+/// all else is done in that of `alloc`.
+pub fn program<S: AsStr, B: Allocator, R: Read, W: Write, E: Write>(
+    words_alloc: Global,
+    alloc: &B,
+    words: &[S],
+    reader: &mut R,
+    writer: &mut W,
+    errors: &mut E,
+    limits: Limits,
+) -> u8
+    ensures quiet { result ≡ 0 → Keeps (E.contents errors.old) (E.contents errors.new) }
+{
+    match choice(words_alloc, words) {
+        Ok(choice) => match choice.command {
+            Subcommand::Play => run_play(alloc, reader, writer, errors, limits),
+        },
+        Err(fault) => refuse(&fault, writer, errors),
+    }
 }

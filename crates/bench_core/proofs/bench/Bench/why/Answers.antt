@@ -1,6 +1,8 @@
 use Rattle.std.proofs.Common.{◌≡◌, subst}
 use Rattle.std.proofs.lemmas.Result.{err_from_is_err_and}
 use Rattle.journal_core.specs.Futures.{IsFuture}
+use Rattle.journal_core.specs.Gathering.{gathered_numbers}
+use Rattle.journal_core.proofs.Futures.{is_future, one_future}
 use Rattle.bench_core.specs.Machine.{Machine, config_of}
 use Rattle.bench_core.specs.Unwinds.{Gone, Unmade}
 use Rattle.bench_core.proofs.InTurn.{future_undone}
@@ -26,3 +28,8 @@ pub returns-clause-can_be_undone : goal.returns-clause-can_be_undone
 returns-clause-can_be_undone g c actor =
     future_undone (config_of c.args.self.now) c.args.self.now.state actor c.args.number c.in-Ok.numbers.items c.bench_law.ensures.reached
     (subst (λ (m : Machine). IsFuture m.state.remaining c.args.number c.in-Ok.numbers.items) c.self.view_is c.in-Ok.ensures.future)
+
+pub returns-clause-gathered : goal.returns-clause-gathered
+returns-clause-gathered g c =
+    subst (λ (m : Machine). c.in-Ok.numbers.items ≡ gathered_numbers m.state.remaining c.args.number) c.self.view_is
+    (one_future _ c.args.number _ _ c.in-Ok.ensures.future (is_future c.args.number _ c.in-Ok.ensures.in_order))

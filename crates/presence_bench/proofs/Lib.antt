@@ -1,4 +1,0 @@
-pub mod LineText
-pub mod Lines
-pub mod Replies
-pub mod Bytes

@@ -1,0 +1,33 @@
+//! The texts of `--help` and `--version`.
+
+pub const VERSION: &str = "0.1.0";
+
+pub const PURPOSE: &str =
+    "A debugging bench for clusters of presence nodes: plays an incident, and takes its steps back";
+
+pub const PLAY: &str = "Plays the script on standard input, and prints its report";
+
+/// The whole script language, in one screen.
+pub const LANGUAGE: &str = "\
+Script lines (words between spaces; a line that begins with # is a comment):
+  nodes NAME ..                   the nodes, 1 to 32; this line comes first
+  consoles NAME ..                the consoles, 1 to 16; they undo, back and unwind
+  NODE join PID TOPIC KEY META    tracks a process under a topic and key
+  NODE update PID TOPIC KEY META  changes the metadata of what is tracked
+  NODE leave PID TOPIC KEY        tracks it no longer
+  NODE leaveall PID               tracks nothing of the process any longer
+  NODE broadcast                  sends what the node changed since it last did
+  NODE extract NAME ..            sends all that the node holds of these nodes
+  NODE deliver NAME NUMBER        takes in a message of NAME, by its number from 1
+  NODE up NAME                    takes NAME to be up
+  NODE down NAME                  takes NAME to be down
+  NODE permdown NAME              forgets NAME, which is down
+  ACTOR undo NUMBER               takes a step back, if nothing follows from it
+  ACTOR back NAME                 takes the last step of a node back
+  ACTOR unwind NUMBER             takes a step back with all that follows from it
+  show NAME                       prints who is online at a node
+  dots NAME                       prints what a node has seen of each node
+  why NUMBER                      prints a step and all that follows from it
+  journal                         prints the steps that remain
+A step prints NUMBER ok, an undo undone NUMBER, a refusal no and its name; then
+come the rows that left (-) and joined (+) the online list of the step's node.";

@@ -1,0 +1,11 @@
+pub mod LineText
+pub mod Lines
+pub mod Texts
+pub mod Orders
+pub mod Acts
+pub mod OnePart
+pub mod Bytes
+pub mod ReadAgain
+pub mod ReadNumbers
+pub mod ReadNames
+pub mod ReadLines

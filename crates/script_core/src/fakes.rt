@@ -1,0 +1,173 @@
+//! A reader and a writer for tests, which fail in mid-stream. They tell their bytes, so what clauses say of known bytes
+//! is said of them.
+ghost use Rattle.std.specs.Prelude.{◌≡◌, false, true, []};
+
+use std::alloc::Global;
+use std::io;
+use std::io::{ErrorKind, Read, Write};
+
+/// Gives its bytes, as many a call as are asked for, and then the end or a fault.
+#[derive(Drop)]
+pub struct FakeReader<'a> {
+    rest: &'a [u8],
+    fails_first: bool,
+    fails_last: bool,
+    calls: usize,
+}
+
+impl<'a> FakeReader<'a> {
+    /// It gives the bytes and then ends.
+    pub fn ending(bytes: &'a [u8]) -> FakeReader<'a>
+        ensures rest { result.rest.now ≡ bytes.now }
+        ensures fails_first { result.fails_first ≡ false }
+        ensures fails_last { result.fails_last ≡ false }
+        ensures calls { result.calls ≡ 0 }
+    {
+        FakeReader {
+            rest: bytes,
+            fails_first: false,
+            fails_last: false,
+            calls: 0,
+        }
+    }
+
+    /// It gives the bytes and then fails.
+    pub fn failing(bytes: &'a [u8]) -> FakeReader<'a>
+        ensures rest { result.rest.now ≡ bytes.now }
+        ensures fails_first { result.fails_first ≡ false }
+        ensures fails_last { result.fails_last ≡ true }
+        ensures calls { result.calls ≡ 0 }
+    {
+        FakeReader {
+            rest: bytes,
+            fails_first: false,
+            fails_last: true,
+            calls: 0,
+        }
+    }
+
+    /// It fails once, and then would give the bytes and end.
+    pub fn failing_once(bytes: &'a [u8]) -> FakeReader<'a>
+        ensures rest { result.rest.now ≡ bytes.now }
+        ensures fails_first { result.fails_first ≡ true }
+        ensures fails_last { result.fails_last ≡ false }
+        ensures calls { result.calls ≡ 0 }
+    {
+        FakeReader {
+            rest: bytes,
+            fails_first: true,
+            fails_last: false,
+            calls: 0,
+        }
+    }
+
+    /// How often it was read.
+    pub fn calls(&self) -> usize
+        ensures { result ≡ self.now.calls }
+    {
+        self.calls
+    }
+}
+
+impl Read for FakeReader<'_> {
+    ghost use Rattle.std.specs.Prelude.{Some};
+
+    ghost remaining = { λ reader. Some reader.rest.now };
+
+    fn read(&mut self, buf: &mut [u8]) -> io::Result<usize> {
+        self.calls = self.calls.saturating_add(1);
+        if self.fails_first {
+            self.fails_first = false;
+            return Err(io::Error::from(ErrorKind::Other));
+        }
+        if self.rest.is_empty() && self.fails_last {
+            return Err(io::Error::from(ErrorKind::Other));
+        }
+        let count = self.rest.len().min(buf.len());
+        let (front, rest) = self.rest.split_at(count);
+        buf[..count].copy_from_slice(front);
+        self.rest = rest;
+        Ok(count)
+    }
+}
+
+/// Takes so many bytes in all, and then fails; so many of them a call, at most.
+#[derive(Drop)]
+pub struct FakeWriter {
+    taken: Vec<u8>,
+    room: usize,
+    most: usize,
+    recovers: bool,
+}
+
+impl FakeWriter {
+    /// It takes so many bytes and then fails.
+    pub fn new(alloc: Global, room: usize) -> FakeWriter
+        ensures taken { result.taken.items ≡ [] }
+        ensures room { result.room ≡ room }
+    {
+        FakeWriter {
+            taken: Vec::new(alloc),
+            room,
+            most: usize::MAX,
+            recovers: false,
+        }
+    }
+
+    /// It takes at most so many bytes a call, and never fails.
+    pub fn taking(alloc: Global, most: usize) -> FakeWriter
+        ensures taken { result.taken.items ≡ [] }
+        ensures most { result.most ≡ most }
+    {
+        FakeWriter {
+            taken: Vec::new(alloc),
+            room: usize::MAX,
+            most,
+            recovers: false,
+        }
+    }
+
+    /// It takes so many bytes and fails once, and then would take all others.
+    pub fn failing_once(alloc: Global, room: usize) -> FakeWriter
+        ensures taken { result.taken.items ≡ [] }
+        ensures room { result.room ≡ room }
+        ensures recovers { result.recovers ≡ true }
+    {
+        FakeWriter {
+            taken: Vec::new(alloc),
+            room,
+            most: usize::MAX,
+            recovers: true,
+        }
+    }
+
+    /// What went out.
+    pub fn taken(&self) -> &[u8]
+        ensures { result.now ≡ self.now.taken.items }
+    {
+        self.taken.as_slice()
+    }
+}
+
+impl Write for FakeWriter {
+    ghost use Rattle.std.specs.Prelude.{Some};
+
+    ghost contents = { λ writer. Some writer.taken.items };
+
+    fn write(&mut self, buf: &[u8]) -> io::Result<usize> {
+        let count = self.room.min(self.most).min(buf.len());
+        if count == 0 {
+            if self.recovers {
+                self.room = usize::MAX;
+            }
+            return Err(io::Error::from(ErrorKind::Other));
+        }
+        self.taken.extend_from_slice(&buf[..count])?;
+        self.room -= count;
+        Ok(count)
+    }
+
+    fn flush(&mut self) -> io::Result<()> {
+        Ok(())
+    }
+}

@@ -1,0 +1,52 @@
+//! A script played from a reader to a writer.
+ghost use Rattle.std.specs.Prelude.{OnOk, IfErr};
+ghost use Rattle.std.specs.Io.KnownBytes.{IsAtEnd};
+ghost use Rattle.script_core.specs.Play.{EndsAt, KeepsBefore, TellsMemory};
+
+use crate::fault::{FaultKind, InputFault, PlayFault, ScriptFault};
+use crate::parse::{LONGEST_SCRIPT, parse_script};
+use crate::run::run_script;
+use crate::streams::{read_all, write_out};
+use bench_core::Limits;
+use std::alloc::Allocator;
+use std::io::{Read, Write};
+
+/// Reads the whole input, plays it as a script on a bench with these limits, and then writes the report. Nothing
+/// is written before the whole report stands.
+pub fn play<B: Allocator, R: Read, W: Write>(
+    alloc: &B,
+    reader: &mut R,
+    writer: &mut W,
+    limits: Limits,
+) -> Result<(), PlayFault>
+    ensures ends { EndsAt (R.remaining reader.old) limits result (W.contents writer.old) (W.contents writer.new) }
+    ensures read { OnOk result (IsAtEnd (R.remaining reader.new)) }
+    ensures unwritten { IfErr result (λ fault. KeepsBefore fault (W.contents writer.old) (W.contents writer.new)) }
+    ensures memory { IfErr result TellsMemory }
+{
+    let input = match read_all(alloc, reader, LONGEST_SCRIPT) {
+        Ok(input) => input,
+        Err(InputFault::ReadFault) => return Err(PlayFault::ReadFault),
+        Err(InputFault::TooLong) => {
+            return Err(PlayFault::Script(ScriptFault {
+                line: 0,
+                kind: FaultKind::TooLong,
+            }));
+        }
+        Err(InputFault::OutOfMemory) => return Err(PlayFault::OutOfMemory),
+    };
+    let script = match parse_script(alloc, &input) {
+        Ok(script) => script,
+        Err(fault) if fault.kind == FaultKind::OutOfMemory => return Err(PlayFault::OutOfMemory),
+        Err(fault) => return Err(PlayFault::Script(fault)),
+    };
+    let Ok(played) = run_script(alloc, &script, limits) else {
+        return Err(PlayFault::OutOfMemory);
+    };
+    match write_out(writer, &played.report) {
+        Ok(()) => Ok(()),
+        Err(fault) => Err(PlayFault::WriteFault {
+            written: fault.written,
+        }),
+    }
+}

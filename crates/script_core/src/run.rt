@@ -1,0 +1,96 @@
+//! A script played on a bench, with its report.
+ghost use Rattle.std.specs.Prelude.{◌≡◌, ◌++◌, OnOk, IfOk, string_bytes};
+ghost use Rattle.script_core.specs.Rows.{online_text};
+ghost use Rattle.script_core.specs.Report.{command_text, after_command, commands_text, after_commands, commands_of, played, report_of};
+ghost use Rattle.script_core.specs.Scripts.{plain_command, plain_lines, plain_script};
+ghost use Rattle.script_core.specs.Shown.{rows_at};
+
+use crate::acting::act;
+use crate::command::Command;
+use crate::dots_text::put_dots;
+use crate::rows::put_online;
+use crate::script::{Line, Script, node_names};
+use crate::shown::{node, rows_at};
+use crate::step_text::put_journal;
+use crate::unwinding::{unwind, why};
+use bench_core::{Bench, Limits};
+use payload_core::Oom;
+use std::alloc::Allocator;
+
+/// The online list of a node.
+fn show<'a, B: Allocator>(
+    alloc: &'a B,
+    text: &mut String<&'a B>,
+    bench: &Bench<'a, B>,
+    node: u16,
+) -> Result<(), Oom>
+    ensures { OnOk result (string_bytes text.new ≡ string_bytes text.old ++ online_text bench.now.names node (rows_at bench.now node)) }
+{
+    let rows = rows_at(alloc, bench, node)?;
+    put_online(text, bench.names(), node, rows.rows())
+}
+
+/// What a command does, and prints.
+#[tactic(auto, unfolding(crate::specs::Report::command_text, crate::specs::Report::after_command))]
+fn command<'a, B: Allocator>(
+    alloc: &'a B,
+    text: &mut String<&'a B>,
+    bench: &mut Bench<'a, B>,
+    command: &Command<&'a B>,
+) -> Result<(), Oom>
+    ensures bench { OnOk result (bench.new ≡ after_command bench.old (plain_command command.now)) }
+    ensures text { OnOk result (string_bytes text.new ≡ string_bytes text.old ++ command_text bench.old (plain_command command.now)) }
+{
+    match command {
+        Command::Call(actor, call) => act(alloc, text, bench, *actor, call),
+        Command::Unwind(actor, number) => unwind(alloc, text, bench, *actor, *number),
+        Command::Show(node) => show(alloc, text, bench, *node),
+        Command::Dots(at) => put_dots(text, bench.names(), node(bench, *at)),
+        Command::Why(number) => why(text, bench, *number),
+        Command::Journal => put_journal(text, bench.names(), bench.remaining()),
+    }
+}
+
+/// What the lines do, and print.
+#[tactic(auto, unfolding(crate::specs::Report::commands_text, crate::specs::Report::after_commands))]
+fn lines<'a, B: Allocator>(
+    alloc: &'a B,
+    text: &mut String<&'a B>,
+    bench: &mut Bench<'a, B>,
+    lines: &[Line<&'a B>],
+) -> Result<(), Oom>
+    ensures bench { OnOk result (bench.new ≡ after_commands bench.old (commands_of (plain_lines lines.now))) }
+    ensures text { OnOk result (string_bytes text.new ≡ string_bytes text.old ++ commands_text bench.old (commands_of (plain_lines lines.now))) }
+{
+    for next in lines {
+        command(alloc, text, bench, &next.command)?;
+    }
+    Ok(())
+}
+
+/// A bench that a script was played on, and its report.
+#[derive(Drop)]
+pub struct Played<'a, B: Allocator> {
+    pub bench: Bench<'a, B>,
+    pub report: Vec<u8, &'a B>,
+}
+
+/// Plays a script from an opening bench with these limits.
+#[tactic(auto, unfolding(crate::specs::Report::played, crate::specs::Report::report_of))]
+pub fn run_script<'a, B: Allocator>(
+    alloc: &'a B,
+    script: &Script<&'a B>,
+    limits: Limits,
+) -> Result<Played<'a, B>, Oom>
+    ensures bench { IfOk result (λ p. p.bench ≡ played limits (plain_script script.now)) }
+    ensures report { IfOk result (λ p. p.report.items ≡ report_of limits (plain_script script.now)) }
+{
+    let names = node_names(script).try_copy()?;
+    let mut bench = Bench::new(alloc, names, limits)?;
+    let mut text = String::new(alloc);
+    lines(alloc, &mut text, &mut bench, &script.lines)?;
+    Ok(Played {
+        bench,
+        report: text.into_bytes(),
+    })
+}
