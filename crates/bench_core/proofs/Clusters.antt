@@ -1,5 +1,6 @@
 -- A step changes one node, and reads one message of another.
-use Rattle.std.proofs.Common.{◌≡◌, ◌≢◌, ◌⊎◌, inl, inr, ℕ, zero, suc, nat_lt, Bool, true, false, if◌then◌else◌, List, [], ◌∷◌, length, set, slice_get, Option, Some, None, Result, Ok, Err, refl, sym, ap, ◌∙◌, length-set}
+use Rattle.std.proofs.Common.{◌≡◌, ◌≢◌, ◌⊎◌, inl, inr, ℕ, zero, suc, nat_lt, Bool, true, false, if◌then◌else◌, List, [], ◌∷◌, length, set, slice_get}
+use Rattle.std.proofs.Common.{Option, Some, None, Result, Ok, Err, refl, sym, ap, ◌∙◌, length-set}
 use Rattle.std.proofs.lemmas.Bool.{cases_eq}
 use Rattle.std.specs.List.{list_all}
 use Rattle.node_core.specs.Operations.{Operation, named_in, delivers}
@@ -61,7 +62,8 @@ ReadAlike n xs ys (Some m) = m.0 ≡ n → numbered xs m.1 ≡ numbered ys m.1
 abbrev pub ReadsAlike : ℕ → List Message → List Message → Operation → Type 0
 ReadsAlike n xs ys s = ReadAlike n xs ys (delivers s)
 
-message_at-set : (c : Cluster) (n : ℕ) (x y : Node) (o : Option (ℕ × ℕ)) → slice_get c n ≡ Some x → ReadAlike n y.outbox x.outbox o → message_at (set c n y) o ≡ message_at c o
+message_at-set : (c : Cluster) (n : ℕ) (x y : Node) (o : Option (ℕ × ℕ)) → slice_get c n ≡ Some x → ReadAlike n y.outbox x.outbox o →
+    message_at (set c n y) o ≡ message_at c o
 message_at-set c n x y None at same = refl
 message_at-set c n x y (Some m) at same = go (cases_eq m.0 n)
   where
@@ -72,7 +74,8 @@ message_at-set c n x y (Some m) at same = go (cases_eq m.0 n)
         ap (λ o. numbered (outbox_of o) m.1) new ∙ same e ∙ ap (λ o. numbered (outbox_of o) m.1) (sym old)
     go (inr d) = ap (λ o. numbered (outbox_of o) m.1) (get-set_other c n m.0 y d)
 
-pub message-set : (c : Cluster) (n : ℕ) (x y : Node) (s : Operation) → slice_get c n ≡ Some x → ReadsAlike n y.outbox x.outbox s → message_for (set c n y) s ≡ message_for c s
+pub message-set : (c : Cluster) (n : ℕ) (x y : Node) (s : Operation) → slice_get c n ≡ Some x → ReadsAlike n y.outbox x.outbox s →
+    message_for (set c n y) s ≡ message_for c s
 message-set c n x y s at same = message_at-set c n x y (delivers s) at same
 
 -- a step at another node doesn't see that node n is replaced
@@ -80,7 +83,8 @@ pub step-set : (c : Cluster) (n m : ℕ) (y : Node) (s : Operation) → m ≢ n 
     step (set c n y) m s ≡ mapped (λ d. set d n y) (step c m s)
 step-set c n m y s d same = ap (with_node (set c n y) m) alike ∙ put (node_step (length c) (slice_get c m) s (message_for c s))
   where
-    alike : node_step (length (set c n y)) (slice_get (set c n y) m) s (message_for (set c n y) s) ≡ node_step (length c) (slice_get c m) s (message_for c s)
+    alike : node_step (length (set c n y)) (slice_get (set c n y) m) s (message_for (set c n y) s) ≡
+        node_step (length c) (slice_get c m) s (message_for c s)
     alike = cc (get-set_other c n m y d, length-set c n y)
 
     put : (r : Result Node Fault) → with_node (set c n y) m r ≡ mapped (λ d. set d n y) (with_node c m r)
@@ -100,11 +104,13 @@ pub record Stepped (c : Cluster) (n : ℕ) (s : Operation) (d : Cluster) : Type 
 pub stepped : (c : Cluster) (n : ℕ) (s : Operation) (d : Cluster) → step c n s ≡ Ok d → Stepped c n s d
 stepped c n s d h = found (slice_get c n) refl h
   where
-    took : (x : Node) (r : Result Node StepFault) → slice_get c n ≡ Some x → list_all (λ k. nat_lt k (length c)) (named_in s) ≡ true → take x s (message_for c s) ≡ r → with_node c n (of_node r) ≡ Ok d → Stepped c n s d
+    took : (x : Node) (r : Result Node StepFault) → slice_get c n ≡ Some x → list_all (λ k. nat_lt k (length c)) (named_in s) ≡ true →
+        take x s (message_for c s) ≡ r → with_node c n (of_node r) ≡ Ok d → Stepped c n s d
     took x (Ok y) at named is h = record { from = x; to = y; at = at; named = named; taken = is; gives = cc }
     took x (Err e) at named is h = absurd (cc)
 
-    tested : (x : Node) (b : Bool) → slice_get c n ≡ Some x → list_all (λ k. nat_lt k (length c)) (named_in s) ≡ b → with_node c n (if b then of_node (take x s (message_for c s)) else Err UnknownNode) ≡ Ok d → Stepped c n s d
+    tested : (x : Node) (b : Bool) → slice_get c n ≡ Some x → list_all (λ k. nat_lt k (length c)) (named_in s) ≡ b →
+        with_node c n (if b then of_node (take x s (message_for c s)) else Err UnknownNode) ≡ Ok d → Stepped c n s d
     tested x true at named h = took x (take x s (message_for c s)) at named refl h
     tested x false at named h = absurd (cc)
 
@@ -113,5 +119,8 @@ stepped c n s d h = found (slice_get c n) refl h
     found (Some x) at h = tested x (list_all (λ k. nat_lt k (length c)) (named_in s)) at refl h
 
 -- what a step that can be asked gives
-pub step_takes : (c : Cluster) (n : ℕ) (s : Operation) (x : Node) (r : Result Node StepFault) → slice_get c n ≡ Some x → list_all (λ k. nat_lt k (length c)) (named_in s) ≡ true → take x s (message_for c s) ≡ r → step c n s ≡ with_node c n (of_node r)
-step_takes c n s x r at named taken = ap (with_node c n) (ap (λ o. node_step (length c) o s (message_for c s)) at ∙ ap (λ b. if b then of_node (take x s (message_for c s)) else Err UnknownNode) named ∙ ap of_node taken)
+pub step_takes : (c : Cluster) (n : ℕ) (s : Operation) (x : Node) (r : Result Node StepFault) → slice_get c n ≡ Some x →
+    list_all (λ k. nat_lt k (length c)) (named_in s) ≡ true → take x s (message_for c s) ≡ r → step c n s ≡ with_node c n (of_node r)
+step_takes c n s x r at named taken =
+    ap (with_node c n) (ap (λ o. node_step (length c) o s (message_for c s)) at
+    ∙ ap (λ b. if b then of_node (take x s (message_for c s)) else Err UnknownNode) named ∙ ap of_node taken)

@@ -8,10 +8,11 @@ use Rattle.bench_core.specs.Machine.{Event, State, Machine, given}
 use Rattle.bench_core.specs.Benches.{IsBench, IsGone}
 use Rattle.journal_core.specs.Journals.{find_number}
 use Rattle.journal_core.specs.Holdings.{Held, kepts}
-use Rattle.bench_core.proofs.Keeps.{config, machine}
+use Rattle.bench_core.proofs.Invariant.{config, machine}
 use Rattle.bench_core.proofs.InTurn.{is_missing, not_given, refused_never_given, refused_undone}
 
-module _ (names : Texts) (limits : Limits) (h : List Event) (nodes : Cluster) (hs : List Held) (taken n : ℕ) (m : Machine) (at : machine names limits h (kepts hs) ≡ m)
+module _ (names : Texts) (limits : Limits) (h : List Event) (nodes : Cluster) (hs : List Held) (taken n : ℕ) (m : Machine)
+    (at : machine names limits h (kepts hs) ≡ m)
     (old : IsBench (config names limits) (record { history = h; remaining = kepts hs }) nodes hs taken) where
   abbrev s : State
   s = record { history = h; remaining = kepts hs }
@@ -23,9 +24,16 @@ module _ (names : Texts) (limits : Limits) (h : List Event) (nodes : Cluster) (h
   pub never_given : (n ≡ 0) ⊎ (taken < n) → IsGone m.state n NoSuchStep
   never_given out =
       let missing : ((n == 0) || nat_lt (given h) n) ≡ true = is_missing s n (given_by out) in
-      subst (λ (m : Machine). IsGone m.state n NoSuchStep) at (record { gone = not_given (config names limits) s n old.reached missing; refused = refused_never_given s n missing; other = λ e. cc })
+      subst (λ (m : Machine). IsGone m.state n NoSuchStep) at
+      (record {
+        gone = not_given (config names limits) s n old.reached missing;
+        refused = refused_never_given s n missing;
+        other =
+            λ e. cc;
+      })
 
   pub not_left : 0 < n → n ≤ taken → find_number (kepts hs) n ≡ None → IsGone m.state n AlreadyUndone
   not_left low high none =
       let count = old.count in
-      subst (λ (m : Machine). IsGone m.state n AlreadyUndone) at (record { gone = none; refused = refused_undone s n low (omega arith) none; other = λ e. cc })
+      subst (λ (m : Machine). IsGone m.state n AlreadyUndone) at
+      (record { gone = none; refused = refused_undone s n low (omega arith) none; other = λ e. cc })

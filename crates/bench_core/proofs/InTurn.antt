@@ -1,5 +1,7 @@
 -- A step and what follows from it are undone in turn.
-use Rattle.std.proofs.Common.{◌≡◌, ◌≢◌, ◌⊎◌, inl, inr, ◌&&◌, is_some, is_none, Option, Bool, true, false, ℕ, ◌+◌, ◌<◌, ◌≤◌, ◌==◌, ◌||◌, nat_lt, if◌then◌else◌, List, [], ◌∷◌, ◌++◌, map, length, take, drop, get_or, Some, None, refl, sym, ap, ◌∙◌, subst, true≢false, arith, append-nil, append_assoc}
+use Rattle.std.proofs.Common.{◌≡◌, ◌≢◌, ◌⊎◌, inl, inr, ◌&&◌, is_some, is_none, Option, Bool, true, false, ℕ, ◌+◌, ◌<◌, ◌≤◌, ◌==◌, ◌||◌, nat_lt}
+use Rattle.std.proofs.Common.{if◌then◌else◌, List, [], ◌∷◌, ◌++◌, map, length, take, drop, get_or, Some, None, refl, sym, ap, ◌∙◌, subst, true≢false, arith}
+use Rattle.std.proofs.Common.{append-nil, append_assoc}
 use Rattle.std.proofs.lemmas.Bool.{eq-eqb, ne_eqb, lt-ltb, le-ltb, or_from, or_right}
 use Rattle.std.proofs.lemmas.List.{take_more, drop_more, take-append-drop, map-append}
 use Rattle.bench_core.specs.declared.reply.Reply.{Reply}
@@ -11,12 +13,13 @@ use Rattle.journal_core.specs.Futures.{undo_all, without_all}
 use Rattle.journal_core.proofs.Each.{each_find, finds_all, find_itself}
 use Rattle.journal_core.proofs.InTurn.{taken_back, future_holds}
 use Rattle.bench_core.specs.Acts.{Action, Undo}
-use Rattle.bench_core.specs.Machine.{Event, Config, State, Machine, with_state, config_of, given, unheld, undo_found, undo_reply, reply_to, remaining_after, after, call, calls, replies_of, AnswersAs, Answered, Unmade}
+use Rattle.bench_core.specs.Machine.{Event, Config, State, Machine, with_state, config_of, given, unheld, undo_found, undo_reply, reply_to, remaining_after}
+use Rattle.bench_core.specs.Machine.{after, call, calls, replies_of, AnswersAs, Answered, Unmade}
 use Rattle.bench_core.specs.Headline.{IsReached}
 use Rattle.bench_core.specs.Unwinds.{undos, asked_undos, undone_event, CanBeUndone, AreUndone, UndoneInTurnLaw, LeastLaw}
 use Rattle.bench_core.proofs.Loop.{in_order}
 use Rattle.bench_core.proofs.Reached.{IsKept, kept_reached, undo_answers}
-use Rattle.bench_core.proofs.Keeps.{calls_append, reached_after}
+use Rattle.bench_core.proofs.Invariant.{calls_append, reached_after}
 
 -- a number that was not given is that of no step
 
@@ -24,7 +27,8 @@ pub is_missing : (s : State) (n : ℕ) → (n ≡ 0) ⊎ (given s.history < n) �
 is_missing s n (inl zero) = ap (λ b. b || nat_lt (given s.history) n) (eq-eqb n 0 zero)
 is_missing s n (inr high) = or_right (n == 0) _ (lt-ltb (given s.history) n high)
 
-pub not_given : (c : Config) (s : State) (n : ℕ) → IsReached c s → ((n == 0) || nat_lt (given s.history) n) ≡ true → find_number s.remaining n ≡ None
+pub not_given : (c : Config) (s : State) (n : ℕ) → IsReached c s → ((n == 0) || nat_lt (given s.history) n) ≡ true →
+    find_number s.remaining n ≡ None
 not_given c s n reached gone = go (find_number s.remaining n) refl
   where
     kept : IsKept c s
@@ -33,7 +37,8 @@ not_given c s n reached gone = go (find_number s.remaining n) refl
     within : (k : Kept) → find_number s.remaining n ≡ Some k → ((n == 0) || nat_lt (given s.history) n) ≡ false
     within k found =
         let number = find_itself s.remaining n k found in
-        let low = (each_find (λ j. (0 < j.number) × (find_number s.remaining j.number ≡ Some j)) s.remaining n k (finds_all 0 s.remaining kept.rises) found).0 in
+        let low = (each_find (λ j. (0 < j.number) × (find_number s.remaining j.number ≡ Some j)) s.remaining n k
+        (finds_all 0 s.remaining kept.rises) found).0 in
         let high = each_find _ s.remaining n k kept.numbered found in
         or_from (n == 0) (nat_lt (given s.history) n) (ne_eqb n 0 (λ e. omega arith)) (le-ltb (given s.history) n (omega arith))
 
@@ -44,31 +49,39 @@ not_given c s n reached gone = go (find_number s.remaining n) refl
 -- the undo of a step that doesn't remain
 
 pub refused_never_given : (s : State) (n : ℕ) → ((n == 0) || nat_lt (given s.history) n) ≡ true → undo_reply s n ≡ Refused NoSuchStep
-refused_never_given s n gone = ap (λ (b : Bool). if b then Refused NoSuchStep else undo_found s.remaining n (find_number s.remaining n)) gone
+refused_never_given s n gone =
+    ap (λ (b : Bool). if b then Refused NoSuchStep else undo_found s.remaining n (find_number s.remaining n)) gone
 
-pub refused_undone : (s : State) (n : ℕ) → 0 < n → n ≤ given s.history → find_number s.remaining n ≡ None → undo_reply s n ≡ Refused AlreadyUndone
+pub refused_undone : (s : State) (n : ℕ) → 0 < n → n ≤ given s.history → find_number s.remaining n ≡ None →
+    undo_reply s n ≡ Refused AlreadyUndone
 refused_undone s n low high gone =
-    ap (λ (b : Bool). if b then Refused NoSuchStep else undo_found s.remaining n (find_number s.remaining n)) (or_from (n == 0) (nat_lt (given s.history) n) (ne_eqb n 0 (λ e. omega arith)) (le-ltb (given s.history) n high))
+    ap (λ (b : Bool). if b then Refused NoSuchStep else undo_found s.remaining n (find_number s.remaining n))
+    (or_from (n == 0) (nat_lt (given s.history) n) (ne_eqb n 0 (λ e. omega arith)) (le-ltb (given s.history) n high))
     ∙ ap (undo_found s.remaining n) gone
 
 -- the machine accepts the undos that the journal accepts
-accepted : (c : Config) (s : State) (actor : ℕ) (numbers : List ℕ) (left : List Kept) → IsReached c s → undo_all s.remaining numbers ≡ Some left → replies_of c s (undos actor numbers) ≡ map Undone numbers
+accepted : (c : Config) (s : State) (actor : ℕ) (numbers : List ℕ) (left : List Kept) → IsReached c s →
+    undo_all s.remaining numbers ≡ Some left → replies_of c s (undos actor numbers) ≡ map Undone numbers
 accepted c s actor [] left reached h = refl
 accepted c s actor (n ∷ numbers) left reached h =
     let t = taken_back s.remaining n numbers left h in
     let reply : undo_reply s n ≡ Undone n = undo_answers c s n t.step None reached t.found t.free in
     let next : State = after c s actor (Undo n) (Undone n) in
     ap (λ (r : Reply). r ∷ replies_of c (after c s actor (Undo n) r) (undos actor numbers)) reply
-    ∙ ap (λ (l : List Reply). Undone n ∷ l) (accepted c next actor numbers left (reached_after c s actor (Undo n) (Undone n) reached reply) t.later)
+    ∙ ap (λ (l : List Reply). Undone n ∷ l)
+    (accepted c next actor numbers left (reached_after c s actor (Undo n) (Undone n) reached reply) t.later)
 
 pub future_undone : UndoneInTurnLaw
 future_undone c s actor n numbers reached future =
     let k = kept_reached c s reached in
-    accepted c s actor numbers (without_all s.remaining numbers) reached (future_holds.taken_back s.remaining n numbers (in_order (node_limits c.limits) c.nodes s.remaining k.cluster k.rises k.is_now) future)
+    accepted c s actor numbers (without_all s.remaining numbers) reached
+    (future_holds.taken_back s.remaining n numbers (in_order (node_limits c.limits) c.nodes s.remaining k.cluster k.rises k.is_now)
+    future)
 
 -- one undo after others
 
-replies_append : (c : Config) (s : State) (asked more : List (ℕ × Action)) → replies_of c s (asked ++ more) ≡ replies_of c s asked ++ replies_of c (calls c s asked) more
+replies_append : (c : Config) (s : State) (asked more : List (ℕ × Action)) →
+    replies_of c s (asked ++ more) ≡ replies_of c s asked ++ replies_of c (calls c s asked) more
 replies_append c s [] more = refl
 replies_append c s (a ∷ asked) more = ap (λ (l : List Reply). reply_to c s a.0 a.1 ∷ l) (replies_append c (call c s a.0 a.1) asked more)
 
@@ -92,8 +105,10 @@ module _ (old mid new : Machine) (actor n : ℕ) (first : List ℕ) (reply : Rep
   one_more (Answered answer gives) made =
       let here : undo_reply mid.state n ≡ undo_reply before n = ap (λ (m : Machine). undo_reply m.state n) so_far.state in
       let is : undo_reply before n ≡ Undone n = sym here ∙ sym answer ∙ made in
-      let longer : undos actor (first ++ n ∷ []) ≡ undos actor first ++ (actor, Undo n) ∷ [] = map-append (λ (n : ℕ). (actor, Undo n)) first (n ∷ []) in
-      let made_new : new ≡ with_state mid (after (config_of mid) mid.state actor (Undo n) (Undone n)) = gives ∙ ap (λ (r : Reply). with_state mid (after (config_of mid) mid.state actor (Undo n) r)) made in
+      let longer : undos actor (first ++ n ∷ []) ≡ undos actor first ++ (actor, Undo n) ∷ [] =
+      map-append (λ (n : ℕ). (actor, Undo n)) first (n ∷ []) in
+      let made_new : new ≡ with_state mid (after (config_of mid) mid.state actor (Undo n) (Undone n)) = gives
+      ∙ ap (λ (r : Reply). with_state mid (after (config_of mid) mid.state actor (Undo n) r)) made in
       record {
         replies = ap (replies_of (config_of old) old.state) longer
             ∙ replies_append (config_of old) old.state (undos actor first) ((actor, Undo n) ∷ [])
@@ -103,7 +118,8 @@ module _ (old mid new : Machine) (actor n : ℕ) (first : List ℕ) (reply : Rep
         state = gives
             ∙ ap (λ (m : Machine). with_state m (after (config_of m) m.state actor (Undo n) reply)) so_far.state
             ∙ ap (λ (r : Reply). with_state old (after (config_of old) before actor (Undo n) r)) (answer ∙ here)
-            ∙ ap (with_state old) (sym (ap (calls (config_of old) old.state) longer ∙ calls_append (config_of old) old.state (undos actor first) actor (Undo n)));
+            ∙ ap (with_state old) (sym (ap (calls (config_of old) old.state) longer
+            ∙ calls_append (config_of old) old.state (undos actor first) actor (Undo n)));
         history = ap (λ (m : Machine). m.state.history) made_new
             ∙ ap (λ (h : List Event). h ++ undone_event actor n ∷ []) so_far.history
             ∙ append_assoc old.state.history (map (undone_event actor) first) (undone_event actor n ∷ [])
@@ -114,13 +130,16 @@ module _ (old mid new : Machine) (actor n : ℕ) (first : List ℕ) (reply : Rep
       }
 
   -- where the next could be undone, it was not for want of memory alone
-  no_more : (rest : List ℕ) → CanBeUndone old (first ++ n ∷ rest) → AnswersAs mid actor (Undo n) reply new → reply ≢ Undone n → AreUndone old actor first new
+  no_more : (rest : List ℕ) → CanBeUndone old (first ++ n ∷ rest) → AnswersAs mid actor (Undo n) reply new → reply ≢ Undone n →
+      AreUndone old actor first new
   no_more rest all (Unmade recorded none same) refused = subst (AreUndone old actor first) (sym same) so_far
   no_more rest all (Answered answer gives) refused =
       let here : undo_reply mid.state n ≡ undo_reply before n = ap (λ (m : Machine). undo_reply m.state n) so_far.state in
-      let longer : undos actor (first ++ n ∷ rest) ≡ undos actor first ++ (actor, Undo n) ∷ undos actor rest = map-append (λ (n : ℕ). (actor, Undo n)) first (n ∷ rest) in
+      let longer : undos actor (first ++ n ∷ rest) ≡ undos actor first ++ (actor, Undo n) ∷ undos actor rest =
+      map-append (λ (n : ℕ). (actor, Undo n)) first (n ∷ rest) in
       let later : State = after (config_of old) before actor (Undo n) (undo_reply before n) in
-      let parts : map Undone first ++ undo_reply before n ∷ replies_of (config_of old) later (undos actor rest) ≡ map Undone first ++ Undone n ∷ map Undone rest =
+      let parts : map Undone first ++ undo_reply before n ∷ replies_of (config_of old) later (undos actor rest) ≡ map Undone first ++
+      Undone n ∷ map Undone rest =
       sym (ap (λ (l : List Reply). l ++ undo_reply before n ∷ replies_of (config_of old) later (undos actor rest)) so_far.replies)
       ∙ sym (replies_append (config_of old) old.state (undos actor first) ((actor, Undo n) ∷ undos actor rest))
       ∙ sym (ap (replies_of (config_of old) old.state) longer)
@@ -130,34 +149,44 @@ module _ (old mid new : Machine) (actor n : ℕ) (first : List ℕ) (reply : Rep
 
 -- the same, as a loop over the numbers comes to it
 
-pub undone_next : (old mid new : Machine) (actor : ℕ) (numbers : List ℕ) (i n : ℕ) (reply : Reply) → i < length numbers → n ≡ get_or numbers i 0 → AreUndone old actor (take i numbers) mid → AnswersAs mid actor (Undo n) reply new → reply ≡ Undone n → AreUndone old actor (take (i + 1) numbers) new
+pub undone_next : (old mid new : Machine) (actor : ℕ) (numbers : List ℕ) (i n : ℕ) (reply : Reply) → i < length numbers →
+    n ≡ get_or numbers i 0 → AreUndone old actor (take i numbers) mid → AnswersAs mid actor (Undo n) reply new → reply ≡ Undone n →
+    AreUndone old actor (take (i + 1) numbers) new
 undone_next old mid new actor numbers i n reply low at so_far answer made =
-    subst (λ (l : List ℕ). AreUndone old actor l new) (sym (take_more numbers i 0 low ∙ ap (λ (n : ℕ). take i numbers ++ n ∷ []) (sym at))) (one_more old mid new actor n (take i numbers) reply so_far answer made)
+    subst (λ (l : List ℕ). AreUndone old actor l new) (sym (take_more numbers i 0 low ∙ ap (λ (n : ℕ). take i numbers ++ n ∷ []) (sym at)))
+    (one_more old mid new actor n (take i numbers) reply so_far answer made)
 
-pub undone_no_more : (old mid new : Machine) (actor : ℕ) (numbers : List ℕ) (i n : ℕ) (reply : Reply) → i < length numbers → n ≡ get_or numbers i 0 → CanBeUndone old numbers → AreUndone old actor (take i numbers) mid → AnswersAs mid actor (Undo n) reply new → reply ≢ Undone n → AreUndone old actor (take i numbers) new
+pub undone_no_more : (old mid new : Machine) (actor : ℕ) (numbers : List ℕ) (i n : ℕ) (reply : Reply) → i < length numbers →
+    n ≡ get_or numbers i 0 → CanBeUndone old numbers → AreUndone old actor (take i numbers) mid → AnswersAs mid actor (Undo n) reply new →
+    reply ≢ Undone n → AreUndone old actor (take i numbers) new
 undone_no_more old mid new actor numbers i n reply low at all so_far answer refused =
-    let whole : numbers ≡ take i numbers ++ n ∷ drop (i + 1) numbers = sym (take-append-drop i numbers) ∙ ap (λ (l : List ℕ). take i numbers ++ l) (drop_more numbers i 0 low ∙ ap (λ (n : ℕ). n ∷ drop (i + 1) numbers) (sym at)) in
+    let whole : numbers ≡ take i numbers ++ n ∷ drop (i + 1) numbers = sym (take-append-drop i numbers)
+    ∙ ap (λ (l : List ℕ). take i numbers ++ l) (drop_more numbers i 0 low ∙ ap (λ (n : ℕ). n ∷ drop (i + 1) numbers) (sym at)) in
     no_more old mid new actor n (take i numbers) reply so_far (drop (i + 1) numbers) (subst (CanBeUndone old) whole all) answer refused
 
 -- undos that the machine makes
 
-undone_parts : (s : State) (n : ℕ) → undo_reply s n ≡ Undone n → ((x : Kept) × (find_number s.remaining n ≡ Some x)) × (first_consequence s.remaining n ≡ None)
+undone_parts : (s : State) (n : ℕ) → undo_reply s n ≡ Undone n →
+    ((x : Kept) × (find_number s.remaining n ≡ Some x)) × (first_consequence s.remaining n ≡ None)
 undone_parts s n is = outer ((n == 0) || nat_lt (given s.history) n) is
   where
     free : (o : Option ℕ) → first_consequence s.remaining n ≡ o → unheld n o ≡ Undone n → first_consequence s.remaining n ≡ None
     free None e h = e
     free (Some j) e h = absurd (cc)
 
-    found : (o : Option Kept) → find_number s.remaining n ≡ o → undo_found s.remaining n o ≡ Undone n → ((x : Kept) × (find_number s.remaining n ≡ Some x)) × (first_consequence s.remaining n ≡ None)
+    found : (o : Option Kept) → find_number s.remaining n ≡ o → undo_found s.remaining n o ≡ Undone n →
+        ((x : Kept) × (find_number s.remaining n ≡ Some x)) × (first_consequence s.remaining n ≡ None)
     found None e h = absurd (cc)
     found (Some x) e h = ((x, e), free (first_consequence s.remaining n) refl h)
 
-    outer : (b : Bool) → (if b then Refused NoSuchStep else undo_found s.remaining n (find_number s.remaining n)) ≡ Undone n → ((x : Kept) × (find_number s.remaining n ≡ Some x)) × (first_consequence s.remaining n ≡ None)
+    outer : (b : Bool) → (if b then Refused NoSuchStep else undo_found s.remaining n (find_number s.remaining n)) ≡ Undone n →
+        ((x : Kept) × (find_number s.remaining n ≡ Some x)) × (first_consequence s.remaining n ≡ None)
     outer true h = absurd (cc)
     outer false h = found (find_number s.remaining n) refl h
 
 -- the journal accepts the undos that the machine makes
-made : (c : Config) (s : State) (asked : List (ℕ × ℕ)) → IsReached c s → replies_of c s (asked_undos asked) ≡ map (λ a. Undone a.1) asked → undo_all s.remaining (map (λ a. a.1) asked) ≡ Some (calls c s (asked_undos asked)).remaining
+made : (c : Config) (s : State) (asked : List (ℕ × ℕ)) → IsReached c s → replies_of c s (asked_undos asked) ≡ map (λ a. Undone a.1) asked →
+    undo_all s.remaining (map (λ a. a.1) asked) ≡ Some (calls c s (asked_undos asked)).remaining
 made c s [] reached h = refl
 made c s (a ∷ asked) reached h =
     let reply : undo_reply s a.1 ≡ Undone a.1 = cc in
@@ -165,14 +194,16 @@ made c s (a ∷ asked) reached h =
     let others : replies_of c next (asked_undos asked) ≡ map (λ a. Undone a.1) asked = cc in
     let parts = undone_parts s a.1 reply in
     let out : next.remaining ≡ without s.remaining a.1 = ap (remaining_after s.remaining a.0 (Undo a.1)) reply in
-    ap (λ (o : Option Kept). if is_some o && is_none (first_consequence s.remaining a.1) then undo_all (without s.remaining a.1) (map (λ a. a.1) asked) else None) parts.0.1
+    ap (λ (o : Option Kept). if is_some o && is_none (first_consequence s.remaining a.1) then undo_all (without s.remaining a.1)
+    (map (λ a. a.1) asked) else None) parts.0.1
     ∙ ap (λ (o : Option ℕ). if is_none o then undo_all (without s.remaining a.1) (map (λ a. a.1) asked) else None) parts.1
     ∙ ap (λ (ks : List Kept). undo_all ks (map (λ a. a.1) asked)) (sym out)
     ∙ made c next asked (reached_after c s a.0 (Undo a.1) (undo_reply s a.1) reached refl) others
 
 pub least : LeastLaw
 least c s n asked reached replies gone j follows =
-    future_holds.least s.remaining (calls c s (asked_undos asked)).remaining n (map (λ a. a.1) asked) (kept_reached c s reached).rises (made c s asked reached replies) gone j follows
+    future_holds.least s.remaining (calls c s (asked_undos asked)).remaining n (map (λ a. a.1) asked) (kept_reached c s reached).rises
+    (made c s asked reached replies) gone j follows
 
 -- what is left of a list
 

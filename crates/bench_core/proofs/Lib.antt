@@ -12,6 +12,6 @@ pub mod Chain
 pub mod OwnChain
 pub mod OneStep
 pub mod Openings
-pub mod Keeps
+pub mod Invariant
 pub mod InTurn
 pub mod Gone

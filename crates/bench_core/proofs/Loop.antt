@@ -1,11 +1,13 @@
 -- The remaining steps of a run stand in order, and a step at the end of a journal can be taken out again.
-use Rattle.std.proofs.Common.{◌≡◌, ℕ, zero, suc, List, [], ◌∷◌, ◌++◌, length, slice_get, Option, Some, None, option_map, option_and_then, Ok, refl, sym, ap, ◌∙◌, subst, arith, append_assoc}
+use Rattle.std.proofs.Common.{◌≡◌, ℕ, zero, suc, List, [], ◌∷◌, ◌++◌, length, slice_get, Option, Some, None, option_map, option_and_then, Ok, refl, sym, ap}
+use Rattle.std.proofs.Common.{◌∙◌, subst, arith, append_assoc}
 use Rattle.std.proofs.lemmas.Bool.{ne_eqb, eq-eqb}
 use Rattle.replica_core.specs.declared.node_limits.NodeLimits.{NodeLimits}
 use Rattle.payload_core.specs.Messages.{numbered}
 use Rattle.node_core.specs.Operations.{delivers}
 use Rattle.node_core.specs.Nodes.{Node}
-use Rattle.journal_core.specs.Journals.{Kept, RisesAbove, AreBelow, IsSentBefore, AreSentBefore, AreInOrder, sent_by, is_consequence, find_number, first_number, without}
+use Rattle.journal_core.specs.Journals.{Kept, NumbersRise, AreBelow, IsSentBefore, AreSentBefore, AreInCausalOrder, sent_by, is_consequence, find_number}
+use Rattle.journal_core.specs.Journals.{first_number, without}
 use Rattle.journal_core.specs.Holdings.{HasSender}
 use Rattle.journal_core.proofs.Each.{first_none}
 use Rattle.journal_core.proofs.Rising.{below_part}
@@ -19,13 +21,15 @@ use Rattle.bench_core.proofs.Runs.{runs_append, run_one, outbox_counts}
 
 -- what is delivered was sent by a remaining step
 
-get_alike : {A B : Type 0} (xs : List A) (ys : List B) (p : ℕ) (x : A) → length xs ≡ length ys → slice_get xs p ≡ Some x → (y : B) × (slice_get ys p ≡ Some y)
+get_alike : {A B : Type 0} (xs : List A) (ys : List B) (p : ℕ) (x : A) → length xs ≡ length ys → slice_get xs p ≡ Some x →
+    (y : B) × (slice_get ys p ≡ Some y)
 get_alike [] ys p x same h = absurd (cc)
 get_alike (z ∷ xs) [] p x same h = absurd (omega arith)
 get_alike (z ∷ xs) (w ∷ ys) zero x same h = (w, refl)
 get_alike (z ∷ xs) (w ∷ ys) (suc p) x same h = get_alike xs ys p x (omega arith) h
 
-pub has_sender : (l : NodeLimits) (count : ℕ) (ks : List Kept) (c : Cluster) (o : Option (ℕ × ℕ)) → runs l count ks ≡ Ok c → WasRead o (message_at c o) → HasSender ks o
+pub has_sender : (l : NodeLimits) (count : ℕ) (ks : List Kept) (c : Cluster) (o : Option (ℕ × ℕ)) → runs l count ks ≡ Ok c →
+    WasRead o (message_at c o) → HasSender ks o
 has_sender l count ks c None run read = tt
 has_sender l count ks c (Some (sender, p)) run read = go (slice_get c sender) p refl read.1
   where
@@ -38,21 +42,26 @@ has_sender l count ks c (Some (sender, p)) run read = go (slice_get c sender) p 
 
 -- no delivery stands before the step that sent its message
 
-run_push : (l : NodeLimits) (count : ℕ) (ks : List Kept) (k : Kept) (b c : Cluster) → runs l count ks ≡ Ok b → step b k.node k.step ≡ Ok c → runs l count (ks ++ k ∷ []) ≡ Ok c
-run_push l count ks k b c run taken = runs_append (Ok (opening_of l count)) ks (k ∷ []) ∙ ap (λ r. then_runs r (k ∷ [])) run ∙ ap (λ r. then_runs r []) taken
+run_push : (l : NodeLimits) (count : ℕ) (ks : List Kept) (k : Kept) (b c : Cluster) → runs l count ks ≡ Ok b → step b k.node k.step ≡ Ok c →
+    runs l count (ks ++ k ∷ []) ≡ Ok c
+run_push l count ks k b c run taken =
+    runs_append (Ok (opening_of l count)) ks (k ∷ []) ∙ ap (λ r. then_runs r (k ∷ [])) run ∙ ap (λ r. then_runs r []) taken
 
-sent_before : (l : NodeLimits) (count : ℕ) (ks first rest : List Kept) (b c : Cluster) → ks ≡ first ++ rest → RisesAbove 0 ks → runs l count first ≡ Ok b → then_runs (Ok b) rest ≡ Ok c → AreSentBefore ks rest
+sent_before : (l : NodeLimits) (count : ℕ) (ks first rest : List Kept) (b c : Cluster) → ks ≡ first ++ rest → NumbersRise 0 ks →
+    runs l count first ≡ Ok b → then_runs (Ok b) rest ≡ Ok c → AreSentBefore ks rest
 sent_before l count ks first [] b c is rises run more = tt
 sent_before l count ks first (j ∷ rest) b c is rises run more =
     let one = run_one b c j rest more in
     let at = stepped b j.node j.step one.0 one.1 in
     let sender = has_sender l count first b (delivers j.step) run (was_read at.from j.step (message_for b j.step) at.to at.taken) in
-    let low = (below_part 0 first rest j (subst (RisesAbove 0) is rises)).1 in (
-      subst (λ ks. IsSentBefore ks j.number (delivers j.step)) (sym is) (sent_at_end first (j ∷ rest) j.number (delivers j.step) low sender),
-      sent_before l count ks (first ++ j ∷ []) rest one.0 c (is ∙ sym (append_assoc first (j ∷ []) rest)) rises (run_push l count first j b one.0 run one.1) one.2,
+    let low = (below_part 0 first rest j (subst (NumbersRise 0) is rises)).1 in (
+      subst (λ ks. IsSentBefore ks j.number (delivers j.step)) (sym is)
+          (sent_at_end first (j ∷ rest) j.number (delivers j.step) low sender),
+      sent_before l count ks (first ++ j ∷ []) rest one.0 c (is ∙ sym (append_assoc first (j ∷ []) rest)) rises
+          (run_push l count first j b one.0 run one.1) one.2,
     )
 
-pub in_order : (l : NodeLimits) (count : ℕ) (ks : List Kept) (c : Cluster) → RisesAbove 0 ks → runs l count ks ≡ Ok c → AreInOrder ks
+pub in_order : (l : NodeLimits) (count : ℕ) (ks : List Kept) (c : Cluster) → NumbersRise 0 ks → runs l count ks ≡ Ok c → AreInCausalOrder ks
 in_order l count ks c rises run = (rises, sent_before l count ks [] ks (opening_of l count) c refl rises refl run)
 
 -- a step at the end
@@ -72,6 +81,8 @@ loop_holds l count number node ks s c d rises run taken =
     let low = (below_part 0 ks [] k rises).1 in
     let none = none_up_to longer ks [] k (in_order l count longer d rises (run_push l count ks k c d run taken)) refl in
     record {
-      held = ap (option_and_then (λ j. first_number (is_consequence longer j) longer)) (find_last number ks k refl low) ∙ first_none (is_consequence longer k) longer none;
+      held =
+          ap (option_and_then (λ j. first_number (is_consequence longer j) longer)) (find_last number ks k refl low)
+          ∙ first_none (is_consequence longer k) longer none;
       out = without_last number ks k refl low;
     }

@@ -1,5 +1,6 @@
 -- The step of one node in a cluster, taken while another node stands in its place.
-use Rattle.std.proofs.Common.{◌≡◌, ◌≢◌, ℕ, zero, suc, ◌<◌, ◌≤◌, ◌==◌, nat_lt, Bool, true, false, if◌then◌else◌, List, [], ◌∷◌, length, set, slice_get, get_or, Option, Some, Result, Ok, Err, OnOk, OnErr, IfOk, IfErr, refl, sym, ap, ◌∙◌, subst, arith}
+use Rattle.std.proofs.Common.{◌≡◌, ◌≢◌, ℕ, zero, suc, ◌<◌, ◌≤◌, ◌==◌, nat_lt, Bool, true, false, if◌then◌else◌, List, [], ◌∷◌, length, set, slice_get}
+use Rattle.std.proofs.Common.{get_or, Option, Some, Result, Ok, Err, OnOk, OnErr, IfOk, IfErr, refl, sym, ap, ◌∙◌, subst, arith}
 use Rattle.std.proofs.lemmas.Bool.{eqb-false, ltb-true, and_parts}
 use Rattle.std.specs.List.{list_all}
 use Rattle.payload_core.specs.Messages.{Message, numbered}
@@ -8,7 +9,7 @@ use Rattle.node_core.specs.declared.step_fault.StepFault.{StepFault}
 use Rattle.node_core.specs.declared.step_fault.StepFault.TheVariants.{OwnMessage, OutOfMemory}
 use Rattle.node_core.specs.Operations.{Operation, Join, Leave, LeaveAll, Update, Broadcast, Extract, Deliver, Up, Down, Permdown, named_in, AreNames}
 use Rattle.node_core.specs.Nodes.{Node, deliver, take}
-use Rattle.node_core.specs.Kept.{IsNode}
+use Rattle.node_core.specs.Invariant.{IsNode}
 use Rattle.node_core.specs.Inverses.{plain_inverse, LeadsBack}
 use Rattle.bench_core.specs.Clusters.{Cluster, outbox_of, message_for}
 use Rattle.bench_core.specs.Benches.{IsNumbered, Steps}
@@ -33,7 +34,8 @@ names_named (Down name) count few named = let low = ltb-true name count (and_par
 names_named (Permdown name) count few named = let low = ltb-true name count (and_parts _ _ named).0 in omega arith
 
 -- a step reads no message of its own node
-take_alike : (c : Cluster) (n : ℕ) (s : Operation) (x other : Node) → x.replica.own ≡ n → take x s (message_for (set c n other) s) ≡ take x s (message_for c s)
+take_alike : (c : Cluster) (n : ℕ) (s : Operation) (x other : Node) → x.replica.own ≡ n →
+    take x s (message_for (set c n other) s) ≡ take x s (message_for c s)
 take_alike c n (Join p) x other own = refl
 take_alike c n (Leave pid topic key) x other own = refl
 take_alike c n (LeaveAll pid) x other own = refl
@@ -45,7 +47,9 @@ take_alike c n (Down name) x other own = refl
 take_alike c n (Permdown name) x other own = refl
 take_alike c n (Deliver sender p) x other own = go (sender == x.replica.own) refl
   where
-    go : (b : Bool) → (sender == x.replica.own) ≡ b → (if b then Err OwnMessage else deliver x (numbered (outbox_of (slice_get (set c n other) sender)) p)) ≡ (if b then Err OwnMessage else deliver x (numbered (outbox_of (slice_get c sender)) p))
+    go : (b : Bool) → (sender == x.replica.own) ≡ b →
+        (if b then Err OwnMessage else deliver x (numbered (outbox_of (slice_get (set c n other) sender)) p)) ≡
+        (if b then Err OwnMessage else deliver x (numbered (outbox_of (slice_get c sender)) p))
     go true is = refl
     go false is =
         let apart : sender ≢ n = λ e. eqb-false sender x.replica.own is (e ∙ sym own) in
@@ -56,8 +60,20 @@ module _ (c : Cluster) (n : ℕ) (s : Operation) (x y z other : Node) (m : Optio
   alike : take z s m ≡ take x s (message_for c s)
   alike = ap (λ z. take z s m) same ∙ ap (take x s) is ∙ take_alike c n s x other (own n x at)
 
-  pub one_step : {X : Type 0} (r : Result (declared.Inverse X) StepFault) → OnOk r (take z s m ≡ Ok y) → IfOk r (λ i. LeadsBack (plain_inverse i) y z) → IfErr r (λ fault. fault ≢ OutOfMemory → take z s m ≡ Err fault) → OnErr r (y ≡ z) → IsNode y → Steps c n s r (set (set c n other) n y)
-  one_step (Ok i) taken leads fault stays kept = record { earlier = x; later = y; at = at; taken = sym alike ∙ taken; leads = subst (λ z. LeadsBack (plain_inverse i) y z) same leads; gives = set-set_same c n other y; kept = kept }
+  pub one_step : {X : Type 0} (r : Result (declared.Inverse X) StepFault) → OnOk r (take z s m ≡ Ok y) →
+      IfOk r (λ i. LeadsBack (plain_inverse i) y z) → IfErr r (λ fault. fault ≢ OutOfMemory → take z s m ≡ Err fault) → OnErr r (y ≡ z) →
+      IsNode y → Steps c n s r (set (set c n other) n y)
+  one_step (Ok i) taken leads fault stays kept =
+      record {
+        earlier = x;
+        later = y;
+        at = at;
+        taken = sym alike
+            ∙ taken;
+        leads = subst (λ z. LeadsBack (plain_inverse i) y z) same leads;
+        gives = set-set_same c n other y;
+        kept = kept;
+      }
   one_step (Err e) taken leads fault stays kept = (
     set-set_same c n other y ∙ ap (set c n) (stays ∙ same) ∙ set-get c n x at,
     λ some. step_takes c n s x (Err e) at named (sym alike ∙ fault some),

@@ -1,9 +1,10 @@
 -- The opening cluster, and lists of calls.
-use Rattle.std.proofs.Common.{◌≡◌, ℕ, zero, suc, ◌+◌, ◌<◌, ◌≤◌, List, [], ◌∷◌, ◌++◌, length, slice_get, Some, Ok, refl, sym, ap, ◌∙◌, subst, subst₂, arith, add-zero, take, get_or}
+use Rattle.std.proofs.Common.{◌≡◌, ℕ, zero, suc, ◌+◌, ◌<◌, ◌≤◌, List, [], ◌∷◌, ◌++◌, length, slice_get, Some, Ok, refl, sym, ap, ◌∙◌, subst, subst₂, arith}
+use Rattle.std.proofs.Common.{add-zero, take, get_or}
 use Rattle.std.proofs.lemmas.List.{take_more}
 use Rattle.replica_core.specs.declared.node_limits.NodeLimits.{NodeLimits}
 use Rattle.node_core.specs.Nodes.{Node, opening_node}
-use Rattle.node_core.specs.Kept.{IsNode}
+use Rattle.node_core.specs.Invariant.{IsNode}
 use Rattle.bench_core.specs.declared.act.Act.{Act}
 use Rattle.bench_core.specs.Acts.{Action, plain_act, calls_of}
 use Rattle.bench_core.specs.declared.reply.Reply.{Reply}
@@ -12,11 +13,13 @@ use Rattle.bench_core.specs.Limits.{AreLimits, node_limits}
 use Rattle.bench_core.specs.Machine.{Config, Machine, AnswersAs, AllAnswered, opening_state}
 use Rattle.bench_core.specs.Benches.{AreNodes, IsBench}
 
-opening_from_push : (l : NodeLimits) (first count : ℕ) → opening_from l first (suc count) ≡ opening_from l first count ++ opening_node (first + count) l ∷ []
+opening_from_push : (l : NodeLimits) (first count : ℕ) →
+    opening_from l first (suc count) ≡ opening_from l first count ++ opening_node (first + count) l ∷ []
 opening_from_push l first zero = ap (λ n. opening_node n l ∷ []) (sym (add-zero first))
 opening_from_push l first (suc count) =
     let next : (first + 1) + count ≡ first + suc count = omega arith in
-    ap (λ (c : Cluster). opening_node first l ∷ c) (opening_from_push l (first + 1) count ∙ ap (λ n. opening_from l (first + 1) count ++ opening_node n l ∷ []) next)
+    ap (λ (c : Cluster). opening_node first l ∷ c)
+    (opening_from_push l (first + 1) count ∙ ap (λ n. opening_from l (first + 1) count ++ opening_node n l ∷ []) next)
 
 pub opening_push : (l : NodeLimits) (count : ℕ) → opening_of l (count + 1) ≡ opening_of l count ++ opening_node count l ∷ []
 opening_push l count =
@@ -35,7 +38,8 @@ nodes_push [] x all is (suc n) y at = absurd (cc)
 nodes_push (z ∷ c) x all is zero y at = all 0 y at
 nodes_push (z ∷ c) x all is (suc n) y at = nodes_push c x (λ n y at. all (suc n) y at) is n y at
 
-pub opens : (c : Config) (nodes : Cluster) → AreLimits c.limits → c.nodes ≤ 32 → nodes ≡ opening_of (node_limits c.limits) c.nodes → AreNodes nodes → IsBench c opening_state nodes [] 0
+pub opens : (c : Config) (nodes : Cluster) → AreLimits c.limits → c.nodes ≤ 32 → nodes ≡ opening_of (node_limits c.limits) c.nodes →
+    AreNodes nodes → IsBench c opening_state nodes [] 0
 opens c nodes limits few is kept = record {
   reached = ([], refl);
   is_now = ap Ok (sym is);
@@ -48,7 +52,8 @@ opens c nodes limits few is kept = record {
   kept = kept;
 }
 
-pub answered_push : (old mid new : Machine) (calls : List (ℕ × Action)) (rs : List Reply) (a : ℕ × Action) (r : Reply) → AllAnswered old calls rs mid → AnswersAs mid a.0 a.1 r new → AllAnswered old (calls ++ a ∷ []) (rs ++ r ∷ []) new
+pub answered_push : (old mid new : Machine) (calls : List (ℕ × Action)) (rs : List Reply) (a : ℕ × Action) (r : Reply) →
+    AllAnswered old calls rs mid → AnswersAs mid a.0 a.1 r new → AllAnswered old (calls ++ a ∷ []) (rs ++ r ∷ []) new
 answered_push old mid new [] [] a r all one = (new, (subst (λ (m : Machine). AnswersAs m a.0 a.1 r new) all one, refl))
 answered_push old mid new [] (s ∷ rs) a r all one = absurd all
 answered_push old mid new (b ∷ calls) [] a r all one = absurd all
@@ -58,7 +63,11 @@ calls_of-append : {X : Type 0} (xs ys : List (ℕ × Act X)) → calls_of (xs ++
 calls_of-append [] ys = refl
 calls_of-append (x ∷ xs) ys = ap (λ (l : List (ℕ × Action)). (x.0, plain_act x.1) ∷ l) (calls_of-append xs ys)
 
-pub answered_next : {X : Type 0} (old mid new : Machine) (asked : List (ℕ × Act X)) (i : ℕ) (x : ℕ × Act X) (rs later : List Reply) (r : Reply) → i < length asked → x ≡ get_or asked i x → AllAnswered old (calls_of (take i asked)) rs mid → AnswersAs mid x.0 (plain_act x.1) r new → later ≡ rs ++ r ∷ [] → AllAnswered old (calls_of (take (i + 1) asked)) later new
+pub answered_next : {X : Type 0} (old mid new : Machine) (asked : List (ℕ × Act X)) (i : ℕ) (x : ℕ × Act X) (rs later : List Reply)
+    (r : Reply) → i < length asked → x ≡ get_or asked i x → AllAnswered old (calls_of (take i asked)) rs mid →
+    AnswersAs mid x.0 (plain_act x.1) r new → later ≡ rs ++ r ∷ [] → AllAnswered old (calls_of (take (i + 1) asked)) later new
 answered_next old mid new asked i x rs later r low at all one longer =
-    subst₂ (λ (calls : List (ℕ × Action)) (rs : List Reply). AllAnswered old calls rs new) (sym (ap calls_of (take_more asked i x low) ∙ calls_of-append (take i asked) (get_or asked i x ∷ []) ∙ ap (λ (y : _). calls_of (take i asked) ++ (y.0, plain_act y.1) ∷ []) (sym at))) (sym longer)
+    subst₂ (λ (calls : List (ℕ × Action)) (rs : List Reply). AllAnswered old calls rs new)
+    (sym (ap calls_of (take_more asked i x low) ∙ calls_of-append (take i asked) (get_or asked i x ∷ [])
+    ∙ ap (λ (y : _). calls_of (take i asked) ++ (y.0, plain_act y.1) ∷ []) (sym at))) (sym longer)
     (answered_push old mid new (calls_of (take i asked)) rs (x.0, plain_act x.1) r all one)

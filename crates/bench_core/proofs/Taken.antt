@@ -5,7 +5,8 @@ use Rattle.std.specs.FinSet as set
 use Rattle.payload_core.specs.Messages.{Message, message_of_names}
 use Rattle.replica_core.specs.declared.replica_fault.ReplicaFault.{ReplicaFault}
 use Rattle.replica_core.specs.declared.status.Status.TheVariants as statuses
-use Rattle.replica_core.specs.Replicas.{Replica, tracked_dots, dots_of_process, joined, left_each, updated, with_status, forgotten, delta_message, without_delta}
+use Rattle.replica_core.specs.Replicas.{Replica, tracked_dots, dots_of_process, joined, left_each, updated, with_status, forgotten, delta_message}
+use Rattle.replica_core.specs.Replicas.{without_delta}
 use Rattle.replica_core.specs.Deliveries.{merged}
 use Rattle.replica_core.specs.Refusals.{join_refusal, leave_refusal, leave_all_refusal, merge_refusal, up_refusal, down_refusal, permdown_refusal, has_dots}
 use Rattle.node_core.specs.declared.step_fault.StepFault.TheVariants.{OwnMessage, OutboxFull}
@@ -44,7 +45,8 @@ broadcast_ok : (some : Bool) (n y : Node) → broadcast some n ≡ Ok y → y �
 broadcast_ok true n y h = unless_full_ok n (with_sent n (delta_message n.replica) (without_delta n.replica)) y h
 broadcast_ok false n y h = absurd (cc)
 
-deliver_ok : (own : Bool) (n : Node) (m : Option Message) (y : Node) → (if own then Err OwnMessage else deliver n m) ≡ Ok y → (message : Message) × (m ≡ Some message) × (y ≡ with_replica n (merged message n.replica))
+deliver_ok : (own : Bool) (n : Node) (m : Option Message) (y : Node) → (if own then Err OwnMessage else deliver n m) ≡ Ok y →
+    (message : Message) × (m ≡ Some message) × (y ≡ with_replica n (merged message n.replica))
 deliver_ok true n m y h = absurd (cc)
 deliver_ok false n None y h = absurd (cc)
 deliver_ok false n (Some m) y h = (m, refl, unless_ok (merge_refusal n.replica m) (with_replica n (merged m n.replica)) y h)
@@ -71,16 +73,20 @@ alone n s m y cause r silent unread stays h =
     }
 
 took : (n : Node) (s : Operation) (m : Option Message) (y : Node) → take n s m ≡ Ok y → Took n s m y
-took n (Join p) m y h = alone n (Join p) m y (join_refusal n.replica p.pid p.topic p.key) (joined p n.replica) refl refl (record { own = refl; limits = refl }) h
+took n (Join p) m y h =
+    alone n (Join p) m y (join_refusal n.replica p.pid p.topic p.key) (joined p n.replica) refl refl (record { own = refl; limits = refl })
+    h
 took n (Leave pid topic key) m y h =
     let dots = tracked_dots n.replica pid topic key in
-    alone n (Leave pid topic key) m y (leave_refusal n.replica pid topic key) (left_each dots n.replica) refl refl (through_leaves dots n.replica) h
+    alone n (Leave pid topic key) m y (leave_refusal n.replica pid topic key) (left_each dots n.replica) refl refl
+    (through_leaves dots n.replica) h
 took n (LeaveAll pid) m y h =
     let dots = dots_of_process n.replica pid in
     alone n (LeaveAll pid) m y (leave_all_refusal n.replica pid) (left_each dots n.replica) refl refl (through_leaves dots n.replica) h
 took n (Update p) m y h =
     let drops = through_drops (tracked_dots n.replica p.pid p.topic p.key) n.replica in
-    alone n (Update p) m y (leave_refusal n.replica p.pid p.topic p.key) (updated p n.replica) refl refl (record { own = drops.own; limits = drops.limits }) h
+    alone n (Update p) m y (leave_refusal n.replica p.pid p.topic p.key) (updated p n.replica) refl refl
+    (record { own = drops.own; limits = drops.limits }) h
 took n Broadcast m y h =
     let gives = with_sent n (delta_message n.replica) (without_delta n.replica) in
     let e = broadcast_ok (has_dots n.replica.delta_seen) n y h in
@@ -94,9 +100,15 @@ took n (Deliver sender number) m y h =
     let d = deliver_ok (sender == n.replica.own) n m y h in
     let gives = with_replica n (merged d.0 n.replica) in
     record { posts = outbox_at y gives d.2; was_read = (d.0, d.1); owns = own_at y gives d.2; limits = limits_at y gives d.2 }
-took n (Up name) m y h = alone n (Up name) m y (up_refusal n.replica name) (with_status name statuses.Up n.replica) refl refl (record { own = refl; limits = refl }) h
-took n (Down name) m y h = alone n (Down name) m y (down_refusal n.replica name) (with_status name statuses.Down n.replica) refl refl (record { own = refl; limits = refl }) h
-took n (Permdown name) m y h = alone n (Permdown name) m y (permdown_refusal n.replica name) (forgotten name n.replica) refl refl (record { own = refl; limits = refl }) h
+took n (Up name) m y h =
+    alone n (Up name) m y (up_refusal n.replica name) (with_status name statuses.Up n.replica) refl refl
+    (record { own = refl; limits = refl }) h
+took n (Down name) m y h =
+    alone n (Down name) m y (down_refusal n.replica name) (with_status name statuses.Down n.replica) refl refl
+    (record { own = refl; limits = refl }) h
+took n (Permdown name) m y h =
+    alone n (Permdown name) m y (permdown_refusal n.replica name) (forgotten name n.replica) refl refl
+    (record { own = refl; limits = refl }) h
 
 pub posts : (n : Node) (s : Operation) (m : Option Message) (y : Node) → take n s m ≡ Ok y → Posts (sends s) n.outbox y.outbox
 posts n s m y h = (took n s m y h).posts

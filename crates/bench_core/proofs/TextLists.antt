@@ -1,5 +1,6 @@
 -- Lists of texts, and the lists that are accepted as names.
-use Rattle.std.proofs.Common.{◌≡◌, ◌≢◌, Result, ℕ, ◌+◌, ◌<◌, ◌≤◌, Bool, true, false, List, [], ◌∷◌, ◌++◌, length, map, not, Ok, Err, position, if◌then◌else◌, String, refl, sym, ap, subst, true≢false, ◌∙◌, append_assoc, append-nil, arith}
+use Rattle.std.proofs.Common.{◌≡◌, ◌≢◌, Result, ℕ, ◌+◌, ◌<◌, ◌≤◌, Bool, true, false, List, [], ◌∷◌, ◌++◌, length, map, not, Ok, Err, position}
+use Rattle.std.proofs.Common.{if◌then◌else◌, String, refl, sym, ap, subst, true≢false, ◌∙◌, append_assoc, append-nil, arith}
 use Rattle.std.specs.Bool.{Decides}
 use Rattle.std.specs.Cmp.Derive.Mapped.{pointwise-map}
 use Rattle.std.specs.Cmp.Lexicographic.{pointwise}
@@ -30,7 +31,8 @@ position-map p f xs = rw (prefix_len-map (λ y. not (p y)) f xs, length-map xs f
 with_name_ok : (before all : Texts) (text : List ℕ) → with_name before text ≡ Ok all → all ≡ before ++ text ∷ []
 with_name_ok before all text e = by (is_name text) (list_any (bytes_eq text) before) e
   where
-    by : (b c : Bool) → (if not b then Err (BadName (length before + 1)) else (if c then Err (Twice (length before + 1)) else Ok (before ++ text ∷ []))) ≡ Ok all → all ≡ before ++ text ∷ []
+    by : (b c : Bool) → (if not b then Err (BadName (length before + 1)) else
+        (if c then Err (Twice (length before + 1)) else Ok (before ++ text ∷ []))) ≡ Ok all → all ≡ before ++ text ∷ []
     by true false h = let k : before ++ text ∷ [] ≡ all = cc in sym k
     by true true h = cc
     by false c h = cc
@@ -53,14 +55,19 @@ module _ {Y : Type 0} (old : List (String Y)) (key : String Y) where
   seen : list_any (bytes_eq (string_bytes key)) (map string_bytes old) ≡ list_any (string_eq key) old
   seen = list_any-map (bytes_eq (string_bytes key)) string_bytes old
 
-  pub added_to_texts : (text : List ℕ) (added : Bool) → string_bytes key ≡ text → added ≡ not (list_any (string_eq key) old) → added ≡ not (list_any (bytes_eq text) (map string_bytes old))
+  pub added_to_texts : (text : List ℕ) (added : Bool) → string_bytes key ≡ text → added ≡ not (list_any (string_eq key) old) →
+      added ≡ not (list_any (bytes_eq text) (map string_bytes old))
   added_to_texts text added e h = subst (λ t. added ≡ not (list_any (bytes_eq t) (map string_bytes old))) e (h ∙ ap not (sym seen))
 
-  pub texts_after_insert : (new : List (String Y)) (text : List ℕ) (added : Bool) → string_bytes key ≡ text → added ≡ not (list_any (string_eq key) old) → new ≡ (if list_any (string_eq key) old then old else old ++ key ∷ [])
+  pub texts_after_insert : (new : List (String Y)) (text : List ℕ) (added : Bool) → string_bytes key ≡ text →
+      added ≡ not (list_any (string_eq key) old) → new ≡ (if list_any (string_eq key) old then old else old ++ key ∷ [])
       → map string_bytes new ≡ (if added then map string_bytes old ++ text ∷ [] else map string_bytes old)
-  texts_after_insert new text added e h k = subst (λ t. map string_bytes new ≡ (if added then map string_bytes old ++ t ∷ [] else map string_bytes old)) e (by (list_any (string_eq key) old) added h k)
+  texts_after_insert new text added e h k =
+      subst (λ t. map string_bytes new ≡ (if added then map string_bytes old ++ t ∷ [] else map string_bytes old)) e
+      (by (list_any (string_eq key) old) added h k)
     where
-      by : (b a : Bool) → a ≡ not b → new ≡ (if b then old else old ++ key ∷ []) → map string_bytes new ≡ (if a then map string_bytes old ++ string_bytes key ∷ [] else map string_bytes old)
+      by : (b a : Bool) → a ≡ not b → new ≡ (if b then old else old ++ key ∷ []) →
+          map string_bytes new ≡ (if a then map string_bytes old ++ string_bytes key ∷ [] else map string_bytes old)
       by true true h k = absurd (true≢false h)
       by true false h k = ap (map string_bytes) k
       by false true h k = ap (map string_bytes) k ∙ map-append string_bytes old (key ∷ [])
@@ -74,7 +81,8 @@ map-AllZip f (x ∷ xs) [] h = absurd h
 map-AllZip f (x ∷ xs) (y ∷ ys) h = rw (h.0, map-AllZip f xs ys h.1) refl
 
 -- `==` of `String`s, place by place, decides whether their texts are equal
-pub texts_eq-Decides : {Y : Type 0} (xs ys : List (String Y)) (r : Bool) → r ≡ pointwise string_eq xs ys → Decides r (map string_bytes xs ≡ map string_bytes ys)
+pub texts_eq-Decides : {Y : Type 0} (xs ys : List (String Y)) (r : Bool) → r ≡ pointwise string_eq xs ys →
+    Decides r (map string_bytes xs ≡ map string_bytes ys)
 texts_eq-Decides xs ys r e =
     slice_eq-Decides bytes_eq-Decides (map string_bytes xs) (map string_bytes ys) r
     (e ∙ sym (pointwise-map string_bytes bytes_eq xs ys))
@@ -83,7 +91,8 @@ texts_eq-Decides xs ys r e =
 with_name-count : (before : Texts) (text : List ℕ) → with_name before text ≢ Err WrongCount
 with_name-count before text e = by (is_name text) (list_any (bytes_eq text) before) e
   where
-    by : (b c : Bool) → (if not b then Err (BadName (length before + 1)) else (if c then Err (Twice (length before + 1)) else Ok (before ++ text ∷ []))) ≢ Err WrongCount
+    by : (b c : Bool) → (if not b then Err (BadName (length before + 1)) else
+        (if c then Err (Twice (length before + 1)) else Ok (before ++ text ∷ []))) ≢ Err WrongCount
     by true false h = cc
     by true true h = cc
     by false c h = cc
@@ -92,12 +101,14 @@ with_names-count : (before texts : Texts) → with_names before texts ≢ Err Wr
 with_names-count before [] e = cc
 with_names-count before (t ∷ ts) e = by (with_name before t) refl (λ next. with_names-count next ts) e
   where
-    by : (r : Result Texts NamesFault) → with_name before t ≡ r → ((next : Texts) → with_names next ts ≢ Err WrongCount) → (r >>= λ next. with_names next ts) ≢ Err WrongCount
+    by : (r : Result Texts NamesFault) → with_name before t ≡ r → ((next : Texts) → with_names next ts ≢ Err WrongCount) →
+        (r >>= λ next. with_names next ts) ≢ Err WrongCount
     by (Ok next) h rest k = rest next k
     by (Err fault) h rest k = with_name-count before t (h ∙ k)
 
 -- of 1 to 32 texts no fault is the count
-pub not_wrong_count : {X : Type 0} (result : Result X NamesFault) (view : X → Texts) (texts : Texts) → GivesUnless OutOfMemory view result (with_names [] texts) → result ≢ Err WrongCount
+pub not_wrong_count : {X : Type 0} (result : Result X NamesFault) (view : X → Texts) (texts : Texts) →
+    GivesUnless OutOfMemory view result (with_names [] texts) → result ≢ Err WrongCount
 not_wrong_count (Ok x) view texts gives e = cc
 not_wrong_count (Err fault) view texts gives e =
     let same : fault ≡ WrongCount = cc in

@@ -37,4 +37,5 @@ of_kind-stored (Undo number) = refl
 of_kind-stored (Back node) = refl
 
 abbrev pub action_code : Coded Action
-action_code = code_by (ℕ × (Operation × ℕ)) (coded× coded_ℕ (coded× operation_code coded_ℕ)) stored (λ t. of_kind t.0 t.1.0 t.1.1) of_kind-stored
+action_code =
+    code_by (ℕ × (Operation × ℕ)) (coded× coded_ℕ (coded× operation_code coded_ℕ)) stored (λ t. of_kind t.0 t.1.0 t.1.1) of_kind-stored

@@ -6,7 +6,7 @@ use Rattle.node_core.specs.declared.step_fault.StepFault.{StepFault}
 use Rattle.node_core.specs.declared.step_fault.StepFault.TheVariants.{OutOfMemory}
 use Rattle.node_core.specs.Operations.{Operation}
 use Rattle.node_core.specs.Nodes.{Node, take}
-use Rattle.node_core.specs.Kept.{IsNode}
+use Rattle.node_core.specs.Invariant.{IsNode}
 use Rattle.node_core.specs.Inverses.{Inverse, plain_inverse, LeadsBack}
 use Rattle.journal_core.specs.Journals.{Kept, find_number, first_consequence, AreBelow}
 use Rattle.journal_core.specs.Holdings.{Held, kepts, find_held, inverse_of, AreAllHeld}

@@ -32,13 +32,17 @@ pub record Passed : Type 0 where
 abbrev pub own_back : Result Cluster Fault → List Held → ℕ → List Passed
 own_back (Err e) hs n = []
 own_back (Ok c) [] n = []
-own_back (Ok c) (h ∷ hs) n = if h.kept.node == n then own_back (step c h.kept.node h.kept.step) hs n ++ record { before = c; held = h } ∷ [] else own_back (step c h.kept.node h.kept.step) hs n
+own_back (Ok c) (h ∷ hs) n =
+    if h.kept.node == n then own_back (step c h.kept.node h.kept.step) hs n ++ record { before = c; held = h } ∷
+    [] else own_back (step c h.kept.node h.kept.step) hs n
 
 -- the inverses lead, one after the other, from b back to a, each to what node n was just before its step
 abbrev pub LeadBack : ℕ → Node → List Passed → Node → Type 0
 LeadBack n b [] a = b ≡ a
-LeadBack n b (p ∷ ps) a = (i : Inverse) × (mid : Node) × (p.held.inverse ≡ Some i) × LeadsBack i b mid × (slice_get p.before n ≡ Some mid) × LeadBack n mid ps a
+LeadBack n b (p ∷ ps) a =
+    (i : Inverse) × (mid : Node) × (p.held.inverse ≡ Some i) × LeadsBack i b mid × (slice_get p.before n ≡ Some mid) × LeadBack n mid ps a
 
 -- from each present node, its own inverses lead back to its opening, through what it was in the run of the steps
 abbrev pub OwnChains : NodeLimits → ℕ → Cluster → List Held → Type 0
-OwnChains l count c hs = (n : ℕ) (x : Node) → slice_get c n ≡ Some x → LeadBack n x (own_back (Ok (opening_of l count)) hs n) (opening_node n l)
+OwnChains l count c hs =
+    (n : ℕ) (x : Node) → slice_get c n ≡ Some x → LeadBack n x (own_back (Ok (opening_of l count)) hs n) (opening_node n l)

@@ -7,9 +7,9 @@ use Rattle.bench_core.specs.Limits.{node_limits}
 use Rattle.node_core.specs.Operations.{Operation}
 use Rattle.bench_core.specs.Acts.{Action, Do, Undo, Back}
 use Rattle.bench_core.specs.Clusters.{Cluster}
-use Rattle.journal_core.specs.Journals.{Kept, RisesAbove, find_number, first_consequence, last_of, without, before}
+use Rattle.journal_core.specs.Journals.{Kept, NumbersRise, find_number, first_consequence, last_of, without, steps_before}
 use Rattle.bench_core.specs.Runs.{runs}
-use Rattle.bench_core.specs.Laws.{put_back}
+use Rattle.bench_core.specs.Laws.{with_node_of}
 use Rattle.bench_core.specs.Machine.{Config, State, opening_state, calls, call, reply_to, now, Machine, cluster_of, AnswersAs}
 
 -- a state that some calls lead to
@@ -21,13 +21,14 @@ abbrev pub GivenLaw : Type 0
 GivenLaw = (c : Config) (s : State) → IsReached c s →
     record {
       runs : (cluster : Cluster) × (now c s ≡ Ok cluster);
-      rises : RisesAbove 0 s.remaining;
+      rises : NumbersRise 0 s.remaining;
       fits : length s.history + length s.remaining ≤ c.limits.acts;
     }
 
 -- taken back at once: a step whose undo comes next, from whoever, is undone, and the remaining steps are as before it
 abbrev pub BackLaw : Type 0
-BackLaw = (c : Config) (s : State) (actor other k : ℕ) (operation : Operation) → IsReached c s → reply_to c s actor (Do operation) ≡ Taken k →
+BackLaw =
+    (c : Config) (s : State) (actor other k : ℕ) (operation : Operation) → IsReached c s → reply_to c s actor (Do operation) ≡ Taken k →
     record {
       undone : reply_to c (call c s actor (Do operation)) other (Undo k) ≡ Undone k;
       as_it_was : (call c (call c s actor (Do operation)) other (Undo k)).remaining ≡ s.remaining;
@@ -35,10 +36,13 @@ BackLaw = (c : Config) (s : State) (actor other k : ℕ) (operation : Operation)
 
 -- refused only for a named consequence: an undo of a remaining step is made, and changes its node alone; or it is refused with its least direct consequence, and changes nothing
 abbrev pub UndoLaw : Type 0
-UndoLaw = (c : Config) (s : State) (actor : ℕ) (step : Kept) (cluster : Cluster) → IsReached c s → find_number s.remaining step.number ≡ Some step → now c s ≡ Ok cluster →
+UndoLaw =
+    (c : Config) (s : State) (actor : ℕ) (step : Kept) (cluster : Cluster) → IsReached c s →
+    find_number s.remaining step.number ≡ Some step → now c s ≡ Ok cluster →
     record {
       undone : reply_to c s actor (Undo step.number) ≡ Undone step.number;
-      node_alone : (old : Cluster) × (runs (node_limits c.limits) c.nodes (before s.remaining step.number) ≡ Ok old) × (now c (call c s actor (Undo step.number)) ≡ Ok (put_back step.node old cluster));
+      node_alone : (old : Cluster) × (runs (node_limits c.limits) c.nodes (steps_before s.remaining step.number) ≡ Ok old) ×
+          (now c (call c s actor (Undo step.number)) ≡ Ok (with_node_of step.node old cluster));
     }
     ⊎ record {
       held_by : ℕ;
@@ -49,12 +53,14 @@ UndoLaw = (c : Config) (s : State) (actor : ℕ) (step : Kept) (cluster : Cluste
 
 -- how the undo ends that comes next after a step, where the bench was `old` before the step and `new` after it
 pub data UndoneAtOnce (old new : Machine) (k : ℕ) (reply : Reply) (later : Machine) : Type 0 where
-  TakenBack : reply ≡ Undone k → later.state.remaining ≡ old.state.remaining → cluster_of later ≡ cluster_of old → UndoneAtOnce old new k reply later
+  TakenBack : reply ≡ Undone k → later.state.remaining ≡ old.state.remaining → cluster_of later ≡ cluster_of old →
+      UndoneAtOnce old new k reply later
   NoMemory : reply ≡ Refused OutOfMemory → later ≡ new → UndoneAtOnce old new k reply later
 
 -- a step that was taken can be taken back at once, by whoever
 abbrev pub CanBeTakenBack : Machine → Reply → Machine → Type 0
-CanBeTakenBack old (Taken k) new = (other : ℕ) (reply : Reply) (later : Machine) → AnswersAs new other (Undo k) reply later → UndoneAtOnce old new k reply later
+CanBeTakenBack old (Taken k) new =
+    (other : ℕ) (reply : Reply) (later : Machine) → AnswersAs new other (Undo k) reply later → UndoneAtOnce old new k reply later
 CanBeTakenBack old _ new = Unit {0}
 
 -- of this node alone the cluster has changed, to what the node was just before its step k
@@ -62,17 +68,20 @@ pub record NodeGoesBack (old : Machine) (k node : ℕ) (new : Machine) : Type 0 
   pub cluster : Cluster
   pub earlier : Cluster
   pub was : cluster_of old ≡ Ok cluster
-  pub just_before : runs (node_limits old.limits) (length old.names) (before old.state.remaining k) ≡ Ok earlier
-  pub becomes : cluster_of new ≡ Ok (put_back node earlier cluster)
+  pub just_before : runs (node_limits old.limits) (length old.names) (steps_before old.state.remaining k) ≡ Ok earlier
+  pub becomes : cluster_of new ≡ Ok (with_node_of node earlier cluster)
 
 -- how the undo of remaining step k ends: it is made, and its node alone goes back; or its least direct consequence is named, and neither cluster nor remaining steps change; or memory was refused, and nothing changed
 pub data UndoEnds (old : Machine) (k : ℕ) (reply : Reply) (new : Machine) : Type 0 where
-  Made : first_consequence old.state.remaining k ≡ None → reply ≡ Undone k → new.state.remaining ≡ without old.state.remaining k → (step : Kept) → find_number old.state.remaining k ≡ Some step → NodeGoesBack old k step.node new → UndoEnds old k reply new
-  IsHeld : (held_by : ℕ) → first_consequence old.state.remaining k ≡ Some held_by → reply ≡ Refused (HasConsequence k held_by) → new.state.remaining ≡ old.state.remaining → cluster_of new ≡ cluster_of old → UndoEnds old k reply new
+  Made : first_consequence old.state.remaining k ≡ None → reply ≡ Undone k → new.state.remaining ≡ without old.state.remaining k →
+      (step : Kept) → find_number old.state.remaining k ≡ Some step → NodeGoesBack old k step.node new → UndoEnds old k reply new
+  IsHeld : (held_by : ℕ) → first_consequence old.state.remaining k ≡ Some held_by → reply ≡ Refused (HasConsequence k held_by) →
+      new.state.remaining ≡ old.state.remaining → cluster_of new ≡ cluster_of old → UndoEnds old k reply new
   Unmade : reply ≡ Refused OutOfMemory → new ≡ old → UndoEnds old k reply new
 
 -- an undo of a remaining step, or of the last one of a node, is refused only for a named consequence
 abbrev pub RefusedOnlyForConsequence : Machine → Action → Reply → Machine → Type 0
 RefusedOnlyForConsequence old (Do operation) reply new = Unit {0}
 RefusedOnlyForConsequence old (Undo k) reply new = (step : Kept) → find_number old.state.remaining k ≡ Some step → UndoEnds old k reply new
-RefusedOnlyForConsequence old (Back node) reply new = (k : ℕ) → node < length old.names → last_of old.state.remaining node ≡ Some k → UndoEnds old k reply new
+RefusedOnlyForConsequence old (Back node) reply new =
+    (k : ℕ) → node < length old.names → last_of old.state.remaining node ≡ Some k → UndoEnds old k reply new

@@ -10,4 +10,6 @@ pub record History : Type 0 where
   pub ready : Bool
 
 abbrev pub history_code : Coded Reply → Coded History
-history_code reply_code = code_by (List Event × Bool) (coded× (coded_list (event_code reply_code)) coded_bool) (λ h. (h.events, h.ready)) (λ t. record { events = t.0; ready = t.1 }) (λ _. refl)
+history_code reply_code =
+    code_by (List Event × Bool) (coded× (coded_list (event_code reply_code)) coded_bool) (λ h. (h.events, h.ready))
+    (λ t. record { events = t.0; ready = t.1 }) (λ _. refl)

@@ -6,7 +6,7 @@ use Rattle.replica_core.specs.declared.node_limits.NodeLimits.{NodeLimits}
 use Rattle.node_core.specs.Operations.{Operation}
 use Rattle.node_core.specs.Nodes.{Node, opening_node, take}
 use Rattle.bench_core.specs.Clusters.{Cluster, opening_of, message_for, step}
-use Rattle.journal_core.specs.Journals.{Kept, RisesAbove, own_steps, find_number, first_consequence, without, before}
+use Rattle.journal_core.specs.Journals.{Kept, NumbersRise, own_steps, find_number, first_consequence, without, steps_before}
 use Rattle.bench_core.specs.Runs.{runs}
 use Rattle.journal_core.specs.Holdings.{Held, kepts}
 use Rattle.bench_core.specs.Chains.{Chain, OwnChains}
@@ -18,7 +18,7 @@ added ks number node s = ks ++ record { number = number; node = node; step = s }
 -- a step at the end has no direct consequence, and taking it out gives the journal before
 abbrev pub LoopLaw : Type 0
 LoopLaw = (l : NodeLimits) (count number node : ℕ) (ks : List Kept) (s : Operation) (c d : Cluster) →
-    RisesAbove 0 (added ks number node s) → runs l count ks ≡ Ok c → step c node s ≡ Ok d →
+    NumbersRise 0 (added ks number node s) → runs l count ks ≡ Ok c → step c node s ≡ Ok d →
     record {
       held : first_consequence (added ks number node s) number ≡ None;
       out : without (added ks number node s) number ≡ ks;
@@ -37,15 +37,17 @@ OwnRunLaw = (l : NodeLimits) (count n : ℕ) (first rest : List Kept) (old c : C
     own_run c (Ok (opening_node n l)) (own_steps first n) ≡ Ok node
 
 -- the cluster with one node as it is in the other
-abbrev pub put_back : ℕ → Cluster → Cluster → Cluster
-put_back n old c = unwrap_or (option_map (slice_set c n) (slice_get old n)) c
+abbrev pub with_node_of : ℕ → Cluster → Cluster → Cluster
+with_node_of n old c = unwrap_or (option_map (slice_set c n) (slice_get old n)) c
 
 -- a step without consequences can be left out. Only its node changes, to what it was just before
 abbrev pub MiddleLaw : Type 0
 MiddleLaw = (l : NodeLimits) (count n : ℕ) (ks : List Kept) (k : Kept) (c : Cluster) →
-    RisesAbove 0 ks → runs l count ks ≡ Ok c → find_number ks n ≡ Some k → first_consequence ks n ≡ None →
-    (old : Cluster) × (runs l count (before ks n) ≡ Ok old) × (runs l count (without ks n) ≡ Ok (put_back k.node old c))
+    NumbersRise 0 ks → runs l count ks ≡ Ok c → find_number ks n ≡ Some k → first_consequence ks n ≡ None →
+    (old : Cluster) × (runs l count (steps_before ks n) ≡ Ok old) × (runs l count (without ks n) ≡ Ok (with_node_of k.node old c))
 
 -- inverses that lead back along the run lead, for each node and newest first, from its present state through those that it had in the run back to its opening
 abbrev pub ChainLaw : Type 0
-ChainLaw = (l : NodeLimits) (count : ℕ) (hs : List Held) (c : Cluster) → Chain (Ok (opening_of l count)) hs → runs l count (kepts hs) ≡ Ok c → OwnChains l count c hs
+ChainLaw =
+    (l : NodeLimits) (count : ℕ) (hs : List Held) (c : Cluster) → Chain (Ok (opening_of l count)) hs → runs l count (kepts hs) ≡ Ok c →
+    OwnChains l count c hs

@@ -1,12 +1,14 @@
 -- The machine: a history of calls, and the journal of the steps that remain. It knows no inverse and no index.
-use Rattle.std.specs.Prelude.{◌≡◌, ℕ, ◌+◌, ◌-◌, ◌==◌, ◌&&◌, ◌||◌, not, nat_lt, Bool, true, false, if◌then◌else◌, List, [], ◌∷◌, ◌++◌, length, count_by, Option, Some, None, Result, Ok, Err, refl}
+use Rattle.std.specs.Prelude.{◌≡◌, ℕ, ◌+◌, ◌-◌, ◌==◌, ◌&&◌, ◌||◌, not, nat_lt, Bool, true, false, if◌then◌else◌, List, [], ◌∷◌, ◌++◌, length, count_by}
+use Rattle.std.specs.Prelude.{Option, Some, None, Result, Ok, Err, refl}
 use Rattle.std.specs.Coded.{Coded, code_by, coded×, coded_ℕ, coded_list}
 use Rattle.std.specs.List.{list_all}
 use Rattle.payload_core.specs.Answers.{◌>>=◌}
 use Rattle.bench_core.specs.declared.reply.Reply.{Reply}
 use Rattle.bench_core.specs.declared.reply.Reply.TheVariants.{Taken, Undone, Refused}
 use Rattle.bench_core.specs.declared.fault.Fault.{Fault}
-use Rattle.bench_core.specs.declared.fault.Fault.TheVariants.{UnknownNode, NoSuchStep, AlreadyUndone, NothingToUndo, HasConsequence, HistoryFull, OutOfMemory}
+use Rattle.bench_core.specs.declared.fault.Fault.TheVariants.{UnknownNode, NoSuchStep, AlreadyUndone, NothingToUndo, HasConsequence, HistoryFull}
+use Rattle.bench_core.specs.declared.fault.Fault.TheVariants.{OutOfMemory}
 use Rattle.bench_core.specs.NameList.{Texts}
 use Rattle.bench_core.specs.Limits.{Limits, node_limits}
 use Rattle.node_core.specs.Operations.{Operation, named_in}
@@ -22,7 +24,9 @@ pub record Event : Type 0 where
   pub reply : Reply
 
 abbrev pub event_code : Coded Reply → Coded Event
-event_code reply_code = code_by (ℕ × (Action × Reply)) (coded× coded_ℕ (coded× action_code reply_code)) (λ e. (e.actor, (e.act, e.reply))) (λ t. record { actor = t.0; act = t.1.0; reply = t.1.1 }) (λ _. refl)
+event_code reply_code =
+    code_by (ℕ × (Action × Reply)) (coded× coded_ℕ (coded× action_code reply_code)) (λ e. (e.actor, (e.act, e.reply)))
+    (λ t. record { actor = t.0; act = t.1.0; reply = t.1.1 }) (λ _. refl)
 
 -- what no call changes: how many nodes there are, and the limits
 pub record Config : Type 0 where
@@ -133,10 +137,14 @@ pub record Machine : Type 0 where
   pub state : State
 
 abbrev limits_code : Coded Limits
-limits_code = code_by (ℕ × (ℕ × (ℕ × ℕ))) (coded× coded_ℕ (coded× coded_ℕ (coded× coded_ℕ coded_ℕ))) (λ l. (l.acts, (l.entries, (l.clock, l.messages)))) (λ t. record { acts = t.0; entries = t.1.0; clock = t.1.1.0; messages = t.1.1.1 }) (λ _. refl)
+limits_code = code_by (ℕ × (ℕ × (ℕ × ℕ))) (coded× coded_ℕ (coded× coded_ℕ (coded× coded_ℕ coded_ℕ)))
+    (λ l. (l.acts, (l.entries, (l.clock, l.messages)))) (λ t. record { acts = t.0; entries = t.1.0; clock = t.1.1.0; messages = t.1.1.1 })
+    (λ _. refl)
 
 abbrev state_code : Coded Reply → Coded State
-state_code reply_code = code_by (List Event × List Kept) (coded× (coded_list (event_code reply_code)) (coded_list kept_code)) (λ s. (s.history, s.remaining)) (λ t. record { history = t.0; remaining = t.1 }) (λ _. refl)
+state_code reply_code =
+    code_by (List Event × List Kept) (coded× (coded_list (event_code reply_code)) (coded_list kept_code)) (λ s. (s.history, s.remaining))
+    (λ t. record { history = t.0; remaining = t.1 }) (λ _. refl)
 
 abbrev pub machine_code : Coded Reply → Coded Machine
 machine_code reply_code =
@@ -159,8 +167,10 @@ cluster_of m = now (config_of m) m.state
 
 -- a call is answered as the machine answers it; or memory was refused, where that answer would be recorded, and nothing changed
 pub data AnswersAs (old : Machine) (actor : ℕ) (act : Action) (reply : Reply) (new : Machine) : Type 0 where
-  Answered : reply ≡ reply_to (config_of old) old.state actor act → new ≡ with_state old (after (config_of old) old.state actor act reply) → AnswersAs old actor act reply new
-  Unmade : is_recorded (config_of old) old.state (reply_to (config_of old) old.state actor act) ≡ true → reply ≡ Refused OutOfMemory → new ≡ old → AnswersAs old actor act reply new
+  Answered : reply ≡ reply_to (config_of old) old.state actor act → new ≡ with_state old (after (config_of old) old.state actor act reply) →
+      AnswersAs old actor act reply new
+  Unmade : is_recorded (config_of old) old.state (reply_to (config_of old) old.state actor act) ≡ true → reply ≡ Refused OutOfMemory →
+      new ≡ old → AnswersAs old actor act reply new
 
 -- one reply for each call, in order, each as a call is answered
 abbrev pub AllAnswered : Machine → List (ℕ × Action) → List Reply → Machine → Type 0

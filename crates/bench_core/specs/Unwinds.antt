@@ -35,12 +35,17 @@ asked_undos asked = map (λ a. (a.0, Undo a.1)) asked
 
 -- whoever asks for the undos of the future of a step, in turn, each is made
 abbrev pub UndoneInTurnLaw : Type 0
-UndoneInTurnLaw = (c : Config) (s : State) (actor n : ℕ) (numbers : List ℕ) → IsReached c s → IsFuture s.remaining n numbers → replies_of c s (undos actor numbers) ≡ map Undone numbers
+UndoneInTurnLaw =
+    (c : Config) (s : State) (actor n : ℕ) (numbers : List ℕ) → IsReached c s → IsFuture s.remaining n numbers →
+    replies_of c s (undos actor numbers) ≡ map Undone numbers
 
 -- whatever undos the machine makes, by whomever they are asked: where they take a step back, they take back all that follows from it
 abbrev pub LeastLaw : Type 0
-LeastLaw = (c : Config) (s : State) (n : ℕ) (asked : List (ℕ × ℕ)) → IsReached c s → replies_of c s (asked_undos asked) ≡ map (λ a. Undone a.1) asked →
-    find_number (calls c s (asked_undos asked)).remaining n ≡ None → (j : ℕ) → Follows s.remaining n j → find_number (calls c s (asked_undos asked)).remaining j ≡ None
+LeastLaw =
+    (c : Config) (s : State) (n : ℕ) (asked : List (ℕ × ℕ)) → IsReached c s →
+    replies_of c s (asked_undos asked) ≡ map (λ a. Undone a.1) asked →
+    find_number (calls c s (asked_undos asked)).remaining n ≡ None → (j : ℕ) → Follows s.remaining n j →
+    find_number (calls c s (asked_undos asked)).remaining j ≡ None
 
 -- whoever asks for the undos of these steps, in this order, each is made
 abbrev pub CanBeUndone : Machine → List ℕ → Type 0

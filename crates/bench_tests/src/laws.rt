@@ -1,13 +1,13 @@
 //! That the laws can be used of a bench that somebody hands over: what its contracts say of it is what they ask for.
 ghost use Rattle.std.specs.Prelude.{◌≡◌, ℕ, List, Ok, Some, None, length, map};
-ghost use Rattle.journal_core.specs.Journals.{Kept, RisesAbove, before, find_number, first_consequence, own_steps, without};
+ghost use Rattle.journal_core.specs.Journals.{Kept, NumbersRise, steps_before, find_number, first_consequence, own_steps, without};
 ghost use Rattle.journal_core.specs.Futures.{IsFuture};
 ghost use Rattle.node_core.specs.Nodes.{Node, opening_node};
 ghost use Rattle.bench_core.specs.declared.reply.Reply.TheVariants.{Undone};
 ghost use Rattle.bench_core.specs.Limits.{node_limits};
 ghost use Rattle.bench_core.specs.Clusters.{Cluster};
 ghost use Rattle.bench_core.specs.Runs.{runs};
-ghost use Rattle.bench_core.specs.Laws.{put_back};
+ghost use Rattle.bench_core.specs.Laws.{with_node_of};
 ghost use Rattle.bench_core.specs.Chains.{OwnChains};
 ghost use Rattle.bench_core.specs.Machine.{cluster_of, config_of, replies_of};
 ghost use Rattle.bench_core.specs.Unwinds.{undos};
@@ -20,7 +20,7 @@ use std::alloc::Allocator;
 /// The remaining steps run from empty nodes, and stand by rising number.
 fn runs_in_order<'a, B: Allocator>(bench: &Bench<'a, B>)
     ensures runs { (c : Cluster) × (cluster_of bench.now ≡ Ok c) }
-    ensures rises { RisesAbove 0 bench.now.state.remaining }
+    ensures rises { NumbersRise 0 bench.now.state.remaining }
 {
     bench.bench_law();
     headline_law();
@@ -37,7 +37,7 @@ fn leads_back<'x, 'a, B: Allocator>(bench: &'x Bench<'a, B>) -> &'x Journal<'a, 
 /// A step without direct consequences can be left out, and then its node alone changes.
 fn can_be_left_out<'a, B: Allocator>(bench: &Bench<'a, B>, number: u64)
     ensures { (k : Kept) (c : Cluster) → cluster_of bench.now ≡ Ok c → find_number bench.now.state.remaining number ≡ Some k → first_consequence bench.now.state.remaining number ≡ None →
-        (old : Cluster) × (runs (node_limits bench.now.limits) (length bench.now.names) (before bench.now.state.remaining number) ≡ Ok old) × (runs (node_limits bench.now.limits) (length bench.now.names) (without bench.now.state.remaining number) ≡ Ok (put_back k.node old c)) }
+        (old : Cluster) × (runs (node_limits bench.now.limits) (length bench.now.names) (steps_before bench.now.state.remaining number) ≡ Ok old) × (runs (node_limits bench.now.limits) (length bench.now.names) (without bench.now.state.remaining number) ≡ Ok (with_node_of k.node old c)) }
 {
     runs_in_order(bench);
     middle_law();

@@ -1,5 +1,6 @@
 -- That a walk over the entries collects what is shown, that a sort puts it in order, and that one list is so.
-use Rattle.std.proofs.Common.{◌≡◌, ℕ, zero, suc, ◌+◌, ◌<◌, ◌≤◌, T, Bool, true, false, cond, List, [], ◌∷◌, ◌++◌, map, filter, take, length, slice_index_or, Some, refl, sym, ap, ◌∙◌, subst, true≢false, arith}
+use Rattle.std.proofs.Common.{◌≡◌, ℕ, zero, suc, ◌+◌, ◌<◌, ◌≤◌, T, Bool, true, false, cond, List, [], ◌∷◌, ◌++◌, map, filter, take, length, slice_index_or}
+use Rattle.std.proofs.Common.{Some, refl, sym, ap, ◌∙◌, subst, true≢false, arith}
 use Rattle.std.specs.declared.cmp.Ordering.TheVariants.{Less}
 use Rattle.std.specs.Ordering.{is_lt, is_eq}
 use Rattle.std.specs.List.{AllByRecursion, sum_by}
@@ -25,10 +26,13 @@ use Rattle.diff_core.specs.Laws.{OneListLaw}
 use Rattle.diff_core.proofs.Order.{is_row, is_row-itself, is_row-true, cases_row, all_above}
 
 -- one more entry that passes, with its row
-pub row_collected : (test : Dot × Presence → Bool) (ps : List (Dot × Presence)) (i : ℕ) (e : Entry) (row : Row) (rows after : List Row) → Some e ≡ entry_at ps i → test (pair_of e) ≡ true → rows ≡ map row_of (filter test (take i ps)) → after ≡ rows ++ row ∷ [] → row ≡ row_of (pair_of e) →
+pub row_collected : (test : Dot × Presence → Bool) (ps : List (Dot × Presence)) (i : ℕ) (e : Entry) (row : Row) (rows after : List Row) →
+    Some e ≡ entry_at ps i → test (pair_of e) ≡ true → rows ≡ map row_of (filter test (take i ps)) → after ≡ rows ++ row ∷ [] →
+    row ≡ row_of (pair_of e) →
     after ≡ map row_of (filter test (take (i + 1) ps))
 row_collected test ps i e row rows after at passes so_far is same =
-    is ∙ ap (λ rs. rs ++ row ∷ []) so_far ∙ ap (λ r. map row_of (filter test (take i ps)) ++ r ∷ []) same ∙ sym (map-append row_of (filter test (take i ps)) (pair_of e ∷ [])) ∙ ap (map row_of) (sym (passed test ps i e at passes))
+    is ∙ ap (λ rs. rs ++ row ∷ []) so_far ∙ ap (λ r. map row_of (filter test (take i ps)) ++ r ∷ []) same
+    ∙ sym (map-append row_of (filter test (take i ps)) (pair_of e ∷ [])) ∙ ap (map row_of) (sym (passed test ps i e at passes))
 
 -- how often a row stands in a list, and a dot among the keys of one
 abbrev pub one : Bool → ℕ
@@ -51,14 +55,16 @@ same_dot : (x : Row) (e : Dot × Presence) → is_row x (row_of e) ≡ true → 
 same_dot x e h = ap (λ r. is_dot (dot_of r) e.0) (is_row-true x (row_of e) h) ∙ is_dot_same e.0
 
 -- the rows of some entries hold a row as often as the entries hold its dot, at most
-row_le : (test : Dot × Presence → Bool) (x : Row) (es : List (Dot × Presence)) → times x (map row_of (filter test es)) ≤ times_at (dot_of x) es
+row_le : (test : Dot × Presence → Bool) (x : Row) (es : List (Dot × Presence)) →
+    times x (map row_of (filter test es)) ≤ times_at (dot_of x) es
 row_le test x [] = omega arith
 row_le test x (e ∷ es) = go (row_le test x es) (test e)
   where
     dots : times_at (dot_of x) (e ∷ es) ≡ one (is_dot (dot_of x) e.0) + times_at (dot_of x) es
     dots = sum_by-cons (λ (f : Dot × Presence). one (is_dot (dot_of x) f.0)) e es
 
-    go : times x (map row_of (filter test es)) ≤ times_at (dot_of x) es → (b : Bool) → times x (map row_of (cond b (e ∷ filter test es) (filter test es))) ≤ times_at (dot_of x) (e ∷ es)
+    go : times x (map row_of (filter test es)) ≤ times_at (dot_of x) es → (b : Bool) →
+        times x (map row_of (cond b (e ∷ filter test es) (filter test es))) ≤ times_at (dot_of x) (e ∷ es)
     go rest true =
         let rows = sum_by-cons (λ r. one (is_row x r)) (row_of e) (map row_of (filter test es)) in
         let here = one_le (is_row x (row_of e)) (is_dot (dot_of x) e.0) (same_dot x e) in
@@ -84,7 +90,8 @@ once_at d (e ∷ es) sorted = go (once_at d es (and_yes (below_all dot_cmp e.0 e
     go : times_at d es ≤ 1 → (b : Bool) → is_dot d e.0 ≡ b → times_at d (e ∷ es) ≤ 1
     go rest true h =
         let here = ap one h in
-        let none = none_at d es (subst (λ x. T (below_all dot_cmp x es)) (sym (is_dot-true d e.0 h)) (and_yes (below_all dot_cmp e.0 es) (is_sorted dot_cmp es) sorted).0) in
+        let none = none_at d es (subst (λ x. T (below_all dot_cmp x es)) (sym (is_dot-true d e.0 h))
+        (and_yes (below_all dot_cmp e.0 es) (is_sorted dot_cmp es) sorted).0) in
         omega (arith, dots, here, none)
     go rest false h =
         let here = ap one h in
@@ -98,7 +105,8 @@ once_shown r x =
     omega (arith, rows, dots)
 
 -- a row that is none of these, and below none of them, is below each
-heads : (x : Row) (ys : List Row) → times x ys ≡ 0 → ((j : ℕ) (d : Row) → j < length ys → is_lt (row_cmp (slice_index_or ys j d) x) ≡ false) → AllByRecursion (λ y. row_cmp x y ≡ Less) ys
+heads : (x : Row) (ys : List Row) → times x ys ≡ 0 →
+    ((j : ℕ) (d : Row) → j < length ys → is_lt (row_cmp (slice_index_or ys j d) x) ≡ false) → AllByRecursion (λ y. row_cmp x y ≡ Less) ys
 heads x [] none low = tt
 heads x (y ∷ ys) none low = (
   cases_row x y (λ below. below) same above,
@@ -115,32 +123,41 @@ heads x (y ∷ ys) none low = (
     above e = absurd (true≢false (ap is_lt (sym e) ∙ low zero x (omega arith)))
 
 -- rows that do not fall, none of them twice, are in order
-rises : (xs : List Row) → ((x : Row) → times x xs ≤ 1) → ((i j : ℕ) (d : Row) → i < j → j < length xs → is_lt (row_cmp (slice_index_or xs j d) (slice_index_or xs i d)) ≡ false) → AreInOrder xs
+rises : (xs : List Row) → ((x : Row) → times x xs ≤ 1) →
+    ((i j : ℕ) (d : Row) → i < j → j < length xs → is_lt (row_cmp (slice_index_or xs j d) (slice_index_or xs i d)) ≡ false) → AreInOrder xs
 unfolding IsStrictlySortedBy
 rises [] once far = tt
 rises (x ∷ xs) once far = (
   heads x xs alone (λ j d within. far zero (suc j) d (omega arith) (omega arith)),
-  rises xs (λ r. let all = sum_by-cons (λ y. one (is_row r y)) x xs in let most = once r in omega (arith, all, most)) (λ i j d below within. far (suc i) (suc j) d (omega arith) (omega arith)),
+  rises xs (λ r. let all = sum_by-cons (λ y. one (is_row r y)) x xs in let most = once r in omega (arith, all, most))
+      (λ i j d below within. far (suc i) (suc j) d (omega arith) (omega arith)),
 )
   where
     alone : times x xs ≡ 0
-    alone = let all = sum_by-cons (λ y. one (is_row x y)) x xs in let most = once x in let here = ap one (is_row-itself x) in omega (arith, all, most, here)
+    alone =
+        let all = sum_by-cons (λ y. one (is_row x y)) x xs in let most = once x in let here = ap one (is_row-itself x) in
+        omega (arith, all, most, here)
 
 -- what is shown, sorted, is the online list
-pub listed : (r : Replica) (collected sorted : List Row) → collected ≡ shown r → IsPermutation collected sorted → IsSorted row_cmp sorted → IsOnlineList r sorted
+pub listed : (r : Replica) (collected sorted : List Row) → collected ≡ shown r → IsPermutation collected sorted → IsSorted row_cmp sorted →
+    IsOnlineList r sorted
 listed r collected sorted all moved in_order =
     let perm : IsPermutation (shown r) sorted = subst (λ rows. IsPermutation rows sorted) all moved in
     record {
       rows_shown = perm;
-      in_order = rises sorted (λ x. subst (λ n. n ≤ 1) (sym (sum_by-IsPermutation (λ y. one (is_row x y)) (shown r) sorted perm)) (once_shown r x)) (λ i j d below within. sorted_far _ (ranks_by row_total (λ a. a)) sorted in_order i j d (omega arith) within);
+      in_order = rises sorted (λ x. subst (λ n. n ≤ 1) (sym (sum_by-IsPermutation (λ y. one (is_row x y)) (shown r) sorted perm))
+          (once_shown r x)) (λ i j d below within. sorted_far _ (ranks_by row_total (λ a. a)) sorted in_order i j d (omega arith) within);
     }
 
 pub none_times : (x : Row) (rs : List Row) → AllByRecursion (λ r. row_cmp x r ≡ Less) rs → times x rs ≡ 0
 none_times x [] all = refl
-none_times x (r ∷ rs) all = let rows = sum_by-cons (λ y. one (is_row x y)) r rs in let here = ap (λ o. one (is_eq o)) all.0 in let rest = none_times x rs all.1 in omega (arith, rows, here, rest)
+none_times x (r ∷ rs) all =
+    let rows = sum_by-cons (λ y. one (is_row x y)) r rs in let here = ap (λ o. one (is_eq o)) all.0 in let rest = none_times x rs all.1 in
+    omega (arith, rows, here, rest)
 
 -- a first row below the first of other rows in order is none of these
-first_missing : (x y : Row) (xs ys : List Row) → row_cmp x y ≡ Less → AllByRecursion (λ r. row_cmp y r ≡ Less) ys → times x (x ∷ xs) ≡ times x (y ∷ ys) → ⊥
+first_missing : (x y : Row) (xs ys : List Row) → row_cmp x y ≡ Less → AllByRecursion (λ r. row_cmp y r ≡ Less) ys →
+    times x (x ∷ xs) ≡ times x (y ∷ ys) → ⊥
 first_missing x y xs ys below all same =
     let one_side = sum_by-cons (λ r. one (is_row x r)) x xs in
     let here = ap one (is_row-itself x) in
@@ -151,10 +168,15 @@ first_missing x y xs ys below all same =
 pub same_rows : (xs ys : List Row) → AreInOrder xs → AreInOrder ys → ((x : Row) → times x xs ≡ times x ys) → xs ≡ ys
 unfolding IsStrictlySortedBy
 same_rows [] [] up also same = refl
-same_rows [] (y ∷ ys) up also same = let all = sum_by-cons (λ r. one (is_row y r)) y ys in let here = ap one (is_row-itself y) in let none = same y in absurd (omega (arith, all, here, none))
-same_rows (x ∷ xs) [] up also same = let all = sum_by-cons (λ r. one (is_row x r)) x xs in let here = ap one (is_row-itself x) in let none = same x in absurd (omega (arith, all, here, none))
+same_rows [] (y ∷ ys) up also same =
+    let all = sum_by-cons (λ r. one (is_row y r)) y ys in let here = ap one (is_row-itself y) in let none = same y in
+    absurd (omega (arith, all, here, none))
+same_rows (x ∷ xs) [] up also same =
+    let all = sum_by-cons (λ r. one (is_row x r)) x xs in let here = ap one (is_row-itself x) in let none = same x in
+    absurd (omega (arith, all, here, none))
 same_rows (x ∷ xs) (y ∷ ys) up also same =
-    cases_row x y (λ below. absurd (first_missing x y xs ys below also.0 (same x))) (both (same_rows xs ys up.1 also.1)) (λ above. absurd (first_missing y x ys xs above up.0 (sym (same y))))
+    cases_row x y (λ below. absurd (first_missing x y xs ys below also.0 (same x))) (both (same_rows xs ys up.1 also.1))
+    (λ above. absurd (first_missing y x ys xs above up.0 (sym (same y))))
   where
     both : (((r : Row) → times r xs ≡ times r ys) → xs ≡ ys) → x ≡ y → (x ∷ xs) ≡ (y ∷ ys)
     both rest e =

@@ -19,7 +19,9 @@ abbrev from_parts : Parts → Row
 from_parts t = record { topic = t.0.0.0.0.0; key = t.0.0.0.0.1; name = t.0.0.0.1; pid = t.0.0.1; clock = t.0.1; metadata = t.1 }
 
 pub row_exact : (a b : Row) → row_cmp a b ≡ Equal → a ≡ b
-row_exact a b h = ap from_parts (exact_pairs _ _ (exact_pairs _ _ (exact_pairs _ _ (exact_pairs _ _ (exact_pairs _ _ exact_bytes exact_bytes) exact_unsigned) exact_unsigned) exact_unsigned) exact_bytes (parts a) (parts b) h)
+row_exact a b h = ap from_parts (exact_pairs _ _ (exact_pairs _ _ (exact_pairs _ _
+    (exact_pairs _ _ (exact_pairs _ _ exact_bytes exact_bytes) exact_unsigned) exact_unsigned) exact_unsigned) exact_bytes (parts a)
+    (parts b) h)
 
 -- whether two rows are one
 abbrev pub is_row : Row → Row → Bool
@@ -58,7 +60,8 @@ pub is_row-above : (a b : Row) → row_cmp a b ≡ Less → is_row b a ≡ false
 is_row-above a b h = ap is_eq (row_total.antisymm b a ∙ ap ordering_reverse h)
 
 -- a row below one that is below all of these is below all of them
-pub all_above : (a b : Row) (rows : List Row) → row_cmp a b ≡ Less → AllByRecursion (λ r. row_cmp b r ≡ Less) rows → AllByRecursion (λ r. row_cmp a r ≡ Less) rows
+pub all_above : (a b : Row) (rows : List Row) → row_cmp a b ≡ Less → AllByRecursion (λ r. row_cmp b r ≡ Less) rows →
+    AllByRecursion (λ r. row_cmp a r ≡ Less) rows
 all_above a b [] below all = tt
 all_above a b (r ∷ rows) below all = (row_total.trans a b r below all.0, all_above a b rows below all.1)
 

@@ -46,19 +46,26 @@ with_row_rises x (y ∷ ys) none rises = go (is_lt (row_cmp y x)) refl (with_row
 
     before : is_lt (row_cmp y x) ≡ false → row_cmp x y ≡ Less
     before above_it =
-        cases_row x y (λ below. below) (λ same. let here = ap one (ap (is_row x) (sym same) ∙ is_row-itself x) in absurd (omega (arith, all, none, here))) (λ above. absurd (true≢false (ap is_lt (sym above) ∙ above_it)))
+        cases_row x y (λ below. below)
+        (λ same. let here = ap one (ap (is_row x) (sym same) ∙ is_row-itself x) in absurd (omega (arith, all, none, here)))
+        (λ above. absurd (true≢false (ap is_lt (sym above) ∙ above_it)))
 
     go : (b : Bool) → is_lt (row_cmp y x) ≡ b → AreInOrder (with_row x ys) → AreInOrder (if b then y ∷ with_row x ys else x ∷ y ∷ ys)
-    go true below rest = (all_shuffled (λ r. row_cmp y r ≡ Less) (x ∷ ys) (with_row x ys) (with_row_has x ys) (less_of (row_cmp y x) below, rises.0), rest)
+    go true below rest =
+        (all_shuffled (λ r. row_cmp y r ≡ Less) (x ∷ ys) (with_row x ys) (with_row_has x ys) (less_of (row_cmp y x) below, rises.0), rest)
     go false above_it rest = ((before above_it, all_above x y ys (before above_it) rises.0), rises)
 
 in_order_rises : (rows : List Row) → ((x : Row) → times x rows ≤ 1) → AreInOrder (in_order rows)
 unfolding IsStrictlySortedBy
 in_order_rises [] once = tt
-in_order_rises (x ∷ xs) once = with_row_rises x (in_order xs) (times_in_order x xs ∙ none) (in_order_rises xs (λ r. let all = sum_by-cons (λ y. one (is_row r y)) x xs in let most = once r in omega (arith, all, most)))
+in_order_rises (x ∷ xs) once =
+    with_row_rises x (in_order xs) (times_in_order x xs ∙ none)
+    (in_order_rises xs (λ r. let all = sum_by-cons (λ y. one (is_row r y)) x xs in let most = once r in omega (arith, all, most)))
   where
     none : times x xs ≡ 0
-    none = let all = sum_by-cons (λ y. one (is_row x y)) x xs in let most = once x in let here = ap one (is_row-itself x) in omega (arith, all, most, here)
+    none =
+        let all = sum_by-cons (λ y. one (is_row x y)) x xs in let most = once x in let here = ap one (is_row-itself x) in
+        omega (arith, all, most, here)
 
 pub online_holds : OnlineLaw
 unfolding online_of
@@ -69,7 +76,8 @@ online_holds r rows = (one_list, the_list)
 
     one_list : IsOnlineList r rows → rows ≡ in_order (shown r)
     one_list list =
-        same_rows rows (in_order (shown r)) list.in_order rises (λ x. sum_by-IsPermutation (λ y. one (is_row x y)) (shown r) rows list.rows_shown ∙ sym (times_in_order x (shown r)))
+        same_rows rows (in_order (shown r)) list.in_order rises
+        (λ x. sum_by-IsPermutation (λ y. one (is_row x y)) (shown r) rows list.rows_shown ∙ sym (times_in_order x (shown r)))
 
     the_list : rows ≡ in_order (shown r) → IsOnlineList r rows
     the_list same = subst (IsOnlineList r) (sym same) (record { rows_shown = in_order_has (shown r); in_order = rises })

@@ -7,8 +7,10 @@ use Rattle.diff_core.specs.Rows.{Row, row_cmp}
 
 pub row_total : IsTotalOrder row_cmp
 row_total =
-    then_total (then_total (then_total (then_total (then_total (on_total (λ (r : Row). r.topic) nat_list_cmp_total) (on_total (λ (r : Row). r.key) nat_list_cmp_total)) (on_total (λ (r : Row). r.name) nat_cmp_total))
-    (on_total (λ (r : Row). r.pid) nat_cmp_total)) (on_total (λ (r : Row). r.clock) nat_cmp_total)) (on_total (λ (r : Row). r.metadata) nat_list_cmp_total)
+    then_total (then_total (then_total (then_total (then_total (on_total (λ (r : Row). r.topic) nat_list_cmp_total)
+    (on_total (λ (r : Row). r.key) nat_list_cmp_total)) (on_total (λ (r : Row). r.name) nat_cmp_total))
+    (on_total (λ (r : Row). r.pid) nat_cmp_total)) (on_total (λ (r : Row). r.clock) nat_cmp_total))
+    (on_total (λ (r : Row). r.metadata) nat_list_cmp_total)
 
 pub row_equiv : IsEquivalence (eq_by_cmp row_cmp)
 row_equiv = eq_by_cmp_equiv row_total

@@ -19,7 +19,9 @@ pub record Row : Type 0 where
 -- by topic, key, name, process, clock and metadata
 abbrev pub row_cmp : Row → Row → Ordering
 row_cmp a b =
-    ordering_then (ordering_then (ordering_then (ordering_then (ordering_then (slice_cmp nat_cmp a.topic b.topic) (slice_cmp nat_cmp a.key b.key)) (nat_cmp a.name b.name)) (nat_cmp a.pid b.pid)) (nat_cmp a.clock b.clock)) (slice_cmp nat_cmp a.metadata b.metadata)
+    ordering_then (ordering_then (ordering_then (ordering_then (ordering_then (slice_cmp nat_cmp a.topic b.topic)
+    (slice_cmp nat_cmp a.key b.key)) (nat_cmp a.name b.name)) (nat_cmp a.pid b.pid)) (nat_cmp a.clock b.clock))
+    (slice_cmp nat_cmp a.metadata b.metadata)
 
 -- the row of an entry
 abbrev pub row_of : Dot × Presence → Row

@@ -11,5 +11,7 @@ loop-number-preserved g c = record {
       ∙ ap (λ (l : List Node). l ++ c.new-node.result ∷ []) c.loop-number.invariant.opening
       ∙ ap (λ (x : Node). opening_of c.args.limits c.loop-number.number ++ x ∷ []) c.new-node.ensures
       ∙ sym (opening_push c.args.limits c.loop-number.number);
-  kept = subst AreNodes (sym c.in_ok-push.ensures.items) (nodes_push c.loop-number.nodes.items c.new-node.result c.loop-number.invariant.kept c.node_law.ensures);
+  kept =
+      subst AreNodes (sym c.in_ok-push.ensures.items)
+      (nodes_push c.loop-number.nodes.items c.new-node.result c.loop-number.invariant.kept c.node_law.ensures);
 }

@@ -1,31 +1,39 @@
 use Rattle.std.proofs.Common.{◌≡◌, ◌∙◌, sym, ap, subst, Some, None, set, option_map, arith}
-use Rattle.node_core.specs.Kept.{IsNode}
+use Rattle.node_core.specs.Invariant.{IsNode}
 use Rattle.node_core.specs.Inverses.{plain_inverse, LeadsSomewhere}
 use Rattle.journal_core.specs.Journals.{first_consequence}
 use Rattle.journal_core.specs.Holdings.{Journal, find_held, inverse_of, kepts, with_inverse, without_held, IsLent}
 use Rattle.journal_core.proofs.Rising.{kepts_with}
 use Rattle.journal_core.proofs.Loans.{is_lent}
-use Rattle.bench_core.proofs.Keeps.{found_at}
+use Rattle.bench_core.proofs.Invariant.{found_at}
 use Rattle.bench_core.proofs.bench.take_back.Goals as goal
 
 pub give_back-requires : goal.give_back-requires
 give_back-requires g c =
-    let lent : inverse_of (find_held c.args.journal.now.steps c.args.number) ≡ Some (plain_inverse c.unwrap-inverse.result) = sym c.lend.ensures.value ∙ ap (option_map plain_inverse) c.unwrap-inverse.ensures in
+    let lent : inverse_of (find_held c.args.journal.now.steps c.args.number) ≡ Some (plain_inverse c.unwrap-inverse.result) =
+    sym c.lend.ensures.value ∙ ap (option_map plain_inverse) c.unwrap-inverse.ensures in
     let leads : LeadsSomewhere (plain_inverse c.unwrap-inverse.result) c.index_mut-place.result.now = (
       c.requires.earlier,
-      found_at c.args.nodes.now.items c.args.journal.now.steps c.args.number c.args.node (plain_inverse c.unwrap-inverse.result) c.index_mut-place.result.now c.requires lent c.index_mut-place.ensures.value,
+      found_at c.args.nodes.now.items c.args.journal.now.steps c.args.number c.args.node (plain_inverse c.unwrap-inverse.result)
+          c.index_mut-place.result.now c.requires lent c.index_mut-place.ensures.value,
     ) in
     (omega arith, (omega arith, leads))
 
 pub put_back-requires : goal.put_back-requires
 put_back-requires g c =
-    let lent : inverse_of (find_held c.args.journal.now.steps c.args.number) ≡ Some (plain_inverse c.unwrap-inverse.result) = sym c.lend.ensures.value ∙ ap (option_map plain_inverse) c.unwrap-inverse.ensures in
-    (omega arith, subst (λ (j : Journal). IsLent j.steps c.args.number) (sym c.lend.ensures.after) (is_lent c.args.journal.now.steps c.args.number (plain_inverse c.unwrap-inverse.result) lent))
+    let lent : inverse_of (find_held c.args.journal.now.steps c.args.number) ≡ Some (plain_inverse c.unwrap-inverse.result) =
+    sym c.lend.ensures.value ∙ ap (option_map plain_inverse) c.unwrap-inverse.ensures in (
+      omega arith,
+      subst (λ (j : Journal). IsLent j.steps c.args.number) (sym c.lend.ensures.after)
+          (is_lent c.args.journal.now.steps c.args.number (plain_inverse c.unwrap-inverse.result) lent),
+    )
 
 pub take_out-requires-clause-lent : goal.take_out-requires-clause-lent
 take_out-requires-clause-lent g c =
-    let lent : inverse_of (find_held c.args.journal.now.steps c.args.number) ≡ Some (plain_inverse c.unwrap-inverse.result) = sym c.lend.ensures.value ∙ ap (option_map plain_inverse) c.unwrap-inverse.ensures in
-    subst (λ (j : Journal). IsLent j.steps c.args.number) (sym c.lend.ensures.after) (is_lent c.args.journal.now.steps c.args.number (plain_inverse c.unwrap-inverse.result) lent)
+    let lent : inverse_of (find_held c.args.journal.now.steps c.args.number) ≡ Some (plain_inverse c.unwrap-inverse.result) =
+    sym c.lend.ensures.value ∙ ap (option_map plain_inverse) c.unwrap-inverse.ensures in
+    subst (λ (j : Journal). IsLent j.steps c.args.number) (sym c.lend.ensures.after)
+    (is_lent c.args.journal.now.steps c.args.number (plain_inverse c.unwrap-inverse.result) lent)
 
 pub take_out-requires-clause-free : goal.take_out-requires-clause-free
 take_out-requires-clause-free g c =
@@ -35,20 +43,37 @@ take_out-requires-clause-free g c =
 
 pub returns-in-Err-clause-err_journal : goal.returns-in-Err-clause-err_journal
 returns-in-Err-clause-err_journal g c =
-    let lent : inverse_of (find_held c.args.journal.now.steps c.args.number) ≡ Some (plain_inverse c.unwrap-inverse.result) = sym c.lend.ensures.value ∙ ap (option_map plain_inverse) c.unwrap-inverse.ensures in
+    let lent : inverse_of (find_held c.args.journal.now.steps c.args.number) ≡ Some (plain_inverse c.unwrap-inverse.result) =
+    sym c.lend.ensures.value ∙ ap (option_map plain_inverse) c.unwrap-inverse.ensures in
     c.put_back.ensures
-    ∙ ap (λ i. record { nodes = c.lend.new.self.nodes; steps = with_inverse c.lend.new.self.steps c.args.number (Some i); room = c.lend.new.self.room }) c.in-Err.ensures.given_back
-    ∙ ap (λ (j : Journal). record { nodes = j.nodes; steps = with_inverse j.steps c.args.number (Some (plain_inverse c.unwrap-inverse.result)); room = j.room }) c.lend.ensures.after
-    ∙ ap (λ l. record { nodes = c.args.journal.now.nodes; steps = l; room = c.args.journal.now.room }) (c.loan_law.ensures.put_back c.args.journal.now.steps c.args.number (plain_inverse c.unwrap-inverse.result) lent)
+    ∙ ap (λ i. record {
+      nodes = c.lend.new.self.nodes;
+      steps = with_inverse c.lend.new.self.steps c.args.number (Some i);
+      room =
+          c.lend.new.self.room;
+    }) c.in-Err.ensures.given_back
+    ∙ ap (λ (j : Journal). record {
+      nodes = j.nodes;
+      steps = with_inverse j.steps c.args.number
+          (Some (plain_inverse c.unwrap-inverse.result));
+      room = j.room;
+    }) c.lend.ensures.after
+    ∙ ap (λ l. record { nodes = c.args.journal.now.nodes; steps = l; room = c.args.journal.now.room })
+    (c.loan_law.ensures.put_back c.args.journal.now.steps c.args.number (plain_inverse c.unwrap-inverse.result) lent)
 
 pub returns-clause-node : goal.returns-clause-node
 returns-clause-node g c = λ b.
-    let lent : inverse_of (find_held c.args.journal.now.steps c.args.number) ≡ Some (plain_inverse c.unwrap-inverse.result) = sym c.lend.ensures.value ∙ ap (option_map plain_inverse) c.unwrap-inverse.ensures in
-    let back : c.give_back.new.self ≡ b.earlier = c.in_default.ensures.ok b.earlier (found_at c.args.nodes.now.items c.args.journal.now.steps c.args.number c.args.node (plain_inverse c.unwrap-inverse.result) c.index_mut-place.result.now b lent c.index_mut-place.ensures.value) in
+    let lent : inverse_of (find_held c.args.journal.now.steps c.args.number) ≡ Some (plain_inverse c.unwrap-inverse.result) =
+    sym c.lend.ensures.value ∙ ap (option_map plain_inverse) c.unwrap-inverse.ensures in
+    let back : c.give_back.new.self ≡ b.earlier =
+    c.in_default.ensures.ok b.earlier
+    (found_at c.args.nodes.now.items c.args.journal.now.steps c.args.number c.args.node (plain_inverse c.unwrap-inverse.result)
+    c.index_mut-place.result.now b lent c.index_mut-place.ensures.value) in
     (ap (set c.args.nodes.now.items c.args.node) back, subst IsNode back c.node_law.ensures)
 
 pub returns-clause-journal : goal.returns-clause-journal
 returns-clause-journal g c =
     c.take_out.ensures
     ∙ ap (λ (j : Journal). record { nodes = j.nodes; steps = without_held j.steps c.args.number; room = j.room }) c.lend.ensures.after
-    ∙ ap (λ l. record { nodes = c.args.journal.now.nodes; steps = l; room = c.args.journal.now.room }) (c.loan_law.ensures.taken_out c.args.journal.now.steps c.args.number)
+    ∙ ap (λ l. record { nodes = c.args.journal.now.nodes; steps = l; room = c.args.journal.now.room })
+    (c.loan_law.ensures.taken_out c.args.journal.now.steps c.args.number)

@@ -12,12 +12,22 @@ loop-row-preserved g c =
     let rest = c.loop-row.rest.now in
     let row = c.row-item.result in
     let there : c.loop-row.row-index < length rows = omega arith in
-    let ordered : AreInOrder c.not_below-rest.result.now = rw c.not_below-rest.ensures (not_below_in_order row rest c.loop-row.invariant.1) in
+    let ordered : AreInOrder c.not_below-rest.result.now =
+    rw c.not_below-rest.ensures (not_below_in_order row rest c.loop-row.invariant.1) in
     elim c.if-not-begins_with.branch [
       | then-not-begins_with+in_ok-try_copy+in_ok-push w ↦
-          let apart : begins_with row (not_below row rest) ≡ false = cc in
-          (rw (w.found-is, c.not_below-rest.ensures) (walked_alone rows rest c.loop-row.row-index row c.requires.rows c.loop-row.invariant.1 there (sym c.row-item.is) c.loop-row.found.items w.push.new.self.items (alone rows c.args.others.now) apart c.loop-row.invariant.0 (w.in_ok-push.ensures.items ∙ ap (λ (r : Row). c.loop-row.found.items ++ r ∷ []) w.in_ok-try_copy.ensures)), ordered)
+          let apart : begins_with row (not_below row rest) ≡ false = cc in (
+            rw (w.found-is, c.not_below-rest.ensures)
+                (walked_alone rows rest c.loop-row.row-index row c.requires.rows c.loop-row.invariant.1 there (sym c.row-item.is)
+                c.loop-row.found.items w.push.new.self.items (alone rows c.args.others.now) apart c.loop-row.invariant.0
+                (w.in_ok-push.ensures.items ∙ ap (λ (r : Row). c.loop-row.found.items ++ r ∷ []) w.in_ok-try_copy.ensures)),
+            ordered,
+          )
       | else-not-begins_with w ↦
-          let same : begins_with row (not_below row rest) ≡ true = cc in
-          (rw (w.found-is, c.not_below-rest.ensures) (walked_by rows rest c.loop-row.row-index row c.requires.rows c.loop-row.invariant.1 there (sym c.row-item.is) c.loop-row.found.items (alone rows c.args.others.now) same c.loop-row.invariant.0), ordered)
+          let same : begins_with row (not_below row rest) ≡ true = cc in (
+            rw (w.found-is, c.not_below-rest.ensures)
+                (walked_by rows rest c.loop-row.row-index row c.requires.rows c.loop-row.invariant.1 there (sym c.row-item.is)
+                c.loop-row.found.items (alone rows c.args.others.now) same c.loop-row.invariant.0),
+            ordered,
+          )
     ]

@@ -16,13 +16,18 @@ loop-place-preserved g c =
     let ps = fin.entries c.entries-entries.result.now.map in
     elim c.match-at.branch [
       | in-Some+then-online+in_ok-of+in_ok-push w ↦
-          let shown = answered (λ (d : Dot). is_online c.args.replica.now d.name) w.entry.inside.dot w.in-Some.entry.now w.online.result true (ap (λ (e : Entry). e.dot) w.entry.view_is) w.online.ensures w.if-online.true in
+          let shown = answered (λ (d : Dot). is_online c.args.replica.now d.name) w.entry.inside.dot w.in-Some.entry.now w.online.result
+          true (ap (λ (e : Entry). e.dot) w.entry.view_is) w.online.ensures w.if-online.true in
           rw w.rows-is
-          (row_collected (is_shown c.args.replica.now) ps c.loop-place.place w.in-Some.entry.now w.in_ok-of.field-0 c.loop-place.rows.items w.push.new.self.items w.in-Some.ensures shown c.loop-place.invariant w.in_ok-push.ensures.items w.in_ok-of.ensures)
+          (row_collected (is_shown c.args.replica.now) ps c.loop-place.place w.in-Some.entry.now w.in_ok-of.field-0 c.loop-place.rows.items
+          w.push.new.self.items w.in-Some.ensures shown c.loop-place.invariant w.in_ok-push.ensures.items w.in_ok-of.ensures)
       | in-Some+else-online w ↦
-          let hidden = answered (λ (d : Dot). is_online c.args.replica.now d.name) w.entry.inside.dot w.in-Some.entry.now w.online.result false (ap (λ (e : Entry). e.dot) w.entry.view_is) w.online.ensures w.if-online.false in
-          rw w.rows-is (c.loop-place.invariant ∙ ap (map row_of) (sym (failed (is_shown c.args.replica.now) ps c.loop-place.place w.in-Some.entry.now w.in-Some.ensures hidden)))
-      | in_default w ↦ let len = fin.len-entries c.entries-entries.result.now.map in absurd (no_gap ps c.loop-place.place w.in_default.ensures (omega arith))
+          let hidden = answered (λ (d : Dot). is_online c.args.replica.now d.name) w.entry.inside.dot w.in-Some.entry.now w.online.result
+          false (ap (λ (e : Entry). e.dot) w.entry.view_is) w.online.ensures w.if-online.false in
+          rw w.rows-is (c.loop-place.invariant ∙ ap (map row_of) (sym (failed (is_shown c.args.replica.now) ps c.loop-place.place
+          w.in-Some.entry.now w.in-Some.ensures hidden)))
+      | in_default w ↦ let len =
+          fin.len-entries c.entries-entries.result.now.map in absurd (no_gap ps c.loop-place.place w.in_default.ensures (omega arith))
     ]
 
 is_listed : goal.returns-clause-rows

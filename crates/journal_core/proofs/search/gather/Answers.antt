@@ -14,13 +14,13 @@ loop-held-preserved g c =
     ((c.kept-kept.result.now.number == c.args.number) || list_any
     (λ k. is_consequence (kepts c.args.steps.now) k c.kept-kept.result.now) (map (λ k. k.now) c.loop-held.found.items)) =
     rw (← c.as_slice.ensures.value) c.is_gathered.ensures in
-    elim c.if-joins.branch [
+    elim c.if-is_gathered.branch [
       | then-is_gathered+in_ok-push w ↦ rw
           (w.found-is, w.in_ok-push.ensures.items, map-append (λ k. k.now) c.loop-held.found.items (c.kept-kept.result ∷ []))
           (joined (kepts c.args.steps.now) c.args.number _ c.args.steps.now c.loop-held.held-index c.held-item.result c.kept-kept.result.now
-          found c.is_gathered.result c.loop-held-test.true c.held-item.is c.kept-kept.ensures test w.if-joins.true
+          found c.is_gathered.result c.loop-held-test.true c.held-item.is c.kept-kept.ensures test w.if-is_gathered.true
           c.loop-held.invariant)
       | else-is_gathered w ↦ rw w.found-is
           (passed (kepts c.args.steps.now) c.args.number _ c.args.steps.now c.loop-held.held-index c.held-item.result c.kept-kept.result.now
-          found c.is_gathered.result c.loop-held-test.true c.held-item.is c.kept-kept.ensures test w.if-joins.false c.loop-held.invariant)
+          found c.is_gathered.result c.loop-held-test.true c.held-item.is c.kept-kept.ensures test w.if-is_gathered.false c.loop-held.invariant)
     ]

@@ -5,14 +5,20 @@ use Rattle.bench_core.specs.Clusters.{opening_of}
 use Rattle.bench_core.specs.Histories.{History}
 use Rattle.bench_core.specs.Benches.{IsBench}
 use Rattle.bench_core.proofs.Openings.{opens}
-use Rattle.bench_core.proofs.Keeps.{config}
+use Rattle.bench_core.proofs.Invariant.{config}
 use Rattle.bench_core.proofs.bench.Bench.new.Goals as goal
 
 pub invariant_of-result : goal.invariant_of-result
 invariant_of-result g c =
-    let nodes : c.in_ok-nodes.nodes.items ≡ opening_of (node_limits c.args.limits) (length c.args.names) = c.in_ok-nodes.ensures.opening ∙ ap (λ l. opening_of l c.len.result) c.of_node.ensures.value ∙ ap (opening_of (node_limits c.args.limits)) c.len.ensures.len in
-    let opened = opens (config c.args.names c.args.limits) c.in_ok-nodes.nodes.items c.of_node.ensures.range (omega arith) nodes c.in_ok-nodes.ensures.kept in (
-      subst (IsBench (config c.args.names c.args.limits) (record { history = c.new-2.result.events; remaining = kepts c.in_ok-journal.journal.steps }) c.in_ok-nodes.nodes.items c.in_ok-journal.journal.steps) (sym c.new-3.ensures)
-          (subst₂ (λ (j : Journal) (h : History). IsBench (config c.args.names c.args.limits) (record { history = h.events; remaining = kepts j.steps }) c.in_ok-nodes.nodes.items j.steps 0) (sym c.in_ok-journal.ensures) (sym c.new-2.ensures) opened),
+    let nodes : c.in_ok-nodes.nodes.items ≡ opening_of (node_limits c.args.limits) (length c.args.names) = c.in_ok-nodes.ensures.opening
+    ∙ ap (λ l. opening_of l c.len.result) c.of_node.ensures.value ∙ ap (opening_of (node_limits c.args.limits)) c.len.ensures.len in
+    let opened = opens (config c.args.names c.args.limits) c.in_ok-nodes.nodes.items c.of_node.ensures.range (omega arith) nodes
+    c.in_ok-nodes.ensures.kept in (
+      subst (IsBench (config c.args.names c.args.limits)
+          (record { history = c.new-2.result.events; remaining = kepts c.in_ok-journal.journal.steps }) c.in_ok-nodes.nodes.items
+          c.in_ok-journal.journal.steps) (sym c.new-3.ensures)
+          (subst₂ (λ (j : Journal) (h : History). IsBench (config c.args.names c.args.limits)
+          (record { history = h.events; remaining = kepts j.steps }) c.in_ok-nodes.nodes.items j.steps 0) (sym c.in_ok-journal.ensures)
+          (sym c.new-2.ensures) opened),
       ap (λ (j : Journal). j.nodes) c.in_ok-journal.ensures ∙ c.len-2.ensures.len,
     )

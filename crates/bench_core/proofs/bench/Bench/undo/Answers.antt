@@ -8,27 +8,44 @@ use Rattle.bench_core.specs.Machine.{Event, Machine, config_of}
 use Rattle.bench_core.specs.Headline.{IsReached}
 use Rattle.bench_core.specs.Benches.{GoesBack}
 use Rattle.bench_core.proofs.Reached.{undo_answers}
-use Rattle.bench_core.proofs.Keeps.{config, machine, noted, same_bench, undo_at, undone, unmade_undo}
+use Rattle.bench_core.proofs.Invariant.{config, machine, noted, same_bench, undo_at, undone, unmade_undo}
 use Rattle.bench_core.proofs.bench.Bench.undo.Goals as goal
 
 pub take_back-requires : goal.take_back-requires
 take_back-requires g c =
     let step = c.in-Ok.ensures.remains in
-    let found : find_number (kepts c.self.inside.journal.steps) c.args.number ≡ Some step.0 = ap (λ (m : Machine). find_number m.state.remaining c.args.number) c.self.view_is ∙ step.1 in
-    let free : first_consequence (kepts c.self.inside.journal.steps) c.args.number ≡ None = sym c.first_consequence.ensures ∙ c.in_default.is in
-    let u = undo_at (config c.self.inside.names c.self.inside.limits) c.self.inside.history.events c.self.inside.nodes.items c.self.inside.journal.steps c.self.inside.meter.count c.args.number c.in-Ok.node step.0 c.self.invariant.0 found step.2 free in
+    let found : find_number (kepts c.self.inside.journal.steps) c.args.number ≡ Some step.0 =
+    ap (λ (m : Machine). find_number m.state.remaining c.args.number) c.self.view_is ∙ step.1 in
+    let free : first_consequence (kepts c.self.inside.journal.steps) c.args.number ≡ None = sym c.first_consequence.ensures
+    ∙ c.in_default.is in
+    let u = undo_at (config c.self.inside.names c.self.inside.limits) c.self.inside.history.events c.self.inside.nodes.items
+    c.self.inside.journal.steps c.self.inside.meter.count c.args.number c.in-Ok.node step.0 c.self.invariant.0 found step.2 free in
     (omega arith, u.backable)
 
 pub invariant_of-self-2 : goal.invariant_of-self-2
 invariant_of-self-2 g c =
     let step = c.in-Ok.ensures.remains in
-    let found : find_number (kepts c.self.inside.journal.steps) c.args.number ≡ Some step.0 = ap (λ (m : Machine). find_number m.state.remaining c.args.number) c.self.view_is ∙ step.1 in
-    let free : first_consequence (kepts c.self.inside.journal.steps) c.args.number ≡ None = sym c.first_consequence.ensures ∙ c.in_default.is in
-    let u = undo_at (config c.self.inside.names c.self.inside.limits) c.self.inside.history.events c.self.inside.nodes.items c.self.inside.journal.steps c.self.inside.meter.count c.args.number c.in-Ok.node step.0 c.self.invariant.0 found step.2 free in
-    let goes : GoesBack c.self.inside.nodes.items c.self.inside.journal.steps c.args.number c.in-Ok.node c.take_back.new.nodes.items = search rules in
-    let shorter : c.take_back.new.journal ≡ record { nodes = c.self.inside.journal.nodes; steps = without_held c.self.inside.journal.steps c.args.number; room = c.self.inside.journal.room } = search rules in (
-      (undone c.self.inside.names c.self.inside.limits c.self.inside.history.events c.record.new.self.events c.self.inside.nodes.items c.take_back.new.nodes.items c.self.inside.journal.steps c.take_back.new.journal.steps c.self.inside.meter.count c.args.actor c.args.number c.in-Ok.node (plain_act c.args.act.now) step.0 c.args.self.now c.self.view_is
-          (noted c.args.actor (plain_act c.args.act.now) (plain_act c.in-Ok-make_room.act) (Undone c.args.number) c.self.inside.history.events c.make_room.new.self.events c.record.new.self.events (ap (λ (h : History). h.events) c.record.ensures) c.make_room.ensures.events c.in-Ok-make_room.ensures.copy)
+    let found : find_number (kepts c.self.inside.journal.steps) c.args.number ≡ Some step.0 =
+    ap (λ (m : Machine). find_number m.state.remaining c.args.number) c.self.view_is ∙ step.1 in
+    let free : first_consequence (kepts c.self.inside.journal.steps) c.args.number ≡ None = sym c.first_consequence.ensures
+    ∙ c.in_default.is in
+    let u = undo_at (config c.self.inside.names c.self.inside.limits) c.self.inside.history.events c.self.inside.nodes.items
+    c.self.inside.journal.steps c.self.inside.meter.count c.args.number c.in-Ok.node step.0 c.self.invariant.0 found step.2 free in
+    let goes : GoesBack c.self.inside.nodes.items c.self.inside.journal.steps c.args.number c.in-Ok.node c.take_back.new.nodes.items =
+    search rules in
+    let shorter : c.take_back.new.journal ≡
+    record {
+      nodes = c.self.inside.journal.nodes;
+      steps = without_held c.self.inside.journal.steps c.args.number;
+      room =
+          c.self.inside.journal.room;
+    } = search rules in (
+      (undone c.self.inside.names c.self.inside.limits c.self.inside.history.events c.record.new.self.events c.self.inside.nodes.items
+          c.take_back.new.nodes.items c.self.inside.journal.steps c.take_back.new.journal.steps c.self.inside.meter.count c.args.actor
+          c.args.number c.in-Ok.node (plain_act c.args.act.now) step.0 c.args.self.now c.self.view_is
+          (noted c.args.actor (plain_act c.args.act.now) (plain_act c.in-Ok-make_room.act) (Undone c.args.number)
+          c.self.inside.history.events c.make_room.new.self.events c.record.new.self.events
+          (ap (λ (h : History). h.events) c.record.ensures) c.make_room.ensures.events c.in-Ok-make_room.ensures.copy)
           (ap (λ (j : Journal). j.steps) shorter) c.self.invariant.0 c.requires found free u (goes u.backable)).keeps,
       ap (λ (j : Journal). j.nodes) shorter ∙ c.self.invariant.1,
     )
@@ -36,43 +53,68 @@ invariant_of-self-2 g c =
 pub returns : goal.returns
 returns g c =
     let step = c.in-Ok.ensures.remains in
-    let found : find_number (kepts c.self.inside.journal.steps) c.args.number ≡ Some step.0 = ap (λ (m : Machine). find_number m.state.remaining c.args.number) c.self.view_is ∙ step.1 in
-    let free : first_consequence (kepts c.self.inside.journal.steps) c.args.number ≡ None = sym c.first_consequence.ensures ∙ c.in_default.is in
-    let u = undo_at (config c.self.inside.names c.self.inside.limits) c.self.inside.history.events c.self.inside.nodes.items c.self.inside.journal.steps c.self.inside.meter.count c.args.number c.in-Ok.node step.0 c.self.invariant.0 found step.2 free in
-    let goes : GoesBack c.self.inside.nodes.items c.self.inside.journal.steps c.args.number c.in-Ok.node c.take_back.new.nodes.items = search rules in
-    let shorter : c.take_back.new.journal ≡ record { nodes = c.self.inside.journal.nodes; steps = without_held c.self.inside.journal.steps c.args.number; room = c.self.inside.journal.room } = search rules in
-    (undone c.self.inside.names c.self.inside.limits c.self.inside.history.events c.record.new.self.events c.self.inside.nodes.items c.take_back.new.nodes.items c.self.inside.journal.steps c.take_back.new.journal.steps c.self.inside.meter.count c.args.actor c.args.number c.in-Ok.node (plain_act c.args.act.now) step.0 c.args.self.now c.self.view_is
-    (noted c.args.actor (plain_act c.args.act.now) (plain_act c.in-Ok-make_room.act) (Undone c.args.number) c.self.inside.history.events c.make_room.new.self.events c.record.new.self.events (ap (λ (h : History). h.events) c.record.ensures) c.make_room.ensures.events c.in-Ok-make_room.ensures.copy)
+    let found : find_number (kepts c.self.inside.journal.steps) c.args.number ≡ Some step.0 =
+    ap (λ (m : Machine). find_number m.state.remaining c.args.number) c.self.view_is ∙ step.1 in
+    let free : first_consequence (kepts c.self.inside.journal.steps) c.args.number ≡ None = sym c.first_consequence.ensures
+    ∙ c.in_default.is in
+    let u = undo_at (config c.self.inside.names c.self.inside.limits) c.self.inside.history.events c.self.inside.nodes.items
+    c.self.inside.journal.steps c.self.inside.meter.count c.args.number c.in-Ok.node step.0 c.self.invariant.0 found step.2 free in
+    let goes : GoesBack c.self.inside.nodes.items c.self.inside.journal.steps c.args.number c.in-Ok.node c.take_back.new.nodes.items =
+    search rules in
+    let shorter : c.take_back.new.journal ≡
+    record {
+      nodes = c.self.inside.journal.nodes;
+      steps = without_held c.self.inside.journal.steps c.args.number;
+      room =
+          c.self.inside.journal.room;
+    } = search rules in
+    (undone c.self.inside.names c.self.inside.limits c.self.inside.history.events c.record.new.self.events c.self.inside.nodes.items
+    c.take_back.new.nodes.items c.self.inside.journal.steps c.take_back.new.journal.steps c.self.inside.meter.count c.args.actor
+    c.args.number c.in-Ok.node (plain_act c.args.act.now) step.0 c.args.self.now c.self.view_is
+    (noted c.args.actor (plain_act c.args.act.now) (plain_act c.in-Ok-make_room.act) (Undone c.args.number) c.self.inside.history.events
+    c.make_room.new.self.events c.record.new.self.events (ap (λ (h : History). h.events) c.record.ensures) c.make_room.ensures.events
+    c.in-Ok-make_room.ensures.copy)
     (ap (λ (j : Journal). j.steps) shorter) c.self.invariant.0 c.requires found free u (goes u.backable)).answers
 
 pub refuse-requires-in-Some-clause-refused : goal.refuse-requires-in-Some-clause-refused
 refuse-requires-in-Some-clause-refused g c =
     let step = c.in-Ok.ensures.remains in
     let reached = subst (λ (m : Machine). IsReached (config_of m) m.state) c.self.view_is c.self.invariant.0.reached in
-    let held : first_consequence c.args.self.now.state.remaining c.args.number ≡ Some c.in-Some.held_by = ap (λ (m : Machine). first_consequence m.state.remaining c.args.number) (sym c.self.view_is) ∙ sym c.first_consequence.ensures ∙ c.in-Some.is in
-    c.requires ∙ undo_answers (config_of c.args.self.now) c.args.self.now.state c.args.number step.0 (Some c.in-Some.held_by) reached step.1 held
+    let held : first_consequence c.args.self.now.state.remaining c.args.number ≡ Some c.in-Some.held_by =
+    ap (λ (m : Machine). first_consequence m.state.remaining c.args.number) (sym c.self.view_is) ∙ sym c.first_consequence.ensures
+    ∙ c.in-Some.is in
+    c.requires ∙ undo_answers (config_of c.args.self.now) c.args.self.now.state c.args.number step.0 (Some c.in-Some.held_by) reached step.1
+    held
 
 pub returns-in_default-make_room : goal.returns-in_default-make_room
 returns-in_default-make_room g c =
     let step = c.in-Ok.ensures.remains in
     let reached = subst (λ (m : Machine). IsReached (config_of m) m.state) c.self.view_is c.self.invariant.0.reached in
-    let free : first_consequence c.args.self.now.state.remaining c.args.number ≡ None = ap (λ (m : Machine). first_consequence m.state.remaining c.args.number) (sym c.self.view_is) ∙ sym c.first_consequence.ensures ∙ c.in_default.is in
+    let free : first_consequence c.args.self.now.state.remaining c.args.number ≡ None =
+    ap (λ (m : Machine). first_consequence m.state.remaining c.args.number) (sym c.self.view_is) ∙ sym c.first_consequence.ensures
+    ∙ c.in_default.is in
     unmade_undo c.args.actor c.args.number (plain_act c.args.act.now) step.0 c.args.self.now _ reached c.requires step.1 free
-    (ap (λ (h : List Event). machine c.self.inside.names c.self.inside.limits h (kepts c.self.inside.journal.steps)) c.make_room.ensures.events ∙ c.self.view_is)
+    (ap (λ (h : List Event). machine c.self.inside.names c.self.inside.limits h (kepts c.self.inside.journal.steps))
+    c.make_room.ensures.events ∙ c.self.view_is)
 
 pub invariant_of-self-then-is_err : goal.invariant_of-self-then-is_err
 invariant_of-self-then-is_err g c =
     let stays : c.take_back.new.nodes.items ≡ c.self.inside.nodes.items = search rules in
     let same : c.take_back.new.journal ≡ c.self.inside.journal = search rules in
-    same_bench c.self.inside.names c.self.inside.limits c.self.inside.history.events c.make_room.new.self.events c.self.inside.nodes.items c.take_back.new.nodes.items c.self.inside.journal c.take_back.new.journal c.self.inside.meter.count c.make_room.ensures.events stays same c.self.invariant
+    same_bench c.self.inside.names c.self.inside.limits c.self.inside.history.events c.make_room.new.self.events c.self.inside.nodes.items
+    c.take_back.new.nodes.items c.self.inside.journal c.take_back.new.journal c.self.inside.meter.count c.make_room.ensures.events stays
+    same c.self.invariant
 
 pub returns-then-is_err : goal.returns-then-is_err
 returns-then-is_err g c =
     let step = c.in-Ok.ensures.remains in
     let reached = subst (λ (m : Machine). IsReached (config_of m) m.state) c.self.view_is c.self.invariant.0.reached in
-    let free : first_consequence c.args.self.now.state.remaining c.args.number ≡ None = ap (λ (m : Machine). first_consequence m.state.remaining c.args.number) (sym c.self.view_is) ∙ sym c.first_consequence.ensures ∙ c.in_default.is in
+    let free : first_consequence c.args.self.now.state.remaining c.args.number ≡ None =
+    ap (λ (m : Machine). first_consequence m.state.remaining c.args.number) (sym c.self.view_is) ∙ sym c.first_consequence.ensures
+    ∙ c.in_default.is in
     let same : c.take_back.new.journal ≡ c.self.inside.journal = search rules in
     unmade_undo c.args.actor c.args.number (plain_act c.args.act.now) step.0 c.args.self.now _ reached c.requires step.1 free
-    (ap (λ (h : List Event). machine c.self.inside.names c.self.inside.limits h (kepts c.take_back.new.journal.steps)) c.make_room.ensures.events
+    (ap (λ (h : List Event). machine c.self.inside.names c.self.inside.limits h (kepts c.take_back.new.journal.steps))
+    c.make_room.ensures.events
     ∙ ap (λ (j : Journal). machine c.self.inside.names c.self.inside.limits c.self.inside.history.events (kepts j.steps)) same
     ∙ c.self.view_is)

@@ -11,5 +11,7 @@ returns-then-undone-len-clause-answer g c =
     let undone = c.undo_each-undone.result in (
       drop undone numbers,
       some_left numbers undone (search rules),
-      subst (Explains c.args.self.now.state c.args.number) (sym (take-append-drop undone numbers) ∙ ap (λ l. l ++ drop undone numbers) (sym c.truncate.ensures.items)) c.in-Ok.ensures.future,
+      subst (Explains c.args.self.now.state c.args.number)
+          (sym (take-append-drop undone numbers) ∙ ap (λ l. l ++ drop undone numbers) (sym c.truncate.ensures.items))
+          c.in-Ok.ensures.future,
     )

@@ -1,5 +1,6 @@
 -- What a bench keeps is kept by each call.
-use Rattle.std.proofs.Common.{◌≡◌, ◌≢◌, ◌⊎◌, inl, inr, Bool, if◌then◌else◌, ℕ, ◌+◌, ◌<◌, ◌≤◌, ◌==◌, not, nat_lt, true, false, List, [], ◌∷◌, ◌++◌, length, set, get_or, slice_get, Option, Some, None, option_map, Result, Ok, Err, refl, sym, ap, ◌∙◌, subst, subst₂, arith, length-set}
+use Rattle.std.proofs.Common.{◌≡◌, ◌≢◌, ◌⊎◌, inl, inr, Bool, if◌then◌else◌, ℕ, ◌+◌, ◌<◌, ◌≤◌, ◌==◌, not, nat_lt, true, false, List, [], ◌∷◌, ◌++◌, length}
+use Rattle.std.proofs.Common.{set, get_or, slice_get, Option, Some, None, option_map, Result, Ok, Err, refl, sym, ap, ◌∙◌, subst, subst₂, arith, length-set}
 use Rattle.std.proofs.lemmas.Bool.{cases_eq, le-ltb, ltb-true, ne_eqb, and_parts}
 use Rattle.std.proofs.lemmas.List.Sums.{count_by-le-length}
 use Rattle.std.proofs.lemmas.Option.{slice_get_within}
@@ -18,14 +19,15 @@ use Rattle.replica_core.specs.Replicas.{own_clock}
 use Rattle.node_core.specs.Operations.{Operation, named_in, delivers}
 use Rattle.bench_core.specs.Acts.{Action, Do}
 use Rattle.node_core.specs.Nodes.{Node, take}
-use Rattle.node_core.specs.Kept.{IsNode}
+use Rattle.node_core.specs.Invariant.{IsNode}
 use Rattle.node_core.specs.Inverses.{Inverse, LeadsBack}
 use Rattle.bench_core.specs.Clusters.{Cluster, step, node_step, with_node, of_node, opening_of, fault_of, message_for}
 use Rattle.journal_core.specs.Journals.{Kept, find_number, first_consequence, without, AreBelow}
 use Rattle.bench_core.specs.Runs.{then_runs, runs}
 use Rattle.journal_core.specs.Holdings.{Held, Journal, kepts, find_held, inverse_of, without_held, AreAllHeld, HasSender, CanBeKept}
 use Rattle.bench_core.specs.Chains.{Link, Chain}
-use Rattle.bench_core.specs.Machine.{Event, Config, State, Machine, config_of, opening_state, is_taken, given, free_places, knows, undo_reply, step_reply, do_reply, reply_to, now, is_recorded, after, call, calls, AnswersAs, Answered, Unmade}
+use Rattle.bench_core.specs.Machine.{Event, Config, State, Machine, config_of, opening_state, is_taken, given, free_places, knows, undo_reply, step_reply}
+use Rattle.bench_core.specs.Machine.{do_reply, reply_to, now, is_recorded, after, call, calls, AnswersAs, Answered, Unmade}
 use Rattle.bench_core.specs.Headline.{IsReached}
 use Rattle.bench_core.specs.Benches.{AreNodes, HasCluster, IsBackable, IsBench, IsMachine, IsNumbered, IsTaken}
 use Rattle.journal_core.proofs.Rising.{kepts-append, find_kepts}
@@ -37,15 +39,18 @@ use Rattle.bench_core.proofs.Reached.{kept_reached, count_push, undo_answers}
 use Rattle.bench_core.proofs.Loop.{has_sender}
 use Rattle.bench_core.proofs.Chain.{chain_push, all_held, undoing}
 
-pub calls_append : (c : Config) (s : State) (asked : List (ℕ × Action)) (actor : ℕ) (act : Action) → calls c s (asked ++ (actor, act) ∷ []) ≡ call c (calls c s asked) actor act
+pub calls_append : (c : Config) (s : State) (asked : List (ℕ × Action)) (actor : ℕ) (act : Action) →
+    calls c s (asked ++ (actor, act) ∷ []) ≡ call c (calls c s asked) actor act
 calls_append c s [] actor act = refl
 calls_append c s (a ∷ asked) actor act = calls_append c (call c s a.0 a.1) asked actor act
 
 -- a state that the machine comes to is reached
-pub reached_after : (c : Config) (s : State) (actor : ℕ) (act : Action) (r : Reply) → IsReached c s → reply_to c s actor act ≡ r → IsReached c (after c s actor act r)
+pub reached_after : (c : Config) (s : State) (actor : ℕ) (act : Action) (r : Reply) → IsReached c s → reply_to c s actor act ≡ r →
+    IsReached c (after c s actor act r)
 reached_after c s actor act r reached is = (
   reached.0 ++ (actor, act) ∷ [],
-  ap (after c s actor act) (sym is) ∙ ap (λ (s : State). call c s actor act) reached.1 ∙ sym (calls_append c opening_state reached.0 actor act),
+  ap (after c s actor act) (sym is) ∙ ap (λ (s : State). call c s actor act) reached.1
+      ∙ sym (calls_append c opening_state reached.0 actor act),
 )
 
 abbrev pub machine : Texts → Limits → List Event → List Kept → Machine
@@ -59,9 +64,11 @@ abbrev pub note : ℕ → Action → Reply → List Event → List Event
 note actor act r h = h ++ record { actor = actor; act = act; reply = r } ∷ []
 
 -- a history to which a call was added, by a copy of what was asked
-pub noted : (actor : ℕ) (act copy : Action) (r : Reply) (h mid later : List Event) → later ≡ mid ++ record { actor = actor; act = copy; reply = r } ∷ [] → mid ≡ h → copy ≡ act → later ≡ note actor act r h
+pub noted : (actor : ℕ) (act copy : Action) (r : Reply) (h mid later : List Event) →
+    later ≡ mid ++ record { actor = actor; act = copy; reply = r } ∷ [] → mid ≡ h → copy ≡ act → later ≡ note actor act r h
 noted actor act copy r h mid later is same copied =
-    is ∙ ap (λ (m : List Event). m ++ record { actor = actor; act = copy; reply = r } ∷ []) same ∙ ap (λ (a : Action). note actor a r h) copied
+    is ∙ ap (λ (m : List Event). m ++ record { actor = actor; act = copy; reply = r } ∷ []) same
+    ∙ ap (λ (a : Action). note actor a r h) copied
 
 recorded_if : (c : Config) (s : State) (f : Fault) → f ≢ HistoryFull → is_recorded c s (Refused f) ≡ not (free_places c s == 0)
 recorded_if c s HistoryFull other = absurd (other refl)
@@ -91,7 +98,8 @@ step_other c n s e h = found (slice_get c n) h
     took (Ok x) h = absurd (cc)
     took (Err f) h = λ full. let same : fault_of f ≡ e = cc in fault_of_other f (same ∙ full)
 
-    tested : (x : Node) (b : Bool) → with_node c n (if b then of_node (take x s (message_for c s)) else Err UnknownNode) ≡ Err e → e ≢ HistoryFull
+    tested : (x : Node) (b : Bool) → with_node c n (if b then of_node (take x s (message_for c s)) else Err UnknownNode) ≡ Err e →
+        e ≢ HistoryFull
     tested x true h = took (take x s (message_for c s)) h
     tested x false h = λ full. cc
 
@@ -100,19 +108,23 @@ step_other c n s e h = found (slice_get c n) h
     found (Some x) h = tested x (list_all (λ k. nat_lt k (length c)) (named_in s)) h
 
 -- where a place is free, such a refusal would be recorded, and so memory may be refused
-pub unmade_refusal : (actor : ℕ) (act : Action) (f : Fault) (m new : Machine) → reply_to (config_of m) m.state actor act ≡ Refused f → f ≢ HistoryFull → free_places (config_of m) m.state ≢ 0 → new ≡ m → AnswersAs m actor act (Refused OutOfMemory) new
+pub unmade_refusal : (actor : ℕ) (act : Action) (f : Fault) (m new : Machine) → reply_to (config_of m) m.state actor act ≡ Refused f →
+    f ≢ HistoryFull → free_places (config_of m) m.state ≢ 0 → new ≡ m → AnswersAs m actor act (Refused OutOfMemory) new
 unmade_refusal actor act f m new is other room same =
-    Unmade (ap (is_recorded (config_of m) m.state) is ∙ recorded_if (config_of m) m.state f other ∙ ap not (ne_eqb (free_places (config_of m) m.state) 0 room)) refl same
+    Unmade (ap (is_recorded (config_of m) m.state) is ∙ recorded_if (config_of m) m.state f other
+    ∙ ap not (ne_eqb (free_places (config_of m) m.state) 0 room)) refl same
 
 -- a refusal that is recorded
-refused_noted : (c : Config) (s : State) (nodes : Cluster) (hs : List Held) (taken actor : ℕ) (act : Action) (f : Fault) → IsBench c s nodes hs taken → reply_to c s actor act ≡ Refused f → f ≢ HistoryFull → (free_places c s == 0) ≡ false →
+refused_noted : (c : Config) (s : State) (nodes : Cluster) (hs : List Held) (taken actor : ℕ) (act : Action) (f : Fault) →
+    IsBench c s nodes hs taken → reply_to c s actor act ≡ Refused f → f ≢ HistoryFull → (free_places c s == 0) ≡ false →
     record {
       state : record { history = note actor act (Refused f) s.history; remaining = s.remaining } ≡ after c s actor act (Refused f);
       keeps : IsBench c (record { history = note actor act (Refused f) s.history; remaining = s.remaining }) nodes hs taken;
     }
 refused_noted c s nodes hs taken actor act f old is other room =
     let recorded : is_recorded c s (Refused f) ≡ true = recorded_if c s f other ∙ ap not room in
-    let state : record { history = note actor act (Refused f) s.history; remaining = s.remaining } ≡ after c s actor act (Refused f) = rw recorded refl in
+    let state : record { history = note actor act (Refused f) s.history; remaining = s.remaining } ≡ after c s actor act (Refused f) =
+    rw recorded refl in
     let reached = subst (IsReached c) (sym state) (reached_after c s actor act (Refused f) old.reached is) in
     let more = count_push s.history (record { actor = actor; act = act; reply = Refused f }) in
     let count = old.count in
@@ -132,28 +144,48 @@ refused_noted c s nodes hs taken actor act f old is other room =
     }
 
 -- the same, as the code comes to it: m is the value before, h and ks its lists
-pub refused : (names : Texts) (limits : Limits) (h later : List Event) (ks : List Kept) (nodes : Cluster) (hs : List Held) (taken actor : ℕ) (act : Action) (f : Fault) (m : Machine) →
-    machine names limits h ks ≡ m → later ≡ note actor act (Refused f) h → IsBench (config names limits) (record { history = h; remaining = ks }) nodes hs taken →
+pub refused : (names : Texts) (limits : Limits) (h later : List Event) (ks : List Kept) (nodes : Cluster) (hs : List Held) (taken actor : ℕ)
+    (act : Action) (f : Fault) (m : Machine) →
+    machine names limits h ks ≡ m → later ≡ note actor act (Refused f) h →
+    IsBench (config names limits) (record { history = h; remaining = ks }) nodes hs taken →
     reply_to (config_of m) m.state actor act ≡ Refused f → f ≢ HistoryFull → free_places (config_of m) m.state ≢ 0 →
     record {
       keeps : IsBench (config names limits) (record { history = later; remaining = ks }) nodes hs taken;
       answers : AnswersAs m actor act (Refused f) (machine names limits later ks);
     }
-refused names limits h later ks nodes hs taken actor act f m at longer old = subst (λ (m : Machine). reply_to (config_of m) m.state actor act ≡ Refused f → f ≢ HistoryFull → free_places (config_of m) m.state ≢ 0 → record { keeps : IsBench (config names limits) (record { history = later; remaining = ks }) nodes hs taken; answers : AnswersAs m actor act (Refused f) (machine names limits later ks) }) at here
+refused names limits h later ks nodes hs taken actor act f m at longer old =
+    subst (λ (m : Machine). reply_to (config_of m) m.state actor act ≡ Refused f → f ≢ HistoryFull → free_places (config_of m) m.state ≢ 0 →
+    record {
+      keeps : IsBench (config names limits) (record { history = later; remaining = ks }) nodes hs taken;
+      answers : AnswersAs m actor
+          act (Refused f) (machine names limits later ks);
+    }) at here
   where
-    here : reply_to (config names limits) (record { history = h; remaining = ks }) actor act ≡ Refused f → f ≢ HistoryFull → free_places (config names limits) (record { history = h; remaining = ks }) ≢ 0 →
-        record { keeps : IsBench (config names limits) (record { history = later; remaining = ks }) nodes hs taken; answers : AnswersAs (machine names limits h ks) actor act (Refused f) (machine names limits later ks) }
-    here is other room =
-        let n = refused_noted (config names limits) (record { history = h; remaining = ks }) nodes hs taken actor act f old is other (ne_eqb _ 0 room) in
+    here : reply_to (config names limits) (record { history = h; remaining = ks }) actor act ≡ Refused f → f ≢ HistoryFull →
+        free_places (config names limits) (record { history = h; remaining = ks }) ≢ 0 →
         record {
-          keeps = subst (λ (h : List Event). IsBench (config names limits) (record { history = h; remaining = ks }) nodes hs taken) (sym longer) n.keeps;
-          answers = Answered (sym is) (ap (λ (h : List Event). machine names limits h ks) longer ∙ ap (λ (s : State). record { names = names; limits = limits; state = s }) n.state);
+          keeps : IsBench (config names limits) (record { history = later; remaining = ks }) nodes hs taken;
+          answers : AnswersAs
+              (machine names limits h ks) actor act (Refused f) (machine names limits later ks);
+        }
+    here is other room =
+        let n = refused_noted (config names limits) (record { history = h; remaining = ks }) nodes hs taken actor act f old is other
+        (ne_eqb _ 0 room) in
+        record {
+          keeps =
+              subst (λ (h : List Event). IsBench (config names limits) (record { history = h; remaining = ks }) nodes hs taken) (sym longer)
+              n.keeps;
+          answers =
+              Answered (sym is) (ap (λ (h : List Event). machine names limits h ks) longer
+              ∙ ap (λ (s : State). record { names = names; limits = limits; state = s }) n.state);
         }
 
 -- a refusal for which there is no place
-pub refused_full : (actor : ℕ) (act : Action) (f : Fault) (m : Machine) → reply_to (config_of m) m.state actor act ≡ Refused f → f ≢ HistoryFull → free_places (config_of m) m.state ≡ 0 → AnswersAs m actor act (Refused f) m
+pub refused_full : (actor : ℕ) (act : Action) (f : Fault) (m : Machine) → reply_to (config_of m) m.state actor act ≡ Refused f →
+    f ≢ HistoryFull → free_places (config_of m) m.state ≡ 0 → AnswersAs m actor act (Refused f) m
 refused_full actor act f m is other full =
-    let recorded : is_recorded (config_of m) m.state (Refused f) ≡ false = recorded_if (config_of m) m.state f other ∙ ap (λ n. not (n == 0)) full in
+    let recorded : is_recorded (config_of m) m.state (Refused f) ≡ false = recorded_if (config_of m) m.state f other
+    ∙ ap (λ n. not (n == 0)) full in
     Answered (sym is) (rw recorded refl)
 
 -- one node replaced by another
@@ -169,37 +201,57 @@ nodes_set c n x y all at is m z here = go (cases_eq m n)
 
 -- what a step is answered
 
-pub do_gives : (c : Config) (s : State) (actor : ℕ) (operation : Operation) (nodes : Cluster) (r : Result Cluster Fault) → knows c actor operation ≡ true → 2 ≤ free_places c s → now c s ≡ Ok nodes → step nodes actor operation ≡ r → do_reply c s actor operation ≡ step_reply (given s.history + 1) r
+pub do_gives : (c : Config) (s : State) (actor : ℕ) (operation : Operation) (nodes : Cluster) (r : Result Cluster Fault) →
+    knows c actor operation ≡ true → 2 ≤ free_places c s → now c s ≡ Ok nodes → step nodes actor operation ≡ r →
+    do_reply c s actor operation ≡ step_reply (given s.history + 1) r
 do_gives c s actor operation nodes r is room run taken =
-    rw (is, le-ltb (free_places c s) 2 room) (ap (λ r. step_reply (given s.history + 1) (r >>= λ cluster. step cluster actor operation)) run ∙ ap (step_reply (given s.history + 1)) taken)
+    rw (is, le-ltb (free_places c s) 2 room)
+    (ap (λ r. step_reply (given s.history + 1) (r >>= λ cluster. step cluster actor operation)) run
+    ∙ ap (step_reply (given s.history + 1)) taken)
 
-step_recorded : (c : Config) (s : State) (nodes : Cluster) (actor : ℕ) (operation : Operation) (r : Result Cluster Fault) → step nodes actor operation ≡ r → 2 ≤ free_places c s → is_recorded c s (step_reply (given s.history + 1) r) ≡ true
+step_recorded : (c : Config) (s : State) (nodes : Cluster) (actor : ℕ) (operation : Operation) (r : Result Cluster Fault) →
+    step nodes actor operation ≡ r → 2 ≤ free_places c s → is_recorded c s (step_reply (given s.history + 1) r) ≡ true
 step_recorded c s nodes actor operation (Ok d) is room = refl
-step_recorded c s nodes actor operation (Err e) is room = recorded_if c s e (step_other nodes actor operation e is) ∙ ap not (ne_eqb (free_places c s) 0 (λ none. omega arith))
+step_recorded c s nodes actor operation (Err e) is room =
+    recorded_if c s e (step_other nodes actor operation e is) ∙ ap not (ne_eqb (free_places c s) 0 (λ none. omega arith))
 
 -- while two places are free, the answer to a known step would be recorded, and so memory may be refused
-pub unmade_step : (names : Texts) (limits : Limits) (h : List Event) (nodes : Cluster) (hs : List Held) (taken actor : ℕ) (operation : Operation) (act : Action) (m new : Machine) → machine names limits h (kepts hs) ≡ m →
+pub unmade_step : (names : Texts) (limits : Limits) (h : List Event) (nodes : Cluster) (hs : List Held) (taken actor : ℕ)
+    (operation : Operation) (act : Action) (m new : Machine) → machine names limits h (kepts hs) ≡ m →
     IsBench (config names limits) (record { history = h; remaining = kepts hs }) nodes hs taken →
-    act ≡ Do operation → knows (config_of m) actor operation ≡ true → 2 ≤ free_places (config_of m) m.state → new ≡ m → AnswersAs m actor act (Refused OutOfMemory) new
+    act ≡ Do operation → knows (config_of m) actor operation ≡ true → 2 ≤ free_places (config_of m) m.state → new ≡ m →
+    AnswersAs m actor act (Refused OutOfMemory) new
 unmade_step names limits h nodes hs taken actor operation act m new at old asks is room same =
     let run : now (config_of m) m.state ≡ Ok nodes = subst (λ (m : Machine). now (config_of m) m.state ≡ Ok nodes) at old.is_now in
     let gives = do_gives (config_of m) m.state actor operation nodes (step nodes actor operation) is room run refl in
     let recorded = step_recorded (config_of m) m.state nodes actor operation (step nodes actor operation) refl room in
-    Unmade (ap (λ a. is_recorded (config_of m) m.state (reply_to (config_of m) m.state actor a)) asks ∙ ap (is_recorded (config_of m) m.state) gives ∙ recorded) refl same
+    Unmade (ap (λ a. is_recorded (config_of m) m.state (reply_to (config_of m) m.state actor a)) asks
+    ∙ ap (is_recorded (config_of m) m.state) gives ∙ recorded) refl same
 
 -- the nodes that a known step names are nodes of the cluster
-pub named_there : (c : Config) (nodes : Cluster) (actor : ℕ) (operation : Operation) → length nodes ≡ c.nodes → knows c actor operation ≡ true → list_all (λ k. nat_lt k (length nodes)) (named_in operation) ≡ true
-named_there c nodes actor operation size is = subst (λ m. list_all (λ k. nat_lt k m) (named_in operation) ≡ true) (sym size) (and_parts (nat_lt actor c.nodes) (list_all (λ k. nat_lt k c.nodes) (named_in operation)) is).1
+pub named_there : (c : Config) (nodes : Cluster) (actor : ℕ) (operation : Operation) → length nodes ≡ c.nodes →
+    knows c actor operation ≡ true → list_all (λ k. nat_lt k (length nodes)) (named_in operation) ≡ true
+named_there c nodes actor operation size is =
+    subst (λ m. list_all (λ k. nat_lt k m) (named_in operation) ≡ true) (sym size)
+    (and_parts (nat_lt actor c.nodes) (list_all (λ k. nat_lt k c.nodes) (named_in operation)) is).1
 
 abbrev pub added : ℕ → ℕ → Operation → Inverse → Held
 added number actor operation i = record { kept = record { number = number; node = actor; step = operation }; inverse = Some i }
 
-taken_here : (names : Texts) (limits : Limits) (h : List Event) (nodes d : Cluster) (hs : List Held) (taken actor : ℕ) (operation : Operation) (i : Inverse) →
+taken_here : (names : Texts) (limits : Limits) (h : List Event) (nodes d : Cluster) (hs : List Held) (taken actor : ℕ)
+    (operation : Operation) (i : Inverse) →
     IsBench (config names limits) (record { history = h; remaining = kepts hs }) nodes hs taken →
-    knows (config names limits) actor operation ≡ true → 2 ≤ free_places (config names limits) (record { history = h; remaining = kepts hs }) → IsTaken nodes actor operation i d →
+    knows (config names limits) actor operation ≡ true →
+    2 ≤ free_places (config names limits) (record { history = h; remaining = kepts hs }) → IsTaken nodes actor operation i d →
     record {
-      keeps : IsBench (config names limits) (record { history = note actor (Do operation) (Taken (taken + 1)) h; remaining = kepts (hs ++ added (taken + 1) actor operation i ∷ []) }) d (hs ++ added (taken + 1) actor operation i ∷ []) (taken + 1);
-      answers : AnswersAs (machine names limits h (kepts hs)) actor (Do operation) (Taken (taken + 1)) (machine names limits (note actor (Do operation) (Taken (taken + 1)) h) (kepts (hs ++ added (taken + 1) actor operation i ∷ [])));
+      keeps : IsBench (config names limits)
+          (record {
+            history = note actor (Do operation) (Taken (taken + 1)) h;
+            remaining =
+                kepts (hs ++ added (taken + 1) actor operation i ∷ []);
+          }) d (hs ++ added (taken + 1) actor operation i ∷ []) (taken + 1);
+      answers : AnswersAs (machine names limits h (kepts hs)) actor (Do operation) (Taken (taken + 1))
+          (machine names limits (note actor (Do operation) (Taken (taken + 1)) h) (kepts (hs ++ added (taken + 1) actor operation i ∷ [])));
     }
 taken_here names limits h nodes d hs taken actor operation i old is room t =
     let c : Config = config names limits in
@@ -208,17 +260,25 @@ taken_here names limits h nodes d hs taken actor operation i old is room t =
     let n : ℕ = taken + 1 in
     let k : Kept = record { number = n; node = actor; step = operation } in
     let journal : kepts (hs ++ added n actor operation i ∷ []) ≡ kepts hs ++ k ∷ [] = kepts-append hs (added n actor operation i ∷ []) in
-    let stepped : step nodes actor operation ≡ Ok d = step_takes nodes actor operation t.earlier (Ok t.later) t.at (named_there c nodes actor operation old.size is) t.taken ∙ ap Ok (sym t.gives) in
+    let stepped : step nodes actor operation ≡ Ok d =
+    step_takes nodes actor operation t.earlier (Ok t.later) t.at (named_there c nodes actor operation old.size is) t.taken
+    ∙ ap Ok (sym t.gives) in
     let number : given h + 1 ≡ n = let count = old.count in omega arith in
-    let reply : do_reply c s actor operation ≡ Taken n = do_gives c s actor operation nodes (Ok d) is room old.is_now stepped ∙ ap Taken number in
-    let state : record { history = note actor (Do operation) (Taken n) h; remaining = kepts (hs ++ added n actor operation i ∷ []) } ≡ after c s actor (Do operation) (Taken n) = ap (λ (ks : List Kept). record { history = note actor (Do operation) (Taken n) h; remaining = ks }) journal in
+    let reply : do_reply c s actor operation ≡ Taken n = do_gives c s actor operation nodes (Ok d) is room old.is_now stepped
+    ∙ ap Taken number in
+    let state : record { history = note actor (Do operation) (Taken n) h; remaining = kepts (hs ++ added n actor operation i ∷ []) } ≡
+    after c s actor (Do operation) (Taken n) =
+    ap (λ (ks : List Kept). record { history = note actor (Do operation) (Taken n) h; remaining = ks }) journal in
     let reached = subst (IsReached c) (sym state) (reached_after c s actor (Do operation) (Taken n) old.reached reply) in
     let more = count_push h (record { actor = actor; act = Do operation; reply = Taken n }) in
-    let link : Link nodes (added n actor operation i) = record { inverse = i; kept = refl; earlier = t.earlier; later = t.later; at = t.at; taken = t.taken; leads = t.leads } in
+    let link : Link nodes (added n actor operation i) =
+    record { inverse = i; kept = refl; earlier = t.earlier; later = t.later; at = t.at; taken = t.taken; leads = t.leads } in
     record {
       keeps = record {
         reached = reached;
-        is_now = ap (runs l c.nodes) journal ∙ runs_append (Ok (opening_of l c.nodes)) (kepts hs) (k ∷ []) ∙ ap (λ r. then_runs r (k ∷ [])) old.is_now ∙ ap (λ r. then_runs r []) stepped;
+        is_now =
+            ap (runs l c.nodes) journal ∙ runs_append (Ok (opening_of l c.nodes)) (kepts hs) (k ∷ [])
+            ∙ ap (λ r. then_runs r (k ∷ [])) old.is_now ∙ ap (λ r. then_runs r []) stepped;
         chain = chain_push (Ok (opening_of l c.nodes)) hs (added n actor operation i) nodes old.chain old.is_now link;
         count = omega (arith, number, more);
         fits = (kept_reached c _ reached).fits;
@@ -231,8 +291,10 @@ taken_here names limits h nodes d hs taken actor operation i old is room t =
     }
 
 -- a step that was taken, as the code comes to it
-pub taken_step : (names : Texts) (limits : Limits) (h later : List Event) (nodes d : Cluster) (hs next : List Held) (taken actor : ℕ) (operation : Operation) (i : Inverse) (m : Machine) →
-    machine names limits h (kepts hs) ≡ m → later ≡ note actor (Do operation) (Taken (taken + 1)) h → next ≡ hs ++ added (taken + 1) actor operation i ∷ [] →
+pub taken_step : (names : Texts) (limits : Limits) (h later : List Event) (nodes d : Cluster) (hs next : List Held) (taken actor : ℕ)
+    (operation : Operation) (i : Inverse) (m : Machine) →
+    machine names limits h (kepts hs) ≡ m → later ≡ note actor (Do operation) (Taken (taken + 1)) h →
+    next ≡ hs ++ added (taken + 1) actor operation i ∷ [] →
     IsBench (config names limits) (record { history = h; remaining = kepts hs }) nodes hs taken →
     knows (config_of m) actor operation ≡ true → 2 ≤ free_places (config_of m) m.state → IsTaken nodes actor operation i d →
     record {
@@ -240,62 +302,83 @@ pub taken_step : (names : Texts) (limits : Limits) (h later : List Event) (nodes
       answers : AnswersAs m actor (Do operation) (Taken (taken + 1)) (machine names limits later (kepts next));
     }
 taken_step names limits h later nodes d hs next taken actor operation i m at longer grown old is room t =
-    let is_here : knows (config names limits) actor operation ≡ true = subst (λ (m : Machine). knows (config_of m) actor operation ≡ true) (sym at) is in
-    let room_here : 2 ≤ free_places (config names limits) (record { history = h; remaining = kepts hs }) = subst (λ (m : Machine). 2 ≤ free_places (config_of m) m.state) (sym at) room in
+    let is_here : knows (config names limits) actor operation ≡ true =
+    subst (λ (m : Machine). knows (config_of m) actor operation ≡ true) (sym at) is in
+    let room_here : 2 ≤ free_places (config names limits) (record { history = h; remaining = kepts hs }) =
+    subst (λ (m : Machine). 2 ≤ free_places (config_of m) m.state) (sym at) room in
     let r = taken_here names limits h nodes d hs taken actor operation i old is_here room_here t in
     record {
-      keeps = subst₂ (λ (h : List Event) (b : List Held). IsBench (config names limits) (record { history = h; remaining = kepts b }) d b (taken + 1)) (sym longer) (sym grown) r.keeps;
+      keeps =
+          subst₂ (λ (h : List Event) (b : List Held). IsBench (config names limits) (record { history = h; remaining = kepts b }) d b
+          (taken + 1)) (sym longer) (sym grown) r.keeps;
       answers = subst (λ (m : Machine). AnswersAs m actor (Do operation) (Taken (taken + 1)) (machine names limits later (kepts next))) at
-          (subst₂ (λ (h' : List Event) (b : List Held). AnswersAs (machine names limits h (kepts hs)) actor (Do operation) (Taken (taken + 1)) (machine names limits h' (kepts b))) (sym longer) (sym grown) r.answers);
+          (subst₂ (λ (h' : List Event) (b : List Held). AnswersAs (machine names limits h (kepts hs)) actor (Do operation)
+          (Taken (taken + 1)) (machine names limits h' (kepts b))) (sym longer) (sym grown) r.answers);
     }
 
 -- a step that its node refuses
-pub step_refused : (names : Texts) (limits : Limits) (h : List Event) (nodes : Cluster) (hs : List Held) (taken actor : ℕ) (operation : Operation) (f : Fault) (m : Machine) → machine names limits h (kepts hs) ≡ m →
+pub step_refused : (names : Texts) (limits : Limits) (h : List Event) (nodes : Cluster) (hs : List Held) (taken actor : ℕ)
+    (operation : Operation) (f : Fault) (m : Machine) → machine names limits h (kepts hs) ≡ m →
     IsBench (config names limits) (record { history = h; remaining = kepts hs }) nodes hs taken →
-    knows (config_of m) actor operation ≡ true → 2 ≤ free_places (config_of m) m.state → step nodes actor operation ≡ Err f → reply_to (config_of m) m.state actor (Do operation) ≡ Refused f
+    knows (config_of m) actor operation ≡ true → 2 ≤ free_places (config_of m) m.state → step nodes actor operation ≡ Err f →
+    reply_to (config_of m) m.state actor (Do operation) ≡ Refused f
 step_refused names limits h nodes hs taken actor operation f m at old is room refused =
     let run : now (config_of m) m.state ≡ Ok nodes = subst (λ (m : Machine). now (config_of m) m.state ≡ Ok nodes) at old.is_now in
     do_gives (config_of m) m.state actor operation nodes (Err f) is room run refused
 
 -- a step that was taken, asked by an act of which the code has copies; `count` is what the meter shows then
-pub taken_asked : (names : Texts) (limits : Limits) (h later : List Event) (nodes d : Cluster) (hs mid next : List Held) (taken count number actor : ℕ) (asked copy : Operation) (act : Action) (i : Inverse) (m : Machine) →
-    machine names limits h (kepts hs) ≡ m → count ≡ taken + 1 → number ≡ count → later ≡ note actor act (Taken number) h → mid ≡ hs → next ≡ mid ++ added number actor copy i ∷ [] → copy ≡ asked → act ≡ Do asked →
+pub taken_asked : (names : Texts) (limits : Limits) (h later : List Event) (nodes d : Cluster) (hs mid next : List Held)
+    (taken count number actor : ℕ) (asked copy : Operation) (act : Action) (i : Inverse) (m : Machine) →
+    machine names limits h (kepts hs) ≡ m → count ≡ taken + 1 → number ≡ count → later ≡ note actor act (Taken number) h → mid ≡ hs →
+    next ≡ mid ++ added number actor copy i ∷ [] → copy ≡ asked → act ≡ Do asked →
     IsBench (config names limits) (record { history = h; remaining = kepts hs }) nodes hs taken →
     knows (config_of m) actor asked ≡ true → 2 ≤ free_places (config_of m) m.state → IsTaken nodes actor copy i d →
     record {
       keeps : IsBench (config names limits) (record { history = later; remaining = kepts next }) d next count;
       answers : AnswersAs m actor act (Taken number) (machine names limits later (kepts next));
     }
-taken_asked names limits h later nodes d hs mid next taken count number actor asked copy act i m at ticks counts longer same grown copied asks old is room t =
+taken_asked names limits h later nodes d hs mid next taken count number actor asked copy act i m at ticks counts longer same grown copied
+    asks old is room t =
     let act_is : act ≡ Do copy = asks ∙ ap Do (sym copied) in
     let top : number ≡ taken + 1 = counts ∙ ticks in
-    let longer_by : later ≡ note actor (Do copy) (Taken (taken + 1)) h = longer ∙ ap (λ (a : Action). note actor a (Taken number) h) act_is ∙ ap (λ n. note actor (Do copy) (Taken n) h) top in
-    let grown_by : next ≡ hs ++ added (taken + 1) actor copy i ∷ [] = grown ∙ ap (λ (l : List Held). l ++ added number actor copy i ∷ []) same ∙ ap (λ n. hs ++ added n actor copy i ∷ []) top in
-    let r = taken_step names limits h later nodes d hs next taken actor copy i m at longer_by grown_by old (subst (λ (o : Operation). knows (config_of m) actor o ≡ true) (sym copied) is) room t in
+    let longer_by : later ≡ note actor (Do copy) (Taken (taken + 1)) h = longer ∙ ap (λ (a : Action). note actor a (Taken number) h) act_is
+    ∙ ap (λ n. note actor (Do copy) (Taken n) h) top in
+    let grown_by : next ≡ hs ++ added (taken + 1) actor copy i ∷ [] = grown
+    ∙ ap (λ (l : List Held). l ++ added number actor copy i ∷ []) same ∙ ap (λ n. hs ++ added n actor copy i ∷ []) top in
+    let r = taken_step names limits h later nodes d hs next taken actor copy i m at longer_by grown_by old
+    (subst (λ (o : Operation). knows (config_of m) actor o ≡ true) (sym copied) is) room t in
     record {
       keeps = subst (IsBench (config names limits) (record { history = later; remaining = kepts next }) d next) (sym ticks) r.keeps;
-      answers = subst₂ (λ (a : Action) n. AnswersAs m actor a (Taken n) (machine names limits later (kepts next))) (sym act_is) (sym top) r.answers;
+      answers =
+          subst₂ (λ (a : Action) n. AnswersAs m actor a (Taken n) (machine names limits later (kepts next))) (sym act_is) (sym top)
+          r.answers;
     }
 
 -- a step that its node refused
-pub refused_asked : (names : Texts) (limits : Limits) (h later : List Event) (nodes d : Cluster) (hs mid : List Held) (taken count actor : ℕ) (asked copy : Operation) (act : Action) (f : StepFault) (fault : Fault) (m : Machine) →
-    machine names limits h (kepts hs) ≡ m → count ≡ taken → later ≡ note actor act (Refused fault) h → mid ≡ hs → d ≡ nodes → copy ≡ asked → act ≡ Do asked → fault ≡ fault_of f →
+pub refused_asked : (names : Texts) (limits : Limits) (h later : List Event) (nodes d : Cluster) (hs mid : List Held)
+    (taken count actor : ℕ) (asked copy : Operation) (act : Action) (f : StepFault) (fault : Fault) (m : Machine) →
+    machine names limits h (kepts hs) ≡ m → count ≡ taken → later ≡ note actor act (Refused fault) h → mid ≡ hs → d ≡ nodes → copy ≡ asked →
+    act ≡ Do asked → fault ≡ fault_of f →
     IsBench (config names limits) (record { history = h; remaining = kepts hs }) nodes hs taken →
     knows (config_of m) actor asked ≡ true → 2 ≤ free_places (config_of m) m.state → step nodes actor copy ≡ Err (fault_of f) →
     record {
       keeps : IsBench (config names limits) (record { history = later; remaining = kepts mid }) d mid count;
       answers : AnswersAs m actor act (Refused fault) (machine names limits later (kepts mid));
     }
-refused_asked names limits h later nodes d hs mid taken count actor asked copy act f fault m at counts longer same stays copied asks is_fault old is room gives =
+refused_asked names limits h later nodes d hs mid taken count actor asked copy act f fault m at counts longer same stays copied asks
+    is_fault old is room gives =
     let reply : reply_to (config_of m) m.state actor act ≡ Refused fault =
     ap (reply_to (config_of m) m.state actor) asks
-    ∙ step_refused names limits h nodes hs taken actor asked fault m at old is room (ap (step nodes actor) (sym copied) ∙ gives ∙ ap Err (sym is_fault)) in
+    ∙ step_refused names limits h nodes hs taken actor asked fault m at old is room
+    (ap (step nodes actor) (sym copied) ∙ gives ∙ ap Err (sym is_fault)) in
     let other : fault ≢ HistoryFull = λ e. fault_of_other f (sym is_fault ∙ e) in
     let r = refused names limits h later (kepts hs) nodes hs taken actor act fault m at longer old reply other (λ e. omega arith) in
     record {
       keeps = subst (IsBench (config names limits) (record { history = later; remaining = kepts mid }) d mid) (sym counts)
-          (subst₂ (λ (d : Cluster) (b : List Held). IsBench (config names limits) (record { history = later; remaining = kepts b }) d b taken) (sym stays) (sym same) r.keeps);
-      answers = subst (λ (b : List Held). AnswersAs m actor act (Refused fault) (machine names limits later (kepts b))) (sym same) r.answers;
+          (subst₂ (λ (d : Cluster) (b : List Held). IsBench (config names limits) (record { history = later; remaining = kepts b }) d b
+          taken) (sym stays) (sym same) r.keeps);
+      answers =
+          subst (λ (b : List Held). AnswersAs m actor act (Refused fault) (machine names limits later (kepts b))) (sym same) r.answers;
     }
 
 -- undoing
@@ -303,7 +386,8 @@ refused_asked names limits h later nodes d hs mid taken count actor asked copy a
 find_kept : (hs : List Held) (n : ℕ) (k : Kept) → find_number (kepts hs) n ≡ Some k → (h : Held) × (find_held hs n ≡ Some h) × (h.kept ≡ k)
 find_kept hs n k is = go (find_held hs n) refl (sym (find_kepts hs n) ∙ is)
   where
-    go : (o : Option Held) → find_held hs n ≡ o → option_map (λ (h : Held). h.kept) o ≡ Some k → (h : Held) × (find_held hs n ≡ Some h) × (h.kept ≡ k)
+    go : (o : Option Held) → find_held hs n ≡ o → option_map (λ (h : Held). h.kept) o ≡ Some k →
+        (h : Held) × (find_held hs n ≡ Some h) × (h.kept ≡ k)
     go None at is = absurd (cc)
     go (Some h) at is = (h, at, cc)
 
@@ -314,7 +398,8 @@ pub record UndoAt (c : Config) (nodes : Cluster) (hs : List Held) (n node : ℕ)
   pub run : runs (node_limits c.limits) c.nodes (without (kepts hs) n) ≡ Ok (set nodes node backable.earlier)
   pub chain : Chain (Ok (opening_of (node_limits c.limits) c.nodes)) (without_held hs n)
 
-pub undo_at : (c : Config) (h : List Event) (nodes : Cluster) (hs : List Held) (taken n node : ℕ) (k : Kept) → IsBench c (record { history = h; remaining = kepts hs }) nodes hs taken →
+pub undo_at : (c : Config) (h : List Event) (nodes : Cluster) (hs : List Held) (taken n node : ℕ) (k : Kept) →
+    IsBench c (record { history = h; remaining = kepts hs }) nodes hs taken →
     find_number (kepts hs) n ≡ Some k → k.node ≡ node → first_consequence (kepts hs) n ≡ None → UndoAt c nodes hs n node
 undo_at c h nodes hs taken n node k old found of free =
     let f = find_kept hs n k found in
@@ -337,19 +422,25 @@ undo_at c h nodes hs taken n node k old found of free =
       chain = u.chain;
     }
 
-undone_here : (names : Texts) (limits : Limits) (h : List Event) (nodes : Cluster) (hs : List Held) (taken actor n node : ℕ) (act : Action) (k : Kept) → IsBench (config names limits) (record { history = h; remaining = kepts hs }) nodes hs taken →
-    reply_to (config names limits) (record { history = h; remaining = kepts hs }) actor act ≡ undo_reply (record { history = h; remaining = kepts hs }) n →
-    find_number (kepts hs) n ≡ Some k → first_consequence (kepts hs) n ≡ None → (u : UndoAt (config names limits) nodes hs n node) → IsNode u.backable.earlier →
+undone_here : (names : Texts) (limits : Limits) (h : List Event) (nodes : Cluster) (hs : List Held) (taken actor n node : ℕ) (act : Action)
+    (k : Kept) → IsBench (config names limits) (record { history = h; remaining = kepts hs }) nodes hs taken →
+    reply_to (config names limits) (record { history = h; remaining = kepts hs }) actor act ≡
+    undo_reply (record { history = h; remaining = kepts hs }) n →
+    find_number (kepts hs) n ≡ Some k → first_consequence (kepts hs) n ≡ None → (u : UndoAt (config names limits) nodes hs n node) →
+    IsNode u.backable.earlier →
     record {
-      keeps : IsBench (config names limits) (record { history = note actor act (Undone n) h; remaining = kepts (without_held hs n) }) (set nodes node u.backable.earlier) (without_held hs n) taken;
-      answers : AnswersAs (machine names limits h (kepts hs)) actor act (Undone n) (machine names limits (note actor act (Undone n) h) (kepts (without_held hs n)));
+      keeps : IsBench (config names limits) (record { history = note actor act (Undone n) h; remaining = kepts (without_held hs n) })
+          (set nodes node u.backable.earlier) (without_held hs n) taken;
+      answers : AnswersAs (machine names limits h (kepts hs)) actor act (Undone n)
+          (machine names limits (note actor act (Undone n) h) (kepts (without_held hs n)));
     }
 undone_here names limits h nodes hs taken actor n node act k old same found free u earlier =
     let c : Config = config names limits in
     let s : State = record { history = h; remaining = kepts hs } in
     let count = old.count in
     let reply : reply_to c s actor act ≡ Undone n = same ∙ undo_answers c s n k None old.reached found free in
-    let state : record { history = note actor act (Undone n) h; remaining = kepts (without_held hs n) } ≡ after c s actor act (Undone n) = ap (λ (ks : List Kept). record { history = note actor act (Undone n) h; remaining = ks }) u.remains in
+    let state : record { history = note actor act (Undone n) h; remaining = kepts (without_held hs n) } ≡ after c s actor act (Undone n) =
+    ap (λ (ks : List Kept). record { history = note actor act (Undone n) h; remaining = ks }) u.remains in
     let reached = subst (IsReached c) (sym state) (reached_after c s actor act (Undone n) old.reached reply) in
     let more = count_push h (record { actor = actor; act = act; reply = Undone n }) in
     record {
@@ -368,25 +459,32 @@ undone_here names limits h nodes hs taken actor n node act k old same found free
     }
 
 -- an undo that is made would be recorded, and so memory may be refused
-pub unmade_undo : (actor n : ℕ) (act : Action) (k : Kept) (m new : Machine) → IsReached (config_of m) m.state → reply_to (config_of m) m.state actor act ≡ undo_reply m.state n →
-    find_number m.state.remaining n ≡ Some k → first_consequence m.state.remaining n ≡ None → new ≡ m → AnswersAs m actor act (Refused OutOfMemory) new
+pub unmade_undo : (actor n : ℕ) (act : Action) (k : Kept) (m new : Machine) → IsReached (config_of m) m.state →
+    reply_to (config_of m) m.state actor act ≡ undo_reply m.state n →
+    find_number m.state.remaining n ≡ Some k → first_consequence m.state.remaining n ≡ None → new ≡ m →
+    AnswersAs m actor act (Refused OutOfMemory) new
 unmade_undo actor n act k m new reached comes found free same =
     Unmade (ap (is_recorded (config_of m) m.state) (comes ∙ undo_answers (config_of m) m.state n k None reached found free)) refl same
 
 -- where nothing was undone, a bench keeps what it kept
-pub same_bench : (names : Texts) (limits : Limits) (h mid : List Event) (nodes d : Cluster) (j next : Journal) (taken : ℕ) → mid ≡ h → d ≡ nodes → next ≡ j →
+pub same_bench : (names : Texts) (limits : Limits) (h mid : List Event) (nodes d : Cluster) (j next : Journal) (taken : ℕ) → mid ≡ h →
+    d ≡ nodes → next ≡ j →
     IsBench (config names limits) (record { history = h; remaining = kepts j.steps }) nodes j.steps taken × (j.nodes ≡ length names) →
     IsBench (config names limits) (record { history = mid; remaining = kepts next.steps }) d next.steps taken × (next.nodes ≡ length names)
 same_bench names limits h mid nodes d j next taken longer stays same old =
-    subst (λ (j : Journal). IsBench (config names limits) (record { history = mid; remaining = kepts j.steps }) d j.steps taken × (j.nodes ≡ length names)) (sym same)
-    (subst₂ (λ (h : List Event) (d : Cluster). IsBench (config names limits) (record { history = h; remaining = kepts j.steps }) d j.steps taken × (j.nodes ≡ length names)) (sym longer) (sym stays) old)
+    subst (λ (j : Journal). IsBench (config names limits) (record { history = mid; remaining = kepts j.steps }) d j.steps taken ×
+    (j.nodes ≡ length names)) (sym same)
+    (subst₂ (λ (h : List Event) (d : Cluster). IsBench (config names limits) (record { history = h; remaining = kepts j.steps }) d j.steps
+    taken × (j.nodes ≡ length names)) (sym longer) (sym stays) old)
 
 -- a step that was taken back, as the code comes to it
-pub undone : (names : Texts) (limits : Limits) (h later : List Event) (nodes d : Cluster) (hs next : List Held) (taken actor n node : ℕ) (act : Action) (k : Kept) (m : Machine) → machine names limits h (kepts hs) ≡ m →
+pub undone : (names : Texts) (limits : Limits) (h later : List Event) (nodes d : Cluster) (hs next : List Held) (taken actor n node : ℕ)
+    (act : Action) (k : Kept) (m : Machine) → machine names limits h (kepts hs) ≡ m →
     later ≡ note actor act (Undone n) h → next ≡ without_held hs n →
     IsBench (config names limits) (record { history = h; remaining = kepts hs }) nodes hs taken →
     reply_to (config_of m) m.state actor act ≡ undo_reply m.state n →
-    find_number (kepts hs) n ≡ Some k → first_consequence (kepts hs) n ≡ None → (u : UndoAt (config names limits) nodes hs n node) → (d ≡ set nodes node u.backable.earlier) × IsNode u.backable.earlier →
+    find_number (kepts hs) n ≡ Some k → first_consequence (kepts hs) n ≡ None → (u : UndoAt (config names limits) nodes hs n node) →
+    (d ≡ set nodes node u.backable.earlier) × IsNode u.backable.earlier →
     record {
       keeps : IsBench (config names limits) (record { history = later; remaining = kepts next }) d next taken;
       answers : AnswersAs m actor act (Undone n) (machine names limits later (kepts next));
@@ -395,10 +493,14 @@ undone names limits h later nodes d hs next taken actor n node act k m at longer
     let same_here = subst (λ (m : Machine). reply_to (config_of m) m.state actor act ≡ undo_reply m.state n) (sym at) same in
     let r = undone_here names limits h nodes hs taken actor n node act k old same_here found free u gives.1 in
     record {
-      keeps = subst (λ (d : Cluster). IsBench (config names limits) (record { history = later; remaining = kepts next }) d next taken) (sym gives.0)
-          (subst₂ (λ (h : List Event) (b : List Held). IsBench (config names limits) (record { history = h; remaining = kepts b }) (set nodes node u.backable.earlier) b taken) (sym longer) (sym shorter) r.keeps);
+      keeps =
+          subst (λ (d : Cluster). IsBench (config names limits) (record { history = later; remaining = kepts next }) d next taken)
+          (sym gives.0)
+          (subst₂ (λ (h : List Event) (b : List Held). IsBench (config names limits) (record { history = h; remaining = kepts b })
+          (set nodes node u.backable.earlier) b taken) (sym longer) (sym shorter) r.keeps);
       answers = subst (λ (m : Machine). AnswersAs m actor act (Undone n) (machine names limits later (kepts next))) at
-          (subst₂ (λ (h' : List Event) (b : List Held). AnswersAs (machine names limits h (kepts hs)) actor act (Undone n) (machine names limits h' (kepts b))) (sym longer) (sym shorter) r.answers);
+          (subst₂ (λ (h' : List Event) (b : List Held). AnswersAs (machine names limits h (kepts hs)) actor act (Undone n)
+          (machine names limits h' (kepts b))) (sym longer) (sym shorter) r.answers);
     }
 
 -- the lent inverse leads back from the node that the code finds
@@ -413,8 +515,10 @@ found_at nodes hs n node i x b lent at =
     subst₂ (λ (i : Inverse) (x : Node). LeadsBack i x b.earlier) inverse_is node_is b.leads
 
 -- a step that was taken can be kept, in a journal that has made room for it
-pub can_keep : (names : Texts) (limits : Limits) (h : List Event) (nodes d : Cluster) (hs : List Held) (j : Journal) (taken number actor : ℕ) (operation : Operation) (i : Inverse) →
-    IsBench (config names limits) (record { history = h; remaining = kepts hs }) nodes hs taken → j.steps ≡ hs → j.nodes ≡ length names → number ≡ taken + 1 → actor < length names → IsTaken nodes actor operation i d →
+pub can_keep : (names : Texts) (limits : Limits) (h : List Event) (nodes d : Cluster) (hs : List Held) (j : Journal)
+    (taken number actor : ℕ) (operation : Operation) (i : Inverse) →
+    IsBench (config names limits) (record { history = h; remaining = kepts hs }) nodes hs taken → j.steps ≡ hs → j.nodes ≡ length names →
+    number ≡ taken + 1 → actor < length names → IsTaken nodes actor operation i d →
     CanBeKept j number actor operation
 can_keep names limits h nodes d hs j taken number actor operation i old steps known next there t =
     let kept = kept_reached (config names limits) (record { history = h; remaining = kepts hs }) old.reached in
@@ -424,13 +528,17 @@ can_keep names limits h nodes d hs j taken number actor operation i old steps kn
       positive = omega arith;
       above = subst₂ (λ n (hs : List Held). AreBelow n (kepts hs)) top (sym steps) kept.numbered;
       known = omega arith;
-      sender = subst (λ (hs : List Held). HasSender (kepts hs) (delivers operation)) (sym steps) (has_sender (node_limits limits) (length names) (kepts hs) nodes (delivers operation) old.is_now (was_read t.earlier operation (message_for nodes operation) t.later t.taken));
+      sender = subst (λ (hs : List Held). HasSender (kepts hs) (delivers operation)) (sym steps)
+          (has_sender (node_limits limits) (length names) (kepts hs) nodes (delivers operation) old.is_now
+          (was_read t.earlier operation (message_for nodes operation) t.later t.taken));
       whole = subst AreAllHeld (sym steps) (all_held (Ok (opening_of (node_limits limits) (length names))) hs nodes old.chain old.is_now);
     }
 
 -- a step whose nodes are known can be asked of its node
-pub can_step : (names : Texts) (limits : Limits) (h : List Event) (nodes : Cluster) (hs : List Held) (taken actor : ℕ) (asked copy : Operation) (m : Machine) →
-    machine names limits h (kepts hs) ≡ m → IsBench (config names limits) (record { history = h; remaining = kepts hs }) nodes hs taken → copy ≡ asked → knows (config_of m) actor asked ≡ true →
+pub can_step : (names : Texts) (limits : Limits) (h : List Event) (nodes : Cluster) (hs : List Held) (taken actor : ℕ)
+    (asked copy : Operation) (m : Machine) →
+    machine names limits h (kepts hs) ≡ m → IsBench (config names limits) (record { history = h; remaining = kepts hs }) nodes hs taken →
+    copy ≡ asked → knows (config_of m) actor asked ≡ true →
     record {
       known : actor < length names;
       there : actor < length nodes;
@@ -440,7 +548,8 @@ pub can_step : (names : Texts) (limits : Limits) (h : List Event) (nodes : Clust
       meter : taken < 18446744073709551615;
     }
 can_step names limits h nodes hs taken actor asked copy m at old copied is =
-    let is_here : knows (config names limits) actor copy ≡ true = subst₂ (λ (m : Machine) (o : Operation). knows (config_of m) actor o ≡ true) (sym at) (sym copied) is in
+    let is_here : knows (config names limits) actor copy ≡ true =
+    subst₂ (λ (m : Machine) (o : Operation). knows (config_of m) actor o ≡ true) (sym at) (sym copied) is in
     let known : actor < length names = ltb-true actor (length names) (and_parts _ _ is_here).0 in
     let size = old.size in
     let few = old.few in
@@ -459,10 +568,19 @@ can_step names limits h nodes hs taken actor asked copy m at old copied is =
 
 -- what a bench keeps, as its callers see it
 pub is_machine : (names : Texts) (limits : Limits) (h : List Event) (nodes : Cluster) (hs : List Held) (taken : ℕ) (m : Machine) →
-    machine names limits h (kepts hs) ≡ m → IsBench (config names limits) (record { history = h; remaining = kepts hs }) nodes hs taken → IsMachine m
+    machine names limits h (kepts hs) ≡ m → IsBench (config names limits) (record { history = h; remaining = kepts hs }) nodes hs taken →
+    IsMachine m
 is_machine names limits h nodes hs taken m at old = subst IsMachine at (record {
   reached = old.reached;
-  cluster = record { cluster = nodes; is_now = old.is_now; size = old.size; limits = limited; clocks = λ n x at. clock_of x (limited n x at) (old.kept n x at) };
+  cluster =
+      record {
+        cluster = nodes;
+        is_now = old.is_now;
+        size = old.size;
+        limits = limited;
+        clocks =
+            λ n x at. clock_of x (limited n x at) (old.kept n x at);
+      };
   fits = old.fits;
   taken = let low = count_by-le-length (λ (e : Event). is_taken e.reply) h in let fits = old.fits in omega arith;
   numbers = (kept_reached (config names limits) (record { history = h; remaining = kepts hs }) old.reached).numbered;
