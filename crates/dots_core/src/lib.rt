@@ -13,8 +13,6 @@ mod dot_set;
 pub mod laws;
 mod name_set;
 mod part;
-#[cfg(test)]
-mod tests;
 mod union;
 
 pub use dot::Dot;

@@ -12,8 +12,6 @@ mod entry_list;
 mod entry_set;
 mod outbox;
 mod payload;
-#[cfg(test)]
-mod tests;
 mod word;
 
 pub use dots_core::Oom;

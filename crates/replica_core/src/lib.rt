@@ -18,8 +18,6 @@ mod node_limits;
 mod replica;
 mod replica_fault;
 mod status;
-#[cfg(test)]
-mod tests;
 mod update;
 mod view;
 
