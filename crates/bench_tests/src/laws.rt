@@ -12,9 +12,9 @@ ghost use Rattle.bench_core.specs.Chains.{OwnChains};
 ghost use Rattle.bench_core.specs.Machine.{cluster_of, config_of, replies_of};
 ghost use Rattle.bench_core.specs.Unwinds.{undos};
 
-use crate::laws::{chain_law, headline_law, middle_law, unwind_law};
-use crate::tests::open;
-use crate::*;
+use crate::calls::open;
+use bench_core::laws::{chain_law, headline_law, middle_law, unwind_law};
+use bench_core::{Bench, Journal, Limits};
 use std::alloc::Allocator;
 
 /// The remaining steps run from empty nodes, and stand by rising number.
