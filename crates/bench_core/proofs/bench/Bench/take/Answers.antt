@@ -4,12 +4,12 @@ use Rattle.std.proofs.lemmas.List.Elements.{Contains-push}
 use Rattle.node_core.specs.declared.step_fault.StepFault.TheVariants as step_faults
 use Rattle.node_core.specs.Operations.{plain}
 use Rattle.node_core.specs.Inverses.{plain_inverse}
-use Rattle.journal_core.specs.Holdings.{Journal, Room, room_for}
+use Rattle.journal_core.specs.Holdings.{Held, Journal, Room, kepts, room_for}
 use Rattle.bench_core.specs.declared.reply.Reply.TheVariants.{Taken, Refused}
 use Rattle.bench_core.specs.Acts.{plain_act}
 use Rattle.bench_core.specs.Histories.{History}
-use Rattle.bench_core.specs.Machine.{config_of, free_places, knows}
-use Rattle.bench_core.proofs.Keeps.{noted, added, can_step, can_keep, taken_asked, refused_asked}
+use Rattle.bench_core.specs.Machine.{Event, config_of, free_places, knows}
+use Rattle.bench_core.proofs.Keeps.{machine, noted, added, can_step, can_keep, taken_asked, refused_asked, unmade_step}
 use Rattle.bench_core.proofs.bench.Bench.take.Goals as goal
 
 pub step_node-requires : goal.step_node-requires
@@ -73,3 +73,21 @@ pub unwrap-requires : goal.unwrap-requires
 unwrap-requires g c =
     let made : c.make_room-2.new.self.room ≡ c.self.inside.journal.room ++ room_for c.args.actor (plain c.in-Ok.step) ∷ [] = search rules in
     c.keep.ensures.succeeds (subst (λ (l : List Room). Contains l (room_for c.args.actor (plain c.in-Ok.step))) (sym made) (Contains-push c.self.inside.journal.room (room_for c.args.actor (plain c.in-Ok.step))))
+
+pub returns-then-is_err : goal.returns-then-is_err
+returns-then-is_err g c =
+    let is : knows (config_of c.args.self.now) c.args.actor (plain c.args.step.now) ≡ true = search rules in
+    let room : 2 ≤ free_places (config_of c.args.self.now) c.args.self.now.state = omega arith in
+    unmade_step c.self.inside.names c.self.inside.limits c.self.inside.history.events c.self.inside.nodes.items c.self.inside.journal.steps c.self.inside.meter.count c.args.actor (plain c.args.step.now) (plain_act c.args.act.now) c.args.self.now _ c.self.view_is c.self.invariant.0 c.requires is room
+    (ap (λ (h : List Event). machine c.self.inside.names c.self.inside.limits h (kepts c.make_room-2.new.self.steps)) c.make_room.ensures.events
+    ∙ ap (λ (hs : List Held). machine c.self.inside.names c.self.inside.limits c.self.inside.history.events (kepts hs)) c.make_room-2.ensures.steps
+    ∙ c.self.view_is)
+
+pub returns-then-eq : goal.returns-then-eq
+returns-then-eq g c =
+    let is : knows (config_of c.args.self.now) c.args.actor (plain c.args.step.now) ≡ true = search rules in
+    let room : 2 ≤ free_places (config_of c.args.self.now) c.args.self.now.state = omega arith in
+    unmade_step c.self.inside.names c.self.inside.limits c.self.inside.history.events c.self.inside.nodes.items c.self.inside.journal.steps c.self.inside.meter.count c.args.actor (plain c.args.step.now) (plain_act c.args.act.now) c.args.self.now _ c.self.view_is c.self.invariant.0 c.requires is room
+    (ap (λ (h : List Event). machine c.self.inside.names c.self.inside.limits h (kepts c.make_room-2.new.self.steps)) c.make_room.ensures.events
+    ∙ ap (λ (hs : List Held). machine c.self.inside.names c.self.inside.limits c.self.inside.history.events (kepts hs)) c.make_room-2.ensures.steps
+    ∙ c.self.view_is)
