@@ -1,11 +1,13 @@
 pub mod LineText
 pub mod Lines
+pub mod Calls
 pub mod Texts
 pub mod Orders
-pub mod Acts
+pub mod Printed
 pub mod OnePart
 pub mod Bytes
-pub mod ReadAgain
+pub mod Spaced
 pub mod ReadNumbers
 pub mod ReadNames
+pub mod Visible
 pub mod ReadLines

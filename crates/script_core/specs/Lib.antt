@@ -11,5 +11,4 @@ pub mod Shown
 pub mod Dots
 pub mod Report
 pub mod Play
-pub mod LineWords
 pub mod ReadSteps

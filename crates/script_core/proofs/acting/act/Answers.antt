@@ -1,6 +1,6 @@
 use Rattle.std.proofs.Common.{◌++◌, ap, sym, ◌∙◌, string_bytes}
 use Rattle.std.proofs.lemmas.Result.{on_ok_weaker}
-use Rattle.script_core.proofs.Acts.{refused_text, act_done}
+use Rattle.script_core.proofs.Printed.{refused_text, act_done}
 use Rattle.script_core.proofs.acting.act.Goals as goal
 
 pub returns-in-Refused-clause-text : goal.returns-in-Refused-clause-text

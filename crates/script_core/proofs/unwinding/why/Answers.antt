@@ -2,7 +2,7 @@ use Rattle.std.proofs.Common.{◌++◌, ◌≡◌, ap, sym, ◌∙◌, false, su
 use Rattle.bench_core.specs.declared.reply.Reply.TheVariants.{Refused}
 use Rattle.script_core.specs.Rows.{reply_line}
 use Rattle.script_core.specs.Report.{why_text, is_want}
-use Rattle.script_core.proofs.Acts.{gone_text}
+use Rattle.script_core.proofs.Printed.{gone_text}
 use Rattle.script_core.proofs.unwinding.why.Goals as goal
 
 pub returns-else-is_want : goal.returns-else-is_want
