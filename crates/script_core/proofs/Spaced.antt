@@ -1,5 +1,6 @@
 -- Words with a space between each two, and the line of a step as such words.
-use Rattle.std.proofs.Common.{◌≡◌, ℕ, zero, suc, ◌+◌, ◌*◌, ◌<◌, ◌≤◌, get_or, ◌==◌, ◌&&◌, ◌||◌, Bool, true, false, not, cond, if◌then◌else◌, List, [], ◌∷◌, ◌++◌, length, filter, All, refl, sym, ap, ◌∙◌, append_assoc, append-nil, true≢false, arith, nat_le, nat_lt, codes, decimal}
+use Rattle.std.proofs.Common.{◌≡◌, ℕ, zero, suc, ◌+◌, ◌*◌, ◌<◌, ◌≤◌, get_or, ◌==◌, ◌&&◌, ◌||◌, Bool, true, false, not, cond, if◌then◌else◌, List, [], ◌∷◌}
+use Rattle.std.proofs.Common.{◌++◌, length, filter, All, refl, sym, ap, ◌∙◌, append_assoc, append-nil, true≢false, arith, nat_le, nat_lt, codes, decimal}
 use Rattle.std.specs.List.{list_all, slice_split, AllByRecursion}
 use Rattle.std.specs.FinSet as set
 use Rattle.std.proofs.lemmas.List.{length-append}
@@ -30,21 +31,29 @@ no_space [] e k d within = absurd (omega arith)
 no_space (x ∷ xs) e zero d within = let h = (both (is_word_byte x) (list_all is_word_byte xs) e).0 in grind (arith, nat_tests)
 no_space (x ∷ xs) e (suc k) d within = no_space xs (both (is_word_byte x) (list_all is_word_byte xs) e).1 k d (omega arith)
 
-kept_word : (w : List ℕ) (rest : List (List ℕ)) → is_visible w ≡ true → filter (λ word. not (length word == 0)) (w ∷ rest) ≡ w ∷ filter (λ word. not (length word == 0)) rest
-kept_word w rest e = ap (λ b. cond b (w ∷ filter (λ word. not (length word == 0)) rest) (filter (λ word. not (length word == 0)) rest)) (both (not (length w == 0)) (list_all is_word_byte w) e).0
+kept_word : (w : List ℕ) (rest : List (List ℕ)) → is_visible w ≡ true →
+    filter (λ word. not (length word == 0)) (w ∷ rest) ≡ w ∷ filter (λ word. not (length word == 0)) rest
+kept_word w rest e =
+    ap (λ b. cond b (w ∷ filter (λ word. not (length word == 0)) rest) (filter (λ word. not (length word == 0)) rest))
+    (both (not (length w == 0)) (list_all is_word_byte w) e).0
 
 first_word : (w rest : List ℕ) → is_visible w ≡ true → words_of (w ++ 32 ∷ rest) ≡ w ∷ words_of rest
 first_word w rest e =
-    ap (filter (λ word. not (length word == 0))) (slice_split_at (λ byte. byte == 32) w 32 rest (no_space w (both (not (length w == 0)) (list_all is_word_byte w) e).1) refl)
+    ap (filter (λ word. not (length word == 0)))
+    (slice_split_at (λ byte. byte == 32) w 32 rest (no_space w (both (not (length w == 0)) (list_all is_word_byte w) e).1) refl)
     ∙ kept_word w (slice_split (λ byte. byte == 32) rest) e
 
 last_word : (w : List ℕ) → is_visible w ≡ true → words_of w ≡ w ∷ []
-last_word w e = ap (filter (λ word. not (length word == 0))) (slice_split_none (λ byte. byte == 32) w (no_space w (both (not (length w == 0)) (list_all is_word_byte w) e).1)) ∙ kept_word w [] e
+last_word w e =
+    ap (filter (λ word. not (length word == 0)))
+    (slice_split_none (λ byte. byte == 32) w (no_space w (both (not (length w == 0)) (list_all is_word_byte w) e).1)) ∙ kept_word w [] e
 
 pub words_spaced : (ws : Texts) → list_all is_visible ws ≡ true → words_of (spaced ws) ≡ ws
 words_spaced [] e = refl
 words_spaced (w ∷ []) e = last_word w (both (is_visible w) true e).0
-words_spaced (w ∷ v ∷ ws) e = let h = both (is_visible w) (list_all is_visible (v ∷ ws)) e in first_word w (spaced (v ∷ ws)) h.0 ∙ ap (λ rest. w ∷ rest) (words_spaced (v ∷ ws) h.1)
+words_spaced (w ∷ v ∷ ws) e =
+    let h = both (is_visible w) (list_all is_visible (v ∷ ws)) e in first_word w (spaced (v ∷ ws)) h.0
+    ∙ ap (λ rest. w ∷ rest) (words_spaced (v ∷ ws) h.1)
 
 -- it is text
 
@@ -59,7 +68,9 @@ text_more (x ∷ xs) rest e text =
 
 pub text_spaced : (ws : Texts) → list_all is_visible ws ≡ true → is_text (spaced ws) ≡ true
 text_spaced [] e = refl
-text_spaced (w ∷ []) e = ap is_text (sym (append-nil w)) ∙ text_more w [] (both (not (length w == 0)) (list_all is_word_byte w) (both (is_visible w) true e).0).1 refl
+text_spaced (w ∷ []) e =
+    ap is_text (sym (append-nil w))
+    ∙ text_more w [] (both (not (length w == 0)) (list_all is_word_byte w) (both (is_visible w) true e).0).1 refl
 text_spaced (w ∷ v ∷ ws) e =
     let h = both (is_visible w) (list_all is_visible (v ∷ ws)) e in
     text_more w (32 ∷ spaced (v ∷ ws)) (both (not (length w == 0)) (list_all is_word_byte w) h.0).1 (text_spaced (v ∷ ws) h.1)
@@ -73,7 +84,8 @@ total (w ∷ ws) = length w + 1 + total ws
 pub length_spaced : (ws : Texts) → length (spaced ws) ≤ total ws
 length_spaced [] = omega arith
 length_spaced (w ∷ []) = omega arith
-length_spaced (w ∷ v ∷ ws) = let rest = length_spaced (v ∷ ws) in let sum = length-append w (32 ∷ spaced (v ∷ ws)) in omega (arith, rest, sum)
+length_spaced (w ∷ v ∷ ws) =
+    let rest = length_spaced (v ∷ ws) in let sum = length-append w (32 ∷ spaced (v ∷ ws)) in omega (arith, rest, sum)
 
 pub total_wide : (ws : Texts) → AllByRecursion (λ w. length w ≤ 200) ws → total ws ≤ 201 * length ws
 total_wide [] all = omega arith
@@ -91,7 +103,8 @@ presence_words p = decimal p.pid ∷ p.topic ∷ p.key ∷ p.metadata ∷ []
 -- of the names from number n on, those that are in the set
 abbrev pub chosen_from : Names → ℕ → Texts → Texts
 chosen_from chosen n [] = []
-chosen_from chosen n (name ∷ names) = if set.contains chosen n then name ∷ chosen_from chosen (n + 1) names else chosen_from chosen (n + 1) names
+chosen_from chosen n (name ∷ names) =
+    if set.contains chosen n then name ∷ chosen_from chosen (n + 1) names else chosen_from chosen (n + 1) names
 
 abbrev pub step_words : Texts → Operation → Texts
 step_words names (Join p) = codes "join" ∷ presence_words p
@@ -105,13 +118,17 @@ step_words names (Up name) = codes "up" ∷ name_at names name ∷ []
 step_words names (Down name) = codes "down" ∷ name_at names name ∷ []
 step_words names (Permdown name) = codes "permdown" ∷ name_at names name ∷ []
 
-extract_spaced : (w : List ℕ) (chosen : Names) (n : ℕ) (names : Texts) → w ++ extract_from chosen n names ≡ spaced (w ∷ chosen_from chosen n names)
+extract_spaced : (w : List ℕ) (chosen : Names) (n : ℕ) (names : Texts) →
+    w ++ extract_from chosen n names ≡ spaced (w ∷ chosen_from chosen n names)
 unfolding extract_from
 extract_spaced w chosen n [] = append-nil w
-extract_spaced w chosen n (name ∷ names) = go (set.contains chosen n) (extract_spaced name chosen (n + 1) names) (extract_spaced w chosen (n + 1) names)
+extract_spaced w chosen n (name ∷ names) =
+    go (set.contains chosen n) (extract_spaced name chosen (n + 1) names) (extract_spaced w chosen (n + 1) names)
   where
-    go : (b : Bool) → name ++ extract_from chosen (n + 1) names ≡ spaced (name ∷ chosen_from chosen (n + 1) names) → w ++ extract_from chosen (n + 1) names ≡ spaced (w ∷ chosen_from chosen (n + 1) names)
-        → w ++ ((if b then 32 ∷ name else []) ++ extract_from chosen (n + 1) names) ≡ spaced (w ∷ (if b then name ∷ chosen_from chosen (n + 1) names else chosen_from chosen (n + 1) names))
+    go : (b : Bool) → name ++ extract_from chosen (n + 1) names ≡ spaced (name ∷ chosen_from chosen (n + 1) names) →
+        w ++ extract_from chosen (n + 1) names ≡ spaced (w ∷ chosen_from chosen (n + 1) names)
+        → w ++ ((if b then 32 ∷ name else []) ++ extract_from chosen (n + 1) names) ≡
+        spaced (w ∷ (if b then name ∷ chosen_from chosen (n + 1) names else chosen_from chosen (n + 1) names))
     go true taken passed = ap (λ text. w ++ 32 ∷ text) taken
     go false taken passed = passed
 
@@ -132,7 +149,8 @@ step_spaced names (Up name) = refl
 step_spaced names (Down name) = refl
 step_spaced names (Permdown name) = refl
 
-line_by : (name text : List ℕ) (words : Texts) → text ≡ spaced words → 0 < length words → (name ++ (32 ∷ [])) ++ text ≡ spaced (name ∷ words)
+line_by : (name text : List ℕ) (words : Texts) → text ≡ spaced words → 0 < length words →
+    (name ++ (32 ∷ [])) ++ text ≡ spaced (name ∷ words)
 line_by name text [] same some = absurd (omega arith)
 line_by name text (w ∷ ws) same some = append_assoc name (32 ∷ []) text ∙ ap (λ rest. name ++ 32 ∷ rest) same
 
@@ -148,6 +166,9 @@ some_words names (Up name) = omega arith
 some_words names (Down name) = omega arith
 some_words names (Permdown name) = omega arith
 
-pub line_spaced : (names : Texts) (node : ℕ) (operation : Operation) → act_line names node operation ≡ spaced (name_at names node ∷ step_words names operation)
+pub line_spaced : (names : Texts) (node : ℕ) (operation : Operation) →
+    act_line names node operation ≡ spaced (name_at names node ∷ step_words names operation)
 unfolding act_line
-line_spaced names node operation = line_by (name_at names node) (step_text names operation) (step_words names operation) (step_spaced names operation) (some_words names operation)
+line_spaced names node operation =
+    line_by (name_at names node) (step_text names operation) (step_words names operation) (step_spaced names operation)
+    (some_words names operation)

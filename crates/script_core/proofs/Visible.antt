@@ -1,5 +1,6 @@
 -- What is printed of a step are words: names, numbers, topics, keys and metadata.
-use Rattle.std.proofs.Common.{◌≡◌, ℕ, zero, suc, ◌+◌, ◌<◌, ◌≤◌, ◌^◌, ◌==◌, ◌&&◌, ◌||◌, nat_lt, nat_le, Bool, true, false, not, if◌then◌else◌, List, [], ◌∷◌, ◌++◌, length, get_or, slice_index, Ok, Err, refl, sym, ap, ◌∙◌, true≢false, arith, rules, decimal}
+use Rattle.std.proofs.Common.{◌≡◌, ℕ, zero, suc, ◌+◌, ◌<◌, ◌≤◌, ◌^◌, ◌==◌, ◌&&◌, ◌||◌, nat_lt, nat_le, Bool, true, false, not, if◌then◌else◌, List, [], ◌∷◌}
+use Rattle.std.proofs.Common.{◌++◌, length, get_or, slice_index, Ok, Err, refl, sym, ap, ◌∙◌, true≢false, arith, rules, decimal}
 use Rattle.std.specs.Char.{is_ascii_digit}
 use Rattle.std.specs.List.{list_all, list_any, AllByRecursion}
 use Rattle.std.specs.FinSet as set
@@ -29,11 +30,13 @@ pub record Fits (most : ℕ) (word : List ℕ) : Type 0 where
   pub seen : is_visible word ≡ true
   pub short : length word ≤ most
 
-visible_by : (p : ℕ → Bool) → ((b : ℕ) → p b ≡ true → is_word_byte b ≡ true) → (w : List ℕ) → list_all p w ≡ true → list_all is_word_byte w ≡ true
+visible_by : (p : ℕ → Bool) → ((b : ℕ) → p b ≡ true → is_word_byte b ≡ true) → (w : List ℕ) → list_all p w ≡ true →
+    list_all is_word_byte w ≡ true
 visible_by p each [] e = refl
 visible_by p each (x ∷ xs) e = go (p x) refl (λ h. visible_by p each xs h) e
   where
-    go : (b : Bool) → p x ≡ b → (list_all p xs ≡ true → list_all is_word_byte xs ≡ true) → (b && list_all p xs) ≡ true → (is_word_byte x && list_all is_word_byte xs) ≡ true
+    go : (b : Bool) → p x ≡ b → (list_all p xs ≡ true → list_all is_word_byte xs ≡ true) → (b && list_all p xs) ≡ true →
+        (is_word_byte x && list_all is_word_byte xs) ≡ true
     go true h rest e = ap (λ b. b && list_all is_word_byte xs) (each x h) ∙ rest e
     go false h rest e = absurd (true≢false (sym e))
 
@@ -53,7 +56,10 @@ pub number_fits : (n : ℕ) → IsNumber n → Fits 200 (decimal n)
 number_fits n fits =
     let model = decimal_is_IsNumeral n fits in
     let few = length-decimal-le 20 n (omega arith) (omega (arith, fits)) fits in
-    record { seen = visible (decimal n) model.0.0 (visible_by is_ascii_digit digit_byte (decimal n) (own.from (decimal n) model.0.1)); short = omega (arith, few) }
+    record {
+      seen = visible (decimal n) model.0.0 (visible_by is_ascii_digit digit_byte (decimal n) (own.from (decimal n) model.0.1));
+      short = omega (arith, few);
+    }
 
 pub word_fits : (w : List ℕ) → IsWord w → Fits 200 w
 word_fits w h = go (nat_le 1 (length w) && nat_le (length w) 200) refl h
@@ -65,10 +71,13 @@ word_fits w h = go (nat_le 1 (length w) && nat_le (length w) 200) refl h
 -- each name of a list is one
 pub all_names : (before texts all : Texts) → with_names before texts ≡ Ok all → AllByRecursion (λ w. is_name w ≡ true) texts
 all_names before [] all e = tt
-all_names before (text ∷ texts) all e = go (is_name text) refl (list_any (bytes_eq text) before) (λ h. all_names (before ++ text ∷ []) texts all h) e
+all_names before (text ∷ texts) all e =
+    go (is_name text) refl (list_any (bytes_eq text) before) (λ h. all_names (before ++ text ∷ []) texts all h) e
   where
-    go : (a : Bool) → is_name text ≡ a → (b : Bool) → (with_names (before ++ text ∷ []) texts ≡ Ok all → AllByRecursion (λ w. is_name w ≡ true) texts)
-        → ((if not a then Err (BadName (length before + 1)) else (if b then Err (Twice (length before + 1)) else Ok (before ++ text ∷ []))) >>= λ next. with_names next texts) ≡ Ok all
+    go : (a : Bool) → is_name text ≡ a → (b : Bool) →
+        (with_names (before ++ text ∷ []) texts ≡ Ok all → AllByRecursion (λ w. is_name w ≡ true) texts)
+        → ((if not a then Err (BadName (length before + 1)) else (if b then Err (Twice (length before + 1)) else Ok (before ++ text ∷ [])))
+        >>= λ next. with_names next texts) ≡ Ok all
         → AllByRecursion (λ w. is_name w ≡ true) (text ∷ texts)
     go false is b rest e = absurd (cc)
     go true is true rest e = absurd (cc)
@@ -82,7 +91,9 @@ name_fits w h = go ((length w == 0) || nat_lt 16 (length w)) refl h
   where
     go : (b : Bool) → ((length w == 0) || nat_lt 16 (length w)) ≡ b → (if b then false else list_all is_name_byte w) ≡ true → Fits 16 w
     go true e h = absurd (true≢false (sym h))
-    go false e h = let some : 0 < length w = grind (arith, nat_tests) in record { seen = visible w some (visible_by is_name_byte name_byte w h); short = grind (arith, nat_tests) }
+    go false e h =
+        let some : 0 < length w = grind (arith, nat_tests) in
+        record { seen = visible w some (visible_by is_name_byte name_byte w h); short = grind (arith, nat_tests) }
 
 -- a name begins with none but a letter, a digit or _
 pub no_comment : (w : List ℕ) → is_name w ≡ true → (slice_index w 0 == 35) ≡ false
@@ -103,11 +114,13 @@ pub all_short : (most : ℕ) (ws : Texts) → AllByRecursion (Fits most) ws → 
 all_short most [] all = tt
 all_short most (w ∷ ws) all = (all.0.short, all_short most ws all.1)
 
-pub chosen_fit : (chosen : Names) (n : ℕ) (names : Texts) → AllByRecursion (λ w. is_name w ≡ true) names → AllByRecursion (Fits 16) (chosen_from chosen n names)
+pub chosen_fit : (chosen : Names) (n : ℕ) (names : Texts) → AllByRecursion (λ w. is_name w ≡ true) names →
+    AllByRecursion (Fits 16) (chosen_from chosen n names)
 chosen_fit chosen n [] all = tt
 chosen_fit chosen n (name ∷ names) all = go (set.contains chosen n) (chosen_fit chosen (n + 1) names all.1)
   where
-    go : (b : Bool) → AllByRecursion (Fits 16) (chosen_from chosen (n + 1) names) → AllByRecursion (Fits 16) (if b then name ∷ chosen_from chosen (n + 1) names else chosen_from chosen (n + 1) names)
+    go : (b : Bool) → AllByRecursion (Fits 16) (chosen_from chosen (n + 1) names) →
+        AllByRecursion (Fits 16) (if b then name ∷ chosen_from chosen (n + 1) names else chosen_from chosen (n + 1) names)
     go true rest = (name_fits name all.0, rest)
     go false rest = rest
 
@@ -115,6 +128,7 @@ pub chosen_few : (chosen : Names) (n : ℕ) (names : Texts) → length (chosen_f
 chosen_few chosen n [] = omega arith
 chosen_few chosen n (name ∷ names) = go (set.contains chosen n) (chosen_few chosen (n + 1) names)
   where
-    go : (b : Bool) → length (chosen_from chosen (n + 1) names) ≤ length names → length (if b then name ∷ chosen_from chosen (n + 1) names else chosen_from chosen (n + 1) names) ≤ length (name ∷ names)
+    go : (b : Bool) → length (chosen_from chosen (n + 1) names) ≤ length names →
+        length (if b then name ∷ chosen_from chosen (n + 1) names else chosen_from chosen (n + 1) names) ≤ length (name ∷ names)
     go true rest = omega (arith, rest)
     go false rest = omega (arith, rest)

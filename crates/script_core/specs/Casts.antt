@@ -17,4 +17,5 @@ unless_node (Some node) console = Some node
 unless_node None console = console
 
 abbrev pub actor_in : Cast → List ℕ → Option ℕ
-actor_in cast name = unless_node (number_in cast.nodes name) (option_map (λ console. length cast.nodes + console) (number_in cast.consoles name))
+actor_in cast name =
+    unless_node (number_in cast.nodes name) (option_map (λ console. length cast.nodes + console) (number_in cast.consoles name))

@@ -1,5 +1,6 @@
 -- A script, or its first fault: the lines in order, each by its checks in turn.
-use Rattle.std.specs.Prelude.{ℕ, ◌+◌, Bool, true, false, List, [], ◌∷◌, ◌++◌, length, map, not, nat_lt, ◌==◌, ◌&&◌, ◌||◌, Option, Some, None, is_some, Result, Ok, Err, slice_index, codes, if◌then◌else◌}
+use Rattle.std.specs.Prelude.{ℕ, ◌+◌, Bool, true, false, List, [], ◌∷◌, ◌++◌, length, map, not, nat_lt, ◌==◌, ◌&&◌, ◌||◌, Option, Some, None, is_some}
+use Rattle.std.specs.Prelude.{Result, Ok, Err, slice_index, codes, if◌then◌else◌}
 use Rattle.std.specs.List.{list_any}
 use Rattle.std.specs.Str.{bytes_eq}
 use Rattle.std.specs.FinSet as set
@@ -16,7 +17,8 @@ use Rattle.script_core.specs.Words.{lines_of, words_of, is_text, number_of}
 use Rattle.script_core.specs.Casts.{Cast, actor_in}
 use Rattle.script_core.specs.Scripts.{Command, Call, Unwind, Show, Dots, Why, Journal, Line, Script}
 use Rattle.script_core.specs.declared.fault.FaultKind.{FaultKind}
-use Rattle.script_core.specs.declared.fault.FaultKind.TheVariants.{NotText, TooLong, NoNodes, Twice, UnknownWord, WrongCount, NotAllowed, BadNumber, BadName, OutOfMemory}
+use Rattle.script_core.specs.declared.fault.FaultKind.TheVariants.{NotText, TooLong, NoNodes, Twice, UnknownWord, WrongCount, NotAllowed, BadNumber}
+use Rattle.script_core.specs.declared.fault.FaultKind.TheVariants.{BadName, OutOfMemory}
 use Rattle.script_core.specs.declared.fault.ScriptFault.{ScriptFault}
 use Rattle.script_core.specs.declared.keyword.Keyword.{Keyword}
 use Rattle.script_core.specs.declared.keyword.Keyword.TheVariants as keywords
@@ -265,12 +267,14 @@ unfoldable pub with_words_by : Option Cast → List Line → ℕ → List ℕ �
 with_words_by None lines number first rest = opening first rest >>= λ cast. Ok (record { cast = Some cast; lines = lines })
 with_words_by (Some cast) lines number first rest =
     if bytes_eq first (codes "consoles") then (with_consoles cast rest >>= λ cast. Ok (record { cast = Some cast; lines = lines }))
-    else (command_by (keyword_of first) cast first rest >>= λ command. Ok (record { cast = Some cast; lines = lines ++ record { number = number; command = command } ∷ [] }))
+    else (command_by (keyword_of first) cast first rest >>=
+    λ command. Ok (record { cast = Some cast; lines = lines ++ record { number = number; command = command } ∷ [] }))
 
 -- a line without words and a comment change nothing
 unfoldable pub with_words : Reading → ℕ → Texts → Result Reading FaultKind
 with_words reading number [] = Ok reading
-with_words reading number (first ∷ rest) = if slice_index first 0 == 35 then Ok reading else with_words_by reading.cast reading.lines number first rest
+with_words reading number (first ∷ rest) =
+    if slice_index first 0 == 35 then Ok reading else with_words_by reading.cast reading.lines number first rest
 
 unfoldable pub with_line : Reading → ℕ → List ℕ → Result Reading FaultKind
 with_line reading number line =

@@ -27,7 +27,9 @@ abbrev pub Ends : List ℕ → Limits → Result (Unit {0}) PlayFault → Option
 Ends input limits (Ok _) old new = IsOkAnd (script_of input) (λ script. Appends old new (report_of limits script))
 Ends input limits (Err (faults.Script fault)) old new = (script_of input ≡ Err fault) × Keeps old new
 Ends input limits (Err faults.ReadFault) old new = Keeps old new
-Ends input limits (Err (faults.WriteFault written)) old new = IsOkAnd (script_of input) (λ script. (written < length (report_of limits script)) × Appends old new (take written (report_of limits script)))
+Ends input limits (Err (faults.WriteFault written)) old new =
+    IsOkAnd (script_of input) (λ script. (written < length (report_of limits script)) ×
+    Appends old new (take written (report_of limits script)))
 Ends input limits (Err faults.OutOfMemory) old new = Keeps old new
 
 -- the same, where the reader's bytes are known

@@ -31,7 +31,8 @@ change_text old new node = diff_text old.names (rows_of old node) (rows_of new n
 
 -- the reply, and how the online list of the node changed whose step was taken, or taken back
 unfoldable pub act_text : Machine → ℕ → Action → List ℕ
-act_text m actor act = reply_line (reply_of m actor act) ++ change_text m (after_act m actor act) (changed m.state.remaining actor (reply_of m actor act))
+act_text m actor act =
+    reply_line (reply_of m actor act) ++ change_text m (after_act m actor act) (changed m.state.remaining actor (reply_of m actor act))
 
 -- an unwind, and why
 
@@ -46,7 +47,8 @@ unless_gone s number None text = reply_line (undo_reply s number)
 unless_gone s number (Some step) text = text
 
 unfoldable pub why_text : Machine → ℕ → List ℕ
-why_text m number = unless_gone m.state number (find_number m.state.remaining number) (future_line (gathered_numbers m.state.remaining number))
+why_text m number =
+    unless_gone m.state number (find_number m.state.remaining number) (future_line (gathered_numbers m.state.remaining number))
 
 -- the steps that an unwind takes back, greatest first
 abbrev pub unless_none : Option Kept → List ℕ → List ℕ

@@ -94,6 +94,10 @@ fn a_line_that_is_no_act_is_told(rt: HostRuntime) {
         let heap = rt.alloc();
         let parsed = parse_script(&heap, script.as_bytes()).expect(&rt, "a script");
         let kind = FaultKind::NotAllowed;
-        assert_eq!(rt; acts(&heap, &parsed).err(), Some(ScriptFault { line, kind }), "{script}");
+        assert_eq!(rt;
+            acts(&heap, &parsed).err(),
+            Some(ScriptFault { line, kind }),
+            "{script}"
+        );
     }
 }

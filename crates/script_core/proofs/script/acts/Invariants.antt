@@ -6,4 +6,5 @@ use Rattle.script_core.proofs.script.acts.Given as goal
 
 -- the acts so far, and then the lines that are left
 abbrev pub invariant-loop-line : goal.invariant-loop-line
-invariant-loop-line g l = with_calls (calls_of l.calls.items) (plain_lines (drop l.line-index l.line-items)) ≡ with_calls [] (plain_lines l.script.lines.items)
+invariant-loop-line g l =
+    with_calls (calls_of l.calls.items) (plain_lines (drop l.line-index l.line-items)) ≡ with_calls [] (plain_lines l.script.lines.items)

@@ -6,4 +6,5 @@ use Rattle.script_core.proofs.steps.extract_of.Given as goal
 -- the nodes so far, and then the names that are left
 abbrev pub invariant-loop-name : goal.invariant-loop-name
 invariant-loop-name g l =
-    with_nodes l.nodes l.chosen (map (λ name. name.now) (drop l.name-index l.names)) ≡ with_nodes l.nodes set.empty (map (λ name. name.now) l.names)
+    with_nodes l.nodes l.chosen (map (λ name. name.now) (drop l.name-index l.names)) ≡
+    with_nodes l.nodes set.empty (map (λ name. name.now) l.names)

@@ -9,4 +9,5 @@ pub returns-else-is_want : goal.returns-else-is_want
 unfolding why_text
 returns-else-is_want g c =
     let told : is_want c.in-Err.fault ≡ false = sym c.is_want.ensures ∙ c.if-is_want.false in
-    subst (λ t. OnOk c.put_reply.result (string_bytes c.put_reply.new.text ≡ string_bytes c.args.text.now ++ t)) (gone_text _ _ _ _ c.in-Err.ensures.refused told) c.put_reply.ensures
+    subst (λ t. OnOk c.put_reply.result (string_bytes c.put_reply.new.text ≡ string_bytes c.args.text.now ++ t))
+    (gone_text _ _ _ _ c.in-Err.ensures.refused told) c.put_reply.ensures

@@ -6,5 +6,6 @@ use Rattle.script_core.proofs.words.words_of.Goals as goal
 pub returns : goal.returns
 returns g c =
     map_from_collect _ c.collect.ensures.ran
-    (YieldsList-from_filter _ (λ word. not (length word == 0)) (YieldsList-from_str_split 32 c.args.line.now (lit< tt) (cc) (cc) (cc)) c.filter.ensures.closure
+    (YieldsList-from_filter _ (λ word. not (length word == 0)) (YieldsList-from_str_split 32 c.args.line.now (lit< tt) (cc) (cc) (cc))
+    c.filter.ensures.closure
     (λ x b q k. search (rules, tests)))

@@ -16,8 +16,8 @@ pub step_node-requires : goal.step_node-requires
 step_node-requires g c =
     let is : knows (config_of c.args.self.now) c.args.actor (plain c.args.step.now) ≡ true = search rules in
     let can = can_step c.self.inside.names c.self.inside.limits c.self.inside.history.events c.self.inside.nodes.items
-        c.self.inside.journal.steps c.self.inside.meter.count c.args.actor (plain c.args.step.now) (plain c.in-Ok.step) c.args.self.now
-        c.self.view_is c.self.invariant.0 c.in-Ok.ensures is in
+    c.self.inside.journal.steps c.self.inside.meter.count c.args.actor (plain c.args.step.now) (plain c.in-Ok.step) c.args.self.now
+    c.self.view_is c.self.invariant.0 c.in-Ok.ensures is in
     (omega arith, (omega arith, (can.there, (can.few, (can.named, (can.numbered, can.meter))))))
 
 pub invariant_of-self-in-Err : goal.invariant_of-self-in-Err
@@ -30,10 +30,10 @@ invariant_of-self-in-Err g c =
           c.self.inside.meter.count c.step_node.new.meter.count c.args.actor (plain c.args.step.now) (plain c.in-Ok.step)
           (plain_act c.args.act.now) c.in-Err.fault c.from.result c.args.self.now c.self.view_is c.in-Err.ensures.no_tick
           (noted c.args.actor (plain_act c.args.act.now) (plain_act c.in-Ok-make_room.act) (Refused c.from.result)
-              c.self.inside.history.events c.make_room.new.self.events c.record.new.self.events
-              (ap (λ (h : History). h.events) c.record.ensures) c.make_room.ensures.events c.in-Ok-make_room.ensures.copy)
+          c.self.inside.history.events c.make_room.new.self.events c.record.new.self.events
+          (ap (λ (h : History). h.events) c.record.ensures) c.make_room.ensures.events c.in-Ok-make_room.ensures.copy)
           c.make_room-2.ensures.steps c.in-Err.ensures.steps.0 c.in-Ok.ensures c.requires c.from.ensures c.self.invariant.0 is room
-              (c.in-Err.ensures.steps.1 other)).keeps,
+          (c.in-Err.ensures.steps.1 other)).keeps,
       c.make_room-2.ensures.nodes ∙ c.self.invariant.1,
     )
 
@@ -43,36 +43,40 @@ returns-else-eq g c =
     let room : 2 ≤ free_places (config_of c.args.self.now) c.args.self.now.state = omega arith in
     let other : c.in-Err.fault ≢ step_faults.OutOfMemory = search rules in
     (refused_asked c.self.inside.names c.self.inside.limits c.self.inside.history.events c.record.new.self.events c.self.inside.nodes.items
-        c.step_node.new.nodes.items c.self.inside.journal.steps c.make_room-2.new.self.steps c.self.inside.meter.count
-        c.step_node.new.meter.count c.args.actor (plain c.args.step.now) (plain c.in-Ok.step) (plain_act c.args.act.now) c.in-Err.fault
-        c.from.result c.args.self.now c.self.view_is c.in-Err.ensures.no_tick
+    c.step_node.new.nodes.items c.self.inside.journal.steps c.make_room-2.new.self.steps c.self.inside.meter.count
+    c.step_node.new.meter.count c.args.actor (plain c.args.step.now) (plain c.in-Ok.step) (plain_act c.args.act.now) c.in-Err.fault
+    c.from.result c.args.self.now c.self.view_is c.in-Err.ensures.no_tick
     (noted c.args.actor (plain_act c.args.act.now) (plain_act c.in-Ok-make_room.act) (Refused c.from.result) c.self.inside.history.events
-        c.make_room.new.self.events c.record.new.self.events (ap (λ (h : History). h.events) c.record.ensures) c.make_room.ensures.events
-        c.in-Ok-make_room.ensures.copy)
+    c.make_room.new.self.events c.record.new.self.events (ap (λ (h : History). h.events) c.record.ensures) c.make_room.ensures.events
+    c.in-Ok-make_room.ensures.copy)
     c.make_room-2.ensures.steps c.in-Err.ensures.steps.0 c.in-Ok.ensures c.requires c.from.ensures c.self.invariant.0 is room
-        (c.in-Err.ensures.steps.1 other)).answers
+    (c.in-Err.ensures.steps.1 other)).answers
 
 pub keep-requires : goal.keep-requires
 keep-requires g c =
     let is : knows (config_of c.args.self.now) c.args.actor (plain c.args.step.now) ≡ true = search rules in
     let can = can_step c.self.inside.names c.self.inside.limits c.self.inside.history.events c.self.inside.nodes.items
-        c.self.inside.journal.steps c.self.inside.meter.count c.args.actor (plain c.args.step.now) (plain c.in-Ok.step) c.args.self.now
-        c.self.view_is c.self.invariant.0 c.in-Ok.ensures is in (
+    c.self.inside.journal.steps c.self.inside.meter.count c.args.actor (plain c.args.step.now) (plain c.in-Ok.step) c.args.self.now
+    c.self.view_is c.self.invariant.0 c.in-Ok.ensures is in (
       omega arith,
       can_keep c.self.inside.names c.self.inside.limits c.self.inside.history.events c.self.inside.nodes.items c.step_node.new.nodes.items
           c.self.inside.journal.steps c.make_room-2.new.self c.self.inside.meter.count c.count-number.result c.args.actor
           (plain c.in-Ok.step) (plain_inverse c.in-Ok-step_node.inverse)
           c.self.invariant.0 c.make_room-2.ensures.steps (c.make_room-2.ensures.nodes ∙ c.self.invariant.1)
-              (c.count-number.ensures ∙ c.in-Ok-step_node.ensures.ticks) can.known c.in-Ok-step_node.ensures.steps,
+          (c.count-number.ensures ∙ c.in-Ok-step_node.ensures.ticks) can.known c.in-Ok-step_node.ensures.steps,
     )
 
 pub invariant_of-self-in-Ok-step_node : goal.invariant_of-self-in-Ok-step_node
 invariant_of-self-in-Ok-step_node g c =
     let is : knows (config_of c.args.self.now) c.args.actor (plain c.args.step.now) ≡ true = search rules in
     let room : 2 ≤ free_places (config_of c.args.self.now) c.args.self.now.state = omega arith in
-    let grown : c.keep.new.self ≡ record { nodes = c.make_room-2.new.self.nodes; steps = c.make_room-2.new.self.steps ++
-        added c.count-number.result c.args.actor (plain c.in-Ok.step) (plain_inverse c.in-Ok-step_node.inverse) ∷ []; room = [] } =
-        search rules in (
+    let grown : c.keep.new.self ≡ record {
+      nodes = c.make_room-2.new.self.nodes;
+      steps = c.make_room-2.new.self.steps ++
+          added c.count-number.result c.args.actor (plain c.in-Ok.step) (plain_inverse c.in-Ok-step_node.inverse) ∷ [];
+      room = [];
+    } =
+    search rules in (
       (taken_asked c.self.inside.names c.self.inside.limits c.self.inside.history.events c.record-in-Ok-step_node.new.self.events
           c.self.inside.nodes.items c.step_node.new.nodes.items c.self.inside.journal.steps c.make_room-2.new.self.steps
           c.keep.new.self.steps c.self.inside.meter.count c.step_node.new.meter.count c.count-number.result c.args.actor
@@ -80,10 +84,10 @@ invariant_of-self-in-Ok-step_node g c =
           c.self.view_is
           c.in-Ok-step_node.ensures.ticks c.count-number.ensures
           (noted c.args.actor (plain_act c.args.act.now) (plain_act c.in-Ok-make_room.act) (Taken c.count-number.result)
-              c.self.inside.history.events c.make_room.new.self.events c.record-in-Ok-step_node.new.self.events
-              (ap (λ (h : History). h.events) c.record-in-Ok-step_node.ensures) c.make_room.ensures.events c.in-Ok-make_room.ensures.copy)
+          c.self.inside.history.events c.make_room.new.self.events c.record-in-Ok-step_node.new.self.events
+          (ap (λ (h : History). h.events) c.record-in-Ok-step_node.ensures) c.make_room.ensures.events c.in-Ok-make_room.ensures.copy)
           c.make_room-2.ensures.steps (ap (λ (j : Journal). j.steps) grown) c.in-Ok.ensures c.requires c.self.invariant.0 is room
-              c.in-Ok-step_node.ensures.steps).keeps,
+          c.in-Ok-step_node.ensures.steps).keeps,
       ap (λ (j : Journal). j.nodes) grown ∙ c.make_room-2.ensures.nodes ∙ c.self.invariant.1,
     )
 
@@ -91,37 +95,41 @@ pub returns-in-Ok-step_node : goal.returns-in-Ok-step_node
 returns-in-Ok-step_node g c =
     let is : knows (config_of c.args.self.now) c.args.actor (plain c.args.step.now) ≡ true = search rules in
     let room : 2 ≤ free_places (config_of c.args.self.now) c.args.self.now.state = omega arith in
-    let grown : c.keep.new.self ≡ record { nodes = c.make_room-2.new.self.nodes; steps = c.make_room-2.new.self.steps ++
-        added c.count-number.result c.args.actor (plain c.in-Ok.step) (plain_inverse c.in-Ok-step_node.inverse) ∷ []; room = [] } =
-        search rules in
+    let grown : c.keep.new.self ≡ record {
+      nodes = c.make_room-2.new.self.nodes;
+      steps = c.make_room-2.new.self.steps ++
+          added c.count-number.result c.args.actor (plain c.in-Ok.step) (plain_inverse c.in-Ok-step_node.inverse) ∷ [];
+      room = [];
+    } =
+    search rules in
     (taken_asked c.self.inside.names c.self.inside.limits c.self.inside.history.events c.record-in-Ok-step_node.new.self.events
-        c.self.inside.nodes.items c.step_node.new.nodes.items c.self.inside.journal.steps c.make_room-2.new.self.steps c.keep.new.self.steps
-        c.self.inside.meter.count c.step_node.new.meter.count c.count-number.result c.args.actor (plain c.args.step.now)
-        (plain c.in-Ok.step) (plain_act c.args.act.now) (plain_inverse c.in-Ok-step_node.inverse) c.args.self.now c.self.view_is
+    c.self.inside.nodes.items c.step_node.new.nodes.items c.self.inside.journal.steps c.make_room-2.new.self.steps c.keep.new.self.steps
+    c.self.inside.meter.count c.step_node.new.meter.count c.count-number.result c.args.actor (plain c.args.step.now)
+    (plain c.in-Ok.step) (plain_act c.args.act.now) (plain_inverse c.in-Ok-step_node.inverse) c.args.self.now c.self.view_is
     c.in-Ok-step_node.ensures.ticks c.count-number.ensures
     (noted c.args.actor (plain_act c.args.act.now) (plain_act c.in-Ok-make_room.act) (Taken c.count-number.result)
-        c.self.inside.history.events c.make_room.new.self.events c.record-in-Ok-step_node.new.self.events
-        (ap (λ (h : History). h.events) c.record-in-Ok-step_node.ensures) c.make_room.ensures.events c.in-Ok-make_room.ensures.copy)
+    c.self.inside.history.events c.make_room.new.self.events c.record-in-Ok-step_node.new.self.events
+    (ap (λ (h : History). h.events) c.record-in-Ok-step_node.ensures) c.make_room.ensures.events c.in-Ok-make_room.ensures.copy)
     c.make_room-2.ensures.steps (ap (λ (j : Journal). j.steps) grown) c.in-Ok.ensures c.requires c.self.invariant.0 is room
-        c.in-Ok-step_node.ensures.steps).answers
+    c.in-Ok-step_node.ensures.steps).answers
 
 pub unwrap-requires : goal.unwrap-requires
 unwrap-requires g c =
     let made : c.make_room-2.new.self.room ≡ c.self.inside.journal.room ++ room_for c.args.actor (plain c.in-Ok.step) ∷ [] = search rules in
     c.keep.ensures.succeeds (subst (λ (l : List Room). Contains l (room_for c.args.actor (plain c.in-Ok.step))) (sym made)
-        (Contains-push c.self.inside.journal.room (room_for c.args.actor (plain c.in-Ok.step))))
+    (Contains-push c.self.inside.journal.room (room_for c.args.actor (plain c.in-Ok.step))))
 
 pub returns-then-is_err : goal.returns-then-is_err
 returns-then-is_err g c =
     let is : knows (config_of c.args.self.now) c.args.actor (plain c.args.step.now) ≡ true = search rules in
     let room : 2 ≤ free_places (config_of c.args.self.now) c.args.self.now.state = omega arith in
     unmade_step c.self.inside.names c.self.inside.limits c.self.inside.history.events c.self.inside.nodes.items c.self.inside.journal.steps
-        c.self.inside.meter.count c.args.actor (plain c.args.step.now) (plain_act c.args.act.now) c.args.self.now _ c.self.view_is
-        c.self.invariant.0 c.requires is room
+    c.self.inside.meter.count c.args.actor (plain c.args.step.now) (plain_act c.args.act.now) c.args.self.now _ c.self.view_is
+    c.self.invariant.0 c.requires is room
     (ap (λ (h : List Event). machine c.self.inside.names c.self.inside.limits h (kepts c.make_room-2.new.self.steps))
-        c.make_room.ensures.events
+    c.make_room.ensures.events
     ∙ ap (λ (hs : List Held). machine c.self.inside.names c.self.inside.limits c.self.inside.history.events (kepts hs))
-        c.make_room-2.ensures.steps
+    c.make_room-2.ensures.steps
     ∙ c.self.view_is)
 
 pub returns-then-eq : goal.returns-then-eq
@@ -129,10 +137,10 @@ returns-then-eq g c =
     let is : knows (config_of c.args.self.now) c.args.actor (plain c.args.step.now) ≡ true = search rules in
     let room : 2 ≤ free_places (config_of c.args.self.now) c.args.self.now.state = omega arith in
     unmade_step c.self.inside.names c.self.inside.limits c.self.inside.history.events c.self.inside.nodes.items c.self.inside.journal.steps
-        c.self.inside.meter.count c.args.actor (plain c.args.step.now) (plain_act c.args.act.now) c.args.self.now _ c.self.view_is
-        c.self.invariant.0 c.requires is room
+    c.self.inside.meter.count c.args.actor (plain c.args.step.now) (plain_act c.args.act.now) c.args.self.now _ c.self.view_is
+    c.self.invariant.0 c.requires is room
     (ap (λ (h : List Event). machine c.self.inside.names c.self.inside.limits h (kepts c.make_room-2.new.self.steps))
-        c.make_room.ensures.events
+    c.make_room.ensures.events
     ∙ ap (λ (hs : List Held). machine c.self.inside.names c.self.inside.limits c.self.inside.history.events (kepts hs))
-        c.make_room-2.ensures.steps
+    c.make_room-2.ensures.steps
     ∙ c.self.view_is)
