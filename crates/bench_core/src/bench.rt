@@ -123,7 +123,9 @@ impl<'a, B: Allocator> Model for Bench<'a, B> {
 
     ghost view = { λ b. record { names = b.names; limits = b.limits; state = record { history = b.history.events; remaining = kepts b.journal.steps } } };
 
-    ghost invariant = { λ b. IsBench (record { nodes = length b.names; limits = b.limits }) (record { history = b.history.events; remaining = kepts b.journal.steps }) b.nodes.items b.journal.steps b.meter.count × (b.journal.nodes ≡ length b.names) };
+    ghost invariant = { λ b. IsBench (record { nodes = length b.names; limits = b.limits })
+        (record { history = b.history.events; remaining = kepts b.journal.steps }) b.nodes.items b.journal.steps b.meter.count ×
+        (b.journal.nodes ≡ length b.names) };
 }
 
 impl<'a, B: Allocator> Bench<'a, B> {

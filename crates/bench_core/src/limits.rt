@@ -31,7 +31,8 @@ impl Model for Limits {
 impl Limits {
     /// The limits, where each is in its range.
     pub fn new(acts: u64, entries: u64, clock: u64, messages: u64) -> Option<Limits>
-        ensures { SomeIff result (AreLimits (record { acts = acts; entries = entries; clock = clock; messages = messages })) (record { acts = acts; entries = entries; clock = clock; messages = messages }) }
+        ensures { SomeIff result (AreLimits (record { acts = acts; entries = entries; clock = clock; messages = messages }))
+            (record { acts = acts; entries = entries; clock = clock; messages = messages }) }
     {
         let in_range = (1..=1_000_000).contains(&acts)
             && (1..=100_000).contains(&entries)

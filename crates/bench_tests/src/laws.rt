@@ -36,8 +36,11 @@ fn leads_back<'x, 'a, B: Allocator>(bench: &'x Bench<'a, B>) -> &'x Journal<'a, 
 
 /// A step without direct consequences can be left out, and then its node alone changes.
 fn can_be_left_out<'a, B: Allocator>(bench: &Bench<'a, B>, number: u64)
-    ensures { (k : Kept) (c : Cluster) → cluster_of bench.now ≡ Ok c → find_number bench.now.state.remaining number ≡ Some k → first_consequence bench.now.state.remaining number ≡ None →
-        (old : Cluster) × (runs (node_limits bench.now.limits) (length bench.now.names) (steps_before bench.now.state.remaining number) ≡ Ok old) × (runs (node_limits bench.now.limits) (length bench.now.names) (without bench.now.state.remaining number) ≡ Ok (with_node_of k.node old c)) }
+    ensures { (k : Kept) (c : Cluster) → cluster_of bench.now ≡ Ok c → find_number bench.now.state.remaining number ≡ Some k →
+        first_consequence bench.now.state.remaining number ≡ None →
+        (old : Cluster)
+        × (runs (node_limits bench.now.limits) (length bench.now.names) (steps_before bench.now.state.remaining number) ≡ Ok old)
+        × (runs (node_limits bench.now.limits) (length bench.now.names) (without bench.now.state.remaining number) ≡ Ok (with_node_of k.node old c)) }
 {
     runs_in_order(bench);
     middle_law();
@@ -45,7 +48,8 @@ fn can_be_left_out<'a, B: Allocator>(bench: &Bench<'a, B>, number: u64)
 
 /// The undos of a step and of all that follows from it are made, greatest number first, whoever asks for them.
 fn can_be_unwound<'a, B: Allocator>(bench: &Bench<'a, B>, number: u64)
-    ensures { (actor : ℕ) (numbers : List ℕ) → IsFuture bench.now.state.remaining number numbers → replies_of (config_of bench.now) bench.now.state (undos actor numbers) ≡ map Undone numbers }
+    ensures { (actor : ℕ) (numbers : List ℕ) → IsFuture bench.now.state.remaining number numbers →
+        replies_of (config_of bench.now) bench.now.state (undos actor numbers) ≡ map Undone numbers }
 {
     bench.bench_law();
     unwind_law();

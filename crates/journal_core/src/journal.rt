@@ -1,5 +1,6 @@
 //! `Journal`: the steps that remain, each with its inverse.
-ghost use Rattle.std.specs.Prelude.{◌≡◌, ◌↔◌, ◌++◌, ◌∷◌, [], ◌<◌, ◌≤◌, IsTrue, IsOk, IfErr, IfOk, OnOk, OnErr, map, option_map, option_copied, slice_get, length, Some, None};
+ghost use Rattle.std.specs.Prelude.{◌≡◌, ◌↔◌, ◌++◌, ◌∷◌, [], ◌<◌, ◌≤◌, IsTrue, IsOk, IfErr, IfOk, OnOk, OnErr, map, option_map, option_copied};
+ghost use Rattle.std.specs.Prelude.{slice_get, length, Some, None};
 ghost use Rattle.std.specs.List.{Contains};
 ghost use Rattle.node_core.specs.Operations.{plain};
 ghost use Rattle.node_core.specs.Inverses.{plain_inverse};
@@ -153,7 +154,13 @@ impl<'a, B: Allocator> Journal<'a, B> {
         inverse: Inverse<&'a B>,
     ) -> Result<(), (Step<&'a B>, Inverse<&'a B>, Oom)>
         requires { CanBeKept self.old number node (plain step) }
-        ensures ok { OnOk result (self.new ≡ record { nodes = self.old.nodes; steps = self.old.steps ++ (record { kept = record { number = number; node = node; step = plain step.entry }; inverse = Some (plain_inverse inverse.entry) }) ∷ []; room = [] }) }
+        ensures ok { OnOk result (self.new ≡ record self.old {
+          steps = self.old.steps ++ (record {
+            kept = record { number = number; node = node; step = plain step.entry };
+            inverse = Some (plain_inverse inverse.entry);
+          }) ∷ [];
+          room = [];
+        }) }
         ensures succeeds { Contains self.old.room (room_for node (plain step.entry)) → IsOk result }
         ensures err { OnErr result (self.new ≡ self.old) }
         ensures step_given_back { IfErr result (λ failed. plain failed.0 ≡ plain step.entry) }
@@ -184,7 +191,7 @@ impl<'a, B: Allocator> Journal<'a, B> {
     /// Ends a loan: the inverse is from then on that of the step.
     pub fn put_back(&mut self, number: u64, inverse: Inverse<&'a B>)
         requires { IsLent self.old.steps number }
-        ensures { self.new ≡ record { nodes = self.old.nodes; steps = with_inverse self.old.steps number (Some (plain_inverse inverse.entry)); room = self.old.room } }
+        ensures { self.new ≡ record self.old { steps = with_inverse self.old.steps number (Some (plain_inverse inverse.entry)) } }
     {
         if let Some(place) = place(self.steps.as_slice(), number) {
             self.steps[place].put_back(inverse);

@@ -8,9 +8,11 @@ ghost use Rattle.payload_core.specs.Presences.{entry_of, presence_of};
 ghost use Rattle.replica_core.specs.declared.replica_fault.ReplicaFault.TheVariants.{NothingToSend, OutOfMemory};
 ghost use Rattle.replica_core.specs.declared.status.Status.TheVariants.{Up, Down};
 ghost use Rattle.replica_core.specs.Limits.{AreNodeLimits};
-ghost use Rattle.replica_core.specs.Replicas.{opening, own_clock, fresh, tracked_dots, dots_of_process, is_online, joined, left_each, updated, with_status, forgotten, delta_message, without_delta, with_delta, CanBeDelta};
+ghost use Rattle.replica_core.specs.Replicas.{opening, own_clock, fresh, tracked_dots, dots_of_process, is_online, joined, left_each, updated};
+ghost use Rattle.replica_core.specs.Replicas.{with_status, forgotten, delta_message, without_delta, with_delta, CanBeDelta};
 ghost use Rattle.replica_core.specs.Deliveries.{is_other_known, is_new, is_gone, arrivals, departures, merged, TakesGreaterStandings};
-ghost use Rattle.replica_core.specs.Refusals.{IsRefusedFor, is_tracked, are_too_many, is_clock_full, join_refusal, leave_refusal, leave_all_refusal, merge_refusal, up_refusal, down_refusal, permdown_refusal, has_dots};
+ghost use Rattle.replica_core.specs.Refusals.{IsRefusedFor, is_tracked, are_too_many, is_clock_full, join_refusal, leave_refusal, leave_all_refusal};
+ghost use Rattle.replica_core.specs.Refusals.{merge_refusal, up_refusal, down_refusal, permdown_refusal, has_dots};
 ghost use Rattle.replica_core.specs.Invariant.{IsReplica};
 ghost use Rattle.replica_core.specs.Leaves.{AreOwnSeen};
 ghost use Rattle.replica_core.specs.Changes.{ChangeLeadsBack, ChangeLeadsSomewhere, ChangeGivesBack};
@@ -55,9 +57,27 @@ impl<A: Allocator> Model for Replica<A> {
 
     ghost coded = { replica_code };
 
-    ghost view = { λ r. record { own = r.own; limits = r.limits; seen = r.seen; entries = r.entries.map; view = r.view; delta_seen = r.delta_seen; delta_entries = r.delta_entries.map } };
+    ghost view = { λ r. record {
+      own = r.own;
+      limits = r.limits;
+      seen = r.seen;
+      entries = r.entries.map;
+      view = r.view;
+      delta_seen =
+          r.delta_seen;
+      delta_entries = r.delta_entries.map;
+    } };
 
-    ghost invariant = { λ r. IsReplica (record { own = r.own; limits = r.limits; seen = r.seen; entries = r.entries.map; view = r.view; delta_seen = r.delta_seen; delta_entries = r.delta_entries.map }) };
+    ghost invariant = { λ r. IsReplica (record {
+      own = r.own;
+      limits = r.limits;
+      seen = r.seen;
+      entries = r.entries.map;
+      view =
+          r.view;
+      delta_seen = r.delta_seen;
+      delta_entries = r.delta_entries.map;
+    }) };
 }
 
 impl<A: Allocator> Replica<A> {

@@ -20,7 +20,8 @@ fn put_presence<A: Allocator, W: Allocator>(
     key: &Word<W>,
     metadata: &Word<W>,
 ) -> Result<(), Oom>
-    ensures { OnOk result (string_bytes text.new ≡ string_bytes text.old ++ presence_text (record { pid = pid; topic = topic.now; key = key.now; metadata = metadata.now })) }
+    ensures { OnOk result (string_bytes text.new ≡ string_bytes text.old ++
+        presence_text (record { pid = pid; topic = topic.now; key = key.now; metadata = metadata.now })) }
 {
     let topic = topic.as_str();
     let key = key.as_str();

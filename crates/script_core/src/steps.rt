@@ -3,7 +3,9 @@ ghost use Rattle.std.specs.Prelude.{◌≡◌, ◌<◌, map, IsTrue, IfOk};
 ghost use Rattle.std.specs.List.{list_all};
 ghost use Rattle.node_core.specs.Operations.{plain};
 ghost use Rattle.script_core.specs.Answers.{Gives};
-ghost use Rattle.script_core.specs.Grammar.{node_at, number_at, word_at, presence_with, presence_of, join_of, update_of, leave_with, leave_of, leave_all_of, one_number, one_node, up_of, down_of, permdown_of, broadcast_of, with_node, with_nodes, extract_of, deliver_with, deliver_of};
+ghost use Rattle.script_core.specs.Grammar.{node_at, number_at, word_at, presence_with, presence_of, join_of, update_of, leave_with, leave_of};
+ghost use Rattle.script_core.specs.Grammar.{leave_all_of, one_number, one_node, up_of, down_of, permdown_of, broadcast_of, with_node, with_nodes};
+ghost use Rattle.script_core.specs.Grammar.{extract_of, deliver_with, deliver_of};
 ghost use Rattle.script_core.specs.Presences.{plain_presence};
 ghost use Rattle.script_core.specs.Words.{is_visible};
 
