@@ -246,7 +246,7 @@ fn list<'a, B: Allocator>(
     list_of(rt, alloc, place.replica())
 }
 
-/// Whether the list of the node differs so from what it was.
+/// Whether the list of the node differs so from what it was, and the other way round on the way back.
 fn changes<'a, B: Allocator>(
     rt: &impl Abort,
     alloc: &'a B,
@@ -258,7 +258,9 @@ fn changes<'a, B: Allocator>(
     requires { AreInOrder before.now }
 {
     let after = list(rt, alloc, bench, node);
-    differ(rt, alloc, before, &after, change)
+    let (left, joined) = change;
+    let there = differ(rt, alloc, before, &after, change);
+    there && differ(rt, alloc, &after, before, (joined, left))
 }
 
 /// Makes the call, which changes each list as its row says.
@@ -322,13 +324,19 @@ fn unwinds<'a, B: Allocator>(bench: &mut Bench<'a, B>, expected: &[u64]) -> bool
     }
 }
 
+/// Whether the unwind takes what was joined, at both nodes, off the lists.
+fn is_unwound<'a, B: Allocator>(rt: &impl Abort, alloc: &'a B, bench: &mut Bench<'a, B>) -> bool {
+    let a = list(rt, alloc, bench, 0);
+    let b = list(rt, alloc, bench, 1);
+    let is_done = unwinds(bench, &[5, 4, 3, 1]);
+    let at_a = changes(rt, alloc, bench, 0, &a, (&[ALICE], &[]));
+    let at_b = changes(rt, alloc, bench, 1, &b, (&[ALICE, BOB], &[]));
+    is_done && at_a && at_b
+}
+
 #[test]
 fn an_unwind_changes_the_list_of_each_node(rt: HostRuntime) {
     let heap = rt.alloc();
     let mut bench = shown(&rt, &heap, Limits::usual(), &FIVE_STEPS, "five steps");
-    let a = list(&rt, &heap, &bench, 0);
-    let b = list(&rt, &heap, &bench, 1);
-    assert!(rt; unwinds(&mut bench, &[5, 4, 3, 1]));
-    assert!(rt; changes(&rt, &heap, &bench, 0, &a, (&[ALICE], &[])));
-    assert!(rt; changes(&rt, &heap, &bench, 1, &b, (&[ALICE, BOB], &[])));
+    assert!(rt; is_unwound(&rt, &heap, &mut bench));
 }

@@ -245,19 +245,39 @@ const CASES: [Case; 3] = [
     },
 ];
 
+/// What the replica tells of the call alone.
+fn told<'a, B: Allocator>(
+    rt: &impl Abort,
+    alloc: &'a B,
+    replica: &mut Replica<&'a B>,
+    call: Call,
+) -> Payload<&'a B> {
+    let is_made = makes(rt, alloc, replica, &[], call);
+    assert!(rt; is_made);
+    replica.take_delta().expect(rt, "a message")
+}
+
+/// All that the replica of name 0 tells after the call.
+fn told_in_all<'a, B: Allocator>(
+    rt: &impl Abort,
+    alloc: &'a B,
+    replica: &mut Replica<&'a B>,
+    call: Call,
+) -> Payload<&'a B> {
+    let is_made = makes(rt, alloc, replica, &[], call);
+    assert!(rt; is_made);
+    replica
+        .extract(NameSet::empty().with(0))
+        .expect(rt, "a message")
+}
+
 /// What name 0 tells of a join alone, of an update after it alone, and of all after a leave.
 fn messages<'a, B: Allocator>(rt: &impl Abort, alloc: &'a B) -> [Payload<&'a B>; 3] {
     let mut replica = opening(alloc, 0);
-    let is_joined = joins(rt, alloc, &mut replica, Shown::Alice);
-    let first = replica.take_delta().expect(rt, "a message");
-    let is_updated = updates(rt, alloc, &mut replica, Shown::Away);
-    let second = replica.take_delta().expect(rt, "a message");
-    let has_left = leaves(rt, alloc, &mut replica, Shown::Away);
-    let third = replica
-        .extract(NameSet::empty().with(0))
-        .expect(rt, "a message");
-    assert!(rt; is_joined && is_updated && has_left);
-    [first, second, third]
+    let joined = told(rt, alloc, &mut replica, Call::Join(Shown::Alice));
+    let updated = told(rt, alloc, &mut replica, Call::Update(Shown::Away));
+    let left = told_in_all(rt, alloc, &mut replica, Call::Leave(Shown::Away));
+    [joined, updated, left]
 }
 
 fn plays<'a, B: Allocator>(

@@ -464,14 +464,25 @@ const REFUSED: [Ask; 11] = [
     Ask::Permdown(Side::There),
 ];
 
+/// Makes what is asked, refused in turn.
+fn refuses<'a>(
+    rt: &impl Abort,
+    heap: &'a Heap,
+    node: &mut Node<'a, Heap>,
+    message: &Payload<&'a Heap>,
+    ask: Ask,
+) -> bool {
+    let step = ask.step(rt, heap);
+    is_refused_in_turn(rt, heap, node, &step, message)
+}
+
 #[test]
 fn a_step_that_is_refused_memory_changes_nothing(rt: HostRuntime) {
     let heap = Refusing::new(rt.alloc());
     let message = message(&rt, &heap);
     let mut node = Node::new(&heap, 0, USUAL);
-    for ask in &REFUSED {
-        let step = ask.step(&rt, &heap);
-        assert!(rt; is_refused_in_turn(&rt, &heap, &mut node, &step, &message));
+    for ask in REFUSED {
+        assert!(rt; refuses(&rt, &heap, &mut node, &message, ask));
     }
     assert!(rt; node.outbox().len() == 2);
 }

@@ -235,14 +235,18 @@ const DELIVERIES: [&[Row]; 4] = [
     ],
 ];
 
+fn plays_all<'a, B: Allocator>(rt: &impl Abort, alloc: &'a B, pair: Pair) {
+    let inputs = inputs_of(rt, alloc, pair);
+    for rows in DELIVERIES {
+        plays(rt, alloc, &inputs, rows);
+    }
+}
+
 #[test]
 fn deliveries_meet_in_context_and_cloud(rt: HostRuntime) {
     let heap = rt.alloc();
     for pair in PAIRS {
-        let inputs = inputs_of(&rt, &heap, pair);
-        for rows in DELIVERIES {
-            plays(&rt, &heap, &inputs, rows);
-        }
+        plays_all(&rt, &heap, pair);
     }
 }
 
@@ -295,55 +299,110 @@ const CALLS: [Call; 9] = [
     Call::Permdown,
 ];
 
+/// Whether this is the context clock of the name, and all entries are its live ones, of these clocks.
+fn has_own<'a, B: Allocator>(replica: &Replica<&'a B>, name: u16, clock: u64, live: &[u64]) -> bool
+    requires { name < 32 }
+{
+    is_seen(replica.seen(), name, clock, &[]) && are_live(replica, name, live)
+}
+
+/// Makes these calls of a new receiver, each undone and refused memory first, which leaves it this own clock, the live
+/// entries of these clocks, and this status of the sender.
+fn refuses_each<'a>(
+    rt: &impl Abort,
+    heap: &'a Heap,
+    pair: Pair,
+    calls: &[Call],
+    after: (u64, &[u64], Option<Status>),
+) {
+    let (clock, live, status) = after;
+    let inputs = inputs_of(rt, heap, pair);
+    let mut b = opening(heap, pair.receiver());
+    assert!(rt; Call::Up.is_made(&mut b, &inputs, false));
+    for call in calls {
+        refuses(rt, heap, &mut b, &inputs, *call);
+    }
+    let has_status = b.status(pair.sender()) == status;
+    assert!(rt; has_status && has_own(&b, pair.receiver(), clock, live));
+}
+
 #[test]
 fn a_call_undone_or_refused_memory_changes_nothing(rt: HostRuntime) {
     let heap = Refusing::new(rt.alloc());
     for pair in PAIRS {
-        let inputs = inputs_of(&rt, &heap, pair);
-        let mut b = opening(&heap, pair.receiver());
-        assert!(rt; Call::Up.is_made(&mut b, &inputs, false));
-        for call in CALLS {
-            refuses(&rt, &heap, &mut b, &inputs, call);
-        }
-        assert!(rt; b.entries().is_empty() && b.status(pair.sender()).is_none());
-        assert!(rt; is_seen(b.seen(), pair.receiver(), 5, &[]));
+        refuses_each(&rt, &heap, pair, &CALLS, (5, &[], None));
     }
-}
-
-/// All entries of a process leave, three here, each with a fresh dot.
-#[test]
-fn a_process_leaves_under_all_its_keys(rt: HostRuntime) {
-    let heap = Refusing::new(rt.alloc());
-    let inputs = inputs_of(&rt, &heap, Pair::First);
-    let mut b = opening(&heap, 1);
-    for key in ["alice", "bob", "carl"] {
-        joins(&rt, &mut b, &words_of(&rt, &heap, key), 1);
-    }
-    joins(&rt, &mut b, &inputs.words, 2);
-    refuses(&rt, &heap, &mut b, &inputs, Call::LeaveAll);
-    assert!(rt; are_live(&b, 1, &[4]));
-    assert!(rt; is_seen(b.seen(), 1, 7, &[]));
 }
 
 /// A message may have dots of its receiver, which play no part.
 #[test]
 fn a_delivery_may_have_the_receivers_dots(rt: HostRuntime) {
     let heap = Refusing::new(rt.alloc());
-    let inputs = inputs_of(&rt, &heap, Pair::Last);
-    let mut b = opening(&heap, 30);
-    assert!(rt; Call::Up.is_made(&mut b, &inputs, false));
-    assert!(rt; Call::Join.is_made(&mut b, &inputs, false));
-    refuses(&rt, &heap, &mut b, &inputs, Call::Foreign);
-    assert!(rt; is_seen(b.seen(), 31, 1, &[]));
-    assert!(rt; is_seen(b.seen(), 30, 1, &[]));
-    assert!(rt; are_live(&b, 30, &[1]));
+    for pair in PAIRS {
+        let after: (u64, &[u64], Option<Status>) = (1, &[1], Some(Status::Up));
+        refuses_each(&rt, &heap, pair, &[Call::Join, Call::Foreign], after);
+    }
+}
+
+/// A node 1 with three entries of process 1 and one of process 2.
+fn four_joined<'a>(rt: &impl Abort, heap: &'a Heap) -> Replica<&'a Heap> {
+    let mut replica = opening(heap, 1);
+    for (pid, key) in [(1, "alice"), (1, "bob"), (1, "carl"), (2, "alice")] {
+        joins_under(rt, heap, &mut replica, key, pid);
+    }
+    replica
+}
+
+/// All entries of a process leave, three here, each with a fresh dot.
+#[test]
+fn a_process_leaves_under_all_its_keys(rt: HostRuntime) {
+    let heap = Refusing::new(rt.alloc());
+    let mut b = four_joined(&rt, &heap);
+    leaves_refused(&rt, &heap, &mut b);
+    assert!(rt; has_own(&b, 1, 7, &[4]));
+}
+
+fn leaves_refused<'a>(rt: &impl Abort, heap: &'a Heap, replica: &mut Replica<&'a Heap>) {
+    let inputs = inputs_of(rt, heap, Pair::First);
+    refuses(rt, heap, replica, &inputs, Call::LeaveAll);
+}
+
+/// Joins the process under the topic `r` and this key.
+fn joins_under<'a, B: Allocator>(
+    rt: &impl Abort,
+    alloc: &'a B,
+    replica: &mut Replica<&'a B>,
+    key: &str,
+    pid: u64,
+) {
+    let words = words_of(rt, alloc, key);
+    joins(rt, replica, &words, pid);
 }
 
 /// A node 0 with one join, of which nothing was sent.
 fn joined<'a, B: Allocator>(rt: &impl Abort, alloc: &'a B) -> Replica<&'a B> {
     let mut replica = opening(alloc, 0);
-    joins(rt, &mut replica, &words_of(rt, alloc, "alice"), 1);
+    joins_under(rt, alloc, &mut replica, "alice", 1);
     replica
+}
+
+/// The extract of this name.
+fn extracted<'a, B: Allocator>(
+    rt: &impl Abort,
+    replica: &Replica<&'a B>,
+    name: u16,
+) -> Payload<&'a B>
+    requires { name < 32 }
+{
+    let names = NameSet::empty().with(name);
+    replica.extract(names).expect(rt, "a message")
+}
+
+/// Whether an extract of the own name 0 is the delta.
+fn extracts_the_delta<'a, B: Allocator>(rt: &impl Abort, replica: &mut Replica<&'a B>) -> bool {
+    let extract = extracted(rt, replica, 0);
+    let delta = replica.take_delta().expect(rt, "a delta");
+    extract.same(&delta)
 }
 
 /// An extract has all that was joined where its sender is named, and else nothing.
@@ -351,11 +410,20 @@ fn joined<'a, B: Allocator>(rt: &impl Abort, alloc: &'a B) -> Replica<&'a B> {
 fn an_extract_has_the_named_alone(rt: HostRuntime) {
     let heap = rt.alloc();
     let mut a = joined(&rt, &heap);
-    let none = a.extract(NameSet::empty().with(1)).expect(&rt, "a message");
-    assert!(rt; none.entries().is_empty());
-    let all = a.extract(NameSet::empty().with(0)).expect(&rt, "a message");
-    let delta = a.take_delta().expect(&rt, "a delta");
-    assert!(rt; all.same(&delta));
+    assert!(rt; extracted(&rt, &a, 1).entries().is_empty());
+    assert!(rt; extracts_the_delta(&rt, &mut a));
+}
+
+/// Whether the receiver, to which the sender's first message came, has it in an extract of the sender's name.
+fn extracts_foreign<'a, B: Allocator>(
+    rt: &impl Abort,
+    replica: &Replica<&'a B>,
+    inputs: &Inputs<&'a B>,
+) -> bool {
+    let message = extracted(rt, replica, inputs.pair.sender());
+    message.sender() == inputs.pair.receiver()
+        && message.seen().same(inputs.first.seen())
+        && message.entries().same(inputs.first.entries())
 }
 
 /// An extract of another's name has what was delivered of it.
@@ -364,13 +432,9 @@ fn an_extract_has_foreign_names_too(rt: HostRuntime) {
     let heap = rt.alloc();
     let inputs = inputs_of(&rt, &heap, Pair::Last);
     let mut b = opening(&heap, 30);
-    assert!(rt; Call::Up.is_made(&mut b, &inputs, false));
-    assert!(rt; Call::First.is_made(&mut b, &inputs, false));
-    let names = NameSet::empty().with(31);
-    let message = b.extract(names).expect(&rt, "a message");
-    assert!(rt; message.sender() == 30);
-    assert!(rt; message.seen().same(inputs.first.seen()));
-    assert!(rt; message.entries().same(inputs.first.entries()));
+    let is_up = Call::Up.is_made(&mut b, &inputs, false);
+    let is_delivered = Call::First.is_made(&mut b, &inputs, false);
+    assert!(rt; is_up && is_delivered && extracts_foreign(&rt, &b, &inputs));
 }
 
 fn copies<'a, B: Allocator>(replica: &Replica<&'a B>) -> bool {
