@@ -4,6 +4,7 @@ use crate::steps::{DELIVERED, DELIVERED_AND_UNDONE, UNDONE_JOIN};
 use bench_core::{Act, Bench, Fault, Journal, Limits, Reply, Step};
 use dots_core::NameSet;
 use std::alloc::Allocator;
+use std::process::Abort;
 
 #[test]
 fn a_run_of_calls_gives_their_replies(rt: HostRuntime) {
@@ -24,12 +25,15 @@ fn a_run_of_calls_gives_their_replies(rt: HostRuntime) {
     assert!(rt; replies.as_slice() == expected.as_slice());
 }
 
+/// Whether a copy of the act asks the same.
+fn has_copy<A: Allocator + Copy>(rt: &impl Abort, act: &Act<A>) -> bool {
+    act.try_copy().expect(rt, "a copy").same(act)
+}
+
 #[test]
 fn an_act_is_the_same_as_its_copy(rt: HostRuntime) {
-    let heap = rt.alloc();
-    let act = Call::Join(1, Shown::Alice).act(&rt, &heap);
-    let copy = act.try_copy().expect(&rt, "a copy");
-    assert!(rt; act.same(&copy));
+    let act = Call::Join(1, Shown::Alice).act(&rt, rt.alloc());
+    assert!(rt; has_copy(&rt, &act));
 }
 
 #[test]
@@ -81,12 +85,21 @@ fn a_step_is_held_by_its_least_consequence(rt: HostRuntime) {
     assert!(rt; last_of(&bench, 0) == Some(3) && last_of(&bench, 1) == Some(4));
 }
 
+/// Whether the first step that remains is number 2, an up of name 0 by node 1.
+fn has_up_alone<'a, B: Allocator>(bench: &Bench<'a, B>) -> bool {
+    match bench.remaining().at(0) {
+        Some(kept) => kept.number == 2
+            && kept.node == 1
+            && matches!(kept.step, Step::Up { name: 0 }),
+        None => false,
+    }
+}
+
 #[test]
 fn the_step_that_remains_is_as_it_was_asked(rt: HostRuntime) {
     let heap = rt.alloc();
     let bench = played(&rt, &heap, Limits::usual(), &DELIVERED_AND_UNDONE, "undone");
-    let kept = bench.remaining().at(0).expect(&rt, "a step");
-    assert!(rt; kept.number == 2 && kept.node == 1 && matches!(kept.step, Step::Up { name: 0 }));
+    assert!(rt; has_up_alone(&bench));
 }
 
 #[test]

@@ -114,16 +114,22 @@ fn a_call_that_is_refused_memory_changes_nothing(rt: HostRuntime) {
     }
 }
 
+/// Whether a run of one call has its list of replies.
+fn runs<'a>(bench: &mut Bench<'a, Heap>) -> bool {
+    bench.run(&[(0, Act::Undo(1))]).is_ok()
+}
+
 // A body that always answers want of memory would keep every contract.
 #[test]
 fn gives_up_for_memory(rt: HostRuntime) {
     let heap = Refusing::new(rt.alloc());
-    let mut bench = open(&rt, &heap, Limits::usual());
-    let act = Call::Join(1, Shown::Alice).act(&rt, &heap);
-    assert!(rt; bench.act(0, &act) == Reply::Taken(1));
-    assert!(rt; bench.act(1, &Act::Undo(1)) == Reply::Undone(1));
+    let rows = [
+        (0, Call::Join(1, Shown::Alice), Reply::Taken(1)),
+        (1, Call::Undo(1), Reply::Undone(1)),
+    ];
+    let mut bench = played(&rt, &heap, Limits::usual(), &rows, "a join undone");
     heap.refuse_from(1);
-    assert!(rt; bench.run(&[(0, Act::Undo(1))]).is_err());
+    assert!(rt; !runs(&mut bench));
 }
 
 /// The limits of a bench, calls after which no step can be taken, or nothing be recorded, and calls that are refused then.

@@ -316,7 +316,8 @@ fn reads_and_the_empty_set_take_no_memory(rt: HostRuntime) {
     heap.refuse_from(1);
     let empty = DotSet::new(&heap);
     assert!(rt; empty.is_empty() && !dots.same(&empty) && has_copy(&rt, &empty));
-    assert!(rt; !puts_in(&rt, &mut dots, Dot { name: 0, clock: 3 }));
+    let there = Dot { name: 0, clock: 3 };
+    assert!(rt; dots.contains(there) && !puts_in(&rt, &mut dots, there));
     assert!(rt; heap.requests() == 0);
 }
 
@@ -331,14 +332,15 @@ fn what_grows_no_cloud_takes_no_memory(rt: HostRuntime) {
     assert!(rt; heap.requests() == 0);
 }
 
-/// Fills the gap, goes on from there, and goes out and in again.
+/// Fills the gap, goes on from there, and goes out and in again; the part of no name is empty.
 fn grows_its_context<A: Allocator + Copy>(rt: &impl Abort, dots: &mut DotSet<A>) -> bool {
     let fills = puts_in(rt, dots, Dot { name: 0, clock: 2 });
     let goes_on = puts_in(rt, dots, Dot { name: 0, clock: 5 });
     let part = dots.drop_name(0);
     let is_out = dots.is_empty();
     dots.set_part(0, part);
-    fills && goes_on && is_out && is_seen(dots, 0, 5, &[])
+    let none = dots.only(NameSet::empty()).expect(rt, "a part");
+    fills && goes_on && is_out && none.is_empty() && is_seen(dots, 0, 5, &[])
 }
 
 /// Takes nothing new in, and takes the dot at the context clock out and in again.

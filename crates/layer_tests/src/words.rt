@@ -126,7 +126,8 @@ fn has_only<A: Allocator + Copy>(
     count: usize,
 ) -> bool {
     let part = entries.only(names).expect(rt, "a part");
-    part.len() == count && part.is_empty() == (count == 0)
+    let is_whole = part.same(entries) == (count == entries.len());
+    is_whole && part.len() == count && part.is_empty() == (count == 0)
 }
 
 /// The places of three entries, by rising dot.
