@@ -2,6 +2,8 @@
 use crate::tests::played_from;
 use bench_core::Limits;
 use script_core::{FaultKind, PlayFault, ScriptFault, parse_script};
+use std::alloc::Global;
+use std::process::Abort;
 
 /// The script is refused with this fault, and nothing is written.
 fn is_refused(rt: &HostRuntime, script: &[u8], line: u64, kind: FaultKind) -> bool {
@@ -29,12 +31,20 @@ fn the_first_fault_is_told(rt: HostRuntime) {
         ("nodes a\na extract", 2, FaultKind::WrongCount),
         ("nodes a\njournal a", 2, FaultKind::WrongCount),
         ("nodes a\na undo 01", 2, FaultKind::BadNumber),
-        ("nodes a\na undo 18446744073709551616", 2, FaultKind::BadNumber),
+        (
+            "nodes a\na undo 18446744073709551616",
+            2,
+            FaultKind::BadNumber,
+        ),
         ("nodes a\na deliver z 01", 2, FaultKind::BadName),
         ("nodes a\na up z", 2, FaultKind::BadName),
         ("nodes a\nconsoles c1\nshow c1", 3, FaultKind::BadName),
         ("nodes a\na extract a a", 2, FaultKind::Twice),
-        ("nodes a\nconsoles c1\nc1 broadcast", 3, FaultKind::NotAllowed),
+        (
+            "nodes a\nconsoles c1\nc1 broadcast",
+            3,
+            FaultKind::NotAllowed,
+        ),
         ("nodes a\nconsoles c1\nc1 up", 3, FaultKind::NotAllowed),
         ("nodes a\nc1 undo 1\nconsoles c1", 2, FaultKind::UnknownWord),
         ("nodes a\nconsoles a", 2, FaultKind::Twice),
@@ -52,8 +62,15 @@ fn the_first_fault_is_told(rt: HostRuntime) {
 }
 
 /// The front, so many times the middle, and the end.
-fn repeated(rt: &HostRuntime, front: &str, times: usize, middle: &str, end: &str) -> String {
-    let mut text = String::from_str(rt.alloc(), front).expect(rt, "memory");
+fn repeated(
+    rt: &impl Abort,
+    alloc: Global,
+    front: &str,
+    times: usize,
+    middle: &str,
+    end: &str,
+) -> String {
+    let mut text = String::from_str(alloc, front).expect(rt, "memory");
     for _ in 0..times {
         text.push_str(middle).expect(rt, "memory");
     }
@@ -65,17 +82,47 @@ fn repeated(rt: &HostRuntime, front: &str, times: usize, middle: &str, end: &str
 fn what_is_too_long_or_too_many_is_refused(rt: HostRuntime) {
     for (front, times, middle, end, fault) in [
         ("nodes a\na join 1 ", 200, "t", " k m\n", None),
-        ("nodes a\na join 1 ", 201, "t", " k m\n", Some((2, FaultKind::TooLong))),
-        ("nodes a\na join 1 r k ", 201, "t", "\n", Some((2, FaultKind::TooLong))),
+        (
+            "nodes a\na join 1 ",
+            201,
+            "t",
+            " k m\n",
+            Some((2, FaultKind::TooLong)),
+        ),
+        (
+            "nodes a\na join 1 r k ",
+            201,
+            "t",
+            "\n",
+            Some((2, FaultKind::TooLong)),
+        ),
         ("nodes a\n#", 4095, "x", "\n", None),
         ("nodes a\n#", 4096, "x", "\n", Some((2, FaultKind::TooLong))),
         ("nodes", 33, " a", "\n", Some((1, FaultKind::WrongCount))),
-        ("nodes a\nconsoles", 17, " c", "\n", Some((2, FaultKind::WrongCount))),
-        ("nodes a\na extract", 33, " a", "\n", Some((2, FaultKind::WrongCount))),
+        (
+            "nodes a\nconsoles",
+            17,
+            " c",
+            "\n",
+            Some((2, FaultKind::WrongCount)),
+        ),
+        (
+            "nodes a\na extract",
+            33,
+            " a",
+            "\n",
+            Some((2, FaultKind::WrongCount)),
+        ),
         ("nodes a\n", 1_048_568, "\n", "", None),
-        ("nodes a\n", 1_048_569, "\n", "", Some((0, FaultKind::TooLong))),
+        (
+            "nodes a\n",
+            1_048_569,
+            "\n",
+            "",
+            Some((0, FaultKind::TooLong)),
+        ),
     ] {
-        let script = repeated(&rt, front, times, middle, end);
+        let script = repeated(&rt, rt.alloc(), front, times, middle, end);
         let answer = parse_script(rt.alloc(), script.as_bytes()).err();
         let fault = fault.map(|(line, kind)| ScriptFault { line, kind });
         assert_eq!(rt; answer, fault, "{front} {times}");

@@ -5,9 +5,11 @@ use bench_core::Limits;
 use script_core::{FakeReader, FakeWriter, PlayFault, play, report_history};
 use test_alloc::Refusing;
 
-const UNWOUND: &str = "nodes a b\na join 1 r alice phone\na broadcast\nb up a\nb deliver a 1\nwhy 1\na unwind 1\n";
+const UNWOUND: &str =
+    "nodes a b\na join 1 r alice phone\na broadcast\nb up a\nb deliver a 1\nwhy 1\na unwind 1\n";
 
-const UNWOUND_REPORT: &str = "1 ok\n+ r alice a/1 phone\n2 ok\n3 ok\n4 ok\n+ r alice a/1 phone\nfuture 4 2 1\nundone 4\nundone 2\nundone 1\nat a\n- r alice a/1 phone\nat b\n- r alice a/1 phone\n";
+const UNWOUND_REPORT: &str =
+    "1 ok\n+ r alice a/1 phone\n2 ok\n3 ok\n4 ok\n+ r alice a/1 phone\nfuture 4 2 1\nundone 4\nundone 2\nundone 1\nat a\n- r alice a/1 phone\nat b\n- r alice a/1 phone\n";
 
 #[test]
 fn a_play_that_is_refused_memory_writes_nothing(rt: HostRuntime) {
@@ -26,7 +28,10 @@ fn a_play_that_is_refused_memory_writes_nothing(rt: HostRuntime) {
             Ok(()) => UNWOUND_REPORT,
             Err(_) => "",
         };
-        assert!(rt; matches!(answer, Ok(()) | Err(PlayFault::OutOfMemory)), "request {number}");
+        assert!(rt;
+            matches!(answer, Ok(()) | Err(PlayFault::OutOfMemory)),
+            "request {number}"
+        );
         assert_eq!(rt; writer.taken(), printed.as_bytes(), "request {number}");
         if answer.is_err() {
             ended_early = ended_early.saturating_add(1);
@@ -39,7 +44,9 @@ fn a_play_that_is_refused_memory_writes_nothing(rt: HostRuntime) {
 fn a_history_whose_report_is_refused_memory_is_told_later(rt: HostRuntime) {
     let heap = Refusing::new(rt.alloc());
     let played = played_on(&rt, &heap, TAKEN_BACK_STEP_BY_STEP.script);
-    let recorded = TAKEN_BACK_STEP_BY_STEP.report.strip_suffix("journal 1\n2 b up a\n");
+    let recorded = TAKEN_BACK_STEP_BY_STEP
+        .report
+        .strip_suffix("journal 1\n2 b up a\n");
     let recorded = recorded.expect(&rt, "an end");
     for number in 1..10_000 {
         heap.refuse_only(number);

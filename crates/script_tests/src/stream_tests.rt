@@ -1,7 +1,9 @@
 //! How input is read and reports are written.
 use crate::cases::JOINED_AND_UNDONE;
 use bench_core::Limits;
-use script_core::{FakeReader, FakeWriter, InputFault, PlayFault, WriteFault, play, read_all, write_out};
+use script_core::{
+    FakeReader, FakeWriter, InputFault, PlayFault, WriteFault, play, read_all, write_out,
+};
 
 #[test]
 fn input_is_read_whole_or_refused(rt: HostRuntime) {
@@ -62,6 +64,9 @@ fn a_failed_write_tells_what_went_out(rt: HostRuntime) {
         assert_eq!(rt; writer.taken(), b"1 ok\n+ ".as_slice());
     }
     let mut writer = FakeWriter::new(rt.alloc(), 2);
-    assert_eq!(rt; write_out(&mut writer, b"abc"), Err(WriteFault { written: 2 }));
+    assert_eq!(rt;
+        write_out(&mut writer, b"abc"),
+        Err(WriteFault { written: 2 })
+    );
     assert_eq!(rt; write_out(&mut writer, b""), Ok(()));
 }

@@ -9,6 +9,7 @@ use std::alloc::Allocator;
 use std::process::Abort;
 
 /// A script and its report, on a bench with these limits: of acts, entries, clocks and messages.
+#[derive(Clone, Copy)]
 pub(crate) struct Case {
     pub(crate) name: &'static str,
     pub(crate) limits: [u64; 4],
@@ -94,6 +95,10 @@ fn a_line_that_is_no_act_is_told(rt: HostRuntime) {
         let heap = rt.alloc();
         let parsed = parse_script(&heap, script.as_bytes()).expect(&rt, "a script");
         let kind = FaultKind::NotAllowed;
-        assert_eq!(rt; acts(&heap, &parsed).err(), Some(ScriptFault { line, kind }), "{script}");
+        assert_eq!(rt;
+            acts(&heap, &parsed).err(),
+            Some(ScriptFault { line, kind }),
+            "{script}"
+        );
     }
 }
