@@ -1,0 +1,182 @@
+//! What words choose, and the statuses of the program with what it writes.
+use crate::chosen::{Choice, Subcommand};
+use crate::line::choice;
+use crate::program::program;
+use bench_core::Limits;
+use clap::error::ErrorKind;
+use script_core::{FakeReader, FakeWriter};
+use std::alloc::Allocator;
+use test_alloc::Refusing;
+
+const JOINED: &str = "nodes a b\na join 1 r alice phone\na undo 1\n";
+
+const REPORT: &str = "1 ok\n+ r alice a/1 phone\nundone 1\n- r alice a/1 phone\n";
+
+#[test]
+fn play_is_chosen(rt: HostRuntime) {
+    let given = choice(rt.alloc(), &["play"]).expect(&rt, "a choice");
+    let command = Subcommand::Play;
+    assert_eq!(rt; given, Choice { command });
+    let none: [&str; 0] = [];
+    for (words, kind) in [
+        (none.as_slice(), ErrorKind::MissingSubcommand),
+        (["jump"].as_slice(), ErrorKind::InvalidSubcommand),
+        (["play", "--as", "x"].as_slice(), ErrorKind::UnknownArgument),
+        (["play", "x"].as_slice(), ErrorKind::UnknownArgument),
+        (["--help"].as_slice(), ErrorKind::DisplayHelp),
+        (["--version"].as_slice(), ErrorKind::DisplayVersion),
+    ] {
+        let refused = choice(rt.alloc(), words).err().expect(&rt, "a refusal");
+        assert!(rt; refused.kind() == kind);
+    }
+}
+
+/// What the program is given, and what it gives back.
+#[derive(Clone, Copy)]
+struct Case {
+    words: &'static [&'static str],
+    script: &'static str,
+    fails: bool,
+    room: usize,
+    status: u8,
+    printed: &'static str,
+    told: &'static str,
+}
+
+const PLAYED: Case = Case {
+    words: &["play"],
+    script: JOINED,
+    fails: false,
+    room: 100_000,
+    status: 0,
+    printed: REPORT,
+    told: "",
+};
+
+const CASES: [Case; 5] = [
+    PLAYED,
+    Case {
+        script: "nodes a\na join 1 r\n",
+        status: 1,
+        printed: "",
+        told: "presence_bench: line 2: WrongCount\n",
+        ..PLAYED
+    },
+    Case {
+        fails: true,
+        status: 3,
+        printed: "",
+        told: "presence_bench: read fault\n",
+        ..PLAYED
+    },
+    Case {
+        room: 7,
+        status: 3,
+        printed: "1 ok\n+ ",
+        told: "presence_bench: write fault\n",
+        ..PLAYED
+    },
+    Case {
+        words: &["--version"],
+        printed: "presence_bench 0.1.0\n",
+        ..PLAYED
+    },
+];
+
+/// The status with which the program ends, and what it wrote to its output and to its errors, each a writer of so much room.
+fn ended<B: Allocator>(
+    rt: &HostRuntime,
+    heap: &B,
+    words: &[&str],
+    reader: &mut FakeReader<'_>,
+    rooms: [usize; 2],
+) -> (u8, FakeWriter, FakeWriter) {
+    let [room, errors_room] = rooms;
+    let mut writer = FakeWriter::new(rt.alloc(), room);
+    let mut errors = FakeWriter::new(rt.alloc(), errors_room);
+    let status = program(
+        rt.alloc(),
+        heap,
+        words,
+        reader,
+        &mut writer,
+        &mut errors,
+        Limits::usual(),
+    );
+    (status, writer, errors)
+}
+
+#[test]
+fn each_end_has_its_status_and_its_line(rt: HostRuntime) {
+    for case in CASES {
+        let mut reader = match case.fails {
+            true => FakeReader::failing(case.script.as_bytes()),
+            false => FakeReader::ending(case.script.as_bytes()),
+        };
+        let rooms = [case.room, 1000];
+        let (status, writer, errors) = ended(&rt, &rt.alloc(), case.words, &mut reader, rooms);
+        assert_eq!(rt; status, case.status, "{}", case.told);
+        assert_eq!(rt; writer.taken(), case.printed.as_bytes(), "{}", case.told);
+        assert_eq!(rt; errors.taken(), case.told.as_bytes());
+    }
+}
+
+#[test]
+fn a_status_stands_where_its_line_cannot_be_written(rt: HostRuntime) {
+    for (words, script, status) in [
+        (["play"].as_slice(), "nodes", 1),
+        (["jump"].as_slice(), "", 2),
+        (["play"].as_slice(), JOINED, 3),
+        (["--help"].as_slice(), "", 3),
+    ] {
+        let mut reader = FakeReader::ending(script.as_bytes());
+        let (ended, writer, errors) = ended(&rt, &rt.alloc(), words, &mut reader, [0, 0]);
+        assert_eq!(rt; ended, status);
+        assert!(rt; writer.taken().is_empty() && errors.taken().is_empty());
+    }
+}
+
+#[test]
+fn refused_words_are_told_and_help_is_printed(rt: HostRuntime) {
+    for (words, status) in [
+        (["jump"].as_slice(), 2),
+        (["play", "x"].as_slice(), 2),
+        (["--help"].as_slice(), 0),
+        (["play", "--help"].as_slice(), 0),
+    ] {
+        let mut reader = FakeReader::failing(b"");
+        let rooms = [100_000, 100_000];
+        let (ended, writer, errors) = ended(&rt, &rt.alloc(), words, &mut reader, rooms);
+        assert_eq!(rt; ended, status);
+        assert_eq!(rt; writer.taken().is_empty(), status == 2);
+        assert_eq!(rt; errors.taken().is_empty(), status == 0);
+        assert_eq!(rt; reader.calls(), 0);
+    }
+}
+
+#[test]
+fn want_of_memory_prints_nothing(rt: HostRuntime) {
+    let heap = Refusing::new(rt.alloc());
+    let mut ended_early = 0u64;
+    for number in 1..10_000 {
+        heap.refuse_only(number);
+        let mut reader = FakeReader::ending(JOINED.as_bytes());
+        let rooms = [1000, 1000];
+        let (status, writer, errors) = ended(&rt, &heap, &["play"], &mut reader, rooms);
+        if heap.requests() < number {
+            assert_eq!(rt; status, 0);
+            break;
+        }
+        let (printed, told) = match status {
+            0 => (REPORT, ""),
+            _ => ("", "presence_bench: out of memory\n"),
+        };
+        assert!(rt; status == 0 || status == 4, "request {number}");
+        assert_eq!(rt; writer.taken(), printed.as_bytes(), "request {number}");
+        assert_eq!(rt; errors.taken(), told.as_bytes(), "request {number}");
+        if status == 4 {
+            ended_early = ended_early.saturating_add(1);
+        }
+    }
+    assert!(rt; 10 <= ended_early && ended_early < 9_000);
+}

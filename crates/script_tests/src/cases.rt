@@ -3,7 +3,7 @@ use crate::tests::Case;
 
 const USUAL: [u64; 4] = [100_000, 10_000, 1_000_000, 10_000];
 
-pub const JOINED_AND_UNDONE: Case = Case {
+pub(crate) const JOINED_AND_UNDONE: Case = Case {
     name: "a join is taken back",
     limits: USUAL,
     script: "\
@@ -22,7 +22,7 @@ online a 0
 ",
 };
 
-pub const NOTHING_ASKED: Case = Case {
+pub(crate) const NOTHING_ASKED: Case = Case {
     name: "nothing is asked",
     limits: USUAL,
     script: "\
@@ -31,7 +31,7 @@ nodes a
     report: "",
 };
 
-pub const TAKEN_BACK_STEP_BY_STEP: Case = Case {
+pub(crate) const TAKEN_BACK_STEP_BY_STEP: Case = Case {
     name: "a delivered join is taken back step by step",
     limits: USUAL,
     script: "\
@@ -67,7 +67,7 @@ journal 1
 ",
 };
 
-pub const LATE_UP: Case = Case {
+pub(crate) const LATE_UP: Case = Case {
     name: "an up that comes after the delivery",
     limits: USUAL,
     script: "\
@@ -90,7 +90,7 @@ b deliver a 1
 ",
 };
 
-pub const UNWOUND: Case = Case {
+pub(crate) const UNWOUND: Case = Case {
     name: "an unwind over two nodes",
     limits: USUAL,
     script: "\
@@ -129,7 +129,7 @@ journal 1
 ",
 };
 
-pub const SENT_AGAIN: Case = Case {
+pub(crate) const SENT_AGAIN: Case = Case {
     name: "the number of an undone send is free",
     limits: USUAL,
     script: "\
@@ -158,7 +158,7 @@ undone 2
 ",
 };
 
-pub const DOT_IS_FREE: Case = Case {
+pub(crate) const DOT_IS_FREE: Case = Case {
     name: "the dot of an undone join is free",
     limits: USUAL,
     script: "\
@@ -191,7 +191,7 @@ online b 1
 ",
 };
 
-pub const OUT_OF_ORDER: Case = Case {
+pub(crate) const OUT_OF_ORDER: Case = Case {
     name: "messages out of order",
     limits: USUAL,
     script: "\
@@ -232,7 +232,7 @@ dots b up 0 -
 ",
 };
 
-pub const UPDATED: Case = Case {
+pub(crate) const UPDATED: Case = Case {
     name: "an update is delivered, and then the older message again",
     limits: USUAL,
     script: "\
@@ -269,7 +269,7 @@ no HasConsequence 6 by 7
 ",
 };
 
-pub const REFUSED: Case = Case {
+pub(crate) const REFUSED: Case = Case {
     name: "steps that are refused",
     limits: USUAL,
     script: "\
@@ -303,7 +303,7 @@ no OwnReplica
 ",
 };
 
-pub const FORGOTTEN: Case = Case {
+pub(crate) const FORGOTTEN: Case = Case {
     name: "a permdown is taken back",
     limits: USUAL,
     script: "\
@@ -340,7 +340,7 @@ undone 5
 ",
 };
 
-pub const NO_SUCH_STEP: Case = Case {
+pub(crate) const NO_SUCH_STEP: Case = Case {
     name: "undos of what does not remain",
     limits: USUAL,
     script: "\
@@ -367,7 +367,7 @@ no AlreadyUndone
 ",
 };
 
-pub const FULL_HISTORY: Case = Case {
+pub(crate) const FULL_HISTORY: Case = Case {
     name: "a full history refuses no undo",
     limits: [2, 10, 10, 10],
     script: "\
@@ -388,7 +388,7 @@ no AlreadyUndone
 ",
 };
 
-pub const SMALL_LIMITS: Case = Case {
+pub(crate) const SMALL_LIMITS: Case = Case {
     name: "each limit of a node is reached",
     limits: [100_000, 1, 2, 1],
     script: "\
@@ -415,7 +415,7 @@ no NothingToSend
 ",
 };
 
-pub const FULL_OF_ENTRIES: Case = Case {
+pub(crate) const FULL_OF_ENTRIES: Case = Case {
     name: "a full node takes a message once there is room",
     limits: [100_000, 1, 1_000_000, 10_000],
     script: "\
@@ -444,7 +444,7 @@ undone 4
 ",
 };
 
-pub const LEFT_AT_ONCE: Case = Case {
+pub(crate) const LEFT_AT_ONCE: Case = Case {
     name: "a process leaves all at once",
     limits: USUAL,
     script: "\
@@ -475,7 +475,7 @@ dots b unknown 0 -
 ",
 };
 
-pub const REMOVED_FIRST: Case = Case {
+pub(crate) const REMOVED_FIRST: Case = Case {
     name: "a removal comes before its join",
     limits: USUAL,
     script: "\
@@ -502,7 +502,7 @@ b deliver a 1
 ",
 };
 
-pub const CASES: [Case; 17] = [
+pub(crate) const CASES: [Case; 17] = [
     JOINED_AND_UNDONE,
     NOTHING_ASKED,
     TAKEN_BACK_STEP_BY_STEP,

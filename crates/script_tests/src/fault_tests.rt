@@ -2,6 +2,8 @@
 use crate::tests::played_from;
 use bench_core::Limits;
 use script_core::{FaultKind, PlayFault, ScriptFault, parse_script};
+use std::alloc::Global;
+use std::process::Abort;
 
 /// The script is refused with this fault, and nothing is written.
 fn is_refused(rt: &HostRuntime, script: &[u8], line: u64, kind: FaultKind) -> bool {
@@ -60,8 +62,15 @@ fn the_first_fault_is_told(rt: HostRuntime) {
 }
 
 /// The front, so many times the middle, and the end.
-fn repeated(rt: &HostRuntime, front: &str, times: usize, middle: &str, end: &str) -> String {
-    let mut text = String::from_str(rt.alloc(), front).expect(rt, "memory");
+fn repeated(
+    rt: &impl Abort,
+    alloc: Global,
+    front: &str,
+    times: usize,
+    middle: &str,
+    end: &str,
+) -> String {
+    let mut text = String::from_str(alloc, front).expect(rt, "memory");
     for _ in 0..times {
         text.push_str(middle).expect(rt, "memory");
     }
@@ -113,7 +122,7 @@ fn what_is_too_long_or_too_many_is_refused(rt: HostRuntime) {
             Some((0, FaultKind::TooLong)),
         ),
     ] {
-        let script = repeated(&rt, front, times, middle, end);
+        let script = repeated(&rt, rt.alloc(), front, times, middle, end);
         let answer = parse_script(rt.alloc(), script.as_bytes()).err();
         let fault = fault.map(|(line, kind)| ScriptFault { line, kind });
         assert_eq!(rt; answer, fault, "{front} {times}");

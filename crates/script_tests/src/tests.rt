@@ -9,6 +9,7 @@ use std::alloc::Allocator;
 use std::process::Abort;
 
 /// A script and its report, on a bench with these limits: of acts, entries, clocks and messages.
+#[derive(Clone, Copy)]
 pub(crate) struct Case {
     pub(crate) name: &'static str,
     pub(crate) limits: [u64; 4],
