@@ -1,0 +1,396 @@
+//! Dots, sets of names and sets of dots.
+ghost use Rattle.std.specs.Prelude.{◌<◌};
+
+use crate::rows::{holds, holds_at};
+use dots_core::{Dot, DotSet, NameSet, Oom, laws};
+use std::alloc::{Allocator, Global};
+use std::process::Abort;
+use test_alloc::Refusing;
+
+/// A name and a clock, and whether a set may hold that dot.
+const DOTS: [(&str, u16, u64, bool); 5] = [
+    ("the first", 0, 1, true),
+    ("the last", 31, 1_000_000_000, true),
+    ("a name past the last", 32, 1, false),
+    ("no clock", 0, 0, false),
+    ("a clock past the last", 31, 1_000_000_001, false),
+];
+
+#[test]
+fn a_dot_is_ok_in_its_range(rt: HostRuntime) {
+    for (row, name, clock, ok) in DOTS {
+        let dot = Dot { name, clock };
+        holds(&rt, dot.ok() == ok, row);
+    }
+}
+
+#[test]
+fn a_name_set_has_what_was_put_in(rt: HostRuntime) {
+    let names = NameSet::empty().with(0).with(31).with(7).without(7);
+    assert!(rt; names.has(0) && !names.has(7) && !names.has(30) && names.has(31));
+    assert!(rt; names.same(NameSet::empty().with(31).with(0)));
+    assert!(rt; !names.same(NameSet::empty()));
+}
+
+/// Puts the dot in, for which there is memory, and says whether it was new.
+pub fn puts_in<A: Allocator>(rt: &impl Abort, dots: &mut DotSet<A>, dot: Dot) -> bool {
+    assert!(rt; dot.ok());
+    dots.insert(dot).expect(rt, "a dot")
+}
+
+/// A set of dots of these names and clocks.
+pub fn set_of<A: Allocator + Copy>(rt: &impl Abort, alloc: A, pairs: &[(u16, u64)]) -> DotSet<A> {
+    let mut dots = DotSet::new(alloc);
+    for (name, clock) in pairs {
+        let dot = Dot {
+            name: *name,
+            clock: *clock,
+        };
+        puts_in(rt, &mut dots, dot);
+    }
+    dots
+}
+
+const THREE: [(u16, u64); 3] = [(0, 1), (0, 3), (0, 4)];
+
+/// An edit of a set of dots.
+#[derive(Clone, Copy)]
+enum Edit {
+    Insert(u16, u64),
+    Remove(u16, u64),
+    /// The union with two dots far above the others, of the names 0 and 1.
+    Union,
+}
+
+const FAR: [(u16, u64); 2] = [(0, 9), (1, 9)];
+
+/// Makes the edit, which is of a dot or of dots that change the set.
+fn edits<A: Allocator + Copy>(
+    rt: &impl Abort,
+    dots: &mut DotSet<A>,
+    far: &DotSet<A>,
+    edit: Edit,
+) -> Result<bool, Oom> {
+    match edit {
+        Edit::Insert(name, clock) => {
+            let dot = Dot { name, clock };
+            assert!(rt; dot.ok());
+            dots.insert(dot)
+        }
+        Edit::Remove(name, clock) => {
+            let dot = Dot { name, clock };
+            assert!(rt; dot.ok());
+            dots.remove(dot)
+        }
+        Edit::Union => {
+            dots.union_known(far, NameSet::empty().with(0).with(1), 2)?;
+            Ok(true)
+        }
+    }
+}
+
+#[test]
+fn a_set_has_what_was_inserted(rt: HostRuntime) {
+    let mut dots = DotSet::new(rt.alloc());
+    assert!(rt; dots.is_empty());
+    assert!(rt; puts_in(&rt, &mut dots, Dot { name: 1, clock: 2 }));
+    assert!(rt; puts_in(&rt, &mut dots, Dot { name: 0, clock: 1 }));
+    assert!(rt; !puts_in(&rt, &mut dots, Dot { name: 1, clock: 2 }));
+    assert!(rt;
+        dots.contains(Dot { name: 0, clock: 1 }) && dots.contains(Dot { name: 1, clock: 2 })
+    );
+    assert!(rt; !dots.contains(Dot { name: 1, clock: 1 }) && !dots.is_empty());
+    assert!(rt; has_copy(&rt, &dots));
+}
+
+/// Whether a copy has the same dots.
+fn has_copy<A: Allocator + Copy>(rt: &impl Abort, dots: &DotSet<A>) -> bool {
+    dots.try_copy().expect(rt, "a copy").same(dots)
+}
+
+/// Whether these are the context clock and the cloud of the name.
+pub fn is_seen<A: Allocator>(dots: &DotSet<A>, name: u16, clock: u64, cloud: &[u64]) -> bool
+    requires { name < 32 }
+{
+    dots.clock_of(name) == clock && dots.cloud_of(name) == cloud
+}
+
+/// Edits of one set in turn, each of which leaves this context clock and this cloud of name 0.
+const CLOUDS: [(Edit, u64, &[u64]); 5] = [
+    (Edit::Insert(0, 1), 1, &[]),
+    (Edit::Insert(0, 3), 1, &[3]),
+    (Edit::Insert(0, 4), 1, &[3, 4]),
+    (Edit::Insert(0, 2), 4, &[]),
+    (Edit::Remove(0, 2), 1, &[3, 4]),
+];
+
+#[test]
+fn a_cloud_goes_into_the_context_and_comes_back(rt: HostRuntime) {
+    let far = DotSet::new(rt.alloc());
+    let mut dots = DotSet::new(rt.alloc());
+    for (edit, clock, cloud) in CLOUDS {
+        assert!(rt; edits(&rt, &mut dots, &far, edit) == Ok(true));
+        assert!(rt; is_seen(&dots, 0, clock, cloud));
+    }
+}
+
+#[test]
+fn only_keeps_the_names_alone(rt: HostRuntime) {
+    let dots = set_of(&rt, rt.alloc(), &THREE);
+    let none = dots.only(NameSet::empty().with(1)).expect(&rt, "a part");
+    assert!(rt; none.is_empty());
+    let all = dots.only(NameSet::empty().with(0)).expect(&rt, "a part");
+    assert!(rt; all.same(&dots));
+}
+
+/// Whether the union of none with these dots, of the known names but the own one, has them all; else it has none.
+fn takes<A: Allocator + Copy>(
+    rt: &impl Abort,
+    alloc: A,
+    dots: &DotSet<A>,
+    known: NameSet,
+    own: u16,
+) -> bool {
+    assert!(rt; own < 32);
+    let mut union = DotSet::new(alloc);
+    union.union_known(dots, known, own).expect(rt, "a union");
+    assert!(rt; union.same(dots) || union.is_empty());
+    union.same(dots)
+}
+
+#[test]
+fn a_union_takes_the_known_names_but_the_own(rt: HostRuntime) {
+    let dots = set_of(&rt, rt.alloc(), &THREE);
+    let known = NameSet::empty().with(0);
+    assert!(rt; !takes(&rt, rt.alloc(), &dots, known, 0));
+    assert!(rt; takes(&rt, rt.alloc(), &dots, known, 1));
+    assert!(rt; !takes(&rt, rt.alloc(), &dots, known.without(0), 1));
+}
+
+#[test]
+fn a_union_merges_clouds(rt: HostRuntime) {
+    let mut dots = set_of(&rt, rt.alloc(), &[(5, 1), (5, 4), (5, 7)]);
+    let other = set_of(&rt, rt.alloc(), &[(5, 3), (5, 2), (5, 4), (5, 9)]);
+    let known = NameSet::empty().with(5);
+    dots.union_known(&other, known, 0).expect(&rt, "a union");
+    assert!(rt; is_seen(&dots, 5, 4, &[7, 9]));
+}
+
+#[test]
+fn a_part_restores_its_name(rt: HostRuntime) {
+    let dots = set_of(&rt, rt.alloc(), &THREE);
+    let part = dots.part_of(0).expect(&rt, "a part");
+    assert!(rt; part.clock == 1 && part.cloud.as_slice() == [3, 4].as_slice());
+    let mut restored = DotSet::new(rt.alloc());
+    restored.set_part(0, part);
+    assert!(rt; restored.same(&dots));
+    let part = restored.drop_name(0);
+    assert!(rt; restored.is_empty());
+    restored.set_part(0, part);
+    assert!(rt; restored.same(&dots));
+}
+
+#[test]
+fn each_law_can_be_called(rt: HostRuntime) {
+    let dots = DotSet::new(rt.alloc());
+    laws::one_part_law();
+    laws::part_law();
+    dots.valid_law();
+    assert!(rt; dots.is_empty());
+}
+
+/// Each of the 32 names has a dot above its context clock, in a part, a union and a copy too.
+#[test]
+fn each_name_below_32_has_its_dots(rt: HostRuntime) {
+    let mut dots = DotSet::new(rt.alloc());
+    let mut names = NameSet::empty();
+    for name in 0..32u16 {
+        assert!(rt; puts_in(&rt, &mut dots, Dot { name, clock: 2 }));
+        assert!(rt; is_seen(&dots, name, 0, &[2]));
+        names = names.with(name);
+    }
+    let others = dots.only(names.without(0)).expect(&rt, "a part");
+    assert!(rt; takes(&rt, rt.alloc(), &others, names, 0));
+    assert!(rt; has_copy(&rt, &dots));
+}
+
+type Heap = Refusing<Global>;
+
+/// Makes the edit with one request for memory refused. Says whether it was made, and then, that it met no refusal.
+fn is_made<'a>(
+    rt: &impl Abort,
+    heap: &'a Heap,
+    dots: &mut DotSet<&'a Heap>,
+    far: &DotSet<&'a Heap>,
+    edit: Edit,
+    number: u64,
+) -> bool {
+    heap.refuse_only(number);
+    let answer = edits(rt, dots, far, edit);
+    let requests = heap.requests();
+    heap.refuse_none();
+    assert!(rt; answer.is_ok() == (requests < number));
+    answer.is_ok()
+}
+
+/// The dots of a set, an edit of it, how often that is refused memory, and the dots then.
+type Refusal = (&'static [(u16, u64)], Edit, u64, &'static [(u16, u64)]);
+
+const REFUSALS: [Refusal; 3] = [
+    (
+        &THREE,
+        Edit::Insert(1, 2),
+        1,
+        &[(0, 1), (0, 3), (0, 4), (1, 2)],
+    ),
+    (
+        &[(0, 1), (0, 2), (0, 3), (0, 4)],
+        Edit::Remove(0, 2),
+        1,
+        &THREE,
+    ),
+    (
+        &THREE,
+        Edit::Union,
+        2,
+        &[(0, 1), (0, 3), (0, 4), (0, 9), (1, 9)],
+    ),
+];
+
+/// Makes the edit with its first, second, .. request for memory refused, until it meets none. Each refused one leaves the
+/// set as it was. Gives how many were refused.
+fn refused_in_turn<'a>(
+    rt: &impl Abort,
+    heap: &'a Heap,
+    dots: &mut DotSet<&'a Heap>,
+    far: &DotSet<&'a Heap>,
+    edit: Edit,
+) -> u64 {
+    let before = dots.try_copy().expect(rt, "a copy");
+    for number in 1..100 {
+        if is_made(rt, heap, dots, far, edit, number) {
+            return number - 1;
+        }
+        holds_at(rt, dots.same(&before), number);
+    }
+    100
+}
+
+#[test]
+fn a_refused_edit_changes_nothing(rt: HostRuntime) {
+    let heap = Refusing::new(rt.alloc());
+    let far = set_of(&rt, &heap, &FAR);
+    for refusal in REFUSALS {
+        assert!(rt; is_refused_in_turn(&rt, &heap, &far, refusal));
+    }
+}
+
+/// Whether the edit is refused so often, and then leaves these dots.
+fn is_refused_in_turn<'a>(
+    rt: &impl Abort,
+    heap: &'a Heap,
+    far: &DotSet<&'a Heap>,
+    refusal: Refusal,
+) -> bool {
+    let (before, edit, refusals, after) = refusal;
+    let mut dots = set_of(rt, heap, before);
+    refused_in_turn(rt, heap, &mut dots, far, edit) == refusals
+        && dots.same(&set_of(rt, heap, after))
+}
+
+#[test]
+fn refused_copies_are_errors(rt: HostRuntime) {
+    let heap = Refusing::new(rt.alloc());
+    let dots = set_of(&rt, &heap, &THREE);
+    heap.refuse_from(1);
+    assert!(rt; dots.only(NameSet::empty().with(0)).is_err());
+    assert!(rt; dots.part_of(0).is_err());
+    assert!(rt; dots.try_copy().is_err());
+    assert!(rt; heap.requests() == 3);
+}
+
+#[test]
+fn reads_and_the_empty_set_take_no_memory(rt: HostRuntime) {
+    let heap = Refusing::new(rt.alloc());
+    let mut dots = set_of(&rt, &heap, &THREE);
+    heap.refuse_from(1);
+    let empty = DotSet::new(&heap);
+    assert!(rt; empty.is_empty() && !dots.same(&empty) && has_copy(&rt, &empty));
+    let there = Dot { name: 0, clock: 3 };
+    assert!(rt; dots.contains(there) && !puts_in(&rt, &mut dots, there));
+    assert!(rt; heap.requests() == 0);
+}
+
+#[test]
+fn what_grows_no_cloud_takes_no_memory(rt: HostRuntime) {
+    let heap = Refusing::new(rt.alloc());
+    let mut dots = set_of(&rt, &heap, &THREE);
+    let copy = dots.try_copy().expect(&rt, "a copy");
+    heap.refuse_from(1);
+    assert!(rt; takes_again(&rt, &mut dots, &copy));
+    assert!(rt; grows_its_context(&rt, &mut dots));
+    assert!(rt; heap.requests() == 0);
+}
+
+/// Fills the gap, goes on from there, and goes out and in again; the part of no name is empty.
+fn grows_its_context<A: Allocator + Copy>(rt: &impl Abort, dots: &mut DotSet<A>) -> bool {
+    let fills = puts_in(rt, dots, Dot { name: 0, clock: 2 });
+    let goes_on = puts_in(rt, dots, Dot { name: 0, clock: 5 });
+    let part = dots.drop_name(0);
+    let is_out = dots.is_empty();
+    dots.set_part(0, part);
+    let none = dots.only(NameSet::empty()).expect(rt, "a part");
+    fills && goes_on && is_out && none.is_empty() && is_seen(dots, 0, 5, &[])
+}
+
+/// Takes nothing new in, and takes the dot at the context clock out and in again.
+fn takes_again<A: Allocator + Copy>(
+    rt: &impl Abort,
+    dots: &mut DotSet<A>,
+    same: &DotSet<A>,
+) -> bool {
+    let last = Dot { name: 0, clock: 1 };
+    let known = NameSet::empty().with(0);
+    dots.union_known(same, known, 1).expect(rt, "a union");
+    let was_there = dots.remove(last).expect(rt, "a removal");
+    let is_new = puts_in(rt, dots, last);
+    was_there && is_new && dots.same(same)
+}
+
+/// Puts many dots of the name 1 in, which lie far apart from the others.
+fn grows_its_cloud<A: Allocator>(rt: &impl Abort, dots: &mut DotSet<A>) {
+    for clock in 11..=30u8 {
+        let clock = u64::from(clock);
+        assert!(rt; puts_in(rt, dots, Dot { name: 1, clock }));
+    }
+}
+
+/// A union takes its memory of the set that grows, and none of the other's.
+#[test]
+fn a_union_takes_the_memory_of_the_set_that_grows(rt: HostRuntime) {
+    let own = Refusing::new(rt.alloc());
+    let others = Refusing::new(rt.alloc());
+    let mut dots = set_of(&rt, &own, &THREE);
+    let far = set_of(&rt, &others, &FAR);
+    own.refuse_none();
+    others.refuse_from(1);
+    assert!(rt; edits(&rt, &mut dots, &far, Edit::Union).is_ok());
+    assert!(rt; own.requests() == 2);
+    grows_its_cloud(&rt, &mut dots);
+    assert!(rt; own.requests() > 2 && others.requests() == 0);
+}
+
+/// A part takes its memory, and what it grows by, of the set that it is a part of.
+#[test]
+fn a_part_keeps_the_memory_of_its_set(rt: HostRuntime) {
+    let own = Refusing::new(rt.alloc());
+    let others = Refusing::new(rt.alloc());
+    let dots = set_of(&rt, &own, &THREE);
+    let other = set_of(&rt, &others, &THREE);
+    own.refuse_none();
+    others.refuse_from(1);
+    let mut part = dots.only(NameSet::empty().with(0)).expect(&rt, "a part");
+    assert!(rt; other.only(NameSet::empty().with(0)).is_err());
+    grows_its_cloud(&rt, &mut part);
+    assert!(rt; own.requests() > 1 && others.requests() == 1);
+}

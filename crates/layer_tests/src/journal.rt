@@ -1,0 +1,269 @@
+//! Journals: that they take steps with ample memory, in worked rows; and that they are as they were where memory is refused.
+//! A journal reads no inverse, so that of any step stands beside each.
+ghost use Rattle.std.specs.Prelude.{◌≡◌, ◌<◌, ◌≤◌, ◌++◌, ◌∷◌, [], None, Some, false};
+ghost use Rattle.node_core.specs.Operations.{delivers, plain, sends};
+ghost use Rattle.node_core.specs.Inverses.{plain_inverse};
+ghost use Rattle.journal_core.specs.Journals.{first_consequence};
+ghost use Rattle.journal_core.specs.Holdings.{AreAllHeld, CanBeKept, kepts, without_held};
+
+use crate::rows::holds_at;
+use crate::words::word;
+use dots_core::NameSet;
+use journal_core::{Journal, laws};
+use node_core::{Inverse, Meter, Node, NodeLimits, Step};
+use std::alloc::{Allocator, Global};
+use std::process::Abort;
+use test_alloc::Refusing;
+
+type Heap = Refusing<Global>;
+
+/// A journal of so many nodes, without a step.
+fn opened<'a, B: Allocator>(rt: &impl Abort, alloc: &'a B, nodes: u16) -> Journal<'a, B>
+    requires { nodes ≤ 32 }
+    ensures nodes { result.nodes ≡ nodes }
+    ensures steps { result.steps ≡ [] }
+{
+    Journal::new(alloc, nodes).expect(rt, "a journal")
+}
+
+fn join<'a, B: Allocator>(rt: &impl Abort, alloc: &'a B) -> Step<&'a B>
+    ensures delivers { delivers (plain result) ≡ None }
+    ensures sends { sends (plain result) ≡ false }
+{
+    Step::Join {
+        pid: 1,
+        topic: word(rt, alloc, "r"),
+        key: word(rt, alloc, "alice"),
+        metadata: word(rt, alloc, "phone"),
+    }
+}
+
+/// The inverse of a step that some node took.
+fn inverse<'a, B: Allocator>(rt: &impl Abort, alloc: &'a B) -> Inverse<&'a B> {
+    let limits = NodeLimits {
+        entries: 10,
+        clock: 10,
+        messages: 10,
+    };
+    let mut node = Node::new(alloc, 0, limits);
+    let step = Step::Up { name: 1 };
+    let taken = node.take(&step, None, &mut Meter::new());
+    taken.expect(rt, "an inverse")
+}
+
+fn keeps<'a, B: Allocator>(
+    rt: &impl Abort,
+    journal: &mut Journal<'a, B>,
+    number: u64,
+    node: u16,
+    step: Step<&'a B>,
+    inverse: Inverse<&'a B>,
+)
+    requires { CanBeKept journal.old number node (plain step) }
+    ensures nodes { journal.new.nodes ≡ journal.old.nodes }
+    ensures steps { journal.new.steps ≡ journal.old.steps ++ (record { kept = record { number = number; node = node; step = plain step.entry }; inverse = Some (plain_inverse inverse.entry) }) ∷ [] }
+{
+    let is_kept = journal.keep(number, node, step, inverse).is_ok();
+    assert!(rt; is_kept);
+}
+
+/// A join of node 0, an up of node 1, a broadcast of node 0, and its delivery to node 1.
+fn four_steps<'a, B: Allocator>(rt: &impl Abort, alloc: &'a B) -> Journal<'a, B>
+    ensures { result.nodes ≡ 2 }
+{
+    let mut journal = opened(rt, alloc, 2);
+    keeps(rt, &mut journal, 1, 0, join(rt, alloc), inverse(rt, alloc));
+    let up = Step::Up { name: 0 };
+    keeps(rt, &mut journal, 2, 1, up, inverse(rt, alloc));
+    keeps(rt, &mut journal, 3, 0, Step::Broadcast, inverse(rt, alloc));
+    let delivery = Step::Deliver {
+        sender: 0,
+        number: 1,
+    };
+    keeps(rt, &mut journal, 4, 1, delivery, inverse(rt, alloc));
+    journal
+}
+
+const CONSEQUENCES: [(u64, Option<u64>); 4] = [(1, Some(3)), (2, Some(4)), (3, Some(4)), (4, None)];
+
+/// Whether each of four steps has its consequence, and each node its last step.
+fn follow<'a, B: Allocator>(journal: &Journal<'a, B>) -> bool
+    requires { journal.now.nodes ≡ 2 }
+{
+    for (number, held_by) in CONSEQUENCES {
+        if journal.first_consequence(number) != held_by {
+            return false;
+        }
+    }
+    journal.last_of(0) == Some(3) && journal.last_of(1) == Some(4)
+}
+
+#[test]
+fn a_delivery_follows_from_its_send(rt: HostRuntime) {
+    let heap = rt.alloc();
+    let journal = four_steps(&rt, &heap);
+    assert!(rt; follow(&journal));
+}
+
+const FUTURES: [(u64, &[u64]); 3] = [(1, &[4, 3, 1]), (2, &[4, 2]), (5, &[])];
+
+/// Whether this is the future of the step.
+fn has_future<'a, B: Allocator>(journal: &Journal<'a, B>, number: u64, expected: &[u64]) -> bool {
+    match journal.future(number) {
+        Ok(numbers) => numbers.as_slice() == expected,
+        Err(_) => false,
+    }
+}
+
+#[test]
+fn a_future_goes_all_the_way(rt: HostRuntime) {
+    let heap = rt.alloc();
+    let journal = four_steps(&rt, &heap);
+    for (number, expected) in FUTURES {
+        holds_at(&rt, has_future(&journal, number, expected), number);
+    }
+}
+
+/// Whether the future of step 1, with this request for memory refused, is had where it met no refusal.
+fn is_told<'a>(heap: &'a Heap, journal: &Journal<'a, Heap>, number: u64) -> bool {
+    heap.refuse_only(number);
+    let is_had = journal.future(1).is_ok();
+    let requests = heap.requests();
+    heap.refuse_none();
+    0 < requests && is_had == (requests < number)
+}
+
+#[test]
+fn a_future_that_is_refused_memory_is_an_error(rt: HostRuntime) {
+    let heap = Refusing::new(rt.alloc());
+    let journal = four_steps(&rt, &heap);
+    for number in 1..8 {
+        holds_at(&rt, is_told(&heap, &journal, number), number);
+    }
+    assert!(rt; has_future(&journal, 1, &[4, 3, 1]));
+}
+
+fn lends_and_puts_back<'a, B: Allocator>(rt: &impl Abort, journal: &mut Journal<'a, B>, number: u64)
+    requires { AreAllHeld journal.old.steps }
+    ensures { journal.new ≡ journal.old }
+{
+    laws::loan_law();
+    let inverse = journal.lend(number).expect(rt, "a step");
+    journal.put_back(number, inverse);
+}
+
+fn lends_and_takes_out<'a, B: Allocator>(rt: &impl Abort, journal: &mut Journal<'a, B>, number: u64)
+    requires held { AreAllHeld journal.old.steps }
+    requires free { first_consequence (kepts journal.old.steps) number ≡ None }
+    ensures nodes { journal.new.nodes ≡ journal.old.nodes }
+    ensures steps { journal.new.steps ≡ without_held journal.old.steps number }
+{
+    laws::loan_law();
+    let inverse = journal.lend(number).expect(rt, "a step");
+    drop(inverse);
+    journal.take_out(number);
+}
+
+/// A send, whose inverse is lent and put back.
+fn one_send<'a, B: Allocator>(rt: &impl Abort, alloc: &'a B) -> Journal<'a, B> {
+    let mut journal = opened(rt, alloc, 2);
+    let send = Step::Extract {
+        names: NameSet::empty(),
+    };
+    keeps(rt, &mut journal, 1, 0, send, inverse(rt, alloc));
+    lends_and_puts_back(rt, &mut journal, 1);
+    journal
+}
+
+/// A send that is taken out again.
+fn an_undone_send<'a, B: Allocator>(rt: &impl Abort, alloc: &'a B) -> Journal<'a, B>
+    ensures nodes { result.nodes ≡ 2 }
+    ensures steps { result.steps ≡ [] }
+{
+    let mut journal = opened(rt, alloc, 2);
+    let send = Step::Extract {
+        names: NameSet::empty(),
+    };
+    keeps(rt, &mut journal, 1, 0, send, inverse(rt, alloc));
+    lends_and_takes_out(rt, &mut journal, 1);
+    journal
+}
+
+/// After a send that was taken out: another send, and a delivery of its node's first message.
+fn a_second_send<'a, B: Allocator>(rt: &impl Abort, alloc: &'a B) -> Journal<'a, B> {
+    let mut journal = an_undone_send(rt, alloc);
+    keeps(rt, &mut journal, 2, 0, Step::Broadcast, inverse(rt, alloc));
+    let up = Step::Up { name: 0 };
+    keeps(rt, &mut journal, 3, 1, up, inverse(rt, alloc));
+    let delivery = Step::Deliver {
+        sender: 0,
+        number: 1,
+    };
+    keeps(rt, &mut journal, 4, 1, delivery, inverse(rt, alloc));
+    journal
+}
+
+#[test]
+fn an_undone_send_frees_its_number(rt: HostRuntime) {
+    let heap = rt.alloc();
+    let journal = a_second_send(&rt, &heap);
+    assert!(rt; journal.first_consequence(1) == None);
+    assert!(rt; journal.first_consequence(2) == Some(4));
+}
+
+/// Whether step 1, of node 0, is the first.
+fn has_first<'a, B: Allocator>(journal: &Journal<'a, B>) -> bool {
+    match (journal.at(0), journal.find(1)) {
+        (Some(first), Some(found)) => first.number == 1 && found.node == 0,
+        _ => false,
+    }
+}
+
+#[test]
+fn a_loan_ends_in_two_ways(rt: HostRuntime) {
+    let heap = rt.alloc();
+    assert!(rt; has_first(&one_send(&rt, &heap)));
+    let journal = an_undone_send(&rt, &heap);
+    assert!(rt; journal.len() == 0 && journal.find(1).is_none());
+}
+
+/// A step of the last of 32 nodes is its last one.
+#[test]
+fn each_of_32_nodes_has_its_steps(rt: HostRuntime) {
+    let heap = rt.alloc();
+    let mut journal = opened(&rt, &heap, 32);
+    keeps(
+        &rt,
+        &mut journal,
+        1,
+        31,
+        Step::Broadcast,
+        inverse(&rt, &heap),
+    );
+    assert!(rt; journal.last_of(31) == Some(1));
+}
+
+#[test]
+fn a_step_that_is_refused_memory_is_not_kept(rt: HostRuntime) {
+    let heap = Refusing::new(rt.alloc());
+    let mut journal = opened(&rt, &heap, 2);
+    let inverse = inverse(&rt, &heap);
+    heap.refuse_from(1);
+    assert!(rt; Journal::new(&heap, 2).is_err() == (heap.requests() > 0));
+    assert!(rt; journal.make_room(0, &Step::Broadcast).is_err());
+    assert!(rt; journal.keep(1, 0, Step::Broadcast, inverse).is_err());
+    assert!(rt; journal.len() == 0);
+}
+
+/// Room that was made for a step stays while room is made for another.
+#[test]
+fn a_step_with_room_needs_no_memory(rt: HostRuntime) {
+    let heap = Refusing::new(rt.alloc());
+    let mut journal = opened(&rt, &heap, 2);
+    let inverse = inverse(&rt, &heap);
+    assert!(rt; journal.make_room(0, &Step::Broadcast).is_ok());
+    assert!(rt; journal.make_room(1, &Step::Up { name: 0 }).is_ok());
+    heap.refuse_from(1);
+    assert!(rt; journal.keep(1, 0, Step::Broadcast, inverse).is_ok());
+    assert!(rt; heap.requests() == 0 && journal.len() == 1);
+}

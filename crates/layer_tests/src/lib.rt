@@ -1,0 +1,20 @@
+//! Tests of `dots_core`, `payload_core`, `replica_core`, `node_core` and `journal_core`, in a crate of their own, so that those
+//! crates are proved once. It has no code but these tests.
+//!
+//! Each says what no clause can: that calls succeed with memory, what a refusal of memory leaves, which calls take none, and
+//! whose memory is taken; and worked rows, for whether the clauses say what was meant. `dots` and `words` come first, whose
+//! helpers the others use.
+#![tactic(auto)]
+
+#[cfg(test)]
+mod dots;
+#[cfg(test)]
+mod journal;
+#[cfg(test)]
+mod node;
+#[cfg(test)]
+mod replica;
+#[cfg(test)]
+mod rows;
+#[cfg(test)]
+mod words;

@@ -1,0 +1,488 @@
+//! Steps and nodes: that each step is copied, succeeds with ample memory, is taken back, and changes nothing where memory is
+//! refused.
+ghost use Rattle.std.specs.Prelude.{◌<◌};
+ghost use Rattle.replica_core.specs.Limits.{AreNodeLimits};
+ghost use Rattle.node_core.specs.Operations.{AreNames, plain};
+
+use crate::rows::holds;
+use crate::words::word;
+use dots_core::NameSet;
+use node_core::{Meter, Node, NodeLimits, Step, StepFault};
+use payload_core::Payload;
+use replica_core::Replica;
+use std::alloc::{Allocator, Global};
+use std::process::Abort;
+use test_alloc::Refusing;
+
+type Heap = Refusing<Global>;
+
+const USUAL: NodeLimits = NodeLimits {
+    entries: 10,
+    clock: 10,
+    messages: 10,
+};
+
+/// One of two nodes, of the first name and the last.
+#[derive(Clone, Copy)]
+enum Side {
+    Here,
+    There,
+}
+
+impl Side {
+    fn name(self) -> u16
+        ensures { result < 32 }
+    {
+        match self {
+            Side::Here => 0,
+            Side::There => 31,
+        }
+    }
+}
+
+/// A step in a table.
+#[derive(Clone, Copy)]
+enum Ask {
+    Join(u64),
+    Leave(u64),
+    LeaveAll(u64),
+    Update(u64),
+    Broadcast,
+    Extract(Side),
+    Deliver(Side),
+    Up(Side),
+    Down(Side),
+    Permdown(Side),
+}
+
+/// A step, and its fault where it is refused.
+type Row = (Ask, Option<StepFault>);
+
+impl Ask {
+    fn step<A: Allocator + Copy>(self, rt: &impl Abort, alloc: A) -> Step<A>
+        ensures { AreNames (plain result) }
+    {
+        match self {
+            Ask::Join(pid) => join(rt, alloc, pid),
+            Ask::Leave(pid) => leave(rt, alloc, pid),
+            Ask::LeaveAll(pid) => Step::LeaveAll { pid },
+            Ask::Update(pid) => update(rt, alloc, pid),
+            Ask::Broadcast => Step::Broadcast,
+            Ask::Extract(side) => Step::Extract {
+                names: NameSet::empty().with(side.name()),
+            },
+            Ask::Deliver(side) => Step::Deliver {
+                sender: side.name(),
+                number: 1,
+            },
+            Ask::Up(side) => Step::Up { name: side.name() },
+            Ask::Down(side) => Step::Down { name: side.name() },
+            Ask::Permdown(side) => Step::Permdown { name: side.name() },
+        }
+    }
+}
+
+fn join<A: Allocator + Copy>(rt: &impl Abort, alloc: A, pid: u64) -> Step<A>
+    ensures { AreNames (plain result) }
+{
+    Step::Join {
+        pid,
+        topic: word(rt, alloc, "r"),
+        key: word(rt, alloc, "alice"),
+        metadata: word(rt, alloc, "phone"),
+    }
+}
+
+fn leave<A: Allocator + Copy>(rt: &impl Abort, alloc: A, pid: u64) -> Step<A>
+    ensures { AreNames (plain result) }
+{
+    Step::Leave {
+        pid,
+        topic: word(rt, alloc, "r"),
+        key: word(rt, alloc, "alice"),
+    }
+}
+
+fn update<A: Allocator + Copy>(rt: &impl Abort, alloc: A, pid: u64) -> Step<A>
+    ensures { AreNames (plain result) }
+{
+    Step::Update {
+        pid,
+        topic: word(rt, alloc, "r"),
+        key: word(rt, alloc, "alice"),
+        metadata: word(rt, alloc, "away"),
+    }
+}
+
+/// Some steps of a node that is never given a message, with their faults.
+struct Case {
+    name: &'static str,
+    limits: NodeLimits,
+    rows: &'static [Row],
+}
+
+const SENDS: [Row; 10] = [
+    (Ask::Broadcast, Some(StepFault::NothingToSend)),
+    (Ask::Join(1), None),
+    (Ask::Join(1), Some(StepFault::AlreadyTracked)),
+    (Ask::Broadcast, None),
+    (Ask::Broadcast, Some(StepFault::NothingToSend)),
+    (Ask::Deliver(Side::Here), Some(StepFault::OwnMessage)),
+    (Ask::Deliver(Side::There), Some(StepFault::NoSuchMessage)),
+    (Ask::Up(Side::There), None),
+    (Ask::Up(Side::There), None),
+    (Ask::Up(Side::Here), Some(StepFault::OwnReplica)),
+];
+
+const LEAVES: [Row; 9] = [
+    (Ask::Leave(1), Some(StepFault::NotTracked)),
+    (Ask::LeaveAll(1), Some(StepFault::NotTracked)),
+    (Ask::Update(1), Some(StepFault::NotTracked)),
+    (Ask::Join(1), None),
+    (Ask::Update(1), None),
+    (Ask::Leave(1), None),
+    (Ask::Join(1), None),
+    (Ask::LeaveAll(1), None),
+    (Ask::Leave(1), Some(StepFault::NotTracked)),
+];
+
+const STATUSES: [Row; 10] = [
+    (Ask::Down(Side::Here), Some(StepFault::OwnReplica)),
+    (Ask::Permdown(Side::Here), Some(StepFault::OwnReplica)),
+    (Ask::Down(Side::There), Some(StepFault::NotKnown)),
+    (Ask::Permdown(Side::There), Some(StepFault::NotKnown)),
+    (Ask::Up(Side::There), None),
+    (Ask::Permdown(Side::There), Some(StepFault::NotDown)),
+    (Ask::Down(Side::There), None),
+    (Ask::Down(Side::There), None),
+    (Ask::Permdown(Side::There), None),
+    (Ask::Down(Side::There), Some(StepFault::NotKnown)),
+];
+
+const FULL_CLOCK: [Row; 8] = [
+    (Ask::Join(1), None),
+    (Ask::Join(2), Some(StepFault::ClockFull)),
+    (Ask::Leave(1), Some(StepFault::ClockFull)),
+    (Ask::LeaveAll(1), Some(StepFault::ClockFull)),
+    (Ask::Update(1), Some(StepFault::ClockFull)),
+    (Ask::Leave(2), Some(StepFault::NotTracked)),
+    (Ask::Broadcast, None),
+    (Ask::Broadcast, Some(StepFault::NothingToSend)),
+];
+
+const FULL_NODE: [Row; 6] = [
+    (Ask::Join(1), None),
+    (Ask::Join(1), Some(StepFault::AlreadyTracked)),
+    (Ask::Join(2), Some(StepFault::EntriesFull)),
+    (Ask::Extract(Side::There), None),
+    (Ask::Extract(Side::Here), Some(StepFault::OutboxFull)),
+    (Ask::Broadcast, Some(StepFault::OutboxFull)),
+];
+
+const CASES: [Case; 5] = [
+    Case {
+        name: "each fault has its step",
+        limits: USUAL,
+        rows: &SENDS,
+    },
+    Case {
+        name: "a process is tracked until it leaves",
+        limits: USUAL,
+        rows: &LEAVES,
+    },
+    Case {
+        name: "a name is forgotten only when it is down",
+        limits: USUAL,
+        rows: &STATUSES,
+    },
+    Case {
+        name: "a full clock refuses each fresh dot",
+        limits: NodeLimits {
+            entries: 2,
+            clock: 1,
+            messages: 1,
+        },
+        rows: &FULL_CLOCK,
+    },
+    Case {
+        name: "a full node refuses in order",
+        limits: NodeLimits {
+            entries: 1,
+            clock: 1,
+            messages: 1,
+        },
+        rows: &FULL_NODE,
+    },
+];
+
+/// A step of each kind.
+const KINDS: [Ask; 10] = [
+    Ask::Join(1),
+    Ask::Leave(1),
+    Ask::LeaveAll(1),
+    Ask::Update(1),
+    Ask::Broadcast,
+    Ask::Extract(Side::There),
+    Ask::Deliver(Side::There),
+    Ask::Up(Side::There),
+    Ask::Down(Side::There),
+    Ask::Permdown(Side::There),
+];
+
+/// Copies the step with its first, second, .. request for memory refused, until it meets none: each refused copy is an error.
+/// Gives how many were refused.
+fn refused_copies<'a>(rt: &impl Abort, heap: &'a Heap, step: &Step<&'a Heap>) -> u64 {
+    for number in 1..10 {
+        heap.refuse_only(number);
+        let copy = step.try_copy();
+        let requests = heap.requests();
+        heap.refuse_none();
+        assert!(rt; copy.is_ok() == (requests < number));
+        if let Ok(copy) = copy {
+            assert!(rt; copy.same(step));
+            return number - 1;
+        }
+    }
+    10
+}
+
+/// A step has as many words as this.
+fn words_in(ask: Ask) -> u64 {
+    match ask {
+        Ask::Join(_) | Ask::Update(_) => 3,
+        Ask::Leave(_) => 2,
+        _ => 0,
+    }
+}
+
+#[test]
+fn a_step_is_copied_with_a_request_for_each_word(rt: HostRuntime) {
+    let heap = Refusing::new(rt.alloc());
+    for ask in KINDS {
+        let step = ask.step(&rt, &heap);
+        assert!(rt; refused_copies(&rt, &heap, &step) == words_in(ask));
+    }
+}
+
+fn in_range(rt: &impl Abort, limits: NodeLimits) -> NodeLimits
+    ensures { AreNodeLimits result }
+{
+    assert!(rt; 1 <= limits.entries && limits.entries <= 100_000);
+    assert!(rt; 1 <= limits.clock && limits.clock <= 1_000_000_000);
+    assert!(rt; 1 <= limits.messages && limits.messages <= 100_000);
+    limits
+}
+
+/// The fault of a step, which counts where it is accepted.
+fn fault_of<'a, B: Allocator>(
+    rt: &impl Abort,
+    alloc: &'a B,
+    node: &mut Node<'a, B>,
+    ask: Ask,
+) -> Option<StepFault> {
+    let step = ask.step(rt, alloc);
+    let mut meter = Meter::new();
+    let fault = node.take(&step, None, &mut meter).err();
+    drop(step);
+    assert!(rt; (meter.count() == 1) == fault.is_none());
+    fault
+}
+
+fn has_faults<'a, B: Allocator>(rt: &impl Abort, alloc: &'a B, case: &Case) {
+    let mut node = Node::new(alloc, 0, in_range(rt, case.limits));
+    for (ask, expected) in case.rows {
+        let fault = fault_of(rt, alloc, &mut node, *ask);
+        holds(rt, fault == *expected, case.name);
+    }
+}
+
+#[test]
+fn steps_have_their_faults(rt: HostRuntime) {
+    let heap = rt.alloc();
+    for case in &CASES {
+        has_faults(&rt, &heap, case);
+    }
+}
+
+fn joins<'a, B: Allocator>(rt: &impl Abort, alloc: &'a B, replica: &mut Replica<&'a B>) {
+    let word = word(rt, alloc, "r");
+    let change = replica.join(1, &word, &word, &word).expect(rt, "a join");
+    drop(change);
+}
+
+/// The message of the node there that tells of its process 1.
+fn message<'a, B: Allocator>(rt: &impl Abort, alloc: &'a B) -> Payload<&'a B> {
+    let mut replica = Replica::opening(alloc, Side::There.name(), USUAL);
+    joins(rt, alloc, &mut replica);
+    replica.take_delta().expect(rt, "a message")
+}
+
+/// Takes a step for which memory and the message are there.
+fn takes<'a>(
+    rt: &impl Abort,
+    heap: &'a Heap,
+    node: &mut Node<'a, Heap>,
+    ask: Ask,
+    message: &Payload<&'a Heap>,
+) {
+    let step = ask.step(rt, heap);
+    let mut meter = Meter::new();
+    let inverse = node.take(&step, Some(message), &mut meter);
+    assert!(rt; inverse.is_ok());
+}
+
+/// Takes the step, and takes it back with this request for memory and all later ones refused: the node is as it was.
+fn taken_back<'a>(
+    rt: &impl Abort,
+    heap: &'a Heap,
+    node: &mut Node<'a, Heap>,
+    ask: Ask,
+    message: &Payload<&'a Heap>,
+    number: u64,
+) {
+    let step = ask.step(rt, heap);
+    let before = node.try_copy().expect(rt, "a copy");
+    let mut meter = Meter::new();
+    let taken = node.take(&step, Some(message), &mut meter);
+    let inverse = taken.expect(rt, "an inverse");
+    assert!(rt; !node.same(&before));
+    heap.refuse_from(number);
+    let done = node.give_back(inverse).is_ok();
+    heap.refuse_none();
+    assert!(rt; done);
+    assert!(rt; node.same(&before));
+}
+
+/// What node 0 is asked in turn: to take a step, or to take it and take it back.
+#[derive(Clone, Copy)]
+enum Turn {
+    There(Ask),
+    Back(Ask),
+}
+
+/// The outbox is empty until the broadcast that is not taken back, and holds a message from then on.
+const TURNS: [Turn; 24] = [
+    Turn::Back(Ask::Up(Side::There)),
+    Turn::There(Ask::Join(1)),
+    Turn::There(Ask::Up(Side::There)),
+    Turn::Back(Ask::Join(2)),
+    Turn::Back(Ask::Leave(1)),
+    Turn::Back(Ask::LeaveAll(1)),
+    Turn::Back(Ask::Update(1)),
+    Turn::Back(Ask::Broadcast),
+    Turn::Back(Ask::Extract(Side::Here)),
+    Turn::Back(Ask::Deliver(Side::There)),
+    Turn::Back(Ask::Down(Side::There)),
+    Turn::There(Ask::Broadcast),
+    Turn::There(Ask::Join(2)),
+    Turn::Back(Ask::Join(3)),
+    Turn::Back(Ask::Leave(1)),
+    Turn::Back(Ask::LeaveAll(2)),
+    Turn::Back(Ask::Update(1)),
+    Turn::Back(Ask::Broadcast),
+    Turn::Back(Ask::Extract(Side::Here)),
+    Turn::Back(Ask::Deliver(Side::There)),
+    Turn::Back(Ask::Down(Side::There)),
+    Turn::There(Ask::Deliver(Side::There)),
+    Turn::There(Ask::Down(Side::There)),
+    Turn::Back(Ask::Permdown(Side::There)),
+];
+
+fn each_is_taken_back<'a>(rt: &impl Abort, heap: &'a Heap, number: u64) {
+    let message = message(rt, heap);
+    let mut node = Node::new(heap, 0, USUAL);
+    for turn in &TURNS {
+        match turn {
+            Turn::There(ask) => takes(rt, heap, &mut node, *ask, &message),
+            Turn::Back(ask) => taken_back(rt, heap, &mut node, *ask, &message, number),
+        }
+    }
+}
+
+#[test]
+fn each_step_is_taken_back(rt: HostRuntime) {
+    let heap = Refusing::new(rt.alloc());
+    each_is_taken_back(&rt, &heap, u64::MAX);
+}
+
+#[test]
+fn a_step_is_taken_back_without_memory(rt: HostRuntime) {
+    let heap = Refusing::new(rt.alloc());
+    each_is_taken_back(&rt, &heap, 1);
+}
+
+/// The fault of the step with this request for memory refused.
+fn fault_without<'a>(
+    heap: &'a Heap,
+    node: &mut Node<'a, Heap>,
+    step: &Step<&'a Heap>,
+    message: &Payload<&'a Heap>,
+    number: u64,
+) -> Option<StepFault>
+    requires { AreNames (plain step.now) }
+{
+    let mut meter = Meter::new();
+    heap.refuse_only(number);
+    let fault = node.take(step, Some(message), &mut meter).err();
+    heap.refuse_none();
+    fault
+}
+
+/// Takes the step with its first, second, .. request for memory refused, until it meets none: each refused one leaves the
+/// node as it was.
+fn is_refused_in_turn<'a>(
+    rt: &impl Abort,
+    heap: &'a Heap,
+    node: &mut Node<'a, Heap>,
+    step: &Step<&'a Heap>,
+    message: &Payload<&'a Heap>,
+) -> bool
+    requires { AreNames (plain step.now) }
+{
+    let before = node.try_copy().expect(rt, "a copy");
+    for number in 1..100 {
+        match fault_without(heap, node, step, message, number) {
+            Some(fault) => assert!(rt; fault == StepFault::OutOfMemory),
+            None => return true,
+        }
+        assert!(rt; node.same(&before));
+    }
+    false
+}
+
+const REFUSED: [Ask; 11] = [
+    Ask::Join(1),
+    Ask::Up(Side::There),
+    Ask::Deliver(Side::There),
+    Ask::Extract(Side::There),
+    Ask::Update(1),
+    Ask::Broadcast,
+    Ask::Leave(1),
+    Ask::Join(1),
+    Ask::LeaveAll(1),
+    Ask::Down(Side::There),
+    Ask::Permdown(Side::There),
+];
+
+/// Makes what is asked, refused in turn.
+fn refuses<'a>(
+    rt: &impl Abort,
+    heap: &'a Heap,
+    node: &mut Node<'a, Heap>,
+    message: &Payload<&'a Heap>,
+    ask: Ask,
+) -> bool {
+    let step = ask.step(rt, heap);
+    is_refused_in_turn(rt, heap, node, &step, message)
+}
+
+#[test]
+fn a_step_that_is_refused_memory_changes_nothing(rt: HostRuntime) {
+    let heap = Refusing::new(rt.alloc());
+    let message = message(&rt, &heap);
+    let mut node = Node::new(&heap, 0, USUAL);
+    for ask in REFUSED {
+        assert!(rt; refuses(&rt, &heap, &mut node, &message, ask));
+    }
+    assert!(rt; node.outbox().len() == 2);
+}

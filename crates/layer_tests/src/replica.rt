@@ -1,0 +1,514 @@
+//! Replicas: context clocks and clouds in rows of several calls, undos, and refused memory.
+ghost use Rattle.std.specs.Prelude.{◌<◌, IfOk};
+ghost use Rattle.replica_core.specs.Changes.{LeadsBack};
+ghost use Rattle.replica_core.specs.Limits.{AreNodeLimits};
+
+use crate::dots::is_seen;
+use crate::rows::holds_at;
+use crate::words::{seen_alone, word};
+use dots_core::{Dot, NameSet};
+use payload_core::{Payload, Word};
+use replica_core::{Change, NodeLimits, Replica, ReplicaFault, Status, laws};
+use std::alloc::{Allocator, Global};
+use std::process::Abort;
+use test_alloc::Refusing;
+
+type Heap = Refusing<Global>;
+
+fn limits() -> NodeLimits
+    ensures { AreNodeLimits result }
+{
+    NodeLimits {
+        entries: 10,
+        clock: 10,
+        messages: 10,
+    }
+}
+
+fn opening<'a, B: Allocator>(alloc: &'a B, own: u16) -> Replica<&'a B>
+    requires { own < 32 }
+{
+    Replica::opening(alloc, own, limits())
+}
+
+/// Words of a process under the topic `r` and a key, with metadata `phone`.
+#[derive(Drop)]
+struct Words<A: Allocator> {
+    topic: Word<A>,
+    key: Word<A>,
+    metadata: Word<A>,
+}
+
+fn words_of<'a, B: Allocator>(rt: &impl Abort, alloc: &'a B, key: &str) -> Words<&'a B> {
+    Words {
+        topic: word(rt, alloc, "r"),
+        key: word(rt, alloc, key),
+        metadata: word(rt, alloc, "phone"),
+    }
+}
+
+fn joins<'a, B: Allocator>(
+    rt: &impl Abort,
+    replica: &mut Replica<&'a B>,
+    words: &Words<&'a B>,
+    pid: u64,
+) {
+    let made = replica.join(pid, &words.topic, &words.key, &words.metadata);
+    drop(made.expect(rt, "a join"));
+}
+
+/// Joins the process, and gives the message of that join alone.
+fn sent<'a, B: Allocator>(
+    rt: &impl Abort,
+    replica: &mut Replica<&'a B>,
+    words: &Words<&'a B>,
+    pid: u64,
+) -> Payload<&'a B> {
+    joins(rt, replica, words, pid);
+    replica.take_delta().expect(rt, "a message")
+}
+
+/// The names of a node that sends and of the one that makes the calls of a table: the first two, or the last two.
+#[derive(Clone, Copy)]
+enum Pair {
+    First,
+    Last,
+}
+
+const PAIRS: [Pair; 2] = [Pair::First, Pair::Last];
+
+impl Pair {
+    fn sender(self) -> u16
+        ensures { result < 32 }
+    {
+        match self {
+            Pair::First => 0,
+            Pair::Last => 31,
+        }
+    }
+
+    fn receiver(self) -> u16
+        ensures { result < 32 }
+    {
+        match self {
+            Pair::First => 1,
+            Pair::Last => 30,
+        }
+    }
+}
+
+/// What the calls of a table are given: words, and messages of the sender. It sends two joins, and, without an entry, what
+/// it has seen after a join and a leave, and that with dots of the receiver.
+#[derive(Drop)]
+struct Inputs<A: Allocator> {
+    pair: Pair,
+    words: Words<A>,
+    first: Payload<A>,
+    second: Payload<A>,
+    left: Payload<A>,
+    foreign: Payload<A>,
+}
+
+fn inputs_of<'a, B: Allocator>(rt: &impl Abort, alloc: &'a B, pair: Pair) -> Inputs<&'a B> {
+    let words = words_of(rt, alloc, "alice");
+    let (sender, receiver) = (pair.sender(), pair.receiver());
+    let mut replica = opening(alloc, sender);
+    let first = sent(rt, &mut replica, &words, 1);
+    let second = sent(rt, &mut replica, &words, 2);
+    Inputs {
+        pair,
+        words,
+        first,
+        second,
+        left: seen_alone(rt, alloc, &[(sender, 1), (sender, 2)]),
+        foreign: seen_alone(rt, alloc, &[(sender, 1), (receiver, 1), (receiver, 5)]),
+    }
+}
+
+/// A call of the receiver in a table: of its process 1, of the status of the sender, or the delivery of a message of that.
+#[derive(Clone, Copy)]
+enum Call {
+    Join,
+    Leave,
+    LeaveAll,
+    Update,
+    Up,
+    Down,
+    Permdown,
+    First,
+    Second,
+    Left,
+    Foreign,
+}
+
+impl Call {
+    fn act<'a, B: Allocator>(
+        self,
+        replica: &mut Replica<&'a B>,
+        inputs: &Inputs<&'a B>,
+    ) -> Result<Change<&'a B>, ReplicaFault>
+        ensures { IfOk result (λ change. LeadsBack change replica.new replica.old) }
+    {
+        let words = &inputs.words;
+        let sender = inputs.pair.sender();
+        match self {
+            Call::Join => replica.join(1, &words.topic, &words.key, &words.metadata),
+            Call::Leave => replica.leave(1, &words.topic, &words.key),
+            Call::LeaveAll => replica.leave_all(1),
+            Call::Update => replica.update(1, &words.topic, &words.key, &words.topic),
+            Call::Up => replica.up(sender),
+            Call::Down => replica.down(sender),
+            Call::Permdown => replica.permdown(sender),
+            Call::First => replica.merge(&inputs.first),
+            Call::Second => replica.merge(&inputs.second),
+            Call::Left => replica.merge(&inputs.left),
+            Call::Foreign => replica.merge(&inputs.foreign),
+        }
+    }
+
+    /// Whether the call is made, for good or to be undone at once.
+    fn is_made<'a, B: Allocator>(
+        self,
+        replica: &mut Replica<&'a B>,
+        inputs: &Inputs<&'a B>,
+        is_undone: bool,
+    ) -> bool {
+        let Ok(change) = self.act(replica, inputs) else {
+            return false;
+        };
+        !is_undone || replica.undo(change).is_ok()
+    }
+}
+
+/// A call in a row, whether it is undone, and then the sender's context clock, its cloud and the clocks of the live entries,
+/// which are all its own.
+type Row = (Call, bool, u64, &'static [u64], &'static [u64]);
+
+/// Whether there are as many entries as clocks, and each is that of a live dot of this name.
+fn are_live<'a, B: Allocator>(replica: &Replica<&'a B>, name: u16, clocks: &[u64]) -> bool {
+    let entries = replica.entries();
+    for clock in clocks {
+        let dot = Dot {
+            name,
+            clock: *clock,
+        };
+        if entries.get(dot).is_none() {
+            return false;
+        }
+    }
+    entries.len() == clocks.len()
+}
+
+/// A new receiver makes the calls in turn, and each leaves what its row says.
+fn plays<'a, B: Allocator>(rt: &impl Abort, alloc: &'a B, inputs: &Inputs<&'a B>, rows: &[Row]) {
+    let sender = inputs.pair.sender();
+    let mut replica = opening(alloc, inputs.pair.receiver());
+    for (call, is_undone, clock, cloud, live) in rows {
+        assert!(rt; call.is_made(&mut replica, inputs, *is_undone));
+        assert!(rt; is_seen(replica.seen(), sender, *clock, cloud));
+        assert!(rt; are_live(&replica, sender, live));
+    }
+}
+
+/// Hidden until the name is up; out of order; removed before it came; removed after it came.
+const DELIVERIES: [&[Row]; 4] = [
+    &[
+        (Call::First, false, 0, &[], &[]),
+        (Call::Up, false, 0, &[], &[]),
+        (Call::First, false, 1, &[], &[1]),
+    ],
+    &[
+        (Call::Up, false, 0, &[], &[]),
+        (Call::Second, false, 0, &[2], &[2]),
+        (Call::First, true, 0, &[2], &[2]),
+        (Call::First, false, 2, &[], &[1, 2]),
+    ],
+    &[
+        (Call::Up, false, 0, &[], &[]),
+        (Call::Left, false, 2, &[], &[]),
+        (Call::First, false, 2, &[], &[]),
+    ],
+    &[
+        (Call::Up, false, 0, &[], &[]),
+        (Call::First, false, 1, &[], &[1]),
+        (Call::Left, false, 2, &[], &[]),
+    ],
+];
+
+fn plays_all<'a, B: Allocator>(rt: &impl Abort, alloc: &'a B, pair: Pair) {
+    let inputs = inputs_of(rt, alloc, pair);
+    for rows in DELIVERIES {
+        plays(rt, alloc, &inputs, rows);
+    }
+}
+
+#[test]
+fn deliveries_meet_in_context_and_cloud(rt: HostRuntime) {
+    let heap = rt.alloc();
+    for pair in PAIRS {
+        plays_all(&rt, &heap, pair);
+    }
+}
+
+/// Makes the call with one request for memory refused.
+fn refused<'a>(
+    heap: &'a Heap,
+    replica: &mut Replica<&'a Heap>,
+    inputs: &Inputs<&'a Heap>,
+    call: Call,
+    number: u64,
+) -> Option<ReplicaFault> {
+    heap.refuse_only(number);
+    let answer = call.act(replica, inputs);
+    heap.refuse_none();
+    answer.err()
+}
+
+/// Makes the call and undoes it, makes it with each request for memory refused in turn, and then with none.
+fn refuses<'a>(
+    rt: &impl Abort,
+    heap: &'a Heap,
+    replica: &mut Replica<&'a Heap>,
+    inputs: &Inputs<&'a Heap>,
+    call: Call,
+) {
+    let before = replica.try_copy().expect(rt, "a copy");
+    assert!(rt; call.is_made(replica, inputs, true));
+    assert!(rt; replica.same(&before));
+    let mut refusals = 0;
+    for number in 1..100 {
+        let Some(fault) = refused(heap, replica, inputs, call, number) else {
+            break;
+        };
+        assert!(rt; fault == ReplicaFault::OutOfMemory);
+        holds_at(rt, replica.same(&before), number);
+        refusals = number;
+    }
+    assert!(rt; refusals > 0);
+}
+
+const CALLS: [Call; 9] = [
+    Call::First,
+    Call::Join,
+    Call::Up,
+    Call::Update,
+    Call::Leave,
+    Call::Join,
+    Call::LeaveAll,
+    Call::Down,
+    Call::Permdown,
+];
+
+/// Whether this is the context clock of the name, and all entries are its live ones, of these clocks.
+fn has_own<'a, B: Allocator>(replica: &Replica<&'a B>, name: u16, clock: u64, live: &[u64]) -> bool
+    requires { name < 32 }
+{
+    is_seen(replica.seen(), name, clock, &[]) && are_live(replica, name, live)
+}
+
+/// Knows the sender, and makes these calls, each undone and refused memory first.
+fn refuses_calls<'a>(
+    rt: &impl Abort,
+    heap: &'a Heap,
+    replica: &mut Replica<&'a Heap>,
+    inputs: &Inputs<&'a Heap>,
+    calls: &[Call],
+) {
+    assert!(rt; Call::Up.is_made(replica, inputs, false));
+    for call in calls {
+        refuses(rt, heap, replica, inputs, *call);
+    }
+}
+
+/// Makes these calls of a new receiver so, which leaves it this own clock, the live entries of these clocks, and this status
+/// of the sender.
+fn refuses_each<'a>(
+    rt: &impl Abort,
+    heap: &'a Heap,
+    pair: Pair,
+    calls: &[Call],
+    after: (u64, &[u64], Option<Status>),
+) {
+    let inputs = inputs_of(rt, heap, pair);
+    let mut b = opening(heap, pair.receiver());
+    refuses_calls(rt, heap, &mut b, &inputs, calls);
+    drop(inputs);
+    let (clock, live, status) = after;
+    let has_status = b.status(pair.sender()) == status;
+    assert!(rt; has_status && has_own(&b, pair.receiver(), clock, live));
+}
+
+#[test]
+fn a_call_undone_or_refused_memory_changes_nothing(rt: HostRuntime) {
+    let heap = Refusing::new(rt.alloc());
+    for pair in PAIRS {
+        refuses_each(&rt, &heap, pair, &CALLS, (5, &[], None));
+    }
+}
+
+/// A message may have dots of its receiver, which play no part.
+#[test]
+fn a_delivery_may_have_the_receivers_dots(rt: HostRuntime) {
+    let heap = Refusing::new(rt.alloc());
+    for pair in PAIRS {
+        let after: (u64, &[u64], Option<Status>) = (1, &[1], Some(Status::Up));
+        refuses_each(&rt, &heap, pair, &[Call::Join, Call::Foreign], after);
+    }
+}
+
+/// A node 1 with three entries of process 1 and one of process 2.
+fn four_joined<'a>(rt: &impl Abort, heap: &'a Heap) -> Replica<&'a Heap> {
+    let mut replica = opening(heap, 1);
+    for (pid, key) in [(1, "alice"), (1, "bob"), (1, "carl"), (2, "alice")] {
+        joins_under(rt, heap, &mut replica, key, pid);
+    }
+    replica
+}
+
+/// All entries of a process leave, three here, each with a fresh dot.
+#[test]
+fn a_process_leaves_under_all_its_keys(rt: HostRuntime) {
+    let heap = Refusing::new(rt.alloc());
+    let mut b = four_joined(&rt, &heap);
+    leaves_refused(&rt, &heap, &mut b);
+    assert!(rt; has_own(&b, 1, 7, &[4]));
+}
+
+fn leaves_refused<'a>(rt: &impl Abort, heap: &'a Heap, replica: &mut Replica<&'a Heap>) {
+    let inputs = inputs_of(rt, heap, Pair::First);
+    refuses(rt, heap, replica, &inputs, Call::LeaveAll);
+}
+
+/// Joins the process under the topic `r` and this key.
+fn joins_under<'a, B: Allocator>(
+    rt: &impl Abort,
+    alloc: &'a B,
+    replica: &mut Replica<&'a B>,
+    key: &str,
+    pid: u64,
+) {
+    let words = words_of(rt, alloc, key);
+    joins(rt, replica, &words, pid);
+}
+
+/// A node 0 with one join, of which nothing was sent.
+fn joined<'a, B: Allocator>(rt: &impl Abort, alloc: &'a B) -> Replica<&'a B> {
+    let mut replica = opening(alloc, 0);
+    joins_under(rt, alloc, &mut replica, "alice", 1);
+    replica
+}
+
+/// The extract of this name.
+fn extracted<'a, B: Allocator>(
+    rt: &impl Abort,
+    replica: &Replica<&'a B>,
+    name: u16,
+) -> Payload<&'a B>
+    requires { name < 32 }
+{
+    let names = NameSet::empty().with(name);
+    replica.extract(names).expect(rt, "a message")
+}
+
+/// Whether an extract of the own name 0 is the delta.
+fn extracts_the_delta<'a, B: Allocator>(rt: &impl Abort, replica: &mut Replica<&'a B>) -> bool {
+    let extract = extracted(rt, replica, 0);
+    let delta = replica.take_delta().expect(rt, "a delta");
+    extract.same(&delta)
+}
+
+/// An extract has all that was joined where its sender is named, and else nothing.
+#[test]
+fn an_extract_has_the_named_alone(rt: HostRuntime) {
+    let heap = rt.alloc();
+    let mut a = joined(&rt, &heap);
+    assert!(rt; extracted(&rt, &a, 1).entries().is_empty());
+    assert!(rt; extracts_the_delta(&rt, &mut a));
+}
+
+/// Whether the receiver, to which the sender's first message came, has it in an extract of the sender's name.
+fn extracts_foreign<'a, B: Allocator>(
+    rt: &impl Abort,
+    replica: &Replica<&'a B>,
+    inputs: &Inputs<&'a B>,
+) -> bool {
+    let message = extracted(rt, replica, inputs.pair.sender());
+    message.sender() == inputs.pair.receiver()
+        && message.seen().same(inputs.first.seen())
+        && message.entries().same(inputs.first.entries())
+}
+
+/// An extract of another's name has what was delivered of it.
+#[test]
+fn an_extract_has_foreign_names_too(rt: HostRuntime) {
+    let heap = rt.alloc();
+    let inputs = inputs_of(&rt, &heap, Pair::Last);
+    let mut b = opening(&heap, 30);
+    let is_up = Call::Up.is_made(&mut b, &inputs, false);
+    let is_delivered = Call::First.is_made(&mut b, &inputs, false);
+    assert!(rt; is_up && is_delivered && extracts_foreign(&rt, &b, &inputs));
+}
+
+fn copies<'a, B: Allocator>(replica: &Replica<&'a B>) -> bool {
+    replica.try_copy().is_ok()
+}
+
+fn extracts<'a, B: Allocator>(replica: &Replica<&'a B>) -> bool {
+    replica.extract(NameSet::empty().with(0)).is_ok()
+}
+
+#[test]
+fn a_refused_copy_or_extract_is_an_error(rt: HostRuntime) {
+    let heap = Refusing::new(rt.alloc());
+    let a = joined(&rt, &heap);
+    for number in 1..40 {
+        heap.refuse_only(number);
+        let is_copied = copies(&a);
+        holds_at(&rt, is_copied == (heap.requests() < number), number);
+        heap.refuse_only(number);
+        let is_extracted = extracts(&a);
+        holds_at(&rt, is_extracted == (heap.requests() < number), number);
+    }
+}
+
+/// Whether the delta was taken, as of node 0, and given back.
+fn gives_the_delta_back<'a, B: Allocator>(replica: &mut Replica<&'a B>) -> bool {
+    replica.replica_law();
+    laws::delta_law();
+    let Ok(message) = replica.take_delta() else {
+        return false;
+    };
+    let sender = message.sender();
+    replica.give_delta(message);
+    sender == 0
+}
+
+/// Whether reads say what a join left.
+fn reads<'a, B: Allocator>(replica: &Replica<&'a B>) -> bool {
+    replica.own() == 0
+        && replica.status(1).is_none()
+        && replica.status(0) == Some(Status::Up)
+        && replica.online(0)
+        && replica.has_delta()
+        && replica.delta_entries().same(replica.entries())
+        && replica.delta_seen().same(replica.seen())
+}
+
+/// Reads, takes the delta and gives it back; whether that leaves what was there before.
+fn reads_and_sends<'a, B: Allocator>(
+    replica: &mut Replica<&'a B>,
+    before: &Replica<&'a B>,
+) -> bool {
+    reads(replica) && gives_the_delta_back(replica) && replica.same(before)
+}
+
+#[test]
+fn reads_and_sends_take_no_memory(rt: HostRuntime) {
+    let heap = Refusing::new(rt.alloc());
+    let mut a = joined(&rt, &heap);
+    let before = a.try_copy().expect(&rt, "a copy");
+    heap.refuse_from(1);
+    let is_as_before = reads_and_sends(&mut a, &before);
+    assert!(rt; is_as_before);
+    assert!(rt; heap.requests() == 0);
+}

@@ -1,0 +1,431 @@
+//! Words, entries, sets of entries, messages and outboxes.
+use crate::dots::set_of;
+use crate::rows::{holds, holds_at};
+use dots_core::{Dot, NameSet, Oom};
+use payload_core::{Entry, EntrySet, Outbox, OutboxFault, Payload, Word, WordFault};
+use std::alloc::{Allocator, Global};
+use std::process::Abort;
+use test_alloc::Refusing;
+
+type Heap = Refusing<Global>;
+
+/// A word, for which there is memory.
+pub fn word<A: Allocator>(rt: &impl Abort, alloc: A, text: &str) -> Word<A> {
+    Word::new(alloc, text).expect(rt, "a word")
+}
+
+/// An entry of process 7 under the topic `room`.
+fn entry<A: Allocator + Copy>(
+    rt: &impl Abort,
+    alloc: A,
+    name: u16,
+    clock: u64,
+    key: &str,
+) -> Entry<A> {
+    Entry {
+        dot: Dot { name, clock },
+        pid: 7,
+        topic: word(rt, alloc, "room"),
+        key: word(rt, alloc, key),
+        metadata: word(rt, alloc, "phone"),
+    }
+}
+
+/// Puts in an entry whose dot is not there.
+fn put<A: Allocator>(rt: &impl Abort, entries: &mut EntrySet<A>, entry: Entry<A>) {
+    assert!(rt; entries.get(entry.dot).is_none());
+    let is_in = entries.insert(entry).is_ok();
+    assert!(rt; is_in);
+}
+
+/// Node 0's entries of `alice` at the clocks 9 and 5, and node 31's of `bob` at the clock 1.
+fn three<A: Allocator + Copy>(rt: &impl Abort, alloc: A) -> EntrySet<A> {
+    let mut entries = EntrySet::new(alloc);
+    put(rt, &mut entries, entry(rt, alloc, 0, 9, "alice"));
+    put(rt, &mut entries, entry(rt, alloc, 31, 1, "bob"));
+    put(rt, &mut entries, entry(rt, alloc, 0, 5, "alice"));
+    entries
+}
+
+#[test]
+fn a_word_has_1_to_200_visible_bytes(rt: HostRuntime) {
+    let longest = "a".repeat(rt.alloc(), 200).expect(&rt, "a text");
+    for text in ["!", "~", "alice", longest.as_str()] {
+        assert!(rt; word(&rt, rt.alloc(), text).as_str() == text);
+    }
+}
+
+#[test]
+fn another_text_is_a_bad_word(rt: HostRuntime) {
+    let longer = "a".repeat(rt.alloc(), 201).expect(&rt, "a text");
+    for text in ["", "a b", "a\n", "\u{7f}", "\u{e9}", longer.as_str()] {
+        let fault = Word::new(rt.alloc(), text).err();
+        holds(&rt, fault == Some(WordFault::BadWord), text);
+    }
+}
+
+const IN_ORDER: [(&str, &str); 4] = [("B", "a"), ("a", "a!"), ("a!", "aa"), ("aa", "b")];
+
+#[test]
+fn words_are_ordered_by_their_bytes(rt: HostRuntime) {
+    for (lower, upper) in IN_ORDER {
+        let one = word(&rt, rt.alloc(), lower);
+        let other = word(&rt, rt.alloc(), upper);
+        holds(&rt, one < other && one != other && !one.same(&other), lower);
+        holds(&rt, has_copy(&rt, &one), lower);
+    }
+}
+
+/// Whether a copy is the same word.
+fn has_copy<A: Allocator + Copy>(rt: &impl Abort, word: &Word<A>) -> bool {
+    word.try_copy().expect(rt, "a copy") == *word
+}
+
+/// Whether the entry of `alice` at the clock 1 is that of this key at this clock.
+fn is_alice<A: Allocator + Copy>(rt: &impl Abort, alloc: A, clock: u64, key: &str) -> bool {
+    let alice = entry(rt, alloc, 0, 1, "alice");
+    alice.same(&entry(rt, alloc, 0, clock, key))
+}
+
+/// Whether a copy of an entry is the same.
+fn is_copied<A: Allocator + Copy>(rt: &impl Abort, alloc: A) -> bool {
+    let alice = entry(rt, alloc, 0, 1, "alice");
+    alice.try_copy().expect(rt, "a copy").same(&alice)
+}
+
+/// Whether the entry of `alice` is of process 7 under `room` and this key.
+fn is_tracked<A: Allocator + Copy>(rt: &impl Abort, alloc: A, key: &str) -> bool {
+    let alice = entry(rt, alloc, 0, 1, "alice");
+    alice.is_tracked_as(7, &alice.topic, &word(rt, alloc, key))
+}
+
+#[test]
+fn entries_differ_by_dot_and_by_key(rt: HostRuntime) {
+    assert!(rt; is_alice(&rt, rt.alloc(), 1, "alice"));
+    assert!(rt; !is_alice(&rt, rt.alloc(), 2, "alice"));
+    assert!(rt; !is_alice(&rt, rt.alloc(), 1, "bob"));
+    assert!(rt; is_copied(&rt, rt.alloc()));
+    assert!(rt; is_tracked(&rt, rt.alloc(), "alice"));
+    assert!(rt; !is_tracked(&rt, rt.alloc(), "bob"));
+}
+
+#[test]
+fn a_set_of_names_has_their_entries_alone(rt: HostRuntime) {
+    let entries = three(&rt, rt.alloc());
+    let all = NameSet::empty().with(0).with(31);
+    assert!(rt; has_only(&rt, &entries, all, 3));
+    assert!(rt; has_only(&rt, &entries, all.without(0), 1));
+    assert!(rt; has_only(&rt, &entries, NameSet::empty().with(1), 0));
+}
+
+/// Whether so many entries are of these names.
+fn has_only<A: Allocator + Copy>(
+    rt: &impl Abort,
+    entries: &EntrySet<A>,
+    names: NameSet,
+    count: usize,
+) -> bool {
+    let part = entries.only(names).expect(rt, "a part");
+    let is_whole = part.same(entries) == (count == entries.len());
+    is_whole && part.len() == count && part.is_empty() == (count == 0)
+}
+
+/// The places of three entries, by rising dot.
+const PLACES: [(usize, u16, u64); 3] = [(0, 0, 5), (1, 0, 9), (2, 31, 1)];
+
+#[test]
+fn an_entry_set_rises_by_dot(rt: HostRuntime) {
+    let entries = three(&rt, rt.alloc());
+    assert!(rt; entries.len() == 3);
+    for (place, name, clock) in PLACES {
+        assert!(rt; is_at(&entries, place, Dot { name, clock }));
+    }
+    assert!(rt; entries.at(3).is_none());
+}
+
+/// Whether the entry at this place is the one of this dot.
+fn is_at<A: Allocator>(entries: &EntrySet<A>, place: usize, dot: Dot) -> bool {
+    match (entries.at(place), entries.get(dot)) {
+        (Some(entry), Some(found)) => entry.dot == dot && found.dot == dot,
+        _ => false,
+    }
+}
+
+/// Finds the entry of `alice` of this name and process.
+fn finds<A: Allocator + Copy>(
+    rt: &impl Abort,
+    alloc: A,
+    entries: &EntrySet<A>,
+    name: u16,
+    pid: u64,
+) -> Option<Dot> {
+    let room = word(rt, alloc, "room");
+    entries.find(name, pid, &room, &word(rt, alloc, "alice"))
+}
+
+#[test]
+fn find_gives_the_least_clock_of_the_name(rt: HostRuntime) {
+    let entries = three(&rt, rt.alloc());
+    let least = Dot { name: 0, clock: 5 };
+    assert!(rt; finds(&rt, rt.alloc(), &entries, 0, 7) == Some(least));
+    assert!(rt; finds(&rt, rt.alloc(), &entries, 0, 8) == None);
+    assert!(rt; finds(&rt, rt.alloc(), &entries, 31, 7) == None);
+}
+
+/// Takes out what is at the dot, and says whether that is an entry of this dot.
+fn takes_out<A: Allocator>(entries: &mut EntrySet<A>, dot: Dot) -> bool {
+    match entries.remove(dot) {
+        Some(entry) => entry.dot == dot,
+        None => false,
+    }
+}
+
+#[test]
+fn a_removal_takes_one_entry_out(rt: HostRuntime) {
+    let mut entries = three(&rt, rt.alloc());
+    let before = entries.try_copy().expect(&rt, "a copy");
+    assert!(rt; !takes_out(&mut entries, Dot { name: 0, clock: 1 }));
+    assert!(rt; entries.same(&before));
+    assert!(rt; takes_out(&mut entries, Dot { name: 0, clock: 5 }));
+    assert!(rt; entries.len() == 2);
+}
+
+/// A message of node 0 that has seen these dots and has no entry.
+pub fn seen_alone<'a, B: Allocator>(
+    rt: &impl Abort,
+    alloc: &'a B,
+    pairs: &[(u16, u64)],
+) -> Payload<&'a B> {
+    let seen = set_of(rt, alloc, pairs);
+    Payload::new(0, seen, EntrySet::new(alloc))
+}
+
+/// A message of node 0 that has seen the dot of this clock.
+fn message<'a, B: Allocator>(rt: &impl Abort, alloc: &'a B, clock: u64) -> Payload<&'a B> {
+    seen_alone(rt, alloc, &[(0, clock)])
+}
+
+#[test]
+fn a_message_gives_its_parts(rt: HostRuntime) {
+    let heap = rt.alloc();
+    let message = message(&rt, &heap, 4);
+    let copy = message.try_copy().expect(&rt, "a copy");
+    assert!(rt; copy.same(&message));
+    assert!(rt; message.seen().contains(Dot { name: 0, clock: 4 }));
+    assert!(rt; are_parts(copy, &message));
+}
+
+/// Whether the message falls into the parts of the other.
+fn are_parts<'a, B: Allocator>(message: Payload<&'a B>, other: &Payload<&'a B>) -> bool {
+    let (sender, seen, entries) = message.into_parts();
+    sender == other.sender() && seen.same(other.seen()) && entries.same(other.entries())
+}
+
+/// Pushes the message of this clock, which is refused, and comes back: gives the fault. Only the messages take memory.
+fn refused<'a, B: Allocator>(
+    rt: &impl Abort,
+    alloc: &'a B,
+    outbox: &mut Outbox<'a, B>,
+    clock: u64,
+) -> OutboxFault {
+    let message = message(rt, alloc, clock);
+    let copy = message.try_copy().expect(rt, "a copy");
+    let (given_back, fault) = outbox.push(message).err().expect(rt, "a refusal");
+    assert!(rt; given_back.same(&copy));
+    fault
+}
+
+/// Pushes the message of this clock, and gives its number.
+fn pushes<'a, B: Allocator>(
+    rt: &impl Abort,
+    alloc: &'a B,
+    outbox: &mut Outbox<'a, B>,
+    clock: u64,
+) -> u64 {
+    let message = message(rt, alloc, clock);
+    outbox.push(message).ok().expect(rt, "a number")
+}
+
+#[test]
+fn an_outbox_holds_as_many_messages_as_its_limit(rt: HostRuntime) {
+    let heap = rt.alloc();
+    let mut outbox = Outbox::new(&heap, 1);
+    assert!(rt; outbox.is_empty() && !outbox.is_full());
+    assert!(rt; pushes(&rt, &heap, &mut outbox, 1) == 1);
+    assert!(rt; outbox.is_full());
+    assert!(rt; refused(&rt, &heap, &mut outbox, 2) == OutboxFault::OutboxFull);
+}
+
+/// Takes the last message out, which has seen the dot of this clock.
+fn pops<'a, B: Allocator>(rt: &impl Abort, outbox: &mut Outbox<'a, B>, clock: u64) {
+    let last = outbox.pop().expect(rt, "a message");
+    assert!(rt; last.seen().contains(Dot { name: 0, clock }));
+}
+
+/// Whether there are two messages, numbered from 1, in a copy too.
+fn are_numbered<'a, B: Allocator>(rt: &impl Abort, outbox: &Outbox<'a, B>) -> bool {
+    let copy = outbox.try_copy().expect(rt, "a copy");
+    let are_two = outbox.get(1).is_some() && outbox.get(2).is_some();
+    are_two && outbox.get(0).is_none() && outbox.get(3).is_none() && copy.same(outbox)
+}
+
+#[test]
+fn messages_are_numbered_from_1_and_popped_from_the_end(rt: HostRuntime) {
+    let heap = rt.alloc();
+    let mut outbox = Outbox::new(&heap, 2);
+    assert!(rt; pushes(&rt, &heap, &mut outbox, 1) == 1);
+    assert!(rt; pushes(&rt, &heap, &mut outbox, 2) == 2);
+    assert!(rt; are_numbered(&rt, &outbox));
+    pops(&rt, &mut outbox, 2);
+    pops(&rt, &mut outbox, 1);
+    assert!(rt; outbox.len() == 0);
+}
+
+#[test]
+fn a_refused_word_is_out_of_memory(rt: HostRuntime) {
+    let heap = Refusing::new(rt.alloc());
+    let alice = word(&rt, &heap, "alice");
+    heap.refuse_from(1);
+    let fault = Word::new(&heap, "alice").err();
+    assert!(rt; fault == Some(WordFault::OutOfMemory));
+    let fault = Word::new(&heap, "a b").err();
+    assert!(rt; fault == Some(WordFault::BadWord));
+    assert!(rt; alice.try_copy().is_err());
+    assert!(rt; heap.requests() == 2);
+}
+
+/// Whether the insert of an entry whose dot is not there is refused, and gives the entry back.
+fn is_given_back<A: Allocator>(
+    rt: &impl Abort,
+    entries: &mut EntrySet<A>,
+    entry: Entry<A>,
+    copy: &Entry<A>,
+) -> bool {
+    assert!(rt; entries.get(entry.dot).is_none());
+    match entries.insert(entry) {
+        Ok(()) => false,
+        Err((given_back, _oom)) => given_back.same(copy),
+    }
+}
+
+#[test]
+fn a_refused_insert_gives_the_entry_back(rt: HostRuntime) {
+    let heap = Refusing::new(rt.alloc());
+    let mut entries = EntrySet::new(&heap);
+    let new = entry(&rt, &heap, 0, 1, "alice");
+    let copy = entry(&rt, &heap, 0, 1, "alice");
+    heap.refuse_from(1);
+    assert!(rt; is_given_back(&rt, &mut entries, new, &copy));
+    assert!(rt; entries.is_empty());
+}
+
+/// Makes room for one entry, which is refused first.
+fn makes_room(rt: &impl Abort, heap: &Heap, entries: &mut EntrySet<&Heap>) {
+    heap.refuse_from(1);
+    assert!(rt; entries.make_room(1).is_err());
+    heap.refuse_none();
+    assert!(rt; entries.make_room(1).is_ok());
+}
+
+#[test]
+fn an_insert_into_room_takes_no_memory(rt: HostRuntime) {
+    let heap = Refusing::new(rt.alloc());
+    let mut entries = EntrySet::new(&heap);
+    let new = entry(&rt, &heap, 0, 1, "alice");
+    makes_room(&rt, &heap, &mut entries);
+    heap.refuse_from(1);
+    put(&rt, &mut entries, new);
+    assert!(rt; heap.requests() == 0);
+}
+
+/// Copies a set of entries, or those of name 0 alone.
+fn copies<A: Allocator + Copy>(entries: &EntrySet<A>, is_whole: bool) -> Result<EntrySet<A>, Oom> {
+    if is_whole {
+        return entries.try_copy();
+    }
+    entries.only(NameSet::empty().with(0))
+}
+
+/// Whether a copy with this request for memory refused is an error where it meets the refusal, and only there. Gives the
+/// requests.
+fn requests_for(
+    rt: &impl Abort,
+    heap: &Heap,
+    entries: &EntrySet<&Heap>,
+    is_whole: bool,
+    number: u64,
+) -> u64 {
+    heap.refuse_only(number);
+    let is_made = copies(entries, is_whole).is_ok();
+    holds_at(rt, is_made == (heap.requests() < number), number);
+    heap.requests()
+}
+
+/// A copy takes a request for the list and one for each word of an entry; a part may let its list grow.
+#[test]
+fn a_refused_copy_of_a_set_is_an_error(rt: HostRuntime) {
+    let heap = Refusing::new(rt.alloc());
+    let entries = three(&rt, &heap);
+    for number in 1..12 {
+        requests_for(&rt, &heap, &entries, true, number);
+        requests_for(&rt, &heap, &entries, false, number);
+    }
+    assert!(rt; requests_for(&rt, &heap, &entries, true, 12) == 10);
+    assert!(rt; requests_for(&rt, &heap, &entries, false, 12) >= 7);
+}
+
+#[test]
+fn a_refused_push_gives_the_message_back(rt: HostRuntime) {
+    let heap = Refusing::new(rt.alloc());
+    let mut outbox = Outbox::new(&heap, 2);
+    heap.refuse_from(1);
+    assert!(rt; refused(&rt, &heap, &mut outbox, 1) == OutboxFault::OutOfMemory);
+    assert!(rt; outbox.is_empty() && outbox.make_room().is_err());
+}
+
+#[test]
+fn a_push_into_room_takes_no_memory(rt: HostRuntime) {
+    let heap = Refusing::new(rt.alloc());
+    let mut outbox = Outbox::new(&heap, 2);
+    assert!(rt; outbox.make_room().is_ok());
+    heap.refuse_from(1);
+    assert!(rt; pushes(&rt, &heap, &mut outbox, 1) == 1);
+    assert!(rt; heap.requests() == 0);
+    assert!(rt; outbox.try_copy().is_err());
+}
+
+/// Reads in a set of three entries.
+fn reads<A: Allocator>(entries: &EntrySet<A>, word: &Word<A>) -> bool {
+    let is_found = entries.find(0, 7, word, word).is_some();
+    !is_found && entries.at(0).is_some() && entries.same(entries) && word.as_str() == "room"
+}
+
+#[test]
+fn reads_and_removals_take_no_memory(rt: HostRuntime) {
+    let heap = Refusing::new(rt.alloc());
+    let mut entries = three(&rt, &heap);
+    let room = word(&rt, &heap, "room");
+    heap.refuse_from(1);
+    assert!(rt; reads(&entries, &room));
+    assert!(rt; takes_out(&mut entries, Dot { name: 0, clock: 5 }));
+    assert!(rt; heap.requests() == 0);
+}
+
+/// A part's list, and what it grows by, is of the memory of the set that it is a part of; the words of its entries are of
+/// that of theirs.
+#[test]
+fn a_part_of_a_set_keeps_the_memory_of_its_set(rt: HostRuntime) {
+    let own = Refusing::new(rt.alloc());
+    let others = Refusing::new(rt.alloc());
+    let mut entries = EntrySet::new(&own);
+    put(&rt, &mut entries, entry(&rt, &others, 0, 1, "alice"));
+    let new = entry(&rt, &others, 0, 2, "bob");
+    own.refuse_none();
+    others.refuse_none();
+    let mut part = copies(&entries, false).expect(&rt, "a part");
+    assert!(rt; (own.requests(), others.requests()) == (1, 3));
+    others.refuse_from(1);
+    assert!(rt; part.make_room(100).is_ok());
+    put(&rt, &mut part, new);
+    assert!(rt; (own.requests(), others.requests()) == (2, 0));
+}
