@@ -1,0 +1,350 @@
+//! Online lists: that they and their differences are had with ample memory, that a refusal of memory is told, and the rows
+//! that calls of a replica bring and take away.
+ghost use Rattle.std.specs.Prelude.{◌<◌};
+ghost use Rattle.diff_core.specs.Online.{AreInOrder};
+
+use crate::calls::{Shown, word};
+use crate::rows::holds;
+use diff_core::{OnlineRow, Oom, diff, online_list};
+use dots_core::NameSet;
+use payload_core::{Payload, Word};
+use replica_core::{NodeLimits, Replica};
+use std::alloc::{Allocator, Global};
+use std::process::Abort;
+use test_alloc::Refusing;
+
+type Heap = Refusing<Global>;
+
+/// A row in a table: the node's number, the process, and what is shown of it.
+pub type Seen = (u16, u64, Shown);
+
+pub const ALICE: Seen = (0, 1, Shown::Alice);
+
+pub const AWAY: Seen = (0, 1, Shown::Away);
+
+pub const ALICE_UNDER_S: Seen = (0, 1, Shown::AliceUnderS);
+
+/// The rows that leave, and those that join, each in order.
+pub type Change = (&'static [Seen], &'static [Seen]);
+
+pub const NONE: Change = (&[], &[]);
+
+fn is<'a, B: Allocator>(row: &OnlineRow<&'a B>, expected: &Seen) -> bool {
+    let (name, pid, shown) = *expected;
+    let (topic, key, metadata) = shown.texts();
+    row.name == name
+        && row.pid == pid
+        && row.topic.as_str() == topic
+        && row.key.as_str() == key
+        && row.metadata.as_str() == metadata
+}
+
+/// Whether these are the rows.
+fn are<'a, B: Allocator>(rows: &[OnlineRow<&'a B>], expected: &[Seen]) -> bool {
+    for (place, row) in rows.iter().enumerate() {
+        match expected.get(place) {
+            Some(seen) if is(row, seen) => {}
+            _ => return false,
+        }
+    }
+    rows.len() == expected.len()
+}
+
+/// The online list of a replica.
+pub fn list_of<'a, B: Allocator>(
+    rt: &impl Abort,
+    alloc: &'a B,
+    replica: &Replica<&'a B>,
+) -> Vec<OnlineRow<&'a B>, &'a B>
+    ensures { AreInOrder result.items }
+{
+    online_list(alloc, replica).expect(rt, "a list")
+}
+
+/// Whether exactly these rows leave and join between the two lists.
+pub fn differ<'a, B: Allocator>(
+    rt: &impl Abort,
+    alloc: &'a B,
+    before: &[OnlineRow<&'a B>],
+    after: &[OnlineRow<&'a B>],
+    change: Change,
+) -> bool
+    requires before { AreInOrder before.now }
+    requires after { AreInOrder after.now }
+{
+    let (left, joined) = change;
+    let diff = diff(alloc, before, after).expect(rt, "a difference");
+    are(&diff.left, left) && are(&diff.joined, joined)
+}
+
+/// A call of a replica in a table: of process 1, of a message by its place, or of name 0.
+#[derive(Clone, Copy)]
+enum Call {
+    Join(Shown),
+    Leave(Shown),
+    LeaveAll,
+    Update(Shown),
+    Merge(usize),
+    Up,
+    Down,
+    Permdown,
+}
+
+/// The words of a process.
+#[derive(Drop)]
+struct Words<A: Allocator> {
+    topic: Word<A>,
+    key: Word<A>,
+    metadata: Word<A>,
+}
+
+fn words_of<'a, B: Allocator>(rt: &impl Abort, alloc: &'a B, shown: Shown) -> Words<&'a B> {
+    let (topic, key, metadata) = shown.texts();
+    Words {
+        topic: word(rt, alloc, topic),
+        key: word(rt, alloc, key),
+        metadata: word(rt, alloc, metadata),
+    }
+}
+
+fn joins<'a, B: Allocator>(
+    rt: &impl Abort,
+    alloc: &'a B,
+    replica: &mut Replica<&'a B>,
+    shown: Shown,
+) -> bool {
+    let words = words_of(rt, alloc, shown);
+    let made = replica.join(1, &words.topic, &words.key, &words.metadata);
+    made.is_ok()
+}
+
+fn updates<'a, B: Allocator>(
+    rt: &impl Abort,
+    alloc: &'a B,
+    replica: &mut Replica<&'a B>,
+    shown: Shown,
+) -> bool {
+    let words = words_of(rt, alloc, shown);
+    let made = replica.update(1, &words.topic, &words.key, &words.metadata);
+    made.is_ok()
+}
+
+fn leaves<'a, B: Allocator>(
+    rt: &impl Abort,
+    alloc: &'a B,
+    replica: &mut Replica<&'a B>,
+    shown: Shown,
+) -> bool {
+    let words = words_of(rt, alloc, shown);
+    replica.leave(1, &words.topic, &words.key).is_ok()
+}
+
+fn merges<'a, B: Allocator>(
+    replica: &mut Replica<&'a B>,
+    messages: &[Payload<&'a B>],
+    place: usize,
+) -> bool {
+    match messages.get(place) {
+        Some(message) => replica.merge(message).is_ok(),
+        None => false,
+    }
+}
+
+/// Whether the call is made.
+fn makes<'a, B: Allocator>(
+    rt: &impl Abort,
+    alloc: &'a B,
+    replica: &mut Replica<&'a B>,
+    messages: &[Payload<&'a B>],
+    call: Call,
+) -> bool {
+    match call {
+        Call::Join(shown) => joins(rt, alloc, replica, shown),
+        Call::Leave(shown) => leaves(rt, alloc, replica, shown),
+        Call::Update(shown) => updates(rt, alloc, replica, shown),
+        Call::Merge(place) => merges(replica, messages, place),
+        Call::LeaveAll => replica.leave_all(1).is_ok(),
+        Call::Up => replica.up(0).is_ok(),
+        Call::Down => replica.down(0).is_ok(),
+        Call::Permdown => replica.permdown(0).is_ok(),
+    }
+}
+
+fn opening<'a, B: Allocator>(alloc: &'a B, own: u16) -> Replica<&'a B>
+    requires { own < 32 }
+{
+    let limits = NodeLimits {
+        entries: 10,
+        clock: 10,
+        messages: 10,
+    };
+    Replica::opening(alloc, own, limits)
+}
+
+/// Whether the call changes the list so, and the other way round on the way back.
+fn shows<'a, B: Allocator>(
+    rt: &impl Abort,
+    alloc: &'a B,
+    replica: &mut Replica<&'a B>,
+    messages: &[Payload<&'a B>],
+    row: &(Call, Change),
+) -> bool {
+    let (call, change) = *row;
+    let before = list_of(rt, alloc, replica);
+    let is_made = makes(rt, alloc, replica, messages, call);
+    let after = list_of(rt, alloc, replica);
+    let (left, joined) = change;
+    is_made
+        && differ(rt, alloc, &before, &after, change)
+        && differ(rt, alloc, &after, &before, (joined, left))
+}
+
+/// Calls of a new replica of this name, each of which changes its list so.
+struct Case {
+    name: &'static str,
+    own: u16,
+    rows: &'static [(Call, Change)],
+}
+
+const CASES: [Case; 3] = [
+    Case {
+        name: "own calls are shown",
+        own: 0,
+        rows: &[
+            (Call::Join(Shown::Alice), (&[], &[ALICE])),
+            (Call::Update(Shown::Away), (&[ALICE], &[AWAY])),
+            (Call::Leave(Shown::Away), (&[AWAY], &[])),
+            (Call::Join(Shown::AliceUnderS), (&[], &[ALICE_UNDER_S])),
+            (Call::Join(Shown::Alice), (&[], &[ALICE])),
+            (Call::LeaveAll, (&[ALICE, ALICE_UNDER_S], &[])),
+        ],
+    },
+    Case {
+        name: "deliveries and statuses are shown",
+        own: 1,
+        rows: &[
+            (Call::Merge(0), NONE),
+            (Call::Up, NONE),
+            (Call::Merge(0), (&[], &[ALICE])),
+            (Call::Merge(1), (&[ALICE], &[AWAY])),
+            (Call::Merge(0), NONE),
+            (Call::Down, (&[AWAY], &[])),
+            (Call::Up, (&[], &[AWAY])),
+            (Call::Down, (&[AWAY], &[])),
+            (Call::Permdown, NONE),
+        ],
+    },
+    Case {
+        name: "what left is not shown again",
+        own: 1,
+        rows: &[
+            (Call::Up, NONE),
+            (Call::Merge(2), NONE),
+            (Call::Merge(0), NONE),
+        ],
+    },
+];
+
+/// What the replica tells of the call alone.
+fn told<'a, B: Allocator>(
+    rt: &impl Abort,
+    alloc: &'a B,
+    replica: &mut Replica<&'a B>,
+    call: Call,
+) -> Payload<&'a B> {
+    let is_made = makes(rt, alloc, replica, &[], call);
+    assert!(rt; is_made);
+    replica.take_delta().expect(rt, "a message")
+}
+
+/// All that the replica of name 0 tells after the call.
+fn told_in_all<'a, B: Allocator>(
+    rt: &impl Abort,
+    alloc: &'a B,
+    replica: &mut Replica<&'a B>,
+    call: Call,
+) -> Payload<&'a B> {
+    let is_made = makes(rt, alloc, replica, &[], call);
+    assert!(rt; is_made);
+    replica
+        .extract(NameSet::empty().with(0))
+        .expect(rt, "a message")
+}
+
+/// What name 0 tells of a join alone, of an update after it alone, and of all after a leave.
+fn messages<'a, B: Allocator>(rt: &impl Abort, alloc: &'a B) -> [Payload<&'a B>; 3] {
+    let mut replica = opening(alloc, 0);
+    let joined = told(rt, alloc, &mut replica, Call::Join(Shown::Alice));
+    let updated = told(rt, alloc, &mut replica, Call::Update(Shown::Away));
+    let left = told_in_all(rt, alloc, &mut replica, Call::Leave(Shown::Away));
+    [joined, updated, left]
+}
+
+fn plays<'a, B: Allocator>(
+    rt: &impl Abort,
+    alloc: &'a B,
+    messages: &[Payload<&'a B>],
+    case: &Case,
+) {
+    assert!(rt; case.own < 32);
+    let mut replica = opening(alloc, case.own);
+    for row in case.rows {
+        holds(rt, shows(rt, alloc, &mut replica, messages, row), case.name);
+    }
+}
+
+#[test]
+fn calls_are_shown(rt: HostRuntime) {
+    let heap = rt.alloc();
+    let messages = messages(&rt, &heap);
+    for case in &CASES {
+        plays(&rt, &heap, &messages, case);
+    }
+}
+
+/// Whether two rows that follow one another do so in order, and a copy of the first is the same.
+fn are_in_order<'a, B: Allocator>(rt: &impl Abort, rows: &[OnlineRow<&'a B>]) -> bool {
+    match (rows.first(), rows.get(1)) {
+        (Some(first), Some(second)) => {
+            first < second && first.same(&first.try_copy().expect(rt, "a copy"))
+        }
+        _ => false,
+    }
+}
+
+#[test]
+fn rows_stand_in_order(rt: HostRuntime) {
+    let heap = rt.alloc();
+    let mut replica = opening(&heap, 0);
+    for shown in [Shown::AliceUnderS, Shown::Bob, Shown::Alice] {
+        assert!(rt; joins(&rt, &heap, &mut replica, shown));
+    }
+    let rows = list_of(&rt, &heap, &replica);
+    assert!(rt; are(&rows, &[ALICE, (0, 1, Shown::Bob), ALICE_UNDER_S]));
+    assert!(rt; are_in_order(&rt, &rows));
+}
+
+/// Whether a list and its difference from none, with this request for memory refused, are had where none met the refusal.
+fn fails_where_refused<'a>(heap: &'a Heap, replica: &Replica<&'a Heap>, number: u64) -> bool {
+    heap.refuse_only(number);
+    let is_had = is_compared(heap, replica).is_ok();
+    let requests = heap.requests();
+    is_had == (requests < number)
+}
+
+fn is_compared<'a, B: Allocator>(alloc: &'a B, replica: &Replica<&'a B>) -> Result<(), Oom> {
+    let rows = online_list(alloc, replica)?;
+    let none = Vec::new(alloc);
+    diff(alloc, &rows, &none)?;
+    Ok(())
+}
+
+#[test]
+fn refused_memory_is_told(rt: HostRuntime) {
+    let heap = Refusing::new(rt.alloc());
+    let mut replica = opening(&heap, 0);
+    assert!(rt; joins(&rt, &heap, &mut replica, Shown::Alice));
+    for number in 1..16 {
+        assert!(rt; fails_where_refused(&heap, &replica, number));
+    }
+}

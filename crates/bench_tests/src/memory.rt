@@ -1,0 +1,243 @@
+//! What calls of the machine leave where memory is refused.
+use crate::calls::{Call, HELD_1_BY_2, Row, Shown, limits_of, open, played};
+use crate::rows::holds;
+use bench_core::{Act, Bench, Fault, Limits, Node, Reply};
+use std::alloc::Global;
+use std::process::Abort;
+use test_alloc::Refusing;
+
+type Heap = Refusing<Global>;
+
+/// The bench has so many remaining steps and recorded calls, and this is the actor's node.
+fn is_as_before<'a>(
+    rt: &impl Abort,
+    bench: &Bench<'a, Heap>,
+    actor: u16,
+    node: &Node<'a, Heap>,
+    counts: (usize, usize),
+) {
+    assert!(rt; bench.node(actor).expect(rt, "a node").same(node));
+    assert!(rt; counts_of(bench) == counts);
+}
+
+fn counts_of<'a>(bench: &Bench<'a, Heap>) -> (usize, usize) {
+    (bench.remaining().len(), bench.history().len())
+}
+
+/// Makes the call with this request for memory refused alone.
+fn answer_refused<'a>(
+    heap: &'a Heap,
+    bench: &mut Bench<'a, Heap>,
+    actor: u16,
+    act: &Act<&'a Heap>,
+    number: u64,
+) -> Reply {
+    heap.refuse_only(number);
+    let answer = bench.act(actor, act);
+    heap.refuse_none();
+    answer
+}
+
+/// Makes the call with its first, second, .. request for memory refused, until it meets none. Each refused call leaves
+/// the actor's node, the remaining steps and the history as they were. Gives the number of refused calls.
+fn refused_in_turn<'a>(
+    rt: &impl Abort,
+    heap: &'a Heap,
+    bench: &mut Bench<'a, Heap>,
+    row: &Row,
+) -> u64 {
+    let (actor, call, reply) = *row;
+    let act = call.act(rt, heap);
+    let place = bench.node(actor).expect(rt, "a node");
+    let node = place.try_copy().expect(rt, "a copy");
+    let counts = counts_of(bench);
+    for number in 1..100 {
+        let answer = answer_refused(heap, bench, actor, &act, number);
+        if answer == reply {
+            return number - 1;
+        }
+        assert!(rt; answer == Reply::Refused(Fault::OutOfMemory));
+        is_as_before(rt, bench, actor, &node, counts);
+    }
+    100
+}
+
+const MESSAGES: [Row; 13] = [
+    (1, Call::Join(9, Shown::Alice), Reply::Taken(1)),
+    (1, Call::Broadcast, Reply::Taken(2)),
+    (0, Call::Join(1, Shown::Alice), Reply::Taken(3)),
+    (0, Call::Up(1), Reply::Taken(4)),
+    (0, Call::Deliver(1, 1), Reply::Taken(5)),
+    (0, Call::Broadcast, Reply::Taken(6)),
+    (0, Call::Extract(0), Reply::Taken(7)),
+    (0, Call::Undo(1), Reply::Refused(HELD_1_BY_2)),
+    (0, Call::Back(0), Reply::Undone(7)),
+    (0, Call::Undo(6), Reply::Undone(6)),
+    (0, Call::Back(0), Reply::Undone(5)),
+    (0, Call::Undo(4), Reply::Undone(4)),
+    (0, Call::Back(0), Reply::Undone(3)),
+];
+
+const LEAVES: [Row; 13] = [
+    (0, Call::Join(1, Shown::Alice), Reply::Taken(1)),
+    (0, Call::Update(1, Shown::Away), Reply::Taken(2)),
+    (0, Call::Leave(1, Shown::Alice), Reply::Taken(3)),
+    (0, Call::Back(0), Reply::Undone(3)),
+    (0, Call::LeaveAll(1), Reply::Taken(4)),
+    (0, Call::Up(1), Reply::Taken(5)),
+    (0, Call::Down(1), Reply::Taken(6)),
+    (0, Call::Permdown(1), Reply::Taken(7)),
+    (0, Call::Back(0), Reply::Undone(7)),
+    (0, Call::Undo(6), Reply::Undone(6)),
+    (0, Call::Back(0), Reply::Undone(5)),
+    (0, Call::Undo(4), Reply::Undone(4)),
+    (0, Call::Back(0), Reply::Undone(2)),
+];
+
+/// Makes the calls of a table so. Gives how often one was refused memory, at most.
+fn all_refused_in_turn<'a>(rt: &impl Abort, heap: &'a Heap, rows: &[Row]) -> u64 {
+    let mut bench = open(rt, heap, Limits::usual());
+    let mut most = 0;
+    for row in rows {
+        let refused = refused_in_turn(rt, heap, &mut bench, row);
+        most = most.max(refused);
+    }
+    most
+}
+
+#[test]
+fn a_call_that_is_refused_memory_changes_nothing(rt: HostRuntime) {
+    let heap = Refusing::new(rt.alloc());
+    for rows in [MESSAGES, LEAVES] {
+        let most = all_refused_in_turn(&rt, &heap, &rows);
+        assert!(rt; 3 < most && most < 100);
+    }
+}
+
+/// Whether a run of one call has its list of replies.
+fn runs<'a>(bench: &mut Bench<'a, Heap>) -> bool {
+    bench.run(&[(0, Act::Undo(1))]).is_ok()
+}
+
+// A body that always answers want of memory would keep every contract.
+#[test]
+fn gives_up_for_memory(rt: HostRuntime) {
+    let heap = Refusing::new(rt.alloc());
+    let rows = [
+        (0, Call::Join(1, Shown::Alice), Reply::Taken(1)),
+        (1, Call::Undo(1), Reply::Undone(1)),
+    ];
+    let mut bench = played(&rt, &heap, Limits::usual(), &rows, "a join undone");
+    heap.refuse_from(1);
+    assert!(rt; !runs(&mut bench));
+}
+
+/// The limits of a bench, calls after which no step can be taken, or nothing be recorded, and calls that are refused then.
+struct Full {
+    name: &'static str,
+    limits: [u64; 4],
+    rows: &'static [Row],
+    refused: &'static [Row],
+}
+
+const FULL: [Full; 5] = [
+    Full {
+        name: "one place is too few for a step",
+        limits: [3, 10, 10, 10],
+        rows: &[(0, Call::Join(1, Shown::Alice), Reply::Taken(1))],
+        refused: &[
+            (
+                0,
+                Call::Join(2, Shown::Bob),
+                Reply::Refused(Fault::HistoryFull),
+            ),
+            (0, Call::Broadcast, Reply::Refused(Fault::HistoryFull)),
+            (1, Call::Extract(0), Reply::Refused(Fault::HistoryFull)),
+            (1, Call::Down(1), Reply::Refused(Fault::HistoryFull)),
+        ],
+    },
+    Full {
+        name: "no place for a step, nor for a refusal",
+        limits: [2, 10, 10, 10],
+        rows: &[(0, Call::Join(1, Shown::Alice), Reply::Taken(1))],
+        refused: &[
+            (
+                0,
+                Call::Update(1, Shown::Away),
+                Reply::Refused(Fault::HistoryFull),
+            ),
+            (7, Call::Broadcast, Reply::Refused(Fault::UnknownNode)),
+            (0, Call::Extract(5), Reply::Refused(Fault::UnknownNode)),
+            (0, Call::Back(2), Reply::Refused(Fault::UnknownNode)),
+            (0, Call::Back(1), Reply::Refused(Fault::NothingToUndo)),
+            (0, Call::Undo(0), Reply::Refused(Fault::NoSuchStep)),
+            (0, Call::Undo(2), Reply::Refused(Fault::NoSuchStep)),
+        ],
+    },
+    Full {
+        name: "no place for the refusal of an undo with a consequence",
+        limits: [4, 10, 10, 10],
+        rows: &[
+            (0, Call::Join(1, Shown::Alice), Reply::Taken(1)),
+            (0, Call::Broadcast, Reply::Taken(2)),
+        ],
+        refused: &[(2, Call::Undo(1), Reply::Refused(HELD_1_BY_2))],
+    },
+    Full {
+        name: "no place for the refusal of an undo that was made",
+        limits: [2, 10, 10, 10],
+        rows: &[
+            (0, Call::Join(1, Shown::Alice), Reply::Taken(1)),
+            (0, Call::Undo(1), Reply::Undone(1)),
+        ],
+        refused: &[
+            (0, Call::Undo(1), Reply::Refused(Fault::AlreadyUndone)),
+            (0, Call::Back(0), Reply::Refused(Fault::NothingToUndo)),
+            (
+                0,
+                Call::Join(1, Shown::Alice),
+                Reply::Refused(Fault::HistoryFull),
+            ),
+        ],
+    },
+    Full {
+        name: "no place at all from the first",
+        limits: [1, 10, 10, 10],
+        rows: &[],
+        refused: &[(
+            0,
+            Call::Join(1, Shown::Alice),
+            Reply::Refused(Fault::HistoryFull),
+        )],
+    },
+];
+
+/// Whether the call gets its reply with all memory refused, and asks for none.
+fn is_free<'a>(rt: &impl Abort, heap: &'a Heap, bench: &mut Bench<'a, Heap>, row: &Row) -> bool {
+    let (actor, call, reply) = *row;
+    let act = call.act(rt, heap);
+    heap.refuse_from(1);
+    let answer = bench.act(actor, &act);
+    let requests = heap.requests();
+    heap.refuse_none();
+    answer == reply && requests == 0
+}
+
+/// Makes the calls that are refused, each of which is recorded nowhere.
+fn refuses_all<'a>(rt: &impl Abort, heap: &'a Heap, full: &Full) {
+    let limits = limits_of(rt, full.limits, full.name);
+    let mut bench = played(rt, heap, limits, full.rows, full.name);
+    let counts = counts_of(&bench);
+    for row in full.refused {
+        holds(rt, is_free(rt, heap, &mut bench, row), full.name);
+        holds(rt, counts_of(&bench) == counts, full.name);
+    }
+}
+
+#[test]
+fn a_refusal_without_a_place_takes_no_memory(rt: HostRuntime) {
+    let heap = Refusing::new(rt.alloc());
+    for full in &FULL {
+        refuses_all(&rt, &heap, full);
+    }
+}

@@ -1,0 +1,396 @@
+//! Named cases of calls with their replies, and what there is then.
+use crate::calls::{
+    Call, HELD_1_BY_2, HELD_1_BY_3, HELD_3_BY_4, Row, Shown, USUAL, limits_of, played,
+};
+use crate::rows::holds;
+use bench_core::{Bench, Fault, Reply};
+use std::alloc::Allocator;
+use std::process::Abort;
+
+/// The first `asked` of some calls of a bench of two nodes, each with its reply. After them so many calls are recorded and
+/// so many steps remain; of the dots of node 0, node 1 has seen those up to the clock and those in the cloud; and it
+/// holds so many entries.
+struct Case {
+    name: &'static str,
+    limits: [u64; 4],
+    rows: &'static [Row],
+    asked: usize,
+    recorded: usize,
+    remaining: usize,
+    clock: u64,
+    cloud: &'static [u64],
+    entries: usize,
+}
+
+const HELD_2_BY_4: Fault = Fault::HasConsequence {
+    step: 2,
+    held_by: 4,
+};
+
+const LATER_STEPS: [Row; 9] = [
+    (0, Call::Join(1, Shown::Alice), Reply::Taken(1)),
+    (
+        0,
+        Call::Join(1, Shown::Alice),
+        Reply::Refused(Fault::AlreadyTracked),
+    ),
+    (0, Call::Join(2, Shown::Alice), Reply::Taken(2)),
+    (1, Call::Join(1, Shown::Alice), Reply::Taken(3)),
+    (5, Call::Undo(1), Reply::Refused(HELD_1_BY_2)),
+    (1, Call::Undo(2), Reply::Undone(2)),
+    (0, Call::Undo(1), Reply::Undone(1)),
+    (0, Call::Undo(1), Reply::Refused(Fault::AlreadyUndone)),
+    (0, Call::Join(3, Shown::Alice), Reply::Taken(4)),
+];
+
+const NO_REMAINING_STEP: [Row; 6] = [
+    (0, Call::Undo(0), Reply::Refused(Fault::NoSuchStep)),
+    (0, Call::Undo(9), Reply::Refused(Fault::NoSuchStep)),
+    (0, Call::Join(1, Shown::Alice), Reply::Taken(1)),
+    (2, Call::Undo(1), Reply::Undone(1)),
+    (2, Call::Undo(1), Reply::Refused(Fault::AlreadyUndone)),
+    (2, Call::Back(1), Reply::Refused(Fault::NothingToUndo)),
+];
+
+const NO_NODES: [Row; 5] = [
+    (7, Call::Broadcast, Reply::Refused(Fault::UnknownNode)),
+    (0, Call::Up(5), Reply::Refused(Fault::UnknownNode)),
+    (0, Call::Extract(5), Reply::Refused(Fault::UnknownNode)),
+    (0, Call::Back(2), Reply::Refused(Fault::UnknownNode)),
+    (40, Call::Undo(1), Reply::Refused(Fault::NoSuchStep)),
+];
+
+const FULL_HISTORY: [Row; 4] = [
+    (0, Call::Join(1, Shown::Alice), Reply::Taken(1)),
+    (
+        0,
+        Call::Join(2, Shown::Alice),
+        Reply::Refused(Fault::HistoryFull),
+    ),
+    (0, Call::Undo(1), Reply::Undone(1)),
+    (0, Call::Undo(1), Reply::Refused(Fault::AlreadyUndone)),
+];
+
+const FULL_OF_ENTRIES: [Row; 2] = [
+    (0, Call::Join(1, Shown::Alice), Reply::Taken(1)),
+    (
+        0,
+        Call::Join(2, Shown::Alice),
+        Reply::Refused(Fault::EntriesFull),
+    ),
+];
+
+const FULL_CLOCK: [Row; 2] = [
+    (0, Call::Join(1, Shown::Alice), Reply::Taken(1)),
+    (
+        0,
+        Call::Join(2, Shown::Alice),
+        Reply::Refused(Fault::ClockFull),
+    ),
+];
+
+/// A join of node 0, sent and delivered to node 1.
+pub const DELIVERED: [Row; 4] = [
+    (0, Call::Join(1, Shown::Alice), Reply::Taken(1)),
+    (1, Call::Up(0), Reply::Taken(2)),
+    (0, Call::Broadcast, Reply::Taken(3)),
+    (1, Call::Deliver(0, 1), Reply::Taken(4)),
+];
+
+pub const DELIVERED_AND_UNDONE: [Row; 11] = [
+    (0, Call::Join(1, Shown::Alice), Reply::Taken(1)),
+    (1, Call::Up(0), Reply::Taken(2)),
+    (0, Call::Broadcast, Reply::Taken(3)),
+    (1, Call::Deliver(0, 1), Reply::Taken(4)),
+    (2, Call::Undo(1), Reply::Refused(HELD_1_BY_3)),
+    (2, Call::Undo(2), Reply::Refused(HELD_2_BY_4)),
+    (2, Call::Undo(3), Reply::Refused(HELD_3_BY_4)),
+    (2, Call::Back(0), Reply::Refused(HELD_3_BY_4)),
+    (2, Call::Undo(4), Reply::Undone(4)),
+    (2, Call::Undo(3), Reply::Undone(3)),
+    (2, Call::Back(0), Reply::Undone(1)),
+];
+
+const DELIVERED_TWICE: [Row; 5] = [
+    (0, Call::Join(1, Shown::Alice), Reply::Taken(1)),
+    (0, Call::Broadcast, Reply::Taken(2)),
+    (1, Call::Deliver(0, 1), Reply::Taken(3)),
+    (1, Call::Up(0), Reply::Taken(4)),
+    (1, Call::Deliver(0, 1), Reply::Taken(5)),
+];
+
+const UNDONE_BROADCAST: [Row; 7] = [
+    (0, Call::Join(1, Shown::Alice), Reply::Taken(1)),
+    (0, Call::Broadcast, Reply::Taken(2)),
+    (0, Call::Undo(2), Reply::Undone(2)),
+    (0, Call::Join(2, Shown::Alice), Reply::Taken(3)),
+    (0, Call::Broadcast, Reply::Taken(4)),
+    (1, Call::Up(0), Reply::Taken(5)),
+    (1, Call::Deliver(0, 1), Reply::Taken(6)),
+];
+
+pub const UNDONE_JOIN: [Row; 6] = [
+    (0, Call::Join(1, Shown::Alice), Reply::Taken(1)),
+    (0, Call::Undo(1), Reply::Undone(1)),
+    (0, Call::Join(2, Shown::Alice), Reply::Taken(2)),
+    (0, Call::Broadcast, Reply::Taken(3)),
+    (1, Call::Up(0), Reply::Taken(4)),
+    (1, Call::Deliver(0, 1), Reply::Taken(5)),
+];
+
+const EARLY_DELIVERY: [Row; 8] = [
+    (0, Call::Join(1, Shown::Alice), Reply::Taken(1)),
+    (0, Call::Broadcast, Reply::Taken(2)),
+    (0, Call::Join(2, Shown::Alice), Reply::Taken(3)),
+    (0, Call::Broadcast, Reply::Taken(4)),
+    (1, Call::Up(0), Reply::Taken(5)),
+    (1, Call::Deliver(0, 2), Reply::Taken(6)),
+    (1, Call::Deliver(0, 1), Reply::Taken(7)),
+    (2, Call::Undo(7), Reply::Undone(7)),
+];
+
+const PLACE_MADE: [Row; 7] = [
+    (0, Call::Join(1, Shown::Alice), Reply::Taken(1)),
+    (0, Call::Broadcast, Reply::Taken(2)),
+    (1, Call::Up(0), Reply::Taken(3)),
+    (1, Call::Join(9, Shown::Alice), Reply::Taken(4)),
+    (1, Call::Deliver(0, 1), Reply::Refused(Fault::EntriesFull)),
+    (2, Call::Undo(4), Reply::Undone(4)),
+    (1, Call::Deliver(0, 1), Reply::Taken(5)),
+];
+
+const FAULTS_OF_MESSAGES: [Row; 6] = [
+    (0, Call::Broadcast, Reply::Refused(Fault::NothingToSend)),
+    (0, Call::Extract(1), Reply::Taken(1)),
+    (0, Call::Extract(0), Reply::Refused(Fault::OutboxFull)),
+    (0, Call::Deliver(0, 1), Reply::Refused(Fault::OwnMessage)),
+    (1, Call::Deliver(0, 2), Reply::Refused(Fault::NoSuchMessage)),
+    (1, Call::Up(1), Reply::Refused(Fault::OwnReplica)),
+];
+
+const CASES: [Case; 18] = [
+    Case {
+        name: "an undo waits for later steps of its node",
+        limits: USUAL,
+        rows: &LATER_STEPS,
+        asked: 9,
+        recorded: 9,
+        remaining: 2,
+        clock: 0,
+        cloud: &[],
+        entries: 1,
+    },
+    Case {
+        name: "an undo of no remaining step is refused",
+        limits: USUAL,
+        rows: &NO_REMAINING_STEP,
+        asked: 6,
+        recorded: 6,
+        remaining: 0,
+        clock: 0,
+        cloud: &[],
+        entries: 0,
+    },
+    Case {
+        name: "a number that is no node's is refused",
+        limits: USUAL,
+        rows: &NO_NODES,
+        asked: 5,
+        recorded: 5,
+        remaining: 0,
+        clock: 0,
+        cloud: &[],
+        entries: 0,
+    },
+    Case {
+        name: "a full history refuses a step and no undo",
+        limits: [2, 10, 10, 10],
+        rows: &FULL_HISTORY,
+        asked: 4,
+        recorded: 2,
+        remaining: 0,
+        clock: 0,
+        cloud: &[],
+        entries: 0,
+    },
+    Case {
+        name: "a node that is full of entries refuses a join",
+        limits: [10, 1, 10, 10],
+        rows: &FULL_OF_ENTRIES,
+        asked: 2,
+        recorded: 2,
+        remaining: 1,
+        clock: 0,
+        cloud: &[],
+        entries: 0,
+    },
+    Case {
+        name: "a node with a full clock refuses a join",
+        limits: [10, 10, 1, 10],
+        rows: &FULL_CLOCK,
+        asked: 2,
+        recorded: 2,
+        remaining: 1,
+        clock: 0,
+        cloud: &[],
+        entries: 0,
+    },
+    Case {
+        name: "the entries come before the clock",
+        limits: [10, 1, 1, 10],
+        rows: &FULL_OF_ENTRIES,
+        asked: 2,
+        recorded: 2,
+        remaining: 1,
+        clock: 0,
+        cloud: &[],
+        entries: 0,
+    },
+    Case {
+        name: "a delivery brings a join",
+        limits: USUAL,
+        rows: &DELIVERED,
+        asked: 4,
+        recorded: 4,
+        remaining: 4,
+        clock: 1,
+        cloud: &[],
+        entries: 1,
+    },
+    Case {
+        name: "an undo waits for the delivery",
+        limits: USUAL,
+        rows: &DELIVERED_AND_UNDONE,
+        asked: 11,
+        recorded: 11,
+        remaining: 1,
+        clock: 0,
+        cloud: &[],
+        entries: 0,
+    },
+    Case {
+        name: "a delivery of an unknown name brings nothing",
+        limits: USUAL,
+        rows: &DELIVERED_TWICE,
+        asked: 3,
+        recorded: 3,
+        remaining: 3,
+        clock: 0,
+        cloud: &[],
+        entries: 0,
+    },
+    Case {
+        name: "a delivery brings known names alone",
+        limits: USUAL,
+        rows: &DELIVERED_TWICE,
+        asked: 5,
+        recorded: 5,
+        remaining: 5,
+        clock: 1,
+        cloud: &[],
+        entries: 1,
+    },
+    Case {
+        name: "an undone broadcast is sent with the next",
+        limits: USUAL,
+        rows: &UNDONE_BROADCAST,
+        asked: 7,
+        recorded: 7,
+        remaining: 5,
+        clock: 2,
+        cloud: &[],
+        entries: 2,
+    },
+    Case {
+        name: "an undone join leaves no dot",
+        limits: USUAL,
+        rows: &UNDONE_JOIN,
+        asked: 6,
+        recorded: 6,
+        remaining: 4,
+        clock: 1,
+        cloud: &[],
+        entries: 1,
+    },
+    Case {
+        name: "an early delivery leaves a gap",
+        limits: USUAL,
+        rows: &EARLY_DELIVERY,
+        asked: 6,
+        recorded: 6,
+        remaining: 6,
+        clock: 0,
+        cloud: &[2],
+        entries: 1,
+    },
+    Case {
+        name: "a later delivery fills the gap",
+        limits: USUAL,
+        rows: &EARLY_DELIVERY,
+        asked: 7,
+        recorded: 7,
+        remaining: 7,
+        clock: 2,
+        cloud: &[],
+        entries: 2,
+    },
+    Case {
+        name: "an undone delivery leaves the gap again",
+        limits: USUAL,
+        rows: &EARLY_DELIVERY,
+        asked: 8,
+        recorded: 8,
+        remaining: 6,
+        clock: 0,
+        cloud: &[2],
+        entries: 1,
+    },
+    Case {
+        name: "an undo makes place for a delivery",
+        limits: [100, 1, 10, 10],
+        rows: &PLACE_MADE,
+        asked: 7,
+        recorded: 7,
+        remaining: 4,
+        clock: 1,
+        cloud: &[],
+        entries: 1,
+    },
+    Case {
+        name: "each fault of a message has its name",
+        limits: [100, 10, 10, 1],
+        rows: &FAULTS_OF_MESSAGES,
+        asked: 6,
+        recorded: 6,
+        remaining: 1,
+        clock: 0,
+        cloud: &[],
+        entries: 0,
+    },
+];
+
+/// Whether the bench has what the case says.
+fn has<'a, B: Allocator>(rt: &impl Abort, bench: &Bench<'a, B>, case: &Case) -> bool {
+    let replica = bench.node(1).expect(rt, case.name).replica();
+    let seen = replica.seen();
+    bench.history().len() == case.recorded
+        && bench.remaining().len() == case.remaining
+        && seen.clock_of(0) == case.clock
+        && seen.cloud_of(0) == case.cloud
+        && replica.entries().len() == case.entries
+}
+
+fn plays<'a, B: Allocator>(rt: &impl Abort, alloc: &'a B, case: &Case) {
+    let limits = limits_of(rt, case.limits, case.name);
+    let rows = case.rows.get(..case.asked).expect(rt, case.name);
+    let bench = played(rt, alloc, limits, rows, case.name);
+    holds(rt, has(rt, &bench, case), case.name);
+}
+
+#[test]
+fn calls_get_their_replies(rt: HostRuntime) {
+    let heap = rt.alloc();
+    for case in &CASES {
+        plays(&rt, &heap, case);
+    }
+}
