@@ -31,16 +31,3 @@ pub use names_fault::NamesFault;
 pub use node_core::{Node, NodeLimits, Step, StepFault};
 pub use reply::Reply;
 pub use unwound::Unwound;
-
-#[cfg(test)]
-mod leaves_tests;
-#[cfg(test)]
-mod memory_tests;
-#[cfg(test)]
-mod names_tests;
-#[cfg(test)]
-mod steps_tests;
-#[cfg(test)]
-mod tests;
-#[cfg(test)]
-mod unwind_tests;

@@ -1,8 +1,8 @@
 //! What an engineer looks at: who is online at a replica, as sorted rows, and how two such lists differ.
 //!
-//! It stands on `replica_core` (the replica that is looked at) and `payload_core` (words), and on `test_alloc` in its tests;
-//! it knows nothing of nodes, steps and clusters. In the order to read them: `online_row`; `listing`, the online list;
-//! `row_diff` and `comparing`, how two lists differ; `laws`.
+//! It stands on `replica_core` (the replica that is looked at) and `payload_core` (words); it knows nothing of nodes, steps
+//! and clusters. In the order to read them: `online_row`; `listing`, the online list; `row_diff` and `comparing`, how two
+//! lists differ; `laws`.
 #![tactic(auto)]
 
 mod comparing;
@@ -16,6 +16,3 @@ pub use listing::online_list;
 pub use online_row::OnlineRow;
 pub use replica_core::Oom;
 pub use row_diff::Diff;
-
-#[cfg(test)]
-mod tests;

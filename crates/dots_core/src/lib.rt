@@ -1,8 +1,7 @@
 //! Dots, and finite sets of them.
 //!
 //! A dot is the unique stamp of one add of one replica. The crates above see a set of dots as a finite set; how it is
-//! kept, as a context clock and a cloud for each name, is this crate's own. It uses std alone, and `test_alloc` in its
-//! tests.
+//! kept, as a context clock and a cloud for each name, is this crate's own. It uses std alone.
 //!
 //! In the order to read them: `dot` and `name_set`; `part`, the dots of one name; `union`, that of two parts; `dot_set`;
 //! `laws`.
@@ -13,8 +12,6 @@ mod dot_set;
 pub mod laws;
 mod name_set;
 mod part;
-#[cfg(test)]
-mod tests;
 mod union;
 
 pub use dot::Dot;

@@ -6,6 +6,5 @@ pub mod Loans
 pub mod Numbered
 pub mod Places
 pub mod Rising
-pub mod Rows
 pub mod Senders
 pub mod Split

@@ -14,6 +14,3 @@ mod search;
 pub use journal::Journal;
 pub use kept::Kept;
 pub use node_core::Oom;
-
-#[cfg(test)]
-mod tests;

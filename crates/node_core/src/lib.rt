@@ -19,6 +19,3 @@ pub use node::Node;
 pub use replica_core::{NodeLimits, Oom};
 pub use step::Step;
 pub use step_fault::StepFault;
-
-#[cfg(test)]
-mod tests;

@@ -1,7 +1,7 @@
 //! What nodes send each other: words, presences with their dots, messages, and the outboxes that keep them.
 //!
 //! The crates above see an entry set as a finite map and an outbox as a list, each with its room, and nothing of how
-//! they are kept. This crate uses `dots_core`, and `test_alloc` in its tests; it knows nothing of replicas and steps.
+//! they are kept. This crate uses `dots_core`; it knows nothing of replicas and steps.
 //!
 //! In the order to read them: `word`; `entry`, `entry_list`, in which the entries stand by dot, and `entry_set`;
 //! `payload`, a message; `outbox`.
@@ -12,8 +12,6 @@ mod entry_list;
 mod entry_set;
 mod outbox;
 mod payload;
-#[cfg(test)]
-mod tests;
 mod word;
 
 pub use dots_core::Oom;

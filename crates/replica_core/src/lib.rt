@@ -2,8 +2,7 @@
 //!
 //! A replica joins processes under topics and keys, updates them and lets them leave, sends what it has seen, and merges
 //! what others sent, after Phoenix.Tracker.State, as sets. It can be used on its own. It stands on `payload_core` (words,
-//! entries, messages) and `dots_core` (sets of dots), and on `test_alloc` in its tests; it knows nothing of outboxes, steps
-//! and clusters.
+//! entries, messages) and `dots_core` (sets of dots); it knows nothing of outboxes, steps and clusters.
 //!
 //! In the order to read them: `node_limits` and `status`; `view`, what is known of the names; `replica_fault`;
 //! `replica`, with `join`, `leave`, `update` and `delivery`, which edit its sets; `change`, which leads back; `laws`.
@@ -18,8 +17,6 @@ mod node_limits;
 mod replica;
 mod replica_fault;
 mod status;
-#[cfg(test)]
-mod tests;
 mod update;
 mod view;
 

@@ -1,8 +1,0 @@
-use Rattle.std.proofs.Common.{sym, subst, lit<}
-use Rattle.payload_core.specs.Messages.{AreSeen}
-use Rattle.payload_core.specs.Presences.{Entries}
-use Rattle.payload_core.proofs.SeenEntries.{seen_none}
-use Rattle.payload_core.proofs.tests.message.Goals as goal
-
-pub new-requires-2 : goal.new-requires-2
-new-requires-2 g c = (lit< tt, (lit< tt, subst (λ (es : Entries). AreSeen c.insert.new.self es) (sym c.new.ensures) (seen_none c.insert.new.self)))

@@ -1,5 +1,0 @@
-use Rattle.std.proofs.Common.{lit<}
-use Rattle.replica_core.proofs.tests.Call.is_made.Goals as goal
-
-pub undo-requires : goal.undo-requires
-undo-requires g c = (lit< tt, (lit< tt, (c.args.replica.now, c.in-Ok.ensures)))
