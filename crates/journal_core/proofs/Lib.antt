@@ -7,6 +7,5 @@ pub mod Numbered
 pub mod Places
 pub mod Rising
 pub mod Rooms
-pub mod Rows
 pub mod Senders
 pub mod Split

@@ -1,6 +1,6 @@
 //! Replicas: context clocks and clouds in rows of several calls, undos, and refused memory.
 ghost use Rattle.std.specs.Prelude.{◌<◌, IfOk};
-ghost use Rattle.replica_core.specs.Changes.{ChangeLeadsBack};
+ghost use Rattle.replica_core.specs.Changes.{LeadsBack};
 ghost use Rattle.replica_core.specs.Limits.{AreNodeLimits};
 
 use crate::dots::is_seen;
@@ -147,7 +147,7 @@ impl Call {
         replica: &mut Replica<&'a B>,
         inputs: &Inputs<&'a B>,
     ) -> Result<Change<&'a B>, ReplicaFault>
-        ensures { IfOk result (λ change. ChangeLeadsBack change replica.new replica.old) }
+        ensures { IfOk result (λ change. LeadsBack change replica.new replica.old) }
     {
         let words = &inputs.words;
         let sender = inputs.pair.sender();
@@ -306,8 +306,22 @@ fn has_own<'a, B: Allocator>(replica: &Replica<&'a B>, name: u16, clock: u64, li
     is_seen(replica.seen(), name, clock, &[]) && are_live(replica, name, live)
 }
 
-/// Makes these calls of a new receiver, each undone and refused memory first, which leaves it this own clock, the live
-/// entries of these clocks, and this status of the sender.
+/// Knows the sender, and makes these calls, each undone and refused memory first.
+fn refuses_calls<'a>(
+    rt: &impl Abort,
+    heap: &'a Heap,
+    replica: &mut Replica<&'a Heap>,
+    inputs: &Inputs<&'a Heap>,
+    calls: &[Call],
+) {
+    assert!(rt; Call::Up.is_made(replica, inputs, false));
+    for call in calls {
+        refuses(rt, heap, replica, inputs, *call);
+    }
+}
+
+/// Makes these calls of a new receiver so, which leaves it this own clock, the live entries of these clocks, and this status
+/// of the sender.
 fn refuses_each<'a>(
     rt: &impl Abort,
     heap: &'a Heap,
@@ -315,13 +329,11 @@ fn refuses_each<'a>(
     calls: &[Call],
     after: (u64, &[u64], Option<Status>),
 ) {
-    let (clock, live, status) = after;
     let inputs = inputs_of(rt, heap, pair);
     let mut b = opening(heap, pair.receiver());
-    assert!(rt; Call::Up.is_made(&mut b, &inputs, false));
-    for call in calls {
-        refuses(rt, heap, &mut b, &inputs, *call);
-    }
+    refuses_calls(rt, heap, &mut b, &inputs, calls);
+    drop(inputs);
+    let (clock, live, status) = after;
     let has_status = b.status(pair.sender()) == status;
     assert!(rt; has_status && has_own(&b, pair.receiver(), clock, live));
 }
