@@ -61,7 +61,11 @@ fn keeps<'a, B: Allocator>(
 )
     requires { CanBeKept journal.old number node (plain step) }
     ensures nodes { journal.new.nodes ≡ journal.old.nodes }
-    ensures steps { journal.new.steps ≡ journal.old.steps ++ (record { kept = record { number = number; node = node; step = plain step.entry }; inverse = Some (plain_inverse inverse.entry) }) ∷ [] }
+    ensures steps { journal.new.steps ≡ journal.old.steps ++ (record {
+      kept =
+          record { number = number; node = node; step = plain step.entry };
+      inverse = Some (plain_inverse inverse.entry);
+    }) ∷ [] }
 {
     let is_kept = journal.keep(number, node, step, inverse).is_ok();
     assert!(rt; is_kept);

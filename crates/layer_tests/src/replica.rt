@@ -1,6 +1,6 @@
 //! Replicas: context clocks and clouds in rows of several calls, undos, and refused memory.
 ghost use Rattle.std.specs.Prelude.{◌<◌, IfOk};
-ghost use Rattle.replica_core.specs.Changes.{LeadsBack};
+ghost use Rattle.replica_core.specs.Changes.{ChangeLeadsBack};
 ghost use Rattle.replica_core.specs.Limits.{AreNodeLimits};
 
 use crate::dots::is_seen;
@@ -147,7 +147,7 @@ impl Call {
         replica: &mut Replica<&'a B>,
         inputs: &Inputs<&'a B>,
     ) -> Result<Change<&'a B>, ReplicaFault>
-        ensures { IfOk result (λ change. LeadsBack change replica.new replica.old) }
+        ensures { IfOk result (λ change. ChangeLeadsBack change replica.new replica.old) }
     {
         let words = &inputs.words;
         let sender = inputs.pair.sender();

@@ -8,8 +8,10 @@ use Rattle.layer_tests.proofs.journal.lends_and_takes_out.Goals as goal
 
 pub take_out-requires-clause-lent : goal.take_out-requires-clause-lent
 take_out-requires-clause-lent g c =
-    let held : inverse_of (find_held c.args.journal.now.steps c.args.number) ≡ Some (plain_inverse c.expect-inverse.result) = search rules in
-    subst (λ (j : Journal). IsLent j.steps c.args.number) (sym c.lend.ensures.after) (is_lent c.args.journal.now.steps c.args.number (plain_inverse c.expect-inverse.result) held)
+    let held : inverse_of (find_held c.args.journal.now.steps c.args.number) ≡ Some (plain_inverse c.expect-inverse.result) =
+    search rules in
+    subst (λ (j : Journal). IsLent j.steps c.args.number) (sym c.lend.ensures.after)
+    (is_lent c.args.journal.now.steps c.args.number (plain_inverse c.expect-inverse.result) held)
 
 pub take_out-requires-clause-free : goal.take_out-requires-clause-free
 take_out-requires-clause-free g c =

@@ -5,4 +5,5 @@ use Rattle.payload_core.proofs.SeenEntries.{seen_none}
 use Rattle.layer_tests.proofs.words.seen_alone.Goals as goal
 
 pub new-requires-2 : goal.new-requires-2
-new-requires-2 g c = (lit< tt, (lit< tt, subst (λ (es : Entries). AreSeen c.set_of-seen.result es) (sym c.new.ensures) (seen_none c.set_of-seen.result)))
+new-requires-2 g c =
+    (lit< tt, (lit< tt, subst (λ (es : Entries). AreSeen c.set_of-seen.result es) (sym c.new.ensures) (seen_none c.set_of-seen.result)))
