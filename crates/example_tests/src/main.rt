@@ -3,9 +3,8 @@
 
 use bench_core::Limits;
 use script_core::{FakeReader, FakeWriter, play};
-use std::fs;
-use std::io;
 use std::process::ExitCode;
+use std::{fs, io};
 
 const EXAMPLES: [&str; 6] = [
     "late-up",
