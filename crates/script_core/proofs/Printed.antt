@@ -1,17 +1,17 @@
 -- What the reply to an act says of the node that it changed, and the refusals of `why`.
-use Rattle.std.proofs.Common.{◌≡◌, ◌==◌, ◌||◌, ℕ, ◌+◌, Bool, true, false, not, nat_lt, if◌then◌else◌, List, [], ◌∷◌, ◌++◌, length, Option, Some, None, Result, Ok, Err, refl, sym, ap, ◌∙◌, subst, append-nil, append_assoc, true≢false, ◌<◌, drop, get_or, slice_get, map, zero, suc, arith}
+use Rattle.std.proofs.Common.{◌≡◌, ◌==◌, ◌||◌, ℕ, ◌+◌, Bool, true, false, not, nat_lt, if◌then◌else◌, List, [], ◌∷◌, ◌++◌, length, Option, Some, None, Result, Ok, Err, refl, sym, ap, ◌∙◌, append-nil, append_assoc, true≢false, ◌<◌, drop, get_or, slice_get, map, zero, suc, arith}
 use Rattle.std.specs.Option.{option_and_then}
 use Rattle.bench_core.specs.declared.fault.Fault.{Fault}
-use Rattle.bench_core.specs.declared.fault.Fault.TheVariants.{UnknownNode, HistoryFull, NoSuchStep, AlreadyUndone, NothingToUndo, HasConsequence, OutOfMemory}
+use Rattle.bench_core.specs.declared.fault.Fault.TheVariants.{UnknownNode, HistoryFull, NoSuchStep}
 use Rattle.bench_core.specs.declared.reply.Reply.{Reply}
-use Rattle.bench_core.specs.declared.reply.Reply.TheVariants.{Taken, Undone, Refused}
+use Rattle.bench_core.specs.declared.reply.Reply.TheVariants.{Refused}
 use Rattle.journal_core.specs.Journals.{Kept, find_number, first_consequence, last_of}
 use Rattle.journal_core.specs.Gathering.{gathered_numbers}
 use Rattle.std.proofs.lemmas.List.{at_drop_more}
 use Rattle.std.proofs.lemmas.Option.{get_or_from_slice_get}
 use Rattle.bench_core.specs.Acts.{Action, Do, Undo, Back}
 use Rattle.bench_core.specs.Clusters.{Cluster, step}
-use Rattle.bench_core.specs.Machine.{Machine, State, Event, config_of, given, knows, free_places, now, reply_to, step_reply, undo_reply, undo_found, unheld, back_reply, with_state, calls}
+use Rattle.bench_core.specs.Machine.{Machine, State, Event, config_of, given, knows, free_places, now, step_reply, undo_reply, undo_found, unheld, back_reply, with_state, calls}
 use Rattle.bench_core.specs.Unwinds.{Unexplained, Gone, Unmade, undos}
 use Rattle.payload_core.specs.Answers.{◌>>=◌}
 use Rattle.diff_core.specs.Rows.{Row}

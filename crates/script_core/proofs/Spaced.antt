@@ -1,5 +1,5 @@
 -- Words with a space between each two, and the line of a step as such words.
-use Rattle.std.proofs.Common.{◌≡◌, ℕ, zero, suc, ◌+◌, ◌*◌, ◌<◌, ◌≤◌, get_or, ◌==◌, ◌&&◌, ◌||◌, Bool, true, false, not, cond, if◌then◌else◌, List, [], ◌∷◌, ◌++◌, length, filter, All, refl, sym, ap, ◌∙◌, append_assoc, append-nil, true≢false, arith, nat_le, nat_lt, codes, decimal}
+use Rattle.std.proofs.Common.{◌≡◌, ℕ, zero, suc, ◌+◌, ◌*◌, ◌<◌, ◌≤◌, ◌==◌, ◌&&◌, Bool, true, false, not, cond, if◌then◌else◌, List, [], ◌∷◌, ◌++◌, length, filter, All, refl, sym, ap, ◌∙◌, append_assoc, append-nil, true≢false, arith, nat_le, codes, decimal}
 use Rattle.std.specs.List.{list_all, slice_split, AllByRecursion}
 use Rattle.std.specs.FinSet as set
 use Rattle.std.proofs.lemmas.List.{length-append}
@@ -11,7 +11,7 @@ use Rattle.payload_core.specs.Words.{is_word_byte}
 use Rattle.node_core.specs.Operations.{Operation, Join, Leave, LeaveAll, Update, Broadcast, Extract, Deliver, Up, Down, Permdown}
 use Rattle.bench_core.specs.NameList.{Texts}
 use Rattle.script_core.specs.Rows.{name_at}
-use Rattle.script_core.specs.StepText.{presence_text, chosen_text, extract_from, step_text, act_line}
+use Rattle.script_core.specs.StepText.{presence_text, extract_from, step_text, act_line}
 use Rattle.script_core.specs.Words.{words_of, is_text, is_visible}
 
 pub both : (a b : Bool) → (a && b) ≡ true → (a ≡ true) × (b ≡ true)

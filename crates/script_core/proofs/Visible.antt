@@ -1,5 +1,5 @@
 -- What is printed of a step are words: names, numbers, topics, keys and metadata.
-use Rattle.std.proofs.Common.{◌≡◌, ℕ, zero, suc, ◌+◌, ◌<◌, ◌≤◌, ◌^◌, ◌==◌, ◌&&◌, ◌||◌, nat_lt, nat_le, Bool, true, false, not, if◌then◌else◌, List, [], ◌∷◌, ◌++◌, length, get_or, slice_index, Ok, Err, refl, sym, ap, ◌∙◌, true≢false, arith, rules, decimal}
+use Rattle.std.proofs.Common.{◌≡◌, ℕ, ◌+◌, ◌<◌, ◌≤◌, ◌==◌, ◌&&◌, ◌||◌, nat_lt, nat_le, Bool, true, false, not, if◌then◌else◌, List, [], ◌∷◌, ◌++◌, length, get_or, slice_index, Ok, Err, refl, sym, ap, ◌∙◌, true≢false, arith, rules, decimal}
 use Rattle.std.specs.Char.{is_ascii_digit}
 use Rattle.std.specs.List.{list_all, list_any, AllByRecursion}
 use Rattle.std.specs.FinSet as set
@@ -8,21 +8,17 @@ use Rattle.std.specs.Str.Parse.{digits_value}
 use Rattle.std.proofs.ByRecursion.{All-get_or as every_at}
 use Rattle.std.proofs.lemmas.Fmt.{decimal_is_IsNumeral, length-decimal-le}
 use Rattle.std.proofs.lemmas.Str.Parse.{IsNumeralModel, numerals_by_value}
-use Rattle.std.proofs.lemmas.Option.{unwrap_or-slice_get}
 use Rattle.std.proofs.lemmas.Bool.Decides.{nat_tests}
 use Rattle.dots_core.specs.Names.{Names}
 use Rattle.payload_core.specs.Answers.{◌>>=◌}
-use Rattle.payload_core.specs.Words.{is_word, is_word_byte}
-use Rattle.payload_core.specs.Presences.{Presence}
-use Rattle.node_core.specs.Operations.{Operation, Join, Leave, LeaveAll, Update, Broadcast, Extract, Deliver, Up, Down, Permdown}
-use Rattle.bench_core.specs.declared.names_fault.NamesFault.TheVariants.{WrongCount, BadName, Twice}
+use Rattle.payload_core.specs.Words.{is_word_byte}
+use Rattle.bench_core.specs.declared.names_fault.NamesFault.TheVariants.{BadName, Twice}
 use Rattle.bench_core.specs.NameText.{is_name, is_name_byte}
 use Rattle.bench_core.specs.NameList.{Texts, with_names, names_of}
-use Rattle.script_core.specs.Rows.{name_at}
 use Rattle.script_core.specs.Words.{is_visible}
-use Rattle.script_core.specs.ReadSteps.{IsWord, IsNumber, IsPresence, IsWritten}
+use Rattle.script_core.specs.ReadSteps.{IsWord, IsNumber}
 use Rattle.script_core.proofs.ReadNames.{opened}
-use Rattle.script_core.proofs.Spaced.{both, step_words, presence_words, chosen_from}
+use Rattle.script_core.proofs.Spaced.{both, chosen_from}
 
 -- a word of at most so many bytes
 pub record Fits (most : ℕ) (word : List ℕ) : Type 0 where
