@@ -1,11 +1,11 @@
 -- The acts among the lines of a script, one by one.
-use Rattle.std.proofs.Common.{◌≡◌, ℕ, ◌+◌, ◌<◌, ◌≤◌, List, [], ◌∷◌, ◌++◌, length, get_or, drop, map, Result, Ok, Err, refl, sym, ap, ◌∙◌}
-use Rattle.std.proofs.lemmas.List.{at_drop_more, at_drop_all}
+use Rattle.std.proofs.Common.{◌≡◌, ℕ, ◌+◌, ◌<◌, List, [], ◌∷◌, ◌++◌, length, get_or, drop, Result, Ok, Err, sym, ap, ◌∙◌}
+use Rattle.std.proofs.lemmas.List.{at_drop_more}
 use Rattle.payload_core.specs.Answers.{◌>>=◌}
 use Rattle.bench_core.specs.Acts.{Action}
 use Rattle.script_core.specs.declared.fault.ScriptFault.{ScriptFault}
 use Rattle.script_core.specs.declared.script.Line.{Line as DeclaredLine}
-use Rattle.script_core.specs.Scripts.{Line, plain_line, plain_lines}
+use Rattle.script_core.specs.Scripts.{plain_line, plain_lines}
 use Rattle.script_core.specs.Grammar.{call_of, with_calls}
 
 abbrev Calls : Type 0

@@ -1,6 +1,6 @@
 -- Words with a space between each two, and the line of a step as such words.
-use Rattle.std.proofs.Common.{◌≡◌, ℕ, zero, suc, ◌+◌, ◌*◌, ◌<◌, ◌≤◌, get_or, ◌==◌, ◌&&◌, ◌||◌, Bool, true, false, not, cond, if◌then◌else◌, List, [], ◌∷◌}
-use Rattle.std.proofs.Common.{◌++◌, length, filter, All, refl, sym, ap, ◌∙◌, append_assoc, append-nil, true≢false, arith, nat_le, nat_lt, codes, decimal}
+use Rattle.std.proofs.Common.{◌≡◌, ℕ, zero, suc, ◌+◌, ◌*◌, ◌<◌, ◌≤◌, ◌==◌, ◌&&◌, Bool, true, false, not, cond, if◌then◌else◌, List, [], ◌∷◌, ◌++◌, length}
+use Rattle.std.proofs.Common.{filter, All, refl, sym, ap, ◌∙◌, append_assoc, append-nil, true≢false, arith, nat_le, codes, decimal}
 use Rattle.std.specs.List.{list_all, slice_split, AllByRecursion}
 use Rattle.std.specs.FinSet as set
 use Rattle.std.proofs.lemmas.List.{length-append}
@@ -12,7 +12,7 @@ use Rattle.payload_core.specs.Words.{is_word_byte}
 use Rattle.node_core.specs.Operations.{Operation, Join, Leave, LeaveAll, Update, Broadcast, Extract, Deliver, Up, Down, Permdown}
 use Rattle.bench_core.specs.NameList.{Texts}
 use Rattle.script_core.specs.Rows.{name_at}
-use Rattle.script_core.specs.StepText.{presence_text, chosen_text, extract_from, step_text, act_line}
+use Rattle.script_core.specs.StepText.{presence_text, extract_from, step_text, act_line}
 use Rattle.script_core.specs.Words.{words_of, is_text, is_visible}
 
 pub both : (a b : Bool) → (a && b) ≡ true → (a ≡ true) × (b ≡ true)
@@ -40,7 +40,7 @@ kept_word w rest e =
 first_word : (w rest : List ℕ) → is_visible w ≡ true → words_of (w ++ 32 ∷ rest) ≡ w ∷ words_of rest
 first_word w rest e =
     ap (filter (λ word. not (length word == 0)))
-    (slice_split_at (λ byte. byte == 32) w 32 rest (no_space w (both (not (length w == 0)) (list_all is_word_byte w) e).1) refl)
+        (slice_split_at (λ byte. byte == 32) w 32 rest (no_space w (both (not (length w == 0)) (list_all is_word_byte w) e).1) refl)
     ∙ kept_word w (slice_split (λ byte. byte == 32) rest) e
 
 last_word : (w : List ℕ) → is_visible w ≡ true → words_of w ≡ w ∷ []
@@ -128,7 +128,7 @@ extract_spaced w chosen n (name ∷ names) =
     go : (b : Bool) → name ++ extract_from chosen (n + 1) names ≡ spaced (name ∷ chosen_from chosen (n + 1) names) →
         w ++ extract_from chosen (n + 1) names ≡ spaced (w ∷ chosen_from chosen (n + 1) names)
         → w ++ ((if b then 32 ∷ name else []) ++ extract_from chosen (n + 1) names) ≡
-        spaced (w ∷ (if b then name ∷ chosen_from chosen (n + 1) names else chosen_from chosen (n + 1) names))
+            spaced (w ∷ (if b then name ∷ chosen_from chosen (n + 1) names else chosen_from chosen (n + 1) names))
     go true taken passed = ap (λ text. w ++ 32 ∷ text) taken
     go false taken passed = passed
 

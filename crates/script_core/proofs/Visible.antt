@@ -1,6 +1,6 @@
 -- What is printed of a step are words: names, numbers, topics, keys and metadata.
-use Rattle.std.proofs.Common.{◌≡◌, ℕ, zero, suc, ◌+◌, ◌<◌, ◌≤◌, ◌^◌, ◌==◌, ◌&&◌, ◌||◌, nat_lt, nat_le, Bool, true, false, not, if◌then◌else◌, List, [], ◌∷◌}
-use Rattle.std.proofs.Common.{◌++◌, length, get_or, slice_index, Ok, Err, refl, sym, ap, ◌∙◌, true≢false, arith, rules, decimal}
+use Rattle.std.proofs.Common.{◌≡◌, ℕ, ◌+◌, ◌<◌, ◌≤◌, ◌==◌, ◌&&◌, ◌||◌, nat_lt, nat_le, Bool, true, false, not, if◌then◌else◌, List, [], ◌∷◌, ◌++◌, length}
+use Rattle.std.proofs.Common.{get_or, slice_index, Ok, Err, refl, sym, ap, ◌∙◌, true≢false, arith, rules, decimal}
 use Rattle.std.specs.Char.{is_ascii_digit}
 use Rattle.std.specs.List.{list_all, list_any, AllByRecursion}
 use Rattle.std.specs.FinSet as set
@@ -9,21 +9,17 @@ use Rattle.std.specs.Str.Parse.{digits_value}
 use Rattle.std.proofs.ByRecursion.{All-get_or as every_at}
 use Rattle.std.proofs.lemmas.Fmt.{decimal_is_IsNumeral, length-decimal-le}
 use Rattle.std.proofs.lemmas.Str.Parse.{IsNumeralModel, numerals_by_value}
-use Rattle.std.proofs.lemmas.Option.{unwrap_or-slice_get}
 use Rattle.std.proofs.lemmas.Bool.Decides.{nat_tests}
 use Rattle.dots_core.specs.Names.{Names}
 use Rattle.payload_core.specs.Answers.{◌>>=◌}
-use Rattle.payload_core.specs.Words.{is_word, is_word_byte}
-use Rattle.payload_core.specs.Presences.{Presence}
-use Rattle.node_core.specs.Operations.{Operation, Join, Leave, LeaveAll, Update, Broadcast, Extract, Deliver, Up, Down, Permdown}
-use Rattle.bench_core.specs.declared.names_fault.NamesFault.TheVariants.{WrongCount, BadName, Twice}
+use Rattle.payload_core.specs.Words.{is_word_byte}
+use Rattle.bench_core.specs.declared.names_fault.NamesFault.TheVariants.{BadName, Twice}
 use Rattle.bench_core.specs.NameText.{is_name, is_name_byte}
 use Rattle.bench_core.specs.NameList.{Texts, with_names, names_of}
-use Rattle.script_core.specs.Rows.{name_at}
 use Rattle.script_core.specs.Words.{is_visible}
-use Rattle.script_core.specs.ReadSteps.{IsWord, IsNumber, IsPresence, IsWritten}
+use Rattle.script_core.specs.ReadSteps.{IsWord, IsNumber}
 use Rattle.script_core.proofs.ReadNames.{opened}
-use Rattle.script_core.proofs.Spaced.{both, step_words, presence_words, chosen_from}
+use Rattle.script_core.proofs.Spaced.{both, chosen_from}
 
 -- a word of at most so many bytes
 pub record Fits (most : ℕ) (word : List ℕ) : Type 0 where
@@ -56,10 +52,8 @@ pub number_fits : (n : ℕ) → IsNumber n → Fits 200 (decimal n)
 number_fits n fits =
     let model = decimal_is_IsNumeral n fits in
     let few = length-decimal-le 20 n (omega arith) (omega (arith, fits)) fits in
-    record {
-      seen = visible (decimal n) model.0.0 (visible_by is_ascii_digit digit_byte (decimal n) (own.from (decimal n) model.0.1));
-      short = omega (arith, few);
-    }
+    record { seen = visible (decimal n) model.0.0 (visible_by is_ascii_digit digit_byte (decimal n) (own.from (decimal n) model.0.1));
+        short = omega (arith, few) }
 
 pub word_fits : (w : List ℕ) → IsWord w → Fits 200 w
 word_fits w h = go (nat_le 1 (length w) && nat_le (length w) 200) refl h
@@ -77,7 +71,7 @@ all_names before (text ∷ texts) all e =
     go : (a : Bool) → is_name text ≡ a → (b : Bool) →
         (with_names (before ++ text ∷ []) texts ≡ Ok all → AllByRecursion (λ w. is_name w ≡ true) texts)
         → ((if not a then Err (BadName (length before + 1)) else (if b then Err (Twice (length before + 1)) else Ok (before ++ text ∷ [])))
-        >>= λ next. with_names next texts) ≡ Ok all
+            >>= λ next. with_names next texts) ≡ Ok all
         → AllByRecursion (λ w. is_name w ≡ true) (text ∷ texts)
     go false is b rest e = absurd (cc)
     go true is true rest e = absurd (cc)

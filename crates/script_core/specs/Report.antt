@@ -1,7 +1,6 @@
 -- The report of a script: the text of each line, as the machine gives it on the state before the line.
 use Rattle.std.specs.Prelude.{ℕ, ◌+◌, List, [], ◌∷◌, ◌++◌, map, length, Bool, true, false, Option, Some, None}
 use Rattle.bench_core.specs.declared.reply.Reply.{Reply}
-use Rattle.bench_core.specs.declared.reply.Reply.TheVariants.{Taken, Undone, Refused}
 use Rattle.bench_core.specs.declared.fault.Fault.{Fault}
 use Rattle.bench_core.specs.declared.fault.Fault.TheVariants.{OutOfMemory}
 use Rattle.journal_core.specs.Journals.{Kept, find_number}

@@ -5,11 +5,32 @@ use bench_core::Limits;
 use script_core::{FakeReader, FakeWriter, PlayFault, play, report_history};
 use test_alloc::Refusing;
 
-const UNWOUND: &str =
-    "nodes a b\na join 1 r alice phone\na broadcast\nb up a\nb deliver a 1\nwhy 1\na unwind 1\n";
+const UNWOUND: &str = "\
+nodes a b
+a join 1 r alice phone
+a broadcast
+b up a
+b deliver a 1
+why 1
+a unwind 1
+";
 
-const UNWOUND_REPORT: &str =
-    "1 ok\n+ r alice a/1 phone\n2 ok\n3 ok\n4 ok\n+ r alice a/1 phone\nfuture 4 2 1\nundone 4\nundone 2\nundone 1\nat a\n- r alice a/1 phone\nat b\n- r alice a/1 phone\n";
+const UNWOUND_REPORT: &str = "\
+1 ok
++ r alice a/1 phone
+2 ok
+3 ok
+4 ok
++ r alice a/1 phone
+future 4 2 1
+undone 4
+undone 2
+undone 1
+at a
+- r alice a/1 phone
+at b
+- r alice a/1 phone
+";
 
 #[test]
 fn a_play_that_is_refused_memory_writes_nothing(rt: HostRuntime) {

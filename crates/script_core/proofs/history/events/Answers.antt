@@ -1,4 +1,4 @@
-use Rattle.std.proofs.Common.{◌≡◌, ◌++◌, ◌<◌, length, arith}
+use Rattle.std.proofs.Common.{arith}
 use Rattle.script_core.proofs.Printed.{events_more, no_gap}
 use Rattle.script_core.proofs.history.events.Goals as goal
 use Rattle.script_core.proofs.history.events.Goals.{in-Some+in_ok-event, in_default}

@@ -1,4 +1,4 @@
-use Rattle.std.proofs.Common.{◌≡◌, ◌++◌, ◌∙◌, false, sym, ap, subst, OnOk, string_bytes}
+use Rattle.std.proofs.Common.{◌≡◌, ◌++◌, ◌∙◌, false, sym, ap, string_bytes}
 use Rattle.std.proofs.lemmas.Result.{on_ok_weaker}
 use Rattle.script_core.specs.Report.{is_want, after_unwind}
 use Rattle.script_core.proofs.Printed.{unwound_bench, unwound_text, gone_bench, gone_unwind}

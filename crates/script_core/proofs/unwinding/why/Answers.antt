@@ -1,6 +1,4 @@
-use Rattle.std.proofs.Common.{◌++◌, ◌≡◌, ap, sym, ◌∙◌, false, subst, OnOk, string_bytes}
-use Rattle.bench_core.specs.declared.reply.Reply.TheVariants.{Refused}
-use Rattle.script_core.specs.Rows.{reply_line}
+use Rattle.std.proofs.Common.{◌++◌, ◌≡◌, sym, ◌∙◌, false, subst, OnOk, string_bytes}
 use Rattle.script_core.specs.Report.{why_text, is_want}
 use Rattle.script_core.proofs.Printed.{gone_text}
 use Rattle.script_core.proofs.unwinding.why.Goals as goal
