@@ -53,12 +53,12 @@ pub changed_concerned : (m : Machine) (actor : ℕ) (act : Action) → IsMade (r
 unfolding changed concerned reply_of
 changed_concerned m actor (Do operation) =
     go (not (knows (config_of m) actor operation)) (nat_lt (free_places (config_of m) m.state) 2)
-        (now (config_of m) m.state >>= λ cluster. step cluster actor operation)
+    (now (config_of m) m.state >>= λ cluster. step cluster actor operation)
   where
     go : (a b : Bool) (r : Result Cluster Fault) →
         IsMade (if a then Refused UnknownNode else if b then Refused HistoryFull else step_reply (given m.state.history + 1) r)
         → changed m.state.remaining actor
-            (if a then Refused UnknownNode else if b then Refused HistoryFull else step_reply (given m.state.history + 1) r) ≡ Some actor
+        (if a then Refused UnknownNode else if b then Refused HistoryFull else step_reply (given m.state.history + 1) r) ≡ Some actor
     go true b r made = absurd (made _ refl)
     go false true r made = absurd (made _ refl)
     go false false (Ok c) made = refl
@@ -68,7 +68,7 @@ changed_concerned m actor (Back node) = go (nat_lt node (length m.names)) (last_
   where
     go : (b : Bool) (o : Option ℕ) → IsMade (if b then back_reply m.state o else Refused UnknownNode)
         → changed m.state.remaining actor (if b then back_reply m.state o else Refused UnknownNode) ≡
-            (if b then option_and_then (node_of_step m.state.remaining) o else None)
+        (if b then option_and_then (node_of_step m.state.remaining) o else None)
     go true None made = absurd (made _ refl)
     go true (Some k) made = undo_changed m.state actor k made
     go false o made = absurd (made _ refl)
@@ -79,33 +79,33 @@ pub refused_text : (m : Machine) (actor : ℕ) (act : Action) (reply : Reply) (f
 unfolding act_text change_text changed rows_of diff_text change_lines row_lines
 refused_text m actor act reply fault said is =
     ap (λ r. reply_line r ++ change_text m (after_act m actor act) (changed m.state.remaining actor r)) (sym said ∙ is)
-        ∙ append-nil (reply_line (Refused fault)) ∙ ap reply_line (sym is)
+    ∙ append-nil (reply_line (Refused fault)) ∙ ap reply_line (sym is)
 
 -- the node that the act concerns
 pub made_text : (m : Machine) (actor : ℕ) (act : Action) (reply : Reply) → reply ≡ reply_of m actor act → IsMade reply
     → act_text m actor act ≡ reply_line reply ++
-        diff_text m.names (rows_of m (concerned m actor act)) (rows_of (after_act m actor act) (concerned m actor act))
+    diff_text m.names (rows_of m (concerned m actor act)) (rows_of (after_act m actor act) (concerned m actor act))
 unfolding act_text change_text
 made_text m actor act reply said made =
     ap (λ r. reply_line r ++ change_text m (after_act m actor act) (changed m.state.remaining actor (reply_of m actor act))) (sym said)
     ∙ ap (λ n. reply_line reply ++ change_text m (after_act m actor act) n)
-        (changed_concerned m actor act (λ fault e. made fault (said ∙ e)))
+    (changed_concerned m actor act (λ fault e. made fault (said ∙ e)))
 
 -- and so the text of an act, put together from what was asked before it and after it
 pub act_done : (m new : Machine) (actor : ℕ) (act : Action) (reply : Reply) (node : Option ℕ) (before : List Row)
     (start middle end : List ℕ) → node ≡ concerned m actor act → before ≡ rows_of m node → reply ≡ reply_of m actor act →
     new ≡ after_act m actor act → IsMade reply
     → middle ≡ start ++ reply_line reply → end ≡ middle ++ diff_text new.names before (rows_of new node) →
-        end ≡ start ++ act_text m actor act
+    end ≡ start ++ act_text m actor act
 unfolding after_act
 act_done m new actor act reply node before start middle end there was said now made first second =
     let change : diff_text new.names before (rows_of new node) ≡
-        diff_text m.names (rows_of m (concerned m actor act)) (rows_of (after_act m actor act) (concerned m actor act)) =
+    diff_text m.names (rows_of m (concerned m actor act)) (rows_of (after_act m actor act) (concerned m actor act)) =
     ap (λ (x : Machine). diff_text x.names before (rows_of x node)) now
-        ∙ ap (λ rows. diff_text m.names rows (rows_of (after_act m actor act) node)) was
+    ∙ ap (λ rows. diff_text m.names rows (rows_of (after_act m actor act) node)) was
     ∙ ap (λ n. diff_text m.names (rows_of m n) (rows_of (after_act m actor act) n)) there in
     second ∙ ap (λ t. t ++ diff_text new.names before (rows_of new node)) first
-        ∙ append_assoc start (reply_line reply) (diff_text new.names before (rows_of new node))
+    ∙ append_assoc start (reply_line reply) (diff_text new.names before (rows_of new node))
     ∙ ap (λ t. start ++ (reply_line reply ++ t)) change ∙ ap (λ t. start ++ t) (sym (made_text m actor act reply said made))
 
 -- an unwind
@@ -116,22 +116,22 @@ pub unwound_bench : (m new : Machine) (actor n : ℕ) (numbers : List ℕ) → (
 unfolding after_unwind unwound
 unwound_bench m new actor n numbers found whole now =
     now ∙ ap (λ ns. with_state m (calls (config_of m) m.state (undos actor ns)))
-        (whole ∙ ap (λ o. unless_none o (gathered_numbers m.state.remaining n)) (sym found.1))
+    (whole ∙ ap (λ o. unless_none o (gathered_numbers m.state.remaining n)) (sym found.1))
 
 pub unwound_text : (m new : Machine) (actor n : ℕ) (numbers : List ℕ) (lists : List (List Row)) (start middle end : List ℕ) →
     ((k : Kept) × (find_number m.state.remaining n ≡ Some k)) → numbers ≡ gathered_numbers m.state.remaining n
     → new ≡ after_unwind m actor n → lists ≡ rows_to m (length m.names) → middle ≡ start ++ undone_lines numbers →
-        end ≡ middle ++ changes_from new 0 lists → end ≡ start ++ unwind_text m actor n
+    end ≡ middle ++ changes_from new 0 lists → end ≡ start ++ unwind_text m actor n
 unfolding unwind_text changes_text
 unwound_text m new actor n numbers lists start middle end found whole now were first second =
     second ∙ ap (λ t. t ++ changes_from new 0 lists) first ∙ append_assoc start (undone_lines numbers) (changes_from new 0 lists)
     ∙ ap (λ t. start ++ t)
     (ap (λ ns. undone_lines ns ++ changes_from new 0 lists) whole
-        ∙ ap (λ x. undone_lines (gathered_numbers m.state.remaining n) ++ changes_from x 0 lists) now
+    ∙ ap (λ x. undone_lines (gathered_numbers m.state.remaining n) ++ changes_from x 0 lists) now
     ∙ ap (λ ls. undone_lines (gathered_numbers m.state.remaining n) ++ changes_from (after_unwind m actor n) 0 ls) were
     ∙ ap (λ o. unless_gone m.state n o
-        (undone_lines (gathered_numbers m.state.remaining n) ++ changes_from (after_unwind m actor n) 0 (rows_to m (length m.names))))
-        (sym found.1))
+    (undone_lines (gathered_numbers m.state.remaining n) ++ changes_from (after_unwind m actor n) 0 (rows_to m (length m.names))))
+    (sym found.1))
 
 gone_none : (s : State) (n : ℕ) (fault : Fault) → Unexplained s n fault → is_want fault ≡ false → find_number s.remaining n ≡ None
 gone_none s n _ (Gone fault none refused) other = none
@@ -142,7 +142,7 @@ pub gone_bench : (m new : Machine) (actor n : ℕ) (fault : Fault) → Unexplain
 unfolding after_unwind unwound
 gone_bench m new actor n fault gone told now =
     now ∙ ap (λ o. with_state m (calls (config_of m) m.state (undos actor (unless_none o (gathered_numbers m.state.remaining n)))))
-        (sym (gone_none m.state n fault gone told))
+    (sym (gone_none m.state n fault gone told))
 
 pub gone_unwind : (m : Machine) (actor n : ℕ) (fault : Fault) → Unexplained m.state n fault → is_want fault ≡ false →
     reply_line (Refused fault) ≡ unwind_text m actor n
@@ -171,11 +171,11 @@ events_more m next events n e start now text within so_far at done printed =
     let rest = commands_text (after_command m (call_of e)) (map call_of (drop (n + 1) events)) in
     let split : commands_text m (map call_of (drop n events)) ≡ command_text m (call_of e) ++ rest =
     at_drop_more (λ es. commands_text m (map call_of es)) events n e within
-        ∙ ap (λ x. commands_text m (call_of x ∷ map call_of (drop (n + 1) events))) (get_or_from_slice_get events n e e (sym at)) in
+    ∙ ap (λ x. commands_text m (call_of x ∷ map call_of (drop (n + 1) events))) (get_or_from_slice_get events n e e (sym at)) in
     ap (λ t. t ++ commands_text next (map call_of (drop (n + 1) events))) printed
-        ∙ append_assoc now (command_text m (call_of e)) (commands_text next (map call_of (drop (n + 1) events)))
+    ∙ append_assoc now (command_text m (call_of e)) (commands_text next (map call_of (drop (n + 1) events)))
     ∙ ap (λ x. now ++ (command_text m (call_of e) ++ commands_text x (map call_of (drop (n + 1) events)))) done
-        ∙ ap (λ t. now ++ t) (sym split) ∙ so_far
+    ∙ ap (λ t. now ++ t) (sym split) ∙ so_far
 
 -- there is a recorded act at each place
 pub no_gap : (events : List Event) (n : ℕ) → n < length events → None ≡ slice_get events n → ⊥

@@ -40,7 +40,7 @@ kept_word w rest e =
 first_word : (w rest : List ℕ) → is_visible w ≡ true → words_of (w ++ 32 ∷ rest) ≡ w ∷ words_of rest
 first_word w rest e =
     ap (filter (λ word. not (length word == 0)))
-        (slice_split_at (λ byte. byte == 32) w 32 rest (no_space w (both (not (length w == 0)) (list_all is_word_byte w) e).1) refl)
+    (slice_split_at (λ byte. byte == 32) w 32 rest (no_space w (both (not (length w == 0)) (list_all is_word_byte w) e).1) refl)
     ∙ kept_word w (slice_split (λ byte. byte == 32) rest) e
 
 last_word : (w : List ℕ) → is_visible w ≡ true → words_of w ≡ w ∷ []
@@ -128,7 +128,7 @@ extract_spaced w chosen n (name ∷ names) =
     go : (b : Bool) → name ++ extract_from chosen (n + 1) names ≡ spaced (name ∷ chosen_from chosen (n + 1) names) →
         w ++ extract_from chosen (n + 1) names ≡ spaced (w ∷ chosen_from chosen (n + 1) names)
         → w ++ ((if b then 32 ∷ name else []) ++ extract_from chosen (n + 1) names) ≡
-            spaced (w ∷ (if b then name ∷ chosen_from chosen (n + 1) names else chosen_from chosen (n + 1) names))
+        spaced (w ∷ (if b then name ∷ chosen_from chosen (n + 1) names else chosen_from chosen (n + 1) names))
     go true taken passed = ap (λ text. w ++ 32 ∷ text) taken
     go false taken passed = passed
 

@@ -52,8 +52,10 @@ pub number_fits : (n : ℕ) → IsNumber n → Fits 200 (decimal n)
 number_fits n fits =
     let model = decimal_is_IsNumeral n fits in
     let few = length-decimal-le 20 n (omega arith) (omega (arith, fits)) fits in
-    record { seen = visible (decimal n) model.0.0 (visible_by is_ascii_digit digit_byte (decimal n) (own.from (decimal n) model.0.1));
-        short = omega (arith, few) }
+    record {
+      seen = visible (decimal n) model.0.0 (visible_by is_ascii_digit digit_byte (decimal n) (own.from (decimal n) model.0.1));
+      short = omega (arith, few);
+    }
 
 pub word_fits : (w : List ℕ) → IsWord w → Fits 200 w
 word_fits w h = go (nat_le 1 (length w) && nat_le (length w) 200) refl h
@@ -71,7 +73,7 @@ all_names before (text ∷ texts) all e =
     go : (a : Bool) → is_name text ≡ a → (b : Bool) →
         (with_names (before ++ text ∷ []) texts ≡ Ok all → AllByRecursion (λ w. is_name w ≡ true) texts)
         → ((if not a then Err (BadName (length before + 1)) else (if b then Err (Twice (length before + 1)) else Ok (before ++ text ∷ [])))
-            >>= λ next. with_names next texts) ≡ Ok all
+        >>= λ next. with_names next texts) ≡ Ok all
         → AllByRecursion (λ w. is_name w ≡ true) (text ∷ texts)
     go false is b rest e = absurd (cc)
     go true is true rest e = absurd (cc)
