@@ -3,7 +3,7 @@ ghost use Rattle.std.specs.Prelude.{◌≡◌};
 ghost use Rattle.script_core.specs.Grammar.{keyword_of, verb_of, is_for_consoles};
 
 /// A first word that is no actor's name.
-#[derive(Clone, Copy, Debug, PartialEq, Eq)]
+#[derive(Clone, Copy)]
 pub enum Keyword {
     Nodes,
     Consoles,
@@ -14,7 +14,7 @@ pub enum Keyword {
 }
 
 /// The second word of an actor's line.
-#[derive(Clone, Copy, Debug, PartialEq, Eq)]
+#[derive(Clone, Copy)]
 pub enum Verb {
     Join,
     Leave,

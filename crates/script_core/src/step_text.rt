@@ -26,7 +26,8 @@ fn put_presence<A: Allocator, W: Allocator>(
     let topic = topic.as_str();
     let key = key.as_str();
     let metadata = metadata.as_str();
-    Ok(write!(text, "{pid} {topic} {key} {metadata}")?)
+    write!(text, "{pid} {topic}")?;
+    Ok(write!(text, " {key} {metadata}")?)
 }
 
 /// The name of this number after a space, where it is in the set.
