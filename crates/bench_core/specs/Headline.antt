@@ -34,7 +34,8 @@ BackLaw =
       as_it_was : (call c (call c s actor (Do operation)) other (Undo k)).remaining ≡ s.remaining;
     }
 
--- refused only for a named consequence: an undo of a remaining step is made, and changes its node alone; or it is refused with its least direct consequence, and changes nothing
+-- refused only for a named consequence: an undo of a remaining step is made, and changes its node alone; or it is
+-- refused with its least direct consequence, and changes nothing
 abbrev pub UndoLaw : Type 0
 UndoLaw =
     (c : Config) (s : State) (actor : ℕ) (step : Kept) (cluster : Cluster) → IsReached c s →
@@ -71,7 +72,8 @@ pub record NodeGoesBack (old : Machine) (k node : ℕ) (new : Machine) : Type 0 
   pub just_before : runs (node_limits old.limits) (length old.names) (steps_before old.state.remaining k) ≡ Ok earlier
   pub becomes : cluster_of new ≡ Ok (with_node_of node earlier cluster)
 
--- how the undo of remaining step k ends: it is made, and its node alone goes back; or its least direct consequence is named, and neither cluster nor remaining steps change; or memory was refused, and nothing changed
+-- how the undo of remaining step k ends: it is made, and its node alone goes back; or its least direct consequence is
+-- named, and neither cluster nor remaining steps change; or memory was refused, and nothing changed
 pub data UndoEnds (old : Machine) (k : ℕ) (reply : Reply) (new : Machine) : Type 0 where
   Made : first_consequence old.state.remaining k ≡ None → reply ≡ Undone k → new.state.remaining ≡ without old.state.remaining k →
       (step : Kept) → find_number old.state.remaining k ≡ Some step → NodeGoesBack old k step.node new → UndoEnds old k reply new

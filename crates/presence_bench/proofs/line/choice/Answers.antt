@@ -13,7 +13,8 @@ pub returns : goal.returns
 returns g c =
     let m = c.in_ok-matches.matches in
     let words = map g.S.AsStr.text c.args.words.now in
-    let matched : HasMatchesOf app words m = subst (λ (a : App). HasMatchesOf a words m) c.in_ok-line.ensures c.in_ok-matches.ensures.ok.2 in
+    let matched : HasMatchesOf app words m =
+    subst (λ (a : App). HasMatchesOf a words m) c.in_ok-line.ensures c.in_ok-matches.ensures.ok.2 in
     let rows = rows_of (found_of c.in-Some.field-0-1.now) in
     let met : subcommand_rows_of m ≡ Some (c.in-Some.name.now, rows) = both_parts _ _ _ _ _ c.in-Some.ensures.name c.in-Some.ensures.rows in
     (rows, sym (matched simple).1 ∙ met ∙ ap (λ (n : List ℕ). Some (n, rows)) c.in-Some-command_of.ensures)
