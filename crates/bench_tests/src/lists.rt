@@ -334,7 +334,7 @@ fn fails_where_refused<'a>(heap: &'a Heap, replica: &Replica<&'a Heap>, number: 
 
 fn is_compared<'a, B: Allocator>(alloc: &'a B, replica: &Replica<&'a B>) -> Result<(), Oom> {
     let rows = online_list(alloc, replica)?;
-    let none = Vec::new(alloc);
+    let none = online_list(alloc, &opening(alloc, 1))?;
     diff(alloc, &rows, &none)?;
     Ok(())
 }

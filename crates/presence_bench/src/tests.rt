@@ -106,18 +106,25 @@ fn ended<B: Allocator>(
     (status, writer, errors)
 }
 
+/// Whether the program ends as the case says.
+fn ends_so(rt: &HostRuntime, case: &Case, reader: &mut FakeReader<'_>) -> bool {
+    let rooms = [case.room, 1000];
+    let (status, writer, errors) = ended(rt, &rt.alloc(), case.words, reader, rooms);
+    status == case.status
+        && writer.taken() == case.printed.as_bytes()
+        && errors.taken() == case.told.as_bytes()
+}
+
 #[test]
 fn each_end_has_its_status_and_its_line(rt: HostRuntime) {
-    for case in CASES {
-        let mut reader = match case.fails {
-            true => FakeReader::failing(case.script.as_bytes()),
-            false => FakeReader::ending(case.script.as_bytes()),
+    for case in &CASES {
+        let script = case.script.as_bytes();
+        let is_so = if case.fails {
+            ends_so(&rt, case, &mut FakeReader::failing(script))
+        } else {
+            ends_so(&rt, case, &mut FakeReader::ending(script))
         };
-        let rooms = [case.room, 1000];
-        let (status, writer, errors) = ended(&rt, &rt.alloc(), case.words, &mut reader, rooms);
-        assert_eq!(rt; status, case.status, "{}", case.told);
-        assert_eq!(rt; writer.taken(), case.printed.as_bytes(), "{}", case.told);
-        assert_eq!(rt; errors.taken(), case.told.as_bytes());
+        assert!(rt; is_so, "{}", case.told);
     }
 }
 
