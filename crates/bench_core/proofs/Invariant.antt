@@ -28,6 +28,7 @@ use Rattle.journal_core.specs.Holdings.{Held, Journal, kepts, find_held, inverse
 use Rattle.bench_core.specs.Chains.{Link, Chain}
 use Rattle.bench_core.specs.Machine.{Event, Config, State, Machine, config_of, opening_state, is_taken, given, free_places, knows, undo_reply, step_reply}
 use Rattle.bench_core.specs.Machine.{do_reply, reply_to, now, is_recorded, after, call, calls, AnswersAs, Answered, Unmade}
+use Rattle.bench_core.specs.Histories.{note}
 use Rattle.bench_core.specs.Headline.{IsReached}
 use Rattle.bench_core.specs.Benches.{AreNodes, HasCluster, IsBackable, IsBench, IsMachine, IsNumbered, IsTaken}
 use Rattle.journal_core.proofs.Rising.{kepts-append, find_kepts}
@@ -58,17 +59,6 @@ machine names limits h ks = record { names = names; limits = limits; state = rec
 
 abbrev pub config : Texts → Limits → Config
 config names limits = record { nodes = length names; limits = limits }
-
--- the history with one more call
-abbrev pub note : ℕ → Action → Reply → List Event → List Event
-note actor act r h = h ++ record { actor = actor; act = act; reply = r } ∷ []
-
--- a history to which a call was added, by a copy of what was asked
-pub noted : (actor : ℕ) (act copy : Action) (r : Reply) (h mid later : List Event) →
-    later ≡ mid ++ record { actor = actor; act = copy; reply = r } ∷ [] → mid ≡ h → copy ≡ act → later ≡ note actor act r h
-noted actor act copy r h mid later is same copied =
-    is ∙ ap (λ (m : List Event). m ++ record { actor = actor; act = copy; reply = r } ∷ []) same
-    ∙ ap (λ (a : Action). note actor a r h) copied
 
 recorded_if : (c : Config) (s : State) (f : Fault) → f ≢ HistoryFull → is_recorded c s (Refused f) ≡ not (free_places c s == 0)
 recorded_if c s HistoryFull other = absurd (other refl)

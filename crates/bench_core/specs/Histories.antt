@@ -1,15 +1,18 @@
--- The recorded calls, and for how many more there is room.
-use Rattle.std.specs.Prelude.{Bool, List, refl}
-use Rattle.std.specs.Coded.{Coded, code_by, coded×, coded_list, coded_bool}
+-- The recorded calls: one more, the last of them answered, and the last of them forgotten.
+use Rattle.std.specs.Prelude.{◌≡◌, ℕ, List, [], ◌∷◌, ◌++◌}
 use Rattle.bench_core.specs.declared.reply.Reply.{Reply}
-use Rattle.bench_core.specs.Machine.{Event, event_code}
+use Rattle.bench_core.specs.Acts.{Action}
+use Rattle.bench_core.specs.Machine.{Event}
 
--- the events, oldest first, and whether there is room for one more
-pub record History : Type 0 where
-  pub events : List Event
-  pub ready : Bool
+-- the history and one more call
+abbrev pub note : ℕ → Action → Reply → List Event → List Event
+note actor act reply h = h ++ record { actor = actor; act = act; reply = reply } ∷ []
 
-abbrev pub history_code : Coded Reply → Coded History
-history_code reply_code =
-    code_by (List Event × Bool) (coded× (coded_list (event_code reply_code)) coded_bool) (λ h. (h.events, h.ready))
-    (λ t. record { events = t.0; ready = t.1 }) (λ _. refl)
+-- the last call has this reply
+abbrev pub IsAnswered : Reply → List Event → List Event → Type 0
+IsAnswered reply before after =
+    (actor : ℕ) (act : Action) (other : Reply) (h : List Event) → before ≡ note actor act other h → after ≡ note actor act reply h
+
+-- the last call is gone
+abbrev pub IsForgotten : List Event → List Event → Type 0
+IsForgotten before after = (actor : ℕ) (act : Action) (reply : Reply) (h : List Event) → before ≡ note actor act reply h → after ≡ h

@@ -18,7 +18,7 @@ ghost use Rattle.bench_core.specs.Benches.{AreNodes, GoesBack, IsBackable, IsGon
 
 use crate::act::Act;
 use crate::fault::Fault;
-use crate::history::{Event, History};
+use crate::history::History;
 use crate::limits::Limits;
 use crate::names::Names;
 use crate::reply::Reply;
@@ -121,10 +121,10 @@ impl<'a, B: Allocator> Model for Bench<'a, B> {
 
     ghost coded = { machine_code reply_row.coded };
 
-    ghost view = { λ b. record { names = b.names; limits = b.limits; state = record { history = b.history.events; remaining = kepts b.journal.steps } } };
+    ghost view = { λ b. record { names = b.names; limits = b.limits; state = record { history = b.history; remaining = kepts b.journal.steps } } };
 
     ghost invariant = { λ b. IsBench (record { nodes = length b.names; limits = b.limits })
-        (record { history = b.history.events; remaining = kepts b.journal.steps }) b.nodes.items b.journal.steps b.meter.count ×
+        (record { history = b.history; remaining = kepts b.journal.steps }) b.nodes.items b.journal.steps b.meter.count ×
         (b.journal.nodes ≡ length b.names) };
 }
 
@@ -160,7 +160,7 @@ impl<'a, B: Allocator> Bench<'a, B> {
 
     /// The recorded calls.
     pub fn history(&self) -> &History<'a, B>
-        ensures { result.now.events ≡ self.now.state.history }
+        ensures { result.now ≡ self.now.state.history }
     {
         &self.history
     }
@@ -228,10 +228,9 @@ impl<'a, B: Allocator> Bench<'a, B> {
         if self.free() == 0 {
             return reply;
         }
-        let Ok(act) = self.history.make_room(act) else {
+        if self.history.record(actor, act, reply).is_err() {
             return Reply::Refused(Fault::OutOfMemory);
-        };
-        self.history.record(Event { actor, act, reply });
+        }
         reply
     }
 
@@ -249,27 +248,29 @@ impl<'a, B: Allocator> Bench<'a, B> {
         let Ok(step) = step.try_copy() else {
             return Reply::Refused(Fault::OutOfMemory);
         };
-        let Ok(act) = self.history.make_room(act) else {
-            return Reply::Refused(Fault::OutOfMemory);
-        };
         if self.journal.make_room(actor, &step).is_err() {
             return Reply::Refused(Fault::OutOfMemory);
+        }
+        let unmade = Reply::Refused(Fault::OutOfMemory);
+        if self.history.record(actor, act, unmade).is_err() {
+            return unmade;
         }
         match step_node(&mut self.nodes, actor, &step, &mut self.meter) {
             Err(fault) => {
                 drop(step);
                 if fault == StepFault::OutOfMemory {
-                    return Reply::Refused(Fault::OutOfMemory);
+                    self.history.forget_last();
+                    return unmade;
                 }
                 let reply = Reply::Refused(Fault::from(fault));
-                self.history.record(Event { actor, act, reply });
+                self.history.answer_last(reply);
                 reply
             }
             Ok(inverse) => {
                 let number = self.meter.count();
                 let reply = Reply::Taken(number);
                 self.journal.keep(number, actor, step, inverse).unwrap();
-                self.history.record(Event { actor, act, reply });
+                self.history.answer_last(reply);
                 reply
             }
         }
@@ -291,14 +292,14 @@ impl<'a, B: Allocator> Bench<'a, B> {
             };
             return self.refuse(actor, act, fault);
         }
-        let Ok(act) = self.history.make_room(act) else {
-            return Reply::Refused(Fault::OutOfMemory);
-        };
-        if take_back(&mut self.nodes, &mut self.journal, number, node).is_err() {
+        let reply = Reply::Undone(number);
+        if self.history.record(actor, act, reply).is_err() {
             return Reply::Refused(Fault::OutOfMemory);
         }
-        let reply = Reply::Undone(number);
-        self.history.record(Event { actor, act, reply });
+        if take_back(&mut self.nodes, &mut self.journal, number, node).is_err() {
+            self.history.forget_last();
+            return Reply::Refused(Fault::OutOfMemory);
+        }
         reply
     }
 

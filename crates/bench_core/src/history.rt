@@ -1,6 +1,7 @@
 //! `History`: the calls that were recorded, each with its reply.
-ghost use Rattle.std.specs.Prelude.{◌≡◌, ◌++◌, ◌∷◌, [], ◌<◌, ◌^◌, true, false, IfOk, OnOk, OnErr, IfErr, IsOk, option_copied, slice_get, length};
+ghost use Rattle.std.specs.Prelude.{◌≡◌, [], OnOk, OnErr, option_copied, slice_get, length};
 ghost use Rattle.bench_core.specs.Acts.{plain_act};
+ghost use Rattle.bench_core.specs.Histories.{note, IsAnswered, IsForgotten};
 
 use crate::act::Act;
 use crate::reply::Reply;
@@ -28,70 +29,76 @@ impl<A: Allocator> Model for Event<A> {
     ghost view = { λ e. record { actor = e.actor; act = plain_act e.act; reply = e.reply } };
 }
 
-/// The recorded calls, oldest first.
+/// The recorded calls, oldest first. A contract sees the list of them.
 #[derive(Drop)]
 pub struct History<'a, B: Allocator> {
     events: Vec<Event<&'a B>, &'a B>,
-    ready: bool,
 }
 
 impl<'a, B: Allocator> Model for History<'a, B> {
-    ghost use Rattle.std.specs.Prelude.{◌≡◌, ◌<◌, true, vec_len, vec_capacity};
-    ghost use Rattle.bench_core.specs.Histories.{History, history_code};
+    ghost use Rattle.std.specs.Prelude.{List};
+    ghost use Rattle.std.specs.Coded.{coded_list};
+    ghost use Rattle.bench_core.specs.Machine.{Event, event_code};
     ghost use Rattle.bench_core.specs.contracts.reply.Reply.{the_row as reply_row};
 
-    ghost Value = { History };
+    ghost Value = { List Event };
 
-    ghost coded = { history_code reply_row.coded };
+    ghost coded = { coded_list (event_code reply_row.coded) };
 
-    ghost view = { λ h. record { events = h.events.items; ready = h.ready } };
-
-    ghost invariant = { λ h. h.ready ≡ true → vec_len h.events < vec_capacity h.events };
+    ghost view = { λ h. h.events.items };
 }
 
 impl<'a, B: Allocator> History<'a, B> {
     pub(crate) fn new(alloc: &'a B) -> Self
-        ensures { result ≡ record { events = []; ready = false } }
+        ensures { result ≡ [] }
     {
         History {
             events: Vec::new(alloc),
-            ready: false,
         }
     }
 
     /// How many calls were recorded.
     pub fn len(&self) -> usize
-        ensures { result ≡ length self.now.events }
+        ensures { result ≡ length self.now }
     {
         self.events.len()
     }
 
     /// The call at this place, from 0.
     pub fn at(&self, place: usize) -> Option<&Event<&'a B>>
-        ensures { option_copied result ≡ slice_get self.now.events place }
+        ensures { option_copied result ≡ slice_get self.now place }
     {
         self.events.get(place)
     }
 
-    /// Room for one more call, and a copy of the act for it.
-    pub(crate) fn make_room(&mut self, act: &Act<&'a B>) -> Result<Act<&'a B>, Oom>
-        ensures events { self.new.events ≡ self.old.events }
-        ensures ready { OnOk result (self.new.ready ≡ true) }
-        ensures copy { IfOk result (λ copy. plain_act copy ≡ plain_act act.now) }
+    /// Records a call that is answered so.
+    pub(crate) fn record(
+        &mut self,
+        actor: u16,
+        act: &Act<&'a B>,
+        reply: Reply,
+    ) -> Result<(), Oom>
+        ensures ok { OnOk result (self.new ≡ note actor (plain_act act.now) reply self.old) }
         ensures err { OnErr result (self.new ≡ self.old) }
     {
-        let copy = act.try_copy()?;
-        self.events.reserve(1)?;
-        self.ready = true;
-        Ok(copy)
+        let act = act.try_copy()?;
+        self.events.push(Event { actor, act, reply })?;
+        Ok(())
     }
 
-    /// Records a call, for which room was made.
-    pub(crate) fn record(&mut self, event: Event<&'a B>)
-        requires { self.old.ready ≡ true }
-        ensures { self.new ≡ record { events = self.old.events ++ event.entry ∷ []; ready = false } }
+    /// The call that was recorded last is answered so. It takes no memory.
+    pub(crate) fn answer_last(&mut self, reply: Reply)
+        ensures { IsAnswered reply self.old self.new }
     {
-        self.events.push_reserved(event);
-        self.ready = false;
+        if let Some(event) = self.events.pop() {
+            self.events.push_reserved(Event { reply, ..event });
+        }
+    }
+
+    /// The call that was recorded last is recorded no more.
+    pub(crate) fn forget_last(&mut self)
+        ensures { IsForgotten self.old self.new }
+    {
+        drop(self.events.pop());
     }
 }

@@ -16,8 +16,9 @@ use bench_core::Limits;
 use std::process::ExitCode;
 use std::{env, io};
 
-fn main(rt: HostRuntime) -> ExitCode {
-    let words = match env::args(&rt) {
+/// What the program does with the runtime's words and standard streams.
+fn run(rt: &HostRuntime) -> ExitCode {
+    let words = match env::args(rt) {
         Ok(words) => words,
         Err(fault) if fault.kind() == io::ErrorKind::OutOfMemory => return ExitCode::from(4),
         Err(_) => return ExitCode::from(2),
@@ -25,7 +26,7 @@ fn main(rt: HostRuntime) -> ExitCode {
     let Ok(words) = words.skip(1).collect::<Vec<String>>(rt.alloc()) else {
         return ExitCode::from(4);
     };
-    let mut output = io::writer(&rt);
+    let mut output = io::writer(rt);
     let mut errors = rt.stderr();
     let status = program::program(
         rt.alloc(),
@@ -37,4 +38,8 @@ fn main(rt: HostRuntime) -> ExitCode {
         Limits::usual(),
     );
     ExitCode::from(status)
+}
+
+fn main(rt: HostRuntime) -> ExitCode {
+    run(&rt)
 }

@@ -187,3 +187,12 @@ fn want_of_memory_prints_nothing(rt: HostRuntime) {
     }
     assert!(rt; 10 <= ended_early && ended_early < 9_000);
 }
+
+/// The words of the tests' own command line choose nothing.
+#[test]
+fn run_ends_with_the_status(rt: HostRuntime) {
+    let ended = crate::run(&rt);
+    let mut text = String::new(rt.alloc());
+    assert!(rt; write!(text, "{ended:?}").is_ok());
+    assert!(rt; text.as_str() == "ExitCode(unix_exit_status(2))");
+}

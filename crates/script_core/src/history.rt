@@ -29,7 +29,7 @@ fn events<'a, B: Allocator>(
     bench: &mut Bench<'a, B>,
     history: &History<'a, B>,
 ) -> Result<(), Oom>
-    ensures { OnOk result (string_bytes text.new ≡ string_bytes text.old ++ commands_text bench.old (map call_of history.now.events)) }
+    ensures { OnOk result (string_bytes text.new ≡ string_bytes text.old ++ commands_text bench.old (map call_of history.now)) }
 {
     for place in 0..history.len() {
         if let Some(next) = history.at(place) {

@@ -1,8 +1,8 @@
-use Rattle.std.proofs.Common.{◌≡◌, ◌∙◌, sym, ap, subst, subst₂, length, arith}
+use Rattle.std.proofs.Common.{◌≡◌, ◌∙◌, sym, ap, subst, subst₂, List, length, arith}
 use Rattle.journal_core.specs.Holdings.{Journal, kepts}
 use Rattle.bench_core.specs.Limits.{node_limits}
 use Rattle.bench_core.specs.Clusters.{opening_of}
-use Rattle.bench_core.specs.Histories.{History}
+use Rattle.bench_core.specs.Machine.{Event}
 use Rattle.bench_core.specs.Benches.{IsBench}
 use Rattle.bench_core.proofs.Openings.{opens}
 use Rattle.bench_core.proofs.Invariant.{config}
@@ -15,10 +15,10 @@ invariant_of-result g c =
     let opened = opens (config c.args.names c.args.limits) c.in_ok-nodes.nodes.items c.of_node.ensures.range (omega arith) nodes
     c.in_ok-nodes.ensures.kept in (
       subst (IsBench (config c.args.names c.args.limits)
-          (record { history = c.new-2.result.events; remaining = kepts c.in_ok-journal.journal.steps }) c.in_ok-nodes.nodes.items
+          (record { history = c.new-2.result; remaining = kepts c.in_ok-journal.journal.steps }) c.in_ok-nodes.nodes.items
           c.in_ok-journal.journal.steps) (sym c.new-3.ensures)
-          (subst₂ (λ (j : Journal) (h : History). IsBench (config c.args.names c.args.limits)
-          (record { history = h.events; remaining = kepts j.steps }) c.in_ok-nodes.nodes.items j.steps 0) (sym c.in_ok-journal.ensures)
+          (subst₂ (λ (j : Journal) (h : List Event). IsBench (config c.args.names c.args.limits)
+          (record { history = h; remaining = kepts j.steps }) c.in_ok-nodes.nodes.items j.steps 0) (sym c.in_ok-journal.ensures)
           (sym c.new-2.ensures) opened),
       ap (λ (j : Journal). j.nodes) c.in_ok-journal.ensures ∙ c.len-2.ensures.len,
     )

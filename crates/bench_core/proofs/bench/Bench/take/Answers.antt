@@ -6,116 +6,113 @@ use Rattle.node_core.specs.Operations.{plain}
 use Rattle.node_core.specs.Inverses.{plain_inverse}
 use Rattle.journal_core.specs.Holdings.{Held, Journal, Room, kepts, room_for}
 use Rattle.bench_core.specs.declared.reply.Reply.TheVariants.{Taken, Refused}
+use Rattle.bench_core.specs.declared.fault.Fault.TheVariants.{OutOfMemory}
 use Rattle.bench_core.specs.Acts.{plain_act}
-use Rattle.bench_core.specs.Histories.{History}
+use Rattle.bench_core.specs.Histories.{note}
 use Rattle.bench_core.specs.Machine.{Event, config_of, free_places, knows}
-use Rattle.bench_core.proofs.Invariant.{machine, noted, added, can_step, can_keep, taken_asked, refused_asked, unmade_step}
+use Rattle.bench_core.proofs.Invariant.{machine, added, can_step, can_keep, taken_asked, refused_asked, unmade_step}
 use Rattle.bench_core.proofs.bench.Bench.take.Goals as goal
 
 pub step_node-requires : goal.step_node-requires
 step_node-requires g c =
     let is : knows (config_of c.args.self.now) c.args.actor (plain c.args.step.now) ≡ true = search rules in
-    let can = can_step c.self.inside.names c.self.inside.limits c.self.inside.history.events c.self.inside.nodes.items
+    let can = can_step c.self.inside.names c.self.inside.limits c.self.inside.history c.self.inside.nodes.items
     c.self.inside.journal.steps c.self.inside.meter.count c.args.actor (plain c.args.step.now) (plain c.in-Ok.step) c.args.self.now
     c.self.view_is c.self.invariant.0 c.in-Ok.ensures is in
     (omega arith, (omega arith, (can.there, (can.few, (can.named, (can.numbered, can.meter))))))
 
 pub invariant_of-self-in-Err : goal.invariant_of-self-in-Err
 invariant_of-self-in-Err g c =
+    let noted : c.record.new.self ≡ note c.args.actor (plain_act c.args.act.now) (Refused OutOfMemory) c.self.inside.history = search rules in
     let is : knows (config_of c.args.self.now) c.args.actor (plain c.args.step.now) ≡ true = search rules in
     let room : 2 ≤ free_places (config_of c.args.self.now) c.args.self.now.state = omega arith in
     let other : c.in-Err.fault ≢ step_faults.OutOfMemory = search rules in (
-      (refused_asked c.self.inside.names c.self.inside.limits c.self.inside.history.events c.record.new.self.events
-          c.self.inside.nodes.items c.step_node.new.nodes.items c.self.inside.journal.steps c.make_room-2.new.self.steps
+      (refused_asked c.self.inside.names c.self.inside.limits c.self.inside.history c.answer_last.new.self
+          c.self.inside.nodes.items c.step_node.new.nodes.items c.self.inside.journal.steps c.make_room.new.self.steps
           c.self.inside.meter.count c.step_node.new.meter.count c.args.actor (plain c.args.step.now) (plain c.in-Ok.step)
           (plain_act c.args.act.now) c.in-Err.fault c.from.result c.args.self.now c.self.view_is c.in-Err.ensures.no_tick
-          (noted c.args.actor (plain_act c.args.act.now) (plain_act c.in-Ok-make_room.act) (Refused c.from.result)
-          c.self.inside.history.events c.make_room.new.self.events c.record.new.self.events
-          (ap (λ (h : History). h.events) c.record.ensures) c.make_room.ensures.events c.in-Ok-make_room.ensures.copy)
-          c.make_room-2.ensures.steps c.in-Err.ensures.steps.0 c.in-Ok.ensures c.requires c.from.ensures c.self.invariant.0 is room
+          (c.answer_last.ensures c.args.actor (plain_act c.args.act.now) (Refused OutOfMemory) c.self.inside.history noted)
+          c.make_room.ensures.steps c.in-Err.ensures.steps.0 c.in-Ok.ensures c.requires c.from.ensures c.self.invariant.0 is room
           (c.in-Err.ensures.steps.1 other)).keeps,
-      c.make_room-2.ensures.nodes ∙ c.self.invariant.1,
+      c.make_room.ensures.nodes ∙ c.self.invariant.1,
     )
 
 pub returns-else-eq : goal.returns-else-eq
 returns-else-eq g c =
+    let noted : c.record.new.self ≡ note c.args.actor (plain_act c.args.act.now) (Refused OutOfMemory) c.self.inside.history = search rules in
     let is : knows (config_of c.args.self.now) c.args.actor (plain c.args.step.now) ≡ true = search rules in
     let room : 2 ≤ free_places (config_of c.args.self.now) c.args.self.now.state = omega arith in
     let other : c.in-Err.fault ≢ step_faults.OutOfMemory = search rules in
-    (refused_asked c.self.inside.names c.self.inside.limits c.self.inside.history.events c.record.new.self.events c.self.inside.nodes.items
-    c.step_node.new.nodes.items c.self.inside.journal.steps c.make_room-2.new.self.steps c.self.inside.meter.count
+    (refused_asked c.self.inside.names c.self.inside.limits c.self.inside.history c.answer_last.new.self c.self.inside.nodes.items
+    c.step_node.new.nodes.items c.self.inside.journal.steps c.make_room.new.self.steps c.self.inside.meter.count
     c.step_node.new.meter.count c.args.actor (plain c.args.step.now) (plain c.in-Ok.step) (plain_act c.args.act.now) c.in-Err.fault
     c.from.result c.args.self.now c.self.view_is c.in-Err.ensures.no_tick
-    (noted c.args.actor (plain_act c.args.act.now) (plain_act c.in-Ok-make_room.act) (Refused c.from.result) c.self.inside.history.events
-    c.make_room.new.self.events c.record.new.self.events (ap (λ (h : History). h.events) c.record.ensures) c.make_room.ensures.events
-    c.in-Ok-make_room.ensures.copy)
-    c.make_room-2.ensures.steps c.in-Err.ensures.steps.0 c.in-Ok.ensures c.requires c.from.ensures c.self.invariant.0 is room
+    (c.answer_last.ensures c.args.actor (plain_act c.args.act.now) (Refused OutOfMemory) c.self.inside.history noted)
+    c.make_room.ensures.steps c.in-Err.ensures.steps.0 c.in-Ok.ensures c.requires c.from.ensures c.self.invariant.0 is room
     (c.in-Err.ensures.steps.1 other)).answers
 
 pub keep-requires : goal.keep-requires
 keep-requires g c =
     let is : knows (config_of c.args.self.now) c.args.actor (plain c.args.step.now) ≡ true = search rules in
-    let can = can_step c.self.inside.names c.self.inside.limits c.self.inside.history.events c.self.inside.nodes.items
+    let can = can_step c.self.inside.names c.self.inside.limits c.self.inside.history c.self.inside.nodes.items
     c.self.inside.journal.steps c.self.inside.meter.count c.args.actor (plain c.args.step.now) (plain c.in-Ok.step) c.args.self.now
     c.self.view_is c.self.invariant.0 c.in-Ok.ensures is in (
       omega arith,
-      can_keep c.self.inside.names c.self.inside.limits c.self.inside.history.events c.self.inside.nodes.items c.step_node.new.nodes.items
-          c.self.inside.journal.steps c.make_room-2.new.self c.self.inside.meter.count c.count-number.result c.args.actor
+      can_keep c.self.inside.names c.self.inside.limits c.self.inside.history c.self.inside.nodes.items c.step_node.new.nodes.items
+          c.self.inside.journal.steps c.make_room.new.self c.self.inside.meter.count c.count-number.result c.args.actor
           (plain c.in-Ok.step) (plain_inverse c.in-Ok-step_node.inverse)
-          c.self.invariant.0 c.make_room-2.ensures.steps (c.make_room-2.ensures.nodes ∙ c.self.invariant.1)
+          c.self.invariant.0 c.make_room.ensures.steps (c.make_room.ensures.nodes ∙ c.self.invariant.1)
           (c.count-number.ensures ∙ c.in-Ok-step_node.ensures.ticks) can.known c.in-Ok-step_node.ensures.steps,
     )
 
 pub invariant_of-self-in-Ok-step_node : goal.invariant_of-self-in-Ok-step_node
 invariant_of-self-in-Ok-step_node g c =
+    let noted : c.record.new.self ≡ note c.args.actor (plain_act c.args.act.now) (Refused OutOfMemory) c.self.inside.history = search rules in
     let is : knows (config_of c.args.self.now) c.args.actor (plain c.args.step.now) ≡ true = search rules in
     let room : 2 ≤ free_places (config_of c.args.self.now) c.args.self.now.state = omega arith in
     let grown : c.keep.new.self ≡ record {
-      nodes = c.make_room-2.new.self.nodes;
-      steps = c.make_room-2.new.self.steps ++
+      nodes = c.make_room.new.self.nodes;
+      steps = c.make_room.new.self.steps ++
           added c.count-number.result c.args.actor (plain c.in-Ok.step) (plain_inverse c.in-Ok-step_node.inverse) ∷ [];
       room = [];
     } =
     search rules in (
-      (taken_asked c.self.inside.names c.self.inside.limits c.self.inside.history.events c.record-in-Ok-step_node.new.self.events
-          c.self.inside.nodes.items c.step_node.new.nodes.items c.self.inside.journal.steps c.make_room-2.new.self.steps
+      (taken_asked c.self.inside.names c.self.inside.limits c.self.inside.history c.answer_last-in-Ok-step_node.new.self
+          c.self.inside.nodes.items c.step_node.new.nodes.items c.self.inside.journal.steps c.make_room.new.self.steps
           c.keep.new.self.steps c.self.inside.meter.count c.step_node.new.meter.count c.count-number.result c.args.actor
           (plain c.args.step.now) (plain c.in-Ok.step) (plain_act c.args.act.now) (plain_inverse c.in-Ok-step_node.inverse) c.args.self.now
           c.self.view_is
           c.in-Ok-step_node.ensures.ticks c.count-number.ensures
-          (noted c.args.actor (plain_act c.args.act.now) (plain_act c.in-Ok-make_room.act) (Taken c.count-number.result)
-          c.self.inside.history.events c.make_room.new.self.events c.record-in-Ok-step_node.new.self.events
-          (ap (λ (h : History). h.events) c.record-in-Ok-step_node.ensures) c.make_room.ensures.events c.in-Ok-make_room.ensures.copy)
-          c.make_room-2.ensures.steps (ap (λ (j : Journal). j.steps) grown) c.in-Ok.ensures c.requires c.self.invariant.0 is room
+          (c.answer_last-in-Ok-step_node.ensures c.args.actor (plain_act c.args.act.now) (Refused OutOfMemory) c.self.inside.history noted)
+          c.make_room.ensures.steps (ap (λ (j : Journal). j.steps) grown) c.in-Ok.ensures c.requires c.self.invariant.0 is room
           c.in-Ok-step_node.ensures.steps).keeps,
-      ap (λ (j : Journal). j.nodes) grown ∙ c.make_room-2.ensures.nodes ∙ c.self.invariant.1,
+      ap (λ (j : Journal). j.nodes) grown ∙ c.make_room.ensures.nodes ∙ c.self.invariant.1,
     )
 
 pub returns-in-Ok-step_node : goal.returns-in-Ok-step_node
 returns-in-Ok-step_node g c =
+    let noted : c.record.new.self ≡ note c.args.actor (plain_act c.args.act.now) (Refused OutOfMemory) c.self.inside.history = search rules in
     let is : knows (config_of c.args.self.now) c.args.actor (plain c.args.step.now) ≡ true = search rules in
     let room : 2 ≤ free_places (config_of c.args.self.now) c.args.self.now.state = omega arith in
     let grown : c.keep.new.self ≡ record {
-      nodes = c.make_room-2.new.self.nodes;
-      steps = c.make_room-2.new.self.steps ++
+      nodes = c.make_room.new.self.nodes;
+      steps = c.make_room.new.self.steps ++
           added c.count-number.result c.args.actor (plain c.in-Ok.step) (plain_inverse c.in-Ok-step_node.inverse) ∷ [];
       room = [];
     } =
     search rules in
-    (taken_asked c.self.inside.names c.self.inside.limits c.self.inside.history.events c.record-in-Ok-step_node.new.self.events
-    c.self.inside.nodes.items c.step_node.new.nodes.items c.self.inside.journal.steps c.make_room-2.new.self.steps c.keep.new.self.steps
+    (taken_asked c.self.inside.names c.self.inside.limits c.self.inside.history c.answer_last-in-Ok-step_node.new.self
+    c.self.inside.nodes.items c.step_node.new.nodes.items c.self.inside.journal.steps c.make_room.new.self.steps c.keep.new.self.steps
     c.self.inside.meter.count c.step_node.new.meter.count c.count-number.result c.args.actor (plain c.args.step.now)
     (plain c.in-Ok.step) (plain_act c.args.act.now) (plain_inverse c.in-Ok-step_node.inverse) c.args.self.now c.self.view_is
     c.in-Ok-step_node.ensures.ticks c.count-number.ensures
-    (noted c.args.actor (plain_act c.args.act.now) (plain_act c.in-Ok-make_room.act) (Taken c.count-number.result)
-    c.self.inside.history.events c.make_room.new.self.events c.record-in-Ok-step_node.new.self.events
-    (ap (λ (h : History). h.events) c.record-in-Ok-step_node.ensures) c.make_room.ensures.events c.in-Ok-make_room.ensures.copy)
-    c.make_room-2.ensures.steps (ap (λ (j : Journal). j.steps) grown) c.in-Ok.ensures c.requires c.self.invariant.0 is room
+    (c.answer_last-in-Ok-step_node.ensures c.args.actor (plain_act c.args.act.now) (Refused OutOfMemory) c.self.inside.history noted)
+    c.make_room.ensures.steps (ap (λ (j : Journal). j.steps) grown) c.in-Ok.ensures c.requires c.self.invariant.0 is room
     c.in-Ok-step_node.ensures.steps).answers
 
 pub unwrap-requires : goal.unwrap-requires
 unwrap-requires g c =
-    let made : c.make_room-2.new.self.room ≡ c.self.inside.journal.room ++ room_for c.args.actor (plain c.in-Ok.step) ∷ [] = search rules in
+    let made : c.make_room.new.self.room ≡ c.self.inside.journal.room ++ room_for c.args.actor (plain c.in-Ok.step) ∷ [] = search rules in
     c.keep.ensures.succeeds (subst (λ (l : List Room). Contains l (room_for c.args.actor (plain c.in-Ok.step))) (sym made)
     (Contains-push c.self.inside.journal.room (room_for c.args.actor (plain c.in-Ok.step))))
 
@@ -123,24 +120,35 @@ pub returns-then-is_err : goal.returns-then-is_err
 returns-then-is_err g c =
     let is : knows (config_of c.args.self.now) c.args.actor (plain c.args.step.now) ≡ true = search rules in
     let room : 2 ≤ free_places (config_of c.args.self.now) c.args.self.now.state = omega arith in
-    unmade_step c.self.inside.names c.self.inside.limits c.self.inside.history.events c.self.inside.nodes.items c.self.inside.journal.steps
+    unmade_step c.self.inside.names c.self.inside.limits c.self.inside.history c.self.inside.nodes.items c.self.inside.journal.steps
     c.self.inside.meter.count c.args.actor (plain c.args.step.now) (plain_act c.args.act.now) c.args.self.now _ c.self.view_is
     c.self.invariant.0 c.requires is room
-    (ap (λ (h : List Event). machine c.self.inside.names c.self.inside.limits h (kepts c.make_room-2.new.self.steps))
-    c.make_room.ensures.events
-    ∙ ap (λ (hs : List Held). machine c.self.inside.names c.self.inside.limits c.self.inside.history.events (kepts hs))
-    c.make_room-2.ensures.steps
+    (ap (λ (hs : List Held). machine c.self.inside.names c.self.inside.limits c.self.inside.history (kepts hs)) c.make_room.ensures.steps
     ∙ c.self.view_is)
 
 pub returns-then-eq : goal.returns-then-eq
 returns-then-eq g c =
+    let noted : c.record.new.self ≡ note c.args.actor (plain_act c.args.act.now) (Refused OutOfMemory) c.self.inside.history = search rules in
     let is : knows (config_of c.args.self.now) c.args.actor (plain c.args.step.now) ≡ true = search rules in
     let room : 2 ≤ free_places (config_of c.args.self.now) c.args.self.now.state = omega arith in
-    unmade_step c.self.inside.names c.self.inside.limits c.self.inside.history.events c.self.inside.nodes.items c.self.inside.journal.steps
+    unmade_step c.self.inside.names c.self.inside.limits c.self.inside.history c.self.inside.nodes.items c.self.inside.journal.steps
     c.self.inside.meter.count c.args.actor (plain c.args.step.now) (plain_act c.args.act.now) c.args.self.now _ c.self.view_is
     c.self.invariant.0 c.requires is room
-    (ap (λ (h : List Event). machine c.self.inside.names c.self.inside.limits h (kepts c.make_room-2.new.self.steps))
-    c.make_room.ensures.events
-    ∙ ap (λ (hs : List Held). machine c.self.inside.names c.self.inside.limits c.self.inside.history.events (kepts hs))
-    c.make_room-2.ensures.steps
+    (ap (λ (h : List Event). machine c.self.inside.names c.self.inside.limits h (kepts c.make_room.new.self.steps))
+    (c.forget_last.ensures c.args.actor (plain_act c.args.act.now) (Refused OutOfMemory) c.self.inside.history noted)
+    ∙ ap (λ (hs : List Held). machine c.self.inside.names c.self.inside.limits c.self.inside.history (kepts hs))
+    c.make_room.ensures.steps
+    ∙ c.self.view_is)
+
+pub returns-then-is_err-2 : goal.returns-then-is_err-2
+returns-then-is_err-2 g c =
+    let is : knows (config_of c.args.self.now) c.args.actor (plain c.args.step.now) ≡ true = search rules in
+    let room : 2 ≤ free_places (config_of c.args.self.now) c.args.self.now.state = omega arith in
+    let stays : c.record.new.self ≡ c.self.inside.history = search rules in
+    unmade_step c.self.inside.names c.self.inside.limits c.self.inside.history c.self.inside.nodes.items c.self.inside.journal.steps
+    c.self.inside.meter.count c.args.actor (plain c.args.step.now) (plain_act c.args.act.now) c.args.self.now _ c.self.view_is
+    c.self.invariant.0 c.requires is room
+    (ap (λ (h : List Event). machine c.self.inside.names c.self.inside.limits h (kepts c.make_room.new.self.steps)) stays
+    ∙ ap (λ (hs : List Held). machine c.self.inside.names c.self.inside.limits c.self.inside.history (kepts hs))
+    c.make_room.ensures.steps
     ∙ c.self.view_is)

@@ -3,12 +3,12 @@ use Rattle.bench_core.specs.declared.reply.Reply.TheVariants.{Undone}
 use Rattle.bench_core.specs.Acts.{plain_act}
 use Rattle.journal_core.specs.Journals.{find_number, first_consequence}
 use Rattle.journal_core.specs.Holdings.{Journal, kepts, without_held}
-use Rattle.bench_core.specs.Histories.{History}
+use Rattle.bench_core.specs.Histories.{note}
 use Rattle.bench_core.specs.Machine.{Event, Machine, config_of}
 use Rattle.bench_core.specs.Headline.{IsReached}
 use Rattle.bench_core.specs.Benches.{GoesBack}
 use Rattle.bench_core.proofs.Reached.{undo_answers}
-use Rattle.bench_core.proofs.Invariant.{config, machine, noted, same_bench, undo_at, undone, unmade_undo}
+use Rattle.bench_core.proofs.Invariant.{config, machine, same_bench, undo_at, undone, unmade_undo}
 use Rattle.bench_core.proofs.bench.Bench.undo.Goals as goal
 
 pub take_back-requires : goal.take_back-requires
@@ -18,18 +18,19 @@ take_back-requires g c =
     ap (λ (m : Machine). find_number m.state.remaining c.args.number) c.self.view_is ∙ step.1 in
     let free : first_consequence (kepts c.self.inside.journal.steps) c.args.number ≡ None = sym c.first_consequence.ensures
     ∙ c.in_default.is in
-    let u = undo_at (config c.self.inside.names c.self.inside.limits) c.self.inside.history.events c.self.inside.nodes.items
+    let u = undo_at (config c.self.inside.names c.self.inside.limits) c.self.inside.history c.self.inside.nodes.items
     c.self.inside.journal.steps c.self.inside.meter.count c.args.number c.in-Ok.node step.0 c.self.invariant.0 found step.2 free in
     (omega arith, u.backable)
 
-pub invariant_of-self-2 : goal.invariant_of-self-2
-invariant_of-self-2 g c =
+pub invariant_of-self-else-is_err-2 : goal.invariant_of-self-else-is_err-2
+invariant_of-self-else-is_err-2 g c =
+    let noted : c.record.new.self ≡ note c.args.actor (plain_act c.args.act.now) (Undone c.args.number) c.self.inside.history = search rules in
     let step = c.in-Ok.ensures.remains in
     let found : find_number (kepts c.self.inside.journal.steps) c.args.number ≡ Some step.0 =
     ap (λ (m : Machine). find_number m.state.remaining c.args.number) c.self.view_is ∙ step.1 in
     let free : first_consequence (kepts c.self.inside.journal.steps) c.args.number ≡ None = sym c.first_consequence.ensures
     ∙ c.in_default.is in
-    let u = undo_at (config c.self.inside.names c.self.inside.limits) c.self.inside.history.events c.self.inside.nodes.items
+    let u = undo_at (config c.self.inside.names c.self.inside.limits) c.self.inside.history c.self.inside.nodes.items
     c.self.inside.journal.steps c.self.inside.meter.count c.args.number c.in-Ok.node step.0 c.self.invariant.0 found step.2 free in
     let goes : GoesBack c.self.inside.nodes.items c.self.inside.journal.steps c.args.number c.in-Ok.node c.take_back.new.nodes.items =
     search rules in
@@ -40,24 +41,23 @@ invariant_of-self-2 g c =
       room =
           c.self.inside.journal.room;
     } = search rules in (
-      (undone c.self.inside.names c.self.inside.limits c.self.inside.history.events c.record.new.self.events c.self.inside.nodes.items
+      (undone c.self.inside.names c.self.inside.limits c.self.inside.history c.record.new.self c.self.inside.nodes.items
           c.take_back.new.nodes.items c.self.inside.journal.steps c.take_back.new.journal.steps c.self.inside.meter.count c.args.actor
           c.args.number c.in-Ok.node (plain_act c.args.act.now) step.0 c.args.self.now c.self.view_is
-          (noted c.args.actor (plain_act c.args.act.now) (plain_act c.in-Ok-make_room.act) (Undone c.args.number)
-          c.self.inside.history.events c.make_room.new.self.events c.record.new.self.events
-          (ap (λ (h : History). h.events) c.record.ensures) c.make_room.ensures.events c.in-Ok-make_room.ensures.copy)
+          noted
           (ap (λ (j : Journal). j.steps) shorter) c.self.invariant.0 c.requires found free u (goes u.backable)).keeps,
       ap (λ (j : Journal). j.nodes) shorter ∙ c.self.invariant.1,
     )
 
 pub returns : goal.returns
 returns g c =
+    let noted : c.record.new.self ≡ note c.args.actor (plain_act c.args.act.now) (Undone c.args.number) c.self.inside.history = search rules in
     let step = c.in-Ok.ensures.remains in
     let found : find_number (kepts c.self.inside.journal.steps) c.args.number ≡ Some step.0 =
     ap (λ (m : Machine). find_number m.state.remaining c.args.number) c.self.view_is ∙ step.1 in
     let free : first_consequence (kepts c.self.inside.journal.steps) c.args.number ≡ None = sym c.first_consequence.ensures
     ∙ c.in_default.is in
-    let u = undo_at (config c.self.inside.names c.self.inside.limits) c.self.inside.history.events c.self.inside.nodes.items
+    let u = undo_at (config c.self.inside.names c.self.inside.limits) c.self.inside.history c.self.inside.nodes.items
     c.self.inside.journal.steps c.self.inside.meter.count c.args.number c.in-Ok.node step.0 c.self.invariant.0 found step.2 free in
     let goes : GoesBack c.self.inside.nodes.items c.self.inside.journal.steps c.args.number c.in-Ok.node c.take_back.new.nodes.items =
     search rules in
@@ -68,12 +68,10 @@ returns g c =
       room =
           c.self.inside.journal.room;
     } = search rules in
-    (undone c.self.inside.names c.self.inside.limits c.self.inside.history.events c.record.new.self.events c.self.inside.nodes.items
+    (undone c.self.inside.names c.self.inside.limits c.self.inside.history c.record.new.self c.self.inside.nodes.items
     c.take_back.new.nodes.items c.self.inside.journal.steps c.take_back.new.journal.steps c.self.inside.meter.count c.args.actor
     c.args.number c.in-Ok.node (plain_act c.args.act.now) step.0 c.args.self.now c.self.view_is
-    (noted c.args.actor (plain_act c.args.act.now) (plain_act c.in-Ok-make_room.act) (Undone c.args.number) c.self.inside.history.events
-    c.make_room.new.self.events c.record.new.self.events (ap (λ (h : History). h.events) c.record.ensures) c.make_room.ensures.events
-    c.in-Ok-make_room.ensures.copy)
+    noted
     (ap (λ (j : Journal). j.steps) shorter) c.self.invariant.0 c.requires found free u (goes u.backable)).answers
 
 pub refuse-requires-in-Some-clause-refused : goal.refuse-requires-in-Some-clause-refused
@@ -86,27 +84,30 @@ refuse-requires-in-Some-clause-refused g c =
     c.requires ∙ undo_answers (config_of c.args.self.now) c.args.self.now.state c.args.number step.0 (Some c.in-Some.held_by) reached step.1
     held
 
-pub returns-in_default-make_room : goal.returns-in_default-make_room
-returns-in_default-make_room g c =
+pub returns-then-is_err : goal.returns-then-is_err
+returns-then-is_err g c =
     let step = c.in-Ok.ensures.remains in
     let reached = subst (λ (m : Machine). IsReached (config_of m) m.state) c.self.view_is c.self.invariant.0.reached in
     let free : first_consequence c.args.self.now.state.remaining c.args.number ≡ None =
     ap (λ (m : Machine). first_consequence m.state.remaining c.args.number) (sym c.self.view_is) ∙ sym c.first_consequence.ensures
     ∙ c.in_default.is in
+    let stays : c.record.new.self ≡ c.self.inside.history = search rules in
     unmade_undo c.args.actor c.args.number (plain_act c.args.act.now) step.0 c.args.self.now _ reached c.requires step.1 free
     (ap (λ (h : List Event). machine c.self.inside.names c.self.inside.limits h (kepts c.self.inside.journal.steps))
-    c.make_room.ensures.events ∙ c.self.view_is)
+    stays ∙ c.self.view_is)
 
-pub invariant_of-self-then-is_err : goal.invariant_of-self-then-is_err
-invariant_of-self-then-is_err g c =
+pub invariant_of-self-then-is_err-2 : goal.invariant_of-self-then-is_err-2
+invariant_of-self-then-is_err-2 g c =
+    let noted : c.record.new.self ≡ note c.args.actor (plain_act c.args.act.now) (Undone c.args.number) c.self.inside.history = search rules in
     let stays : c.take_back.new.nodes.items ≡ c.self.inside.nodes.items = search rules in
     let same : c.take_back.new.journal ≡ c.self.inside.journal = search rules in
-    same_bench c.self.inside.names c.self.inside.limits c.self.inside.history.events c.make_room.new.self.events c.self.inside.nodes.items
-    c.take_back.new.nodes.items c.self.inside.journal c.take_back.new.journal c.self.inside.meter.count c.make_room.ensures.events stays
+    same_bench c.self.inside.names c.self.inside.limits c.self.inside.history c.forget_last.new.self c.self.inside.nodes.items
+    c.take_back.new.nodes.items c.self.inside.journal c.take_back.new.journal c.self.inside.meter.count (c.forget_last.ensures c.args.actor (plain_act c.args.act.now) (Undone c.args.number) c.self.inside.history noted) stays
     same c.self.invariant
 
-pub returns-then-is_err : goal.returns-then-is_err
-returns-then-is_err g c =
+pub returns-then-is_err-2 : goal.returns-then-is_err-2
+returns-then-is_err-2 g c =
+    let noted : c.record.new.self ≡ note c.args.actor (plain_act c.args.act.now) (Undone c.args.number) c.self.inside.history = search rules in
     let step = c.in-Ok.ensures.remains in
     let reached = subst (λ (m : Machine). IsReached (config_of m) m.state) c.self.view_is c.self.invariant.0.reached in
     let free : first_consequence c.args.self.now.state.remaining c.args.number ≡ None =
@@ -115,6 +116,6 @@ returns-then-is_err g c =
     let same : c.take_back.new.journal ≡ c.self.inside.journal = search rules in
     unmade_undo c.args.actor c.args.number (plain_act c.args.act.now) step.0 c.args.self.now _ reached c.requires step.1 free
     (ap (λ (h : List Event). machine c.self.inside.names c.self.inside.limits h (kepts c.take_back.new.journal.steps))
-    c.make_room.ensures.events
-    ∙ ap (λ (j : Journal). machine c.self.inside.names c.self.inside.limits c.self.inside.history.events (kepts j.steps)) same
+    (c.forget_last.ensures c.args.actor (plain_act c.args.act.now) (Undone c.args.number) c.self.inside.history noted)
+    ∙ ap (λ (j : Journal). machine c.self.inside.names c.self.inside.limits c.self.inside.history (kepts j.steps)) same
     ∙ c.self.view_is)
