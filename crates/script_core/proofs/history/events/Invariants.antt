@@ -1,6 +1,6 @@
 use Rattle.std.proofs.Common.{◌≡◌, ◌++◌, drop, map, string_bytes}
 use Rattle.script_core.specs.Report.{call_of, commands_text}
-use Rattle.script_core.proofs.history.Given as goal
+use Rattle.script_core.proofs.history.events.Given as goal
 
 -- the acts so far, and then those that are left
 abbrev pub invariant-loop-place : goal.invariant-loop-place
