@@ -7,3 +7,5 @@ pub mod Clocks
 pub mod Parts
 pub mod Changes
 pub mod Unions
+pub mod HasAll
+pub mod FirstFrom

@@ -11,12 +11,12 @@ use Rattle.std.specs.FinSet as set
 use Rattle.dots_core.specs.declared.dot.Dot.{Dot}
 use Rattle.dots_core.specs.Dots.{IsValid, Dots, dot, dot_cmp, of_names}
 use Rattle.dots_core.specs.Clocks.{Clocks, RisesAbove, no_clocks, is_among, holds, IsCanonical, Gains, Loses}
-use Rattle.dots_core.specs.Contexts.{IsContext, IsCloud, IsCloudOf, IsPartOf, OnePartLaw, others, PartLaw}
+use Rattle.dots_core.specs.Contexts.{IsContext, IsCloud, IsCloudOf, IsPartOf, OnePartLaw, others, part_dots, PartLaw, with_part}
 use Rattle.dots_core.specs.Parts.{count_down, dots_from, dots_of_parts, part_at, AllCanonical, AreParts}
 use Rattle.dots_core.proofs.Order.{dot_total, is_dot, is_dot-true, is_dot_same}
-use Rattle.dots_core.proofs.Sets.{contains-retain, contains-insert, and_alike, same_dots}
-use Rattle.dots_core.proofs.Clocks.{same_tests, among_place, among_at, among-append, not_among, rises_lower, holds_low, holds_high, holds_next, holds_valid}
-use Rattle.dots_core.proofs.Clocks.{same_rising, same_clocks}
+use Rattle.dots_core.proofs.Sets.{contains-retain, contains-insert, contains-union, and_alike, same_dots}
+use Rattle.dots_core.proofs.Clocks.{same_tests, among_place, among_at, among-append, not_among, rises_lower, holds_low, holds_high}
+use Rattle.dots_core.proofs.Clocks.{holds_next, holds_valid, same_rising, same_clocks}
 
 -- the clocks of a name
 
@@ -43,8 +43,7 @@ among-count_down : (k c : ℕ) → is_among k (count_down c) ≡ (nat_lt 0 k && 
 among-count_down k zero = grind (arith, nat_tests)
 among-count_down k (suc c) = ap (λ b. (k == suc c) || b) (among-count_down k c) ∙ grind (arith, nat_tests)
 
-any-part : (q : Dot) (n : ℕ) (p : Clocks) →
-    list_any (is_dot q) (map (dot n) (count_down p.clock ++ p.cloud)) ≡ ((q.name == n) && holds p q.clock)
+pub any-part : (q : Dot) (n : ℕ) (p : Clocks) → list_any (is_dot q) (map (dot n) (count_down p.clock ++ p.cloud)) ≡ ((q.name == n) && holds p q.clock)
 any-part q n p =
     any-dots q n (count_down p.clock ++ p.cloud)
     ∙ ap (λ b. (q.name == n) && b)
@@ -357,3 +356,47 @@ chosen_dots ps qs p s h view = same_dots _ _ (λ q.
     contains-dots_of_parts qs q ∙ h q.name q.clock ∙ and_comm (p q.name) (holds (part_at ps q.name) q.clock)
     ∙ ap (λ b. b && p q.name) (sym (contains-dots_of_parts ps q))
     ∙ ap (λ s. set.contains s q && p q.name) view ∙ sym (contains-retain s (λ d. p d.name) q))
+
+-- the set with one part put in its place
+
+pub contains-with_part : (n : ℕ) (p : Clocks) (s : Dots) (q : Dot) →
+    set.contains (with_part n p s) q ≡ ((set.contains s q && not (q.name == n)) || ((q.name == n) && holds p q.clock))
+contains-with_part n p s q =
+    contains-union (others n s) (part_dots n p) q
+    ∙ (λ i. contains-retain s (λ d. not (d.name == n)) q i ||
+    (set.contains-from_list dot_total (map (dot n) (count_down p.clock ++ p.cloud)) q ∙ any-part q n p) i)
+
+in_place : (t a h x : Bool) → (t ≡ true → x ≡ h) → (t ≡ false → x ≡ a) → x ≡ ((a && not t) || (t && h))
+in_place true a h x f k = f refl ∙ sym (ap (λ b. b || h) (and-false a))
+in_place false a h x f k = k refl ∙ sym (or-false (a && true) ∙ and-true a)
+
+pub set_is_with_part : (ps : List Clocks) (i n : ℕ) (p : Clocks) (s : Dots) → AreParts ps → i ≡ n → n < 32 → dots_of_parts ps ≡ s →
+    dots_of_parts (slice_set ps i p) ≡ with_part n p s
+set_is_with_part ps i n p s h e lt view = same_dots _ _ (λ q.
+    contains-dots_of_parts (slice_set ps i p) q
+    ∙ at_set ps i p q.name (omega (arith, h.names)) (λ x. holds x q.clock ≡ ((set.contains s q && not (q.name == n)) || ((q.name == n) && holds p q.clock)))
+    (λ same. in_place (q.name == n) (set.contains s q) (holds p q.clock) (holds p q.clock) (λ _. refl)
+    (λ no. absurd (true≢false (sym (eq-eqb q.name n (same ∙ e)) ∙ no))))
+    (λ other. in_place (q.name == n) (set.contains s q) (holds p q.clock) (holds (part_at ps q.name) q.clock)
+    (λ yes. absurd (other (eqb-true q.name n yes ∙ sym e))) (λ _. sym (contains-dots_of_parts ps q) ∙ ap (λ s. set.contains s q) view))
+    ∙ sym (contains-with_part n p s q))
+
+pub read_is_with_part : (ps : List Clocks) (i n : ℕ) (d : Clocks) (s : Dots) → AreParts ps → i ≡ n → n < 32 → dots_of_parts ps ≡ s →
+    with_part n (get_or ps i d) s ≡ s
+read_is_with_part ps i n d s h e lt view = same_dots _ _ (λ q.
+    contains-with_part n (get_or ps i d) s q
+    ∙ sym (in_place (q.name == n) (set.contains s q) (holds (get_or ps i d) q.clock) (set.contains s q)
+    (λ yes. let same : q.name ≡ n = eqb-true q.name n yes in sym (held_at ps i q d s h (e ∙ sym same) (omega (arith, same, lt)) view))
+    (λ _. refl)))
+
+pub with_part_others : (n : ℕ) (p : Clocks) (s : Dots) → with_part n p (others n s) ≡ with_part n p s
+with_part_others n p s = same_dots _ _ (λ q.
+    contains-with_part n p (others n s) q
+    ∙ ap (λ b. (b && not (q.name == n)) || ((q.name == n) && holds p q.clock)) (contains-retain s (λ d. not (d.name == n)) q)
+    ∙ ap (λ b. b || ((q.name == n) && holds p q.clock)) (twice (set.contains s q) (q.name == n))
+    ∙ sym (contains-with_part n p s q))
+  where
+    twice : (a t : Bool) → ((a && not t) && not t) ≡ (a && not t)
+    twice true true = refl
+    twice true false = refl
+    twice false t = refl

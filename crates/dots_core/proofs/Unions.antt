@@ -2,7 +2,7 @@
 use Rattle.std.proofs.Common.{◌≡◌, ◌≢◌, ◌⊎◌, inl, inr, ℕ, zero, suc, ◌+◌, ◌<◌, ◌≤◌, ◌==◌, nat_lt, nat_le, ◌&&◌, ◌||◌, not, min, max, Bool, true, false}
 use Rattle.std.proofs.Common.{List, [], ◌∷◌, ◌++◌, length, get_or, slice_set, get_or-set_same, get_or-set_other, take, if◌then◌else◌, Some, None, refl, sym}
 use Rattle.std.proofs.Common.{ap, subst, ◌∙◌, arith, true≢false}
-use Rattle.std.proofs.Math.Bool.{and-false, or-false, or_comm}
+use Rattle.std.proofs.Math.Bool.{and-false, and_comm, or-false, or_comm}
 use Rattle.std.proofs.lemmas.Bool.{eq-eqb, eqb-true, eqb-false, cases_eq, cases_lt, or_left, or_right, or_cases}
 use Rattle.std.proofs.lemmas.Bool.Decides.{nat_tests}
 use Rattle.std.specs.List.{slice_get}
@@ -424,6 +424,18 @@ union_dots known own ps qs rs s t se te h = same_dots _ _ (λ q.
     ∙ ap (λ b. set.contains s q || b) (turned (not (q.name == own)) (set.contains known q.name) (set.contains t q))
     ∙ sym (contains-union s (of_names (λ n. set.contains known n && not (n == own)) t) q
     ∙ ap (λ b. set.contains s q || b) (contains-retain t (λ d. set.contains known d.name && not (d.name == own)) q)))
+
+pub union_named_dots : (names : Names) (ps qs rs : List Clocks) (s t : Dots) → dots_of_parts ps ≡ s → dots_of_parts qs ≡ t →
+    IsUnionFrom names 0 ps qs rs → dots_of_parts rs ≡ set.union s (of_names (set.contains names) t)
+union_named_dots names ps qs rs s t se te h = same_dots _ _ (λ q.
+    let low : nat_le 0 q.name ≡ true = grind (arith, nat_tests) in
+    let old : holds (part_at ps q.name) q.clock ≡ set.contains s q = sym (contains-dots_of_parts ps q) ∙ ap (λ s. set.contains s q) se in
+    let other : holds (part_at qs q.name) q.clock ≡ set.contains t q = sym (contains-dots_of_parts qs q) ∙ ap (λ t. set.contains t q) te in
+    contains-dots_of_parts rs q ∙ h.clocks q.name q.clock
+    ∙ (λ i. old i || ((low i && set.contains names q.name) && other i))
+    ∙ ap (λ b. set.contains s q || b) (and_comm (set.contains names q.name) (set.contains t q))
+    ∙ sym (contains-union s (of_names (set.contains names) t) q
+    ∙ ap (λ b. set.contains s q || b) (contains-retain t (λ d. set.contains names d.name) q)))
 
 -- the parts of some names, as far as they are copied
 pub record IsChosen (ps : List Clocks) (names : Names) (i : ℕ) (qs : List Clocks) : Type 0 where

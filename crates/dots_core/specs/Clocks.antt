@@ -1,5 +1,5 @@
 -- The clocks of one name's dots, as a set keeps them: those from 1 to a clock, and those in a cloud above it.
-use Rattle.std.specs.Prelude.{◌≡◌, ℕ, ◌+◌, ◌<◌, ◌≤◌, ◌==◌, nat_lt, nat_le, Bool, false, not, ◌&&◌, ◌||◌, List, [], ◌∷◌}
+use Rattle.std.specs.Prelude.{◌≡◌, ℕ, ◌+◌, ◌<◌, ◌≤◌, ◌==◌, nat_lt, nat_le, Bool, true, false, not, ◌&&◌, ◌||◌, List, [], ◌∷◌, Option, None, Some}
 
 pub record Clocks : Type 0 where
   pub clock : ℕ
@@ -18,6 +18,15 @@ is_among k (c ∷ cs) = (k == c) || is_among k cs
 abbrev pub holds : Clocks → ℕ → Bool
 holds p k = (nat_lt 0 k && nat_le k p.clock) || is_among k p.cloud
 
+-- p has each clock of q
+abbrev pub HoldsAllOf : Clocks → Clocks → Type 0
+HoldsAllOf p q = (k : ℕ) → holds q k ≡ true → holds p k ≡ true
+
+-- the first of the clocks that is not below k, if there is one
+abbrev pub IsFirstFrom : Clocks → ℕ → Option ℕ → Type 0
+IsFirstFrom p k None = (j : ℕ) → k ≤ j → holds p j ≡ false
+IsFirstFrom p k (Some f) = (k ≤ f) × (holds p f ≡ true) × ((j : ℕ) → k ≤ j → j < f → holds p j ≡ false)
+
 -- each is above the one before it, the first above b, and none is past the last clock
 abbrev pub RisesAbove : ℕ → List ℕ → Type 0
 RisesAbove b [] = Unit {0}
@@ -27,6 +36,10 @@ RisesAbove b (c ∷ cs) = (b < c) × (c ≤ 1000000000) × RisesAbove c cs
 pub record IsCanonical (p : Clocks) : Type 0 where
   pub last : p.clock ≤ 1000000000
   pub rises : RisesAbove (p.clock + 1) p.cloud
+
+-- none of the clocks is above k
+abbrev pub IsGreatest : ℕ → Clocks → Type 0
+IsGreatest k p = (j : ℕ) → k < j → holds p j ≡ false
 
 -- after has the clocks of before, and k
 abbrev pub Gains : Clocks → ℕ → Clocks → Type 0

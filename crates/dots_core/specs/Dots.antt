@@ -1,5 +1,5 @@
 -- Dots, and finite sets of them (RR-8083, 'dots': the unique stamp of an add).
-use Rattle.std.specs.Prelude.{◌≡◌, ◌↔◌, ℕ, ◌<◌, ◌≤◌, ◌==◌, Bool, true, refl}
+use Rattle.std.specs.Prelude.{◌≡◌, ◌↔◌, ℕ, ◌<◌, ◌≤◌, ◌==◌, ◌⊎◌, Bool, true, false, Option, None, Some, refl}
 use Rattle.std.specs.declared.cmp.Ordering.{Ordering}
 use Rattle.std.specs.Ordering.{nat_cmp, ordering_then}
 use Rattle.std.specs.FinSet as set
@@ -20,6 +20,14 @@ dot_cmp a b = ordering_then (nat_cmp a.name b.name) (nat_cmp a.clock b.clock)
 abbrev pub dot_code : Coded Dot
 dot_code = code_by (ℕ × ℕ) (coded× coded_ℕ coded_ℕ) (λ d. (d.name, d.clock)) (λ p. record { name = p.0; clock = p.1 }) (λ _. refl)
 
+-- a is below b, by name and then by clock
+abbrev pub IsBelow : Dot → Dot → Type 0
+IsBelow a b = (a.name < b.name) ⊎ ((a.name ≡ b.name) × (a.clock < b.clock))
+
+-- b is not below a
+abbrev pub IsFrom : Dot → Dot → Type 0
+IsFrom a b = (a.name < b.name) ⊎ ((a.name ≡ b.name) × (a.clock ≤ b.clock))
+
 -- a finite set of dots
 abbrev pub Dots : Type 0
 Dots = set.FinSet dot_cmp
@@ -34,6 +42,12 @@ dot name clock = record { name = name; clock = clock }
 -- the dots whose names pass the test
 abbrev pub of_names : (ℕ → Bool) → Dots → Dots
 of_names named s = set.retain s (λ d. named d.name)
+
+-- the first dot of these names in the set that is not below d, if there is one
+abbrev pub IsFirstDot : (ℕ → Bool) → Dots → Dot → Option Dot → Type 0
+IsFirstDot named s d None = (q : Dot) → IsFrom d q → named q.name ≡ true → set.contains s q ≡ false
+IsFirstDot named s d (Some f) =
+    IsFrom d f × (named f.name ≡ true) × (set.contains s f ≡ true) × ((q : Dot) → IsFrom d q → IsBelow q f → named q.name ≡ true → set.contains s q ≡ false)
 
 -- how many dots of the name are in the set
 abbrev pub count_of : ℕ → Dots → ℕ

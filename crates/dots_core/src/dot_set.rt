@@ -1,9 +1,9 @@
 //! A finite set of dots, kept as a context clock and a cloud for each name.
 
-ghost use Rattle.std.specs.Prelude.{◌≡◌, ◌↔◌, ◌<◌, ◌≤◌, ◌==◌, ◌&&◌, not, IsTrue, IfOk, OnOk, OnErr, length};
+ghost use Rattle.std.specs.Prelude.{◌≡◌, ◌↔◌, ◌<◌, ◌≤◌, ◌==◌, ◌&&◌, not, IsOk, IsTrue, IfOk, OnOk, OnErr, length};
 ghost use Rattle.std.specs.FinSet as set;
-ghost use Rattle.dots_core.specs.Dots.{IsValid, AreValid, of_names};
-ghost use Rattle.dots_core.specs.Contexts.{IsContext, IsCloudOf, IsPartOf, others};
+ghost use Rattle.dots_core.specs.Dots.{IsFirstDot, IsValid, AreValid, of_names};
+ghost use Rattle.dots_core.specs.Contexts.{HasAllOf, IsContext, IsNext, IsLast, IsCloudOf, IsPartOf, others, with_part};
 ghost use Rattle.dots_core.specs.Clocks.{no_clocks};
 ghost use Rattle.dots_core.specs.Parts.{AreParts};
 ghost use Rattle.dots_core.specs.Unions.{IsUnionFrom};
@@ -107,23 +107,50 @@ impl<A: Allocator> DotSet<A> {
         true
     }
 
+    /// Whether it has each dot of the name that the other has. It searches for each clock of the other's cloud.
+    pub fn has_all_of(&self, other: &DotSet<A>, name: u16) -> bool
+        requires { name < 32 }
+        ensures { IsTrue result ↔ HasAllOf name self.now other.now }
+    {
+        let at = usize::from(name);
+        self.parts[at].has_all_of(&other.parts[at])
+    }
+
+    /// The first of its dots of these names that is not below this one: of the dot's own name by a search, and else the
+    /// first dot of a later name.
+    pub fn first_from(&self, names: NameSet, dot: Dot) -> Option<Dot>
+        ensures { IsFirstDot (set.contains names) self.now dot result }
+    {
+        for name in dot.name.min(32)..32 {
+            if names.has(name) {
+                let part = &self.parts[usize::from(name)];
+                if let Some(clock) = part.first_from(clock_from(dot, name)) {
+                    return Some(Dot { name, clock });
+                }
+            }
+        }
+        None
+    }
+
     /// Puts the dot in, and says whether it is new. The dot after the context clock moves that clock on, past the clocks
     /// of the cloud that follow on it; any other new dot goes into the cloud, which alone may take memory.
     pub fn insert(&mut self, dot: Dot) -> Result<bool, Oom>
         requires { IsValid dot }
         ensures ok { OnOk result (self.new ≡ set.insert self.old dot) }
         ensures new { IfOk result (λ is_new. is_new ≡ not (set.contains self.old dot)) }
+        ensures next { IsNext dot self.old → IsOk result }
         ensures err { OnErr result (self.new ≡ self.old) }
     {
         self.parts[usize::from(dot.name)].insert(dot.clock)
     }
 
     /// Takes the dot out, and says whether it was there. Where it was below the context clock, those between them go into
-    /// the cloud, which may take memory; the dot at the clock takes none.
+    /// the cloud, which may take memory; the name's last dot takes none.
     pub fn remove(&mut self, dot: Dot) -> Result<bool, Oom>
         requires { IsValid dot }
         ensures ok { OnOk result (self.new ≡ set.remove self.old dot) }
         ensures was { IfOk result (λ was_there. was_there ≡ set.contains self.old dot) }
+        ensures last { IsLast dot self.old → IsOk result }
         ensures err { OnErr result (self.new ≡ self.old) }
     {
         self.parts[usize::from(dot.name)].remove(dot.clock)
@@ -139,6 +166,17 @@ impl<A: Allocator> DotSet<A> {
         ensures err { OnErr result (self.new ≡ self.old) }
     {
         union_from(&mut self.parts, &other.parts, known.without(own), 0)
+    }
+
+    /// Adds the other's dots of these names, in time linear in their parts. A name of which the other has no new dot
+    /// takes no memory.
+    pub fn union_named(&mut self, other: &DotSet<A>, names: NameSet) -> Result<(), Oom>
+    where
+        A: Copy,
+        ensures ok { OnOk result (self.new ≡ set.union self.old (of_names (set.contains names) other.now)) }
+        ensures err { OnErr result (self.new ≡ self.old) }
+    {
+        union_from(&mut self.parts, &other.parts, names, 0)
     }
 
     /// A set of the dots of these names.
@@ -172,7 +210,8 @@ impl<A: Allocator> DotSet<A> {
     where
         A: Copy,
         requires { name < 32 }
-        ensures { IfOk result (IsPartOf self.now name) }
+        ensures part { IfOk result (IsPartOf self.now name) }
+        ensures whole { IfOk result (λ part. with_part name part self.now ≡ self.now) }
     {
         self.parts[usize::from(name)].try_copy()
     }
@@ -184,6 +223,7 @@ impl<A: Allocator> DotSet<A> {
         requires { name < 32 }
         ensures part { IsPartOf self.old name result }
         ensures rest { self.new ≡ others name self.old }
+        ensures whole { with_part name result self.new ≡ self.old }
     {
         let alloc = self.allocator();
         mem::replace(&mut self.parts[usize::from(name)], Part::empty(alloc))
@@ -195,6 +235,7 @@ impl<A: Allocator> DotSet<A> {
         requires { name < 32 }
         ensures part { IsPartOf self.new name part }
         ensures rest { others name self.new ≡ others name self.old }
+        ensures whole { self.new ≡ with_part name part self.old }
     {
         let _ = &part.clock; // the proof reads that the part is canonical
         self.parts[usize::from(name)] = part;
@@ -214,6 +255,14 @@ impl<A: Allocator> DotSet<A> {
         let part = &self.parts[0];
         *part.cloud.allocator()
     }
+}
+
+// The least clock with which a dot of the name, which is not below the dot's own, is not below the dot.
+fn clock_from(dot: Dot, name: u16) -> u64
+    ensures own { name ≡ dot.name → result ≡ dot.clock }
+    ensures later { dot.name < name → result ≡ 0 }
+{
+    if name == dot.name { dot.clock } else { 0 }
 }
 
 // Adds the other parts of these names, from `name` on. What may be refused memory comes first, of all names, and then

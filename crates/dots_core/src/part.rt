@@ -1,7 +1,7 @@
 //! The dots of one name in a set: a context clock, and a cloud of the clocks above it.
 
-ghost use Rattle.std.specs.Prelude.{◌≡◌, ℕ, ◌+◌, ◌-◌, ◌<◌, ◌≤◌, ◌↔◌, ◌++◌, drop, length, not, All, IsTrue, IfOk, OnOk, OnErr};
-ghost use Rattle.dots_core.specs.Clocks.{no_clocks, holds, IsCanonical, Gains, Loses};
+ghost use Rattle.std.specs.Prelude.{◌≡◌, ℕ, ◌+◌, ◌-◌, ◌<◌, ◌≤◌, ◌↔◌, ◌++◌, drop, length, slice_get, not, All, IsOk, IsTrue, IfOk, OnOk, OnErr};
+ghost use Rattle.dots_core.specs.Clocks.{no_clocks, holds, HoldsAllOf, IsCanonical, IsFirstFrom, IsGreatest, Gains, Loses};
 ghost use Rattle.dots_core.specs.Absorbed.{absorbed, numbers};
 
 use crate::Oom;
@@ -58,6 +58,35 @@ impl<A: Allocator> Part<A> {
         self.clock == other.clock && self.cloud == other.cloud
     }
 
+    /// Whether it has each clock of the other. It searches for each clock of the other's cloud.
+    pub(crate) fn has_all_of(&self, other: &Part<A>) -> bool
+        ensures { IsTrue result ↔ HoldsAllOf self.now other.now }
+    {
+        if other.clock > self.clock {
+            return false;
+        }
+        for clock in &other.cloud {
+            if !self.has(*clock) {
+                return false;
+            }
+        }
+        true
+    }
+
+    /// The first of its clocks that is not below this one, by a search in the cloud.
+    pub(crate) fn first_from(&self, clock: u64) -> Option<u64>
+        ensures { IsFirstFrom self.now clock result }
+    {
+        let clock = clock.max(1);
+        if clock <= self.clock {
+            return Some(clock);
+        }
+        match self.cloud.binary_search(&clock) {
+            Ok(_) => Some(clock),
+            Err(place) => clock_at(&self.cloud, place),
+        }
+    }
+
     /// A clock in its place: the next one moves the context clock, which then takes in what follows on it in the cloud.
     pub(crate) fn insert(&mut self, clock: u64) -> Result<bool, Oom>
         requires positive { 0 < clock }
@@ -65,6 +94,7 @@ impl<A: Allocator> Part<A> {
         ensures canonical { IsCanonical self.new }
         ensures ok { OnOk result (Gains self.old clock self.new) }
         ensures new { IfOk result (λ is_new. is_new ≡ not (holds self.old clock)) }
+        ensures next { clock ≡ self.old.clock + 1 → IsOk result }
         ensures err { OnErr result (self.new ≡ self.old) }
     {
         if clock <= self.clock {
@@ -91,6 +121,7 @@ impl<A: Allocator> Part<A> {
         ensures canonical { IsCanonical self.new }
         ensures ok { OnOk result (Loses self.old clock self.new) }
         ensures was { IfOk result (λ was_there. was_there ≡ holds self.old clock) }
+        ensures last { IsGreatest clock self.old → IsOk result }
         ensures err { OnErr result (self.new ≡ self.old) }
     {
         if clock <= self.clock {
@@ -119,6 +150,12 @@ impl<A: Allocator> Part<A> {
     }
 }
 
+fn clock_at(cloud: &[u64], place: usize) -> Option<u64>
+    ensures { result ≡ slice_get cloud.now place }
+{
+    cloud.get(place).copied()
+}
+
 // How many clocks at the front of the cloud follow on the clock, one after another.
 fn run_after(clock: u64, cloud: &[u64]) -> usize
     requires clock { clock ≤ 1000000000 }
@@ -140,8 +177,12 @@ fn run_after(clock: u64, cloud: &[u64]) -> usize
 fn put_in_front<A: Allocator>(cloud: &mut Vec<u64, A>, from: u64, to: u64) -> Result<(), Oom>
     requires { from ≤ to }
     ensures ok { OnOk result (cloud.new.items ≡ numbers from (to - from) ++ cloud.old.items) }
+    ensures none { from ≡ to → IsOk result }
     ensures err { OnErr result (cloud.new.items ≡ cloud.old.items) }
 {
+    if from == to {
+        return Ok(());
+    }
     let above = cloud.len();
     cloud.reserve((to - from) as usize)?;
     for clock in from..to {

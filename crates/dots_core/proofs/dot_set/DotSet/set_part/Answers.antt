@@ -1,6 +1,6 @@
 use Rattle.std.proofs.Common.{subst}
 use Rattle.dots_core.specs.Clocks.{IsCanonical}
-use Rattle.dots_core.proofs.Parts.{parts_set, part_put, rest_put}
+use Rattle.dots_core.proofs.Parts.{parts_set, part_put, rest_put, set_is_with_part}
 use Rattle.dots_core.proofs.dot_set.DotSet.set_part.Goals as goal
 
 pub invariant_of-self : goal.invariant_of-self
@@ -14,5 +14,8 @@ returns-clause-part g c =
 
 pub returns-clause-rest : goal.returns-clause-rest
 returns-clause-rest g c =
-    rest_put c.self.inside.parts c.from.result c.args.name c.args.part c.args.self.now c.self.invariant c.from.ensures c.requires
-    c.self.view_is
+    rest_put c.self.inside.parts c.from.result c.args.name c.args.part c.args.self.now c.self.invariant c.from.ensures c.requires c.self.view_is
+
+pub returns-clause-whole : goal.returns-clause-whole
+returns-clause-whole g c =
+    set_is_with_part c.self.inside.parts c.from.result c.args.name c.args.part c.args.self.now c.self.invariant c.from.ensures c.requires c.self.view_is
