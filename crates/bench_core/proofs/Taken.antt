@@ -89,10 +89,10 @@ took n (Update p) m y h =
     (record { own = drops.own; limits = drops.limits }) h
 took n Broadcast m y h =
     let gives = with_sent n (delta_message n.replica) (without_delta n.replica) in
-    let e = broadcast_ok (has_dots n.replica.delta_seen) n y h in
+    let e = broadcast_ok (has_dots n.replica.delta.seen) n y h in
     record { posts = (delta_message n.replica, outbox_at y gives e); was_read = tt; owns = own_at y gives e; limits = limits_at y gives e }
 took n (Extract names) m y h =
-    let message = message_of_names (set.contains names) n.replica.own n.replica.seen n.replica.entries in
+    let message = message_of_names (set.contains names) n.replica.own n.replica.store.seen n.replica.store.entries in
     let gives = with_sent n message n.replica in
     let e = unless_full_ok n gives y h in
     record { posts = (message, outbox_at y gives e); was_read = tt; owns = own_at y gives e; limits = limits_at y gives e }

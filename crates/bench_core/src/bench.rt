@@ -11,7 +11,7 @@ ghost use Rattle.bench_core.specs.Acts.{plain_act, calls_of, Do, Back};
 ghost use Rattle.bench_core.specs.Limits.{node_limits};
 ghost use Rattle.bench_core.specs.Clusters.{opening_of, message_for};
 ghost use Rattle.bench_core.specs.Chains.{Chain};
-ghost use Rattle.bench_core.specs.Machine.{config_of, free_places, knows, reply_to, undo_reply, opening_machine, AnswersAs, AllAnswered};
+ghost use Rattle.bench_core.specs.Machine.{config_of, free_places, given, knows, reply_to, undo_reply, opening_machine, AnswersAs, AllAnswered};
 ghost use Rattle.bench_core.specs.Headline.{CanBeTakenBack, RefusedOnlyForConsequence};
 ghost use Rattle.bench_core.specs.Unwinds.{AreUndone, CanBeUndone, Explains, IsUnwound, IsWhole, Unexplained, undone_by};
 ghost use Rattle.bench_core.specs.Benches.{AreNodes, GoesBack, IsBackable, IsGone, IsMachine, IsNodeOf, IsNumbered, IsStepOf, Steps};
@@ -180,6 +180,13 @@ impl<'a, B: Allocator> Bench<'a, B> {
         ensures each { IsSome result ↔ (number < length self.now.names) }
     {
         self.nodes.get(number as usize)
+    }
+
+    /// How many steps were ever taken.
+    pub fn meter(&self) -> u64
+        ensures { result ≡ given self.now.state.history }
+    {
+        self.meter.count()
     }
 
     /// Does nothing. Its contract says what each bench keeps, besides what `remaining` says of the inverses.

@@ -72,12 +72,7 @@ impl<'a, B: Allocator> History<'a, B> {
     }
 
     /// Records a call that is answered so.
-    pub(crate) fn record(
-        &mut self,
-        actor: u16,
-        act: &Act<&'a B>,
-        reply: Reply,
-    ) -> Result<(), Oom>
+    pub(crate) fn record(&mut self, actor: u16, act: &Act<&'a B>, reply: Reply) -> Result<(), Oom>
         ensures ok { OnOk result (self.new ≡ note actor (plain_act act.now) reply self.old) }
         ensures err { OnErr result (self.new ≡ self.old) }
     {

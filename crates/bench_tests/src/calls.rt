@@ -74,7 +74,7 @@ impl Call {
 }
 
 /// A word, for which there is memory.
-pub fn word<A: Allocator>(rt: &impl Abort, alloc: A, text: &str) -> Word<A> {
+pub fn word<A: Allocator + Clone>(rt: &impl Abort, alloc: A, text: &str) -> Word<A> {
     Word::new(alloc, text).expect(rt, "a word")
 }
 

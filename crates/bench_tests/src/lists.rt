@@ -10,6 +10,7 @@ use dots_core::NameSet;
 use payload_core::{Payload, Word};
 use replica_core::{NodeLimits, Replica};
 use std::alloc::{Allocator, Global};
+use std::cmp::Ordering;
 use std::process::Abort;
 use test_alloc::Refusing;
 
@@ -304,12 +305,10 @@ fn calls_are_shown(rt: HostRuntime) {
 
 /// Whether two rows that follow one another do so in order, and a copy of the first is the same.
 fn are_in_order<'a, B: Allocator>(rt: &impl Abort, rows: &[OnlineRow<&'a B>]) -> bool {
-    match (rows.first(), rows.get(1)) {
-        (Some(first), Some(second)) => {
-            first < second && first.same(&first.try_copy().expect(rt, "a copy"))
-        }
-        _ => false,
-    }
+    let [first, second, ..] = rows else {
+        return false;
+    };
+    first.cmp(second) == Ordering::Less && first.same(&first.try_copy().expect(rt, "a copy"))
 }
 
 #[test]

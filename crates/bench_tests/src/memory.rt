@@ -1,5 +1,5 @@
 //! What calls of the machine leave where memory is refused.
-use crate::calls::{Call, HELD_1_BY_2, Row, Shown, limits_of, open, played};
+use crate::calls::{Call, HELD_1_BY_2, Row, Shown, answers, limits_of, open, played};
 use crate::rows::holds;
 use bench_core::{Act, Bench, Fault, Limits, Node, Reply};
 use std::alloc::Global;
@@ -8,20 +8,24 @@ use test_alloc::Refusing;
 
 type Heap = Refusing<Global>;
 
-/// The bench has so many remaining steps and recorded calls, and this is the actor's node.
+/// The bench has so many remaining steps, recorded calls and steps ever taken, and this is the actor's node.
 fn is_as_before<'a>(
     rt: &impl Abort,
     bench: &Bench<'a, Heap>,
     actor: u16,
     node: &Node<'a, Heap>,
-    counts: (usize, usize),
+    counts: (usize, usize, u64),
 ) {
     assert!(rt; bench.node(actor).expect(rt, "a node").same(node));
     assert!(rt; counts_of(bench) == counts);
 }
 
-fn counts_of<'a>(bench: &Bench<'a, Heap>) -> (usize, usize) {
-    (bench.remaining().len(), bench.history().len())
+fn counts_of<'a>(bench: &Bench<'a, Heap>) -> (usize, usize, u64) {
+    (
+        bench.remaining().len(),
+        bench.history().len(),
+        bench.meter(),
+    )
 }
 
 /// Makes the call with this request for memory refused alone.
@@ -240,4 +244,29 @@ fn a_refusal_without_a_place_takes_no_memory(rt: HostRuntime) {
     for full in &FULL {
         refuses_all(&rt, &heap, full);
     }
+}
+
+/// A bench whose node `a` joined a thousand processes, of which nothing was sent.
+fn joined<'a>(rt: &impl Abort, heap: &'a Heap) -> Bench<'a, Heap> {
+    let mut bench = open(rt, heap, Limits::usual());
+    for pid in 1..1_001 {
+        let row = (0, Call::Join(pid, Shown::Alice), Reply::Taken(pid));
+        answers(rt, heap, &mut bench, &row, "a join");
+    }
+    bench
+}
+
+/// A step and its undo ask for memory a few times, however much the node holds: no node is copied, and no step is run again.
+#[test]
+fn a_join_and_its_undo_ask_for_memory_a_few_times(rt: HostRuntime) {
+    let heap = Refusing::new(rt.alloc());
+    let mut bench = joined(&rt, &heap);
+    let join = Call::Join(1_001, Shown::Alice).act(&rt, &heap);
+    let taken = answer_refused(&heap, &mut bench, 0, &join, 65);
+    drop(join);
+    assert!(rt; taken == Reply::Taken(1_001));
+    let undo = Act::Undo(1_001);
+    let undone = answer_refused(&heap, &mut bench, 0, &undo, 65);
+    drop(undo);
+    assert!(rt; undone == Reply::Undone(1_001));
 }

@@ -1,6 +1,7 @@
 //! Named cases of calls with their replies, and what there is then.
 use crate::calls::{
-    Call, HELD_1_BY_2, HELD_1_BY_3, HELD_3_BY_4, Row, Shown, USUAL, limits_of, played,
+    Call, HELD_1_BY_2, HELD_1_BY_3, HELD_3_BY_4, Row, Shown, USUAL, answers, limits_of, open,
+    played,
 };
 use crate::rows::holds;
 use bench_core::{Bench, Fault, Reply};
@@ -392,5 +393,16 @@ fn calls_get_their_replies(rt: HostRuntime) {
     let heap = rt.alloc();
     for case in &CASES {
         plays(&rt, &heap, case);
+    }
+}
+
+/// An undo, a back and a refusal count nothing.
+#[test]
+fn the_meter_counts_the_steps_that_were_taken(rt: HostRuntime) {
+    let heap = rt.alloc();
+    let mut bench = open(&rt, &heap, limits_of(&rt, USUAL, "the usual"));
+    for (place, row) in DELIVERED_AND_UNDONE.iter().enumerate() {
+        answers(&rt, &heap, &mut bench, row, "steps and undos");
+        assert!(rt; bench.meter() == (place + 1).min(4) as u64);
     }
 }

@@ -18,7 +18,7 @@ use Rattle.payload_core.specs.EntryLists.{pair_of}
 use Rattle.payload_core.specs.Presences.{Presence, Entry, Entries}
 use Rattle.replica_core.specs.Replicas.{Replica}
 use Rattle.replica_core.specs.Views.{View, is_some_up}
-use Rattle.replica_core.proofs.Collected.{entry_at, passed}
+use Rattle.payload_core.proofs.Collected.{entry_at, passed}
 use Rattle.diff_core.specs.Rows.{Row, row_cmp, row_of}
 use Rattle.diff_core.specs.RowOrder.{row_total}
 use Rattle.diff_core.specs.Online.{AreInOrder, IsOnlineList, shown, is_shown}
@@ -100,8 +100,8 @@ once_at d (e ∷ es) sorted = go (once_at d es (and_yes (below_all dot_cmp e.0 e
 -- no row is shown twice
 pub once_shown : (r : Replica) (x : Row) → times x (shown r) ≤ 1
 once_shown r x =
-    let rows = row_le (is_shown r) x (fin.entries r.entries) in
-    let dots = once_at (dot_of x) (fin.entries r.entries) (fin.entries_sorted r.entries) in
+    let rows = row_le (is_shown r) x (fin.entries r.store.entries) in
+    let dots = once_at (dot_of x) (fin.entries r.store.entries) (fin.entries_sorted r.store.entries) in
     omega (arith, rows, dots)
 
 -- a row that is none of these, and below none of them, is below each
@@ -188,9 +188,9 @@ same_rows (x ∷ xs) (y ∷ ys) up also same =
         let total = same r in
         omega (arith, left, right, here, total)))
 
-shown_alike : (r s : Replica) → r.entries ≡ s.entries → r.view ≡ s.view → shown r ≡ shown s
+shown_alike : (r s : Replica) → r.store.entries ≡ s.store.entries → r.view ≡ s.view → shown r ≡ shown s
 shown_alike r s entries view =
-    ap (λ (v : View). map row_of (filter (λ (e : Dot × Presence). is_some_up (fin.get v e.0.name)) (fin.entries r.entries))) view
+    ap (λ (v : View). map row_of (filter (λ (e : Dot × Presence). is_some_up (fin.get v e.0.name)) (fin.entries r.store.entries))) view
     ∙ ap (λ (es : Entries). map row_of (filter (is_shown s) (fin.entries es))) entries
 
 pub one_list_holds : OneListLaw

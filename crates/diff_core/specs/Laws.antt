@@ -8,7 +8,7 @@ use Rattle.diff_core.specs.Sorting.{online_of}
 
 -- two replicas with the same entries and statuses have the same list
 abbrev pub OneListLaw : Type 0
-OneListLaw = (r s : Replica) (xs ys : List Row) → r.entries ≡ s.entries → r.view ≡ s.view → IsOnlineList r xs → IsOnlineList s ys → xs ≡ ys
+OneListLaw = (r s : Replica) (xs ys : List Row) → r.store.entries ≡ s.store.entries → r.view ≡ s.view → IsOnlineList r xs → IsOnlineList s ys → xs ≡ ys
 
 -- of a list, nothing is alone beside itself; and what is alone is in order, as the list is
 pub record DiffLaw : Type 0 where

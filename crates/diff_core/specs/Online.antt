@@ -13,7 +13,7 @@ is_shown r e = is_online r e.0.name
 
 -- the rows of the entries that are shown, in the order of their dots
 abbrev pub shown : Replica → List Row
-shown r = map row_of (filter (is_shown r) (fin.entries r.entries))
+shown r = map row_of (filter (is_shown r) (fin.entries r.store.entries))
 
 -- the rows are in order, and none stands twice
 abbrev pub AreInOrder : List Row → Type 0

@@ -9,6 +9,8 @@
 #[cfg(test)]
 mod dots;
 #[cfg(test)]
+mod inverses;
+#[cfg(test)]
 mod journal;
 #[cfg(test)]
 mod node;

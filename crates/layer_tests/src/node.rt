@@ -1,13 +1,14 @@
 //! Steps and nodes: that each step is copied, succeeds with ample memory, is taken back, and changes nothing where memory is
 //! refused.
-ghost use Rattle.std.specs.Prelude.{◌<◌};
+ghost use Rattle.std.specs.Prelude.{◌<◌, IfSome};
 ghost use Rattle.replica_core.specs.Limits.{AreNodeLimits};
+ghost use Rattle.node_core.specs.Inverses.{LeadsSomewhere, plain_inverse};
 ghost use Rattle.node_core.specs.Operations.{AreNames, plain};
 
 use crate::rows::holds;
 use crate::words::word;
 use dots_core::NameSet;
-use node_core::{Meter, Node, NodeLimits, Step, StepFault};
+use node_core::{Inverse, Meter, Node, NodeLimits, Step, StepFault};
 use payload_core::Payload;
 use replica_core::Replica;
 use std::alloc::{Allocator, Global};
@@ -16,7 +17,7 @@ use test_alloc::Refusing;
 
 type Heap = Refusing<Global>;
 
-const USUAL: NodeLimits = NodeLimits {
+pub const USUAL: NodeLimits = NodeLimits {
     entries: 10,
     clock: 10,
     messages: 10,
@@ -24,13 +25,13 @@ const USUAL: NodeLimits = NodeLimits {
 
 /// One of two nodes, of the first name and the last.
 #[derive(Clone, Copy)]
-enum Side {
+pub enum Side {
     Here,
     There,
 }
 
 impl Side {
-    fn name(self) -> u16
+    pub fn name(self) -> u16
         ensures { result < 32 }
     {
         match self {
@@ -42,8 +43,9 @@ impl Side {
 
 /// A step in a table.
 #[derive(Clone, Copy)]
-enum Ask {
+pub enum Ask {
     Join(u64),
+    JoinElsewhere(u64),
     Leave(u64),
     LeaveAll(u64),
     Update(u64),
@@ -59,11 +61,12 @@ enum Ask {
 type Row = (Ask, Option<StepFault>);
 
 impl Ask {
-    fn step<A: Allocator + Copy>(self, rt: &impl Abort, alloc: A) -> Step<A>
+    pub fn step<A: Allocator + Copy>(self, rt: &impl Abort, alloc: A) -> Step<A>
         ensures { AreNames (plain result) }
     {
         match self {
-            Ask::Join(pid) => join(rt, alloc, pid),
+            Ask::Join(pid) => join(rt, alloc, pid, "r"),
+            Ask::JoinElsewhere(pid) => join(rt, alloc, pid, "s"),
             Ask::Leave(pid) => leave(rt, alloc, pid),
             Ask::LeaveAll(pid) => Step::LeaveAll { pid },
             Ask::Update(pid) => update(rt, alloc, pid),
@@ -82,12 +85,12 @@ impl Ask {
     }
 }
 
-fn join<A: Allocator + Copy>(rt: &impl Abort, alloc: A, pid: u64) -> Step<A>
+fn join<A: Allocator + Copy>(rt: &impl Abort, alloc: A, pid: u64, topic: &str) -> Step<A>
     ensures { AreNames (plain result) }
 {
     Step::Join {
         pid,
-        topic: word(rt, alloc, "r"),
+        topic: word(rt, alloc, topic),
         key: word(rt, alloc, "alice"),
         metadata: word(rt, alloc, "phone"),
     }
@@ -229,38 +232,25 @@ const KINDS: [Ask; 10] = [
     Ask::Permdown(Side::There),
 ];
 
-/// Copies the step with its first, second, .. request for memory refused, until it meets none: each refused copy is an error.
-/// Gives how many were refused.
-fn refused_copies<'a>(rt: &impl Abort, heap: &'a Heap, step: &Step<&'a Heap>) -> u64 {
-    for number in 1..10 {
-        heap.refuse_only(number);
-        let copy = step.try_copy();
-        let requests = heap.requests();
-        heap.refuse_none();
-        assert!(rt; copy.is_ok() == (requests < number));
-        if let Ok(copy) = copy {
-            assert!(rt; copy.same(step));
-            return number - 1;
-        }
-    }
-    10
-}
-
-/// A step has as many words as this.
-fn words_in(ask: Ask) -> u64 {
-    match ask {
-        Ask::Join(_) | Ask::Update(_) => 3,
-        Ask::Leave(_) => 2,
-        _ => 0,
+/// Whether the step is copied with all memory refused.
+fn is_copied<'a>(heap: &'a Heap, step: &Step<&'a Heap>) -> bool {
+    heap.refuse_from(1);
+    let copy = step.try_copy();
+    let requests = heap.requests();
+    heap.refuse_none();
+    match copy {
+        Ok(copy) => copy.same(step) && requests == 0,
+        Err(_) => false,
     }
 }
 
+/// The copy shares the words of the step.
 #[test]
-fn a_step_is_copied_with_a_request_for_each_word(rt: HostRuntime) {
+fn a_step_is_copied_without_memory(rt: HostRuntime) {
     let heap = Refusing::new(rt.alloc());
     for ask in KINDS {
         let step = ask.step(&rt, &heap);
-        assert!(rt; refused_copies(&rt, &heap, &step) == words_in(ask));
+        assert!(rt; is_copied(&heap, &step));
     }
 }
 
@@ -311,7 +301,7 @@ fn joins<'a, B: Allocator>(rt: &impl Abort, alloc: &'a B, replica: &mut Replica<
 }
 
 /// The message of the node there that tells of its process 1.
-fn message<'a, B: Allocator>(rt: &impl Abort, alloc: &'a B) -> Payload<&'a B> {
+pub fn message<'a, B: Allocator>(rt: &impl Abort, alloc: &'a B) -> Payload<&'a B> {
     let mut replica = Replica::opening(alloc, Side::There.name(), USUAL);
     joins(rt, alloc, &mut replica);
     replica.take_delta().expect(rt, "a message")
@@ -331,7 +321,7 @@ fn takes<'a>(
     assert!(rt; inverse.is_ok());
 }
 
-/// Takes the step, and takes it back with this request for memory and all later ones refused: the node is as it was.
+/// Takes the step, and takes it back, with this request for memory and all later ones refused first: the node is as it was.
 fn taken_back<'a>(
     rt: &impl Abort,
     heap: &'a Heap,
@@ -346,11 +336,41 @@ fn taken_back<'a>(
     let taken = node.take(&step, Some(message), &mut meter);
     let inverse = taken.expect(rt, "an inverse");
     assert!(rt; !node.same(&before));
-    heap.refuse_from(number);
-    let done = node.give_back(inverse).is_ok();
-    heap.refuse_none();
-    assert!(rt; done);
+    gives_back(rt, heap, node, inverse, number);
     assert!(rt; node.same(&before));
+}
+
+/// Takes a step back with this request for memory and all later ones refused; where that is refused, with memory.
+fn gives_back<'a>(
+    rt: &impl Abort,
+    heap: &'a Heap,
+    node: &mut Node<'a, Heap>,
+    inverse: Inverse<&'a Heap>,
+    number: u64,
+)
+    requires { LeadsSomewhere (plain_inverse inverse) node.old }
+{
+    heap.refuse_from(number);
+    let refused = given_back(node, inverse);
+    heap.refuse_none();
+    if let Some(inverse) = refused {
+        let left = given_back(node, inverse);
+        assert!(rt; left.is_none());
+    }
+}
+
+/// Takes a step back. Where that is refused, the inverse comes back.
+fn given_back<'a>(
+    node: &mut Node<'a, Heap>,
+    inverse: Inverse<&'a Heap>,
+) -> Option<Inverse<&'a Heap>>
+    requires { LeadsSomewhere (plain_inverse inverse) node.old }
+    ensures { IfSome result (λ inverse. LeadsSomewhere (plain_inverse inverse) node.new) }
+{
+    match node.give_back(inverse) {
+        Ok(()) => None,
+        Err((inverse, _oom)) => Some(inverse),
+    }
 }
 
 /// What node 0 is asked in turn: to take a step, or to take it and take it back.
@@ -406,7 +426,7 @@ fn each_step_is_taken_back(rt: HostRuntime) {
 }
 
 #[test]
-fn a_step_is_taken_back_without_memory(rt: HostRuntime) {
+fn a_step_back_that_is_refused_memory_changes_nothing(rt: HostRuntime) {
     let heap = Refusing::new(rt.alloc());
     each_is_taken_back(&rt, &heap, 1);
 }

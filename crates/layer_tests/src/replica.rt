@@ -1,6 +1,6 @@
 //! Replicas: context clocks and clouds in rows of several calls, undos, and refused memory.
 ghost use Rattle.std.specs.Prelude.{◌<◌, IfOk};
-ghost use Rattle.replica_core.specs.Changes.{ChangeLeadsBack};
+ghost use Rattle.replica_core.specs.Changes.{plain_change, ChangeLeadsBack};
 ghost use Rattle.replica_core.specs.Limits.{AreNodeLimits};
 
 use crate::dots::is_seen;
@@ -147,7 +147,7 @@ impl Call {
         replica: &mut Replica<&'a B>,
         inputs: &Inputs<&'a B>,
     ) -> Result<Change<&'a B>, ReplicaFault>
-        ensures { IfOk result (λ change. ChangeLeadsBack change replica.new replica.old) }
+        ensures { IfOk result (λ change. ChangeLeadsBack (plain_change change) replica.new replica.old) }
     {
         let words = &inputs.words;
         let sender = inputs.pair.sender();
@@ -264,27 +264,26 @@ fn refused<'a>(
     answer.err()
 }
 
-/// Makes the call and undoes it, makes it with each request for memory refused in turn, and then with none.
+/// Makes the call and undoes it, makes it with each request for memory refused in turn, and then with none. Gives how many
+/// were refused.
 fn refuses<'a>(
     rt: &impl Abort,
     heap: &'a Heap,
     replica: &mut Replica<&'a Heap>,
     inputs: &Inputs<&'a Heap>,
     call: Call,
-) {
+) -> u64 {
     let before = replica.try_copy().expect(rt, "a copy");
     assert!(rt; call.is_made(replica, inputs, true));
     assert!(rt; replica.same(&before));
-    let mut refusals = 0;
     for number in 1..100 {
         let Some(fault) = refused(heap, replica, inputs, call, number) else {
-            break;
+            return number - 1;
         };
         assert!(rt; fault == ReplicaFault::OutOfMemory);
         holds_at(rt, replica.same(&before), number);
-        refusals = number;
     }
-    assert!(rt; refusals > 0);
+    100
 }
 
 const CALLS: [Call; 9] = [
@@ -306,7 +305,7 @@ fn has_own<'a, B: Allocator>(replica: &Replica<&'a B>, name: u16, clock: u64, li
     is_seen(replica.seen(), name, clock, &[]) && are_live(replica, name, live)
 }
 
-/// Knows the sender, and makes these calls, each undone and refused memory first.
+/// Knows the sender, and makes these calls, each undone and refused memory first, which some of them ask for.
 fn refuses_calls<'a>(
     rt: &impl Abort,
     heap: &'a Heap,
@@ -315,9 +314,13 @@ fn refuses_calls<'a>(
     calls: &[Call],
 ) {
     assert!(rt; Call::Up.is_made(replica, inputs, false));
+    let mut is_asked = false;
     for call in calls {
-        refuses(rt, heap, replica, inputs, *call);
+        let refusals = refuses(rt, heap, replica, inputs, *call);
+        assert!(rt; refusals < 100);
+        is_asked |= refusals > 0;
     }
+    assert!(rt; is_asked);
 }
 
 /// Makes these calls of a new receiver so, which leaves it this own clock, the live entries of these clocks, and this status
@@ -376,7 +379,8 @@ fn a_process_leaves_under_all_its_keys(rt: HostRuntime) {
 
 fn leaves_refused<'a>(rt: &impl Abort, heap: &'a Heap, replica: &mut Replica<&'a Heap>) {
     let inputs = inputs_of(rt, heap, Pair::First);
-    refuses(rt, heap, replica, &inputs, Call::LeaveAll);
+    let refusals = refuses(rt, heap, replica, &inputs, Call::LeaveAll);
+    assert!(rt; 0 < refusals && refusals < 100);
 }
 
 /// Joins the process under the topic `r` and this key.

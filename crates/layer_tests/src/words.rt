@@ -10,7 +10,7 @@ use test_alloc::Refusing;
 type Heap = Refusing<Global>;
 
 /// A word, for which there is memory.
-pub fn word<A: Allocator>(rt: &impl Abort, alloc: A, text: &str) -> Word<A> {
+pub fn word<A: Allocator + Clone>(rt: &impl Abort, alloc: A, text: &str) -> Word<A> {
     Word::new(alloc, text).expect(rt, "a word")
 }
 
@@ -284,14 +284,23 @@ fn messages_are_numbered_from_1_and_popped_from_the_end(rt: HostRuntime) {
 #[test]
 fn a_refused_word_is_out_of_memory(rt: HostRuntime) {
     let heap = Refusing::new(rt.alloc());
-    let alice = word(&rt, &heap, "alice");
     heap.refuse_from(1);
     let fault = Word::new(&heap, "alice").err();
     assert!(rt; fault == Some(WordFault::OutOfMemory));
     let fault = Word::new(&heap, "a b").err();
     assert!(rt; fault == Some(WordFault::BadWord));
-    assert!(rt; alice.try_copy().is_err());
-    assert!(rt; heap.requests() == 2);
+    assert!(rt; heap.requests() == 1);
+}
+
+#[test]
+fn a_copy_of_a_word_takes_no_memory(rt: HostRuntime) {
+    let heap = Refusing::new(rt.alloc());
+    let alice = word(&rt, &heap, "alice");
+    heap.refuse_from(1);
+    let copy = alice.try_copy().expect(&rt, "a copy");
+    drop(alice);
+    assert!(rt; copy.as_str() == "alice");
+    assert!(rt; heap.requests() == 0);
 }
 
 /// Whether the insert of an entry whose dot is not there is refused, and gives the entry back.
@@ -361,17 +370,17 @@ fn requests_for(
     heap.requests()
 }
 
-/// A copy takes a request for the list and one for each word of an entry; a part may let its list grow.
+/// A copy takes a request for the list, and none for its entries; a part may let its list grow.
 #[test]
 fn a_refused_copy_of_a_set_is_an_error(rt: HostRuntime) {
     let heap = Refusing::new(rt.alloc());
     let entries = three(&rt, &heap);
-    for number in 1..12 {
+    for number in 1..4 {
         requests_for(&rt, &heap, &entries, true, number);
         requests_for(&rt, &heap, &entries, false, number);
     }
-    assert!(rt; requests_for(&rt, &heap, &entries, true, 12) == 10);
-    assert!(rt; requests_for(&rt, &heap, &entries, false, 12) >= 7);
+    assert!(rt; requests_for(&rt, &heap, &entries, true, 4) == 1);
+    assert!(rt; requests_for(&rt, &heap, &entries, false, 4) >= 1);
 }
 
 #[test]
@@ -411,8 +420,7 @@ fn reads_and_removals_take_no_memory(rt: HostRuntime) {
     assert!(rt; heap.requests() == 0);
 }
 
-/// A part's list, and what it grows by, is of the memory of the set that it is a part of; the words of its entries are of
-/// that of theirs.
+/// A part's list, and what it grows by, is of the memory of the set that it is a part of. Its entries' words are shared.
 #[test]
 fn a_part_of_a_set_keeps_the_memory_of_its_set(rt: HostRuntime) {
     let own = Refusing::new(rt.alloc());
@@ -423,7 +431,7 @@ fn a_part_of_a_set_keeps_the_memory_of_its_set(rt: HostRuntime) {
     own.refuse_none();
     others.refuse_none();
     let mut part = copies(&entries, false).expect(&rt, "a part");
-    assert!(rt; (own.requests(), others.requests()) == (1, 3));
+    assert!(rt; (own.requests(), others.requests()) == (1, 0));
     others.refuse_from(1);
     assert!(rt; part.make_room(100).is_ok());
     put(&rt, &mut part, new);

@@ -7,6 +7,8 @@ use Rattle.replica_core.specs.Changes as changes
 use Rattle.node_core.specs.Nodes.{Node, with_replica, with_sent}
 use Rattle.node_core.specs.Invariant.{IsNode}
 use Rattle.node_core.specs.Inverses.{Inverse, OfChange, OfBroadcast, OfExtract, LeadsSomewhere, GivesBack}
+use Rattle.node_core.specs.Laws.{OneWayBackLaw}
+use Rattle.replica_core.proofs.Back.{back_holds}
 use Rattle.node_core.proofs.Changes.{limits_stay}
 
 -- two lists with one more at their ends
@@ -24,7 +26,7 @@ same_last (a ∷ xs) (b ∷ ys) x y h =
     (cc, rest.1)
 
 can_be_given : (r : Replica) → IsReplica r → CanBeDelta (delta_message r) (without_delta r)
-can_be_given r h = record { no_dots = refl; no_entries = refl; sender = refl; own = h.delta_own; live = h.delta_in }
+can_be_given r h = record { nothing = refl; sender = refl; own = h.delta_own; live = h.delta_in }
 
 -- `before` is the node as its parts say it
 module _ (before n : Node) (same : before ≡ n) where
@@ -49,7 +51,7 @@ module _ (before n : Node) (same : before ≡ n) where
       changes.ChangeGivesBack change before.replica now → now.limits ≡ before.replica.limits
   change_limits change now leads gives =
       let back = change_leads change leads in
-      ap (λ (r : Replica). r.limits) (gives back.0 back.1) ∙ sym (limits_stay back.0 before.replica back.1.call)
+      ap (λ (r : Replica). r.limits) (gives back.0 back.1) ∙ sym (limits_stay change back.0 before.replica back.1.call)
 
   -- whether the way back was open or not
   pub either_back : {X E : Type 0} (result : Result X E) (change : changes.Change) (now : Replica) →
@@ -97,3 +99,20 @@ module _ (before n : Node) (same : before ≡ n) where
 
 pub back_kept : (inverse : Inverse) (n now : Node) → LeadsSomewhere inverse n → GivesBack inverse n now → IsNode now
 back_kept inverse n now leads gives = subst IsNode (sym (gives leads.0 leads.1)) leads.1.earlier
+
+-- from one node, one inverse leads back to one node
+pub way_back : OneWayBackLaw
+way_back (OfChange change) now one other first second =
+    let replica : one.replica ≡ other.replica = sym (back_holds change now.replica one.replica first.names.0)
+    ∙ back_holds change now.replica other.replica second.names.0 in
+    let outbox : one.outbox ≡ other.outbox = sym first.names.1 ∙ second.names.1 in
+    λ i. record { replica = replica i; outbox = outbox i }
+way_back OfBroadcast now one other first second =
+    let popped : now.outbox ≡ one.outbox ++ delta_message one.replica ∷ [] = ap (λ (n : Node). n.outbox) first.names in
+    let given = broadcast_back now now refl one.outbox (delta_message one.replica) popped
+    (with_delta (delta_message one.replica) now.replica) refl in
+    sym (given one first) ∙ given other second
+way_back OfExtract now one other first second =
+    let popped : now.outbox ≡ one.outbox ++ first.names.0 ∷ [] = ap (λ (n : Node). n.outbox) first.names.1 in
+    let given = extract_back now now refl one.outbox first.names.0 popped in
+    sym (given one first) ∙ given other second

@@ -4,10 +4,12 @@ use Rattle.dots_core.specs.declared.dot.Dot.{Dot}
 use Rattle.payload_core.specs.Messages.{Message}
 use Rattle.replica_core.specs.declared.node_limits.NodeLimits.{NodeLimits}
 use Rattle.replica_core.specs.declared.replica_fault.ReplicaFault.{ReplicaFault}
-use Rattle.replica_core.specs.Replicas.{Replica, tracked_dots, dots_of_process, left, left_each, dropped, dropped_each}
+use Rattle.replica_core.specs.Replicas.{Replica, dots_of_process, joined, left, left_each, dropped, dropped_each, with_status, forgotten}
 use Rattle.replica_core.specs.Invariant.{IsReplica}
 use Rattle.replica_core.specs.Changes as changes
-use Rattle.replica_core.specs.Changes.{ByJoin, ByLeave, ByLeaveAll, ByUpdate, ByMerge, ByUp, ByDown, ByPermdown}
+use Rattle.replica_core.specs.Changes.{OfJoin, OfLeave, OfLeaveAll, OfUpdate, OfUp, OfDown, OfPermdown, OfDeliver}
+use Rattle.replica_core.specs.Deliveries.{merged}
+use Rattle.replica_core.specs.declared.status.Status.TheVariants.{Up, Down}
 use Rattle.node_core.specs.Operations.{Operation}
 use Rattle.node_core.specs.Nodes.{Node, with_replica, unless, take}
 use Rattle.node_core.specs.Invariant.{AreMessagesOf, IsNode}
@@ -35,28 +37,27 @@ through_drops (d ∷ ds) r =
     record { own = rest.own; limits = rest.limits }
 
 -- no call changes the name or the limits
-stays : (a b : Replica) → changes.IsOneCall a b → Stays a b
-stays a b (ByJoin p free is) = record { own = ap (λ (r : Replica). r.own) is; limits = ap (λ (r : Replica). r.limits) is }
-stays a b (ByLeave pid topic key free is) =
-    after a (left_each (tracked_dots a pid topic key) a) b is (through_leaves (tracked_dots a pid topic key) a)
-stays a b (ByLeaveAll pid free is) = after a (left_each (dots_of_process a pid) a) b is (through_leaves (dots_of_process a pid) a)
-stays a b (ByUpdate p free is) =
-    let drops = through_drops (tracked_dots a p.pid p.topic p.key) a in
-    record { own = ap (λ (r : Replica). r.own) is ∙ drops.own; limits = ap (λ (r : Replica). r.limits) is ∙ drops.limits }
-stays a b (ByMerge m free is) = record { own = ap (λ (r : Replica). r.own) is; limits = ap (λ (r : Replica). r.limits) is }
-stays a b (ByUp name free is) = record { own = ap (λ (r : Replica). r.own) is; limits = ap (λ (r : Replica). r.limits) is }
-stays a b (ByDown name free is) = record { own = ap (λ (r : Replica). r.own) is; limits = ap (λ (r : Replica). r.limits) is }
-stays a b (ByPermdown name free is) = record { own = ap (λ (r : Replica). r.own) is; limits = ap (λ (r : Replica). r.limits) is }
+stays : (change : changes.Change) (a b : Replica) → changes.IsCallOf change a b → Stays a b
+stays OfJoin a b call = after a (joined call.presence a) b call.gives (record { own = refl; limits = refl })
+stays (OfLeave l) a b call = after a (left call.dot a) b call.gives (record { own = refl; limits = refl })
+stays (OfLeaveAll ls) a b call =
+    after a (left_each (dots_of_process a call.pid) a) b call.gives (through_leaves (dots_of_process a call.pid) a)
+stays (OfUpdate l) a b call =
+    after a (joined call.presence (dropped call.dot a)) b call.gives (record { own = refl; limits = refl })
+stays (OfUp name before) a b call = after a (with_status name Up a) b call.gives (record { own = refl; limits = refl })
+stays (OfDown name before) a b call = after a (with_status name Down a) b call.gives (record { own = refl; limits = refl })
+stays (OfPermdown name f) a b call = after a (forgotten name a) b call.gives (record { own = refl; limits = refl })
+stays (OfDeliver d) a b call = after a (merged call.message a) b call.gives (record { own = refl; limits = refl })
 
-pub limits_stay : (a b : Replica) → changes.IsOneCall a b → b.limits ≡ a.limits
-limits_stay a b call = (stays a b call).limits
+pub limits_stay : (change : changes.Change) (a b : Replica) → changes.IsCallOf change a b → b.limits ≡ a.limits
+limits_stay change a b call = (stays change a b call).limits
 
 -- the node keeps what each node keeps, and its outbox the limit that it had
 pub changed_kept : (before : Node) (now : Replica) (change : changes.Change) (limit : ℕ) →
     IsNode before → limit ≡ before.replica.limits.messages → changes.ChangeLeadsBack change now before.replica → IsReplica now →
     IsNode (with_replica before now) × (limit ≡ now.limits.messages)
 changed_kept before now change limit kept same leads whole =
-    let parts = stays before.replica now leads.call in (
+    let parts = stays change before.replica now leads.call in (
       record {
         replica = whole;
         few = subst (λ (l : NodeLimits). length before.outbox ≤ l.messages) (sym parts.limits) kept.few;

@@ -50,11 +50,11 @@ sent_kept n m r h own limits free kept one = record {
 delta_sound : (r : Replica) → IsReplica r → IsMessageOf r.own (delta_message r)
 delta_sound r h = record { from = refl; valid = λ d e. h.valid d (h.delta_own d e).1; live = h.delta_live }
 
-extract_sound : (named : ℕ → Bool) (r : Replica) → IsReplica r → IsMessageOf r.own (message_of_names named r.own r.seen r.entries)
+extract_sound : (named : ℕ → Bool) (r : Replica) → IsReplica r → IsMessageOf r.own (message_of_names named r.own r.store.seen r.store.entries)
 extract_sound named r h = record {
   from = refl;
-  valid = λ d e. h.valid d (and_parts _ _ (sym (contains-retain r.seen (λ d. named d.name) d) ∙ e)).0;
-  live = seen-names named r.seen r.entries h.live;
+  valid = λ d e. h.valid d (and_parts _ _ (sym (contains-retain r.store.seen (λ d. named d.name) d) ∙ e)).0;
+  live = seen-names named r.store.seen r.store.entries h.live;
 }
 
 unless_full_ok : (n gives d : Node) → unless_full n gives ≡ Ok d → (is_outbox_full n ≡ false) × (d ≡ gives)
@@ -71,13 +71,13 @@ broadcast_ok false n d h = absurd (cc)
 
 pub broadcast_kept : (n d : Node) → IsNode n → take n Broadcast None ≡ Ok d → IsNode d
 broadcast_kept n d h taken =
-    let ok = broadcast_ok (has_dots n.replica.delta_seen) n d taken in
+    let ok = broadcast_ok (has_dots n.replica.delta.seen) n d taken in
     subst IsNode (sym ok.1) (sent_kept n (delta_message n.replica) (without_delta n.replica) h refl refl ok.0
     (kept_without_delta n.replica h.replica) (delta_sound n.replica h.replica))
 
 pub extract_kept : (n d : Node) (asked : name_sets.Names) → IsNode n → take n (Extract asked) None ≡ Ok d → IsNode d
 extract_kept n d asked h taken =
-    let message = message_of_names (set.contains asked) n.replica.own n.replica.seen n.replica.entries in
+    let message = message_of_names (set.contains asked) n.replica.own n.replica.store.seen n.replica.store.entries in
     let ok = unless_full_ok n (with_sent n message n.replica) d taken in
     subst IsNode (sym ok.1) (sent_kept n message n.replica h refl refl ok.0 h.replica
     (extract_sound (set.contains asked) n.replica h.replica))

@@ -4,6 +4,7 @@ use Rattle.std.specs.Coded.{Coded, code_by, coded×, coded_option, coded_bool}
 use Rattle.payload_core.specs.Messages.{Message}
 use Rattle.replica_core.specs.Replicas.{delta_message, without_delta}
 use Rattle.replica_core.specs.Changes as changes
+use Rattle.replica_core.specs.ChangeCodes.{change_code}
 use Rattle.node_core.specs.declared.inverse.Inverse as declared
 use Rattle.node_core.specs.declared.inverse.Inverse.TheVariants as variants
 use Rattle.node_core.specs.declared.step_fault.StepFault.{StepFault}
@@ -19,7 +20,7 @@ pub data Inverse : Type 0 where
   OfExtract : Inverse
 
 abbrev pub plain_inverse : {X : Type 0} → declared.Inverse X → Inverse
-plain_inverse (variants.Change change) = OfChange change
+plain_inverse (variants.Change change) = OfChange (changes.plain_change change)
 plain_inverse variants.Broadcast = OfBroadcast
 plain_inverse variants.Extract = OfExtract
 
@@ -50,7 +51,7 @@ from_stored-stored OfExtract = refl
 
 abbrev pub inverse_code : Coded Inverse
 inverse_code =
-    code_by (Option changes.Change × Bool) (coded× (coded_option changes.change_code) coded_bool) stored (λ t. from_stored t.0 t.1)
+    code_by (Option changes.Change × Bool) (coded× (coded_option change_code) coded_bool) stored (λ t. from_stored t.0 t.1)
     from_stored-stored
 
 -- the inverse names what a step from a to b destroyed of a

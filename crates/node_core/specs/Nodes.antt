@@ -65,9 +65,9 @@ take n (Leave pid topic key) _ =
     unless (leave_refusal n.replica pid topic key) (with_replica n (left_each (tracked_dots n.replica pid topic key) n.replica))
 take n (LeaveAll pid) _ = unless (leave_all_refusal n.replica pid) (with_replica n (left_each (dots_of_process n.replica pid) n.replica))
 take n (Update p) _ = unless (leave_refusal n.replica p.pid p.topic p.key) (with_replica n (updated p n.replica))
-take n Broadcast _ = broadcast (has_dots n.replica.delta_seen) n
+take n Broadcast _ = broadcast (has_dots n.replica.delta.seen) n
 take n (Extract names) _ =
-    unless_full n (with_sent n (message_of_names (set.contains names) n.replica.own n.replica.seen n.replica.entries) n.replica)
+    unless_full n (with_sent n (message_of_names (set.contains names) n.replica.own n.replica.store.seen n.replica.store.entries) n.replica)
 take n (Deliver sender number) m = if sender == n.replica.own then Err OwnMessage else deliver n m
 take n (Up name) _ = unless (up_refusal n.replica name) (with_replica n (with_status name statuses.Up n.replica))
 take n (Down name) _ = unless (down_refusal n.replica name) (with_replica n (with_status name statuses.Down n.replica))

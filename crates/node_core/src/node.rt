@@ -1,5 +1,6 @@
 //! `Node`: a replica with an outbox, its steps, and the way back.
 ghost use Rattle.std.specs.Prelude.{◌≡◌, ◌↔◌, ◌<◌, ◌≢◌, ◌+◌, IsTrue, IsOk, IfOk, IfErr, OnOk, OnErr, Ok, Err, None, Some, option_map};
+ghost use Rattle.replica_core.specs.Changes.{plain_change};
 ghost use Rattle.replica_core.specs.Limits.{AreNodeLimits};
 ghost use Rattle.node_core.specs.declared.step_fault.StepFault.TheVariants.{OutOfMemory};
 ghost use Rattle.node_core.specs.Operations.{plain, AreNames, Join, Leave, LeaveAll, Update, Broadcast, Extract, Deliver, Up, Down, Permdown};
@@ -94,8 +95,8 @@ impl<'a, B: Allocator> Node<'a, B> {
     }
 
     fn undo(&mut self, change: Change<&'a B>) -> Result<(), (Change<&'a B>, Oom)>
-        requires { LeadsSomewhere (OfChange change) self.old }
-        ensures ok { OnOk result (GivesBack (OfChange change.entry) self.old self.new) }
+        requires { LeadsSomewhere (OfChange (plain_change change)) self.old }
+        ensures ok { OnOk result (GivesBack (OfChange (plain_change change.entry)) self.old self.new) }
         ensures err { OnErr result (self.new ≡ self.old) }
         ensures given_back { IfErr result (λ failed. failed.0 ≡ change.entry) }
     {

@@ -1,4 +1,14 @@
+pub mod Collected
 pub mod EntryLists
 pub mod EntryMaps
+pub mod LeftTogether
+pub mod PutBack
 pub mod SeenEntries
+pub mod SeenTogether
+pub mod Skipped
+pub mod StoreBack
+pub mod StoreEdits
+pub mod StoreMerges
 pub mod TrackedDots
+pub mod Undelivered
+pub mod PlacesFrom

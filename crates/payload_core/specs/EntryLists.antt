@@ -1,9 +1,9 @@
 -- A list of entries that rises by dot, as the map of its presences: how an entry set is kept.
-use Rattle.std.specs.Prelude.{ℕ, suc, T, List, [], ◌∷◌, map, Result, Ok, Err}
+use Rattle.std.specs.Prelude.{◌≡◌, ◌<◌, ◌≤◌, Some, length, slice_get, ℕ, suc, T, List, [], ◌∷◌, map, Result, Ok, Err}
 use Rattle.std.specs.FinMap as fin
 use Rattle.std.specs.FinMap.Entries.{by_order}
 use Rattle.dots_core.specs.declared.dot.Dot.{Dot}
-use Rattle.dots_core.specs.Dots.{dot_cmp}
+use Rattle.dots_core.specs.Dots.{IsBelow, IsFrom, dot_cmp}
 use Rattle.payload_core.specs.Presences.{Presence, Entry, Entries, presence_of}
 
 abbrev pub pair_of : Entry → Dot × Presence
@@ -20,6 +20,12 @@ Rises es = T (fin.is_sorted dot_cmp (pairs es))
 -- the map of the presences by their dots
 abbrev pub entries_of : List Entry → Entries
 entries_of es = fin.from_sorted (pairs es)
+
+-- the place of the first entry whose dot is not below d, or the end
+pub record IsPlaceFrom (d : Dot) (ps : List (Dot × Presence)) (i : ℕ) : Type 0 where
+  pub within : i ≤ length ps
+  pub below : (k : ℕ) (p : Dot × Presence) → k < i → slice_get ps k ≡ Some p → IsBelow p.0 d
+  pub from : (k : ℕ) (p : Dot × Presence) → i ≤ k → slice_get ps k ≡ Some p → IsFrom d p.0
 
 -- the same answer, one place further on
 abbrev pub one_later : Result ℕ ℕ → Result ℕ ℕ

@@ -1,7 +1,15 @@
 pub mod Answers
+pub mod Delivered
 pub mod EntryLists
+pub mod EntryMoves
 pub mod EntrySets
+pub mod ForgottenNames
+pub mod Laws
+pub mod LeavesTogether
+pub mod LeftEntries
 pub mod Messages
 pub mod Outboxes
 pub mod Presences
+pub mod StoreCodes
+pub mod Stores
 pub mod Words

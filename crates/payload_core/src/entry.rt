@@ -44,10 +44,8 @@ impl<A: Allocator> Entry<A> {
         self.pid == pid && self.topic == *topic && self.key == *key
     }
 
-    /// An entry with the same fields.
+    /// An entry with the same fields, which shares its words. It takes no memory.
     pub fn try_copy(&self) -> Result<Entry<A>, Oom>
-    where
-        A: Copy,
         ensures { IfOk result (λ copy. copy ≡ self.now) }
     {
         Ok(Entry {

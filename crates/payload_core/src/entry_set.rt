@@ -3,6 +3,7 @@ ghost use Rattle.std.specs.Prelude.{◌≡◌, ◌↔◌, ◌+◌, ◌^◌, ◌<
 ghost use Rattle.std.specs.FinMap as fin;
 ghost use Rattle.std.specs.FinSet as set;
 ghost use Rattle.std.specs.Option.{option_copied, option_map};
+ghost use Rattle.payload_core.specs.EntryLists.{IsPlaceFrom};
 ghost use Rattle.payload_core.specs.Presences.{dots_of, entries_of_names, entry_of, is_tracked_as, presence_of};
 
 use crate::entry::Entry;
@@ -72,6 +73,16 @@ impl<A: Allocator> EntrySet<A> {
         ensures { option_copied result ≡ option_map (λ e. entry_of e.0 e.1) (slice_get (fin.entries self.now.map) place) }
     {
         entry_at(&self.entries, place)
+    }
+
+    /// The place of the first entry whose dot is not below this one, or the end, in a logarithm of comparisons.
+    pub fn first_from(&self, dot: Dot) -> usize
+        ensures { IsPlaceFrom dot (fin.entries self.now.map) result }
+    {
+        match search(&self.entries, dot) {
+            Ok(place) => place,
+            Err(place) => place,
+        }
     }
 
     /// The dot of the least clock among those of a name that are tracked as this process, topic and key.

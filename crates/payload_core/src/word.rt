@@ -13,6 +13,7 @@ use dots_core::Oom;
 use std::alloc::Allocator;
 use std::cmp::Ordering;
 use std::marker::Model;
+use std::sync::ArcStr;
 use thiserror::Error;
 
 /// Why a text is no `Word`.
@@ -34,21 +35,22 @@ impl From<Oom> for WordFault {
     }
 }
 
-/// 1 to 200 bytes, each 0x21 to 0x7E. A contract sees the bytes.
+/// 1 to 200 bytes, each 0x21 to 0x7E. A contract sees the bytes. Copies of a word share them.
 #[derive(Debug, Drop)]
 pub struct Word<A: Allocator> {
-    text: String<A>,
+    text: ArcStr<A>,
 }
 
 impl<A: Allocator> Model for Word<A> {
-    ghost use Rattle.std.specs.Prelude.{ℕ, List, IsTrue, string_bytes};
+    ghost use Rattle.std.specs.Prelude.{ℕ, List, IsTrue};
+    ghost use Rattle.std.specs.Arc.{arc_str_bytes};
     ghost use Rattle.payload_core.specs.Words.{is_word};
 
     ghost Value = { List ℕ };
 
-    ghost view = { λ w. string_bytes w.text };
+    ghost view = { λ w. arc_str_bytes w.text };
 
-    ghost invariant = { λ w. IsTrue (is_word (string_bytes w.text)) };
+    ghost invariant = { λ w. IsTrue (is_word (arc_str_bytes w.text)) };
 }
 
 /// The length of the longest words, in bytes.
@@ -63,6 +65,8 @@ fn has_word_bytes(bytes: &[u8]) -> bool
 impl<A: Allocator> Word<A> {
     /// The word of a text. A text that is no word is told before memory is asked for.
     pub fn new(alloc: A, text: &str) -> Result<Word<A>, WordFault>
+    where
+        A: Clone,
         ensures gives { GivesUnless OutOfMemory (λ word. word) result (word_of text.now) }
         ensures bad_word { is_word text.now ≡ false → result ≡ Err WordFault.BadWord }
     {
@@ -72,7 +76,7 @@ impl<A: Allocator> Word<A> {
         if !has_word_bytes(text.as_bytes()) {
             return Err(WordFault::BadWord);
         }
-        let text = String::from_str(alloc, text)?;
+        let text = ArcStr::from_str(alloc, text)?;
         Ok(Word { text })
     }
 
@@ -91,10 +95,8 @@ impl<A: Allocator> Word<A> {
         self.as_str() == other.as_str()
     }
 
-    /// A word with the same bytes.
+    /// A word that shares its bytes. It takes no memory; an `Err` is a count of copies that can't rise.
     pub fn try_copy(&self) -> Result<Word<A>, Oom>
-    where
-        A: Copy,
         ensures { IfOk result (λ copy. copy ≡ self.now) }
     {
         Ok(Word {

@@ -4,50 +4,35 @@ use Rattle.std.proofs.lemmas.Bool.{eq-eqb, ne_eqb}
 use Rattle.std.specs.FinMap as fin
 use Rattle.std.specs.FinSet as set
 use Rattle.dots_core.specs.declared.dot.Dot.{Dot}
+use Rattle.dots_core.specs.Contexts.{IsNext}
 use Rattle.dots_core.specs.Dots.{Dots, IsValid}
 use Rattle.payload_core.specs.Presences.{Presence, Entry, Entries, presence_of, entry_of}
 use Rattle.replica_core.specs.declared.replica_fault.ReplicaFault.{ReplicaFault}
-use Rattle.replica_core.specs.declared.replica_fault.ReplicaFault.TheVariants.{OwnReplica, NotKnown, NotDown, AlreadyTracked, NotTracked, EntriesFull}
-use Rattle.replica_core.specs.declared.replica_fault.ReplicaFault.TheVariants.{ClockFull}
+use Rattle.replica_core.specs.declared.replica_fault.ReplicaFault.TheVariants.{OwnReplica, NotKnown, NotDown, AlreadyTracked}
+use Rattle.replica_core.specs.declared.replica_fault.ReplicaFault.TheVariants.{NotTracked, EntriesFull, ClockFull}
 use Rattle.replica_core.specs.declared.status.Status.{Status}
 use Rattle.replica_core.specs.declared.status.Status.TheVariants.{Up}
+use Rattle.payload_core.specs.Stores.{Store, with_entry}
 use Rattle.replica_core.specs.Views.{View}
 use Rattle.replica_core.specs.Replicas.{Replica, fresh, dots_of_process, is_known, is_online, joined, updated, with_status}
-use Rattle.replica_core.specs.Refusals.{first_of, is_some_dot, is_tracked, are_too_many, is_clock_full, join_refusal, leave_refusal, leave_all_refusal}
-use Rattle.replica_core.specs.Refusals.{up_refusal, down_refusal, permdown_refusal}
+use Rattle.replica_core.specs.Refusals.{first_of, is_some_dot, is_tracked, are_too_many, is_clock_full, join_refusal, leave_refusal}
+use Rattle.replica_core.specs.Refusals.{leave_all_refusal, up_refusal, down_refusal, permdown_refusal}
 use Rattle.replica_core.specs.Invariant.{IsReplica}
-use Rattle.replica_core.specs.Changes.{Change, IsOneCall, ByJoin, ByUpdate, ByUp, ChangeLeadsBack}
-use Rattle.replica_core.proofs.Invariant.{fresh_valid, fresh_absent, fresh_absent_in_delta, kept_joined}
+use Rattle.replica_core.proofs.Invariant.{fresh_valid, fresh_next, fresh_absent, fresh_absent_in_delta, kept_joined}
 
 -- an up of another name is not refused
 pub up_free : (r now : Replica) (name : ℕ) → r ≡ now → name ≢ r.own → up_refusal now name ≡ None
-up_free r now name same other =
-    ap (λ (r : Replica). up_refusal r name) (sym same) ∙ ap (λ b. first_of ((b, OwnReplica) ∷ [])) (ne_eqb name r.own other)
+up_free r now name same other = ap (λ (r : Replica). up_refusal r name) (sym same) ∙ ap (λ b. first_of ((b, OwnReplica) ∷ [])) (ne_eqb name r.own other)
 
-pub status_is : (r now : Replica) (name : ℕ) (s : Status) (v : View) → r ≡ now → v ≡ fin.insert r.view name s →
-    record r { view = v } ≡ with_status name s now
+pub status_is : (r now : Replica) (name : ℕ) (s : Status) (v : View) → r ≡ now → v ≡ fin.insert r.view name s → record r { view = v } ≡ with_status name s now
 status_is r now name s v same at = ap (λ (v : View). record r { view = v }) at ∙ ap (with_status name s) same
-
--- the change has this replica
-abbrev pub Keeps : Change → Replica → Type 0
-Keeps change old = (change.before ≡ old) × IsReplica change.before
-
--- a change that has the replica before a call leads back
-pub leads_back : (old new : Replica) (change : Change) → Keeps change old → IsOneCall old new → ChangeLeadsBack change new old
-leads_back old new change keeps call = record { call = call; destroyed = sym keeps.0; earlier = subst IsReplica keeps.0 keeps.1 }
-
-pub up_leads_back : (old new : Replica) (name : ℕ) (change : Change) → up_refusal old name ≡ None → new ≡ with_status name Up old →
-    Keeps change old → ChangeLeadsBack change new old
-up_leads_back old new name change free gives keeps = leads_back old new change keeps (ByUp name free gives)
 
 -- a down and a permdown that aren't refused are of another name
 
-pub down_other : (r now : Replica) (name : ℕ) (asked : Option ReplicaFault) → r ≡ now → asked ≡ down_refusal now name → asked ≡ None →
-    (name == r.own) ≡ false
+pub down_other : (r now : Replica) (name : ℕ) (asked : Option ReplicaFault) → r ≡ now → asked ≡ down_refusal now name → asked ≡ None → (name == r.own) ≡ false
 down_other r now name asked same is free = go (name == r.own) refl (ap (λ (r : Replica). down_refusal r name) same ∙ sym is ∙ free)
   where
-    go : (b : Bool) → (name == r.own) ≡ b → first_of ((b, OwnReplica) ∷ (not (is_known r name), NotKnown) ∷ []) ≡ None →
-        (name == r.own) ≡ false
+    go : (b : Bool) → (name == r.own) ≡ b → first_of ((b, OwnReplica) ∷ (not (is_known r name), NotKnown) ∷ []) ≡ None → (name == r.own) ≡ false
     go true at h = absurd (cc)
     go false at h = at
 
@@ -55,8 +40,8 @@ pub permdown_other : (r now : Replica) (name : ℕ) (asked : Option ReplicaFault
     asked ≡ None → (name == r.own) ≡ false
 permdown_other r now name asked same is free = go (name == r.own) refl (ap (λ (r : Replica). permdown_refusal r name) same ∙ sym is ∙ free)
   where
-    go : (b : Bool) → (name == r.own) ≡ b →
-        first_of ((b, OwnReplica) ∷ (not (is_known r name), NotKnown) ∷ (is_online r name, NotDown) ∷ []) ≡ None → (name == r.own) ≡ false
+    go : (b : Bool) → (name == r.own) ≡ b → first_of ((b, OwnReplica) ∷ (not (is_known r name), NotKnown) ∷
+        (is_online r name, NotDown) ∷ []) ≡ None → (name == r.own) ≡ false
     go true at h = absurd (cc)
     go false at h = at
 
@@ -69,8 +54,8 @@ leave_free r pid topic key free = go (is_tracked r pid topic key) (is_clock_full
     go true true at h = absurd (cc)
     go true false at h = at
 
-pub leave_all_free : (r : Replica) (pid : ℕ) (ds : List Dot) (len : ℕ) → ds ≡ dots_of_process r pid → len ≡ length ds → (len == 0) ≡ false →
-    is_clock_full r len ≡ false → leave_all_refusal r pid ≡ None
+pub leave_all_free : (r : Replica) (pid : ℕ) (ds : List Dot) (len : ℕ) → ds ≡ dots_of_process r pid → len ≡ length ds →
+    (len == 0) ≡ false → is_clock_full r len ≡ false → leave_all_refusal r pid ≡ None
 leave_all_free r pid [] len is count some free = absurd (true≢false (sym (eq-eqb len 0 count) ∙ some))
 leave_all_free r pid (d ∷ ds) len is count some free =
     subst (λ (ds : List Dot). first_of ((not (is_some_dot ds), NotTracked) ∷ (is_clock_full r (length ds), ClockFull) ∷ []) ≡ None) is
@@ -78,51 +63,37 @@ leave_all_free r pid (d ∷ ds) len is count some free =
 
 -- a join
 
-free_three : {F : Type 0} (a b c : Bool) (x y z : F) → first_of ((a, x) ∷ (b, y) ∷ (c, z) ∷ []) ≡ None →
-    (a ≡ false) × (b ≡ false) × (c ≡ false)
+free_three : {F : Type 0} (a b c : Bool) (x y z : F) → first_of ((a, x) ∷ (b, y) ∷ (c, z) ∷ []) ≡ None → (a ≡ false) × (b ≡ false) × (c ≡ false)
 free_three true b c x y z h = absurd (cc)
 free_three false true c x y z h = absurd (cc)
 free_three false false true x y z h = absurd (cc)
 free_three false false false x y z h = (refl, refl, refl)
 
-module _ (r : Replica) (e : Entry) (kept : IsReplica r) (fresh_is : e.dot ≡ fresh r) (free : join_refusal r e.pid e.topic e.key ≡ None)
-  where
-    tests : (is_tracked r e.pid e.topic e.key ≡ false) × (are_too_many r (fin.len r.entries + 1) ≡ false) × (is_clock_full r 1 ≡ false)
-    tests =
-        free_three (is_tracked r e.pid e.topic e.key) (are_too_many r (fin.len r.entries + 1)) (is_clock_full r 1) AlreadyTracked EntriesFull
-        ClockFull free
+module _ (r : Replica) (e : Entry) (kept : IsReplica r) (fresh_is : e.dot ≡ fresh r) (free : join_refusal r e.pid e.topic e.key ≡ None) where
+  tests : (is_tracked r e.pid e.topic e.key ≡ false) × (are_too_many r (fin.len r.store.entries + 1) ≡ false) × (is_clock_full r 1 ≡ false)
+  tests = free_three (is_tracked r e.pid e.topic e.key) (are_too_many r (fin.len r.store.entries + 1)) (is_clock_full r 1)
+      AlreadyTracked EntriesFull ClockFull free
 
-    pub entry_valid : IsValid e.dot
-    entry_valid = subst IsValid (sym fresh_is) (fresh_valid r kept tests.2)
+  pub entry_valid : IsValid e.dot
+  entry_valid = subst IsValid (sym fresh_is) (fresh_valid r kept tests.2)
 
-    pub entry_absent : fin.get r.entries e.dot ≡ None
-    entry_absent = ap (fin.get r.entries) fresh_is ∙ fresh_absent r kept
+  pub entry_next : IsNext e.dot r.store.seen
+  entry_next = subst (λ d. IsNext d r.store.seen) (sym fresh_is) (fresh_next r kept)
 
-    pub entry_absent_in_delta : fin.get r.delta_entries e.dot ≡ None
-    entry_absent_in_delta = ap (fin.get r.delta_entries) fresh_is ∙ fresh_absent_in_delta r kept
+  pub entry_absent : fin.get r.store.entries e.dot ≡ None
+  entry_absent = ap (fin.get r.store.entries) fresh_is ∙ fresh_absent r kept
 
-    module _ (seen delta_seen : Dots) (es delta_es : Entries) (seen_is : seen ≡ set.insert r.seen e.dot)
-        (es_are : es ≡ fin.insert r.entries e.dot (presence_of e))
-        (delta_seen_is : delta_seen ≡ set.insert r.delta_seen e.dot)
-        (delta_es_are : delta_es ≡ fin.insert r.delta_entries e.dot (presence_of e)) where
-      pub joined_is : record r { seen = seen; entries = es; delta_seen = delta_seen; delta_entries = delta_es } ≡ joined (presence_of e) r
-      joined_is = λ i. record r {
-        seen = (seen_is ∙ ap (set.insert r.seen) fresh_is) i;
-        entries = (es_are ∙ ap (λ d. fin.insert r.entries d (presence_of e)) fresh_is) i;
-        delta_seen = (delta_seen_is ∙ ap (set.insert r.delta_seen) fresh_is) i;
-        delta_entries = (delta_es_are ∙ ap (λ d. fin.insert r.delta_entries d (presence_of e)) fresh_is) i;
-      }
+  pub entry_absent_in_delta : fin.get r.delta.entries e.dot ≡ None
+  entry_absent_in_delta = ap (fin.get r.delta.entries) fresh_is ∙ fresh_absent_in_delta r kept
 
-      pub kept_join : IsReplica (record r { seen = seen; entries = es; delta_seen = delta_seen; delta_entries = delta_es })
-      kept_join = subst IsReplica (sym joined_is) (kept_joined r kept (presence_of e) tests.0 tests.1 tests.2)
+  module _ (store delta : Store) (store_is : store ≡ with_entry e.dot (presence_of e) r.store)
+      (delta_is : delta ≡ with_entry e.dot (presence_of e) r.delta) where
+    pub joined_is : record r { store = store; delta = delta } ≡ joined (presence_of e) r
+    joined_is = λ i. record r {
+      store = (store_is ∙ ap (λ d. with_entry d (presence_of e) r.store) fresh_is) i;
+      delta =
+          (delta_is ∙ ap (λ d. with_entry d (presence_of e) r.delta) fresh_is) i;
+    }
 
-pub join_leads_back : (old new : Replica) (p : Presence) (e : Entry) (change : Change) (asked : Option ReplicaFault) →
-    asked ≡ join_refusal old p.pid p.topic p.key → asked ≡ None → e ≡ entry_of (fresh old) p → new ≡ joined (presence_of e) old →
-    Keeps change old → ChangeLeadsBack change new old
-join_leads_back old new p e change asked refusal free is gives keeps =
-    leads_back old new change keeps (ByJoin p (sym refusal ∙ free) (gives ∙ ap (λ (e : Entry). joined (presence_of e) old) is))
-
-pub update_leads_back : (old new : Replica) (p : Presence) (e : Entry) (change : Change) → leave_refusal old p.pid p.topic p.key ≡ None →
-    e ≡ entry_of (fresh old) p → new ≡ updated (presence_of e) old → Keeps change old → ChangeLeadsBack change new old
-update_leads_back old new p e change free is gives keeps =
-    leads_back old new change keeps (ByUpdate p free (gives ∙ ap (λ (e : Entry). updated (presence_of e) old) is))
+    pub kept_join : IsReplica (record r { store = store; delta = delta })
+    kept_join = subst IsReplica (sym joined_is) (kept_joined r kept (presence_of e) tests.0 tests.1 tests.2)

@@ -1,6 +1,6 @@
 -- A delivery, dot by dot.
-use Rattle.std.proofs.Common.{if◌then◌else◌, max, ◌≡◌, ℕ, [], ◌∷◌, ◌&&◌, ◌||◌, not, Bool, true, false, cond, Option, Some, None, is_some, refl, sym, ap}
-use Rattle.std.proofs.Common.{◌∙◌, true≢false}
+use Rattle.std.proofs.Common.{if◌then◌else◌, max, ◌≡◌, ℕ, [], ◌∷◌, ◌&&◌, ◌||◌, not, Bool, true, false, cond, Option, Some, None}
+use Rattle.std.proofs.Common.{is_some, refl, sym, ap, ◌∙◌, true≢false}
 use Rattle.std.proofs.Math.Bool.{or-false}
 use Rattle.std.specs.Option.{option_or}
 use Rattle.std.specs.FinSet as set
@@ -22,13 +22,12 @@ use Rattle.replica_core.specs.Laws.{AgainLaw, Agree, OrderLaw, StandingLaw}
 abbrev pub entry_after : Bool → Bool → Option Presence → Bool → Option Presence → Option Presence
 entry_after k s e a x = option_or (cond (k && not s) x None) (cond (not (k && (a && not (is_some x)))) e None)
 
-pub get-merged : (m : Message) (r : Replica) (d : Dot) →
-    fin.get (merged m r).entries d ≡
-    entry_after (is_other_known r d.name) (set.contains r.seen d) (fin.get r.entries d) (set.contains m.seen d) (fin.get m.entries d)
+pub get-merged : (m : Message) (r : Replica) (d : Dot) → fin.get (merged m r).store.entries d ≡ entry_after (is_other_known r d.name)
+    (set.contains r.store.seen d) (fin.get r.store.entries d) (set.contains m.seen d) (fin.get m.entries d)
 get-merged m r d =
     get-over (arrivals m r) (remaining m r) d
     ∙ ap (λ o. option_or o (fin.get (remaining m r) d)) (get-retain m.entries (is_new r) d)
-    ∙ ap (option_or (cond (is_new r d) (fin.get m.entries d) None)) (get-retain r.entries (λ d. not (is_gone m r d)) d)
+    ∙ ap (option_or (cond (is_new r d) (fin.get m.entries d) None)) (get-retain r.store.entries (λ d. not (is_gone m r d)) d)
 
 and_swap : (a b : Bool) → (a && b) ≡ (b && a)
 and_swap true true = refl
@@ -36,12 +35,12 @@ and_swap true false = refl
 and_swap false true = refl
 and_swap false false = refl
 
-pub contains-merged : (m : Message) (r : Replica) (d : Dot) →
-    set.contains (merged m r).seen d ≡ (set.contains r.seen d || (is_other_known r d.name && set.contains m.seen d))
+pub contains-merged : (m : Message) (r : Replica) (d : Dot) → set.contains (merged m r).store.seen
+    d ≡ (set.contains r.store.seen d || (is_other_known r d.name && set.contains m.seen d))
 contains-merged m r d =
-    contains-union r.seen (of_names (is_other_known r) m.seen) d
-    ∙ ap (λ b. set.contains r.seen d || b)
-    (contains-retain m.seen (λ d. is_other_known r d.name) d ∙ and_swap (set.contains m.seen d) (is_other_known r d.name))
+    contains-union r.store.seen (of_names (is_other_known r) m.seen) d
+    ∙ ap (λ b. set.contains r.store.seen d || b) (contains-retain m.seen (λ d. is_other_known r d.name) d
+    ∙ and_swap (set.contains m.seen d) (is_other_known r d.name))
 
 -- a message again
 
@@ -64,24 +63,24 @@ or_again false true = refl
 or_again false false = refl
 
 module _ (m : Message) (r : Replica) where
-  seen_again : (merged m (merged m r)).seen ≡ (merged m r).seen
+  seen_again : (merged m (merged m r)).store.seen ≡ (merged m r).store.seen
   seen_again = same_dots _ _ (λ d. contains-merged m (merged m r) d ∙ ap (λ s. s || (is_other_known r d.name && set.contains m.seen d))
-      (contains-merged m r d) ∙ or_again (set.contains r.seen d) _ ∙ sym (contains-merged m r d))
+      (contains-merged m r d) ∙ or_again (set.contains r.store.seen d) _ ∙ sym (contains-merged m r d))
 
-  entries_again : (merged m (merged m r)).entries ≡ (merged m r).entries
+  entries_again : (merged m (merged m r)).store.entries ≡ (merged m r).store.entries
   entries_again = same_entries _ _ (λ d.
       get-merged m (merged m r) d
-      ∙ ap (λ s. entry_after (is_other_known r d.name) s (fin.get (merged m r).entries d) (set.contains m.seen d) (fin.get m.entries d))
-      (contains-merged m r d)
-      ∙ ap (λ e. entry_after (is_other_known r d.name) (set.contains r.seen d || (is_other_known r d.name && set.contains m.seen d)) e
-      (set.contains m.seen d) (fin.get m.entries d)) (get-merged m r d)
-      ∙ again (is_other_known r d.name) (set.contains r.seen d) (set.contains m.seen d) (fin.get r.entries d) (fin.get m.entries d)
+      ∙ ap (λ s. entry_after (is_other_known r d.name) s (fin.get (merged m r).store.entries d) (set.contains m.seen d)
+      (fin.get m.entries d)) (contains-merged m r d)
+      ∙ ap (λ e. entry_after (is_other_known r d.name) (set.contains r.store.seen d ||
+      (is_other_known r d.name && set.contains m.seen d)) e (set.contains m.seen d) (fin.get m.entries d)) (get-merged m r d)
+      ∙ again (is_other_known r d.name) (set.contains r.store.seen d) (set.contains m.seen d) (fin.get r.store.entries d) (fin.get m.entries d)
       ∙ sym (get-merged m r d))
 
 pub again_holds : AgainLaw
 again_holds = record {
   accepted = λ m r free. ap (λ (es : Entries). first_of ((are_too_many r (fin.len es), EntriesFull) ∷ [])) (entries_again m r) ∙ free;
-  same = λ m r. λ i. record r { seen = seen_again m r i; entries = entries_again m r i };
+  same = λ m r. λ i. record r { store = record { seen = seen_again m r i; entries = entries_again m r i } };
 }
 
 -- two messages in either order
@@ -141,37 +140,34 @@ or_exchanged false false true = refl
 or_exchanged false false false = refl
 
 seen_after : (m n : Message) (r : Replica) (d : Dot) →
-    set.contains (merged n (merged m r)).seen d ≡
-    ((set.contains r.seen d || (is_other_known r d.name && set.contains m.seen d)) ||
-    (is_other_known r d.name && set.contains n.seen d))
-seen_after m n r d =
-    contains-merged n (merged m r) d ∙ ap (λ s. s || (is_other_known r d.name && set.contains n.seen d)) (contains-merged m r d)
+    set.contains (merged n (merged m r)).store.seen d ≡ ((set.contains r.store.seen d ||
+    (is_other_known r d.name && set.contains m.seen d)) || (is_other_known r d.name && set.contains n.seen d))
+seen_after m n r d = contains-merged n (merged m r) d ∙ ap (λ s. s || (is_other_known r d.name && set.contains n.seen d)) (contains-merged m r d)
 
-both_after : (m n : Message) (r : Replica) (d : Dot) → fin.get (merged n (merged m r)).entries d
-    ≡ entry_after (is_other_known r d.name) (set.contains r.seen d || (is_other_known r d.name && set.contains m.seen d))
-    (entry_after (is_other_known r d.name) (set.contains r.seen d) (fin.get r.entries d) (set.contains m.seen d) (fin.get m.entries d))
-    (set.contains n.seen d) (fin.get n.entries d)
+both_after : (m n : Message) (r : Replica) (d : Dot) → fin.get (merged n (merged m r)).store.entries d
+    ≡ entry_after (is_other_known r d.name) (set.contains r.store.seen d || (is_other_known r d.name && set.contains m.seen d))
+    (entry_after (is_other_known r d.name) (set.contains r.store.seen d) (fin.get r.store.entries d) (set.contains m.seen d)
+    (fin.get m.entries d)) (set.contains n.seen d) (fin.get n.entries d)
 both_after m n r d =
     get-merged n (merged m r) d
-    ∙ ap (λ s. entry_after (is_other_known r d.name) s (fin.get (merged m r).entries d) (set.contains n.seen d) (fin.get n.entries d))
-    (contains-merged m r d)
-    ∙ ap (λ e. entry_after (is_other_known r d.name) (set.contains r.seen d || (is_other_known r d.name && set.contains m.seen d)) e
-    (set.contains n.seen d) (fin.get n.entries d)) (get-merged m r d)
+    ∙ ap (λ s. entry_after (is_other_known r d.name) s (fin.get (merged m r).store.entries d) (set.contains n.seen d)
+    (fin.get n.entries d)) (contains-merged m r d)
+    ∙ ap (λ e. entry_after (is_other_known r d.name) (set.contains r.store.seen d ||
+    (is_other_known r d.name && set.contains m.seen d)) e (set.contains n.seen d) (fin.get n.entries d)) (get-merged m r d)
 
 pub order_holds : OrderLaw
-order_holds m n r lr lm ln agree = λ i. record r { seen = seen i; entries = entries i }
+order_holds m n r lr lm ln agree = λ i. record r { store = record { seen = seen i; entries = entries i } }
   where
-    seen : (merged n (merged m r)).seen ≡ (merged m (merged n r)).seen
-    seen = same_dots _ _ (λ d. seen_after m n r d ∙ or_exchanged (set.contains r.seen d) (is_other_known r d.name && set.contains m.seen d)
-        (is_other_known r d.name && set.contains n.seen d) ∙ sym (seen_after n m r d))
+    seen : (merged n (merged m r)).store.seen ≡ (merged m (merged n r)).store.seen
+    seen = same_dots _ _ (λ d. seen_after m n r d ∙ or_exchanged (set.contains r.store.seen d)
+        (is_other_known r d.name && set.contains m.seen d) (is_other_known r d.name && set.contains n.seen d) ∙ sym (seen_after n m r d))
 
-    entries : (merged n (merged m r)).entries ≡ (merged m (merged n r)).entries
+    entries : (merged n (merged m r)).store.entries ≡ (merged m (merged n r)).store.entries
     entries = same_entries _ _ (λ d.
         both_after m n r d
-        ∙ exchanged (is_other_known r d.name) (set.contains r.seen d) (set.contains m.seen d) (set.contains n.seen d) (fin.get r.entries d)
-        (fin.get m.entries d) (fin.get n.entries d)
-        (live_at r.seen r.entries lr d) (live_at m.seen m.entries lm d) (live_at n.seen n.entries ln d)
-        (agree_at m.entries n.entries agree d)
+        ∙ exchanged (is_other_known r d.name) (set.contains r.store.seen d) (set.contains m.seen d) (set.contains n.seen d)
+        (fin.get r.store.entries d) (fin.get m.entries d) (fin.get n.entries d)
+        (live_at r.store.seen r.store.entries lr d) (live_at m.seen m.entries lm d) (live_at n.seen n.entries ln d) (agree_at m.entries n.entries agree d)
         ∙ sym (both_after n m r d))
 
 -- standings
@@ -179,8 +175,7 @@ order_holds m n r lr lm ln agree = λ i. record r { seen = seen i; entries = ent
 abbrev stands : Bool → Option Presence → ℕ
 stands s e = if is_some e then 1 else (if s then 2 else 0)
 
-greater : (s a : Bool) (e x : Option Presence) → Live s e → Live a x →
-    stands (s || (true && a)) (entry_after true s e a x) ≡ max (stands s e) (stands a x)
+greater : (s a : Bool) (e x : Option Presence) → Live s e → Live a x → stands (s || (true && a)) (entry_after true s e a x) ≡ max (stands s e) (stands a x)
 greater true true None None le lx = refl
 greater true true None (Some q) le lx = refl
 greater true true (Some p) None le lx = refl
@@ -195,20 +190,19 @@ greater false false None (Some q) le lx = absurd (true≢false (sym lx))
 greater false false None None le lx = refl
 
 stands_after : (m : Message) (r : Replica) (d : Dot) (k : Bool) → is_other_known r d.name ≡ k →
-    standing (merged m r).seen (merged m r).entries d ≡
-    stands (set.contains r.seen d || (k && set.contains m.seen d))
-    (entry_after k (set.contains r.seen d) (fin.get r.entries d) (set.contains m.seen d) (fin.get m.entries d))
+    standing (merged m r).store.seen (merged m r).store.entries d ≡ stands
+    (set.contains r.store.seen d || (k && set.contains m.seen d))
+    (entry_after k (set.contains r.store.seen d) (fin.get r.store.entries d) (set.contains m.seen d) (fin.get m.entries d))
 stands_after m r d k known =
-    ap (λ e. stands (set.contains (merged m r).seen d) e) (get-merged m r d)
-    ∙ ap (λ s. stands s (entry_after (is_other_known r d.name) (set.contains r.seen d) (fin.get r.entries d) (set.contains m.seen d)
-    (fin.get m.entries d))) (contains-merged m r d)
-    ∙ ap (λ k. stands (set.contains r.seen d || (k && set.contains m.seen d))
-    (entry_after k (set.contains r.seen d) (fin.get r.entries d) (set.contains m.seen d) (fin.get m.entries d))) known
+    ap (λ e. stands (set.contains (merged m r).store.seen d) e) (get-merged m r d)
+    ∙ ap (λ s. stands s (entry_after (is_other_known r d.name) (set.contains r.store.seen d) (fin.get r.store.entries d)
+    (set.contains m.seen d) (fin.get m.entries d))) (contains-merged m r d)
+    ∙ ap (λ k. stands (set.contains r.store.seen d || (k && set.contains m.seen d))
+    (entry_after k (set.contains r.store.seen d) (fin.get r.store.entries d) (set.contains m.seen d) (fin.get m.entries d))) known
 
 pub standing_holds : StandingLaw
 standing_holds m r lr lm = record {
-  known = λ d other. stands_after m r d true other
-      ∙ greater (set.contains r.seen d) (set.contains m.seen d) (fin.get r.entries d) (fin.get m.entries d) (live_at r.seen r.entries lr d)
-      (live_at m.seen m.entries lm d);
-  others = λ d other. stands_after m r d false other ∙ ap (λ s. stands s (fin.get r.entries d)) (or-false (set.contains r.seen d));
+  known = λ d other. stands_after m r d true other ∙ greater (set.contains r.store.seen d) (set.contains m.seen d)
+      (fin.get r.store.entries d) (fin.get m.entries d) (live_at r.store.seen r.store.entries lr d) (live_at m.seen m.entries lm d);
+  others = λ d other. stands_after m r d false other ∙ ap (λ s. stands s (fin.get r.store.entries d)) (or-false (set.contains r.store.seen d));
 }

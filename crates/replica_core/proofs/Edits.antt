@@ -1,6 +1,6 @@
 -- A delivery's edits, one entry after another, give the entries of the definition.
-use Rattle.std.proofs.Common.{◌≡◌, ◌+◌, ◌&&◌, ◌||◌, not, T, Bool, true, false, cond, List, [], ◌∷◌, length, Option, Some, None, is_some, refl, sym, ap, ◌∙◌}
-use Rattle.std.proofs.Common.{subst, arith, true≢false}
+use Rattle.std.proofs.Common.{◌≡◌, ◌+◌, ◌&&◌, ◌||◌, not, T, Bool, true, false, cond, List, [], ◌∷◌, length, Option, Some, None}
+use Rattle.std.proofs.Common.{is_some, refl, sym, ap, ◌∙◌, subst, arith, true≢false}
 use Rattle.std.proofs.Math.Facts.{and_yes}
 use Rattle.std.proofs.lemmas.List.Filters.{length-filter_both}
 use Rattle.std.specs.List.{AllByRecursion, list_any}
@@ -57,8 +57,8 @@ new_absent (p ∷ ps) es sorted absent =
     let parts = and_yes (below_all dot_cmp p.0 ps) (is_sorted dot_cmp ps) sorted in
     (absent.0, new_absent ps (fin.insert es p.0 p.1) parts.1 (absent-insert p.0 p.1 ps es parts.0 absent.1))
 
-absent_where : (passes : Dot → Bool) (ps : List (Dot × Presence)) (es : Entries) → ((d : Dot) → passes d ≡ true → fin.get es d ≡ None) →
-    AreAbsent (where_key dot_cmp passes ps) es
+absent_where : (passes : Dot → Bool) (ps : List (Dot × Presence)) (es : Entries) →
+    ((d : Dot) → passes d ≡ true → fin.get es d ≡ None) → AreAbsent (where_key dot_cmp passes ps) es
 absent_where passes [] es none = tt
 absent_where passes (p ∷ ps) es none = go (passes p.0) refl (absent_where passes ps es none)
   where
@@ -89,8 +89,7 @@ either_out true true x = refl
 either_out true false x = refl
 either_out false b x = refl
 
-get-without_each : (ds : List Dot) (es : Entries) (q : Dot) →
-    fin.get (without_each ds es) q ≡ cond (list_any (is_dot q) ds) None (fin.get es q)
+get-without_each : (ds : List Dot) (es : Entries) (q : Dot) → fin.get (without_each ds es) q ≡ cond (list_any (is_dot q) ds) None (fin.get es q)
 get-without_each [] es q = refl
 get-without_each (d ∷ ds) es q =
     get-without_each ds (fin.remove es d) q ∙ ap (cond (list_any (is_dot q) ds) None) (get-remove es d q)
@@ -120,13 +119,13 @@ module _ (m : Message) (r : Replica) where
   out true (Some p) = refl
   out false e = refl
 
-  pub without_departures : without_each (fin.keys (departures m r)) r.entries ≡ remaining m r
+  pub without_departures : without_each (fin.keys (departures m r)) r.store.entries ≡ remaining m r
   without_departures = same_entries _ _ (λ q.
-      get-without_each (fin.keys (departures m r)) r.entries q
-      ∙ ap (λ b. cond b None (fin.get r.entries q))
-      (sym (fin.contains_key-keys (departures m r) q) ∙ ap is_some (get-retain r.entries (is_gone m r) q))
-      ∙ out (is_gone m r q) (fin.get r.entries q)
-      ∙ sym (get-retain r.entries (λ d. not (is_gone m r d)) q))
+      get-without_each (fin.keys (departures m r)) r.store.entries q
+      ∙ ap (λ b. cond b None (fin.get r.store.entries q)) (sym (fin.contains_key-keys (departures m r) q)
+      ∙ ap is_some (get-retain r.store.entries (is_gone m r) q))
+      ∙ out (is_gone m r q) (fin.get r.store.entries q)
+      ∙ sym (get-retain r.store.entries (λ d. not (is_gone m r d)) q))
 
   pub with_arrivals : with_each (fin.entries (arrivals m r)) (remaining m r) ≡ merged_entries m r
   with_arrivals = same_entries _ _ (λ q.
@@ -134,32 +133,31 @@ module _ (m : Message) (r : Replica) where
       ∙ ap (λ o. option_or o (fin.get (remaining m r) q)) (sym (fin.get-entries (arrivals m r) q))
       ∙ sym (get-over (arrivals m r) (remaining m r) q))
 
-  unseen : (known seen stays : Bool) (e : Option Presence) → (is_some e ≡ true → seen ≡ true) → (known && not seen) ≡ true →
-      cond stays e None ≡ None
+  unseen : (known seen stays : Bool) (e : Option Presence) → (is_some e ≡ true → seen ≡ true) → (known && not seen) ≡ true → cond stays e None ≡ None
   unseen true true stays e live new = absurd (true≢false (sym new))
   unseen true false true None live new = refl
   unseen true false false e live new = refl
   unseen true false true (Some p) live new = absurd (true≢false (sym (live refl)))
   unseen false seen stays e live new = absurd (true≢false (sym new))
 
-  module _ (live : AreSeen r.seen r.entries) where
+  module _ (live : AreSeen r.store.seen r.store.entries) where
     pub new_arrivals : AreNew (fin.entries (arrivals m r)) (remaining m r)
     new_arrivals = new_absent (fin.entries (arrivals m r)) (remaining m r) (fin.entries_sorted (arrivals m r))
         (subst (λ ps. AreAbsent ps (remaining m r)) (sym (entries-retain m.entries (is_new r)))
         (absent_where (is_new r) (fin.entries m.entries) (remaining m r) (λ d new.
-        get-retain r.entries (λ d. not (is_gone m r d)) d
-        ∙ unseen (is_other_known r d.name) (set.contains r.seen d) (not (is_gone m r d)) (fin.get r.entries d) (live d) new)))
+        get-retain r.store.entries (λ d. not (is_gone m r d)) d ∙ unseen (is_other_known r d.name) (set.contains r.store.seen d)
+        (not (is_gone m r d)) (fin.get r.store.entries d) (live d) new)))
 
     pub len-merged : fin.len (merged_entries m r) ≡ fin.len (remaining m r) + length (fin.entries (arrivals m r))
     len-merged = ap fin.len (sym with_arrivals) ∙ len-with_each (fin.entries (arrivals m r)) (remaining m r) new_arrivals
 
-  pub len-remaining : fin.len (departures m r) + fin.len (remaining m r) ≡ fin.len r.entries
+  pub len-remaining : fin.len (departures m r) + fin.len (remaining m r) ≡ fin.len r.store.entries
   len-remaining =
-      let left : fin.len (departures m r) ≡ length (where_key dot_cmp (is_gone m r) (fin.entries r.entries)) =
-      fin.len-entries (departures m r) ∙ ap length (entries-retain r.entries (is_gone m r)) in
-      let stay : fin.len (remaining m r) ≡ length (where_key dot_cmp (λ d. not (is_gone m r d)) (fin.entries r.entries)) =
-      fin.len-entries (remaining m r) ∙ ap length (entries-retain r.entries (λ d. not (is_gone m r d))) in
-      let all = length-filter_both (λ (e : Dot × Presence). is_gone m r e.0) (λ (e : Dot × Presence). not (is_gone m r e.0)) (λ e. refl)
-      (fin.entries r.entries) in
-      let len = fin.len-entries r.entries in
+      let left : fin.len (departures m r) ≡ length (where_key dot_cmp (is_gone m r) (fin.entries r.store.entries)) =
+      fin.len-entries (departures m r) ∙ ap length (entries-retain r.store.entries (is_gone m r)) in
+      let stay : fin.len (remaining m r) ≡ length (where_key dot_cmp (λ d. not (is_gone m r d)) (fin.entries r.store.entries)) =
+      fin.len-entries (remaining m r) ∙ ap length (entries-retain r.store.entries (λ d. not (is_gone m r d))) in
+      let all = length-filter_both (λ (e : Dot × Presence). is_gone m r e.0) (λ (e : Dot × Presence). not (is_gone m r e.0))
+      (λ e. refl) (fin.entries r.store.entries) in
+      let len = fin.len-entries r.store.entries in
       omega (arith, left, stay, all, len)

@@ -1,6 +1,6 @@
 -- Forgetting a name.
-use Rattle.std.proofs.Common.{◌≡◌, ℕ, ◌≤◌, ◌==◌, ◌&&◌, not, Bool, true, false, cond, Option, Some, None, is_some, length, refl, sym, ap, ◌∙◌, subst, arith}
-use Rattle.std.proofs.Common.{true≢false}
+use Rattle.std.proofs.Common.{◌≡◌, ℕ, ◌≤◌, ◌==◌, ◌&&◌, not, Bool, true, false, cond, Option, Some, None, is_some, length, refl, sym}
+use Rattle.std.proofs.Common.{ap, ◌∙◌, subst, arith, true≢false}
 use Rattle.std.proofs.lemmas.Bool.{eqb-false, ne_eqb, not-true}
 use Rattle.std.proofs.lemmas.List.Filters.{length-filter_both}
 use Rattle.std.specs.FinMap as fin
@@ -16,6 +16,7 @@ use Rattle.dots_core.proofs.Sets.{contains-retain, of_names_cases}
 use Rattle.payload_core.specs.Presences.{Presence, Entries, entries_of_names}
 use Rattle.payload_core.proofs.EntryMaps.{get-names, same_entries}
 use Rattle.payload_core.proofs.SeenEntries.{seen-names}
+use Rattle.payload_core.specs.Stores.{Store, part}
 use Rattle.replica_core.specs.Replicas.{Replica, own_clock, is_other, forgotten}
 use Rattle.replica_core.specs.Views.{View, AreKnown}
 use Rattle.replica_core.specs.Invariant.{IsReplica}
@@ -46,66 +47,40 @@ module _ (r : Replica) (name : ℕ) (h : IsReplica r) (other : (name == r.own) �
   apart : (d : Dot) → d.name ≡ r.own → is_other name d.name ≡ true
   apart d mine = ap not (ap (λ n. n == name) mine ∙ ne_eqb r.own name (λ e. eqb-false name r.own other (sym e)))
 
-  own_kept : (d : Dot) → d.name ≡ r.own → set.contains r.seen d ≡ set.contains (forgotten name r).seen d
-  own_kept d mine =
-      sym (contains-retain r.seen (λ d. is_other name d.name) d ∙ ap (λ b. set.contains r.seen d && b) (apart d mine)
-      ∙ and_true (set.contains r.seen d))
+  own_kept : (d : Dot) → d.name ≡ r.own → set.contains r.store.seen d ≡ set.contains (forgotten name r).store.seen d
+  own_kept d mine = sym (contains-retain r.store.seen (λ d. is_other name d.name) d
+      ∙ ap (λ b. set.contains r.store.seen d && b) (apart d mine) ∙ and_true (set.contains r.store.seen d))
 
-  own_entry : (d : Dot) → d.name ≡ r.own → fin.get (forgotten name r).entries d ≡ fin.get r.entries d
-  own_entry d mine = get-names r.entries (is_other name) d ∙ ap (λ b. cond b (fin.get r.entries d) None) (apart d mine)
+  own_entry : (d : Dot) → d.name ≡ r.own → fin.get (forgotten name r).store.entries d ≡ fin.get r.store.entries d
+  own_entry d mine = get-names r.store.entries (is_other name) d ∙ ap (λ b. cond b (fin.get r.store.entries d) None) (apart d mine)
 
   pub kept_forgotten : IsReplica (forgotten name r)
   kept_forgotten = record {
     name = h.name;
-    up =
-        get_remove_view r.view name r.own
-        ∙ ap (λ b. cond b None (fin.get r.view r.own)) (ne_eqb r.own name (λ e. eqb-false name r.own other (sym e))) ∙ h.up;
+    up = get_remove_view r.view name r.own ∙ ap (λ b. cond b None (fin.get r.view r.own)) (ne_eqb r.own name (λ e. eqb-false name r.own other (sym e))) ∙ h.up;
     limits = h.limits;
-    valid = λ d e. h.valid d (of_names_cases r.seen (is_other name) d e).0;
-    known = λ d e. let parts = of_names_cases r.seen (is_other name) d e in
-        ap is_some (get_remove_view r.view name d.name)
-        ∙ ap (λ b. is_some (cond b None (fin.get r.view d.name))) (not-true (d.name == name) parts.1) ∙ h.known d parts.0;
-    clocks = clocks_same r.own r.seen (forgotten name r).seen own_kept h.clocks;
-    clock =
-        let same : own_clock (forgotten name r) ≡ own_clock r = sym (ap set.len (own_same r.own r.seen (forgotten name r).seen own_kept)) in
-        let low = h.clock in omega arith;
-    live = seen-names (is_other name) r.seen r.entries h.live;
-    few = let less = fewer r.entries (λ d. is_other name d.name) in let few = h.few in omega (arith, less, few);
+    valid = λ d e. h.valid d (of_names_cases r.store.seen (is_other name) d e).0;
+    known = λ d e. let parts = of_names_cases r.store.seen (is_other name) d e in
+        ap is_some (get_remove_view r.view name d.name) ∙ ap (λ b. is_some (cond b None (fin.get r.view d.name)))
+        (not-true (d.name == name) parts.1) ∙ h.known d parts.0;
+    clocks = clocks_same r.own r.store.seen (forgotten name r).store.seen own_kept h.clocks;
+    clock = let same : own_clock (forgotten name r) ≡ own_clock r = sym
+        (ap set.len (own_same r.own r.store.seen (forgotten name r).store.seen own_kept)) in let low = h.clock in omega arith;
+    live = seen-names (is_other name) r.store.seen r.store.entries h.live;
+    few = let less = fewer r.store.entries (λ d. is_other name d.name) in let few = h.few in omega (arith, less, few);
     once = once_kept r (forgotten name r) refl (λ d p mine e. sym (own_entry d mine) ∙ e) h.once;
     delta_live = h.delta_live;
     delta_own = λ d e. let old = h.delta_own d e in (old.0, sym (own_kept d old.0) ∙ old.1);
     delta_in = λ d p e. own_entry d (h.delta_own d (h.delta_live d (ap is_some e))).0 ∙ h.delta_in d p e;
   }
 
--- as edits
+-- as edits, where `r` is the replica as its fields say it
 
-only_known : (t k : Bool) (o : Option Presence) → (is_some o ≡ true → k ≡ true) → cond (t && k) o None ≡ cond t o None
-only_known true true o h = refl
-only_known true false None h = refl
-only_known true false (Some p) h = absurd (true≢false (sym (h refl)))
-only_known false k o h = refl
+pub forget_is : (r now : Replica) (name : ℕ) (store : Store) (view : View) → r ≡ now → store ≡ part (is_other name) r.store →
+    view ≡ fin.remove r.view name → record r { store = store; view = view } ≡ forgotten name now
+forget_is r now name store view same store_is view_is = (λ i. record r { store = store_is i; view = view_is i }) ∙ ap (forgotten name) same
 
--- all entries are of known names
-other_entries : (r : Replica) (name : ℕ) (known : Names) → IsReplica r → AreKnown r.view known →
-    entries_of_names (set.contains (set.remove known name)) r.entries ≡ entries_of_names (is_other name) r.entries
-other_entries r name known h are = same_entries _ _ (λ q.
-    get-names r.entries (set.contains (set.remove known name)) q
-    ∙ ap (λ b. cond b (fin.get r.entries q) None) (contains-remove_name known name q.name)
-    ∙ only_known (is_other name q.name) (set.contains known q.name) (fin.get r.entries q) (λ e. are q.name ∙ h.known q (h.live q e))
-    ∙ sym (get-names r.entries (is_other name) q))
-
-pub forgotten_is : (r now : Replica) (name : ℕ) (known rest : Names) (seen : Dots) (es : Entries) (view : View) → IsReplica r → r ≡ now →
-    AreKnown r.view known → rest ≡ set.remove known name →
-    seen ≡ others name r.seen → es ≡ entries_of_names (set.contains rest) r.entries → view ≡ fin.remove r.view name →
-    record r { seen = seen; entries = es; view = view } ≡ forgotten name now
-forgotten_is r now name known rest seen es view h same are rest_is seen_is es_are view_is =
-    let entries = es_are ∙ ap (λ ns. entries_of_names (set.contains ns) r.entries) rest_is ∙ other_entries r name known h are in
-    (λ i. record r { seen = seen_is i; entries = entries i; view = view_is i }) ∙ ap (forgotten name) same
-
-pub kept_forget : (r : Replica) (name : ℕ) (known rest : Names) (seen : Dots) (es : Entries) (view : View) → IsReplica r →
-    (name == r.own) ≡ false → AreKnown r.view known → rest ≡ set.remove known name →
-    seen ≡ others name r.seen → es ≡ entries_of_names (set.contains rest) r.entries → view ≡ fin.remove r.view name →
-    IsReplica (record r { seen = seen; entries = es; view = view })
-kept_forget r name known rest seen es view h other are rest_is seen_is es_are view_is =
-    subst IsReplica (sym (forgotten_is r r name known rest seen es view h refl are rest_is seen_is es_are view_is))
-    (kept_forgotten r name h other)
+pub kept_forget_store : (r : Replica) (name : ℕ) (store : Store) (view : View) → IsReplica r → (name == r.own) ≡ false →
+    store ≡ part (is_other name) r.store → view ≡ fin.remove r.view name → IsReplica (record r { store = store; view = view })
+kept_forget_store r name store view h other store_is view_is =
+    subst IsReplica (sym (forget_is r r name store view refl store_is view_is)) (kept_forgotten r name h other)

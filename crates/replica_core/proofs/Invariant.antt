@@ -1,13 +1,14 @@
 -- Each change of a replica keeps what each replica keeps.
-use Rattle.std.proofs.Common.{◌≡◌, ◌≢◌, ◌⊎◌, inl, inr, ℕ, ◌+◌, ◌-◌, ◌<◌, ◌≤◌, ◌==◌, ◌&&◌, ◌||◌, Bool, true, false, cond, Option, Some, None, is_some, refl}
-use Rattle.std.proofs.Common.{sym, ap, ◌∙◌, subst, arith, true≢false}
+use Rattle.std.proofs.Common.{◌≡◌, ◌≢◌, ◌⊎◌, inl, inr, ℕ, ◌+◌, ◌-◌, ◌<◌, ◌≤◌, ◌==◌, ◌&&◌, ◌||◌, Bool, true, false, cond, Option, Some}
+use Rattle.std.proofs.Common.{None, is_some, refl, sym, ap, ◌∙◌, subst, arith, true≢false}
 use Rattle.std.proofs.Math.Bool.{or-false}
-use Rattle.std.proofs.lemmas.Bool.{and_parts, eq-eqb, eqb-false, ltb-false, ne_eqb}
+use Rattle.std.proofs.lemmas.Bool.{and_parts, eq-eqb, eqb-false, ltb-false, ne_eqb, false_from_ne_true}
 use Rattle.std.specs.FinMap as fin
 use Rattle.std.specs.FinSet as set
 use Rattle.std.specs.Ordering.{nat_cmp}
 use Rattle.dots_core.specs.declared.dot.Dot.{Dot}
 use Rattle.dots_core.specs.Dots.{Dots, dot, dot_cmp, IsValid, AreValid, count_of, of_names}
+use Rattle.dots_core.specs.Contexts.{IsLast, IsNext}
 use Rattle.dots_core.proofs.Order.{dot_total}
 use Rattle.dots_core.proofs.Sets.{same_dots, contains-retain, contains_inserted, contains_insert_more, inserted_cases}
 use Rattle.dots_core.proofs.OwnClock.{not_fresh, count_more, clocks_more, clocks_same, own_same}
@@ -15,12 +16,13 @@ use Rattle.payload_core.specs.Presences.{Presence, Entries, entries_of_names}
 use Rattle.payload_core.specs.Messages.{Message, AreSeen}
 use Rattle.payload_core.proofs.EntryMaps.{get_inserted, get_insert_other, get_remove_other}
 use Rattle.payload_core.proofs.SeenEntries.{seen_none, seen-insert, seen-remove, seen-names}
+use Rattle.payload_core.specs.Stores.{Store, nothing}
 use Rattle.replica_core.specs.declared.node_limits.NodeLimits.{NodeLimits}
 use Rattle.replica_core.specs.declared.status.Status.{Status}
 use Rattle.replica_core.specs.declared.status.Status.TheVariants.{Up}
 use Rattle.replica_core.specs.Limits.{AreNodeLimits}
-use Rattle.replica_core.specs.Replicas.{Replica, opening, own_clock, fresh, is_known, joined, dropped, ticked, with_status, without_delta, with_delta}
-use Rattle.replica_core.specs.Replicas.{CanBeDelta}
+use Rattle.replica_core.specs.Replicas.{Replica, opening, own_clock, fresh, last, is_known, joined, dropped, ticked, with_status}
+use Rattle.replica_core.specs.Replicas.{without_delta, with_delta, CanBeDelta}
 use Rattle.replica_core.specs.Deliveries.{is_other_known, merged, merged_entries}
 use Rattle.replica_core.specs.Refusals.{is_tracked, are_too_many, is_clock_full}
 use Rattle.replica_core.specs.Invariant.{IsReplica}
@@ -37,7 +39,8 @@ no_entry : (d : Dot) (p : Presence) → fin.get {R = dot_cmp} fin.empty d ≡ So
 no_entry d p e = let none = fin.get-empty {X = Presence} dot_cmp d in cc
 
 no_count : (own : ℕ) → count_of own set.empty ≡ 0
-no_count own = ap set.len (same_dots (of_names (λ n. n == own) set.empty) set.empty
+no_count own =
+    ap set.len (same_dots (of_names (λ n. n == own) set.empty) set.empty
     (λ q. contains-retain set.empty (λ d. d.name == own) q ∙ ap (λ b. b && (q.name == own)) (set.contains-empty dot_cmp q)
     ∙ sym (set.contains-empty dot_cmp q))) ∙ set.len-empty dot_cmp
 
@@ -69,80 +72,113 @@ module _ (r : Replica) (h : IsReplica r) where
 
   -- the fresh dot can be put in
   pub fresh_valid : is_clock_full r 1 ≡ false → IsValid (fresh r)
-  fresh_valid free =
-      let low = clock_below free in let bound = h.limits.clock_few in record { name = h.name; first = omega arith; last = omega arith }
+  fresh_valid free = let low = clock_below free in let bound = h.limits.clock_few in record { name = h.name; first = omega arith; last = omega arith }
+
+  -- its clock is the next one
+  pub fresh_next : IsNext (fresh r) r.store.seen
+  fresh_next = (
+    own_clock r,
+    refl,
+    record {
+      all = λ k le. ((λ e. let c = (h.clocks k).0 e in c.0), (λ pos. (h.clocks k).1 (pos, le)));
+      greatest = not_fresh r.own r.store.seen h.clocks;
+    },
+  )
+
+  -- it was not seen, and is none of the delta
+  pub fresh_unseen : set.contains r.store.seen (fresh r) ≡ false
+  fresh_unseen = not_fresh r.own r.store.seen h.clocks
+
+  pub fresh_unsent : set.contains r.delta.seen (fresh r) ≡ false
+  fresh_unsent = false_from_ne_true _ (λ e. true≢false (sym (h.delta_own (fresh r) e).1 ∙ fresh_unseen))
+
+  -- no own dot above the last was seen
+
+  above_last : (k : ℕ) → own_clock r < k → set.contains r.store.seen (dot r.own k) ≡ false
+  above_last k above = false_from_ne_true _ (λ e. let c = (h.clocks k).0 e in absurd (omega (arith, c.1, above)))
+
+  pub last_is_last : IsLast (last r) r.store.seen
+  last_is_last k above = above_last k above
+
+  pub last_in_delta : IsLast (last r) r.delta.seen
+  last_in_delta k above = false_from_ne_true _ (λ e. true≢false (sym (h.delta_own (dot r.own k) e).1 ∙ above_last k above))
+
+  pub last_valid : 0 < own_clock r → IsValid (last r)
+  last_valid some = let low = h.clock in let bound = h.limits.clock_few in record { name = h.name; first = omega arith; last = omega arith }
+
+  -- above all own dots, in the delta too
+  pub fresh_is_last : IsLast (fresh r) r.delta.seen
+  fresh_is_last k above = false_from_ne_true _ (λ e. true≢false (sym (h.delta_own (dot r.own k) e).1 ∙ above_last k (omega (arith, above))))
 
   -- it has no entry
-  pub fresh_absent : fin.get r.entries (fresh r) ≡ None
-  fresh_absent = go (fin.get r.entries (fresh r)) refl
+  pub fresh_absent : fin.get r.store.entries (fresh r) ≡ None
+  fresh_absent = go (fin.get r.store.entries (fresh r)) refl
     where
-      go : (o : Option Presence) → fin.get r.entries (fresh r) ≡ o → o ≡ None
+      go : (o : Option Presence) → fin.get r.store.entries (fresh r) ≡ o → o ≡ None
       go None is = refl
-      go (Some p) is = absurd (true≢false (sym (h.live (fresh r) (ap is_some is)) ∙ not_fresh r.own r.seen h.clocks))
+      go (Some p) is = absurd (true≢false (sym (h.live (fresh r) (ap is_some is)) ∙ not_fresh r.own r.store.seen h.clocks))
 
   -- nor has it one in the delta
-  pub fresh_absent_in_delta : fin.get r.delta_entries (fresh r) ≡ None
-  fresh_absent_in_delta = go (fin.get r.delta_entries (fresh r)) refl
+  pub fresh_absent_in_delta : fin.get r.delta.entries (fresh r) ≡ None
+  fresh_absent_in_delta = go (fin.get r.delta.entries (fresh r)) refl
     where
-      go : (o : Option Presence) → fin.get r.delta_entries (fresh r) ≡ o → o ≡ None
+      go : (o : Option Presence) → fin.get r.delta.entries (fresh r) ≡ o → o ≡ None
       go None is = refl
       go (Some p) is = let entry = h.delta_in (fresh r) p is in let none = fresh_absent in absurd (cc)
 
-  joined_valid : is_clock_full r 1 ≡ false → (d : Dot) → (d ≡ fresh r) ⊎ (set.contains r.seen d ≡ true) → IsValid d
+  joined_valid : is_clock_full r 1 ≡ false → (d : Dot) → (d ≡ fresh r) ⊎ (set.contains r.store.seen d ≡ true) → IsValid d
   joined_valid free d (inl e) = subst IsValid (sym e) (fresh_valid free)
   joined_valid free d (inr e) = h.valid d e
 
-  joined_known : (d : Dot) → (d ≡ fresh r) ⊎ (set.contains r.seen d ≡ true) → is_known r d.name ≡ true
+  joined_known : (d : Dot) → (d ≡ fresh r) ⊎ (set.contains r.store.seen d ≡ true) → is_known r d.name ≡ true
   joined_known d (inl e) = known_own d (ap (λ (d : Dot). d.name) e)
   joined_known d (inr e) = h.known d e
 
-  joined_delta_own : (d : Dot) → (d ≡ fresh r) ⊎ (set.contains r.delta_seen d ≡ true) →
-      (d.name ≡ r.own) × (set.contains (set.insert r.seen (fresh r)) d ≡ true)
-  joined_delta_own d (inl e) =
-      (ap (λ (d : Dot). d.name) e, ap (set.contains (set.insert r.seen (fresh r))) e ∙ contains_inserted r.seen (fresh r))
-  joined_delta_own d (inr e) = let old = h.delta_own d e in (old.0, contains_insert_more r.seen (fresh r) d old.1)
+  joined_delta_own : (d : Dot) → (d ≡ fresh r) ⊎ (set.contains r.delta.seen d ≡ true) →
+      (d.name ≡ r.own) × (set.contains (set.insert r.store.seen (fresh r)) d ≡ true)
+  joined_delta_own d (inl e) = (ap (λ (d : Dot). d.name) e, ap (set.contains (set.insert r.store.seen (fresh r))) e ∙ contains_inserted r.store.seen (fresh r))
+  joined_delta_own d (inr e) = let old = h.delta_own d e in (old.0, contains_insert_more r.store.seen (fresh r) d old.1)
 
-  joined_delta_in : (p : Presence) (d : Dot) (q : Presence) →
-      ((d ≡ fresh r) × (q ≡ p)) ⊎ ((d ≢ fresh r) × (fin.get r.delta_entries d ≡ Some q)) →
-      fin.get (fin.insert r.entries (fresh r) p) d ≡ Some q
-  joined_delta_in p d q (inl e) =
-      ap (fin.get (fin.insert r.entries (fresh r) p)) e.0 ∙ get_inserted r.entries (fresh r) p ∙ ap Some (sym e.1)
-  joined_delta_in p d q (inr e) = get_insert_other r.entries (fresh r) d p e.0 ∙ h.delta_in d q e.1
+  joined_delta_in : (p : Presence) (d : Dot) (q : Presence) → ((d ≡ fresh r) × (q ≡ p)) ⊎
+      ((d ≢ fresh r) × (fin.get r.delta.entries d ≡ Some q)) → fin.get (fin.insert r.store.entries (fresh r) p) d ≡ Some q
+  joined_delta_in p d q (inl e) = ap (fin.get (fin.insert r.store.entries (fresh r) p)) e.0 ∙ get_inserted r.store.entries (fresh r) p ∙ ap Some (sym e.1)
+  joined_delta_in p d q (inr e) = get_insert_other r.store.entries (fresh r) d p e.0 ∙ h.delta_in d q e.1
 
-  pub kept_joined : (p : Presence) → is_tracked r p.pid p.topic p.key ≡ false → are_too_many r (fin.len r.entries + 1) ≡ false →
+  pub kept_joined : (p : Presence) → is_tracked r p.pid p.topic p.key ≡ false → are_too_many r (fin.len r.store.entries + 1) ≡ false →
       is_clock_full r 1 ≡ false → IsReplica (joined p r)
   kept_joined p new few free = record {
     name = h.name;
     up = h.up;
     limits = h.limits;
-    valid = λ d e. joined_valid free d (inserted_cases r.seen (fresh r) d e);
-    known = λ d e. joined_known d (inserted_cases r.seen (fresh r) d e);
-    clocks = clocks_more r.own r.seen h.clocks;
-    clock = let more = count_more r.own r.seen h.clocks in let low = clock_below free in omega arith;
-    live = seen-insert r.seen r.entries (fresh r) p h.live;
+    valid = λ d e. joined_valid free d (inserted_cases r.store.seen (fresh r) d e);
+    known = λ d e. joined_known d (inserted_cases r.store.seen (fresh r) d e);
+    clocks = clocks_more r.own r.store.seen h.clocks;
+    clock = let more = count_more r.own r.store.seen h.clocks in let low = clock_below free in omega arith;
+    live = seen-insert r.store.seen r.store.entries (fresh r) p h.live;
     few =
-        let len : fin.len (fin.insert r.entries (fresh r) p) ≡ fin.len r.entries + 1 = fin.len-insert dot_total r.entries (fresh r) p
-        ∙ ap (λ (o : Option Presence). cond (is_some o) (fin.len r.entries) (fin.len r.entries + 1)) fresh_absent in
-        let fits = ltb-false r.limits.entries (fin.len r.entries + 1) few in
+        let len : fin.len (fin.insert r.store.entries (fresh r) p) ≡ fin.len r.store.entries + 1 =
+        fin.len-insert dot_total r.store.entries (fresh r) p ∙ ap
+        (λ (o : Option Presence). cond (is_some o) (fin.len r.store.entries) (fin.len r.store.entries + 1)) fresh_absent in
+        let fits = ltb-false r.limits.entries (fin.len r.store.entries + 1) few in
         omega arith;
     once = once_joined r p h.once new;
-    delta_live = seen-insert r.delta_seen r.delta_entries (fresh r) p h.delta_live;
-    delta_own = λ d e. joined_delta_own d (inserted_cases r.delta_seen (fresh r) d e);
-    delta_in = λ d q e. joined_delta_in p d q (inserted_entry r.delta_entries (fresh r) d p q e);
+    delta_live = seen-insert r.delta.seen r.delta.entries (fresh r) p h.delta_live;
+    delta_own = λ d e. joined_delta_own d (inserted_cases r.delta.seen (fresh r) d e);
+    delta_in = λ d q e. joined_delta_in p d q (inserted_entry r.delta.entries (fresh r) d p q e);
   }
 
   -- what a leave does: its entry goes, and a fresh dot was seen
 
-  dropped_delta_own : (x d : Dot) → x.name ≡ r.own → set.contains r.seen x ≡ true → (d ≡ x) ⊎ (set.contains r.delta_seen d ≡ true) →
-      (d.name ≡ r.own) × (set.contains r.seen d ≡ true)
-  dropped_delta_own x d mine there (inl e) = (ap (λ (d : Dot). d.name) e ∙ mine, ap (set.contains r.seen) e ∙ there)
+  dropped_delta_own : (x d : Dot) → x.name ≡ r.own → set.contains r.store.seen x ≡ true →
+      (d ≡ x) ⊎ (set.contains r.delta.seen d ≡ true) → (d.name ≡ r.own) × (set.contains r.store.seen d ≡ true)
+  dropped_delta_own x d mine there (inl e) = (ap (λ (d : Dot). d.name) e ∙ mine, ap (set.contains r.store.seen) e ∙ there)
   dropped_delta_own x d mine there (inr e) = h.delta_own d e
 
   fewer : (t : Bool) (n : ℕ) → cond t (n - 1) n ≤ n
   fewer true n = omega arith
   fewer false n = omega arith
 
-  pub kept_dropped : (x : Dot) → x.name ≡ r.own → set.contains r.seen x ≡ true → IsReplica (dropped x r)
+  pub kept_dropped : (x : Dot) → x.name ≡ r.own → set.contains r.store.seen x ≡ true → IsReplica (dropped x r)
   kept_dropped x mine there = record {
     name = h.name;
     up = h.up;
@@ -151,16 +187,16 @@ module _ (r : Replica) (h : IsReplica r) where
     known = h.known;
     clocks = h.clocks;
     clock = h.clock;
-    live = seen-remove r.seen r.entries x h.live;
+    live = seen-remove r.store.seen r.store.entries x h.live;
     few =
-        let len = fin.len-remove dot_total r.entries x in
-        let less = fewer (is_some (fin.get r.entries x)) (fin.len r.entries) in
+        let len = fin.len-remove dot_total r.store.entries x in
+        let less = fewer (is_some (fin.get r.store.entries x)) (fin.len r.store.entries) in
         let few = h.few in
         omega (arith, len, less, few);
-    once = once_kept r (dropped x r) refl (λ d p own e. (removed_entry r.entries x d p e).1) h.once;
-    delta_live = λ d e. contains_insert_more r.delta_seen x d (seen-remove r.delta_seen r.delta_entries x h.delta_live d e);
-    delta_own = λ d e. dropped_delta_own x d mine there (inserted_cases r.delta_seen x d e);
-    delta_in = λ d p e. let old = removed_entry r.delta_entries x d p e in get_remove_other r.entries x d old.0 ∙ h.delta_in d p old.1;
+    once = once_kept r (dropped x r) refl (λ d p own e. (removed_entry r.store.entries x d p e).1) h.once;
+    delta_live = λ d e. contains_insert_more r.delta.seen x d (seen-remove r.delta.seen r.delta.entries x h.delta_live d e);
+    delta_own = λ d e. dropped_delta_own x d mine there (inserted_cases r.delta.seen x d e);
+    delta_in = λ d p e. let old = removed_entry r.delta.entries x d p e in get_remove_other r.store.entries x d old.0 ∙ h.delta_in d p old.1;
   }
 
   pub kept_ticked : is_clock_full r 1 ≡ false → IsReplica (ticked r)
@@ -168,15 +204,15 @@ module _ (r : Replica) (h : IsReplica r) where
     name = h.name;
     up = h.up;
     limits = h.limits;
-    valid = λ d e. joined_valid free d (inserted_cases r.seen (fresh r) d e);
-    known = λ d e. joined_known d (inserted_cases r.seen (fresh r) d e);
-    clocks = clocks_more r.own r.seen h.clocks;
-    clock = let more = count_more r.own r.seen h.clocks in let low = clock_below free in omega arith;
-    live = λ d e. contains_insert_more r.seen (fresh r) d (h.live d e);
+    valid = λ d e. joined_valid free d (inserted_cases r.store.seen (fresh r) d e);
+    known = λ d e. joined_known d (inserted_cases r.store.seen (fresh r) d e);
+    clocks = clocks_more r.own r.store.seen h.clocks;
+    clock = let more = count_more r.own r.store.seen h.clocks in let low = clock_below free in omega arith;
+    live = λ d e. contains_insert_more r.store.seen (fresh r) d (h.live d e);
     few = h.few;
     once = h.once;
-    delta_live = λ d e. contains_insert_more r.delta_seen (fresh r) d (h.delta_live d e);
-    delta_own = λ d e. joined_delta_own d (inserted_cases r.delta_seen (fresh r) d e);
+    delta_live = λ d e. contains_insert_more r.delta.seen (fresh r) d (h.delta_live d e);
+    delta_own = λ d e. joined_delta_own d (inserted_cases r.delta.seen (fresh r) d e);
     delta_in = h.delta_in;
   }
 
@@ -195,20 +231,18 @@ live_after true false false e (Some p) le lx h = lx refl
 live_after false false a e x le lx h = le h
 
 module _ (m : Message) (r : Replica) (h : IsReplica r) (valid : AreValid m.seen) (live : AreSeen m.seen m.entries) where
-  seen_more : (d : Dot) → set.contains r.seen d ≡ true → set.contains (merged m r).seen d ≡ true
+  seen_more : (d : Dot) → set.contains r.store.seen d ≡ true → set.contains (merged m r).store.seen d ≡ true
   seen_more d e = contains-merged m r d ∙ ap (λ b. b || (is_other_known r d.name && set.contains m.seen d)) e
 
-  merged_own : (d : Dot) → d.name ≡ r.own → set.contains r.seen d ≡ set.contains (merged m r).seen d
-  merged_own d e =
-      sym (contains-merged m r d ∙ ap (λ b. set.contains r.seen d || (b && set.contains m.seen d)) (own_is_not_other r d e)
-      ∙ or-false (set.contains r.seen d))
+  merged_own : (d : Dot) → d.name ≡ r.own → set.contains r.store.seen d ≡ set.contains (merged m r).store.seen d
+  merged_own d e = sym (contains-merged m r d ∙ ap (λ b. set.contains r.store.seen d || (b && set.contains m.seen d))
+      (own_is_not_other r d e) ∙ or-false (set.contains r.store.seen d))
 
-  merged_valid : (d : Dot) → (set.contains r.seen d ≡ true) ⊎ ((is_other_known r d.name && set.contains m.seen d) ≡ true) → IsValid d
+  merged_valid : (d : Dot) → (set.contains r.store.seen d ≡ true) ⊎ ((is_other_known r d.name && set.contains m.seen d) ≡ true) → IsValid d
   merged_valid d (inl e) = h.valid d e
   merged_valid d (inr e) = valid d (and_parts _ _ e).1
 
-  merged_known : (d : Dot) → (set.contains r.seen d ≡ true) ⊎ ((is_other_known r d.name && set.contains m.seen d) ≡ true) →
-      is_known r d.name ≡ true
+  merged_known : (d : Dot) → (set.contains r.store.seen d ≡ true) ⊎ ((is_other_known r d.name && set.contains m.seen d) ≡ true) → is_known r d.name ≡ true
   merged_known d (inl e) = h.known d e
   merged_known d (inr e) = (and_parts _ _ (and_parts _ _ e).0).0
 
@@ -219,14 +253,13 @@ module _ (m : Message) (r : Replica) (h : IsReplica r) (valid : AreValid m.seen)
     limits = h.limits;
     valid = λ d e. merged_valid d (or_cases _ _ (sym (contains-merged m r d) ∙ e));
     known = λ d e. merged_known d (or_cases _ _ (sym (contains-merged m r d) ∙ e));
-    clocks = clocks_same r.own r.seen (merged m r).seen merged_own h.clocks;
-    clock =
-        let same : own_clock (merged m r) ≡ own_clock r = sym (ap set.len (own_same r.own r.seen (merged m r).seen merged_own)) in
-        let low = h.clock in omega arith;
+    clocks = clocks_same r.own r.store.seen (merged m r).store.seen merged_own h.clocks;
+    clock = let same : own_clock (merged m r) ≡ own_clock r = sym
+        (ap set.len (own_same r.own r.store.seen (merged m r).store.seen merged_own)) in let low = h.clock in omega arith;
     live = λ d e.
         contains-merged m r d
-        ∙ live_after (is_other_known r d.name) (set.contains r.seen d) (set.contains m.seen d) (fin.get r.entries d) (fin.get m.entries d)
-        (h.live d) (live d) (ap is_some (sym (get-merged m r d)) ∙ e);
+        ∙ live_after (is_other_known r d.name) (set.contains r.store.seen d) (set.contains m.seen d) (fin.get r.store.entries d)
+        (fin.get m.entries d) (h.live d) (live d) (ap is_some (sym (get-merged m r d)) ∙ e);
     few = few;
     once = once_merged m r h.once;
     delta_live = h.delta_live;
@@ -297,10 +330,9 @@ kept_without_delta r h = record {
 }
 
 -- a message of some names has its entries' dots
-pub parts_seen : (named : ℕ → Bool) (r : Replica) (seen : Dots) (es : Entries) → IsReplica r → seen ≡ of_names named r.seen →
-    es ≡ entries_of_names named r.entries → AreSeen seen es
-parts_seen named r seen es h e f = rw (e, f) (seen-names named r.seen r.entries h.live)
+pub parts_seen : (named : ℕ → Bool) (r : Replica) (seen : Dots) (es : Entries) → IsReplica r → seen ≡ of_names named r.store.seen →
+    es ≡ entries_of_names named r.store.entries → AreSeen seen es
+parts_seen named r seen es h e f = rw (e, f) (seen-names named r.store.seen r.store.entries h.live)
 
-pub kept_sent : (r : Replica) (seen : Dots) (es : Entries) → IsReplica r → seen ≡ set.empty → es ≡ fin.empty →
-    IsReplica (record r { delta_seen = seen; delta_entries = es })
-kept_sent r seen es h e f = rw (e, f) (kept_without_delta r h)
+pub kept_sent : (r : Replica) (delta : Store) → IsReplica r → delta ≡ nothing → IsReplica (record r { delta = delta })
+kept_sent r delta h e = rw e (kept_without_delta r h)

@@ -4,8 +4,10 @@ pub mod Deliveries
 pub mod Once
 pub mod Invariant
 pub mod Left
+pub mod ProcessLeft
 pub mod Forgotten
 pub mod Calls
 pub mod Edits
-pub mod Collected
-pub mod Exchange
+pub mod Delivered
+pub mod Back
+pub mod Undone

@@ -15,7 +15,7 @@ is_other_known r name = is_known r name && not (name == r.own)
 
 -- whether an entry at the dot would be new: its name is another known one, and it was not seen
 abbrev pub is_new : Replica → Dot → Bool
-is_new r d = is_other_known r d.name && not (set.contains r.seen d)
+is_new r d = is_other_known r d.name && not (set.contains r.store.seen d)
 
 -- whether an entry at the dot is gone: its name is another known one, and the message has seen it and has no entry there
 abbrev pub is_gone : Message → Replica → Dot → Bool
@@ -27,11 +27,11 @@ arrivals m r = fin.retain_keys m.entries (is_new r)
 
 -- the entries that leave
 abbrev pub departures : Message → Replica → Entries
-departures m r = fin.retain_keys r.entries (is_gone m r)
+departures m r = fin.retain_keys r.store.entries (is_gone m r)
 
 -- the entries that stay
 abbrev pub remaining : Message → Replica → Entries
-remaining m r = fin.retain_keys r.entries (λ d. not (is_gone m r d))
+remaining m r = fin.retain_keys r.store.entries (λ d. not (is_gone m r d))
 
 -- the arrivals beside the entries that stay
 abbrev pub merged_entries : Message → Replica → Entries
@@ -39,7 +39,7 @@ merged_entries m r = over (arrivals m r) (remaining m r)
 
 -- a delivery: what is gone leaves, what is new joins, and the message's dots were seen; the delta stays
 abbrev pub merged : Message → Replica → Replica
-merged m r = record r { seen = set.union r.seen (of_names (is_other_known r) m.seen); entries = merged_entries m r }
+merged m r = record r { store = record { seen = set.union r.store.seen (of_names (is_other_known r) m.seen); entries = merged_entries m r } }
 
 -- how a dot stands: 0 where it was not seen, 1 where it has an entry, 2 where it was seen and its entry went
 abbrev pub standing : Dots → Entries → Dot → ℕ
@@ -47,7 +47,7 @@ standing seen es d = if fin.contains_key es d then 1 else (if set.contains seen 
 
 -- each dot of another known name has the greater of its two standings, and each other dot the one that it had
 pub record TakesGreaterStandings (m : Message) (before after : Replica) : Type 0 where
-  pub known : (d : Dot) → is_other_known before d.name ≡ true →
-      standing after.seen after.entries d ≡ max (standing before.seen before.entries d) (standing m.seen m.entries d)
-  pub others : (d : Dot) → is_other_known before d.name ≡ false →
-      standing after.seen after.entries d ≡ standing before.seen before.entries d
+  pub known : (d : Dot) → is_other_known before d.name ≡ true → standing after.store.seen after.store.entries d ≡ max
+      (standing before.store.seen before.store.entries d) (standing m.seen m.entries d)
+  pub others : (d : Dot) → is_other_known before d.name ≡ false → standing after.store.seen after.store.entries d ≡ standing
+      before.store.seen before.store.entries d

@@ -12,7 +12,7 @@ use Rattle.replica_core.specs.Replicas.{Replica, own_clock, is_known}
 
 -- own entries differ in process, topic or key
 abbrev pub IsOnce : Replica → Type 0
-IsOnce r = (d e : Dot) (p q : Presence) → d.name ≡ r.own → e.name ≡ r.own → fin.get r.entries d ≡ Some p → fin.get r.entries e ≡ Some q →
+IsOnce r = (d e : Dot) (p q : Presence) → d.name ≡ r.own → e.name ≡ r.own → fin.get r.store.entries d ≡ Some p → fin.get r.store.entries e ≡ Some q →
     p.pid ≡ q.pid → p.topic ≡ q.topic → p.key ≡ q.key → d ≡ e
 
 -- what a replica keeps
@@ -22,15 +22,15 @@ pub record IsReplica (r : Replica) : Type 0 where
   pub up : fin.get r.view r.own ≡ Some Up
   pub limits : AreNodeLimits r.limits
   -- dots that were seen are valid and of known names; the own ones are those with the clocks from 1 to the own clock
-  pub valid : AreValid r.seen
-  pub known : (d : Dot) → set.contains r.seen d ≡ true → is_known r d.name ≡ true
-  pub clocks : HasClocks r.own r.seen
+  pub valid : AreValid r.store.seen
+  pub known : (d : Dot) → set.contains r.store.seen d ≡ true → is_known r d.name ≡ true
+  pub clocks : HasClocks r.own r.store.seen
   pub clock : own_clock r ≤ r.limits.clock
   -- an entry's dot was seen; own entries differ
-  pub live : AreSeen r.seen r.entries
-  pub few : fin.len r.entries ≤ r.limits.entries
+  pub live : AreSeen r.store.seen r.store.entries
+  pub few : fin.len r.store.entries ≤ r.limits.entries
   pub once : IsOnce r
   -- the delta has own dots that were seen, and live entries at some of them
-  pub delta_live : AreSeen r.delta_seen r.delta_entries
-  pub delta_own : (d : Dot) → set.contains r.delta_seen d ≡ true → (d.name ≡ r.own) × (set.contains r.seen d ≡ true)
-  pub delta_in : (d : Dot) (p : Presence) → fin.get r.delta_entries d ≡ Some p → fin.get r.entries d ≡ Some p
+  pub delta_live : AreSeen r.delta.seen r.delta.entries
+  pub delta_own : (d : Dot) → set.contains r.delta.seen d ≡ true → (d.name ≡ r.own) × (set.contains r.store.seen d ≡ true)
+  pub delta_in : (d : Dot) (p : Presence) → fin.get r.delta.entries d ≡ Some p → fin.get r.store.entries d ≡ Some p

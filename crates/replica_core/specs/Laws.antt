@@ -14,23 +14,22 @@ pub record AgainLaw : Type 0 where
   pub accepted : (m : Message) (r : Replica) → merge_refusal r m ≡ None → merge_refusal (merged m r) m ≡ None
   pub same : (m : Message) (r : Replica) → merged m (merged m r) ≡ merged m r
 
--- the two maps have no two different entries at one dot
+-- the two maps have no two entries at one dot
 abbrev pub Agree : Entries → Entries → Type 0
 Agree one other = (d : Dot) (p q : Presence) → fin.get one d ≡ Some p → fin.get other d ≡ Some q → p ≡ q
 
--- two messages that have no two different entries at one dot give the same replica in either order, whatever the limits
+-- two messages that have no two entries at one dot give the same replica in either order
 abbrev pub OrderLaw : Type 0
 OrderLaw =
-    (m n : Message) (r : Replica) → AreSeen r.seen r.entries → AreSeen m.seen m.entries → AreSeen n.seen n.entries →
+    (m n : Message) (r : Replica) → AreSeen r.store.seen r.store.entries → AreSeen m.seen m.entries → AreSeen n.seen n.entries →
     Agree m.entries n.entries → merged n (merged m r) ≡ merged m (merged n r)
 
 -- after a delivery each dot of another known name has the greater of its two standings, and each other dot the one it had
 abbrev pub StandingLaw : Type 0
-StandingLaw = (m : Message) (r : Replica) → AreSeen r.seen r.entries → AreSeen m.seen m.entries → TakesGreaterStandings m r (merged m r)
+StandingLaw = (m : Message) (r : Replica) → AreSeen r.store.seen r.store.entries → AreSeen m.seen m.entries → TakesGreaterStandings m r (merged m r)
 
 -- taking the delta and giving it back are inverse to each other
 pub record DeltaLaw : Type 0 where
   pub given_back : (r : Replica) → with_delta (delta_message r) (without_delta r) ≡ r
-  pub taken_again : (m : Message) (r : Replica) → CanBeDelta m r →
-      (delta_message (with_delta m r) ≡ m) × (without_delta (with_delta m r) ≡ r)
+  pub taken_again : (m : Message) (r : Replica) → CanBeDelta m r → (delta_message (with_delta m r) ≡ m) × (without_delta (with_delta m r) ≡ r)
   pub can_be_given : (r : Replica) → IsReplica r → CanBeDelta (delta_message r) (without_delta r)

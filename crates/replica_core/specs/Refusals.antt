@@ -1,14 +1,13 @@
 -- When a replica refuses a call: the first cause, in order.
-use Rattle.std.specs.Prelude.{◌≡◌, ◌≢◌, ℕ, ◌+◌, ◌==◌, not, nat_lt, Bool, true, false, List, [], ◌∷◌, length, Option, None, Some, Result, Ok, Err}
-use Rattle.std.specs.Prelude.{if◌then◌else◌}
+use Rattle.std.specs.Prelude.{◌≡◌, ◌≢◌, ℕ, ◌+◌, ◌==◌, not, nat_lt, Bool, true, false, List, [], ◌∷◌, length, Option, None, Some, Result, Ok, Err, if◌then◌else◌}
 use Rattle.std.specs.FinSet as set
 use Rattle.std.specs.FinMap as fin
 use Rattle.dots_core.specs.declared.dot.Dot.{Dot}
 use Rattle.dots_core.specs.Dots.{Dots}
 use Rattle.payload_core.specs.Messages.{Message}
 use Rattle.replica_core.specs.declared.replica_fault.ReplicaFault.{ReplicaFault}
-use Rattle.replica_core.specs.declared.replica_fault.ReplicaFault.TheVariants.{OwnReplica, NotKnown, NotDown, AlreadyTracked, NotTracked, EntriesFull}
-use Rattle.replica_core.specs.declared.replica_fault.ReplicaFault.TheVariants.{ClockFull, OutOfMemory}
+use Rattle.replica_core.specs.declared.replica_fault.ReplicaFault.TheVariants.{OwnReplica, NotKnown, NotDown, AlreadyTracked}
+use Rattle.replica_core.specs.declared.replica_fault.ReplicaFault.TheVariants.{NotTracked, EntriesFull, ClockFull, OutOfMemory}
 use Rattle.replica_core.specs.Replicas.{Replica, own_clock, tracked_dots, dots_of_process, is_known, is_online}
 use Rattle.replica_core.specs.Deliveries.{merged_entries}
 
@@ -43,8 +42,7 @@ is_clock_full r more = nat_lt r.limits.clock (own_clock r + more)
 
 abbrev pub join_refusal : Replica → ℕ → List ℕ → List ℕ → Option ReplicaFault
 join_refusal r pid topic key =
-    first_of ((is_tracked r pid topic key, AlreadyTracked) ∷ (are_too_many r (fin.len r.entries + 1), EntriesFull) ∷
-    (is_clock_full r 1, ClockFull) ∷ [])
+    first_of ((is_tracked r pid topic key, AlreadyTracked) ∷ (are_too_many r (fin.len r.store.entries + 1), EntriesFull) ∷ (is_clock_full r 1, ClockFull) ∷ [])
 
 -- an update is refused as a leave
 abbrev pub leave_refusal : Replica → ℕ → List ℕ → List ℕ → Option ReplicaFault

@@ -5,51 +5,45 @@ use Rattle.std.specs.Coded.{Coded, code_by, coded×, coded_ℕ}
 use Rattle.std.specs.FinSet as set
 use Rattle.std.specs.FinMap as fin
 use Rattle.dots_core.specs.declared.dot.Dot.{Dot}
-use Rattle.dots_core.specs.Dots.{Dots, dot, dot_code, count_of, of_names}
-use Rattle.payload_core.specs.Presences.{Presence, Entries, entries_code, dots_of, entries_of_names, is_tracked_as}
+use Rattle.dots_core.specs.Dots.{Dots, dot, count_of}
+use Rattle.payload_core.specs.Presences.{Presence, dots_of, is_tracked_as}
 use Rattle.payload_core.specs.Messages.{Message}
+use Rattle.payload_core.specs.Stores.{Store, store_code, nothing, part, with_dot, with_entry, with_removal, without_entry}
 use Rattle.replica_core.specs.declared.node_limits.NodeLimits.{NodeLimits}
 use Rattle.replica_core.specs.declared.status.Status.{Status}
 use Rattle.replica_core.specs.declared.status.Status.TheVariants.{Up}
 use Rattle.replica_core.specs.Limits.{node_limits_code}
 use Rattle.replica_core.specs.Views.{View, view_code, is_some_up}
 
--- the own name, the limits, all dots that were seen, the live entries, the statuses of the known names; and the delta: the
--- own dots that its steps touched since it last sent it, and the live entries among them
+-- the own name, the limits, all that was seen with the live entries, the statuses of the known names; and the delta: the
+-- own dots of which nothing was sent yet, with the entries among them
 pub record Replica : Type 0 where
   pub own : ℕ
   pub limits : NodeLimits
-  pub seen : Dots
-  pub entries : Entries
+  pub store : Store
   pub view : View
-  pub delta_seen : Dots
-  pub delta_entries : Entries
+  pub delta : Store
 
 -- it has seen nothing, and knows itself, up
 abbrev pub opening : ℕ → NodeLimits → Replica
 opening own limits =
-    record {
-      own = own;
-      limits = limits;
-      seen = set.empty;
-      entries = fin.empty;
-      view = fin.insert fin.empty own Up;
-      delta_seen =
-          set.empty;
-      delta_entries = fin.empty;
-    }
+    record { own = own; limits = limits; store = nothing; view = fin.insert fin.empty own Up; delta = nothing }
 
 -- the own clock: the number of own dots that were seen
 abbrev pub own_clock : Replica → ℕ
-own_clock r = count_of r.own r.seen
+own_clock r = count_of r.own r.store.seen
 
 -- the own dot one above the own clock
 abbrev pub fresh : Replica → Dot
 fresh r = dot r.own (own_clock r + 1)
 
+-- the last own dot
+abbrev pub last : Replica → Dot
+last r = dot r.own (own_clock r)
+
 -- the own dots whose presence passes the test, by rising clock
 abbrev pub own_dots : Replica → (Presence → Bool) → List Dot
-own_dots r test = dots_of r.own test r.entries
+own_dots r test = dots_of r.own test r.store.entries
 
 -- the own dots of this process, topic and key: one at most, by what each replica keeps
 abbrev pub tracked_dots : Replica → ℕ → List ℕ → List ℕ → List Dot
@@ -69,21 +63,15 @@ is_online r name = is_some_up (fin.get r.view name)
 
 -- a join: the fresh dot was seen, with its entry, and nothing of it was sent
 abbrev pub joined : Presence → Replica → Replica
-joined p r = record r {
-  seen = set.insert r.seen (fresh r);
-  entries = fin.insert r.entries (fresh r) p;
-  delta_seen = set.insert r.delta_seen (fresh r);
-  delta_entries = fin.insert r.delta_entries (fresh r) p;
-}
+joined p r = record r { store = with_entry (fresh r) p r.store; delta = with_entry (fresh r) p r.delta }
 
 -- the entry at the dot goes, and of it the delta has the dot alone
 abbrev pub dropped : Dot → Replica → Replica
-dropped d r =
-    record r { entries = fin.remove r.entries d; delta_seen = set.insert r.delta_seen d; delta_entries = fin.remove r.delta_entries d }
+dropped d r = record r { store = without_entry d r.store; delta = with_removal d r.delta }
 
 -- the fresh dot was seen, without an entry, and nothing of it was sent
 abbrev pub ticked : Replica → Replica
-ticked r = record r { seen = set.insert r.seen (fresh r); delta_seen = set.insert r.delta_seen (fresh r) }
+ticked r = record r { store = with_dot (fresh r) r.store; delta = with_dot (fresh r) r.delta }
 
 -- a leave of the own entry at the dot
 abbrev pub left : Dot → Replica → Replica
@@ -113,45 +101,36 @@ is_other name n = not (n == name)
 
 -- nothing is held of the name: its dots were not seen, its entries are gone, and it is not known
 abbrev pub forgotten : ℕ → Replica → Replica
-forgotten name r =
-    record r { seen = of_names (is_other name) r.seen; entries = entries_of_names (is_other name) r.entries; view = fin.remove r.view name }
+forgotten name r = record r { store = part (is_other name) r.store; view = fin.remove r.view name }
 
 -- what a broadcast sends: the delta
 abbrev pub delta_message : Replica → Message
-delta_message r = record { sender = r.own; seen = r.delta_seen; entries = r.delta_entries }
+delta_message r = record { sender = r.own; seen = r.delta.seen; entries = r.delta.entries }
 
 -- all was sent
 abbrev pub without_delta : Replica → Replica
-without_delta r = record r { delta_seen = set.empty; delta_entries = fin.empty }
+without_delta r = record r { delta = nothing }
+
+-- what a message has
+abbrev pub store_of : Message → Store
+store_of m = record { seen = m.seen; entries = m.entries }
 
 -- what the message has is the delta
 abbrev pub with_delta : Message → Replica → Replica
-with_delta m r = record r { delta_seen = m.seen; delta_entries = m.entries }
+with_delta m r = record r { delta = store_of m }
 
 -- the message can be the delta of the replica, which has none
 pub record CanBeDelta (m : Message) (r : Replica) : Type 0 where
-  pub no_dots : r.delta_seen ≡ set.empty
-  pub no_entries : r.delta_entries ≡ fin.empty
+  pub nothing : r.delta ≡ nothing
   pub sender : m.sender ≡ r.own
   -- its dots are own dots that were seen
-  pub own : (d : Dot) → set.contains m.seen d ≡ true → (d.name ≡ r.own) × (set.contains r.seen d ≡ true)
+  pub own : (d : Dot) → set.contains m.seen d ≡ true → (d.name ≡ r.own) × (set.contains r.store.seen d ≡ true)
   -- its entries are live
-  pub live : (d : Dot) (p : Presence) → fin.get m.entries d ≡ Some p → fin.get r.entries d ≡ Some p
+  pub live : (d : Dot) (p : Presence) → fin.get m.entries d ≡ Some p → fin.get r.store.entries d ≡ Some p
 
 -- a replica is stored as the tuple of its fields
 abbrev pub replica_code : Coded Replica
 replica_code =
-    code_by (ℕ × (NodeLimits × (Dots × (Entries × (View × (Dots × Entries))))))
-    (coded× coded_ℕ (coded× node_limits_code (coded× (set.code dot_code)
-    (coded× entries_code (coded× view_code (coded× (set.code dot_code) entries_code))))))
-    (λ r. (r.own, (r.limits, (r.seen, (r.entries, (r.view, (r.delta_seen, r.delta_entries)))))))
-    (λ t. record {
-      own = t.0;
-      limits = t.1.0;
-      seen = t.1.1.0;
-      entries = t.1.1.1.0;
-      view = t.1.1.1.1.0;
-      delta_seen =
-          t.1.1.1.1.1.0;
-      delta_entries = t.1.1.1.1.1.1;
-    }) (λ _. refl)
+    code_by (ℕ × (NodeLimits × (Store × (View × Store)))) (coded× coded_ℕ
+    (coded× node_limits_code (coded× store_code (coded× view_code store_code)))) (λ r. (r.own, (r.limits, (r.store, (r.view, r.delta)))))
+    (λ t. record { own = t.0; limits = t.1.0; store = t.1.1.0; view = t.1.1.1.0; delta = t.1.1.1.1 }) (λ _. refl)

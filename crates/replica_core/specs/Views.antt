@@ -52,3 +52,8 @@ status_code = code_by Bool coded_bool is_up status_by by_up
 -- a view is stored as the list of its pairs
 abbrev pub view_code : Coded View
 view_code = fin.code coded_ℕ status_code
+
+-- the name has this status, or is not known
+abbrev pub with_old : ℕ → Option Status → View → View
+with_old name None view = fin.remove view name
+with_old name (Some s) view = fin.insert view name s

@@ -1,41 +1,26 @@
 //! `Change`: what a call destroyed, kept to take the call back.
-ghost use Rattle.std.specs.Prelude.{◌≡◌};
-ghost use Rattle.replica_core.specs.Invariant.{IsReplica};
-
-use crate::replica::Replica;
+use crate::status::Status;
+use payload_core::{Delivered, Forgotten, Left};
 use std::alloc::Allocator;
-use std::marker::Model;
 
 /// What one call of a replica destroyed, from which `Replica::undo` makes the replica as it was before the call (Danos
-/// and Krivine: causal undo). For now it holds the whole replica.
+/// and Krivine: causal undo).
 #[derive(Drop)]
-pub struct Change<A: Allocator> {
-    before: Replica<A>,
-}
-
-impl<A: Allocator> Model for Change<A> {
-    ghost use Rattle.replica_core.specs.Changes.{Change, change_code};
-
-    ghost Value = { Change };
-
-    ghost coded = { change_code };
-
-    ghost view = { λ c. record { before = c.before } };
-}
-
-impl<A: Allocator> Change<A> {
-    pub(crate) fn from(before: Replica<A>) -> Change<A>
-        ensures before { result.before ≡ before }
-        ensures kept { IsReplica result.before }
-    {
-        before.replica_law();
-        Change { before }
-    }
-
-    pub(crate) fn into_before(self) -> Replica<A>
-        ensures { result ≡ self.before }
-    {
-        let Change { before } = self;
-        before
-    }
+pub enum Change<A: Allocator> {
+    /// Nothing: the dot of the join is the last own one.
+    Join,
+    /// The entry that left, with the delta's.
+    Leave(Left<A>),
+    /// The entries of the process that left, with the delta's, by rising dot.
+    LeaveAll(Vec<Left<A>, A>),
+    /// The old entry, with the delta's.
+    Update(Left<A>),
+    /// The name, and its status before, if it was known.
+    Up { name: u16, before: Option<Status> },
+    /// The name, and its status before, if it was known.
+    Down { name: u16, before: Option<Status> },
+    /// The name, and what was held of it. It was down.
+    Permdown { name: u16, forgotten: Forgotten<A> },
+    /// What joined, what left, and the dots from before.
+    Deliver(Delivered<A>),
 }

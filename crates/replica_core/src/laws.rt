@@ -1,6 +1,7 @@
 //! The laws of deliveries and of the delta, as contracts of functions that do nothing.
 //!
 //! A crate above uses a law by calling its function.
+ghost use Rattle.replica_core.specs.Changes.{BackLaw};
 ghost use Rattle.replica_core.specs.Laws.{AgainLaw, DeltaLaw, OrderLaw, StandingLaw};
 
 /// A message merged again is accepted, and changes nothing.
@@ -9,8 +10,7 @@ pub fn again_law()
     ensures { AgainLaw }
 {}
 
-/// Two messages that hold no two different entries at one dot give the same replica in either order, where neither order
-/// is refused for its entries.
+/// Two messages that have no two entries at one dot give the same replica in either order.
 #[tactic(auto, using(crate::proofs::Deliveries::order_holds))]
 pub fn order_law()
     ensures { OrderLaw }
@@ -26,4 +26,10 @@ pub fn standing_law()
 /// Taking the delta and giving it back are inverse to each other, and what was taken may be given back.
 pub fn delta_law()
     ensures { DeltaLaw }
+{}
+
+/// A change leads back to one replica.
+#[tactic(auto, using(crate::proofs::Back::back_holds))]
+pub fn back_law()
+    ensures { BackLaw }
 {}

@@ -2,22 +2,19 @@
 //!
 //! A replica joins processes under topics and keys, updates them and lets them leave, sends what it has seen, and merges
 //! what others sent, after Phoenix.Tracker.State, as sets. It can be used on its own. It stands on `payload_core` (words,
-//! entries, messages) and `dots_core` (sets of dots); it knows nothing of outboxes, steps and clusters.
+//! entries, messages, stores) and `dots_core` (sets of dots); it knows nothing of outboxes, steps and clusters.
 //!
-//! In the order to read them: `node_limits` and `status`; `view`, what is known of the names; `replica_fault`;
-//! `replica`, with `join`, `leave`, `update` and `delivery`, which edit its sets; `change`, which leads back; `laws`.
+//! In the order to read them: `node_limits` and `status`; `view`, what is known of the names; `replica_fault`; `change`,
+//! what a call destroyed; `replica`, with `process`, which finds a process's entries; `laws`.
 #![tactic(auto)]
 
 mod change;
-mod delivery;
-mod join;
 pub mod laws;
-mod leave;
 mod node_limits;
+mod process;
 mod replica;
 mod replica_fault;
 mod status;
-mod update;
 mod view;
 
 pub use change::Change;

@@ -1,33 +1,41 @@
 //! `Replica`: what one node has seen, holds, knows of the others' names, and has not sent yet.
-ghost use Rattle.std.specs.Prelude.{◌≡◌, ◌≢◌, ◌↔◌, ◌<◌, ◌≤◌, ◌^◌, ◌==◌, ◌&&◌, false, [], ◌∷◌, length, IfErr, IfOk, IsOk, IsTrue, None, OnErr, OnOk};
+ghost use Rattle.std.specs.Prelude.{◌≡◌, ◌≢◌, ◌↔◌, ◌<◌, ◌≤◌, ◌^◌, ◌==◌, ◌&&◌, false, true, [], ◌∷◌, IfErr, IfOk, IsOk, IsTrue, None, OnErr, OnOk, length};
 ghost use Rattle.std.specs.FinMap as fin;
 ghost use Rattle.std.specs.FinSet as set;
+ghost use Rattle.payload_core.specs.Delivered.{undelivered};
 ghost use Rattle.payload_core.specs.EntryLists.{pairs};
+ghost use Rattle.payload_core.specs.EntryMoves.{AreNew, without_each};
+ghost use Rattle.payload_core.specs.LeftEntries.{Stood};
 ghost use Rattle.payload_core.specs.Messages.{AreSeen, message_of_names};
 ghost use Rattle.payload_core.specs.Presences.{entry_of, presence_of};
 ghost use Rattle.replica_core.specs.declared.replica_fault.ReplicaFault.TheVariants.{NothingToSend, OutOfMemory};
 ghost use Rattle.replica_core.specs.declared.status.Status.TheVariants.{Up, Down};
 ghost use Rattle.replica_core.specs.Limits.{AreNodeLimits};
-ghost use Rattle.replica_core.specs.Replicas.{opening, own_clock, fresh, tracked_dots, dots_of_process, is_online, joined, left_each, updated};
-ghost use Rattle.replica_core.specs.Replicas.{with_status, forgotten, delta_message, without_delta, with_delta, CanBeDelta};
-ghost use Rattle.replica_core.specs.Deliveries.{is_other_known, is_new, is_gone, arrivals, departures, merged, TakesGreaterStandings};
-ghost use Rattle.replica_core.specs.Refusals.{IsRefusedFor, is_tracked, are_too_many, is_clock_full, join_refusal, leave_refusal, leave_all_refusal};
-ghost use Rattle.replica_core.specs.Refusals.{merge_refusal, up_refusal, down_refusal, permdown_refusal, has_dots};
+ghost use Rattle.replica_core.specs.Replicas.{opening, own_clock, fresh, last, left, tracked_dots, is_online, joined, left_each};
+ghost use Rattle.replica_core.specs.Replicas.{updated, with_status, forgotten, delta_message, without_delta, with_delta, CanBeDelta};
+ghost use Rattle.replica_core.specs.Replicas.{dots_of_process};
+ghost use Rattle.replica_core.specs.Deliveries.{arrivals, departures, merged, TakesGreaterStandings, is_other_known, is_new, is_gone};
+ghost use Rattle.replica_core.specs.Delivered.{AreOtherKnown, with_undelivered};
+ghost use Rattle.replica_core.specs.Refusals.{IsRefusedFor, is_tracked, are_too_many, is_clock_full, join_refusal, leave_refusal};
+ghost use Rattle.replica_core.specs.Refusals.{merge_refusal, up_refusal, down_refusal, permdown_refusal, has_dots, leave_all_refusal};
+ghost use Rattle.payload_core.specs.LeavesTogether.{lefts_of};
 ghost use Rattle.replica_core.specs.Invariant.{IsReplica};
 ghost use Rattle.replica_core.specs.Leaves.{AreOwnSeen};
-ghost use Rattle.replica_core.specs.Changes.{ChangeLeadsBack, ChangeLeadsSomewhere, ChangeGivesBack};
+ghost use Rattle.replica_core.specs.ProcessLeaves.{CanAllBeRestored, with_lefts};
+ghost use Rattle.replica_core.specs.Changes.{OfJoin, plain_change, without_last, with_left, with_old_status, with_remembered};
+ghost use Rattle.replica_core.specs.Changes.{CanBeRestored, ChangeLeadsBack, ChangeLeadsSomewhere, ChangeGivesBack};
 
 use crate::change::Change;
-use crate::delivery::{joining, leaving, put_in, take_out};
-use crate::join::add;
-use crate::leave::{dots_of_process, tick_each};
 use crate::node_limits::NodeLimits;
+use crate::process::dots_of_process;
 use crate::replica_fault::ReplicaFault;
 use crate::status::Status;
-use crate::update::put_in_place_of;
 use crate::view::View;
 use dots_core::{Dot, DotSet, NameSet, Oom};
-use payload_core::{Entry, EntrySet, Payload, Word};
+use payload_core::{
+    Delivered, Entry, EntrySet, Forgotten, Left, Payload, Store, Word, forget, join, joining,
+    leave, leave_each, leaving, merge, remember, restore, restore_each, undeliver, unjoin, update,
+};
 use std::alloc::Allocator;
 use std::marker::Model;
 use std::mem;
@@ -42,11 +50,9 @@ pub struct Replica<A: Allocator> {
     alloc: A,
     own: u16,
     limits: NodeLimits,
-    seen: DotSet<A>,
-    entries: EntrySet<A>,
+    store: Store<A>,
     view: View,
-    delta_seen: DotSet<A>,
-    delta_entries: EntrySet<A>,
+    delta: Store<A>,
 }
 
 impl<A: Allocator> Model for Replica<A> {
@@ -57,27 +63,9 @@ impl<A: Allocator> Model for Replica<A> {
 
     ghost coded = { replica_code };
 
-    ghost view = { λ r. record {
-      own = r.own;
-      limits = r.limits;
-      seen = r.seen;
-      entries = r.entries.map;
-      view = r.view;
-      delta_seen =
-          r.delta_seen;
-      delta_entries = r.delta_entries.map;
-    } };
+    ghost view = { λ r. record { own = r.own; limits = r.limits; store = r.store; view = r.view; delta = r.delta } };
 
-    ghost invariant = { λ r. IsReplica (record {
-      own = r.own;
-      limits = r.limits;
-      seen = r.seen;
-      entries = r.entries.map;
-      view =
-          r.view;
-      delta_seen = r.delta_seen;
-      delta_entries = r.delta_entries.map;
-    }) };
+    ghost invariant = { λ r. IsReplica (record { own = r.own; limits = r.limits; store = r.store; view = r.view; delta = r.delta }) };
 }
 
 impl<A: Allocator> Replica<A> {
@@ -90,30 +78,30 @@ impl<A: Allocator> Replica<A> {
 
     /// The dots that it has seen.
     pub fn seen(&self) -> &DotSet<A>
-        ensures { result.now ≡ self.now.seen }
+        ensures { result.now ≡ self.now.store.seen }
     {
-        &self.seen
+        self.store.seen()
     }
 
     /// The live entries.
     pub fn entries(&self) -> &EntrySet<A>
-        ensures { result.now.map ≡ self.now.entries }
+        ensures { result.now.map ≡ self.now.store.entries }
     {
-        &self.entries
+        self.store.entries()
     }
 
     /// The dots of the delta.
     pub fn delta_seen(&self) -> &DotSet<A>
-        ensures { result.now ≡ self.now.delta_seen }
+        ensures { result.now ≡ self.now.delta.seen }
     {
-        &self.delta_seen
+        self.delta.seen()
     }
 
     /// The entries of the delta.
     pub fn delta_entries(&self) -> &EntrySet<A>
-        ensures { result.now.map ≡ self.now.delta_entries }
+        ensures { result.now.map ≡ self.now.delta.entries }
     {
-        &self.delta_entries
+        self.delta.entries()
     }
 
     /// The status of a name, if it is known.
@@ -132,9 +120,9 @@ impl<A: Allocator> Replica<A> {
 
     /// Whether the delta has a dot, so that there is something to send.
     pub fn has_delta(&self) -> bool
-        ensures { result ≡ has_dots self.now.delta_seen }
+        ensures { result ≡ has_dots self.now.delta.seen }
     {
-        !self.delta_seen.is_empty()
+        !self.delta.seen().is_empty()
     }
 
     /// Whether the two have the same name, limits, dots, entries, statuses and delta. It takes no memory.
@@ -143,11 +131,9 @@ impl<A: Allocator> Replica<A> {
     {
         self.own == other.own
             && self.limits == other.limits
-            && self.seen.same(&other.seen)
-            && self.entries.same(&other.entries)
+            && self.store.same(&other.store)
             && self.view.same(&other.view)
-            && self.delta_seen.same(&other.delta_seen)
-            && self.delta_entries.same(&other.delta_entries)
+            && self.delta.same(&other.delta)
     }
 
     /// Does nothing. Its contract says what each replica keeps.
@@ -164,8 +150,7 @@ impl<A: Allocator> Replica<A> {
         ensures { self.new ≡ with_delta payload self.old }
     {
         let (_sender, seen, entries) = payload.into_parts();
-        self.delta_seen = seen;
-        self.delta_entries = entries;
+        self.delta = Store::from_parts(seen, entries);
     }
 
     /// The own clock, which is that of the last own dot.
@@ -174,7 +159,7 @@ impl<A: Allocator> Replica<A> {
         ensures within { own_clock self.now ≤ self.now.limits.clock }
         ensures last { self.now.limits.clock ≤ 1000000000 }
     {
-        self.seen.clock_of(self.own)
+        self.store.seen().clock_of(self.own)
     }
 
     /// Why it refuses to track this process under the topic and key, if it does.
@@ -184,7 +169,7 @@ impl<A: Allocator> Replica<A> {
         if self.is_tracked(pid, topic, key) {
             return Some(ReplicaFault::AlreadyTracked);
         }
-        if self.are_too_many(self.entries.len() + 1) {
+        if self.are_too_many(self.store.entries().len() + 1) {
             return Some(ReplicaFault::EntriesFull);
         }
         if self.is_clock_full(1) {
@@ -196,7 +181,10 @@ impl<A: Allocator> Replica<A> {
     fn is_tracked(&self, pid: u64, topic: &Word<A>, key: &Word<A>) -> bool
         ensures { result ≡ is_tracked self.now pid topic.now key.now }
     {
-        self.entries.find(self.own, pid, topic, key).is_some()
+        self.store
+            .entries()
+            .find(self.own, pid, topic, key)
+            .is_some()
     }
 
     fn are_too_many(&self, entries: usize) -> bool
@@ -205,20 +193,22 @@ impl<A: Allocator> Replica<A> {
         entries as u64 > self.limits.entries
     }
 
-    fn is_other_known(&self, name: u16) -> bool
-        ensures { result ≡ is_other_known self.now name }
+    /// The other names that it knows.
+    fn others(&self) -> NameSet
+        ensures { AreOtherKnown result self.now }
     {
-        self.view.known().has(name) && name != self.own
+        self.view.known().without(self.own)
     }
 
     /// The dot of the own entry of this process, topic and key, or why a leave or an update of it is refused.
     fn leaving_dot(&self, pid: u64, topic: &Word<A>, key: &Word<A>) -> Result<Dot, ReplicaFault>
         ensures dot { IfOk result (λ dot. tracked_dots self.now pid topic.now key.now ≡ dot ∷ []) }
         ensures own { IfOk result (λ dot. AreOwnSeen (dot ∷ []) self.now) }
+        ensures live { IfOk result (λ dot. fin.contains_key self.now.store.entries dot ≡ true) }
         ensures refused { IsRefusedFor (leave_refusal self.now pid topic.now key.now) result }
         ensures fault { IfErr result (λ fault. fault ≢ OutOfMemory) }
     {
-        let Some(dot) = self.entries.find(self.own, pid, topic, key) else {
+        let Some(dot) = self.store.entries().find(self.own, pid, topic, key) else {
             return Err(ReplicaFault::NotTracked);
         };
         if self.is_clock_full(1) {
@@ -267,32 +257,154 @@ impl<A: Allocator> Replica<A> {
         None
     }
 
-    /// Whether an entry of a message at this dot joins.
-    pub(crate) fn is_new(&self, dot: Dot) -> bool
-        ensures { result ≡ is_new self.now dot }
-    {
-        self.is_other_known(dot.name) && !self.seen.contains(dot)
-    }
-
-    /// Whether an entry at this dot leaves by the message.
-    pub(crate) fn is_gone(&self, message: &Payload<A>, dot: Dot) -> bool
-        ensures { result ≡ is_gone message.now self.now dot }
-    {
-        self.is_other_known(dot.name)
-            && message.seen().contains(dot)
-            && message.entries().get(dot).is_none()
-    }
-
     /// The replica that the change leads back to. The change is that of the last call: the replica is as that call left
-    /// it. For now it takes no memory.
+    /// it. Where memory is refused, the change comes back.
     pub fn undo(&mut self, change: Change<A>) -> Result<(), (Change<A>, Oom)>
-        requires { ChangeLeadsSomewhere change self.old }
-        ensures ok { OnOk result (ChangeGivesBack change self.old self.new) }
+    where
+        A: Copy,
+        requires { ChangeLeadsSomewhere (plain_change change) self.old }
+        ensures ok { OnOk result (ChangeGivesBack (plain_change change) self.old self.new) }
         ensures err { OnErr result (self.new ≡ self.old) }
         ensures given_back { IfErr result (λ failed. failed.0 ≡ change) }
     {
-        *self = change.into_before();
+        match change {
+            Change::Join => {
+                self.unjoin();
+                Ok(())
+            }
+            Change::Leave(left) => {
+                if let Err((left, failed)) = self.restore(left) {
+                    return Err((Change::Leave(left), failed));
+                }
+                Ok(())
+            }
+            Change::LeaveAll(lefts) => {
+                if let Err((lefts, failed)) = self.restore_each(lefts) {
+                    return Err((Change::LeaveAll(lefts), failed));
+                }
+                Ok(())
+            }
+            Change::Update(left) => {
+                if let Err((left, failed)) = self.restore(left) {
+                    return Err((Change::Update(left), failed));
+                }
+                Ok(())
+            }
+            Change::Up { name, before } => {
+                self.put_status(name, before);
+                Ok(())
+            }
+            Change::Down { name, before } => {
+                self.put_status(name, before);
+                Ok(())
+            }
+            Change::Permdown { name, forgotten } => {
+                if let Err((forgotten, failed)) = self.remember(name, forgotten) {
+                    return Err((Change::Permdown { name, forgotten }, failed));
+                }
+                Ok(())
+            }
+            Change::Deliver(delivered) => {
+                if let Err((delivered, failed)) = self.undeliver(delivered) {
+                    return Err((Change::Deliver(delivered), failed));
+                }
+                Ok(())
+            }
+        }
+    }
+
+    /// Takes the last own dot out, with its entry.
+    fn unjoin(&mut self)
+        requires { ChangeLeadsSomewhere OfJoin self.old }
+        ensures { self.new ≡ without_last self.old }
+    {
+        let last = self.last();
+        unjoin(&mut self.store, &mut self.delta, last);
+    }
+
+    /// Takes the last own dot out, with its entry, and puts back what left.
+    fn restore(&mut self, left: Left<A>) -> Result<(), (Left<A>, Oom)>
+        requires { CanBeRestored left self.old }
+        ensures ok { OnOk result (self.new ≡ with_left left (without_last self.old)) }
+        ensures err { OnErr result (self.new ≡ self.old) }
+        ensures given_back { IfErr result (λ failed. failed.0 ≡ left) }
+    {
+        let last = self.last();
+        if let Err(failed) = restore(&mut self.store, &mut self.delta, last, left) {
+            return Err(failed);
+        }
         Ok(())
+    }
+
+    /// Takes the last own dots out, one for each that left, and puts back what left.
+    fn restore_each(&mut self, lefts: Vec<Left<A>, A>) -> Result<(), (Vec<Left<A>, A>, Oom)>
+    where
+        A: Copy,
+        requires { CanAllBeRestored lefts.items self.old }
+        ensures ok { OnOk result (self.new ≡ with_lefts lefts.items self.old) }
+        ensures err { OnErr result (self.new ≡ self.old) }
+        ensures given_back { IfErr result (λ failed. failed.0 ≡ lefts) }
+    {
+        let clock = self.own_clock() - lefts.len() as u64;
+        if let Err(failed) = restore_each(
+            &mut self.store,
+            &mut self.delta,
+            self.own,
+            clock,
+            lefts,
+        ) {
+            return Err(failed);
+        }
+        Ok(())
+    }
+
+    /// Holds what it held of the name, which is down again.
+    fn remember(&mut self, name: u16, forgotten: Forgotten<A>) -> Result<(), (Forgotten<A>, Oom)>
+        requires name { name < 32 }
+        requires new { AreNew (pairs forgotten.entries) self.old.store.entries }
+        requires earlier { IsReplica (with_remembered name forgotten self.old) }
+        ensures ok { OnOk result (self.new ≡ with_remembered name forgotten self.old) }
+        ensures err { OnErr result (self.new ≡ self.old) }
+        ensures given_back { IfErr result (λ failed. failed.0 ≡ forgotten) }
+    {
+        if let Err(failed) = remember(&mut self.store, name, forgotten) {
+            return Err(failed);
+        }
+        self.view.put(name, Some(Status::Down));
+        Ok(())
+    }
+
+    /// Takes out what joined by a delivery, and puts back what left.
+    fn undeliver(&mut self, delivered: Delivered<A>) -> Result<(), (Delivered<A>, Oom)>
+        requires new { AreNew (pairs delivered.left) (without_each delivered.joined self.old.store.entries) }
+        requires earlier { IsReplica (with_undelivered delivered self.old) }
+        ensures ok { OnOk result (self.new ≡ with_undelivered delivered self.old) }
+        ensures err { OnErr result (self.new ≡ self.old) }
+        ensures given_back { IfErr result (λ failed. failed.0 ≡ delivered) }
+    {
+        if let Err(failed) = undeliver(&mut self.store, delivered) {
+            return Err(failed);
+        }
+        Ok(())
+    }
+
+    /// Puts a status back.
+    fn put_status(&mut self, name: u16, before: Option<Status>)
+        requires name { name < 32 }
+        requires earlier { IsReplica (with_old_status name before self.old) }
+        ensures { self.new ≡ with_old_status name before self.old }
+    {
+        self.view.put(name, before);
+    }
+
+    /// The last own dot.
+    fn last(&self) -> Dot
+        ensures { result ≡ last self.now }
+    {
+        Dot {
+            name: self.own,
+            clock: self.own_clock(),
+        }
     }
 }
 
@@ -307,11 +419,9 @@ impl<A: Allocator + Copy> Replica<A> {
             alloc,
             own,
             limits,
-            seen: DotSet::new(alloc),
-            entries: EntrySet::new(alloc),
+            store: Store::new(alloc),
             view: View::opening(own),
-            delta_seen: DotSet::new(alloc),
-            delta_entries: EntrySet::new(alloc),
+            delta: Store::new(alloc),
         }
     }
 
@@ -323,16 +433,14 @@ impl<A: Allocator + Copy> Replica<A> {
             alloc: self.alloc,
             own: self.own,
             limits: self.limits,
-            seen: self.seen.try_copy()?,
-            entries: self.entries.try_copy()?,
+            store: self.store.try_copy()?,
             view: self.view.copy(),
-            delta_seen: self.delta_seen.try_copy()?,
-            delta_entries: self.delta_entries.try_copy()?,
+            delta: self.delta.try_copy()?,
         })
     }
 
     /// Tracks the process under the topic and key, at the fresh dot, in the entries and in the delta. The refusals come
-    /// in this order: `AlreadyTracked`, `EntriesFull`, `ClockFull`. For now it copies the replica, for the change.
+    /// in this order: `AlreadyTracked`, `EntriesFull`, `ClockFull`.
     pub fn join(
         &mut self,
         pid: u64,
@@ -342,16 +450,15 @@ impl<A: Allocator + Copy> Replica<A> {
     ) -> Result<Change<A>, ReplicaFault>
         ensures joined { OnOk result (self.new ≡ joined (record { pid = pid; topic = topic.now; key = key.now; metadata = metadata.now }) self.old) }
         ensures refused { IsRefusedFor (join_refusal self.old pid topic.now key.now) result }
-        ensures leads_back { IfOk result (λ change. ChangeLeadsBack change self.new self.old) }
+        ensures leads_back { IfOk result (λ change. ChangeLeadsBack (plain_change change) self.new self.old) }
         ensures err { OnErr result (self.new ≡ self.old) }
     {
         if let Some(fault) = self.join_refusal(pid, topic, key) {
             return Err(fault);
         }
-        let before = self.try_copy()?;
         let entry = self.fresh_entry(pid, topic, key, metadata)?;
         self.track(entry)?;
-        Ok(Change::from(before))
+        Ok(Change::Join)
     }
 
     /// An entry of these at the fresh dot.
@@ -381,21 +488,15 @@ impl<A: Allocator + Copy> Replica<A> {
         requires fresh { entry.dot ≡ fresh self.old }
         requires free { join_refusal self.old entry.pid entry.topic entry.key ≡ None }
         ensures joined { OnOk result (self.new ≡ joined (presence_of entry) self.old) }
+        ensures earlier { IsReplica self.old }
         ensures err { OnErr result (self.new ≡ self.old) }
     {
-        add(
-            &mut self.seen,
-            &mut self.entries,
-            &mut self.delta_seen,
-            &mut self.delta_entries,
-            entry,
-        )?;
+        join(&mut self.store, &mut self.delta, entry)?;
         Ok(())
     }
 
     /// The own entry of this process, topic and key leaves: its dot and a fresh one go into the delta, the fresh one into
-    /// the seen dots. The refusals come in this order: `NotTracked`, `ClockFull`. For now it copies the replica, for the
-    /// change.
+    /// the seen dots. The refusals come in this order: `NotTracked`, `ClockFull`.
     pub fn leave(
         &mut self,
         pid: u64,
@@ -404,58 +505,75 @@ impl<A: Allocator + Copy> Replica<A> {
     ) -> Result<Change<A>, ReplicaFault>
         ensures left { OnOk result (self.new ≡ left_each (tracked_dots self.old pid topic.now key.now) self.old) }
         ensures refused { IsRefusedFor (leave_refusal self.old pid topic.now key.now) result }
-        ensures leads_back { IfOk result (λ change. ChangeLeadsBack change self.new self.old) }
+        ensures leads_back { IfOk result (λ change. ChangeLeadsBack (plain_change change) self.new self.old) }
         ensures err { OnErr result (self.new ≡ self.old) }
     {
         let dot = self.leaving_dot(pid, topic, key)?;
-        let before = self.try_copy()?;
-        self.let_go(&[dot])?;
-        Ok(Change::from(before))
+        let left = self.let_go(dot)?;
+        Ok(Change::Leave(left))
     }
 
-    /// All own entries of the process leave, by rising clock, each with a fresh dot of its own. The refusals come in this
-    /// order: `NotTracked` where it has none, `ClockFull` where the clock can't take all the fresh dots. It goes once over
-    /// the entries, and for now copies the replica, for the change.
+    /// The own entry at the dot leaves.
+    fn let_go(&mut self, dot: Dot) -> Result<Left<A>, Oom>
+        requires own { AreOwnSeen (dot ∷ []) self.old }
+        requires live { fin.contains_key self.old.store.entries dot ≡ true }
+        requires free { is_clock_full self.old 1 ≡ false }
+        ensures left { OnOk result (self.new ≡ left dot self.old) }
+        ensures stood { IfOk result (λ stood. Stood stood dot self.old.store self.old.delta) }
+        ensures earlier { IsReplica self.old }
+        ensures err { OnErr result (self.new ≡ self.old) }
+    {
+        let fresh = Dot {
+            name: self.own,
+            clock: self.own_clock() + 1,
+        };
+        let left = leave(&mut self.store, &mut self.delta, dot, fresh)?;
+        Ok(left)
+    }
+
+    /// All own entries of the process leave: as many fresh dots go into the seen dots and into the delta, and their dots
+    /// into the delta. The refusals come in this order: `NotTracked`, `ClockFull`. It goes once over the entries, and copies
+    /// the delta's dots.
     pub fn leave_all(&mut self, pid: u64) -> Result<Change<A>, ReplicaFault>
         ensures left { OnOk result (self.new ≡ left_each (dots_of_process self.old pid) self.old) }
         ensures refused { IsRefusedFor (leave_all_refusal self.old pid) result }
-        ensures leads_back { IfOk result (λ change. ChangeLeadsBack change self.new self.old) }
+        ensures leads_back { IfOk result (λ change. ChangeLeadsBack (plain_change change) self.new self.old) }
         ensures err { OnErr result (self.new ≡ self.old) }
     {
-        let leaving = dots_of_process(self, pid)?;
+        let leaving = dots_of_process(self, pid, self.alloc)?;
         if leaving.is_empty() {
             return Err(ReplicaFault::NotTracked);
         }
         if self.is_clock_full(leaving.len()) {
             return Err(ReplicaFault::ClockFull);
         }
-        let before = self.try_copy()?;
-        self.let_go(&leaving)?;
-        Ok(Change::from(before))
+        let lefts = self.let_all_go(&leaving)?;
+        Ok(Change::LeaveAll(lefts))
     }
 
-    /// The own entries at these dots leave. The sets of dots are copied, so that all that may be refused memory comes
-    /// first.
-    fn let_go(&mut self, dots: &[Dot]) -> Result<(), Oom>
+    /// The own entries at these dots leave.
+    fn let_all_go(&mut self, dots: &[Dot]) -> Result<Vec<Left<A>, A>, Oom>
         requires own { AreOwnSeen dots.now self.old }
         requires free { is_clock_full self.old (length dots.now) ≡ false }
         ensures left { OnOk result (self.new ≡ left_each dots.now self.old) }
+        ensures stood { IfOk result (λ lefts. lefts.items ≡ lefts_of dots.now self.old.store.entries self.old.delta.entries self.old.delta.seen) }
+        ensures earlier { IsReplica self.old }
         ensures err { OnErr result (self.new ≡ self.old) }
     {
         let clock = self.own_clock();
-        let mut seen = self.seen.try_copy()?;
-        let mut delta_seen = self.delta_seen.try_copy()?;
-        tick_each(&mut seen, &mut delta_seen, self.own, clock, dots)?;
-        take_out(&mut self.entries, dots);
-        take_out(&mut self.delta_entries, dots);
-        self.seen = seen;
-        self.delta_seen = delta_seen;
-        Ok(())
+        let lefts = leave_each(
+            &mut self.store,
+            &mut self.delta,
+            dots,
+            self.own,
+            clock,
+            self.alloc,
+        )?;
+        Ok(lefts)
     }
 
     /// The own entry of this process, topic and key gets this metadata: the old one leaves, as its dot in the delta says,
-    /// and the new one joins at a fresh dot. The refusals come in this order: `NotTracked`, `ClockFull`. For now it copies
-    /// the replica, for the change.
+    /// and the new one joins at a fresh dot. The refusals come in this order: `NotTracked`, `ClockFull`.
     pub fn update(
         &mut self,
         pid: u64,
@@ -465,139 +583,127 @@ impl<A: Allocator + Copy> Replica<A> {
     ) -> Result<Change<A>, ReplicaFault>
         ensures updated { OnOk result (self.new ≡ updated (record { pid = pid; topic = topic.now; key = key.now; metadata = metadata.now }) self.old) }
         ensures refused { IsRefusedFor (leave_refusal self.old pid topic.now key.now) result }
-        ensures leads_back { IfOk result (λ change. ChangeLeadsBack change self.new self.old) }
+        ensures leads_back { IfOk result (λ change. ChangeLeadsBack (plain_change change) self.new self.old) }
         ensures err { OnErr result (self.new ≡ self.old) }
     {
         let dot = self.leaving_dot(pid, topic, key)?;
-        let before = self.try_copy()?;
         let entry = self.fresh_entry(pid, topic, key, metadata)?;
-        self.track_again(dot, entry)?;
-        Ok(Change::from(before))
+        let left = self.track_again(dot, entry)?;
+        Ok(Change::Update(left))
     }
 
     /// The entry takes the place of the one at the dot.
-    fn track_again(&mut self, old: Dot, entry: Entry<A>) -> Result<(), Oom>
+    fn track_again(&mut self, old: Dot, entry: Entry<A>) -> Result<Left<A>, Oom>
         requires old { tracked_dots self.old entry.pid entry.topic entry.key ≡ old ∷ [] }
         requires fresh { entry.dot ≡ fresh self.old }
         requires free { is_clock_full self.old 1 ≡ false }
         ensures updated { OnOk result (self.new ≡ updated (presence_of entry) self.old) }
+        ensures stood { IfOk result (λ left. Stood left old self.old.store self.old.delta) }
+        ensures earlier { IsReplica self.old }
         ensures err { OnErr result (self.new ≡ self.old) }
     {
-        put_in_place_of(
-            &mut self.seen,
-            &mut self.entries,
-            &mut self.delta_seen,
-            &mut self.delta_entries,
-            old,
-            entry,
-        )?;
-        Ok(())
+        let left = update(&mut self.store, &mut self.delta, old, entry)?;
+        Ok(left)
     }
 
-    /// Takes in what another replica sent: of the known names but the own one, the message's entries whose dot was not
-    /// seen join, and the entries that the message has seen and no longer holds leave. It is refused with `EntriesFull`
-    /// where there would be too many entries in the end. The sender and its status play no part. It goes once over the
-    /// entries of both, and for now copies the replica, for the change.
-    ///
-    /// Merged again, or two such messages in another order, it makes no difference: `laws::again_law`,
-    /// `laws::order_law`.
+    /// The message is merged: its entries of other known names join where their dots are new, entries of such names leave
+    /// where the message has seen their dots and has no entry there, and its dots were seen. Refused with `EntriesFull`
+    /// where there would be too many entries.
     pub fn merge(&mut self, message: &Payload<A>) -> Result<Change<A>, ReplicaFault>
         ensures merged { OnOk result (self.new ≡ merged message.now self.old) }
         ensures greater_standings { OnOk result (TakesGreaterStandings message.now self.old self.new) }
         ensures refused { IsRefusedFor (merge_refusal self.old message.now) result }
-        ensures leads_back { IfOk result (λ change. ChangeLeadsBack change self.new self.old) }
+        ensures leads_back { IfOk result (λ change. ChangeLeadsBack (plain_change change) self.new self.old) }
         ensures err { OnErr result (self.new ≡ self.old) }
     {
         let _ = message.entries(); // the proof reads that their dots are seen
-        let joining = joining(self, message)?;
-        let leaving = leaving(self, message)?;
-        if self.are_too_many(self.entries.len() - leaving.len() + joining.len()) {
+        let names = self.others();
+        let joining = joining(&self.store, message, names, self.alloc)?;
+        let leaving = leaving(&self.store, message, names, self.alloc)?;
+        if self.are_too_many(self.store.entries().len() - leaving.len() + joining.len()) {
             return Err(ReplicaFault::EntriesFull);
         }
-        let before = self.try_copy()?;
-        self.exchange(message, &leaving, joining)?;
-        Ok(Change::from(before))
+        let delivered = self.exchange(message, joining, &leaving)?;
+        Ok(Change::Deliver(delivered))
     }
 
-    /// Makes room, takes the message's dots as seen, and then edits the entries.
+    /// Lets these join and those leave, and takes the message's dots as seen.
     fn exchange(
         &mut self,
         message: &Payload<A>,
-        leaving: &[Dot],
         joining: Vec<Entry<A>, A>,
-    ) -> Result<(), Oom>
+        leaving: &[Dot],
+    ) -> Result<Delivered<A>, Oom>
         requires live { AreSeen message.now.seen message.now.entries }
-        requires leaving { leaving.now ≡ fin.keys (departures message.now self.old) }
         requires joining { pairs joining.items ≡ fin.entries (arrivals message.now self.old) }
+        requires leaving { leaving.now ≡ fin.keys (departures message.now self.old) }
         requires free { merge_refusal self.old message.now ≡ None }
         ensures merged { OnOk result (self.new ≡ merged message.now self.old) }
+        ensures held { IfOk result (λ delivered. undelivered delivered self.new.store ≡ self.old.store) }
+        ensures new { IfOk result (λ delivered. AreNew (pairs delivered.left) (without_each delivered.joined self.new.store.entries)) }
+        ensures earlier { IsReplica self.old }
         ensures err { OnErr result (self.new ≡ self.old) }
     {
         message.seen().valid_law();
-        self.entries.make_room(joining.len())?;
-        self.seen
-            .union_known(message.seen(), self.view.known(), self.own)?;
-        take_out(&mut self.entries, leaving);
-        put_in(&mut self.entries, joining);
-        Ok(())
+        let names = self.others();
+        let delivered = merge(
+            &mut self.store,
+            message,
+            names,
+            joining,
+            leaving,
+            self.alloc,
+        )?;
+        Ok(delivered)
     }
 
-    pub(crate) fn allocator(&self) -> A {
-        self.alloc
-    }
-
-    /// The name is up, and known from now on. The own name is refused with `OwnReplica`. For now it copies the replica,
-    /// for the change.
+    /// The name is up, and known from now on. The own name is refused with `OwnReplica`.
     pub fn up(&mut self, name: u16) -> Result<Change<A>, ReplicaFault>
         requires { name < 32 }
         ensures up { OnOk result (self.new ≡ with_status name Up self.old) }
         ensures refused { IsRefusedFor (up_refusal self.old name) result }
-        ensures leads_back { IfOk result (λ change. ChangeLeadsBack change self.new self.old) }
+        ensures leads_back { IfOk result (λ change. ChangeLeadsBack (plain_change change) self.new self.old) }
         ensures err { OnErr result (self.new ≡ self.old) }
     {
         if name == self.own {
             return Err(ReplicaFault::OwnReplica);
         }
-        let before = self.try_copy()?;
+        let before = self.view.status(name);
         self.view.raise(name);
-        Ok(Change::from(before))
+        Ok(Change::Up { name, before })
     }
 
-    /// The name is down. The refusals come in this order: `OwnReplica`, `NotKnown`. For now it copies the replica, for the
-    /// change.
+    /// The name is down. The refusals come in this order: `OwnReplica`, `NotKnown`.
     pub fn down(&mut self, name: u16) -> Result<Change<A>, ReplicaFault>
         requires { name < 32 }
         ensures down { OnOk result (self.new ≡ with_status name Down self.old) }
         ensures refused { IsRefusedFor (down_refusal self.old name) result }
-        ensures leads_back { IfOk result (λ change. ChangeLeadsBack change self.new self.old) }
+        ensures leads_back { IfOk result (λ change. ChangeLeadsBack (plain_change change) self.new self.old) }
         ensures err { OnErr result (self.new ≡ self.old) }
     {
         if let Some(fault) = self.down_refusal(name) {
             return Err(fault);
         }
-        let before = self.try_copy()?;
+        let before = self.view.status(name);
         self.view.lower(name);
-        Ok(Change::from(before))
+        Ok(Change::Down { name, before })
     }
 
     /// All that is held of the name goes: its dots, its entries, its status. The delta stays, as it has own dots alone.
-    /// The refusals come in this order: `OwnReplica`, `NotKnown`, `NotDown`. It copies the other names' entries, and for
-    /// now the replica, for the change.
+    /// The refusals come in this order: `OwnReplica`, `NotKnown`, `NotDown`. It goes once over the entries.
     pub fn permdown(&mut self, name: u16) -> Result<Change<A>, ReplicaFault>
         requires { name < 32 }
         ensures forgotten { OnOk result (self.new ≡ forgotten name self.old) }
         ensures refused { IsRefusedFor (permdown_refusal self.old name) result }
-        ensures leads_back { IfOk result (λ change. ChangeLeadsBack change self.new self.old) }
+        ensures leads_back { IfOk result (λ change. ChangeLeadsBack (plain_change change) self.new self.old) }
         ensures err { OnErr result (self.new ≡ self.old) }
     {
         if let Some(fault) = self.permdown_refusal(name) {
             return Err(fault);
         }
-        let before = self.try_copy()?;
-        self.entries = self.entries.only(self.view.known().without(name))?;
-        self.seen.drop_name(name);
+        let forgotten = forget(&mut self.store, name, self.alloc)?;
         self.view.forget(name);
-        Ok(Change::from(before))
+        Ok(Change::Permdown { name, forgotten })
     }
 
     /// Takes the delta out as a message. It takes no memory. Without a dot in the delta it is refused with
@@ -605,24 +711,22 @@ impl<A: Allocator + Copy> Replica<A> {
     pub fn take_delta(&mut self) -> Result<Payload<A>, ReplicaFault>
         ensures message { IfOk result (λ payload. payload ≡ delta_message self.old) }
         ensures taken { OnOk result (self.new ≡ without_delta self.old) }
-        ensures something_to_send { IsOk result ↔ IsTrue (has_dots self.old.delta_seen) }
+        ensures something_to_send { IsOk result ↔ IsTrue (has_dots self.old.delta.seen) }
         ensures nothing_to_send { IfErr result (λ fault. fault ≡ NothingToSend) }
         ensures err { OnErr result (self.new ≡ self.old) }
     {
         if !self.has_delta() {
             return Err(ReplicaFault::NothingToSend);
         }
-        let seen = mem::replace(&mut self.delta_seen, DotSet::new(self.alloc));
-        let entries = mem::replace(&mut self.delta_entries, EntrySet::new(self.alloc));
+        let (seen, entries) = mem::replace(&mut self.delta, Store::new(self.alloc)).into_parts();
         Ok(Payload::new(self.own, seen, entries))
     }
 
     /// A message of what it has seen and holds of these names. The delta stays.
     pub fn extract(&self, names: NameSet) -> Result<Payload<A>, Oom>
-        ensures { IfOk result (λ payload. payload ≡ message_of_names (set.contains names) self.now.own self.now.seen self.now.entries) }
+        ensures { IfOk result (λ payload. payload ≡ message_of_names (set.contains names) self.now.own self.now.store.seen self.now.store.entries) }
     {
-        let seen = self.seen.only(names)?;
-        let entries = self.entries.only(names)?;
+        let (seen, entries) = self.store.only(names)?.into_parts();
         Ok(Payload::new(self.own, seen, entries))
     }
 }

@@ -1,7 +1,7 @@
 //! `View`: which names are known, and which of them are up.
 ghost use Rattle.std.specs.Prelude.{◌≡◌, ◌↔◌, ◌<◌, IsTrue, true};
 ghost use Rattle.std.specs.FinMap as fin;
-ghost use Rattle.replica_core.specs.Views.{AreKnown};
+ghost use Rattle.replica_core.specs.Views.{AreKnown, with_old};
 ghost use Rattle.replica_core.specs.declared.status.Status.TheVariants.{Up, Down};
 
 use crate::status::Status;
@@ -87,6 +87,30 @@ impl View {
     {
         self.known = self.known.without(name);
         self.up = self.up.without(name);
+    }
+
+    /// The name has this status, or is not known from now on.
+    pub fn put(&mut self, name: u16, status: Option<Status>)
+        requires { name < 32 }
+        ensures { self.new ≡ with_old name status self.old }
+    {
+        match status {
+            Some(status) => self.put_known(name, status),
+            None => self.forget(name),
+        }
+    }
+
+    fn put_known(&mut self, name: u16, status: Status)
+        requires { name < 32 }
+        ensures { self.new ≡ fin.insert self.old name status }
+    {
+        match status {
+            Status::Up => self.raise(name),
+            Status::Down => {
+                self.raise(name);
+                self.lower(name);
+            }
+        }
     }
 
     /// Whether both have the same names with the same statuses.

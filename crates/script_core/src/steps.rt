@@ -33,7 +33,7 @@ fn number_at(digits: &str) -> Result<u64, FaultKind>
 }
 
 #[tactic(auto, unfolding(crate::specs::Grammar::word_at))]
-fn word_at<A: Allocator>(alloc: A, word: &str) -> Result<Word<A>, FaultKind>
+fn word_at<A: Allocator + Clone>(alloc: A, word: &str) -> Result<Word<A>, FaultKind>
     requires { IsTrue (is_visible word.now) }
     ensures { Gives (λ word. word) result (word_at word.now) }
 {

@@ -7,7 +7,7 @@ use Rattle.bench_core.proofs.bench.step_node.Goals as goal
 pub take-result-requires : goal.take-result-requires
 take-result-requires g c = let names : AreNames (plain c.args.step.now) =
     names_named (plain c.args.step.now) (length c.args.nodes.now.items) c.requires.few c.requires.named in
-    (omega arith, (omega arith, (omega arith, (names, omega arith))))
+    (omega arith, (omega arith, (names, omega arith)))
 
 pub returns-clause-steps : goal.returns-clause-steps
 returns-clause-steps g c =

@@ -17,16 +17,14 @@ give_back-requires g c =
       found_at c.args.nodes.now.items c.args.journal.now.steps c.args.number c.args.node (plain_inverse c.unwrap-inverse.result)
           c.index_mut-place.result.now c.requires lent c.index_mut-place.ensures.value,
     ) in
-    (omega arith, (omega arith, leads))
+    (omega arith, leads)
 
 pub put_back-requires : goal.put_back-requires
 put_back-requires g c =
     let lent : inverse_of (find_held c.args.journal.now.steps c.args.number) ≡ Some (plain_inverse c.unwrap-inverse.result) =
-    sym c.lend.ensures.value ∙ ap (option_map plain_inverse) c.unwrap-inverse.ensures in (
-      omega arith,
-      subst (λ (j : Journal). IsLent j.steps c.args.number) (sym c.lend.ensures.after)
-          (is_lent c.args.journal.now.steps c.args.number (plain_inverse c.unwrap-inverse.result) lent),
-    )
+    sym c.lend.ensures.value ∙ ap (option_map plain_inverse) c.unwrap-inverse.ensures in
+    subst (λ (j : Journal). IsLent j.steps c.args.number) (sym c.lend.ensures.after)
+    (is_lent c.args.journal.now.steps c.args.number (plain_inverse c.unwrap-inverse.result) lent)
 
 pub take_out-requires-clause-lent : goal.take_out-requires-clause-lent
 take_out-requires-clause-lent g c =

@@ -3,7 +3,7 @@ use Rattle.std.specs.FinMap as fin
 use Rattle.dots_core.specs.declared.dot.Dot.{Dot}
 use Rattle.payload_core.specs.Presences.{Entry, Entries}
 use Rattle.replica_core.specs.Replicas.{is_online}
-use Rattle.replica_core.proofs.Collected.{answered, no_gap, failed, all_walked}
+use Rattle.payload_core.proofs.Collected.{answered, no_gap, failed, all_walked}
 use Rattle.diff_core.specs.Rows.{row_of}
 use Rattle.diff_core.specs.Online.{is_shown}
 use Rattle.diff_core.proofs.Listed.{row_collected, listed}

@@ -19,7 +19,7 @@ step_node-requires g c =
     let can = can_step c.self.inside.names c.self.inside.limits c.self.inside.history c.self.inside.nodes.items
     c.self.inside.journal.steps c.self.inside.meter.count c.args.actor (plain c.args.step.now) (plain c.in-Ok.step) c.args.self.now
     c.self.view_is c.self.invariant.0 c.in-Ok.ensures is in
-    (omega arith, (omega arith, (can.there, (can.few, (can.named, (can.numbered, can.meter))))))
+    (omega arith, (can.there, (can.few, (can.named, (can.numbered, can.meter)))))
 
 pub invariant_of-self-in-Err : goal.invariant_of-self-in-Err
 invariant_of-self-in-Err g c =
@@ -56,14 +56,12 @@ keep-requires g c =
     let is : knows (config_of c.args.self.now) c.args.actor (plain c.args.step.now) ≡ true = search rules in
     let can = can_step c.self.inside.names c.self.inside.limits c.self.inside.history c.self.inside.nodes.items
     c.self.inside.journal.steps c.self.inside.meter.count c.args.actor (plain c.args.step.now) (plain c.in-Ok.step) c.args.self.now
-    c.self.view_is c.self.invariant.0 c.in-Ok.ensures is in (
-      omega arith,
-      can_keep c.self.inside.names c.self.inside.limits c.self.inside.history c.self.inside.nodes.items c.step_node.new.nodes.items
-          c.self.inside.journal.steps c.make_room.new.self c.self.inside.meter.count c.count-number.result c.args.actor
-          (plain c.in-Ok.step) (plain_inverse c.in-Ok-step_node.inverse)
-          c.self.invariant.0 c.make_room.ensures.steps (c.make_room.ensures.nodes ∙ c.self.invariant.1)
-          (c.count-number.ensures ∙ c.in-Ok-step_node.ensures.ticks) can.known c.in-Ok-step_node.ensures.steps,
-    )
+    c.self.view_is c.self.invariant.0 c.in-Ok.ensures is in
+    can_keep c.self.inside.names c.self.inside.limits c.self.inside.history c.self.inside.nodes.items c.step_node.new.nodes.items
+    c.self.inside.journal.steps c.make_room.new.self c.self.inside.meter.count c.count-number.result c.args.actor
+    (plain c.in-Ok.step) (plain_inverse c.in-Ok-step_node.inverse)
+    c.self.invariant.0 c.make_room.ensures.steps (c.make_room.ensures.nodes ∙ c.self.invariant.1)
+    (c.count-number.ensures ∙ c.in-Ok-step_node.ensures.ticks) can.known c.in-Ok-step_node.ensures.steps
 
 pub invariant_of-self-in-Ok-step_node : goal.invariant_of-self-in-Ok-step_node
 invariant_of-self-in-Ok-step_node g c =

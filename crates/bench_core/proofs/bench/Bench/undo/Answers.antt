@@ -102,7 +102,8 @@ invariant_of-self-then-is_err-2 g c =
     let stays : c.take_back.new.nodes.items ≡ c.self.inside.nodes.items = search rules in
     let same : c.take_back.new.journal ≡ c.self.inside.journal = search rules in
     same_bench c.self.inside.names c.self.inside.limits c.self.inside.history c.forget_last.new.self c.self.inside.nodes.items
-    c.take_back.new.nodes.items c.self.inside.journal c.take_back.new.journal c.self.inside.meter.count (c.forget_last.ensures c.args.actor (plain_act c.args.act.now) (Undone c.args.number) c.self.inside.history noted) stays
+    c.take_back.new.nodes.items c.self.inside.journal c.take_back.new.journal c.self.inside.meter.count
+    (c.forget_last.ensures c.args.actor (plain_act c.args.act.now) (Undone c.args.number) c.self.inside.history noted) stays
     same c.self.invariant
 
 pub returns-then-is_err-2 : goal.returns-then-is_err-2

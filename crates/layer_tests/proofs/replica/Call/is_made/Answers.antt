@@ -2,4 +2,4 @@ use Rattle.std.proofs.Common.{lit<}
 use Rattle.layer_tests.proofs.replica.Call.is_made.Goals as goal
 
 pub undo-requires : goal.undo-requires
-undo-requires g c = (lit< tt, (lit< tt, (c.args.replica.now, c.in-Ok.ensures)))
+undo-requires g c = (lit< tt, (c.args.replica.now, c.in-Ok.ensures))

@@ -3,7 +3,7 @@ use Rattle.node_core.specs.Inverses.{plain_inverse, LeadsSomewhere, GivesBack}
 use Rattle.node_core.proofs.node.Node.give_back.Goals as goal
 
 pub undo-requires : goal.undo-requires
-undo-requires g c = (search rules, (search rules, subst (λ i. LeadsSomewhere (plain_inverse i) c.args.self.now) c.in-Change.is c.requires))
+undo-requires g c = (search rules, subst (λ i. LeadsSomewhere (plain_inverse i) c.args.self.now) c.in-Change.is c.requires)
 
 pub take_back_delta-requires : goal.take_back_delta-requires
 take_back_delta-requires g c = (search rules, subst (λ i. LeadsSomewhere (plain_inverse i) c.args.self.now) c.in-Broadcast.is c.requires)

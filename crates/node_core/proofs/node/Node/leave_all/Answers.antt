@@ -1,5 +1,6 @@
 use Rattle.std.proofs.Common.{refl, None}
 use Rattle.node_core.specs.Operations.{LeaveAll}
+use Rattle.replica_core.specs.Changes.{plain_change}
 use Rattle.node_core.specs.Nodes.{Node}
 use Rattle.node_core.proofs.Changes.{changed, changed_kept}
 use Rattle.node_core.proofs.node.Node.leave_all.Goals as goal
@@ -7,11 +8,11 @@ use Rattle.node_core.proofs.node.Node.leave_all.Goals as goal
 pub invariant_of-self-2 : goal.invariant_of-self-2
 invariant_of-self-2 g c =
     let before : Node = record { replica = c.self.inside.replica; outbox = c.self.inside.outbox.messages } in
-    changed_kept before c.leave_all.new.self c.in_ok-change.change c.self.inside.outbox.limit c.self.invariant.0 c.self.invariant.1
+    changed_kept before c.leave_all.new.self (plain_change c.in_ok-change.change) c.self.inside.outbox.limit c.self.invariant.0 c.self.invariant.1
     c.in_ok-change.ensures.leads_back c.replica_law.ensures
 
 pub returns : goal.returns
 returns g c =
     let before : Node = record { replica = c.self.inside.replica; outbox = c.self.inside.outbox.messages } in
     changed before c.args.self.now (LeaveAll c.args.pid) None _ _ c.leave_all.new.self c.self.invariant.0 refl
-    c.in_ok-change.ensures.refused c.in_ok-change.ensures.left c.in_ok-change.change c.self.view_is c.in_ok-change.ensures.leads_back
+    c.in_ok-change.ensures.refused c.in_ok-change.ensures.left (plain_change c.in_ok-change.change) c.self.view_is c.in_ok-change.ensures.leads_back

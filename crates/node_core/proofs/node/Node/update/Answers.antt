@@ -1,5 +1,6 @@
 use Rattle.std.proofs.Common.{refl, None}
 use Rattle.node_core.specs.Operations.{Update}
+use Rattle.replica_core.specs.Changes.{plain_change}
 use Rattle.node_core.specs.Nodes.{Node}
 use Rattle.node_core.proofs.Changes.{changed, changed_kept}
 use Rattle.node_core.proofs.node.Node.update.Goals as goal
@@ -7,7 +8,7 @@ use Rattle.node_core.proofs.node.Node.update.Goals as goal
 pub invariant_of-self-2 : goal.invariant_of-self-2
 invariant_of-self-2 g c =
     let before : Node = record { replica = c.self.inside.replica; outbox = c.self.inside.outbox.messages } in
-    changed_kept before c.update.new.self c.in_ok-change.change c.self.inside.outbox.limit c.self.invariant.0 c.self.invariant.1
+    changed_kept before c.update.new.self (plain_change c.in_ok-change.change) c.self.inside.outbox.limit c.self.invariant.0 c.self.invariant.1
     c.in_ok-change.ensures.leads_back c.replica_law.ensures
 
 pub returns : goal.returns
@@ -15,5 +16,5 @@ returns g c =
     let before : Node = record { replica = c.self.inside.replica; outbox = c.self.inside.outbox.messages } in
     changed before c.args.self.now
     (Update (record { pid = c.args.pid; topic = c.args.topic.now; key = c.args.key.now; metadata = c.args.metadata.now })) None _ _
-    c.update.new.self c.self.invariant.0 refl c.in_ok-change.ensures.refused c.in_ok-change.ensures.updated c.in_ok-change.change
+    c.update.new.self c.self.invariant.0 refl c.in_ok-change.ensures.refused c.in_ok-change.ensures.updated (plain_change c.in_ok-change.change)
     c.self.view_is c.in_ok-change.ensures.leads_back

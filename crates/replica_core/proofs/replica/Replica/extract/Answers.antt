@@ -1,5 +1,6 @@
-use Rattle.std.proofs.Common.{rules}
+use Rattle.std.proofs.Common.{rules, ap, ◌∙◌}
 use Rattle.std.specs.FinSet as set
+use Rattle.payload_core.specs.Stores.{Store}
 use Rattle.replica_core.proofs.Invariant.{parts_seen}
 use Rattle.replica_core.proofs.replica.Replica.extract.Goals as goal
 
@@ -8,7 +9,8 @@ new-requires g c = (
   search rules,
   (
     search rules,
-    parts_seen (set.contains c.args.names) _ c.in_ok-seen.seen c.in_ok-entries.entries.map c.self.invariant
-        c.in_ok-seen.ensures c.in_ok-entries.ensures,
+    parts_seen (set.contains c.args.names) _ _ _ c.self.invariant
+        (c.into_parts-seen.ensures.seen ∙ ap (λ (s : Store). s.seen) c.in_ok-only.ensures)
+        (c.into_parts-seen.ensures.entries ∙ ap (λ (s : Store). s.entries) c.in_ok-only.ensures),
   ),
 )

@@ -6,4 +6,4 @@ use Rattle.replica_core.proofs.replica.Replica.has_delta.Goals as goal
 
 pub returns : goal.returns
 returns g c =
-    not_empty c.self.inside.delta_seen c.is_empty.result c.is_empty.ensures ∙ ap (λ (r : Replica). has_dots r.delta_seen) c.self.view_is
+    not_empty c.seen.result.now c.is_empty.result c.is_empty.ensures ∙ ap has_dots c.seen.ensures ∙ ap (λ (r : Replica). has_dots r.delta.seen) c.self.view_is

@@ -1,8 +1,8 @@
 use Rattle.std.proofs.Common.{ap, sym, ◌∙◌}
+use Rattle.payload_core.specs.LeavesTogether.{lefts_of}
 use Rattle.replica_core.specs.Replicas.{left_each}
 use Rattle.replica_core.specs.Refusals.{is_clock_full}
-use Rattle.replica_core.specs.Changes.{ByLeaveAll}
-use Rattle.replica_core.proofs.Calls.{leads_back, leave_all_free}
+use Rattle.replica_core.proofs.Calls.{leave_all_free}
 use Rattle.replica_core.proofs.replica.Replica.leave_all.Goals as goal
 
 pub returns-clause-refused : goal.returns-clause-refused
@@ -13,6 +13,15 @@ returns-clause-refused g c =
 
 pub returns-clause-leads_back : goal.returns-clause-leads_back
 returns-clause-leads_back g c =
-    leads_back c.args.self.now c.let_go.new.self c.from.result (c.from.ensures.before ∙ c.in_ok-before.ensures, c.from.ensures.kept)
-    (ByLeaveAll c.args.pid (returns-clause-refused g c)
-    (c.in_ok-let_go.ensures.left ∙ ap (λ ds. left_each ds c.args.self.now) (c.deref.ensures.value ∙ c.in_ok-leaving.ensures.dots)))
+    let dots = c.deref.ensures.value ∙ c.in_ok-leaving.ensures.dots in
+    record {
+      call = record {
+        pid = c.args.pid;
+        accepted = returns-clause-refused g c;
+        stood =
+            c.in_ok-lefts.ensures.stood
+            ∙ ap (λ ds. lefts_of ds c.args.self.now.store.entries c.args.self.now.delta.entries c.args.self.now.delta.seen) dots;
+        gives = c.in_ok-lefts.ensures.left ∙ ap (λ ds. left_each ds c.args.self.now) dots;
+      };
+      earlier = c.in_ok-lefts.ensures.earlier;
+    }

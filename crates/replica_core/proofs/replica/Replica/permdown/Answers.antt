@@ -1,23 +1,29 @@
-use Rattle.std.proofs.Common.{sym, ◌∙◌}
-use Rattle.replica_core.specs.Changes.{ByPermdown}
-use Rattle.replica_core.proofs.Calls.{permdown_other, leads_back}
-use Rattle.replica_core.proofs.Forgotten.{forgotten_is, kept_forget}
+use Rattle.std.proofs.Common.{rules, sym, subst, ap, ◌∙◌}
+use Rattle.payload_core.specs.ForgottenNames.{remembered}
+use Rattle.payload_core.specs.Stores.{Store}
+use Rattle.replica_core.specs.Replicas.{Replica}
+use Rattle.replica_core.specs.Invariant.{IsReplica}
+use Rattle.replica_core.proofs.Calls.{permdown_other}
+use Rattle.replica_core.proofs.Forgotten.{forget_is, kept_forget_store}
 use Rattle.replica_core.proofs.replica.Replica.permdown.Goals as goal
 
-pub invariant_of-self : goal.invariant_of-self
-invariant_of-self g c =
-    let other = permdown_other _ c.args.self.now c.args.name c.permdown_refusal.result c.self.view_is c.permdown_refusal.ensures
-    c.in_default.is in
-    kept_forget _ c.args.name c.known.result c.without.result c.drop_name.new.self c.in_ok-self-inside.field-0.map c.forget.new.self
-    c.self.invariant other c.known.ensures c.without.ensures c.drop_name.ensures.rest c.in_ok-self-inside.ensures c.forget.ensures
+pub invariant_of-self-2 : goal.invariant_of-self-2
+invariant_of-self-2 g c =
+    let other = permdown_other _ c.args.self.now c.args.name c.permdown_refusal.result c.self.view_is c.permdown_refusal.ensures c.in_default.is in
+    kept_forget_store _ c.args.name c.forget.new.store c.forget-2.new.self c.self.invariant other c.in_ok-forgotten.ensures.ok c.forget-2.ensures
 
 pub returns-clause-forgotten : goal.returns-clause-forgotten
 returns-clause-forgotten g c =
-    forgotten_is _ c.args.self.now c.args.name c.known.result c.without.result c.drop_name.new.self c.in_ok-self-inside.field-0.map
-    c.forget.new.self c.self.invariant c.self.view_is c.known.ensures c.without.ensures c.drop_name.ensures.rest
-    c.in_ok-self-inside.ensures c.forget.ensures
+    forget_is _ c.args.self.now c.args.name c.forget.new.store c.forget-2.new.self c.self.view_is c.in_ok-forgotten.ensures.ok c.forget-2.ensures
 
 pub returns-clause-leads_back : goal.returns-clause-leads_back
-returns-clause-leads_back g c =
-    leads_back c.args.self.now _ c.from.result (c.from.ensures.before ∙ c.in_ok-before.ensures, c.from.ensures.kept)
-    (ByPermdown c.args.name (sym c.permdown_refusal.ensures ∙ c.in_default.is) (returns-clause-forgotten g c))
+returns-clause-leads_back g c = record {
+  call = record {
+    number = c.requires;
+    accepted = sym c.permdown_refusal.ensures ∙ c.in_default.is;
+    held = c.in_ok-forgotten.ensures.back ∙ ap (λ (r : Replica). r.store) c.self.view_is;
+    new = c.in_ok-forgotten.ensures.new;
+    gives = forget_is _ c.args.self.now c.args.name c.forget.new.store c.forget-2.new.self c.self.view_is c.in_ok-forgotten.ensures.ok c.forget-2.ensures;
+  };
+  earlier = subst IsReplica c.self.view_is c.self.invariant;
+}

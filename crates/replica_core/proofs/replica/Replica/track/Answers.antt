@@ -1,26 +1,25 @@
 use Rattle.std.proofs.Common.{◌≡◌, None, sym, subst, rules}
 use Rattle.replica_core.specs.Replicas.{Replica, fresh}
 use Rattle.replica_core.specs.Refusals.{join_refusal}
-use Rattle.replica_core.proofs.Calls.{entry_valid, entry_absent, entry_absent_in_delta, kept_join}
+use Rattle.replica_core.proofs.Calls.{entry_valid, entry_absent, entry_absent_in_delta, entry_next, kept_join}
 use Rattle.replica_core.proofs.replica.Replica.track.Goals as goal
 
-pub add-requires : goal.add-requires
-add-requires g c =
+pub join-requires : goal.join-requires
+join-requires g c =
     let fresh_is = subst (λ (r : Replica). c.args.entry.dot ≡ fresh r) (sym c.self.view_is) c.requires.fresh in
-    let free = subst (λ (r : Replica). join_refusal r c.args.entry.pid c.args.entry.topic c.args.entry.key ≡ None) (sym c.self.view_is)
-    c.requires.free in (
+    let free = subst (λ (r : Replica). join_refusal r c.args.entry.pid c.args.entry.topic c.args.entry.key ≡ None) (sym c.self.view_is) c.requires.free in (
       search rules,
       (
         entry_valid _ c.args.entry c.self.invariant fresh_is free,
-        (entry_absent _ c.args.entry c.self.invariant fresh_is free, entry_absent_in_delta _ c.args.entry c.self.invariant fresh_is free),
+        (
+          entry_next _ c.args.entry c.self.invariant fresh_is free,
+          (entry_absent _ c.args.entry c.self.invariant fresh_is free, entry_absent_in_delta _ c.args.entry c.self.invariant fresh_is free),
+        ),
       ),
     )
 
 pub invariant_of-self-2 : goal.invariant_of-self-2
 invariant_of-self-2 g c =
     let fresh_is = subst (λ (r : Replica). c.args.entry.dot ≡ fresh r) (sym c.self.view_is) c.requires.fresh in
-    let free = subst (λ (r : Replica). join_refusal r c.args.entry.pid c.args.entry.topic c.args.entry.key ≡ None) (sym c.self.view_is)
-    c.requires.free in
-    kept_join _ c.args.entry c.self.invariant fresh_is free c.add.new.seen c.add.new.delta_seen c.add.new.entries.map
-    c.add.new.delta_entries.map c.in_ok-add.ensures.seen c.in_ok-add.ensures.entries c.in_ok-add.ensures.delta_seen
-    c.in_ok-add.ensures.delta_entries
+    let free = subst (λ (r : Replica). join_refusal r c.args.entry.pid c.args.entry.topic c.args.entry.key ≡ None) (sym c.self.view_is) c.requires.free in
+    kept_join _ c.args.entry c.self.invariant fresh_is free c.join.new.store c.join.new.delta c.in_ok-join.ensures.store c.in_ok-join.ensures.delta

@@ -1,19 +1,30 @@
-use Rattle.std.proofs.Common.{rules}
-use Rattle.replica_core.proofs.Left.{old_valid, new_valid, new_absent, new_absent_in_delta, updated_is, kept_update}
+use Rattle.std.proofs.Common.{◌≡◌, [], ◌∷◌, rules, sym, subst}
+use Rattle.replica_core.specs.Replicas.{Replica}
+use Rattle.replica_core.proofs.Left.{kept_update, old_valid, old_live, new_valid, new_next, new_absent, new_absent_in_delta, new_last, new_unsent, updated_is}
 use Rattle.replica_core.proofs.replica.Replica.track_again.Goals as goal
 
-pub put_in_place_of-requires : goal.put_in_place_of-requires
-put_in_place_of-requires g c = (
+pub update-requires : goal.update-requires
+update-requires g c = (
   search rules,
   (
     old_valid _ c.args.self.now c.args.entry c.args.old c.self.view_is c.self.invariant c.requires.old c.requires.fresh c.requires.free,
     (
       new_valid _ c.args.self.now c.args.entry c.args.old c.self.view_is c.self.invariant c.requires.old c.requires.fresh c.requires.free,
       (
-        new_absent _ c.args.self.now c.args.entry c.args.old c.self.view_is c.self.invariant c.requires.old c.requires.fresh
-            c.requires.free,
-        new_absent_in_delta _ c.args.self.now c.args.entry c.args.old c.self.view_is c.self.invariant c.requires.old c.requires.fresh
-            c.requires.free,
+        new_next _ c.args.self.now c.args.entry c.args.old c.self.view_is c.self.invariant c.requires.old c.requires.fresh c.requires.free,
+        (
+          old_live _ c.args.self.now c.args.entry c.args.old c.self.view_is c.self.invariant c.requires.old c.requires.fresh c.requires.free,
+          (
+            new_absent _ c.args.self.now c.args.entry c.args.old c.self.view_is c.self.invariant c.requires.old c.requires.fresh c.requires.free,
+            (
+              new_absent_in_delta _ c.args.self.now c.args.entry c.args.old c.self.view_is c.self.invariant c.requires.old c.requires.fresh c.requires.free,
+              (
+                new_last _ c.args.self.now c.args.entry c.args.old c.self.view_is c.self.invariant c.requires.old c.requires.fresh c.requires.free,
+                new_unsent _ c.args.self.now c.args.entry c.args.old c.self.view_is c.self.invariant c.requires.old c.requires.fresh c.requires.free,
+              ),
+            ),
+          ),
+        ),
       ),
     ),
   ),
@@ -21,14 +32,10 @@ put_in_place_of-requires g c = (
 
 pub invariant_of-self-2 : goal.invariant_of-self-2
 invariant_of-self-2 g c =
-    kept_update _ c.args.self.now c.args.entry c.args.old c.self.view_is c.self.invariant c.requires.old c.requires.fresh c.requires.free
-    c.put_in_place_of.new.seen c.put_in_place_of.new.delta_seen c.put_in_place_of.new.entries.map c.put_in_place_of.new.delta_entries.map
-    c.in_ok-put_in_place_of.ensures.seen c.in_ok-put_in_place_of.ensures.entries c.in_ok-put_in_place_of.ensures.delta_seen
-    c.in_ok-put_in_place_of.ensures.delta_entries
+    kept_update _ c.args.self.now c.args.entry c.args.old c.self.view_is c.self.invariant c.requires.old c.requires.fresh
+    c.requires.free c.update.new.store c.update.new.delta c.in_ok-left.ensures.store c.in_ok-left.ensures.delta
 
 pub returns-clause-updated : goal.returns-clause-updated
 returns-clause-updated g c =
-    updated_is _ c.args.self.now c.args.entry c.args.old c.self.view_is c.self.invariant c.requires.old c.requires.fresh c.requires.free
-    c.put_in_place_of.new.seen c.put_in_place_of.new.delta_seen c.put_in_place_of.new.entries.map c.put_in_place_of.new.delta_entries.map
-    c.in_ok-put_in_place_of.ensures.seen c.in_ok-put_in_place_of.ensures.entries c.in_ok-put_in_place_of.ensures.delta_seen
-    c.in_ok-put_in_place_of.ensures.delta_entries
+    updated_is _ c.args.self.now c.args.entry c.args.old c.self.view_is c.self.invariant c.requires.old c.requires.fresh
+    c.requires.free c.update.new.store c.update.new.delta c.in_ok-left.ensures.store c.in_ok-left.ensures.delta

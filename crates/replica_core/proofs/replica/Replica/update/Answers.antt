@@ -1,10 +1,31 @@
-use Rattle.std.proofs.Common.{◌∙◌}
-use Rattle.payload_core.specs.Presences.{Presence}
-use Rattle.replica_core.proofs.Calls.{update_leads_back}
+use Rattle.std.proofs.Common.{◌≡◌, [], ◌∷◌, rules, ap, sym, subst, ◌∙◌}
+use Rattle.payload_core.specs.Presences.{Presence, Entry, presence_of}
+use Rattle.replica_core.specs.Replicas.{tracked_dots, updated}
+use Rattle.replica_core.proofs.Calls.{leave_free}
+use Rattle.replica_core.proofs.Left.{updated_at}
 use Rattle.replica_core.proofs.replica.Replica.update.Goals as goal
+
+pub track_again-requires : goal.track_again-requires
+track_again-requires g c = (
+  search rules,
+  (
+    ap (λ (e : Entry). tracked_dots c.args.self.now e.pid e.topic e.key) c.in_ok-entry.ensures ∙ c.in_ok-dot.ensures.dot,
+    (ap (λ (e : Entry). e.dot) c.in_ok-entry.ensures, leave_free c.args.self.now c.args.pid c.args.topic.now c.args.key.now c.in_ok-dot.ensures.refused),
+  ),
+)
 
 pub returns-clause-leads_back : goal.returns-clause-leads_back
 returns-clause-leads_back g c =
     let p : Presence = record { pid = c.args.pid; topic = c.args.topic.now; key = c.args.key.now; metadata = c.args.metadata.now } in
-    update_leads_back c.args.self.now c.track_again.new.self p c.in_ok-entry.entry c.from.result c.in_ok-dot.ensures.refused
-    c.in_ok-entry.ensures c.in_ok-track_again.ensures.updated (c.from.ensures.before ∙ c.in_ok-before.ensures, c.from.ensures.kept)
+    record {
+      call = record {
+        presence = p;
+        dot = c.in_ok-dot.dot;
+        accepted = c.in_ok-dot.ensures.refused;
+        tracked = c.in_ok-dot.ensures.dot;
+        stood = c.in_ok-left.ensures.stood;
+        gives = c.in_ok-left.ensures.updated ∙ ap (λ (e : Entry). updated (presence_of e) c.args.self.now) c.in_ok-entry.ensures
+            ∙ updated_at p c.args.self.now c.in_ok-dot.dot c.in_ok-dot.ensures.dot;
+      };
+      earlier = c.in_ok-left.ensures.earlier;
+    }

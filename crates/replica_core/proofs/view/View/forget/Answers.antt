@@ -8,8 +8,7 @@ use Rattle.replica_core.proofs.view.View.forget.Goals as goal
 
 pub invariant_of-self : goal.invariant_of-self
 invariant_of-self c =
-    rw (c.without-self-inside.ensures, c.without-self-inside-2.ensures)
-    (up_known_forgotten c.self.inside.known c.self.inside.up c.self.invariant c.args.name)
+    rw (c.without-self-inside.ensures, c.without-self-inside-2.ensures) (up_known_forgotten c.self.inside.known c.self.inside.up c.self.invariant c.args.name)
 
 pub returns : goal.returns
 returns c =

@@ -9,8 +9,7 @@ use Rattle.replica_core.proofs.view.View.raise.Goals as goal
 
 pub invariant_of-self : goal.invariant_of-self
 invariant_of-self c =
-    rw (c.with-self-inside.ensures, c.with-self-inside-2.ensures)
-    (up_known_raised c.self.inside.known c.self.inside.up c.self.invariant c.args.name)
+    rw (c.with-self-inside.ensures, c.with-self-inside-2.ensures) (up_known_raised c.self.inside.known c.self.inside.up c.self.invariant c.args.name)
 
 pub returns : goal.returns
 returns c =

@@ -15,12 +15,10 @@ pub returns-then-has : goal.returns-then-has
 returns-then-has c =
     let known = sym c.has.ensures ∙ c.if-not-has.false in
     let up = sym c.has-2.ensures ∙ c.if-has.true in
-    sym (answered c.self.inside.known c.self.inside.up c.args.name true true known up)
-    ∙ ap (λ (v : View). fin.get v c.args.name) c.self.view_is
+    sym (answered c.self.inside.known c.self.inside.up c.args.name true true known up) ∙ ap (λ (v : View). fin.get v c.args.name) c.self.view_is
 
 pub returns-else-has : goal.returns-else-has
 returns-else-has c =
     let known = sym c.has.ensures ∙ c.if-not-has.false in
     let up = sym c.has-2.ensures ∙ c.if-has.false in
-    sym (answered c.self.inside.known c.self.inside.up c.args.name true false known up)
-    ∙ ap (λ (v : View). fin.get v c.args.name) c.self.view_is
+    sym (answered c.self.inside.known c.self.inside.up c.args.name true false known up) ∙ ap (λ (v : View). fin.get v c.args.name) c.self.view_is

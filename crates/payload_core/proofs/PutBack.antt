@@ -1,0 +1,190 @@
+-- Entries taken out one after another, and put back.
+use Rattle.std.proofs.Common.{◌≡◌, ℕ, suc, ◌+◌, ◌<◌, ◌==◌, length, get_or, arith, ◌||◌, not, Bool, true, false, cond, List, [], ◌∷◌}
+use Rattle.std.proofs.Common.{◌++◌, drop, append_assoc, Option, Some, None, is_some, refl, sym, ap, subst, ◌∙◌, true≢false}
+use Rattle.std.specs.List.{list_any}
+use Rattle.std.proofs.lemmas.List.{map-append}
+use Rattle.std.specs.Option.{option_map, option_or}
+use Rattle.std.specs.FinMap as fin
+use Rattle.std.specs.FinSet as set
+use Rattle.std.specs.Ordering.{nat_cmp}
+use Rattle.std.proofs.Math.Bool.{or-false}
+use Rattle.std.proofs.Math.Seq.{drop-cons}
+use Rattle.dots_core.specs.Contexts.{others}
+use Rattle.dots_core.specs.Dots.{Dots}
+use Rattle.dots_core.specs.FlagsBack.{contains-insert_name}
+use Rattle.dots_core.specs.Names.{Names}
+use Rattle.payload_core.specs.ForgottenNames.{is_other}
+use Rattle.payload_core.specs.Stores.{Store, part}
+use Rattle.dots_core.specs.declared.dot.Dot.{Dot}
+use Rattle.dots_core.proofs.Order.{is_dot, is_dot-true, is_dot_same}
+use Rattle.payload_core.specs.Presences.{Presence, Entry, Entries, entries_of_names, entry_of}
+use Rattle.payload_core.specs.EntryLists.{pair_of, pairs}
+use Rattle.payload_core.proofs.EntryMaps.{get-insert, get-names, get-remove, same_entries}
+use Rattle.payload_core.specs.EntryMoves.{AreNew, PutBackLaw, found_at, picked, with_each, without_each}
+
+either_out : (a b : Bool) (x : Option Presence) → cond b None (cond a None x) ≡ cond (a || b) None x
+either_out true true x = refl
+either_out true false x = refl
+either_out false b x = refl
+
+pub get-without_each : (ds : List Dot) (es : Entries) (q : Dot) → fin.get (without_each ds es) q ≡ cond (list_any (is_dot q) ds) None (fin.get es q)
+get-without_each [] es q = refl
+get-without_each (d ∷ ds) es q =
+    get-without_each ds (fin.remove es d) q ∙ ap (cond (list_any (is_dot q) ds) None) (get-remove es d q)
+    ∙ either_out (is_dot q d) (list_any (is_dot q) ds) (fin.get es q)
+
+-- at one dot: t, whether it is the first; a, whether it is a later one; o, what the map has at the first
+
+none_first : (t a : Bool) (e x : Option Presence) → (t ≡ true → e ≡ None) → cond a (option_or (cond t None e) x) x ≡ cond (t || a) (option_or e x) x
+none_first true true e x h = sym (ap (λ e. option_or e x) (h refl))
+none_first true false e x h = sym (ap (λ e. option_or e x) (h refl))
+none_first false a e x h = refl
+
+some_first : (t a : Bool) (p : Presence) (e x : Option Presence) → (t ≡ true → e ≡ Some p) →
+    cond a (option_or (cond t None e) (cond t (Some p) x)) (cond t (Some p) x) ≡ cond (t || a) (option_or e x) x
+some_first true true p e x h = sym (ap (λ e. option_or e x) (h refl))
+some_first true false p e x h = sym (ap (λ e. option_or e x) (h refl))
+some_first false a p e x h = refl
+
+get-with_picked : (ds : List Dot) (es m : Entries) (q : Dot) → fin.get (with_each (picked ds es) m) q ≡ cond (list_any (is_dot q) ds)
+    (option_or (fin.get es q) (fin.get m q)) (fin.get m q)
+get-with_picked [] es m q = refl
+get-with_picked (d ∷ ds) es m q = go (fin.get es d) refl (λ m. get-with_picked ds (fin.remove es d) m q)
+  where
+    at : (o : Option Presence) → fin.get es d ≡ o → is_dot q d ≡ true → fin.get es q ≡ o
+    at o is e = ap (fin.get es) (is_dot-true q d e) ∙ is
+
+    go : (o : Option Presence) → fin.get es d ≡ o
+        → ((m : Entries) → fin.get (with_each (picked ds (fin.remove es d)) m) q ≡ cond (list_any (is_dot q) ds)
+        (option_or (fin.get (fin.remove es d) q) (fin.get m q)) (fin.get m q))
+        → fin.get (with_each (found_at d o ++ picked ds (fin.remove es d)) m) q ≡ cond (is_dot q d || list_any (is_dot q) ds)
+        (option_or (fin.get es q) (fin.get m q)) (fin.get m q)
+    go None is later =
+        later m
+        ∙ ap (λ e. cond (list_any (is_dot q) ds) (option_or e (fin.get m q)) (fin.get m q)) (get-remove es d q)
+        ∙ none_first (is_dot q d) (list_any (is_dot q) ds) (fin.get es q) (fin.get m q) (at None is)
+    go (Some p) is later =
+        later (fin.insert m d p)
+        ∙ (λ i. cond (list_any (is_dot q) ds) (option_or (get-remove es d q i) (get-insert m d q p i)) (get-insert m d q p i))
+        ∙ some_first (is_dot q d) (list_any (is_dot q) ds) p (fin.get es q) (fin.get m q) (at (Some p) is)
+
+whole : (a : Bool) (e : Option Presence) → cond a (option_or e (cond a None e)) (cond a None e) ≡ e
+whole true None = refl
+whole true (Some p) = refl
+whole false e = refl
+
+pub put_all_back : (ds : List Dot) (es : Entries) → with_each (picked ds es) (without_each ds es) ≡ es
+put_all_back ds es = same_entries _ _ (λ q.
+    get-with_picked ds es (without_each ds es) q
+    ∙ ap (λ x. cond (list_any (is_dot q) ds) (option_or (fin.get es q) x) x) (get-without_each ds es q)
+    ∙ whole (list_any (is_dot q) ds) (fin.get es q))
+
+-- each dot at which the first map has one of these has none in the second
+abbrev Away : List Dot → Entries → Entries → Type 0
+Away ds es m = (q : Dot) → list_any (is_dot q) ds ≡ true → is_some (fin.get es q) ≡ true → fin.get m q ≡ None
+
+later : (t b : Bool) → b ≡ true → (t || b) ≡ true
+later true b h = refl
+later false b h = h
+
+was_some : (t : Bool) (o : Option Presence) → is_some (cond t None o) ≡ true → (t ≡ false) × (is_some o ≡ true)
+was_some true o h = absurd (true≢false (sym h))
+was_some false o h = (refl, h)
+
+pub picked_new : (ds : List Dot) (es m : Entries) → Away ds es m → AreNew (picked ds es) m
+picked_new [] es m away = tt
+picked_new (d ∷ ds) es m away = go (fin.get es d) refl (λ m. picked_new ds (fin.remove es d) m)
+  where
+    rest : (q : Dot) → is_some (fin.get (fin.remove es d) q) ≡ true → (is_dot q d ≡ false) × (is_some (fin.get es q) ≡ true)
+    rest q some = was_some (is_dot q d) (fin.get es q) (ap is_some (sym (get-remove es d q)) ∙ some)
+
+    go : (o : Option Presence) → fin.get es d ≡ o → ((m : Entries) → Away ds (fin.remove es d) m →
+        AreNew (picked ds (fin.remove es d)) m) → AreNew (found_at d o ++ picked ds (fin.remove es d)) m
+    go None is next = next m (λ q any some. away q (later (is_dot q d) (list_any (is_dot q) ds) any) (rest q some).1)
+    go (Some p) is next = (
+      away d (ap (λ b. b || list_any (is_dot d) ds) (is_dot_same d)) (ap is_some is),
+      next (fin.insert m d p) (λ q any some. get-insert m d q p ∙ ap (λ t. cond t (Some p) (fin.get m q)) (rest q some).0
+          ∙ away q (later (is_dot q d) (list_any (is_dot q) ds) any) (rest q some).1),
+    )
+
+pub put_back : PutBackLaw
+put_back = record {
+  new = λ ds es. picked_new ds es (without_each ds es) (λ q any some. get-without_each ds es q ∙ ap (λ b. cond b None (fin.get es q)) any);
+  back = put_all_back;
+}
+
+-- the entries of some names, taken out
+
+not_named : (named a : Bool) (e : Option Presence) → a ≡ is_some (cond named e None) → cond a None e ≡ cond (not named) e None
+not_named true a None is = ap (λ b. cond b None None) is
+not_named true a (Some p) is = ap (λ b. cond b None (Some p)) is
+not_named false a e is = ap (λ b. cond b None e) is
+
+pub without_names : (named : ℕ → Bool) (es : Entries) → without_each (fin.keys (entries_of_names named es)) es ≡ entries_of_names (λ n. not (named n)) es
+without_names named es = same_entries _ _ (λ q.
+    get-without_each (fin.keys (entries_of_names named es)) es q
+    ∙ not_named (named q.name) (list_any (is_dot q) (fin.keys (entries_of_names named es))) (fin.get es q)
+    (sym (fin.contains_key-keys (entries_of_names named es) q) ∙ ap is_some (get-names es named q))
+    ∙ sym (get-names es (λ n. not (named n)) q))
+
+-- one more dot taken out, in a walk over the dots
+
+pub drop_next : (ds : List Dot) (i : ℕ) (d : Dot) → i < length ds → drop i ds ≡ get_or ds i d ∷ drop (i + 1) ds
+drop_next ds i d within = let e : suc i ≡ i + 1 = omega arith in drop-cons ds i d within ∙ ap (λ n. get_or ds i d ∷ drop n ds) e
+
+pub step_map : (ds : List Dot) (i : ℕ) (d : Dot) (es after whole : Entries) → drop i ds ≡ d ∷ drop (i + 1) ds →
+    after ≡ fin.remove es d → without_each (drop i ds) es ≡ whole → without_each (drop (i + 1) ds) after ≡ whole
+step_map ds i d es after whole at is so_far = ap (without_each (drop (i + 1) ds)) is ∙ sym (ap (λ l. without_each l es) at) ∙ so_far
+
+pub step_some : (ds : List Dot) (i : ℕ) (d : Dot) (es after : Entries) (items more : List Entry) (e : Entry) (o : Option Entry)
+    (whole : List (Dot × Presence)) → drop i ds ≡ d ∷ drop (i + 1) ds → after ≡ fin.remove es d →
+    o ≡ option_map (entry_of d) (fin.get es d) → o ≡ Some e → more ≡ items ++ e ∷ [] → pairs items ++ picked (drop i ds) es ≡ whole →
+    pairs more ++ picked (drop (i + 1) ds) after ≡ whole
+step_some ds i d es after items more e o whole at is found some grown so_far = go (fin.get es d) refl (sym found ∙ some)
+  where
+    go : (g : Option Presence) → fin.get es d ≡ g → option_map (entry_of d) (fin.get es d) ≡ Some e → pairs more ++ picked (drop (i + 1) ds) after ≡ whole
+    go None g h = let none : None ≡ Some e = sym (ap (option_map (entry_of d)) g) ∙ h in absurd (cc)
+    go (Some p) g h =
+        let same : Some (entry_of d p) ≡ Some e = sym (ap (option_map (entry_of d)) g) ∙ h in
+        let entry : entry_of d p ≡ e = cc in
+        ap (λ (xs : List Entry). pairs xs ++ picked (drop (i + 1) ds) after) grown
+        ∙ ap (λ ps. ps ++ picked (drop (i + 1) ds) after) (map-append pair_of items (e ∷ []))
+        ∙ append_assoc (pairs items) (pair_of e ∷ []) (picked (drop (i + 1) ds) after)
+        ∙ ap (λ (e : Entry). pairs items ++ pair_of e ∷ picked (drop (i + 1) ds) after) (sym entry)
+        ∙ ap (λ m. pairs items ++ (d, p) ∷ picked (drop (i + 1) ds) m) is
+        ∙ sym (ap (λ o. pairs items ++ (found_at d o ++ picked (drop (i + 1) ds) (fin.remove es d))) g)
+        ∙ sym (ap (λ l. pairs items ++ picked l es) at)
+        ∙ so_far
+
+pub step_none : (ds : List Dot) (i : ℕ) (d : Dot) (es after : Entries) (ps whole : List (Dot × Presence)) (o : Option Entry) →
+    drop i ds ≡ d ∷ drop (i + 1) ds → after ≡ fin.remove es d → o ≡ option_map (entry_of d) (fin.get es d) → o ≡ None →
+    ps ++ picked (drop i ds) es ≡ whole → ps ++ picked (drop (i + 1) ds) after ≡ whole
+step_none ds i d es after ps whole o at is found none so_far = go (fin.get es d) refl (sym found ∙ none)
+  where
+    go : (g : Option Presence) → fin.get es d ≡ g → option_map (entry_of d) (fin.get es d) ≡ None → ps ++ picked (drop (i + 1) ds) after ≡ whole
+    go (Some p) g h = let some : Some (entry_of d p) ≡ None = sym (ap (option_map (entry_of d)) g) ∙ h in absurd (cc)
+    go None g h =
+        ap (λ m. ps ++ picked (drop (i + 1) ds) m) is
+        ∙ sym (ap (λ o. ps ++ (found_at d o ++ picked (drop (i + 1) ds) (fin.remove es d))) g)
+        ∙ sym (ap (λ l. ps ++ picked l es) at)
+        ∙ so_far
+
+-- a name forgotten
+
+only_name : (name n : ℕ) → set.contains {R = nat_cmp} (set.insert set.empty name) n ≡ (n == name)
+only_name name n = contains-insert_name set.empty name n ∙ ap (λ b. (n == name) || b) (set.contains-empty nat_cmp n) ∙ or-false (n == name)
+
+pub forgot_entries : (name : ℕ) (s now : Store) (names : Names) (dots : List Dot) (seen : Dots) (es : Entries) → s ≡ now →
+    names ≡ set.insert set.empty name → dots ≡ fin.keys (entries_of_names (set.contains names) s.entries) →
+    seen ≡ others name s.seen → es ≡ without_each dots s.entries → record { seen = seen; entries = es } ≡ part (is_other name) now
+forgot_entries name s now names dots seen es same names_are dots_are seen_is es_are =
+    (λ i. record { seen = seen_is i; entries = entries i }) ∙ ap (part (is_other name)) same
+  where
+    named : entries_of_names (λ n. not (set.contains names n)) s.entries ≡ entries_of_names (is_other name) s.entries
+    named = same_entries _ _ (λ q.
+        get-names s.entries (λ n. not (set.contains names n)) q
+        ∙ ap (λ b. cond (not b) (fin.get s.entries q) None) (ap (λ (ns : Names). set.contains ns q.name) names_are ∙ only_name name q.name)
+        ∙ sym (get-names s.entries (is_other name) q))
+
+    entries : es ≡ entries_of_names (is_other name) s.entries
+    entries = es_are ∙ ap (λ ds. without_each ds s.entries) dots_are ∙ without_names (set.contains names) s.entries ∙ named

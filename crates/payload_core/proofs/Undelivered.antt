@@ -1,0 +1,291 @@
+-- A delivery's edits give the store of the definition, and are taken back.
+use Rattle.std.proofs.Common.{◌≡◌, ℕ, ◌+◌, ◌<◌, ◌≤◌, ◌==◌, ◌&&◌, ◌||◌, ◌⊎◌, inl, inr, not, T, Bool, true, false, cond, List, [], ◌∷◌, ◌++◌}
+use Rattle.std.proofs.Common.{Option, Some, None, is_some, refl, sym, ap, subst, ◌∙◌, arith, true≢false}
+use Rattle.std.proofs.Math.Facts.{and_yes}
+use Rattle.std.proofs.lemmas.Bool.{cases_lt, eq-eqb, or_cases}
+use Rattle.std.specs.List.{AllByRecursion, list_any}
+use Rattle.std.specs.Option.{option_or}
+use Rattle.std.specs.Ordering.{is_lt}
+use Rattle.std.specs.FinMap as fin
+use Rattle.std.specs.FinMap.Entries.{below_all, is_sorted, where_key}
+use Rattle.std.specs.FinSet as set
+use Rattle.dots_core.specs.declared.dot.Dot.{Dot}
+use Rattle.dots_core.specs.Clocks.{holds}
+use Rattle.dots_core.specs.Contexts.{HasAllOf, with_part}
+use Rattle.dots_core.specs.Dots.{Dots, dot, dot_cmp, of_names}
+use Rattle.dots_core.proofs.Order.{is_dot, is_dot-true, is_dot_below, is_dot_above}
+use Rattle.dots_core.proofs.Parts.{contains-with_part}
+use Rattle.dots_core.proofs.Sets.{contains-retain, contains-union, same_dots}
+use Rattle.payload_core.specs.EntryLists.{pairs}
+use Rattle.payload_core.specs.Messages.{AreSeen}
+use Rattle.payload_core.specs.Presences.{Presence, Entry, Entries}
+use Rattle.payload_core.proofs.EntryMaps.{get-retain, get-insert, get-over, same_entries}
+use Rattle.payload_core.specs.Delivered.{OldPart, with_parts}
+use Rattle.payload_core.specs.EntryMoves.{AreNew, dots_of_pairs, picked, with_each, without_each}
+use Rattle.payload_core.specs.Stores.{Store, arrivals, departures, is_new, leaves, merged, remaining}
+use Rattle.payload_core.proofs.Collected.{entries-retain}
+use Rattle.payload_core.proofs.PutBack.{get-without_each, put_back}
+
+-- keys that rise differ
+
+find_below : (k : Dot) (ps : List (Dot × Presence)) → T (below_all dot_cmp k ps) → fin.find dot_cmp k ps ≡ None
+find_below k [] h = refl
+find_below k (p ∷ ps) h = let parts = and_yes (is_lt (dot_cmp k p.0)) (below_all dot_cmp k ps) h in
+    ap (λ b. cond b (Some p.1) (fin.find dot_cmp k ps)) (is_dot_below k p.0 parts.0) ∙ find_below k ps parts.1
+
+-- none of these dots is in the map
+abbrev AreAbsent : List (Dot × Presence) → Entries → Type 0
+AreAbsent ps es = AllByRecursion (λ (p : Dot × Presence). fin.get es p.0 ≡ None) ps
+
+absent-insert : (k : Dot) (v : Presence) (ps : List (Dot × Presence)) (es : Entries) → T (below_all dot_cmp k ps) → AreAbsent ps es →
+    AreAbsent ps (fin.insert es k v)
+absent-insert k v [] es below absent = tt
+absent-insert k v (p ∷ ps) es below absent =
+    let parts = and_yes (is_lt (dot_cmp k p.0)) (below_all dot_cmp k ps) below in (
+      get-insert es k p.0 v ∙ ap (λ b. cond b (Some v) (fin.get es p.0)) (is_dot_above k p.0 parts.0) ∙ absent.0,
+      absent-insert k v ps es parts.1 absent.1,
+    )
+
+new_absent : (ps : List (Dot × Presence)) (es : Entries) → T (is_sorted dot_cmp ps) → AreAbsent ps es → AreNew ps es
+new_absent [] es sorted absent = tt
+new_absent (p ∷ ps) es sorted absent = let parts = and_yes (below_all dot_cmp p.0 ps) (is_sorted dot_cmp ps) sorted in
+    (absent.0, new_absent ps (fin.insert es p.0 p.1) parts.1 (absent-insert p.0 p.1 ps es parts.0 absent.1))
+
+absent_where : (passes : Dot → Bool) (ps : List (Dot × Presence)) (es : Entries) → ((d : Dot) → passes d ≡ true → fin.get es d ≡ None) →
+    AreAbsent (where_key dot_cmp passes ps) es
+absent_where passes [] es none = tt
+absent_where passes (p ∷ ps) es none = go (passes p.0) refl (absent_where passes ps es none)
+  where
+    go : (b : Bool) → passes p.0 ≡ b → AreAbsent (where_key dot_cmp passes ps) es →
+        AreAbsent (cond b (p ∷ where_key dot_cmp passes ps) (where_key dot_cmp passes ps)) es
+    go true is rest = (none p.0 is, rest)
+    go false is rest = rest
+
+-- what they answer at a dot
+
+put_later : (b : Bool) (v : Presence) (found x : Option Presence) → (b ≡ true → found ≡ None) →
+    option_or found (cond b (Some v) x) ≡ option_or (cond b (Some v) found) x
+put_later true v found x h = ap (λ o. option_or o (Some v)) (h refl)
+put_later false v found x h = refl
+
+get-with_each : (ps : List (Dot × Presence)) (es : Entries) (q : Dot) → T (is_sorted dot_cmp ps) →
+    fin.get (with_each ps es) q ≡ option_or (fin.find dot_cmp q ps) (fin.get es q)
+get-with_each [] es q sorted = refl
+get-with_each (p ∷ ps) es q sorted =
+    let parts = and_yes (below_all dot_cmp p.0 ps) (is_sorted dot_cmp ps) sorted in
+    get-with_each ps (fin.insert es p.0 p.1) q parts.1
+    ∙ ap (option_or (fin.find dot_cmp q ps)) (get-insert es p.0 q p.1)
+    ∙ put_later (is_dot q p.0) p.1 (fin.find dot_cmp q ps) (fin.get es q) (λ e. ap (λ d. fin.find dot_cmp d ps) (is_dot-true q p.0 e)
+    ∙ find_below p.0 ps parts.0)
+
+-- new entries put in and taken out again
+
+neither : (t a : Bool) → (t || a) ≡ false → (t ≡ false) × (a ≡ false)
+neither true a h = absurd (true≢false h)
+neither false a h = (refl, h)
+
+untouched : (ps : List (Dot × Presence)) (es : Entries) (q : Dot) → list_any (is_dot q) (dots_of_pairs ps) ≡ false →
+    fin.get (with_each ps es) q ≡ fin.get es q
+untouched [] es q out = refl
+untouched (p ∷ ps) es q out =
+    let parts = neither (is_dot q p.0) (list_any (is_dot q) (dots_of_pairs ps)) out in
+    untouched ps (fin.insert es p.0 p.1) q parts.1 ∙ get-insert es p.0 q p.1 ∙ ap (λ t. cond t (Some p.1) (fin.get es q)) parts.0
+
+not_put : (t : Bool) (v : Presence) (o : Option Presence) → cond t (Some v) o ≡ None → o ≡ None
+not_put true v o h = absurd (cc)
+not_put false v o h = h
+
+was_none : (ps : List (Dot × Presence)) (es : Entries) (q : Dot) → AreNew ps es → list_any (is_dot q) (dots_of_pairs ps) ≡ true → fin.get es q ≡ None
+was_none [] es q new any = absurd (true≢false (sym any))
+was_none (p ∷ ps) es q new any = go (or_cases (is_dot q p.0) (list_any (is_dot q) (dots_of_pairs ps)) any)
+    (was_none ps (fin.insert es p.0 p.1) q new.1)
+  where
+    go : (is_dot q p.0 ≡ true) ⊎ (list_any (is_dot q) (dots_of_pairs ps) ≡ true) →
+        (list_any (is_dot q) (dots_of_pairs ps) ≡ true → fin.get (fin.insert es p.0 p.1) q ≡ None) → fin.get es q ≡ None
+    go (inl here) later = ap (fin.get es) (is_dot-true q p.0 here) ∙ new.0
+    go (inr rest) later = not_put (is_dot q p.0) p.1 (fin.get es q) (sym (get-insert es p.0 q p.1) ∙ later rest)
+
+pub put_and_taken : (ps : List (Dot × Presence)) (es : Entries) → AreNew ps es → without_each (dots_of_pairs ps) (with_each ps es) ≡ es
+put_and_taken ps es new = same_entries _ _ (λ q.
+    get-without_each (dots_of_pairs ps) (with_each ps es) q ∙ go q (list_any (is_dot q) (dots_of_pairs ps)) refl)
+  where
+    go : (q : Dot) (any : Bool) → list_any (is_dot q) (dots_of_pairs ps) ≡ any → cond any None (fin.get (with_each ps es) q) ≡ fin.get es q
+    go q true is = sym (was_none ps es q new is)
+    go q false is = untouched ps es q is
+
+-- a delivery's entries
+
+module _ (named : ℕ → Bool) (other s : Store) where
+  out : (gone : Bool) (e : Option Presence) → cond (is_some (cond gone e None)) None e ≡ cond (not gone) e None
+  out true None = refl
+  out true (Some p) = refl
+  out false e = refl
+
+  pub without_departures : without_each (fin.keys (departures named other s)) s.entries ≡ remaining named other s
+  without_departures = same_entries _ _ (λ q.
+      get-without_each (fin.keys (departures named other s)) s.entries q
+      ∙ ap (λ b. cond b None (fin.get s.entries q)) (sym (fin.contains_key-keys (departures named other s) q)
+      ∙ ap is_some (get-retain s.entries (leaves named other) q))
+      ∙ out (leaves named other q) (fin.get s.entries q)
+      ∙ sym (get-retain s.entries (λ d. not (leaves named other d)) q))
+
+  pub with_arrivals : with_each (fin.entries (arrivals named other s)) (remaining named other s) ≡ (merged named other s).entries
+  with_arrivals = same_entries _ _ (λ q.
+      get-with_each (fin.entries (arrivals named other s)) (remaining named other s) q (fin.entries_sorted (arrivals named other s))
+      ∙ ap (λ o. option_or o (fin.get (remaining named other s) q)) (sym (fin.get-entries (arrivals named other s) q))
+      ∙ sym (get-over (arrivals named other s) (remaining named other s) q))
+
+  unseen : (known seen stays : Bool) (e : Option Presence) → (is_some e ≡ true → seen ≡ true) → (known && not seen) ≡ true → cond stays e None ≡ None
+  unseen true true stays e live new = absurd (true≢false (sym new))
+  unseen true false true None live new = refl
+  unseen true false false e live new = refl
+  unseen true false true (Some p) live new = absurd (true≢false (sym (live refl)))
+  unseen false seen stays e live new = absurd (true≢false (sym new))
+
+  pub new_arrivals : AreSeen s.seen s.entries → AreNew (fin.entries (arrivals named other s)) (remaining named other s)
+  new_arrivals live = new_absent (fin.entries (arrivals named other s)) (remaining named other s) (fin.entries_sorted (arrivals named other s))
+      (subst (λ ps. AreAbsent ps (remaining named other s)) (sym (entries-retain other.entries (is_new named s)))
+      (absent_where (is_new named s) (fin.entries other.entries) (remaining named other s) (λ d new.
+      get-retain s.entries (λ d. not (leaves named other d)) d ∙ unseen (named d.name) (set.contains s.seen d) (not (leaves named other d))
+      (fin.get s.entries d) (live d) new)))
+
+-- as the calls give them
+module _ (named : ℕ → Bool) (other s : Store) (live : AreSeen s.seen s.entries) (joining : List Entry) (leaving : List Dot)
+    (before between after : Entries)
+    (joining_are : pairs joining ≡ fin.entries (arrivals named other s)) (leaving_are : leaving ≡ fin.keys (departures named other s))
+    (before_is : before ≡ s.entries) (between_is : between ≡ without_each leaving before) where
+  between_are : between ≡ remaining named other s
+  between_are = between_is ∙ ap (without_each leaving) before_is ∙ ap (λ ds. without_each ds s.entries) leaving_are ∙ without_departures named other s
+
+  pub joining_new : AreNew (pairs joining) between
+  joining_new = rw (joining_are, between_are) (new_arrivals named other s live)
+
+  module _ (after_is : after ≡ with_each (pairs joining) between) where
+    pub entries_after : after ≡ (merged named other s).entries
+    entries_after = after_is ∙ ap (λ ps. with_each ps between) joining_are
+        ∙ ap (with_each (fin.entries (arrivals named other s))) between_are ∙ with_arrivals named other s
+
+    module _ (joined : List Dot) (left : List Entry) (joined_are : joined ≡ dots_of_pairs (pairs joining))
+        (left_are : pairs left ≡ picked leaving before) where
+      rest : without_each joined after ≡ without_each leaving before
+      rest = ap (without_each joined) after_is ∙ ap (λ ds. without_each ds (with_each (pairs joining) between)) joined_are
+          ∙ put_and_taken (pairs joining) between joining_new ∙ between_is
+
+      pub entries_back : with_each (pairs left) (without_each joined after) ≡ s.entries
+      entries_back = ap (with_each (pairs left)) rest ∙ ap (λ ps. with_each ps (without_each leaving before)) left_are
+          ∙ put_back.back leaving before ∙ before_is
+
+      pub left_new : AreNew (pairs left) (without_each joined after)
+      left_new = rw (left_are, rest) (put_back.new leaving before)
+
+-- a delivery's dots
+
+pub seen_after : (named : ℕ → Bool) (other s : Store) (before heard after : Dots) → before ≡ s.seen → heard ≡ other.seen →
+    after ≡ set.union before (of_names named heard) → after ≡ (merged named other s).seen
+seen_after named other s before heard after before_is heard_is is = is ∙ (λ i. set.union (before_is i) (of_names named (heard_is i)))
+
+-- what was read twice of a message is the same
+pub seen_back : (named : ℕ → Bool) (parts : List OldPart) (other : Store) (before heard again after : Dots) → heard ≡ other.seen →
+    again ≡ other.seen → after ≡ set.union before (of_names named again) →
+    with_parts parts (set.union before (of_names named heard)) ≡ before → with_parts parts after ≡ before
+seen_back named parts other before heard again after heard_is again_is is whole =
+    ap (with_parts parts) (is ∙ ap (λ s. set.union before (of_names named s)) (again_is ∙ sym heard_is)) ∙ whole
+
+-- old parts
+
+-- whether one of the parts is of the name
+abbrev pub is_old : List OldPart → ℕ → Bool
+is_old ps n = list_any (λ (p : OldPart). n == p.name) ps
+
+-- each part is the one that the set has
+abbrev pub AreOld : Dots → List OldPart → Type 0
+AreOld s ps = AllByRecursion (λ (p : OldPart). with_part p.name p.part s ≡ s) ps
+
+in_place : (t a x y h : Bool) → x ≡ ((x && not t) || (t && h)) → cond a x ((y && not t) || (t && h)) ≡ cond (t || a) x y
+in_place true true x y h is = refl
+in_place true false true true h is = sym is
+in_place true false true false h is = sym is
+in_place true false false true h is = sym is
+in_place true false false false h is = sym is
+in_place false true x y h is = refl
+in_place false false x true h is = refl
+in_place false false x false h is = refl
+
+contains-with_parts : (s : Dots) (ps : List OldPart) → AreOld s ps → (t : Dots) (q : Dot) →
+    set.contains (with_parts ps t) q ≡ cond (is_old ps q.name) (set.contains s q) (set.contains t q)
+contains-with_parts s [] old t q = refl
+contains-with_parts s (p ∷ ps) old t q =
+    contains-with_parts s ps old.1 (with_part p.name p.part t) q
+    ∙ ap (cond (is_old ps q.name) (set.contains s q)) (contains-with_part p.name p.part t q)
+    ∙ in_place (q.name == p.name) (is_old ps q.name) (set.contains s q) (set.contains t q) (holds p.part q.clock)
+    (ap (λ s. set.contains s q) (sym old.0) ∙ contains-with_part p.name p.part s q)
+
+-- of the names below k, those of which the other set has a dot that was not seen have their part
+pub record OldBelow (named : ℕ → Bool) (other s : Dots) (k : ℕ) (ps : List OldPart) : Type 0 where
+  pub old : AreOld s ps
+  pub covers : (q : Dot) → q.name < k → named q.name ≡ true → is_old ps q.name ≡ false → set.contains other q ≡ true → set.contains s q ≡ true
+
+module _ (named : ℕ → Bool) (other s : Dots) where
+  pub old_none : (ps : List OldPart) → ps ≡ [] → OldBelow named other s 0 ps
+  old_none ps is = subst (OldBelow named other s 0) (sym is) (record { old = tt; covers = λ q low. absurd (omega arith) })
+
+  below_or_at : (q : Dot) (k : ℕ) → q.name < k + 1 → (q.name < k) ⊎ (q.name ≡ k)
+  below_or_at q k low = go (cases_lt q.name k)
+    where
+      go : (q.name < k) ⊎ (k ≤ q.name) → (q.name < k) ⊎ (q.name ≡ k)
+      go (inl below) = inl below
+      go (inr above) = inr (omega arith)
+
+  pub old_unnamed : (k : ℕ) (ps : List OldPart) → OldBelow named other s k ps → named k ≡ false → OldBelow named other s (k + 1) ps
+  old_unnamed k ps h unnamed = record { old = h.old; covers = λ q low on none there. go q on none there (below_or_at q k low) }
+    where
+      go : (q : Dot) → named q.name ≡ true → is_old ps q.name ≡ false → set.contains other q ≡ true → (q.name < k) ⊎ (q.name ≡ k) →
+          set.contains s q ≡ true
+      go q on none there (inl below) = h.covers q below on none there
+      go q on none there (inr at) = absurd (true≢false (sym on ∙ ap named at ∙ unnamed))
+
+  pub old_seen : (k : ℕ) (ps : List OldPart) → OldBelow named other s k ps → HasAllOf k s other → OldBelow named other s (k + 1) ps
+  old_seen k ps h all = record { old = h.old; covers = λ q low on none there. go q on none there (below_or_at q k low) }
+    where
+      go : (q : Dot) → named q.name ≡ true → is_old ps q.name ≡ false → set.contains other q ≡ true → (q.name < k) ⊎ (q.name ≡ k) →
+          set.contains s q ≡ true
+      go q on none there (inl below) = h.covers q below on none there
+      go q on none there (inr at) =
+          let is : q ≡ dot k q.clock = λ i. record { name = at i; clock = q.clock } in
+          ap (set.contains s) is ∙ all q.clock (ap (set.contains other) (sym is) ∙ there)
+
+  all_and : (ps : List OldPart) (p : OldPart) → AreOld s ps → with_part p.name p.part s ≡ s → AreOld s (ps ++ p ∷ [])
+  all_and [] p old is = (is, tt)
+  all_and (o ∷ ps) p old is = (old.0, all_and ps p old.1 is)
+
+  none_and : (ps : List OldPart) (p : OldPart) (n : ℕ) → is_old (ps ++ p ∷ []) n ≡ false → (is_old ps n ≡ false) × ((n == p.name) ≡ false)
+  none_and [] p n none = (refl, (neither (n == p.name) false none).0)
+  none_and (o ∷ ps) p n none =
+      let parts = neither (n == o.name) (is_old (ps ++ p ∷ []) n) none in
+      let later = none_and ps p n parts.1 in
+      (ap (λ t. t || is_old ps n) parts.0 ∙ later.0, later.1)
+
+  pub old_more : (k : ℕ) (ps after : List OldPart) (p : OldPart) → OldBelow named other s k ps → after ≡ ps ++ p ∷ [] → p.name ≡ k →
+      with_part p.name p.part s ≡ s → OldBelow named other s (k + 1) after
+  old_more k ps after p h is name part = subst (OldBelow named other s (k + 1)) (sym is)
+      (record { old = all_and ps p h.old part; covers = λ q low on none there. go q on (none_and ps p q.name none) there (below_or_at q k low) })
+    where
+      go : (q : Dot) → named q.name ≡ true → (is_old ps q.name ≡ false) × ((q.name == p.name) ≡ false) → set.contains other q ≡ true →
+          (q.name < k) ⊎ (q.name ≡ k) → set.contains s q ≡ true
+      go q on none there (inl below) = h.covers q below on none.0 there
+      go q on none there (inr at) = absurd (true≢false (sym (eq-eqb q.name p.name (at ∙ sym name)) ∙ none.1))
+
+  whole : (old seen there on : Bool) → (on ≡ true → old ≡ false → there ≡ true → seen ≡ true) → cond old seen (seen || (there && on)) ≡ seen
+  whole true seen there on h = refl
+  whole false true there on h = refl
+  whole false false false on h = refl
+  whole false false true false h = refl
+  whole false false true true h = absurd (true≢false (sym (h refl refl refl)))
+
+  pub old_all : (k : ℕ) (ps : List OldPart) → OldBelow named other s k ps → ((n : ℕ) → named n ≡ true → n < k) →
+      with_parts ps (set.union s (of_names named other)) ≡ s
+  old_all k ps h few = same_dots _ _ (λ q.
+      contains-with_parts s ps h.old (set.union s (of_names named other)) q
+      ∙ ap (cond (is_old ps q.name) (set.contains s q)) (contains-union s (of_names named other) q
+      ∙ ap (λ b. set.contains s q || b) (contains-retain other (λ d. named d.name) q))
+      ∙ whole (is_old ps q.name) (set.contains s q) (set.contains other q) (named q.name) (λ on none there. h.covers q (few q.name on) on none there))

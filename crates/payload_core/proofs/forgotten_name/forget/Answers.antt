@@ -1,0 +1,32 @@
+use Rattle.std.proofs.Common.{◌≡◌, ℕ, ◌==◌, not, List, ap, sym, subst, ◌∙◌}
+use Rattle.std.specs.FinMap as fin
+use Rattle.std.specs.FinSet as set
+use Rattle.dots_core.specs.declared.dot.Dot.{Dot}
+use Rattle.dots_core.specs.Dots.{Dots}
+use Rattle.dots_core.specs.Contexts.{others, with_part}
+use Rattle.payload_core.specs.EntryLists.{pairs}
+use Rattle.payload_core.specs.Presences.{Entries, entries_of_names, Presence}
+use Rattle.payload_core.specs.EntryMoves.{AreNew, picked, with_each, without_each}
+use Rattle.payload_core.specs.Stores.{Store}
+use Rattle.payload_core.proofs.PutBack.{forgot_entries, picked_new, put_back}
+use Rattle.payload_core.proofs.forgotten_name.forget.Goals as goal
+
+pub returns-clause-ok : goal.returns-clause-ok
+returns-clause-ok g c =
+    forgot_entries c.args.name (record { seen = c.store.inside.seen; entries = c.store.inside.entries.map }) c.args.store.now
+    c.with.result c.in_ok-dots.dots.items c.drop_name-part.new.self c.take_each.new.entries.map c.store.view_is
+    (c.with.ensures ∙ ap (λ s. set.insert s c.args.name) c.empty.ensures) c.in_ok-dots.ensures c.drop_name-part.ensures.rest
+    (c.in_ok-entries.ensures.map ∙ ap (λ ds. without_each ds c.store.inside.entries.map) c.deref.ensures.value)
+
+pub returns-clause-back : goal.returns-clause-back
+returns-clause-back g c =
+    (λ i. record {
+      seen = c.drop_name-part.ensures.whole i;
+      entries = (ap (λ ps. with_each ps c.take_each.new.entries.map) c.in_ok-entries.ensures.taken
+          ∙ ap (with_each (picked c.deref.result.now c.store.inside.entries.map)) c.in_ok-entries.ensures.map
+          ∙ put_back.back c.deref.result.now c.store.inside.entries.map) i;
+    })
+    ∙ c.store.view_is
+
+pub returns-clause-new : goal.returns-clause-new
+returns-clause-new g c = rw (c.in_ok-entries.ensures.taken, c.in_ok-entries.ensures.map) (put_back.new c.deref.result.now c.store.inside.entries.map)

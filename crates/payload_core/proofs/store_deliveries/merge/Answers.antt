@@ -1,0 +1,51 @@
+use Rattle.std.proofs.Common.{List, ◌++◌, ap, ◌∙◌}
+use Rattle.std.specs.FinSet as set
+use Rattle.payload_core.specs.EntryLists.{pairs}
+use Rattle.payload_core.specs.Presences.{Entry}
+use Rattle.payload_core.specs.Delivered.{store_of}
+use Rattle.payload_core.specs.EntryMoves.{dots_of_pairs, picked}
+use Rattle.payload_core.specs.Stores.{Store}
+use Rattle.payload_core.proofs.Undelivered.{entries_after, entries_back, joining_new, left_new, seen_after, seen_back}
+use Rattle.payload_core.proofs.store_deliveries.merge.Goals as goal
+
+pub put_each-requires-clause-new : goal.put_each-requires-clause-new
+put_each-requires-clause-new g c =
+    joining_new (set.contains c.args.names) (store_of c.args.message.now) c.args.store.now c.requires.live c.args.joining.items
+    c.args.leaving.now c.make_ready.new.entries.map c.move_each.new.entries.map c.move_each.new.entries.map c.requires.joining c.requires.leaving
+    (c.make_ready.ensures.entries ∙ ap (λ (s : Store). s.entries) c.store.view_is) c.move_each.ensures.map
+
+pub returns-clause-ok : goal.returns-clause-ok
+returns-clause-ok g c =
+    let entries = entries_after (set.contains c.args.names) (store_of c.args.message.now) c.args.store.now c.requires.live
+    c.args.joining.items c.args.leaving.now c.make_ready.new.entries.map c.move_each.new.entries.map c.put_each.new.entries.map
+    c.requires.joining c.requires.leaving
+    (c.make_ready.ensures.entries ∙ ap (λ (s : Store). s.entries) c.store.view_is) c.move_each.ensures.map c.put_each.ensures in
+    let seen = seen_after (set.contains c.args.names) (store_of c.args.message.now) c.args.store.now c.store.inside.seen c.seen-2.result.now
+    c.make_ready.new.seen (ap (λ (s : Store). s.seen) c.store.view_is) c.seen-2.ensures c.in_ok-make_ready.ensures.seen in
+    λ i. record { seen = seen i; entries = entries i }
+
+pub returns-clause-back : goal.returns-clause-back
+returns-clause-back g c =
+    let entries = entries_back (set.contains c.args.names) (store_of c.args.message.now) c.args.store.now c.requires.live
+    c.args.joining.items c.args.leaving.now c.make_ready.new.entries.map c.move_each.new.entries.map c.put_each.new.entries.map
+    c.requires.joining c.requires.leaving
+    (c.make_ready.ensures.entries ∙ ap (λ (s : Store). s.entries) c.store.view_is) c.move_each.ensures.map c.put_each.ensures
+    c.in_ok-joined.joined.items c.move_each.new.taken.items
+    (c.in_ok-joined.ensures ∙ ap (λ (es : List Entry). dots_of_pairs (pairs es)) c.deref.ensures.value)
+    (c.move_each.ensures.taken ∙ ap (λ (es : List Entry). pairs es ++ picked c.args.leaving.now c.make_ready.new.entries.map)
+    c.in_ok-left.ensures.items) in
+    let seen = seen_back (set.contains c.args.names) c.in_ok-parts.parts.items
+    (store_of c.args.message.now) c.store.inside.seen c.seen.result.now c.seen-2.result.now c.make_ready.new.seen c.seen.ensures
+    c.seen-2.ensures c.in_ok-make_ready.ensures.seen c.in_ok-parts.ensures
+    ∙ ap (λ (s : Store). s.seen) c.store.view_is in
+    λ i. record { seen = seen i; entries = entries i }
+
+pub returns-clause-new : goal.returns-clause-new
+returns-clause-new g c =
+    left_new (set.contains c.args.names) (store_of c.args.message.now) c.args.store.now c.requires.live c.args.joining.items
+    c.args.leaving.now c.make_ready.new.entries.map c.move_each.new.entries.map c.put_each.new.entries.map c.requires.joining c.requires.leaving
+    (c.make_ready.ensures.entries ∙ ap (λ (s : Store). s.entries) c.store.view_is) c.move_each.ensures.map c.put_each.ensures
+    c.in_ok-joined.joined.items c.move_each.new.taken.items
+    (c.in_ok-joined.ensures ∙ ap (λ (es : List Entry). dots_of_pairs (pairs es)) c.deref.ensures.value)
+    (c.move_each.ensures.taken ∙ ap (λ (es : List Entry). pairs es ++ picked c.args.leaving.now c.make_ready.new.entries.map)
+    c.in_ok-left.ensures.items)

@@ -1,0 +1,21 @@
+-- What a store held of a name that it forgot.
+use Rattle.std.specs.Prelude.{ℕ, ◌==◌, not, Bool, List}
+use Rattle.dots_core.specs.Clocks.{Clocks}
+use Rattle.dots_core.specs.Contexts.{with_part}
+use Rattle.payload_core.specs.EntryLists.{pairs}
+use Rattle.payload_core.specs.Presences.{Entry}
+use Rattle.payload_core.specs.EntryMoves.{with_each}
+use Rattle.payload_core.specs.Stores.{Store}
+
+-- its context clock and cloud, and its entries by rising dot
+pub record Forgotten : Type 0 where
+  pub part : Clocks
+  pub entries : List Entry
+
+-- whether the name is another one than this
+abbrev pub is_other : ℕ → ℕ → Bool
+is_other name n = not (n == name)
+
+-- the store with what it held of the name
+abbrev pub remembered : ℕ → Forgotten → Store → Store
+remembered name f s = record { seen = with_part name f.part s.seen; entries = with_each (pairs f.entries) s.entries }

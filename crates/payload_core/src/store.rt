@@ -1,0 +1,122 @@
+//! `Store`: dots that were seen, and the live entries among them.
+ghost use Rattle.std.specs.Prelude.{◌≡◌, ◌↔◌, IfOk, IsTrue, None, OnErr, OnOk};
+ghost use Rattle.std.specs.FinMap as fin;
+ghost use Rattle.std.specs.FinSet as set;
+ghost use Rattle.dots_core.specs.Dots.{IsValid};
+ghost use Rattle.payload_core.specs.Presences.{presence_of};
+ghost use Rattle.payload_core.specs.Stores.{nothing, part, with_entry, with_removal};
+
+use crate::entry::Entry;
+use crate::entry_set::EntrySet;
+use dots_core::{Dot, DotSet, NameSet, Oom};
+use std::alloc::Allocator;
+use std::marker::Model;
+
+/// Dots that were seen, and the live entries among them.
+#[derive(Drop)]
+pub struct Store<A: Allocator> {
+    pub(crate) seen: DotSet<A>,
+    pub(crate) entries: EntrySet<A>,
+}
+
+impl<A: Allocator> Model for Store<A> {
+    ghost use Rattle.payload_core.specs.Stores.{Store, store_code};
+
+    ghost Value = { Store };
+
+    ghost coded = { store_code };
+
+    ghost view = { λ s. record { seen = s.seen; entries = s.entries.map } };
+}
+
+impl<A: Allocator> Store<A> {
+    /// Puts in an entry with a new dot.
+    pub fn add(&mut self, entry: Entry<A>) -> Result<(), Oom>
+        requires valid { IsValid entry.dot }
+        requires absent { fin.get self.old.entries entry.dot ≡ None }
+        ensures ok { OnOk result (self.new ≡ with_entry entry.dot (presence_of entry) self.old) }
+        ensures err { OnErr result (self.new ≡ self.old) }
+    {
+        self.entries.make_room(1)?;
+        self.seen.insert(entry.dot)?;
+        self.entries.insert(entry).unwrap();
+        Ok(())
+    }
+
+    /// The dots that were seen.
+    pub fn seen(&self) -> &DotSet<A>
+        ensures { result.now ≡ self.now.seen }
+    {
+        &self.seen
+    }
+
+    /// The live entries.
+    pub fn entries(&self) -> &EntrySet<A>
+        ensures { result.now.map ≡ self.now.entries }
+    {
+        &self.entries
+    }
+
+    /// The store of these; the entries' room is forgotten.
+    pub fn from_parts(seen: DotSet<A>, entries: EntrySet<A>) -> Store<A>
+        ensures { result ≡ record { seen = seen; entries = entries.map } }
+    {
+        Store { seen, entries }
+    }
+
+    /// The dots that were seen, and the entries.
+    pub fn into_parts(self) -> (DotSet<A>, EntrySet<A>)
+        ensures seen { result.0 ≡ self.seen }
+        ensures entries { result.1.map ≡ self.entries }
+    {
+        let Store { seen, entries } = self;
+        (seen, entries)
+    }
+
+    /// Sees the dot, and takes its entry out.
+    pub fn remove(&mut self, dot: Dot) -> Result<(), Oom>
+        requires { IsValid dot }
+        ensures ok { OnOk result (self.new ≡ with_removal dot self.old) }
+        ensures err { OnErr result (self.new ≡ self.old) }
+    {
+        self.seen.insert(dot)?;
+        drop(self.entries.remove(dot));
+        Ok(())
+    }
+
+    pub fn same(&self, other: &Store<A>) -> bool
+        ensures { IsTrue result ↔ (self.now ≡ other.now) }
+    {
+        self.seen.same(&other.seen) && self.entries.same(&other.entries)
+    }
+}
+
+impl<A: Allocator + Copy> Store<A> {
+    pub fn new(alloc: A) -> Store<A>
+        ensures { result ≡ nothing }
+    {
+        Store {
+            seen: DotSet::new(alloc),
+            entries: EntrySet::new(alloc),
+        }
+    }
+
+    /// What it has of these names.
+    pub fn only(&self, names: NameSet) -> Result<Store<A>, Oom>
+        ensures { IfOk result (λ some. some ≡ part (set.contains names) self.now) }
+    {
+        Ok(Store {
+            seen: self.seen.only(names)?,
+            entries: self.entries.only(names)?,
+        })
+    }
+
+    pub fn try_copy(&self) -> Result<Store<A>, Oom>
+        ensures { IfOk result (λ copy. copy ≡ self.now) }
+    {
+        Ok(Store {
+            seen: self.seen.try_copy()?,
+            entries: self.entries.try_copy()?,
+        })
+    }
+}

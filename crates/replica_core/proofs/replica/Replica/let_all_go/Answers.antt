@@ -1,0 +1,35 @@
+use Rattle.std.proofs.Common.{length, rules}
+use Rattle.replica_core.proofs.ProcessLeft.{all_gone_is, all_valid, clock_here, clock_room, kept_all_gone}
+use Rattle.replica_core.proofs.replica.Replica.let_all_go.Goals as goal
+
+pub leave_each-requires : goal.leave_each-requires
+leave_each-requires g c =
+    let ds = c.args.dots.now in
+    let clock = c.own_clock-clock.result in (
+      search rules,
+      (
+        all_valid ds _ c.args.self.now c.self.view_is c.self.invariant c.requires.own c.requires.free,
+        (
+          c.self.invariant.name,
+          (
+            clock_room c.args.self.now clock (length ds) c.own_clock-clock.ensures.clock c.own_clock-clock.ensures.last c.requires.free,
+            (
+              c.self.invariant.clocks,
+              clock_here ds _ c.args.self.now c.self.view_is c.self.invariant c.requires.own c.requires.free clock
+                  c.own_clock-clock.ensures.clock,
+            ),
+          ),
+        ),
+      ),
+    )
+
+pub invariant_of-self-2 : goal.invariant_of-self-2
+invariant_of-self-2 g c =
+    kept_all_gone c.args.dots.now _ c.args.self.now c.self.view_is c.self.invariant c.requires.own c.requires.free
+    c.own_clock-clock.result c.own_clock-clock.ensures.clock c.leave_each.new.store c.leave_each.new.delta c.in_ok-lefts.ensures.store
+    c.in_ok-lefts.ensures.delta
+
+pub returns-clause-left : goal.returns-clause-left
+returns-clause-left g c =
+    all_gone_is c.args.dots.now _ c.args.self.now c.self.view_is c.self.invariant c.requires.own c.requires.free c.own_clock-clock.result
+    c.own_clock-clock.ensures.clock c.leave_each.new.store c.leave_each.new.delta c.in_ok-lefts.ensures.store c.in_ok-lefts.ensures.delta

@@ -1,0 +1,31 @@
+use Rattle.std.proofs.Common.{◌≡◌, rules, ap, sym, subst, ◌∙◌}
+use Rattle.payload_core.specs.Stores.{Store, without}
+use Rattle.replica_core.specs.Changes.{OfJoin, without_last}
+use Rattle.replica_core.specs.Invariant.{IsReplica}
+use Rattle.replica_core.proofs.Back.{back_holds, some_after_join}
+use Rattle.replica_core.proofs.Undone.{undo_valid, undo_last, undo_last_in_delta, undone_is}
+use Rattle.replica_core.proofs.replica.Replica.unjoin.Goals as goal
+
+pub unjoin-requires : goal.unjoin-requires
+unjoin-requires g c = (
+  search rules,
+  (
+    undo_valid _ c.args.self.now c.last-last.result c.self.view_is c.self.invariant c.last-last.ensures
+        (some_after_join c.args.self.now c.requires.0 c.requires.1),
+    (
+      undo_last _ c.args.self.now c.last-last.result c.self.view_is c.self.invariant c.last-last.ensures,
+      undo_last_in_delta _ c.args.self.now c.last-last.result c.self.view_is c.self.invariant c.last-last.ensures,
+    ),
+  ),
+)
+
+pub returns : goal.returns
+returns g c =
+    undone_is _ c.args.self.now c.last-last.result c.self.view_is c.self.invariant c.last-last.ensures c.unjoin.new.store
+    c.unjoin.new.delta c.unjoin.ensures.store c.unjoin.ensures.delta
+
+pub invariant_of-self : goal.invariant_of-self
+invariant_of-self g c =
+    subst IsReplica (sym (undone_is _ c.args.self.now c.last-last.result c.self.view_is c.self.invariant c.last-last.ensures
+    c.unjoin.new.store c.unjoin.new.delta c.unjoin.ensures.store c.unjoin.ensures.delta
+    ∙ back_holds OfJoin c.args.self.now c.requires.0 c.requires.1)) (c.requires.1).earlier

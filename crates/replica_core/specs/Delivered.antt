@@ -1,0 +1,27 @@
+-- A delivery that was accepted, and the delivery taken back.
+use Rattle.std.specs.Prelude.{◌≡◌, ℕ, None}
+use Rattle.std.specs.FinSet as set
+use Rattle.dots_core.specs.Names.{Names}
+use Rattle.payload_core.specs.EntryLists.{pairs}
+use Rattle.payload_core.specs.Messages.{Message}
+use Rattle.payload_core.specs.Delivered.{Delivered, undelivered}
+use Rattle.payload_core.specs.EntryMoves.{AreNew, without_each}
+use Rattle.replica_core.specs.Replicas.{Replica}
+use Rattle.replica_core.specs.Deliveries.{is_other_known, merged}
+use Rattle.replica_core.specs.Refusals.{merge_refusal}
+
+-- these are the other names that the replica knows
+abbrev pub AreOtherKnown : Names → Replica → Type 0
+AreOtherKnown names r = (n : ℕ) → set.contains names n ≡ is_other_known r n
+
+-- the store without what joined, and with what left
+abbrev pub with_undelivered : Delivered → Replica → Replica
+with_undelivered d r = record r { store = undelivered d r.store }
+
+-- one accepted delivery takes replica a to replica b, and the record names what it destroyed of a
+pub record IsDelivery (d : Delivered) (a b : Replica) : Type 0 where
+  pub message : Message
+  pub accepted : merge_refusal a message ≡ None
+  pub held : undelivered d b.store ≡ a.store
+  pub new : AreNew (pairs d.left) (without_each d.joined b.store.entries)
+  pub gives : b ≡ merged message a
