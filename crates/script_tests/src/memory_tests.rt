@@ -76,7 +76,7 @@ fn a_history_whose_report_is_refused_memory_is_told_later(rt: HostRuntime) {
             assert_eq!(rt; report.as_slice(), recorded.as_bytes(), "request {number}");
         }
         if heap.requests() < number {
-            assert!(rt; again.is_ok() && 40 < number);
+            assert!(rt; again.is_ok() && 1 < number);
             return;
         }
     }
