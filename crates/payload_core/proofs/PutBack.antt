@@ -13,14 +13,13 @@ use Rattle.dots_core.specs.Contexts.{others}
 use Rattle.dots_core.specs.Dots.{Dots}
 use Rattle.dots_core.specs.FlagsBack.{contains-insert_name}
 use Rattle.dots_core.specs.Names.{Names}
-use Rattle.payload_core.specs.ForgottenNames.{is_other}
-use Rattle.payload_core.specs.Stores.{Store, part}
+use Rattle.payload_core.specs.Stores.{Store, is_other, part}
 use Rattle.dots_core.specs.declared.dot.Dot.{Dot}
 use Rattle.dots_core.proofs.Order.{is_dot, is_dot-true, is_dot_same}
 use Rattle.payload_core.specs.Presences.{Presence, Entry, Entries, entries_of_names, entry_of}
 use Rattle.payload_core.specs.EntryLists.{pair_of, pairs}
 use Rattle.payload_core.proofs.EntryMaps.{get-insert, get-names, get-remove, same_entries}
-use Rattle.payload_core.specs.EntryMoves.{AreNew, PutBackLaw, found_at, picked, with_each, without_each}
+use Rattle.payload_core.specs.EntryMoves.{AreNew, found_at, picked, with_each, without_each}
 
 either_out : (a b : Bool) (x : Option Presence) → cond b None (cond a None x) ≡ cond (a || b) None x
 either_out true true x = refl
@@ -107,11 +106,8 @@ picked_new (d ∷ ds) es m away = go (fin.get es d) refl (λ m. picked_new ds (f
           ∙ away q (later (is_dot q d) (list_any (is_dot q) ds) any) (rest q some).1),
     )
 
-pub put_back : PutBackLaw
-put_back = record {
-  new = λ ds es. picked_new ds es (without_each ds es) (λ q any some. get-without_each ds es q ∙ ap (λ b. cond b None (fin.get es q)) any);
-  back = put_all_back;
-}
+pub all_picked_new : (ds : List Dot) (es : Entries) → AreNew (picked ds es) (without_each ds es)
+all_picked_new ds es = picked_new ds es (without_each ds es) (λ q any some. get-without_each ds es q ∙ ap (λ b. cond b None (fin.get es q)) any)
 
 -- the entries of some names, taken out
 

@@ -1,7 +1,7 @@
 -- A delivery, dot by dot.
 use Rattle.std.proofs.Common.{if◌then◌else◌, max, ◌≡◌, ℕ, [], ◌∷◌, ◌&&◌, ◌||◌, not, Bool, true, false, cond, Option, Some, None}
 use Rattle.std.proofs.Common.{is_some, refl, sym, ap, ◌∙◌, true≢false}
-use Rattle.std.proofs.Math.Bool.{or-false}
+use Rattle.std.proofs.Math.Bool.{and_comm, or-false}
 use Rattle.std.specs.Option.{option_or}
 use Rattle.std.specs.FinSet as set
 use Rattle.std.specs.FinMap as fin
@@ -26,17 +26,11 @@ get-merged named m r d =
     ∙ ap (λ o. option_or o (fin.get (remaining named m r) d)) (get-retain m.entries (is_new named r) d)
     ∙ ap (option_or (cond (is_new named r d) (fin.get m.entries d) None)) (get-retain r.entries (λ d. not (leaves named m d)) d)
 
-and_swap : (a b : Bool) → (a && b) ≡ (b && a)
-and_swap true true = refl
-and_swap true false = refl
-and_swap false true = refl
-and_swap false false = refl
-
 pub contains-merged : (named : ℕ → Bool) (m r : Store) (d : Dot) → set.contains (merged named m r).seen
     d ≡ (set.contains r.seen d || (named d.name && set.contains m.seen d))
 contains-merged named m r d =
     contains-union r.seen (of_names named m.seen) d
-    ∙ ap (λ b. set.contains r.seen d || b) (contains-retain m.seen (λ d. named d.name) d ∙ and_swap (set.contains m.seen d) (named d.name))
+    ∙ ap (λ b. set.contains r.seen d || b) (contains-retain m.seen (λ d. named d.name) d ∙ and_comm (set.contains m.seen d) (named d.name))
 
 -- a store again
 

@@ -24,7 +24,7 @@ use Rattle.payload_core.specs.Delivered.{OldPart, with_parts}
 use Rattle.payload_core.specs.EntryMoves.{AreNew, dots_of_pairs, picked, with_each, without_each}
 use Rattle.payload_core.specs.Stores.{Store, arrivals, departures, is_new, leaves, merged, remaining}
 use Rattle.payload_core.proofs.Collected.{entries-retain}
-use Rattle.payload_core.proofs.PutBack.{get-without_each, put_back}
+use Rattle.payload_core.proofs.PutBack.{all_picked_new, get-without_each, put_all_back}
 
 -- keys that rise differ
 
@@ -173,10 +173,10 @@ module _ (named : ℕ → Bool) (other s : Store) (live : AreSeen s.seen s.entri
 
       pub entries_back : with_each (pairs left) (without_each joined after) ≡ s.entries
       entries_back = ap (with_each (pairs left)) rest ∙ ap (λ ps. with_each ps (without_each leaving before)) left_are
-          ∙ put_back.back leaving before ∙ before_is
+          ∙ put_all_back leaving before ∙ before_is
 
       pub left_new : AreNew (pairs left) (without_each joined after)
-      left_new = rw (left_are, rest) (put_back.new leaving before)
+      left_new = rw (left_are, rest) (all_picked_new leaving before)
 
 -- a delivery's dots
 

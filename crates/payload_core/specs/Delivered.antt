@@ -5,7 +5,6 @@ use Rattle.dots_core.specs.Clocks.{Clocks}
 use Rattle.dots_core.specs.Contexts.{with_part}
 use Rattle.dots_core.specs.Dots.{Dots}
 use Rattle.payload_core.specs.EntryLists.{pairs}
-use Rattle.payload_core.specs.Messages.{Message}
 use Rattle.payload_core.specs.Presences.{Entry}
 use Rattle.payload_core.specs.EntryMoves.{with_each, without_each}
 use Rattle.payload_core.specs.Stores.{Store}
@@ -29,7 +28,3 @@ with_parts (p ∷ ps) s = with_parts ps (with_part p.name p.part s)
 -- the store without what joined, and with what left
 abbrev pub undelivered : Delivered → Store → Store
 undelivered r s = record { seen = with_parts r.parts s.seen; entries = with_each (pairs r.left) (without_each r.joined s.entries) }
-
--- what a message has
-abbrev pub store_of : Message → Store
-store_of m = record { seen = m.seen; entries = m.entries }

@@ -32,8 +32,3 @@ AreNew (p ∷ ps) es = (fin.get es p.0 ≡ None) × AreNew ps (fin.insert es p.0
 -- the dots of these
 abbrev pub dots_of_pairs : List (Dot × Presence) → List Dot
 dots_of_pairs ps = map (λ p. p.0) ps
-
--- what was taken out can be put back, and gives the map from before
-pub record PutBackLaw : Type 0 where
-  pub new : (ds : List Dot) (es : Entries) → AreNew (picked ds es) (without_each ds es)
-  pub back : (ds : List Dot) (es : Entries) → with_each (picked ds es) (without_each ds es) ≡ es

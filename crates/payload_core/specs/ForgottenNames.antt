@@ -1,5 +1,5 @@
 -- What a store held of a name that it forgot.
-use Rattle.std.specs.Prelude.{ℕ, ◌==◌, not, Bool, List}
+use Rattle.std.specs.Prelude.{ℕ, List}
 use Rattle.dots_core.specs.Clocks.{Clocks}
 use Rattle.dots_core.specs.Contexts.{with_part}
 use Rattle.payload_core.specs.EntryLists.{pairs}
@@ -11,10 +11,6 @@ use Rattle.payload_core.specs.Stores.{Store}
 pub record Forgotten : Type 0 where
   pub part : Clocks
   pub entries : List Entry
-
--- whether the name is another one than this
-abbrev pub is_other : ℕ → ℕ → Bool
-is_other name n = not (n == name)
 
 -- the store with what it held of the name
 abbrev pub remembered : ℕ → Forgotten → Store → Store

@@ -1,10 +1,11 @@
 -- Dots that were seen, and the live entries among them: a replica's store, its delta and what a message carries are such.
-use Rattle.std.specs.Prelude.{◌≡◌, ℕ, ◌&&◌, not, Bool, true, refl, if◌then◌else◌}
+use Rattle.std.specs.Prelude.{◌≡◌, ℕ, ◌==◌, ◌&&◌, not, Bool, true, refl, if◌then◌else◌}
 use Rattle.std.specs.Coded.{Coded, code_by, coded×}
 use Rattle.std.specs.FinMap as fin
 use Rattle.std.specs.FinSet as set
 use Rattle.dots_core.specs.declared.dot.Dot.{Dot}
 use Rattle.dots_core.specs.Dots.{Dots, dot_code, of_names}
+use Rattle.payload_core.specs.Messages.{Message}
 use Rattle.payload_core.specs.Presences.{Presence, Entries, entries_code, entries_of_names, over}
 
 -- a dot that was seen and has no entry was removed
@@ -39,6 +40,14 @@ without_entry d s = record s { entries = fin.remove s.entries d }
 -- the dot was not seen, and has no entry
 abbrev pub without : Dot → Store → Store
 without d s = record { seen = set.remove s.seen d; entries = fin.remove s.entries d }
+
+-- what a message has
+abbrev pub store_of : Message → Store
+store_of m = record { seen = m.seen; entries = m.entries }
+
+-- whether the name is another one than this
+abbrev pub is_other : ℕ → ℕ → Bool
+is_other name n = not (n == name)
 
 -- what it has of these names
 abbrev pub part : (ℕ → Bool) → Store → Store

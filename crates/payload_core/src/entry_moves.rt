@@ -1,7 +1,7 @@
 //! Entries moved out of a set one after another, and put back.
 ghost use Rattle.std.specs.Prelude.{◌≡◌, ◌≤◌, ◌+◌, ◌++◌, IfOk, OnErr, OnOk, length, vec_capacity, vec_len};
 ghost use Rattle.payload_core.specs.EntryLists.{pairs};
-ghost use Rattle.payload_core.specs.EntryMoves.{AreNew, PutBackLaw, picked, with_each, without_each};
+ghost use Rattle.payload_core.specs.EntryMoves.{AreNew, picked, with_each, without_each};
 
 use crate::entry::Entry;
 use crate::entry_set::EntrySet;
@@ -61,9 +61,3 @@ pub fn put_each<A: Allocator>(entries: &mut EntrySet<A>, taken: Vec<Entry<A>, A>
         entries.insert(entry).unwrap();
     }
 }
-
-/// What `take_each` took can be put back by `put_each`, and gives the entries from before.
-#[tactic(auto, using(crate::proofs::PutBack::put_back))]
-pub fn put_back_law()
-    ensures { PutBackLaw }
-{}

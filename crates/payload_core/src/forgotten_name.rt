@@ -4,9 +4,9 @@ ghost use Rattle.std.specs.FinMap as fin;
 ghost use Rattle.std.specs.FinSet as set;
 ghost use Rattle.payload_core.specs.EntryLists.{pairs};
 ghost use Rattle.payload_core.specs.EntryMoves.{AreNew};
-ghost use Rattle.payload_core.specs.ForgottenNames.{is_other, remembered};
+ghost use Rattle.payload_core.specs.ForgottenNames.{remembered};
 ghost use Rattle.payload_core.specs.Presences.{entries_of_names};
-ghost use Rattle.payload_core.specs.Stores.{part};
+ghost use Rattle.payload_core.specs.Stores.{is_other, part};
 
 use crate::entry::Entry;
 use crate::entry_moves::{put_each, take_each};

@@ -30,7 +30,6 @@ mod word;
 
 pub use dots_core::Oom;
 pub use entry::Entry;
-pub use entry_moves::put_back_law;
 pub use entry_set::EntrySet;
 pub use forgotten_name::{Forgotten, forget, remember};
 pub use leaves_together::{leave_each, restore_each};

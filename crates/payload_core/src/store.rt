@@ -1,14 +1,10 @@
 //! `Store`: dots that were seen, and the live entries among them.
-ghost use Rattle.std.specs.Prelude.{◌≡◌, ◌↔◌, IfOk, IsTrue, None, OnErr, OnOk};
-ghost use Rattle.std.specs.FinMap as fin;
+ghost use Rattle.std.specs.Prelude.{◌≡◌, ◌↔◌, IfOk, IsTrue};
 ghost use Rattle.std.specs.FinSet as set;
-ghost use Rattle.dots_core.specs.Dots.{IsValid};
-ghost use Rattle.payload_core.specs.Presences.{presence_of};
-ghost use Rattle.payload_core.specs.Stores.{nothing, part, with_entry, with_removal};
+ghost use Rattle.payload_core.specs.Stores.{nothing, part};
 
-use crate::entry::Entry;
 use crate::entry_set::EntrySet;
-use dots_core::{Dot, DotSet, NameSet, Oom};
+use dots_core::{DotSet, NameSet, Oom};
 use std::alloc::Allocator;
 use std::marker::Model;
 
@@ -30,19 +26,6 @@ impl<A: Allocator> Model for Store<A> {
 }
 
 impl<A: Allocator> Store<A> {
-    /// Puts in an entry with a new dot.
-    pub fn add(&mut self, entry: Entry<A>) -> Result<(), Oom>
-        requires valid { IsValid entry.dot }
-        requires absent { fin.get self.old.entries entry.dot ≡ None }
-        ensures ok { OnOk result (self.new ≡ with_entry entry.dot (presence_of entry) self.old) }
-        ensures err { OnErr result (self.new ≡ self.old) }
-    {
-        self.entries.make_room(1)?;
-        self.seen.insert(entry.dot)?;
-        self.entries.insert(entry).unwrap();
-        Ok(())
-    }
-
     /// The dots that were seen.
     pub fn seen(&self) -> &DotSet<A>
         ensures { result.now ≡ self.now.seen }
@@ -71,17 +54,6 @@ impl<A: Allocator> Store<A> {
     {
         let Store { seen, entries } = self;
         (seen, entries)
-    }
-
-    /// Sees the dot, and takes its entry out.
-    pub fn remove(&mut self, dot: Dot) -> Result<(), Oom>
-        requires { IsValid dot }
-        ensures ok { OnOk result (self.new ≡ with_removal dot self.old) }
-        ensures err { OnErr result (self.new ≡ self.old) }
-    {
-        self.seen.insert(dot)?;
-        drop(self.entries.remove(dot));
-        Ok(())
     }
 
     pub fn same(&self, other: &Store<A>) -> bool

@@ -3,11 +3,11 @@ ghost use Rattle.std.specs.Prelude.{◌≡◌, ◌≤◌, IfErr, IfOk, OnErr, On
 ghost use Rattle.std.specs.FinMap as fin;
 ghost use Rattle.std.specs.FinSet as set;
 ghost use Rattle.dots_core.specs.Dots.{of_names};
-ghost use Rattle.payload_core.specs.Delivered.{store_of, undelivered, with_parts};
+ghost use Rattle.payload_core.specs.Delivered.{undelivered, with_parts};
 ghost use Rattle.payload_core.specs.EntryLists.{pairs};
 ghost use Rattle.payload_core.specs.EntryMoves.{AreNew, dots_of_pairs, without_each};
 ghost use Rattle.payload_core.specs.Messages.{AreSeen};
-ghost use Rattle.payload_core.specs.Stores.{arrivals, departures, merged};
+ghost use Rattle.payload_core.specs.Stores.{arrivals, departures, merged, store_of};
 
 use crate::entry::Entry;
 use crate::entry_moves::{move_each, put_each, take_out_each};

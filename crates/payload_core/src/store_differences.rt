@@ -2,9 +2,8 @@
 ghost use Rattle.std.specs.Prelude.{◌≡◌, IfOk};
 ghost use Rattle.std.specs.FinMap as fin;
 ghost use Rattle.std.specs.FinSet as set;
-ghost use Rattle.payload_core.specs.Delivered.{store_of};
 ghost use Rattle.payload_core.specs.EntryLists.{pairs};
-ghost use Rattle.payload_core.specs.Stores.{arrivals, departures, is_new, leaves};
+ghost use Rattle.payload_core.specs.Stores.{arrivals, departures, is_new, leaves, store_of};
 
 use crate::entry::Entry;
 use crate::payload::Payload;

@@ -1,14 +1,12 @@
 -- Forgetting a name.
-use Rattle.std.proofs.Common.{◌≡◌, ℕ, ◌≤◌, ◌==◌, ◌&&◌, not, Bool, true, false, cond, Option, Some, None, is_some, length, refl, sym}
+use Rattle.std.proofs.Common.{◌≡◌, ℕ, ◌≤◌, ◌==◌, ◌&&◌, not, Bool, true, false, cond, Option, Some, None, is_some, refl, sym}
 use Rattle.std.proofs.Common.{ap, ◌∙◌, subst, arith, true≢false}
 use Rattle.std.proofs.lemmas.Bool.{eqb-false, ne_eqb, not-true}
-use Rattle.std.proofs.lemmas.List.Filters.{length-filter_both}
 use Rattle.std.specs.FinMap as fin
-use Rattle.std.specs.FinMap.Entries.{where_key}
 use Rattle.std.specs.FinSet as set
 use Rattle.dots_core.specs.declared.dot.Dot.{Dot}
 use Rattle.dots_core.specs.Contexts.{others}
-use Rattle.dots_core.specs.Dots.{Dots, dot_cmp}
+use Rattle.dots_core.specs.Dots.{Dots}
 use Rattle.dots_core.specs.Names.{Names}
 use Rattle.dots_core.proofs.Names.{contains-remove_name}
 use Rattle.dots_core.proofs.OwnClock.{clocks_same, own_same}
@@ -16,11 +14,11 @@ use Rattle.dots_core.proofs.Sets.{contains-retain, of_names_cases}
 use Rattle.payload_core.specs.Presences.{Presence, Entries, entries_of_names}
 use Rattle.payload_core.proofs.EntryMaps.{get-names, same_entries}
 use Rattle.payload_core.proofs.SeenEntries.{seen-names}
-use Rattle.payload_core.specs.Stores.{Store, part}
-use Rattle.replica_core.specs.Replicas.{Replica, own_clock, is_other, forgotten}
+use Rattle.payload_core.specs.Stores.{Store, is_other, part}
+use Rattle.payload_core.proofs.MergedCounts.{len-retain}
+use Rattle.replica_core.specs.Replicas.{Replica, own_clock, forgotten}
 use Rattle.replica_core.specs.Views.{View, AreKnown}
 use Rattle.replica_core.specs.Invariant.{IsReplica}
-use Rattle.replica_core.proofs.Edits.{entries-retain}
 use Rattle.replica_core.proofs.Once.{once_kept}
 use Rattle.replica_core.proofs.Views.{get_remove_view}
 
@@ -33,14 +31,6 @@ and_true false = refl
 some_part : (t : Bool) (o : Option Presence) (p : Presence) → cond t o None ≡ Some p → o ≡ Some p
 some_part true o p h = h
 some_part false o p h = absurd (cc)
-
-fewer : (m : Entries) (p : Dot → Bool) → fin.len (fin.retain_keys m p) ≤ fin.len m
-fewer m p =
-    let part : fin.len (fin.retain_keys m p) ≡ length (where_key dot_cmp p (fin.entries m)) = fin.len-entries (fin.retain_keys m p)
-    ∙ ap length (entries-retain m p) in
-    let all = length-filter_both (λ (e : Dot × Presence). p e.0) (λ (e : Dot × Presence). not (p e.0)) (λ e. refl) (fin.entries m) in
-    let len = fin.len-entries m in
-    omega (arith, part, all, len)
 
 module _ (r : Replica) (name : ℕ) (h : IsReplica r) (other : (name == r.own) ≡ false) where
   -- own dots are another name's
@@ -67,7 +57,7 @@ module _ (r : Replica) (name : ℕ) (h : IsReplica r) (other : (name == r.own) �
     clock = let same : own_clock (forgotten name r) ≡ own_clock r = sym
         (ap set.len (own_same r.own r.store.seen (forgotten name r).store.seen own_kept)) in let low = h.clock in omega arith;
     live = seen-names (is_other name) r.store.seen r.store.entries h.live;
-    few = let less = fewer r.store.entries (λ d. is_other name d.name) in let few = h.few in omega (arith, less, few);
+    few = let less = len-retain r.store.entries (λ d. is_other name d.name) in let few = h.few in omega (arith, less, few);
     once = once_kept r (forgotten name r) refl (λ d p mine e. sym (own_entry d mine) ∙ e) h.once;
     delta_live = h.delta_live;
     delta_own = λ d e. let old = h.delta_own d e in (old.0, sym (own_kept d old.0) ∙ old.1);

@@ -2,7 +2,7 @@
 use Rattle.std.proofs.Common.{◌≡◌, ◌≢◌, ◌⊎◌, inl, inr, ℕ, ◌+◌, ◌-◌, ◌<◌, ◌≤◌, ◌==◌, ◌&&◌, ◌||◌, Bool, true, false, cond, Option, Some}
 use Rattle.std.proofs.Common.{None, is_some, refl, sym, ap, ◌∙◌, subst, arith, true≢false}
 use Rattle.std.proofs.Math.Bool.{or-false}
-use Rattle.std.proofs.lemmas.Bool.{and_parts, eq-eqb, eqb-false, ltb-false, ne_eqb, false_from_ne_true}
+use Rattle.std.proofs.lemmas.Bool.{and_parts, eq-eqb, eqb-false, ltb-false, ne_eqb, false_from_ne_true, or_cases}
 use Rattle.std.specs.FinMap as fin
 use Rattle.std.specs.FinSet as set
 use Rattle.std.specs.Ordering.{nat_cmp}
@@ -16,18 +16,18 @@ use Rattle.payload_core.specs.Presences.{Presence, Entries, entries_of_names}
 use Rattle.payload_core.specs.Messages.{Message, AreSeen}
 use Rattle.payload_core.proofs.EntryMaps.{get_inserted, get_insert_other, get_remove_other}
 use Rattle.payload_core.proofs.SeenEntries.{seen_none, seen-insert, seen-remove, seen-names}
-use Rattle.payload_core.specs.Stores.{Store, nothing}
+use Rattle.payload_core.specs.Stores.{Store, nothing, store_of}
+use Rattle.payload_core.proofs.StoreMerges.{contains-merged, entry_after, get-merged}
 use Rattle.replica_core.specs.declared.node_limits.NodeLimits.{NodeLimits}
 use Rattle.replica_core.specs.declared.status.Status.{Status}
 use Rattle.replica_core.specs.declared.status.Status.TheVariants.{Up}
 use Rattle.replica_core.specs.Limits.{AreNodeLimits}
 use Rattle.replica_core.specs.Replicas.{Replica, opening, own_clock, fresh, last, is_known, joined, dropped, ticked, with_status}
 use Rattle.replica_core.specs.Replicas.{without_delta, with_delta, CanBeDelta}
-use Rattle.replica_core.specs.Deliveries.{is_other_known, merged, merged_entries}
+use Rattle.replica_core.specs.Deliveries.{is_other_known, merged}
 use Rattle.replica_core.specs.Refusals.{is_tracked, are_too_many, is_clock_full}
 use Rattle.replica_core.specs.Invariant.{IsReplica}
 use Rattle.replica_core.proofs.Views.{get_insert_view}
-use Rattle.replica_core.proofs.Deliveries.{entry_after, get-merged, contains-merged}
 use Rattle.replica_core.proofs.Once.{inserted_entry, removed_entry, once_kept, once_joined, own_is_not_other, own_entry-merged, once_merged}
 
 -- the opening
@@ -218,10 +218,6 @@ module _ (r : Replica) (h : IsReplica r) where
 
 -- a delivery
 
-or_cases : (a b : Bool) → (a || b) ≡ true → (a ≡ true) ⊎ (b ≡ true)
-or_cases true b h = inl refl
-or_cases false b h = inr h
-
 live_after : (k s a : Bool) (e x : Option Presence) → (is_some e ≡ true → s ≡ true) → (is_some x ≡ true → a ≡ true) →
     is_some (entry_after k s e a x) ≡ true → (s || (k && a)) ≡ true
 live_after k true a e x le lx h = refl
@@ -232,10 +228,10 @@ live_after false false a e x le lx h = le h
 
 module _ (m : Message) (r : Replica) (h : IsReplica r) (valid : AreValid m.seen) (live : AreSeen m.seen m.entries) where
   seen_more : (d : Dot) → set.contains r.store.seen d ≡ true → set.contains (merged m r).store.seen d ≡ true
-  seen_more d e = contains-merged m r d ∙ ap (λ b. b || (is_other_known r d.name && set.contains m.seen d)) e
+  seen_more d e = contains-merged (is_other_known r) (store_of m) r.store d ∙ ap (λ b. b || (is_other_known r d.name && set.contains m.seen d)) e
 
   merged_own : (d : Dot) → d.name ≡ r.own → set.contains r.store.seen d ≡ set.contains (merged m r).store.seen d
-  merged_own d e = sym (contains-merged m r d ∙ ap (λ b. set.contains r.store.seen d || (b && set.contains m.seen d))
+  merged_own d e = sym (contains-merged (is_other_known r) (store_of m) r.store d ∙ ap (λ b. set.contains r.store.seen d || (b && set.contains m.seen d))
       (own_is_not_other r d e) ∙ or-false (set.contains r.store.seen d))
 
   merged_valid : (d : Dot) → (set.contains r.store.seen d ≡ true) ⊎ ((is_other_known r d.name && set.contains m.seen d) ≡ true) → IsValid d
@@ -246,20 +242,20 @@ module _ (m : Message) (r : Replica) (h : IsReplica r) (valid : AreValid m.seen)
   merged_known d (inl e) = h.known d e
   merged_known d (inr e) = (and_parts _ _ (and_parts _ _ e).0).0
 
-  pub kept_merged : fin.len (merged_entries m r) ≤ r.limits.entries → IsReplica (merged m r)
+  pub kept_merged : fin.len (merged m r).store.entries ≤ r.limits.entries → IsReplica (merged m r)
   kept_merged few = record {
     name = h.name;
     up = h.up;
     limits = h.limits;
-    valid = λ d e. merged_valid d (or_cases _ _ (sym (contains-merged m r d) ∙ e));
-    known = λ d e. merged_known d (or_cases _ _ (sym (contains-merged m r d) ∙ e));
+    valid = λ d e. merged_valid d (or_cases _ _ (sym (contains-merged (is_other_known r) (store_of m) r.store d) ∙ e));
+    known = λ d e. merged_known d (or_cases _ _ (sym (contains-merged (is_other_known r) (store_of m) r.store d) ∙ e));
     clocks = clocks_same r.own r.store.seen (merged m r).store.seen merged_own h.clocks;
     clock = let same : own_clock (merged m r) ≡ own_clock r = sym
         (ap set.len (own_same r.own r.store.seen (merged m r).store.seen merged_own)) in let low = h.clock in omega arith;
     live = λ d e.
-        contains-merged m r d
+        contains-merged (is_other_known r) (store_of m) r.store d
         ∙ live_after (is_other_known r d.name) (set.contains r.store.seen d) (set.contains m.seen d) (fin.get r.store.entries d)
-        (fin.get m.entries d) (h.live d) (live d) (ap is_some (sym (get-merged m r d)) ∙ e);
+        (fin.get m.entries d) (h.live d) (live d) (ap is_some (sym (get-merged (is_other_known r) (store_of m) r.store d)) ∙ e);
     few = few;
     once = once_merged m r h.once;
     delta_live = h.delta_live;

@@ -7,7 +7,6 @@ pub mod Left
 pub mod ProcessLeft
 pub mod Forgotten
 pub mod Calls
-pub mod Edits
 pub mod Delivered
 pub mod Back
 pub mod Undone

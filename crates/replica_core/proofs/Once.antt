@@ -12,13 +12,14 @@ use Rattle.dots_core.specs.Dots.{dot_cmp}
 use Rattle.dots_core.proofs.Order.{dot_cases, is_dot, is_dot_same, is_dot_below}
 use Rattle.payload_core.specs.Presences.{Presence, Entries, is_tracked_as}
 use Rattle.payload_core.specs.Messages.{Message}
+use Rattle.payload_core.specs.Stores.{store_of}
 use Rattle.payload_core.proofs.EntryMaps.{get_inserted, get_insert_other, get_removed, get_remove_other}
+use Rattle.payload_core.proofs.StoreMerges.{entry_after, get-merged}
 use Rattle.payload_core.proofs.TrackedDots.{EachPasses, as_tracked, tracked_as, dots_of_pass, none_passes}
 use Rattle.replica_core.specs.Replicas.{Replica, fresh, own_dots, tracked_dots, dropped, joined, is_known}
 use Rattle.replica_core.specs.Deliveries.{is_other_known, merged}
 use Rattle.replica_core.specs.Refusals.{is_some_dot, is_tracked}
 use Rattle.replica_core.specs.Invariant.{IsOnce}
-use Rattle.replica_core.proofs.Deliveries.{entry_after, get-merged}
 
 -- an entry after an insert is the new one or was there
 pub inserted_entry : (m : Entries) (k q : Dot) (v w : Presence) → fin.get (fin.insert m k v) q ≡ Some w →
@@ -135,7 +136,7 @@ own_is_not_other r d e = and_right (is_known r d.name) _ (ap not (eq-eqb d.name 
 
 pub own_entry-merged : (m : Message) (r : Replica) (d : Dot) → d.name ≡ r.own → fin.get (merged m r).store.entries d ≡ fin.get r.store.entries d
 own_entry-merged m r d mine =
-    get-merged m r d ∙ ap (λ k. entry_after k (set.contains r.store.seen d) (fin.get r.store.entries d) (set.contains m.seen d)
+    get-merged (is_other_known r) (store_of m) r.store d ∙ ap (λ k. entry_after k (set.contains r.store.seen d) (fin.get r.store.entries d) (set.contains m.seen d)
     (fin.get m.entries d)) (own_is_not_other r d mine)
 
 pub once_merged : (m : Message) (r : Replica) → IsOnce r → IsOnce (merged m r)

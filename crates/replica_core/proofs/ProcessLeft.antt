@@ -22,7 +22,7 @@ use Rattle.payload_core.specs.Stores.{Store}
 use Rattle.payload_core.specs.LeavesTogether.{AreLive, Differ, dots_before_each, entries_left, left_delta, left_store, lefts_of}
 use Rattle.payload_core.specs.LeavesTogether.{restored_delta_each, restored_each, unsent_left, with_dots, with_next, without_next}
 use Rattle.payload_core.proofs.LeftTogether.{AreAmong, dots_back, entries_picked, lefts_length, lefts_valid, unsent_picked}
-use Rattle.payload_core.proofs.PutBack.{put_back}
+use Rattle.payload_core.proofs.PutBack.{all_picked_new, put_all_back}
 use Rattle.payload_core.proofs.SeenTogether.{AreOther, EndsAt, counts_after, next_back, next_first, other_dots, with_one_more}
 use Rattle.replica_core.specs.Invariant.{IsReplica}
 use Rattle.replica_core.specs.Leaves.{AreOwnSeen}
@@ -203,7 +203,7 @@ module _ (a : Replica) (h : IsReplica a) where
       seen =
           (ap (λ n. without_next a.own (own_clock a) n after.store.seen) count
           ∙ next_back a.own (own_clock a) (length ds) a.store.seen (last_is_last a h)) i;
-      entries = (ap (λ ps. with_each ps (without_each ds a.store.entries)) entries_are ∙ put_back.back ds a.store.entries) i;
+      entries = (ap (λ ps. with_each ps (without_each ds a.store.entries)) entries_are ∙ put_all_back ds a.store.entries) i;
     }
 
     delta_back : restored_delta_each a.own (own_clock a) lefts after.delta ≡ a.delta
@@ -214,7 +214,7 @@ module _ (a : Replica) (h : IsReplica a) where
           ∙ ap (dots_before_each lefts) (next_back a.own (own_clock a) (length ds) (with_dots ds a.delta.seen) delta_ends)
           ∙ dots_back ds a.store.entries a.delta.entries a.delta.seen differ live
           ) i;
-      entries = (ap (λ ps. with_each ps (without_each ds a.delta.entries)) unsent_are ∙ put_back.back ds a.delta.entries) i;
+      entries = (ap (λ ps. with_each ps (without_each ds a.delta.entries)) unsent_are ∙ put_all_back ds a.delta.entries) i;
     }
 
     restorable_after : AllRestorable lefts after a
@@ -226,8 +226,8 @@ module _ (a : Replica) (h : IsReplica a) where
           clock_back ∙ (λ i. record a { store = store_back i; delta = delta_back i });
       some = omega (arith, count, clock_after);
       valid = lefts_valid ds a.store.entries a.delta.entries a.delta.seen (each_valid ds own);
-      new = subst (λ ps. AreNew ps (without_each ds a.store.entries)) (sym entries_are) (put_back.new ds a.store.entries);
-      new_in_delta = subst (λ ps. AreNew ps (without_each ds a.delta.entries)) (sym unsent_are) (put_back.new ds a.delta.entries);
+      new = subst (λ ps. AreNew ps (without_each ds a.store.entries)) (sym entries_are) (all_picked_new ds a.store.entries);
+      new_in_delta = subst (λ ps. AreNew ps (without_each ds a.delta.entries)) (sym unsent_are) (all_picked_new ds a.delta.entries);
     }
 
     pub restorable_each : (ls : List Left) (b : Replica) → ls ≡ lefts_of ds a.store.entries a.delta.entries a.delta.seen →

@@ -1,9 +1,8 @@
 -- Laws of deliveries and of the delta.
-use Rattle.std.specs.Prelude.{◌≡◌, Some, None}
-use Rattle.std.specs.FinMap as fin
-use Rattle.dots_core.specs.declared.dot.Dot.{Dot}
-use Rattle.payload_core.specs.Presences.{Presence, Entries}
-use Rattle.payload_core.specs.Messages.{Message, AreSeen}
+use Rattle.std.specs.Prelude.{◌≡◌, None}
+use Rattle.payload_core.specs.Laws.{Agree, IsStore}
+use Rattle.payload_core.specs.Messages.{Message}
+use Rattle.payload_core.specs.Stores.{store_of}
 use Rattle.replica_core.specs.Replicas.{Replica, CanBeDelta, delta_message, without_delta, with_delta}
 use Rattle.replica_core.specs.Deliveries.{merged, TakesGreaterStandings}
 use Rattle.replica_core.specs.Refusals.{merge_refusal}
@@ -14,19 +13,15 @@ pub record AgainLaw : Type 0 where
   pub accepted : (m : Message) (r : Replica) → merge_refusal r m ≡ None → merge_refusal (merged m r) m ≡ None
   pub same : (m : Message) (r : Replica) → merged m (merged m r) ≡ merged m r
 
--- the two maps have no two entries at one dot
-abbrev pub Agree : Entries → Entries → Type 0
-Agree one other = (d : Dot) (p q : Presence) → fin.get one d ≡ Some p → fin.get other d ≡ Some q → p ≡ q
-
 -- two messages that have no two entries at one dot give the same replica in either order
 abbrev pub OrderLaw : Type 0
 OrderLaw =
-    (m n : Message) (r : Replica) → AreSeen r.store.seen r.store.entries → AreSeen m.seen m.entries → AreSeen n.seen n.entries →
-    Agree m.entries n.entries → merged n (merged m r) ≡ merged m (merged n r)
+    (m n : Message) (r : Replica) → IsStore r.store → IsStore (store_of m) → IsStore (store_of n) → Agree m.entries n.entries →
+    merged n (merged m r) ≡ merged m (merged n r)
 
 -- after a delivery each dot of another known name has the greater of its two standings, and each other dot the one it had
 abbrev pub StandingLaw : Type 0
-StandingLaw = (m : Message) (r : Replica) → AreSeen r.store.seen r.store.entries → AreSeen m.seen m.entries → TakesGreaterStandings m r (merged m r)
+StandingLaw = (m : Message) (r : Replica) → IsStore r.store → IsStore (store_of m) → TakesGreaterStandings m r (merged m r)
 
 -- taking the delta and giving it back are inverse to each other
 pub record DeltaLaw : Type 0 where

@@ -9,7 +9,7 @@ use Rattle.replica_core.specs.declared.replica_fault.ReplicaFault.{ReplicaFault}
 use Rattle.replica_core.specs.declared.replica_fault.ReplicaFault.TheVariants.{OwnReplica, NotKnown, NotDown, AlreadyTracked}
 use Rattle.replica_core.specs.declared.replica_fault.ReplicaFault.TheVariants.{NotTracked, EntriesFull, ClockFull, OutOfMemory}
 use Rattle.replica_core.specs.Replicas.{Replica, own_clock, tracked_dots, dots_of_process, is_known, is_online}
-use Rattle.replica_core.specs.Deliveries.{merged_entries}
+use Rattle.replica_core.specs.Deliveries.{merged}
 
 -- the cause of the first test that holds
 abbrev pub first_of : {F : Type 0} → List (Bool × F) → Option F
@@ -53,7 +53,7 @@ leave_all_refusal r pid =
     first_of ((not (is_some_dot (dots_of_process r pid)), NotTracked) ∷ (is_clock_full r (length (dots_of_process r pid)), ClockFull) ∷ [])
 
 abbrev pub merge_refusal : Replica → Message → Option ReplicaFault
-merge_refusal r m = first_of ((are_too_many r (fin.len (merged_entries m r)), EntriesFull) ∷ [])
+merge_refusal r m = first_of ((are_too_many r (fin.len (merged m r).store.entries), EntriesFull) ∷ [])
 
 abbrev pub up_refusal : Replica → ℕ → Option ReplicaFault
 up_refusal r name = first_of ((name == r.own, OwnReplica) ∷ [])

@@ -1,6 +1,6 @@
 -- A replica, as sets, and what a join, a leave, an update, a status and a send change (Phoenix.Tracker.State, as sets; the
 -- dots of RR-8083).
-use Rattle.std.specs.Prelude.{◌≡◌, ℕ, ◌+◌, ◌==◌, not, Bool, true, List, [], ◌∷◌, Some, refl}
+use Rattle.std.specs.Prelude.{◌≡◌, ℕ, ◌+◌, ◌==◌, Bool, true, List, [], ◌∷◌, Some, refl}
 use Rattle.std.specs.Coded.{Coded, code_by, coded×, coded_ℕ}
 use Rattle.std.specs.FinSet as set
 use Rattle.std.specs.FinMap as fin
@@ -8,7 +8,7 @@ use Rattle.dots_core.specs.declared.dot.Dot.{Dot}
 use Rattle.dots_core.specs.Dots.{Dots, dot, count_of}
 use Rattle.payload_core.specs.Presences.{Presence, dots_of, is_tracked_as}
 use Rattle.payload_core.specs.Messages.{Message}
-use Rattle.payload_core.specs.Stores.{Store, store_code, nothing, part, with_dot, with_entry, with_removal, without_entry}
+use Rattle.payload_core.specs.Stores.{Store, store_code, is_other, nothing, part, store_of, with_dot, with_entry, with_removal, without_entry}
 use Rattle.replica_core.specs.declared.node_limits.NodeLimits.{NodeLimits}
 use Rattle.replica_core.specs.declared.status.Status.{Status}
 use Rattle.replica_core.specs.declared.status.Status.TheVariants.{Up}
@@ -95,10 +95,6 @@ updated p r = joined p (dropped_each (tracked_dots r p.pid p.topic p.key) r)
 abbrev pub with_status : ℕ → Status → Replica → Replica
 with_status name s r = record r { view = fin.insert r.view name s }
 
--- whether the name is another one than this
-abbrev pub is_other : ℕ → ℕ → Bool
-is_other name n = not (n == name)
-
 -- nothing is held of the name: its dots were not seen, its entries are gone, and it is not known
 abbrev pub forgotten : ℕ → Replica → Replica
 forgotten name r = record r { store = part (is_other name) r.store; view = fin.remove r.view name }
@@ -110,10 +106,6 @@ delta_message r = record { sender = r.own; seen = r.delta.seen; entries = r.delt
 -- all was sent
 abbrev pub without_delta : Replica → Replica
 without_delta r = record r { delta = nothing }
-
--- what a message has
-abbrev pub store_of : Message → Store
-store_of m = record { seen = m.seen; entries = m.entries }
 
 -- what the message has is the delta
 abbrev pub with_delta : Message → Replica → Replica

@@ -5,13 +5,13 @@
 //! entries, messages, stores) and `dots_core` (sets of dots); it knows nothing of outboxes, steps and clusters.
 //!
 //! In the order to read them: `node_limits` and `status`; `view`, what is known of the names; `replica_fault`; `change`,
-//! what a call destroyed; `replica`, with `process`, which finds a process's entries; `laws`.
+//! what a call destroyed; `replica`, and below it a kind of call a module, with what takes it back: `joins`, `leaves`,
+//! `process_leaves`, `updates`, `deliveries`, `statuses`, `deltas`, and `undone`, which takes back any of them; `laws`.
 #![tactic(auto)]
 
 mod change;
 pub mod laws;
 mod node_limits;
-mod process;
 mod replica;
 mod replica_fault;
 mod status;

@@ -8,7 +8,7 @@ use Rattle.payload_core.specs.EntryLists.{pairs}
 use Rattle.payload_core.specs.Presences.{Entries, entries_of_names, Presence}
 use Rattle.payload_core.specs.EntryMoves.{AreNew, picked, with_each, without_each}
 use Rattle.payload_core.specs.Stores.{Store}
-use Rattle.payload_core.proofs.PutBack.{forgot_entries, picked_new, put_back}
+use Rattle.payload_core.proofs.PutBack.{all_picked_new, forgot_entries, put_all_back}
 use Rattle.payload_core.proofs.forgotten_name.forget.Goals as goal
 
 pub returns-clause-ok : goal.returns-clause-ok
@@ -24,9 +24,9 @@ returns-clause-back g c =
       seen = c.drop_name-part.ensures.whole i;
       entries = (ap (λ ps. with_each ps c.take_each.new.entries.map) c.in_ok-entries.ensures.taken
           ∙ ap (with_each (picked c.deref.result.now c.store.inside.entries.map)) c.in_ok-entries.ensures.map
-          ∙ put_back.back c.deref.result.now c.store.inside.entries.map) i;
+          ∙ put_all_back c.deref.result.now c.store.inside.entries.map) i;
     })
     ∙ c.store.view_is
 
 pub returns-clause-new : goal.returns-clause-new
-returns-clause-new g c = rw (c.in_ok-entries.ensures.taken, c.in_ok-entries.ensures.map) (put_back.new c.deref.result.now c.store.inside.entries.map)
+returns-clause-new g c = rw (c.in_ok-entries.ensures.taken, c.in_ok-entries.ensures.map) (all_picked_new c.deref.result.now c.store.inside.entries.map)

@@ -2,9 +2,8 @@ use Rattle.std.proofs.Common.{List, ◌++◌, ap, ◌∙◌}
 use Rattle.std.specs.FinSet as set
 use Rattle.payload_core.specs.EntryLists.{pairs}
 use Rattle.payload_core.specs.Presences.{Entry}
-use Rattle.payload_core.specs.Delivered.{store_of}
 use Rattle.payload_core.specs.EntryMoves.{dots_of_pairs, picked}
-use Rattle.payload_core.specs.Stores.{Store}
+use Rattle.payload_core.specs.Stores.{Store, store_of}
 use Rattle.payload_core.proofs.Undelivered.{entries_after, entries_back, joining_new, left_new, seen_after, seen_back}
 use Rattle.payload_core.proofs.store_deliveries.merge.Goals as goal
 

@@ -3,8 +3,7 @@ use Rattle.std.specs.FinMap as fin
 use Rattle.std.specs.FinSet as set
 use Rattle.dots_core.specs.declared.dot.Dot.{Dot}
 use Rattle.payload_core.specs.Presences.{Presence, Entry, Entries}
-use Rattle.payload_core.specs.Delivered.{store_of}
-use Rattle.payload_core.specs.Stores.{leaves}
+use Rattle.payload_core.specs.Stores.{leaves, store_of}
 use Rattle.payload_core.proofs.Collected.{answered, entries-retain, failed, all_walked, dot_collected}
 use Rattle.payload_core.proofs.Skipped.{are_different, are_same, ended, further, inside, past_end, skipped}
 use Rattle.payload_core.proofs.store_differences.leaving.Goals as goal

@@ -3,8 +3,7 @@ use Rattle.std.specs.FinMap as fin
 use Rattle.std.specs.FinSet as set
 use Rattle.dots_core.specs.declared.dot.Dot.{Dot}
 use Rattle.payload_core.specs.Presences.{Presence}
-use Rattle.payload_core.specs.Delivered.{store_of}
-use Rattle.payload_core.specs.Stores.{leaves}
+use Rattle.payload_core.specs.Stores.{leaves, store_of}
 use Rattle.payload_core.proofs.store_differences.leaving.Given as goal
 
 -- the dots of those of the entries so far that leave

@@ -1,64 +1,65 @@
-use Rattle.std.proofs.Common.{rules, true, false, refl, ap, subst, ◌∙◌}
+use Rattle.std.proofs.Common.{rules, ℕ, true, false, refl, ap, subst, ◌∙◌}
 use Rattle.std.specs.FinMap as fin
-use Rattle.payload_core.specs.Messages.{AreSeen}
+use Rattle.std.specs.FinSet as set
+use Rattle.payload_core.specs.EntryLists.{pairs}
 use Rattle.payload_core.specs.Presences.{Entries}
+use Rattle.payload_core.specs.Stores.{Store, arrivals, departures, store_of}
+use Rattle.payload_core.specs.Laws.{IsStore}
+use Rattle.payload_core.proofs.MergedCounts.{len-merged}
 use Rattle.replica_core.specs.Replicas.{Replica}
 use Rattle.replica_core.proofs.Deliveries.{standing_holds}
-use Rattle.replica_core.proofs.Delivered.{joining_are, leaving_are, len_read, merge_asked}
+use Rattle.replica_core.proofs.Delivered.{merge_asked, store_after}
 use Rattle.replica_core.proofs.replica.Replica.merge.Goals as goal
 
 pub overflow_sub-len : goal.overflow_sub-len
 overflow_sub-len g c =
-    let joins = joining_are c.args.message.now _ c.args.self.now c.others-names.result c.self.view_is c.others-names.ensures
-    c.in_ok-joining.joining.items c.in_ok-joining.ensures in
-    let leaves = leaving_are c.args.message.now _ c.args.self.now c.others-names.result c.self.view_is c.others-names.ensures
-    c.in_ok-leaving.leaving.items c.in_ok-leaving.ensures in
-    (len_read c.args.message.now _ c.args.self.now c.in_ok-joining.joining.items c.in_ok-leaving.leaving.items c.len.result c.len-2.result _
-    c.self.view_is c.self.invariant.live joins leaves (c.len.ensures.len ∙ ap (λ (es : Entries). fin.len es) c.entries-2.ensures)
-    (c.len-2.ensures ∙ c.in_ok-leaving.leaving.ok.0) refl).0
+    (len-merged (set.contains c.others-names.result) (store_of c.args.message.now) _ c.in_ok-joining.joining.items
+    c.in_ok-leaving.leaving.items c.len.result c.len-2.result _ c.self.invariant.live c.in_ok-joining.ensures c.in_ok-leaving.ensures
+    (c.len.ensures.len ∙ ap (λ (es : Entries). fin.len es) c.entries-2.ensures) (c.len-2.ensures ∙ c.in_ok-leaving.leaving.ok.0) refl).0
 
 pub returns-then-are_too_many-clause-refused : goal.returns-then-are_too_many-clause-refused
 returns-then-are_too_many-clause-refused g c other =
-    let joins = joining_are c.args.message.now _ c.args.self.now c.others-names.result c.self.view_is c.others-names.ensures
-    c.in_ok-joining.joining.items c.in_ok-joining.ensures in
-    let leaves = leaving_are c.args.message.now _ c.args.self.now c.others-names.result c.self.view_is c.others-names.ensures
-    c.in_ok-leaving.leaving.items c.in_ok-leaving.ensures in
     merge_asked c.args.message.now c.args.self.now c.are_too_many.result true _ c.are_too_many.ensures
-    (len_read c.args.message.now _ c.args.self.now c.in_ok-joining.joining.items c.in_ok-leaving.leaving.items c.len.result c.len-2.result
-    c.len-3.result c.self.view_is c.self.invariant.live joins leaves (c.len.ensures.len ∙ ap (λ (es : Entries). fin.len es) c.entries-2.ensures)
+    ((len-merged (set.contains c.others-names.result) (store_of c.args.message.now) _ c.in_ok-joining.joining.items
+    c.in_ok-leaving.leaving.items c.len.result c.len-2.result c.len-3.result c.self.invariant.live c.in_ok-joining.ensures
+    c.in_ok-leaving.ensures (c.len.ensures.len ∙ ap (λ (es : Entries). fin.len es) c.entries-2.ensures)
     (c.len-2.ensures ∙ c.in_ok-leaving.leaving.ok.0) (c.len-3.ensures ∙ c.in_ok-joining.joining.ok.0)).1
+    ∙ ap (λ (s : Store). fin.len s.entries)
+    (store_after c.args.message.now _ c.args.self.now c.others-names.result c.self.view_is c.others-names.ensures))
     c.if-are_too_many.true
 
 pub returns-clause-refused : goal.returns-clause-refused
 returns-clause-refused g c =
-    let joins = joining_are c.args.message.now _ c.args.self.now c.others-names.result c.self.view_is c.others-names.ensures
-    c.in_ok-joining.joining.items c.in_ok-joining.ensures in
-    let leaves = leaving_are c.args.message.now _ c.args.self.now c.others-names.result c.self.view_is c.others-names.ensures
-    c.in_ok-leaving.leaving.items c.in_ok-leaving.ensures in
     merge_asked c.args.message.now c.args.self.now c.are_too_many.result false _ c.are_too_many.ensures
-    (len_read c.args.message.now _ c.args.self.now c.in_ok-joining.joining.items c.in_ok-leaving.leaving.items c.len.result c.len-2.result
-    c.len-3.result c.self.view_is c.self.invariant.live joins leaves (c.len.ensures.len ∙ ap (λ (es : Entries). fin.len es) c.entries-2.ensures)
+    ((len-merged (set.contains c.others-names.result) (store_of c.args.message.now) _ c.in_ok-joining.joining.items
+    c.in_ok-leaving.leaving.items c.len.result c.len-2.result c.len-3.result c.self.invariant.live c.in_ok-joining.ensures
+    c.in_ok-leaving.ensures (c.len.ensures.len ∙ ap (λ (es : Entries). fin.len es) c.entries-2.ensures)
     (c.len-2.ensures ∙ c.in_ok-leaving.leaving.ok.0) (c.len-3.ensures ∙ c.in_ok-joining.joining.ok.0)).1
+    ∙ ap (λ (s : Store). fin.len s.entries)
+    (store_after c.args.message.now _ c.args.self.now c.others-names.result c.self.view_is c.others-names.ensures))
     c.if-are_too_many.false
 
 pub exchange-requires : goal.exchange-requires
 exchange-requires g c =
-    let joins = joining_are c.args.message.now _ c.args.self.now c.others-names.result c.self.view_is c.others-names.ensures
-    c.in_ok-joining.joining.items c.in_ok-joining.ensures in
-    let leaves = leaving_are c.args.message.now _ c.args.self.now c.others-names.result c.self.view_is c.others-names.ensures
-    c.in_ok-leaving.leaving.items c.in_ok-leaving.ensures in
     let free = merge_asked c.args.message.now c.args.self.now c.are_too_many.result false _ c.are_too_many.ensures
-    (len_read c.args.message.now _ c.args.self.now c.in_ok-joining.joining.items c.in_ok-leaving.leaving.items c.len.result c.len-2.result
-    c.len-3.result c.self.view_is c.self.invariant.live joins leaves (c.len.ensures.len ∙ ap (λ (es : Entries). fin.len es) c.entries-2.ensures)
+    ((len-merged (set.contains c.others-names.result) (store_of c.args.message.now) _ c.in_ok-joining.joining.items
+    c.in_ok-leaving.leaving.items c.len.result c.len-2.result c.len-3.result c.self.invariant.live c.in_ok-joining.ensures
+    c.in_ok-leaving.ensures (c.len.ensures.len ∙ ap (λ (es : Entries). fin.len es) c.entries-2.ensures)
     (c.len-2.ensures ∙ c.in_ok-leaving.leaving.ok.0) (c.len-3.ensures ∙ c.in_ok-joining.joining.ok.0)).1
+    ∙ ap (λ (s : Store). fin.len s.entries)
+    (store_after c.args.message.now _ c.args.self.now c.others-names.result c.self.view_is c.others-names.ensures))
     c.if-are_too_many.false in
-    (search rules, (search rules, (c.entries.ensures.are_seen, (joins, (c.deref.ensures.value ∙ leaves, free)))))
+    let store = ap (λ (r : Replica). r.store) c.self.view_is in
+    let named = set.contains c.others-names.result in
+    let joins = c.in_ok-joining.ensures ∙ ap (λ (s : Store). fin.entries (arrivals named (store_of c.args.message.now) s)) store in
+    let leaves = c.in_ok-leaving.ensures ∙ ap (λ (s : Store). fin.keys (departures named (store_of c.args.message.now) s)) store in
+    (search rules, (search rules, (c.entries.ensures.are_seen, (c.others-names.ensures, (joins, (c.deref.ensures.value ∙ leaves, free))))))
 
 pub returns-clause-greater_standings : goal.returns-clause-greater_standings
 returns-clause-greater_standings g c =
     rw c.in_ok-delivered.ensures.merged
-    (standing_holds c.args.message.now c.args.self.now (subst (λ (r : Replica). AreSeen r.store.seen r.store.entries) c.self.view_is
-    c.self.invariant.live) c.entries.ensures.are_seen)
+    (standing_holds c.args.message.now c.args.self.now (subst (λ (r : Replica). IsStore r.store) c.self.view_is c.self.invariant.live)
+    c.entries.ensures.are_seen)
 
 pub returns-clause-leads_back : goal.returns-clause-leads_back
 returns-clause-leads_back g c = record {

@@ -5,8 +5,8 @@ use Rattle.payload_core.specs.Presences.{Presence, Entry, Entries}
 use Rattle.replica_core.specs.Leaves.{AreOwnSeen}
 use Rattle.payload_core.proofs.Collected.{no_gap, all_walked, dot_collected, dot_passed_over}
 use Rattle.replica_core.proofs.Left.{own_dots_seen}
-use Rattle.replica_core.proofs.process.dots_of_process.Goals as goal
-use Rattle.replica_core.proofs.process.dots_of_process.Goals.{in-Some+then-is_own_of+in_ok-push, in-Some+else-is_own_of, in_default}
+use Rattle.replica_core.proofs.replica.process_leaves.dots_of_process.Goals as goal
+use Rattle.replica_core.proofs.replica.process_leaves.dots_of_process.Goals.{in-Some+then-is_own_of+in_ok-push, in-Some+else-is_own_of, in_default}
 
 pub loop-place-preserved : goal.loop-place-preserved
 loop-place-preserved g c =

@@ -1,0 +1,52 @@
+//! What a replica sends: its delta, which can be given back, and an extract.
+ghost use Rattle.std.specs.Prelude.{◌≡◌, ◌↔◌, IfErr, IfOk, IsOk, IsTrue, OnErr, OnOk};
+ghost use Rattle.std.specs.FinSet as set;
+ghost use Rattle.payload_core.specs.Messages.{message_of_names};
+ghost use Rattle.replica_core.specs.declared.replica_fault.ReplicaFault.TheVariants.{NothingToSend};
+ghost use Rattle.replica_core.specs.Refusals.{has_dots};
+ghost use Rattle.replica_core.specs.Replicas.{CanBeDelta, delta_message, with_delta, without_delta};
+
+use crate::replica::Replica;
+use crate::replica_fault::ReplicaFault;
+use dots_core::{NameSet, Oom};
+use payload_core::{Payload, Store};
+use std::alloc::Allocator;
+use std::mem;
+
+impl<A: Allocator> Replica<A> {
+    /// Makes a message of the replica its delta, as when a send is taken back. It takes no memory. With what
+    /// `take_delta` gave, `laws::delta_law` says that the replica is as it was before.
+    pub fn give_delta(&mut self, payload: Payload<A>)
+        requires { CanBeDelta payload self.old }
+        ensures { self.new ≡ with_delta payload self.old }
+    {
+        let (_sender, seen, entries) = payload.into_parts();
+        self.delta = Store::from_parts(seen, entries);
+    }
+}
+
+impl<A: Allocator + Copy> Replica<A> {
+    /// Takes the delta out as a message. It takes no memory. Without a dot in the delta it is refused with
+    /// `NothingToSend`.
+    pub fn take_delta(&mut self) -> Result<Payload<A>, ReplicaFault>
+        ensures message { IfOk result (λ payload. payload ≡ delta_message self.old) }
+        ensures taken { OnOk result (self.new ≡ without_delta self.old) }
+        ensures something_to_send { IsOk result ↔ IsTrue (has_dots self.old.delta.seen) }
+        ensures nothing_to_send { IfErr result (λ fault. fault ≡ NothingToSend) }
+        ensures err { OnErr result (self.new ≡ self.old) }
+    {
+        if !self.has_delta() {
+            return Err(ReplicaFault::NothingToSend);
+        }
+        let (seen, entries) = mem::replace(&mut self.delta, Store::new(self.alloc)).into_parts();
+        Ok(Payload::new(self.own, seen, entries))
+    }
+
+    /// A message of what it has seen and holds of these names. The delta stays.
+    pub fn extract(&self, names: NameSet) -> Result<Payload<A>, Oom>
+        ensures { IfOk result (λ payload. payload ≡ message_of_names (set.contains names) self.now.own self.now.store.seen self.now.store.entries) }
+    {
+        let (seen, entries) = self.store.only(names)?.into_parts();
+        Ok(Payload::new(self.own, seen, entries))
+    }
+}

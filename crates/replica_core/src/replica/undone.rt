@@ -1,0 +1,66 @@
+//! A replica's last change taken back.
+ghost use Rattle.std.specs.Prelude.{◌≡◌, IfErr, OnErr, OnOk};
+ghost use Rattle.replica_core.specs.Changes.{ChangeGivesBack, ChangeLeadsSomewhere, plain_change};
+
+use crate::change::Change;
+use crate::replica::Replica;
+use dots_core::Oom;
+use std::alloc::Allocator;
+
+impl<A: Allocator> Replica<A> {
+    /// The replica that the change leads back to. The change is that of the last call: the replica is as that call left
+    /// it. Where memory is refused, the change comes back.
+    pub fn undo(&mut self, change: Change<A>) -> Result<(), (Change<A>, Oom)>
+    where
+        A: Copy,
+        requires { ChangeLeadsSomewhere (plain_change change) self.old }
+        ensures ok { OnOk result (ChangeGivesBack (plain_change change) self.old self.new) }
+        ensures err { OnErr result (self.new ≡ self.old) }
+        ensures given_back { IfErr result (λ failed. failed.0 ≡ change) }
+    {
+        match change {
+            Change::Join => {
+                self.unjoin();
+                Ok(())
+            }
+            Change::Leave(left) => {
+                if let Err((left, failed)) = self.restore(left) {
+                    return Err((Change::Leave(left), failed));
+                }
+                Ok(())
+            }
+            Change::LeaveAll(lefts) => {
+                if let Err((lefts, failed)) = self.restore_each(lefts) {
+                    return Err((Change::LeaveAll(lefts), failed));
+                }
+                Ok(())
+            }
+            Change::Update(left) => {
+                if let Err((left, failed)) = self.restore(left) {
+                    return Err((Change::Update(left), failed));
+                }
+                Ok(())
+            }
+            Change::Up { name, before } => {
+                self.put_status(name, before);
+                Ok(())
+            }
+            Change::Down { name, before } => {
+                self.put_status(name, before);
+                Ok(())
+            }
+            Change::Permdown { name, forgotten } => {
+                if let Err((forgotten, failed)) = self.remember(name, forgotten) {
+                    return Err((Change::Permdown { name, forgotten }, failed));
+                }
+                Ok(())
+            }
+            Change::Deliver(delivered) => {
+                if let Err((delivered, failed)) = self.undeliver(delivered) {
+                    return Err((Change::Deliver(delivered), failed));
+                }
+                Ok(())
+            }
+        }
+    }
+}
