@@ -1,24 +1,28 @@
 -- Entries taken out one after another, and put back.
-use Rattle.std.proofs.Common.{◌≡◌, ℕ, suc, ◌+◌, ◌<◌, ◌==◌, length, get_or, arith, ◌||◌, not, Bool, true, false, cond, List, [], ◌∷◌}
+use Rattle.std.proofs.Common.{◌≡◌, ℕ, suc, ◌+◌, ◌<◌, ◌==◌, length, get_or, arith, ◌||◌, not, T, Bool, true, false, cond, List, [], ◌∷◌, map}
 use Rattle.std.proofs.Common.{◌++◌, drop, append_assoc, Option, Some, None, is_some, refl, sym, ap, subst, ◌∙◌, true≢false}
-use Rattle.std.specs.List.{list_any}
+use Rattle.std.proofs.Math.Facts.{and_yes}
+use Rattle.std.specs.List.{AllByRecursion, list_any}
 use Rattle.std.proofs.lemmas.List.{map-append}
 use Rattle.std.specs.Option.{option_map, option_or}
 use Rattle.std.specs.FinMap as fin
+use Rattle.std.specs.FinMap.Entries.{below_all, where_key}
 use Rattle.std.specs.FinSet as set
-use Rattle.std.specs.Ordering.{nat_cmp}
+use Rattle.std.specs.Ordering.{is_lt, nat_cmp}
 use Rattle.std.proofs.Math.Bool.{or-false}
 use Rattle.std.proofs.Math.Seq.{drop-cons}
 use Rattle.dots_core.specs.Contexts.{others}
-use Rattle.dots_core.specs.Dots.{Dots}
+use Rattle.dots_core.specs.Dots.{Dots, dot_cmp}
 use Rattle.dots_core.specs.FlagsBack.{contains-insert_name}
 use Rattle.dots_core.specs.Names.{Names}
 use Rattle.payload_core.specs.Stores.{Store, is_other, part}
 use Rattle.dots_core.specs.declared.dot.Dot.{Dot}
-use Rattle.dots_core.proofs.Order.{is_dot, is_dot-true, is_dot_same}
+use Rattle.dots_core.proofs.Order.{is_dot, is_dot-true, is_dot_same, is_dot_above}
 use Rattle.payload_core.specs.Presences.{Presence, Entry, Entries, entries_of_names, entry_of}
 use Rattle.payload_core.specs.EntryLists.{pair_of, pairs}
 use Rattle.payload_core.proofs.EntryMaps.{get-insert, get-names, get-remove, same_entries}
+use Rattle.payload_core.proofs.Collected.{entries-retain}
+use Rattle.payload_core.proofs.TrackedDots.{Found, found_all}
 use Rattle.payload_core.specs.EntryMoves.{AreNew, found_at, picked, with_each, without_each}
 
 either_out : (a b : Bool) (x : Option Presence) → cond b None (cond a None x) ≡ cond (a || b) None x
@@ -77,6 +81,46 @@ put_all_back ds es = same_entries _ _ (λ q.
     get-with_picked ds es (without_each ds es) q
     ∙ ap (λ x. cond (list_any (is_dot q) ds) (option_or (fin.get es q) x) x) (get-without_each ds es q)
     ∙ whole (list_any (is_dot q) ds) (fin.get es q))
+
+-- what is taken out at the dots of some of a map's entries is these
+
+picked_found : (ps : List (Dot × Presence)) (es : Entries) → T (fin.is_sorted dot_cmp ps) →
+    AllByRecursion (λ (p : Dot × Presence). fin.get es p.0 ≡ Some p.1) ps → picked (map (λ (p : Dot × Presence). p.0) ps) es ≡ ps
+picked_found [] es sorted found = refl
+picked_found (p ∷ ps) es sorted found =
+    let parts = and_yes (below_all dot_cmp p.0 ps) (fin.is_sorted dot_cmp ps) sorted in
+    ap (λ o. found_at p.0 o ++ picked (map (λ (p : Dot × Presence). p.0) ps) (fin.remove es p.0)) found.0
+    ∙ ap (λ l. p ∷ l) (picked_found ps (fin.remove es p.0) parts.1 (still_found p.0 ps parts.0 found.1))
+  where
+    still_found : (d : Dot) (qs : List (Dot × Presence)) → T (below_all dot_cmp d qs) →
+        AllByRecursion (λ (q : Dot × Presence). fin.get es q.0 ≡ Some q.1) qs →
+        AllByRecursion (λ (q : Dot × Presence). fin.get (fin.remove es d) q.0 ≡ Some q.1) qs
+    still_found d [] below found = tt
+    still_found d (q ∷ qs) below found =
+        let parts = and_yes (is_lt (dot_cmp d q.0)) (below_all dot_cmp d qs) below in (
+          get-remove es d q.0 ∙ ap (λ b. cond b None (fin.get es q.0)) (is_dot_above d q.0 parts.0) ∙ found.0,
+          still_found d qs parts.1 found.1,
+        )
+
+found_where : (p : Dot → Bool) (es fs : List (Dot × Presence)) → Found es fs → Found es (where_key dot_cmp p fs)
+found_where p es [] found = tt
+found_where p es (f ∷ fs) found = go (p f.0) found.0 (found_where p es fs found.1)
+  where
+    go : (b : Bool) → fin.find dot_cmp f.0 es ≡ Some f.1 → Found es (where_key dot_cmp p fs) →
+        Found es (cond b (f ∷ where_key dot_cmp p fs) (where_key dot_cmp p fs))
+    go true here rest = (here, rest)
+    go false here rest = rest
+
+found_in_map : (m : Entries) (fs : List (Dot × Presence)) → Found (fin.entries m) fs →
+    AllByRecursion (λ (f : Dot × Presence). fin.get m f.0 ≡ Some f.1) fs
+found_in_map m [] found = tt
+found_in_map m (f ∷ fs) found = (fin.get-entries m f.0 ∙ found.0, found_in_map m fs found.1)
+
+pub picked_retained : (m : Entries) (p : Dot → Bool) → picked (fin.keys (fin.retain_keys m p)) m ≡ fin.entries (fin.retain_keys m p)
+picked_retained m p =
+    picked_found (fin.entries (fin.retain_keys m p)) m (fin.entries_sorted (fin.retain_keys m p))
+    (found_in_map m (fin.entries (fin.retain_keys m p)) (subst (Found (fin.entries m)) (sym (entries-retain m p))
+    (found_where p (fin.entries m) (fin.entries m) (found_all (fin.entries m) (fin.entries_sorted m)))))
 
 -- each dot at which the first map has one of these has none in the second
 abbrev Away : List Dot → Entries → Entries → Type 0
@@ -169,6 +213,21 @@ step_none ds i d es after ps whole o at is found none so_far = go (fin.get es d)
 
 only_name : (name n : ℕ) → set.contains {R = nat_cmp} (set.insert set.empty name) n ≡ (n == name)
 only_name name n = contains-insert_name set.empty name n ∙ ap (λ b. (n == name) || b) (set.contains-empty nat_cmp n) ∙ or-false (n == name)
+
+-- the name's entries, where these names are it alone
+pub named_alone : (name : ℕ) (names : Names) (es : Entries) → names ≡ set.insert set.empty name →
+    entries_of_names (set.contains names) es ≡ entries_of_names (λ n. n == name) es
+named_alone name names es names_are = same_entries _ _ (λ q.
+    get-names es (set.contains names) q
+    ∙ ap (λ b. cond b (fin.get es q) None) (ap (λ (ns : Names). set.contains ns q.name) names_are ∙ only_name name q.name)
+    ∙ sym (get-names es (λ n. n == name) q))
+
+pub held_entries : (name : ℕ) (s now : Store) (names : Names) (dots : List Dot) (taken : List Entry) → s ≡ now →
+    names ≡ set.insert set.empty name → dots ≡ fin.keys (entries_of_names (set.contains names) s.entries) →
+    pairs taken ≡ picked dots s.entries → pairs taken ≡ fin.entries (entries_of_names (λ n. n == name) now.entries)
+held_entries name s now names dots taken same names_are dots_are taken_are =
+    taken_are ∙ ap (λ ds. picked ds s.entries) dots_are ∙ picked_retained s.entries (λ d. set.contains names d.name)
+    ∙ ap fin.entries (named_alone name names s.entries names_are) ∙ ap (λ (s : Store). fin.entries (entries_of_names (λ n. n == name) s.entries)) same
 
 pub forgot_entries : (name : ℕ) (s now : Store) (names : Names) (dots : List Dot) (seen : Dots) (es : Entries) → s ≡ now →
     names ≡ set.insert set.empty name → dots ≡ fin.keys (entries_of_names (set.contains names) s.entries) →

@@ -1,13 +1,13 @@
 -- Dots of one name put into a set one after another, and taken out again.
-use Rattle.std.proofs.Common.{◌≡◌, ◌≢◌, ℕ, zero, suc, ◌+◌, ◌-◌, ◌<◌, ◌≤◌, ◌⊎◌, inl, inr, ◌&&◌, not, false, List, []}
+use Rattle.std.proofs.Common.{◌≡◌, ◌≢◌, ℕ, zero, suc, ◌+◌, ◌-◌, ◌<◌, ◌⊎◌, inl, inr, ◌&&◌, not, false, List, []}
 use Rattle.std.proofs.Common.{◌∷◌, refl, sym, ap, subst, ◌∙◌, arith}
 use Rattle.std.proofs.lemmas.Bool.{cases_eq}
 use Rattle.std.specs.FinSet as set
 use Rattle.std.specs.List.{AllByRecursion}
 use Rattle.dots_core.specs.declared.dot.Dot.{Dot}
 use Rattle.dots_core.specs.Dots.{Dots, HasClocks, count_of, dot}
-use Rattle.dots_core.specs.Contexts.{IsLast, IsNext}
-use Rattle.dots_core.proofs.OwnClock.{clocks_more, count_more, not_fresh}
+use Rattle.dots_core.specs.Contexts.{IsLast}
+use Rattle.dots_core.proofs.OwnClock.{clocks_more, count_more}
 use Rattle.dots_core.proofs.Order.{dot_cases, is_dot, is_dot_same}
 use Rattle.dots_core.proofs.Sets.{contains_insert_other}
 use Rattle.payload_core.specs.LeavesTogether.{with_dots, with_next, without_next}

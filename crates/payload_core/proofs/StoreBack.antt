@@ -1,5 +1,5 @@
 -- A store as it was before an edit of it.
-use Rattle.std.proofs.Common.{◌≡◌, ◌≢◌, Bool, true, false, Option, Some, None, refl, sym, ap, subst, ◌∙◌, true≢false}
+use Rattle.std.proofs.Common.{◌≡◌, ◌≢◌, Bool, true, false, Option, Some, None, refl, sym, ap, subst, ◌∙◌}
 use Rattle.std.specs.Option.{option_map}
 use Rattle.std.specs.FinMap as fin
 use Rattle.std.specs.FinSet as set
@@ -10,7 +10,7 @@ use Rattle.payload_core.specs.Presences.{Presence, Entry, Entries, entry_of}
 use Rattle.payload_core.proofs.EntryMaps.{get_insert_other, get_removed}
 use Rattle.payload_core.specs.Stores.{Store, with_dot, with_entry, with_removal, without, without_entry}
 use Rattle.payload_core.specs.LeftEntries.{HasPlace, IsFree, Left, Stood, dots_before, put, restored, restored_delta}
-use Rattle.payload_core.proofs.StoreEdits.{removed_inserted, inserted_again, entry_removed, none_removed, entry_inserted, still_none}
+use Rattle.payload_core.proofs.StoreEdits.{removed_inserted, inserted_again, entry_removed, none_removed, entry_inserted}
 
 -- a new dot without its entry, or with it, taken out again
 

@@ -1,5 +1,5 @@
 -- Edits that undo one another, and edits that change nothing.
-use Rattle.std.proofs.Common.{◌≡◌, ◌≢◌, ◌<◌, ◌&&◌, ◌||◌, not, Bool, true, false, cond, Option, Some, None, is_some, refl, sym, ap}
+use Rattle.std.proofs.Common.{◌≡◌, ◌&&◌, ◌||◌, not, Bool, true, false, cond, Option, Some, None, is_some, refl, sym, ap}
 use Rattle.std.proofs.Common.{subst, ◌∙◌, arith, true≢false}
 use Rattle.std.specs.Prelude.{Result, Ok, Err, IsOk, OnOk}
 use Rattle.std.specs.Option.{option_map}
@@ -8,7 +8,7 @@ use Rattle.std.specs.FinSet as set
 use Rattle.dots_core.specs.declared.dot.Dot.{Dot}
 use Rattle.dots_core.specs.Dots.{Dots, dot}
 use Rattle.dots_core.specs.Contexts.{IsLast}
-use Rattle.dots_core.proofs.Order.{dot_total, is_dot, is_dot-true, is_dot_same, is_dot_other}
+use Rattle.dots_core.proofs.Order.{dot_total, is_dot, is_dot-true}
 use Rattle.dots_core.proofs.Sets.{contains-insert, contains_insert_other, same_dots}
 use Rattle.payload_core.specs.Presences.{Presence, Entry, Entries, entry_of}
 use Rattle.payload_core.proofs.EntryMaps.{get-insert, get-remove, same_entries}

@@ -1,5 +1,5 @@
 -- A delivery, dot by dot.
-use Rattle.std.proofs.Common.{if◌then◌else◌, max, ◌≡◌, ℕ, [], ◌∷◌, ◌&&◌, ◌||◌, not, Bool, true, false, cond, Option, Some, None}
+use Rattle.std.proofs.Common.{if◌then◌else◌, max, ◌≡◌, ℕ, ◌&&◌, ◌||◌, not, Bool, true, false, cond, Option, Some, None}
 use Rattle.std.proofs.Common.{is_some, refl, sym, ap, ◌∙◌, true≢false}
 use Rattle.std.proofs.Math.Bool.{and_comm, or-false}
 use Rattle.std.specs.Option.{option_or}

@@ -31,7 +31,7 @@ as_tracked pid topic key p h =
 
 -- each entry of a map is found at its dot
 
-abbrev Found : List (Dot × Presence) → List (Dot × Presence) → Type 0
+abbrev pub Found : List (Dot × Presence) → List (Dot × Presence) → Type 0
 Found es fs = AllByRecursion (λ (f : Dot × Presence). fin.find dot_cmp f.0 es ≡ Some f.1) fs
 
 found_cons : (e : Dot × Presence) (es fs : List (Dot × Presence)) → T (below_all dot_cmp e.0 fs) → Found es fs → Found (e ∷ es) fs
@@ -42,7 +42,7 @@ found_cons e es (f ∷ fs) below found =
       found_cons e es fs parts.1 found.1,
     )
 
-found_all : (es : List (Dot × Presence)) → T (fin.is_sorted dot_cmp es) → Found es es
+pub found_all : (es : List (Dot × Presence)) → T (fin.is_sorted dot_cmp es) → Found es es
 found_all [] h = tt
 found_all (e ∷ es) h =
     let parts = and_yes (below_all dot_cmp e.0 es) (fin.is_sorted dot_cmp es) h in (

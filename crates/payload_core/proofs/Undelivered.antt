@@ -1,8 +1,9 @@
 -- A delivery's edits give the store of the definition, and are taken back.
-use Rattle.std.proofs.Common.{◌≡◌, ℕ, ◌+◌, ◌<◌, ◌≤◌, ◌==◌, ◌&&◌, ◌||◌, ◌⊎◌, inl, inr, not, T, Bool, true, false, cond, List, [], ◌∷◌, ◌++◌}
+use Rattle.std.proofs.Common.{◌≡◌, ◌↔◌, ℕ, ◌+◌, ◌<◌, ◌≤◌, ◌==◌, ◌&&◌, ◌||◌, ◌⊎◌, inl, inr, not, T, Bool, true, false, cond, List, [], ◌∷◌, ◌++◌}
 use Rattle.std.proofs.Common.{Option, Some, None, is_some, refl, sym, ap, subst, ◌∙◌, arith, true≢false}
+use Rattle.std.proofs.Math.Bool.{or-false, or-true}
 use Rattle.std.proofs.Math.Facts.{and_yes}
-use Rattle.std.proofs.lemmas.Bool.{cases_lt, eq-eqb, or_cases}
+use Rattle.std.proofs.lemmas.Bool.{cases_lt, eq-eqb, ne_eqb, or_cases}
 use Rattle.std.specs.List.{AllByRecursion, list_any}
 use Rattle.std.specs.Option.{option_or}
 use Rattle.std.specs.Ordering.{is_lt}
@@ -11,8 +12,8 @@ use Rattle.std.specs.FinMap.Entries.{below_all, is_sorted, where_key}
 use Rattle.std.specs.FinSet as set
 use Rattle.dots_core.specs.declared.dot.Dot.{Dot}
 use Rattle.dots_core.specs.Clocks.{holds}
-use Rattle.dots_core.specs.Contexts.{HasAllOf, with_part}
-use Rattle.dots_core.specs.Dots.{Dots, dot, dot_cmp, of_names}
+use Rattle.dots_core.specs.Contexts.{IsPartOf, with_part}
+use Rattle.dots_core.specs.Dots.{Dots, dot_cmp, of_names}
 use Rattle.dots_core.proofs.Order.{is_dot, is_dot-true, is_dot_below, is_dot_above}
 use Rattle.dots_core.proofs.Parts.{contains-with_part}
 use Rattle.dots_core.proofs.Sets.{contains-retain, contains-union, same_dots}
@@ -20,11 +21,11 @@ use Rattle.payload_core.specs.EntryLists.{pairs}
 use Rattle.payload_core.specs.Messages.{AreSeen}
 use Rattle.payload_core.specs.Presences.{Presence, Entry, Entries}
 use Rattle.payload_core.proofs.EntryMaps.{get-retain, get-insert, get-over, same_entries}
-use Rattle.payload_core.specs.Delivered.{OldPart, with_parts}
+use Rattle.payload_core.specs.Delivered.{AreOldParts, Changes, NamesRise, OldPart, is_old, with_parts}
 use Rattle.payload_core.specs.EntryMoves.{AreNew, dots_of_pairs, picked, with_each, without_each}
 use Rattle.payload_core.specs.Stores.{Store, arrivals, departures, is_new, leaves, merged, remaining}
 use Rattle.payload_core.proofs.Collected.{entries-retain}
-use Rattle.payload_core.proofs.PutBack.{all_picked_new, get-without_each, put_all_back}
+use Rattle.payload_core.proofs.PutBack.{all_picked_new, get-without_each, picked_retained, put_all_back}
 
 -- keys that rise differ
 
@@ -178,6 +179,13 @@ module _ (named : ℕ → Bool) (other s : Store) (live : AreSeen s.seen s.entri
       pub left_new : AreNew (pairs left) (without_each joined after)
       left_new = rw (left_are, rest) (all_picked_new leaving before)
 
+-- what it destroyed
+pub left_are_departures : (named : ℕ → Bool) (other s : Store) (leaving : List Dot) (before : Entries) (left : List Entry) →
+    leaving ≡ fin.keys (departures named other s) → before ≡ s.entries → pairs left ≡ picked leaving before →
+    pairs left ≡ fin.entries (departures named other s)
+left_are_departures named other s leaving before left leaving_are before_is left_are =
+    left_are ∙ (λ i. picked (leaving_are i) (before_is i)) ∙ picked_retained s.entries (leaves named other)
+
 -- a delivery's dots
 
 pub seen_after : (named : ℕ → Bool) (other s : Store) (before heard after : Dots) → before ≡ s.seen → heard ≡ other.seen →
@@ -192,10 +200,6 @@ seen_back named parts other before heard again after heard_is again_is is whole 
     ap (with_parts parts) (is ∙ ap (λ s. set.union before (of_names named s)) (again_is ∙ sym heard_is)) ∙ whole
 
 -- old parts
-
--- whether one of the parts is of the name
-abbrev pub is_old : List OldPart → ℕ → Bool
-is_old ps n = list_any (λ (p : OldPart). n == p.name) ps
 
 -- each part is the one that the set has
 abbrev pub AreOld : Dots → List OldPart → Type 0
@@ -220,72 +224,112 @@ contains-with_parts s (p ∷ ps) old t q =
     ∙ in_place (q.name == p.name) (is_old ps q.name) (set.contains s q) (set.contains t q) (holds p.part q.clock)
     (ap (λ s. set.contains s q) (sym old.0) ∙ contains-with_part p.name p.part s q)
 
--- of the names below k, those of which the other set has a dot that was not seen have their part
-pub record OldBelow (named : ℕ → Bool) (other s : Dots) (k : ℕ) (ps : List OldPart) : Type 0 where
-  pub old : AreOld s ps
-  pub covers : (q : Dot) → q.name < k → named q.name ≡ true → is_old ps q.name ≡ false → set.contains other q ≡ true → set.contains s q ≡ true
+-- one more part
+
+all_and : (P : OldPart → Type 0) (ps : List OldPart) (p : OldPart) → AllByRecursion P ps → P p → AllByRecursion P (ps ++ p ∷ [])
+all_and P [] p all more = (more, tt)
+all_and P (o ∷ ps) p all more = (all.0, all_and P ps p all.1 more)
+
+rise_and : (ps : List OldPart) (p : OldPart) → NamesRise ps → AllByRecursion (λ (o : OldPart). o.name < p.name) ps → NamesRise (ps ++ p ∷ [])
+rise_and [] p rise low = (tt, tt)
+rise_and (o ∷ ps) p rise low = (all_and _ ps p rise.0 low.0, rise_and ps p rise.1 low.1)
+
+is_old-and : (ps : List OldPart) (p : OldPart) (n : ℕ) → is_old (ps ++ p ∷ []) n ≡ (is_old ps n || (n == p.name))
+is_old-and [] p n = or-false (n == p.name)
+is_old-and (o ∷ ps) p n = go (n == o.name) (is_old-and ps p n)
+  where
+    go : (b : Bool) → is_old (ps ++ p ∷ []) n ≡ (is_old ps n || (n == p.name)) →
+        (b || is_old (ps ++ p ∷ []) n) ≡ ((b || is_old ps n) || (n == p.name))
+    go true is = refl
+    go false is = is
+
+abbrev pub AreBelow : ℕ → List OldPart → Type 0
+AreBelow k ps = AllByRecursion (λ (p : OldPart). p.name < k) ps
+
+below_more : (k : ℕ) (ps : List OldPart) → AreBelow k ps → AreBelow (k + 1) ps
+below_more k [] low = tt
+below_more k (p ∷ ps) low = (omega (arith, low.0), below_more k ps low.1)
+
+not_old : (k n : ℕ) (ps : List OldPart) → AreBelow k ps → k ≤ n → is_old ps n ≡ false
+not_old k n [] low at = refl
+not_old k n (p ∷ ps) low at = ap (λ b. b || is_old ps n) (ne_eqb n p.name (λ e. absurd (omega (arith, low.0, at, e)))) ∙ not_old k n ps low.1 at
 
 module _ (named : ℕ → Bool) (other s : Dots) where
-  pub old_none : (ps : List OldPart) → ps ≡ [] → OldBelow named other s 0 ps
-  old_none ps is = subst (OldBelow named other s 0) (sym is) (record { old = tt; covers = λ q low. absurd (omega arith) })
+  -- the part of the name is among these where the name is one of the names, and the other has a dot of it that was not seen
+  abbrev pub IsListed : List OldPart → ℕ → Type 0
+  IsListed ps n = (is_old ps n ≡ true) ↔ Changes named other s n
 
-  below_or_at : (q : Dot) (k : ℕ) → q.name < k + 1 → (q.name < k) ⊎ (q.name ≡ k)
-  below_or_at q k low = go (cases_lt q.name k)
+  -- as far as the names below k
+  pub record OldBelow (k : ℕ) (ps : List OldPart) : Type 0 where
+    pub rise : NamesRise ps
+    pub low : AreBelow k ps
+    pub parts : AllByRecursion (λ (p : OldPart). IsPartOf s p.name p.part) ps
+    pub old : AreOld s ps
+    pub names : (n : ℕ) → n < k → IsListed ps n
+
+  pub old_none : (ps : List OldPart) → ps ≡ [] → OldBelow 0 ps
+  old_none ps is = subst (OldBelow 0) (sym is) (record { rise = tt; low = tt; parts = tt; old = tt; names = λ n low. absurd (omega (arith, low)) })
+
+  listed_on : (k : ℕ) (ps : List OldPart) → ((n : ℕ) → n < k → IsListed ps n) → IsListed ps k → (n : ℕ) → n < k + 1 → IsListed ps n
+  listed_on k ps before at n low = go (cases_lt n k)
     where
-      go : (q.name < k) ⊎ (k ≤ q.name) → (q.name < k) ⊎ (q.name ≡ k)
-      go (inl below) = inl below
-      go (inr above) = inr (omega arith)
+      go : (n < k) ⊎ (k ≤ n) → IsListed ps n
+      go (inl below) = before n below
+      go (inr above) = let here : k ≡ n = omega (arith, low, above) in subst (IsListed ps) here at
 
-  pub old_unnamed : (k : ℕ) (ps : List OldPart) → OldBelow named other s k ps → named k ≡ false → OldBelow named other s (k + 1) ps
-  old_unnamed k ps h unnamed = record { old = h.old; covers = λ q low on none there. go q on none there (below_or_at q k low) }
-    where
-      go : (q : Dot) → named q.name ≡ true → is_old ps q.name ≡ false → set.contains other q ≡ true → (q.name < k) ⊎ (q.name ≡ k) →
-          set.contains s q ≡ true
-      go q on none there (inl below) = h.covers q below on none there
-      go q on none there (inr at) = absurd (true≢false (sym on ∙ ap named at ∙ unnamed))
+  pub old_not : (k : ℕ) (ps : List OldPart) → OldBelow k ps → (Changes named other s k → ⊥) → OldBelow (k + 1) ps
+  old_not k ps h none = record {
+    rise = h.rise;
+    low = below_more k ps h.low;
+    parts = h.parts;
+    old = h.old;
+    names = listed_on k ps h.names ((λ is. absurd (true≢false (sym is ∙ not_old k k ps h.low (omega arith)))), (λ c. absurd (none c)));
+  }
 
-  pub old_seen : (k : ℕ) (ps : List OldPart) → OldBelow named other s k ps → HasAllOf k s other → OldBelow named other s (k + 1) ps
-  old_seen k ps h all = record { old = h.old; covers = λ q low on none there. go q on none there (below_or_at q k low) }
-    where
-      go : (q : Dot) → named q.name ≡ true → is_old ps q.name ≡ false → set.contains other q ≡ true → (q.name < k) ⊎ (q.name ≡ k) →
-          set.contains s q ≡ true
-      go q on none there (inl below) = h.covers q below on none there
-      go q on none there (inr at) =
-          let is : q ≡ dot k q.clock = λ i. record { name = at i; clock = q.clock } in
-          ap (set.contains s) is ∙ all q.clock (ap (set.contains other) (sym is) ∙ there)
+  pub old_more : (k : ℕ) (ps after : List OldPart) (p : OldPart) → OldBelow k ps → after ≡ ps ++ p ∷ [] → p.name ≡ k →
+      Changes named other s k → IsPartOf s p.name p.part → with_part p.name p.part s ≡ s → OldBelow (k + 1) after
+  old_more k ps after p h is name changes part whole = subst (OldBelow (k + 1)) (sym is) (record {
+    rise = rise_and ps p h.rise (subst (λ n. AreBelow n ps) (sym name) h.low);
+    low = all_and _ ps p (below_more k ps h.low) (omega (arith, name));
+    parts = all_and _ ps p h.parts part;
+    old = all_and _ ps p h.old whole;
+    names = listed_on k (ps ++ p ∷ []) (λ n low. subst (λ b. (b ≡ true) ↔ Changes named other s n)
+        (sym (is_old-and ps p n ∙ ap (λ b. is_old ps n || b) (ne_eqb n p.name (λ e. absurd (omega (arith, low, e, name)))) ∙ or-false (is_old ps n)))
+        (h.names n low))
+        ((λ _. changes), (λ _. is_old-and ps p k ∙ ap (λ b. is_old ps k || b) (eq-eqb k p.name (sym name)) ∙ or-true (is_old ps k)));
+  })
 
-  all_and : (ps : List OldPart) (p : OldPart) → AreOld s ps → with_part p.name p.part s ≡ s → AreOld s (ps ++ p ∷ [])
-  all_and [] p old is = (is, tt)
-  all_and (o ∷ ps) p old is = (old.0, all_and ps p old.1 is)
+  -- at the end
 
-  none_and : (ps : List OldPart) (p : OldPart) (n : ℕ) → is_old (ps ++ p ∷ []) n ≡ false → (is_old ps n ≡ false) × ((n == p.name) ≡ false)
-  none_and [] p n none = (refl, (neither (n == p.name) false none).0)
-  none_and (o ∷ ps) p n none =
-      let parts = neither (n == o.name) (is_old (ps ++ p ∷ []) n) none in
-      let later = none_and ps p n parts.1 in
-      (ap (λ t. t || is_old ps n) parts.0 ∙ later.0, later.1)
+  module _ (k : ℕ) (ps : List OldPart) (h : OldBelow k ps) (few : (n : ℕ) → named n ≡ true → n < k) where
+    pub old_all : AreOldParts named other s ps
+    old_all = record { rise = h.rise; parts = h.parts; names = λ n. go n (cases_lt n k) }
+      where
+        go : (n : ℕ) → (n < k) ⊎ (k ≤ n) → IsListed ps n
+        go n (inl below) = h.names n below
+        go n (inr above) = (
+          (λ is. absurd (true≢false (sym is ∙ not_old k n ps h.low above))),
+          (λ c. let below = few n c.0 in absurd (omega (arith, below, above))),
+        )
 
-  pub old_more : (k : ℕ) (ps after : List OldPart) (p : OldPart) → OldBelow named other s k ps → after ≡ ps ++ p ∷ [] → p.name ≡ k →
-      with_part p.name p.part s ≡ s → OldBelow named other s (k + 1) after
-  old_more k ps after p h is name part = subst (OldBelow named other s (k + 1)) (sym is)
-      (record { old = all_and ps p h.old part; covers = λ q low on none there. go q on (none_and ps p q.name none) there (below_or_at q k low) })
-    where
-      go : (q : Dot) → named q.name ≡ true → (is_old ps q.name ≡ false) × ((q.name == p.name) ≡ false) → set.contains other q ≡ true →
-          (q.name < k) ⊎ (q.name ≡ k) → set.contains s q ≡ true
-      go q on none there (inl below) = h.covers q below on none.0 there
-      go q on none there (inr at) = absurd (true≢false (sym (eq-eqb q.name p.name (at ∙ sym name)) ∙ none.1))
+    -- what is among the other's dots and not listed was seen
+    covered : (q : Dot) → named q.name ≡ true → is_old ps q.name ≡ false → set.contains other q ≡ true → set.contains s q ≡ true
+    covered q on none there = go (set.contains s q) refl
+      where
+        go : (b : Bool) → set.contains s q ≡ b → b ≡ true
+        go true is = refl
+        go false is = absurd (true≢false (sym ((h.names q.name (few q.name on)).1 (on, λ all. true≢false (sym (all q.clock there) ∙ is))) ∙ none))
 
-  whole : (old seen there on : Bool) → (on ≡ true → old ≡ false → there ≡ true → seen ≡ true) → cond old seen (seen || (there && on)) ≡ seen
-  whole true seen there on h = refl
-  whole false true there on h = refl
-  whole false false false on h = refl
-  whole false false true false h = refl
-  whole false false true true h = absurd (true≢false (sym (h refl refl refl)))
+    whole : (old seen there on : Bool) → (on ≡ true → old ≡ false → there ≡ true → seen ≡ true) → cond old seen (seen || (there && on)) ≡ seen
+    whole true seen there on h = refl
+    whole false true there on h = refl
+    whole false false false on h = refl
+    whole false false true false h = refl
+    whole false false true true h = absurd (true≢false (sym (h refl refl refl)))
 
-  pub old_all : (k : ℕ) (ps : List OldPart) → OldBelow named other s k ps → ((n : ℕ) → named n ≡ true → n < k) →
-      with_parts ps (set.union s (of_names named other)) ≡ s
-  old_all k ps h few = same_dots _ _ (λ q.
-      contains-with_parts s ps h.old (set.union s (of_names named other)) q
-      ∙ ap (cond (is_old ps q.name) (set.contains s q)) (contains-union s (of_names named other) q
-      ∙ ap (λ b. set.contains s q || b) (contains-retain other (λ d. named d.name) q))
-      ∙ whole (is_old ps q.name) (set.contains s q) (set.contains other q) (named q.name) (λ on none there. h.covers q (few q.name on) on none there))
+    pub old_whole : with_parts ps (set.union s (of_names named other)) ≡ s
+    old_whole = same_dots _ _ (λ q.
+        contains-with_parts s ps h.old (set.union s (of_names named other)) q
+        ∙ ap (cond (is_old ps q.name) (set.contains s q)) (contains-union s (of_names named other) q
+        ∙ ap (λ b. set.contains s q || b) (contains-retain other (λ d. named d.name) q))
+        ∙ whole (is_old ps q.name) (set.contains s q) (set.contains other q) (named q.name) (covered q))

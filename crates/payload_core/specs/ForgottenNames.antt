@@ -1,9 +1,10 @@
 -- What a store held of a name that it forgot.
-use Rattle.std.specs.Prelude.{ℕ, List}
+use Rattle.std.specs.Prelude.{◌≡◌, ℕ, ◌==◌, List}
+use Rattle.std.specs.FinMap as fin
 use Rattle.dots_core.specs.Clocks.{Clocks}
-use Rattle.dots_core.specs.Contexts.{with_part}
+use Rattle.dots_core.specs.Contexts.{IsPartOf, with_part}
 use Rattle.payload_core.specs.EntryLists.{pairs}
-use Rattle.payload_core.specs.Presences.{Entry}
+use Rattle.payload_core.specs.Presences.{Entry, entries_of_names}
 use Rattle.payload_core.specs.EntryMoves.{with_each}
 use Rattle.payload_core.specs.Stores.{Store}
 
@@ -11,6 +12,11 @@ use Rattle.payload_core.specs.Stores.{Store}
 pub record Forgotten : Type 0 where
   pub part : Clocks
   pub entries : List Entry
+
+-- what a store holds of the name: this, and nothing more
+pub record Holds (name : ℕ) (s : Store) (f : Forgotten) : Type 0 where
+  pub part : IsPartOf s.seen name f.part
+  pub entries : pairs f.entries ≡ fin.entries (entries_of_names (λ n. n == name) s.entries)
 
 -- the store with what it held of the name
 abbrev pub remembered : ℕ → Forgotten → Store → Store

@@ -1,5 +1,5 @@
 -- Dots that were seen, and the live entries among them: a replica's store, its delta and what a message carries are such.
-use Rattle.std.specs.Prelude.{◌≡◌, ℕ, ◌==◌, ◌&&◌, not, Bool, true, refl, if◌then◌else◌}
+use Rattle.std.specs.Prelude.{ℕ, ◌==◌, ◌&&◌, not, Bool, refl, if◌then◌else◌}
 use Rattle.std.specs.Coded.{Coded, code_by, coded×}
 use Rattle.std.specs.FinMap as fin
 use Rattle.std.specs.FinSet as set

@@ -4,7 +4,7 @@ ghost use Rattle.std.specs.FinMap as fin;
 ghost use Rattle.std.specs.FinSet as set;
 ghost use Rattle.payload_core.specs.EntryLists.{pairs};
 ghost use Rattle.payload_core.specs.EntryMoves.{AreNew};
-ghost use Rattle.payload_core.specs.ForgottenNames.{remembered};
+ghost use Rattle.payload_core.specs.ForgottenNames.{Holds, remembered};
 ghost use Rattle.payload_core.specs.Presences.{entries_of_names};
 ghost use Rattle.payload_core.specs.Stores.{is_other, part};
 
@@ -39,6 +39,7 @@ pub fn forget<A: Allocator + Copy>(
 ) -> Result<Forgotten<A>, Oom>
     requires { name < 32 }
     ensures ok { OnOk result (store.new ≡ part (is_other name) store.old) }
+    ensures held { IfOk result (Holds name store.old) }
     ensures back { IfOk result (λ forgotten. remembered name forgotten store.new ≡ store.old) }
     ensures new { IfOk result (λ forgotten. AreNew (pairs forgotten.entries) store.new.entries) }
     ensures err { OnErr result (store.new ≡ store.old) }

@@ -1,9 +1,9 @@
 //! A delivery of a message to a store, and the delivery taken back.
-ghost use Rattle.std.specs.Prelude.{◌≡◌, ◌≤◌, IfErr, IfOk, OnErr, OnOk};
+ghost use Rattle.std.specs.Prelude.{◌≡◌, ◌↔◌, ◌<◌, ◌≤◌, IfErr, IfOk, IsTrue, OnErr, OnOk};
 ghost use Rattle.std.specs.FinMap as fin;
 ghost use Rattle.std.specs.FinSet as set;
 ghost use Rattle.dots_core.specs.Dots.{of_names};
-ghost use Rattle.payload_core.specs.Delivered.{undelivered, with_parts};
+ghost use Rattle.payload_core.specs.Delivered.{AreOldParts, Changes, Destroys, undelivered, with_parts};
 ghost use Rattle.payload_core.specs.EntryLists.{pairs};
 ghost use Rattle.payload_core.specs.EntryMoves.{AreNew, dots_of_pairs, without_each};
 ghost use Rattle.payload_core.specs.Messages.{AreSeen};
@@ -67,6 +67,7 @@ pub fn merge<A: Allocator + Copy>(
     requires joining { pairs joining.items ≡ fin.entries (arrivals (set.contains names) (store_of message.now) store.old) }
     requires leaving { leaving.now ≡ fin.keys (departures (set.contains names) (store_of message.now) store.old) }
     ensures ok { OnOk result (store.new ≡ merged (set.contains names) (store_of message.now) store.old) }
+    ensures destroyed { IfOk result (Destroys (set.contains names) (store_of message.now) store.old) }
     ensures back { IfOk result (λ delivered. undelivered delivered store.new ≡ store.old) }
     ensures new { IfOk result (λ delivered. AreNew (pairs delivered.left) (without_each delivered.joined store.new.entries)) }
     ensures err { OnErr result (store.new ≡ store.old) }
@@ -101,24 +102,33 @@ fn dots_of<A: Allocator + Copy>(entries: &[Entry<A>], alloc: A) -> Result<Vec<Do
     Ok(dots)
 }
 
-/// The parts of those of the names of which the other set has a dot that was not seen.
+/// The parts of those of the names of which the other set has a dot that was not seen, by rising name.
 fn old_parts<A: Allocator + Copy>(
     seen: &DotSet<A>,
     other: &DotSet<A>,
     names: NameSet,
     alloc: A,
 ) -> Result<Vec<OldPart<A>, A>, Oom>
-    ensures { IfOk result (λ parts. with_parts parts.items (set.union seen.now (of_names (set.contains names) other.now)) ≡ seen.now) }
+    ensures parts { IfOk result (λ parts. AreOldParts (set.contains names) other.now seen.now parts.items) }
+    ensures whole { IfOk result (λ parts. with_parts parts.items (set.union seen.now (of_names (set.contains names) other.now)) ≡ seen.now) }
 {
     names.names_law();
     let mut parts = Vec::new(alloc);
     for name in 0..32u16 {
-        if names.has(name) && !seen.has_all_of(other, name) {
+        if changes(seen, other, names, name) {
             let part = seen.part_of(name)?;
             parts.push(OldPart { name, part })?;
         }
     }
     Ok(parts)
+}
+
+/// Whether the name is one of the names, and the other set has a dot of it that was not seen.
+fn changes<A: Allocator>(seen: &DotSet<A>, other: &DotSet<A>, names: NameSet, name: u16) -> bool
+    requires { name < 32 }
+    ensures { IsTrue result ↔ Changes (set.contains names) other.now seen.now name }
+{
+    names.has(name) && !seen.has_all_of(other, name)
 }
 
 /// Makes room for so many more entries, and then puts the dots of these names in.

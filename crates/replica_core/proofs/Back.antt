@@ -1,5 +1,5 @@
 -- A replica as it was before a call.
-use Rattle.std.proofs.Common.{◌≡◌, ◌≢◌, ℕ, ◌+◌, ◌<◌, ◌==◌, not, Bool, true, false, List, [], ◌∷◌, Option, Some, None, is_some, refl}
+use Rattle.std.proofs.Common.{◌≡◌, ◌≢◌, ℕ, ◌<◌, ◌==◌, not, Bool, true, false, List, [], ◌∷◌, Option, Some, None, is_some, refl}
 use Rattle.std.proofs.Common.{sym, ap, subst, ◌∙◌, arith, true≢false}
 use Rattle.std.specs.FinMap as fin
 use Rattle.std.specs.FinSet as set
@@ -8,12 +8,11 @@ use Rattle.dots_core.specs.Dots.{dot, IsValid}
 use Rattle.dots_core.proofs.OwnClock.{count_more}
 use Rattle.payload_core.specs.Presences.{Presence, is_tracked_as}
 use Rattle.payload_core.proofs.EntryMaps.{get_removed}
-use Rattle.payload_core.specs.Stores.{without, with_dot, with_removal, without_entry}
+use Rattle.payload_core.specs.Stores.{without}
 use Rattle.payload_core.specs.LeftEntries.{Left, Stood}
-use Rattle.payload_core.proofs.StoreEdits.{still_none}
 use Rattle.payload_core.proofs.StoreBack.{at_dot, delta_restored, has_place, none_beside, store_restored, unjoined, unticked}
 use Rattle.replica_core.specs.declared.status.Status.TheVariants.{Up, Down}
-use Rattle.replica_core.specs.Replicas.{Replica, own_clock, fresh, last, tracked_dots, joined, dropped, ticked, left}
+use Rattle.replica_core.specs.Replicas.{Replica, own_clock, fresh, tracked_dots, joined, dropped, ticked, left}
 use Rattle.replica_core.specs.declared.status.Status.{Status}
 use Rattle.replica_core.specs.declared.replica_fault.ReplicaFault.TheVariants.{OwnReplica, NotKnown, NotDown}
 use Rattle.replica_core.specs.Refusals.{first_of, permdown_refusal}

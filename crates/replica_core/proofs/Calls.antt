@@ -2,19 +2,17 @@
 use Rattle.std.proofs.Common.{◌≡◌, ◌≢◌, ℕ, ◌+◌, ◌==◌, not, Bool, true, false, Option, None, List, [], ◌∷◌, length, refl, ap, sym, subst, ◌∙◌, true≢false}
 use Rattle.std.proofs.lemmas.Bool.{eq-eqb, ne_eqb}
 use Rattle.std.specs.FinMap as fin
-use Rattle.std.specs.FinSet as set
 use Rattle.dots_core.specs.declared.dot.Dot.{Dot}
 use Rattle.dots_core.specs.Contexts.{IsNext}
-use Rattle.dots_core.specs.Dots.{Dots, IsValid}
-use Rattle.payload_core.specs.Presences.{Presence, Entry, Entries, presence_of, entry_of}
+use Rattle.dots_core.specs.Dots.{IsValid}
+use Rattle.payload_core.specs.Presences.{Entry, presence_of}
 use Rattle.replica_core.specs.declared.replica_fault.ReplicaFault.{ReplicaFault}
 use Rattle.replica_core.specs.declared.replica_fault.ReplicaFault.TheVariants.{OwnReplica, NotKnown, NotDown, AlreadyTracked}
 use Rattle.replica_core.specs.declared.replica_fault.ReplicaFault.TheVariants.{NotTracked, EntriesFull, ClockFull}
 use Rattle.replica_core.specs.declared.status.Status.{Status}
-use Rattle.replica_core.specs.declared.status.Status.TheVariants.{Up}
 use Rattle.payload_core.specs.Stores.{Store, with_entry}
 use Rattle.replica_core.specs.Views.{View}
-use Rattle.replica_core.specs.Replicas.{Replica, fresh, dots_of_process, is_known, is_online, joined, updated, with_status}
+use Rattle.replica_core.specs.Replicas.{Replica, fresh, dots_of_process, is_known, is_online, joined, with_status}
 use Rattle.replica_core.specs.Refusals.{first_of, is_some_dot, is_tracked, are_too_many, is_clock_full, join_refusal, leave_refusal}
 use Rattle.replica_core.specs.Refusals.{leave_all_refusal, up_refusal, down_refusal, permdown_refusal}
 use Rattle.replica_core.specs.Invariant.{IsReplica}

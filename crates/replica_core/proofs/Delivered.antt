@@ -1,5 +1,5 @@
 -- A delivery's calls, put together.
-use Rattle.std.proofs.Common.{◌≡◌, ℕ, ◌≤◌, ◌==◌, ◌&&◌, not, Bool, true, false, [], ◌∷◌, None, refl, sym, ap, subst, ◌∙◌}
+use Rattle.std.proofs.Common.{◌≡◌, ℕ, ◌≤◌, ◌==◌, ◌&&◌, not, Bool, true, false, [], ◌∷◌, None, refl, sym, ap, subst, subst₂, ◌∙◌}
 use Rattle.std.proofs.Math.Bool.{and_comm}
 use Rattle.std.proofs.lemmas.Bool.{ltb-false}
 use Rattle.std.specs.FinMap as fin
@@ -8,6 +8,7 @@ use Rattle.dots_core.specs.Dots.{Dots, AreValid}
 use Rattle.dots_core.specs.Names.{Names}
 use Rattle.dots_core.proofs.Names.{contains-remove_name}
 use Rattle.payload_core.specs.Messages.{Message, AreSeen}
+use Rattle.payload_core.specs.Delivered.{Delivered, Destroys}
 use Rattle.payload_core.specs.Stores as stores
 use Rattle.payload_core.specs.Stores.{Store, store_of}
 use Rattle.replica_core.specs.declared.replica_fault.ReplicaFault.TheVariants.{EntriesFull}
@@ -28,6 +29,9 @@ without_own known names r now same are is = subst (AreOtherKnown names) same (λ
 module _ (m : Message) (r now : Replica) (names : Names) (same : r ≡ now) (are : AreOtherKnown names now) where
   pub store_after : stores.merged (set.contains names) (store_of m) r.store ≡ (merged m now).store
   store_after = λ i. stores.merged (λ n. are n i) (store_of m) (same i).store
+
+  pub destroyed_is : (d : Delivered) → Destroys (set.contains names) (store_of m) r.store d → Destroys (is_other_known now) (store_of m) now.store d
+  destroyed_is d = subst₂ (λ named s. Destroys named (store_of m) s d) (λ i n. are n i) (λ i. (same i).store)
 
   module _ (store : Store) (is : store ≡ stores.merged (set.contains names) (store_of m) r.store) where
     pub merged_is : record r { store = store } ≡ merged m now

@@ -1,23 +1,19 @@
 -- Forgetting a name.
-use Rattle.std.proofs.Common.{◌≡◌, ℕ, ◌≤◌, ◌==◌, ◌&&◌, not, Bool, true, false, cond, Option, Some, None, is_some, refl, sym}
-use Rattle.std.proofs.Common.{ap, ◌∙◌, subst, arith, true≢false}
+use Rattle.std.proofs.Common.{◌≡◌, ℕ, ◌==◌, ◌&&◌, not, Bool, true, false, cond, Option, Some, None, is_some, refl, sym}
+use Rattle.std.proofs.Common.{ap, ◌∙◌, subst, arith}
 use Rattle.std.proofs.lemmas.Bool.{eqb-false, ne_eqb, not-true}
 use Rattle.std.specs.FinMap as fin
 use Rattle.std.specs.FinSet as set
 use Rattle.dots_core.specs.declared.dot.Dot.{Dot}
-use Rattle.dots_core.specs.Contexts.{others}
-use Rattle.dots_core.specs.Dots.{Dots}
-use Rattle.dots_core.specs.Names.{Names}
-use Rattle.dots_core.proofs.Names.{contains-remove_name}
 use Rattle.dots_core.proofs.OwnClock.{clocks_same, own_same}
 use Rattle.dots_core.proofs.Sets.{contains-retain, of_names_cases}
-use Rattle.payload_core.specs.Presences.{Presence, Entries, entries_of_names}
-use Rattle.payload_core.proofs.EntryMaps.{get-names, same_entries}
+use Rattle.payload_core.specs.Presences.{Presence}
+use Rattle.payload_core.proofs.EntryMaps.{get-names}
 use Rattle.payload_core.proofs.SeenEntries.{seen-names}
 use Rattle.payload_core.specs.Stores.{Store, is_other, part}
 use Rattle.payload_core.proofs.MergedCounts.{len-retain}
 use Rattle.replica_core.specs.Replicas.{Replica, own_clock, forgotten}
-use Rattle.replica_core.specs.Views.{View, AreKnown}
+use Rattle.replica_core.specs.Views.{View}
 use Rattle.replica_core.specs.Invariant.{IsReplica}
 use Rattle.replica_core.proofs.Once.{once_kept}
 use Rattle.replica_core.proofs.Views.{get_remove_view}

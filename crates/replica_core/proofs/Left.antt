@@ -1,17 +1,17 @@
 -- Leaves and updates: what they keep, and what they are as edits of a replica's sets.
-use Rattle.std.proofs.Common.{◌≡◌, ℕ, suc, ◌+◌, ◌-◌, ◌≤◌, nat_lt, Bool, true, false, cond, All, List, [], ◌∷◌, length, slice_get}
-use Rattle.std.proofs.Common.{Option, Some, None, is_some, refl, sym, ap, ◌∙◌, subst, arith}
+use Rattle.std.proofs.Common.{◌≡◌, ℕ, suc, ◌+◌, ◌-◌, nat_lt, Bool, true, false, cond, All, List, [], ◌∷◌, length, slice_get}
+use Rattle.std.proofs.Common.{Option, Some, None, is_some, sym, ap, ◌∙◌, subst, arith}
 use Rattle.std.proofs.lemmas.Bool.{ltb-false, le-ltb}
 use Rattle.std.proofs.lemmas.List.Elements.{All-nil, All-cons}
 use Rattle.std.specs.FinMap as fin
 use Rattle.std.specs.FinSet as set
 use Rattle.dots_core.specs.declared.dot.Dot.{Dot}
 use Rattle.dots_core.specs.Contexts.{IsLast, IsNext}
-use Rattle.dots_core.specs.Dots.{Dots, dot, IsValid, HasClocks}
+use Rattle.dots_core.specs.Dots.{dot, IsValid}
 use Rattle.dots_core.proofs.Order.{dot_total}
-use Rattle.dots_core.proofs.OwnClock.{count_more, clocks_more}
+use Rattle.dots_core.proofs.OwnClock.{count_more}
 use Rattle.dots_core.proofs.Sets.{contains_insert_more}
-use Rattle.payload_core.specs.Presences.{Presence, Entry, Entries, presence_of, is_tracked_as}
+use Rattle.payload_core.specs.Presences.{Presence, Entry, presence_of, is_tracked_as}
 use Rattle.payload_core.proofs.TrackedDots.{EachPasses, dots_of_pass}
 use Rattle.payload_core.specs.Stores.{Store, with_dot, with_entry, with_removal, without_entry}
 use Rattle.replica_core.specs.Leaves.{AreOwnSeen}

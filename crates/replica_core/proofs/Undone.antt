@@ -1,5 +1,5 @@
 -- An undo's edits, where `r` is the replica as its fields say it.
-use Rattle.std.proofs.Common.{◌≡◌, ◌<◌, ℕ, refl, sym, ap, subst, ◌∙◌}
+use Rattle.std.proofs.Common.{◌≡◌, ◌<◌, sym, ap, subst, ◌∙◌}
 use Rattle.dots_core.specs.declared.dot.Dot.{Dot}
 use Rattle.dots_core.specs.Contexts.{IsLast}
 use Rattle.dots_core.specs.Dots.{IsValid}

@@ -1,5 +1,5 @@
 -- What is kept of a change to take it back (Danos and Krivine, as an inverse record).
-use Rattle.std.specs.Prelude.{◌≡◌, ◌<◌, ℕ, List, [], ◌∷◌, Option, None, Some}
+use Rattle.std.specs.Prelude.{◌≡◌, ◌<◌, ℕ, List, [], ◌∷◌, Option, None}
 use Rattle.std.specs.FinMap as fin
 use Rattle.dots_core.specs.declared.dot.Dot.{Dot}
 use Rattle.dots_core.specs.Dots.{IsValid}
@@ -7,7 +7,7 @@ use Rattle.payload_core.specs.Presences.{Presence}
 use Rattle.payload_core.specs.EntryLists.{pairs}
 use Rattle.payload_core.specs.Stores.{without}
 use Rattle.payload_core.specs.Delivered.{Delivered}
-use Rattle.payload_core.specs.ForgottenNames.{Forgotten, remembered}
+use Rattle.payload_core.specs.ForgottenNames.{Forgotten, Holds, remembered}
 use Rattle.payload_core.specs.EntryMoves.{AreNew}
 use Rattle.payload_core.specs.LeftEntries.{HasPlace, Left, Stood, restored, restored_delta}
 use Rattle.replica_core.specs.declared.change.Change as declared
@@ -115,6 +115,7 @@ pub record IsDown (name : ℕ) (before : Option Status) (a b : Replica) : Type 0
 pub record IsPermdown (name : ℕ) (f : Forgotten) (a b : Replica) : Type 0 where
   pub number : name < 32
   pub accepted : permdown_refusal a name ≡ None
+  pub holds : Holds name a.store f
   pub held : remembered name f b.store ≡ a.store
   pub new : AreNew (pairs f.entries) b.store.entries
   pub gives : b ≡ forgotten name a

@@ -1,9 +1,8 @@
 -- Leaves one after another, as edits of a replica's sets.
-use Rattle.std.specs.Prelude.{◌≡◌, ℕ, ◌+◌, true, List, [], ◌∷◌}
+use Rattle.std.specs.Prelude.{◌≡◌, true, List}
 use Rattle.std.specs.FinSet as set
 use Rattle.std.specs.List.{AllByRecursion}
 use Rattle.dots_core.specs.declared.dot.Dot.{Dot}
-use Rattle.dots_core.specs.Dots.{Dots, dot}
 use Rattle.replica_core.specs.Replicas.{Replica}
 
 -- each of these is an own dot that was seen

@@ -5,7 +5,7 @@ use Rattle.std.specs.Coded.{Coded, code_by, coded×, coded_ℕ}
 use Rattle.std.specs.FinSet as set
 use Rattle.std.specs.FinMap as fin
 use Rattle.dots_core.specs.declared.dot.Dot.{Dot}
-use Rattle.dots_core.specs.Dots.{Dots, dot, count_of}
+use Rattle.dots_core.specs.Dots.{dot, count_of}
 use Rattle.payload_core.specs.Presences.{Presence, dots_of, is_tracked_as}
 use Rattle.payload_core.specs.Messages.{Message}
 use Rattle.payload_core.specs.Stores.{Store, store_code, is_other, nothing, part, store_of, with_dot, with_entry, with_removal, without_entry}

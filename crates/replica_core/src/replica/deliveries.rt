@@ -2,14 +2,14 @@
 ghost use Rattle.std.specs.Prelude.{◌≡◌, IfErr, IfOk, None, OnErr, OnOk};
 ghost use Rattle.std.specs.FinMap as fin;
 ghost use Rattle.std.specs.FinSet as set;
-ghost use Rattle.payload_core.specs.Delivered.{undelivered};
+ghost use Rattle.payload_core.specs.Delivered.{Destroys, undelivered};
 ghost use Rattle.payload_core.specs.EntryLists.{pairs};
 ghost use Rattle.payload_core.specs.EntryMoves.{AreNew, without_each};
 ghost use Rattle.payload_core.specs.Messages.{AreSeen};
 ghost use Rattle.payload_core.specs.Stores.{arrivals, departures, store_of};
 ghost use Rattle.replica_core.specs.Changes.{ChangeLeadsBack, plain_change};
 ghost use Rattle.replica_core.specs.Delivered.{AreOtherKnown, with_undelivered};
-ghost use Rattle.replica_core.specs.Deliveries.{TakesGreaterStandings, merged};
+ghost use Rattle.replica_core.specs.Deliveries.{TakesGreaterStandings, is_other_known, merged};
 ghost use Rattle.replica_core.specs.Invariant.{IsReplica};
 ghost use Rattle.replica_core.specs.Refusals.{IsRefusedFor, merge_refusal};
 
@@ -72,6 +72,7 @@ impl<A: Allocator + Copy> Replica<A> {
         requires leaving { leaving.now ≡ fin.keys (departures (set.contains names) (store_of message.now) self.old.store) }
         requires free { merge_refusal self.old message.now ≡ None }
         ensures merged { OnOk result (self.new ≡ merged message.now self.old) }
+        ensures destroyed { IfOk result (Destroys (is_other_known self.old) (store_of message.now) self.old.store) }
         ensures held { IfOk result (λ delivered. undelivered delivered self.new.store ≡ self.old.store) }
         ensures new { IfOk result (λ delivered. AreNew (pairs delivered.left) (without_each delivered.joined self.new.store.entries)) }
         ensures earlier { IsReplica self.old }

@@ -1,4 +1,4 @@
-use Rattle.std.proofs.Common.{suc, ◌+◌, ◌<◌, length, arith}
+use Rattle.std.proofs.Common.{arith}
 use Rattle.payload_core.proofs.PutBack.{drop_next, step_map, step_none, step_some}
 use Rattle.payload_core.proofs.entry_moves.move_each.Goals as goal
 use Rattle.payload_core.proofs.entry_moves.move_each.Goals.{in-Some, in_default}

@@ -2,7 +2,7 @@ use Rattle.std.proofs.Common.{true, false, ◌≤◌, length, map, ap, sym, ◌�
 use Rattle.std.specs.FinMap as fin
 use Rattle.std.specs.FinSet as set
 use Rattle.dots_core.specs.declared.dot.Dot.{Dot}
-use Rattle.payload_core.specs.Presences.{Presence, Entry, Entries}
+use Rattle.payload_core.specs.Presences.{Presence, Entry}
 use Rattle.payload_core.proofs.Collected.{answered, entries-retain, no_gap, failed, all_walked, dot_collected}
 use Rattle.payload_core.proofs.forgotten_name.dots_of_names.Goals as goal
 use Rattle.payload_core.proofs.forgotten_name.dots_of_names.Goals.{in-Some+then-has+in_ok-push, in-Some+else-has, in_default}

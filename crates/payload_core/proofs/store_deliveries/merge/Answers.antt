@@ -1,10 +1,11 @@
-use Rattle.std.proofs.Common.{List, ◌++◌, ap, ◌∙◌}
+use Rattle.std.proofs.Common.{List, ◌++◌, ap, subst₂, ◌∙◌}
 use Rattle.std.specs.FinSet as set
 use Rattle.payload_core.specs.EntryLists.{pairs}
 use Rattle.payload_core.specs.Presences.{Entry}
+use Rattle.payload_core.specs.Delivered.{AreOldParts}
 use Rattle.payload_core.specs.EntryMoves.{dots_of_pairs, picked}
 use Rattle.payload_core.specs.Stores.{Store, store_of}
-use Rattle.payload_core.proofs.Undelivered.{entries_after, entries_back, joining_new, left_new, seen_after, seen_back}
+use Rattle.payload_core.proofs.Undelivered.{entries_after, entries_back, joining_new, left_are_departures, left_new, seen_after, seen_back}
 use Rattle.payload_core.proofs.store_deliveries.merge.Goals as goal
 
 pub put_each-requires-clause-new : goal.put_each-requires-clause-new
@@ -23,6 +24,20 @@ returns-clause-ok g c =
     c.make_ready.new.seen (ap (λ (s : Store). s.seen) c.store.view_is) c.seen-2.ensures c.in_ok-make_ready.ensures.seen in
     λ i. record { seen = seen i; entries = entries i }
 
+pub returns-clause-destroyed : goal.returns-clause-destroyed
+returns-clause-destroyed g c = record {
+  joined = c.in_ok-joined.ensures ∙ ap (λ (es : List Entry). dots_of_pairs (pairs es)) c.deref.ensures.value ∙ ap dots_of_pairs c.requires.joining;
+  left =
+      left_are_departures (set.contains c.args.names) (store_of c.args.message.now) c.args.store.now c.args.leaving.now
+      c.make_ready.new.entries.map c.move_each.new.taken.items c.requires.leaving
+      (c.make_ready.ensures.entries ∙ ap (λ (s : Store). s.entries) c.store.view_is)
+      (c.move_each.ensures.taken ∙ ap (λ (es : List Entry). pairs es ++ picked c.args.leaving.now c.make_ready.new.entries.map)
+      c.in_ok-left.ensures.items);
+  parts =
+      subst₂ (λ other s. AreOldParts (set.contains c.args.names) other s c.in_ok-parts.parts.items) c.seen.ensures
+      (ap (λ (s : Store). s.seen) c.store.view_is) c.in_ok-parts.ensures.parts;
+}
+
 pub returns-clause-back : goal.returns-clause-back
 returns-clause-back g c =
     let entries = entries_back (set.contains c.args.names) (store_of c.args.message.now) c.args.store.now c.requires.live
@@ -35,7 +50,7 @@ returns-clause-back g c =
     c.in_ok-left.ensures.items) in
     let seen = seen_back (set.contains c.args.names) c.in_ok-parts.parts.items
     (store_of c.args.message.now) c.store.inside.seen c.seen.result.now c.seen-2.result.now c.make_ready.new.seen c.seen.ensures
-    c.seen-2.ensures c.in_ok-make_ready.ensures.seen c.in_ok-parts.ensures
+    c.seen-2.ensures c.in_ok-make_ready.ensures.seen c.in_ok-parts.ensures.whole
     ∙ ap (λ (s : Store). s.seen) c.store.view_is in
     λ i. record { seen = seen i; entries = entries i }
 

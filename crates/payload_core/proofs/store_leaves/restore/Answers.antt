@@ -1,4 +1,4 @@
-use Rattle.std.proofs.Common.{◌≡◌, None, ap, rules, sym, subst, ◌∙◌}
+use Rattle.std.proofs.Common.{ap, rules, sym, subst, ◌∙◌}
 use Rattle.std.specs.FinMap as fin
 use Rattle.dots_core.specs.Contexts.{IsLast}
 use Rattle.payload_core.specs.LeftEntries.{IsFree, Left, dots_before}

@@ -1,4 +1,4 @@
-use Rattle.std.proofs.Common.{ap, sym, ◌∙◌}
+use Rattle.std.proofs.Common.{ap, ◌∙◌}
 use Rattle.std.specs.FinSet as set
 use Rattle.dots_core.specs.Dots.{Dots}
 use Rattle.payload_core.proofs.StoreEdits.{inserts_swap, last_inserted, of_ok, removed_inserted}

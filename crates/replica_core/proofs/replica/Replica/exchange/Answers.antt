@@ -3,7 +3,7 @@ use Rattle.std.specs.FinMap as fin
 use Rattle.std.specs.FinSet as set
 use Rattle.payload_core.specs.Stores.{Store, arrivals, departures, store_of}
 use Rattle.replica_core.specs.Replicas.{Replica}
-use Rattle.replica_core.proofs.Delivered.{kept_merge, merged_is}
+use Rattle.replica_core.proofs.Delivered.{destroyed_is, kept_merge, merged_is}
 use Rattle.replica_core.proofs.replica.Replica.exchange.Goals as goal
 
 pub merge-requires : goal.merge-requires
@@ -22,3 +22,7 @@ invariant_of-self-2 g c =
 pub returns-clause-merged : goal.returns-clause-merged
 returns-clause-merged g c =
     merged_is c.args.message.now _ c.args.self.now c.args.names c.self.view_is c.requires.names c.merge.new.store c.in_ok-delivered.ensures.ok
+
+pub returns-clause-destroyed : goal.returns-clause-destroyed
+returns-clause-destroyed g c =
+    destroyed_is c.args.message.now _ c.args.self.now c.args.names c.self.view_is c.requires.names _ c.in_ok-delivered.ensures.destroyed

@@ -1,6 +1,4 @@
-use Rattle.std.proofs.Common.{sym, subst, ◌∙◌}
-use Rattle.payload_core.specs.Stores.{Store}
-use Rattle.replica_core.specs.Invariant.{IsReplica}
+use Rattle.std.proofs.Common.{sym, subst}
 use Rattle.replica_core.specs.Replicas.{Replica, CanBeDelta}
 use Rattle.replica_core.proofs.Invariant.{kept_with_delta}
 use Rattle.replica_core.proofs.replica.Replica.give_delta.Goals as goal

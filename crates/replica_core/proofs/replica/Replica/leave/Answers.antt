@@ -1,5 +1,4 @@
-use Rattle.std.proofs.Common.{rules, ap, sym, ◌∙◌}
-use Rattle.replica_core.specs.Replicas.{left_each}
+use Rattle.std.proofs.Common.{rules}
 use Rattle.replica_core.proofs.Calls.{leave_free}
 use Rattle.replica_core.proofs.replica.Replica.leave.Goals as goal
 

@@ -1,8 +1,6 @@
-use Rattle.std.proofs.Common.{◌≡◌, true, false, [], ◌∷◌, ap, rules, sym, subst, ◌∙◌}
+use Rattle.std.proofs.Common.{ap, rules, ◌∙◌}
 use Rattle.std.specs.FinMap as fin
-use Rattle.replica_core.specs.Leaves.{AreOwnSeen}
-use Rattle.replica_core.specs.Replicas.{Replica, own_clock}
-use Rattle.replica_core.specs.Refusals.{is_clock_full}
+use Rattle.replica_core.specs.Replicas.{Replica}
 use Rattle.replica_core.proofs.Left.{go_valid, go_fresh, go_next, go_last, go_unsent, go_is, go_kept}
 use Rattle.replica_core.proofs.replica.Replica.let_go.Goals as goal
 

@@ -1,7 +1,6 @@
-use Rattle.std.proofs.Common.{rules, ℕ, true, false, refl, ap, subst, ◌∙◌}
+use Rattle.std.proofs.Common.{rules, true, false, refl, ap, subst, ◌∙◌}
 use Rattle.std.specs.FinMap as fin
 use Rattle.std.specs.FinSet as set
-use Rattle.payload_core.specs.EntryLists.{pairs}
 use Rattle.payload_core.specs.Presences.{Entries}
 use Rattle.payload_core.specs.Stores.{Store, arrivals, departures, store_of}
 use Rattle.payload_core.specs.Laws.{IsStore}
@@ -66,6 +65,7 @@ returns-clause-leads_back g c = record {
   call = record {
     message = c.args.message.now;
     accepted = returns-clause-refused g c;
+    destroyed = c.in_ok-delivered.ensures.destroyed;
     held = c.in_ok-delivered.ensures.held;
     new = c.in_ok-delivered.ensures.new;
     gives = c.in_ok-delivered.ensures.merged;

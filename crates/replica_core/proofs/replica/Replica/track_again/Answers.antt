@@ -1,5 +1,4 @@
-use Rattle.std.proofs.Common.{◌≡◌, [], ◌∷◌, rules, sym, subst}
-use Rattle.replica_core.specs.Replicas.{Replica}
+use Rattle.std.proofs.Common.{rules}
 use Rattle.replica_core.proofs.Left.{kept_update, old_valid, old_live, new_valid, new_next, new_absent, new_absent_in_delta, new_last, new_unsent, updated_is}
 use Rattle.replica_core.proofs.replica.Replica.track_again.Goals as goal
 

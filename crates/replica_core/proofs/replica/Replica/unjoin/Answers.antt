@@ -1,6 +1,5 @@
-use Rattle.std.proofs.Common.{◌≡◌, rules, ap, sym, subst, ◌∙◌}
-use Rattle.payload_core.specs.Stores.{Store, without}
-use Rattle.replica_core.specs.Changes.{OfJoin, without_last}
+use Rattle.std.proofs.Common.{rules, sym, subst, ◌∙◌}
+use Rattle.replica_core.specs.Changes.{OfJoin}
 use Rattle.replica_core.specs.Invariant.{IsReplica}
 use Rattle.replica_core.proofs.Back.{back_holds, some_after_join}
 use Rattle.replica_core.proofs.Undone.{undo_valid, undo_last, undo_last_in_delta, undone_is}

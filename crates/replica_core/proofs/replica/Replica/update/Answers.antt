@@ -1,4 +1,4 @@
-use Rattle.std.proofs.Common.{◌≡◌, [], ◌∷◌, rules, ap, sym, subst, ◌∙◌}
+use Rattle.std.proofs.Common.{rules, ap, ◌∙◌}
 use Rattle.payload_core.specs.Presences.{Presence, Entry, presence_of}
 use Rattle.replica_core.specs.Replicas.{tracked_dots, updated}
 use Rattle.replica_core.proofs.Calls.{leave_free}
