@@ -1,16 +1,14 @@
 -- What is gathered from a step on is its future, and the only one.
-use Rattle.std.proofs.Common.{◌≡◌, ◌⊎◌, inl, inr, ℕ, ◌+◌, ◌<◌, ◌≤◌, ◌==◌, ◌||◌, Bool, true, false, if◌then◌else◌, List, [], ◌∷◌, ◌++◌, map, Some, refl, sym}
+use Rattle.std.proofs.Common.{◌≡◌, ◌⊎◌, inl, inr, ℕ, ◌+◌, ◌<◌, ◌≤◌, ◌==◌, ◌||◌, Bool, true, false, if◌then◌else◌, List, [], ◌∷◌, ◌++◌, Some}
+use Rattle.std.proofs.Common.{refl, sym}
 use Rattle.std.proofs.Common.{ap, ◌∙◌, subst, true≢false, arith, append-nil, append_assoc}
 use Rattle.std.proofs.lemmas.Bool.{eqb-true, eq-eqb, ne_eqb, or_cases, or_right}
 use Rattle.std.specs.List.{AllByRecursion as Each, list_any}
-use Rattle.journal_core.specs.Journals.{Kept, NumbersRise, AreInCausalOrder, is_consequence, find_number}
+use Rattle.journal_core.specs.Journals.{Kept, NumbersRise, AreInCausalOrder, is_consequence, find_number, numbers}
 use Rattle.journal_core.specs.Gathering.{gathered, gathered_numbers}
 use Rattle.journal_core.specs.Futures.{Follows, Itself, Next, FallsBelow, Falls, IsFuture}
 use Rattle.journal_core.proofs.Each.{each_push, each_front, each_rest, each_imp, each_both, each_find, any_of, NoneOf, finds_all, find_itself}
 use Rattle.journal_core.proofs.Senders.{none_up_to}
-
-abbrev pub numbers : List Kept → List ℕ
-numbers ks = map (λ k. k.number) ks
 
 abbrev pub is_in : ℕ → List Kept → Bool
 is_in m ks = list_any (λ k. k.number == m) ks

@@ -1,10 +1,13 @@
 -- The future of a step can be taken back in turn, and no undos take the step back without it.
-use Rattle.std.proofs.Common.{◌≡◌, ◌≢◌, ◌⊎◌, inl, inr, ℕ, ◌+◌, ◌<◌, ◌≤◌, ◌==◌, ◌&&◌, ◌||◌, not, nat_lt, Bool, true, false, cond, if◌then◌else◌, List, []}
-use Rattle.std.proofs.Common.{◌∷◌, ◌++◌, Option, Some, None, is_some, is_none, option_and_then, refl, sym, ap, ◌∙◌, subst, true≢false, arith, append_assoc}
+use Rattle.std.proofs.Common.{◌≡◌, ◌≢◌, ◌⊎◌, inl, inr, ℕ, ◌+◌, ◌<◌, ◌≤◌, ◌==◌, ◌&&◌, ◌||◌, not, nat_lt, Bool, true, false, cond, if◌then◌else◌}
+use Rattle.std.proofs.Common.{List, []}
+use Rattle.std.proofs.Common.{◌∷◌, ◌++◌, Option, Some, None, is_some, is_none, option_and_then, refl, sym, ap, ◌∙◌, subst, true≢false, arith}
+use Rattle.std.proofs.Common.{append_assoc}
 use Rattle.std.proofs.lemmas.Bool.{cases_eq, eqb-true, eqb-false, ne_eqb, or_parts, or_right, not-true, false_from_ne_true}
 use Rattle.std.specs.List.{AllByRecursion as Each, list_any}
-use Rattle.journal_core.specs.Journals.{Kept, NumbersRise, AreBelow, AreInCausalOrder, source_of, is_number, delivers_from, is_consequence, find_number}
-use Rattle.journal_core.specs.Journals.{first_number, first_consequence, without}
+use Rattle.journal_core.specs.Journals.{Kept, NumbersRise, AreBelow, AreInCausalOrder, source_of, is_number, delivers_from, is_consequence}
+use Rattle.journal_core.specs.Journals.{find_number}
+use Rattle.journal_core.specs.Journals.{first_number, first_consequence, without, numbers}
 use Rattle.journal_core.specs.Gathering.{gathered, gathered_numbers}
 use Rattle.journal_core.specs.Futures.{Follows, Itself, Next, FallsBelow, undo_all, without_all}
 use Rattle.journal_core.specs.Laws.{FutureLaw}
@@ -12,7 +15,7 @@ use Rattle.journal_core.proofs.Each.{each_imp, each_both, each_where, each_find,
 use Rattle.journal_core.proofs.Rising.{rises_filter}
 use Rattle.journal_core.proofs.Split.{Split, split}
 use Rattle.journal_core.proofs.Senders.{later_only, source_kept, order_without}
-use Rattle.journal_core.proofs.Futures.{numbers, is_in, follows_found, closed, finds, found_there, falls_below, is_future, one_future, has_below}
+use Rattle.journal_core.proofs.Futures.{is_in, follows_found, closed, finds, found_there, falls_below, is_future, one_future, has_below}
 use Rattle.journal_core.proofs.Futures.{any_numbers}
 
 -- finding in a journal without a step

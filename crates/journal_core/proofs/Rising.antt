@@ -1,5 +1,6 @@
 -- A journal's steps without their inverses, and the rising of their numbers.
-use Rattle.std.proofs.Common.{◌≡◌, ℕ, ◌<◌, ◌≤◌, ◌==◌, Bool, true, false, cond, if◌then◌else◌, List, [], ◌∷◌, ◌++◌, filter, Option, Some, option_map, refl}
+use Rattle.std.proofs.Common.{◌≡◌, ℕ, ◌<◌, ◌≤◌, ◌==◌, Bool, true, false, cond, if◌then◌else◌, List, [], ◌∷◌, ◌++◌, filter, length, slice_get, zero}
+use Rattle.std.proofs.Common.{suc, Option, Some, option_map, refl}
 use Rattle.std.proofs.Common.{ap, arith}
 use Rattle.node_core.specs.Inverses.{Inverse}
 use Rattle.journal_core.specs.Journals.{Kept, NumbersRise, AreBelow, find_number}
@@ -55,3 +56,14 @@ below_part a (j ∷ first) rest k rises = let more = below_part j.number first r
 pub rises_after : (a : ℕ) (first rest : List Kept) (k : Kept) → NumbersRise a (first ++ k ∷ rest) → NumbersRise k.number rest
 rises_after a [] rest k rises = rises.1
 rises_after a (j ∷ first) rest k rises = rises_after j.number first rest k rises.1
+
+-- by their places
+
+pub kepts_length : (hs : List Held) → length (kepts hs) ≡ length hs
+kepts_length [] = refl
+kepts_length (h ∷ hs) = let e = kepts_length hs in omega (arith, e)
+
+pub get-kepts : (hs : List Held) (p : ℕ) → slice_get (kepts hs) p ≡ option_map (λ h. h.kept) (slice_get hs p)
+get-kepts [] p = refl
+get-kepts (h ∷ hs) zero = refl
+get-kepts (h ∷ hs) (suc p) = get-kepts hs p

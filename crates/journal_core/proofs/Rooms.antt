@@ -1,11 +1,12 @@
 -- Whether room was made, as the search among what was made tells.
-use Rattle.std.proofs.Common.{◌≡◌, ℕ, zero, suc, ◌<◌, ◌==◌, ◌&&◌, ◌||◌, ◌↔◌, IsTrue, Bool, true, false, List, [], ◌∷◌, Option, Some, None, map, length}
+use Rattle.std.proofs.Common.{◌≡◌, ℕ, zero, suc, ◌<◌, ◌==◌, ◌&&◌, ◌||◌, ◌↔◌, IsTrue, Bool, true, false, List, [], ◌∷◌, Option, Some, None, map}
+use Rattle.std.proofs.Common.{length}
 use Rattle.std.proofs.Common.{get_or, refl, sym, ap, ◌∙◌, subst, arith}
 use Rattle.std.proofs.lemmas.Bool.{eqb-true, eq-eqb, and_parts, and_from}
 use mathlib.Core.Bool.{beq}
 use Rattle.std.specs.Option.{option_eq}
 use Rattle.std.specs.List.{list_any, Contains}
-use Rattle.journal_core.specs.declared.journal.Room as declared
+use Rattle.journal_core.specs.declared.room.Room as declared
 use Rattle.journal_core.specs.Holdings.{Room, plain_room}
 
 -- two rooms are compared by their parts

@@ -1,6 +1,8 @@
 -- What sent the message of a delivery stands before it, whatever is kept and taken out.
-use Rattle.std.proofs.Common.{◌≡◌, ◌≢◌, ◌⊎◌, inl, inr, ℕ, zero, suc, ◌+◌, ◌<◌, ◌≤◌, ◌==◌, ◌&&◌, nat_lt, Bool, true, false, cond, List, [], ◌∷◌, ◌++◌}
-use Rattle.std.proofs.Common.{length, slice_get, Option, Some, None, option_map, refl, sym, ap, ◌∙◌, subst, true≢false, arith, append-nil, append_assoc}
+use Rattle.std.proofs.Common.{◌≡◌, ◌≢◌, ◌⊎◌, inl, inr, ℕ, zero, suc, ◌+◌, ◌<◌, ◌≤◌, ◌==◌, ◌&&◌, nat_lt, Bool, true, false, cond, List, [], ◌∷◌}
+use Rattle.std.proofs.Common.{◌++◌}
+use Rattle.std.proofs.Common.{length, slice_get, Option, Some, None, option_map, refl, sym, ap, ◌∙◌, subst, true≢false, arith, append-nil}
+use Rattle.std.proofs.Common.{append_assoc}
 use Rattle.std.proofs.Common.{le_of_eq}
 use Rattle.std.proofs.lemmas.Bool.{cases_eq, cases_lt, eqb-true, ne_eqb, eq-eqb, or_parts, or_from, and_parts, and_right, lt-ltb, le-ltb}
 use Rattle.std.proofs.lemmas.List.Elements.{filter-append}
@@ -8,9 +10,11 @@ use Rattle.payload_core.specs.Messages.{numbered}
 use Rattle.node_core.specs.Operations.{Operation, delivers, sends}
 use Rattle.node_core.specs.Inverses.{Inverse}
 use Rattle.journal_core.specs.Journals.{Kept, NumbersRise, AreBelow, sent_by, sender_of, source_at, source_of, IsSentBefore, AreSentBefore}
-use Rattle.journal_core.specs.Journals.{AreInCausalOrder, is_number, delivers_from, is_consequence, find_number, first_consequence, without, steps_before}
+use Rattle.journal_core.specs.Journals.{AreInCausalOrder, is_number, delivers_from, is_consequence, find_number, first_consequence, without}
+use Rattle.journal_core.specs.Journals.{steps_before}
 use Rattle.journal_core.specs.Holdings.{Held, HasSender, IsLent, kepts, with_inverse, without_held}
-use Rattle.journal_core.proofs.Each.{each_push, each_front, each_rest, each_imp, each_both, each_where, each_filter, each_find, NoneOf, none_follows}
+use Rattle.journal_core.proofs.Each.{each_push, each_front, each_rest, each_imp, each_both, each_where, each_filter, each_find, NoneOf}
+use Rattle.journal_core.proofs.Each.{none_follows}
 use Rattle.journal_core.proofs.Numbered.{get-append_at, numbered_append, numbered_push_other}
 use Rattle.journal_core.proofs.Rising.{kepts-append, kepts_with, rises_push, below_more, rises_filter, below_part}
 use Rattle.journal_core.proofs.Split.{Split, split, found_kept, kepts_out}
@@ -25,7 +29,7 @@ below_numbered n ks zero k all h = absurd (cc)
 below_numbered n ks (suc p) k all h = below_at n ks p k all h
 
 -- a source is one of the steps
-source_below : (n : ℕ) (ks : List Kept) (o : Option (ℕ × ℕ)) (p : ℕ) → AreBelow n ks → source_at ks o ≡ Some p → p < n
+pub source_below : (n : ℕ) (ks : List Kept) (o : Option (ℕ × ℕ)) (p : ℕ) → AreBelow n ks → source_at ks o ≡ Some p → p < n
 source_below n ks None p low is = absurd (cc)
 source_below n ks (Some (sender, q)) p low is = go (numbered (sent_by ks sender) q) refl is
   where

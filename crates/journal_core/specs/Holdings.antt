@@ -1,10 +1,10 @@
 -- The remaining steps with their inverses beside them, as a journal holds them and lends them.
-use Rattle.std.specs.Prelude.{◌≡◌, ℕ, ◌+◌, ◌<◌, ◌==◌, Bool, if◌then◌else◌, List, [], ◌∷◌, Option, Some, None, option_map, refl}
+use Rattle.std.specs.Prelude.{◌≡◌, ℕ, ◌<◌, ◌==◌, Bool, if◌then◌else◌, List, [], ◌∷◌, Option, Some, None, refl}
 use Rattle.std.specs.Coded.{Coded, code_by, coded×, coded_ℕ, coded_bool, coded_list, coded_option}
 use Rattle.std.specs.List.{AllByRecursion}
 use Rattle.node_core.specs.Operations.{Operation, delivers, sends}
 use Rattle.node_core.specs.Inverses.{Inverse, inverse_code}
-use Rattle.journal_core.specs.declared.journal.Room as declared
+use Rattle.journal_core.specs.declared.room.Room as declared
 use Rattle.journal_core.specs.Journals.{Kept, kept_code, source_at, AreBelow}
 
 -- a step, and its inverse unless that is lent
@@ -54,11 +54,6 @@ kepts (h ∷ hs) = h.kept ∷ kepts hs
 abbrev pub find_held : List Held → ℕ → Option Held
 find_held [] n = None
 find_held (h ∷ hs) n = if h.kept.number == n then Some h else find_held hs n
-
--- the place of step n, from 0
-abbrev pub place_of : List Held → ℕ → Option ℕ
-place_of [] n = None
-place_of (h ∷ hs) n = if h.kept.number == n then Some 0 else option_map (λ p. p + 1) (place_of hs n)
 
 abbrev pub inverse_of : Option Held → Option Inverse
 inverse_of None = None

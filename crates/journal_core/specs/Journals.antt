@@ -1,5 +1,6 @@
 -- The remaining steps, and which follow from which (Danos and Krivine).
-use Rattle.std.specs.Prelude.{◌≡◌, ℕ, ◌<◌, ◌==◌, ◌&&◌, ◌||◌, not, nat_lt, Bool, false, if◌then◌else◌, List, [], ◌∷◌, Option, Some, None, option_map, refl}
+use Rattle.std.specs.Prelude.{◌≡◌, ℕ, ◌<◌, ◌==◌, ◌&&◌, ◌||◌, not, nat_lt, Bool, false, if◌then◌else◌, List, [], ◌∷◌, map, Option, Some, None}
+use Rattle.std.specs.Prelude.{option_map, refl}
 use Rattle.std.specs.Coded.{Coded, code_by, coded×, coded_ℕ}
 use Rattle.std.specs.List.{AllByRecursion, filter}
 use Rattle.std.specs.Option.{option_and_then}
@@ -16,6 +17,10 @@ abbrev pub kept_code : Coded Kept
 kept_code =
     code_by (ℕ × (ℕ × Operation)) (coded× coded_ℕ (coded× coded_ℕ operation_code)) (λ k. (k.number, (k.node, k.step)))
     (λ t. record { number = t.0; node = t.1.0; step = t.1.1 }) (λ _. refl)
+
+-- the numbers of steps
+abbrev pub numbers : List Kept → List ℕ
+numbers ks = map (λ k. k.number) ks
 
 -- the numbers strictly rise, from above n
 abbrev pub NumbersRise : ℕ → List Kept → Type 0

@@ -1,5 +1,10 @@
-pub mod Holdings
+pub mod Numbers
 pub mod Journals
-pub mod Laws
 pub mod Futures
 pub mod Gathering
+pub mod Holdings
+pub mod Slots
+pub mod Causes
+pub mod Rooms
+pub mod Bounds
+pub mod Laws

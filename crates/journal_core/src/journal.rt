@@ -1,5 +1,5 @@
-//! `Journal`: the steps that remain, each with its inverse.
-ghost use Rattle.std.specs.Prelude.{◌≡◌, ◌↔◌, ◌++◌, ◌∷◌, [], ◌<◌, ◌≤◌, IsTrue, IsOk, IfErr, IfOk, OnOk, OnErr, map, option_map, option_copied};
+//! `Journal`: the steps that remain, each with its inverse, and which of them follow from which.
+ghost use Rattle.std.specs.Prelude.{◌≡◌, ◌++◌, ◌∷◌, [], ◌<◌, ◌≤◌, IsOk, IfErr, IfOk, OnOk, OnErr, map, option_map, option_copied};
 ghost use Rattle.std.specs.Prelude.{slice_get, length, Some, None};
 ghost use Rattle.std.specs.List.{Contains};
 ghost use Rattle.node_core.specs.Operations.{plain};
@@ -8,40 +8,17 @@ ghost use Rattle.journal_core.specs.Journals.{find_number, first_consequence, la
 ghost use Rattle.journal_core.specs.Futures.{IsFuture};
 ghost use Rattle.journal_core.specs.Holdings.{kepts, find_held, inverse_of, with_inverse, without_held, plain_room, room_for, AreAllHeld, IsLent, CanBeKept};
 
+use crate::causes::Causes;
+use crate::edits::{keep, make_all_room, make_sure, take_out};
+use crate::future::future;
 use crate::held::Held;
 use crate::kept::Kept;
-use crate::search::{find, first_consequence, future, held_at, last_of, place};
+use crate::numbers::least;
+use crate::room::Room;
+use crate::slots::Slots;
 use node_core::{Inverse, Oom, Step};
 use std::alloc::Allocator;
 use std::marker::Model;
-
-/// For which steps room was made: those of a node that deliver this message, if any, and that send one or don't.
-#[derive(Clone, Copy, PartialEq, Eq)]
-struct Room {
-    node: u16,
-    delivers: Option<(u16, u64)>,
-    sends: bool,
-}
-
-impl Room {
-    /// The room that a step of this node needs.
-    fn of<A: Allocator>(node: u16, step: &Step<A>) -> Room
-        ensures { plain_room result ≡ room_for node (plain step.now) }
-    {
-        Room {
-            node,
-            delivers: step.delivers(),
-            sends: step.sends(),
-        }
-    }
-
-    /// Whether this room is among what was made.
-    fn is_in(self, made: &[Room]) -> bool
-        ensures { IsTrue result ↔ Contains (map plain_room made.now) (plain_room self) }
-    {
-        made.contains(&self)
-    }
-}
 
 /// The steps that remain, by rising number, each with its inverse beside it. No delivery stands before the step that sent
 /// its message.
@@ -50,23 +27,25 @@ impl Room {
 /// which steps room was made since one was last kept.
 #[derive(Drop)]
 pub struct Journal<'a, B: Allocator> {
-    nodes: u16,
-    steps: Vec<Held<'a, B>, &'a B>,
+    slots: Slots<'a, B>,
+    // of each node, which of its steps caused what
+    causes: Vec<Causes<'a, B>, &'a B>,
     room: Vec<Room, &'a B>,
 }
 
 impl<'a, B: Allocator> Model for Journal<'a, B> {
-    ghost use Rattle.std.specs.Prelude.{◌≡◌, ◌≢◌, ◌<◌, ◌≤◌, [], map, vec_len, vec_capacity};
-    ghost use Rattle.journal_core.specs.Journals.{AreInCausalOrder};
+    ghost use Rattle.std.specs.Prelude.{length, map};
     ghost use Rattle.journal_core.specs.Holdings.{Journal, journal_code, kepts, plain_room};
+    ghost use Rattle.journal_core.specs.Causes.{IsIndexed};
+    ghost use Rattle.journal_core.specs.Rooms.{ArePromised};
 
     ghost Value = { Journal };
 
     ghost coded = { journal_code };
 
-    ghost view = { λ j. record { nodes = j.nodes; steps = j.steps.items; room = map plain_room j.room.items } };
+    ghost view = { λ j. record { nodes = length j.causes.items; steps = j.slots.steps; room = map plain_room j.room.items } };
 
-    ghost invariant = { λ j. (j.nodes ≤ 32) × (j.room.items ≢ [] → vec_len j.steps < vec_capacity j.steps) × AreInCausalOrder (kepts j.steps.items) };
+    ghost invariant = { λ j. IsIndexed (kepts j.slots.steps) j.causes.items × ArePromised j.causes.items j.slots.room (map plain_room j.room.items) };
 }
 
 impl<'a, B: Allocator> Journal<'a, B> {
@@ -75,10 +54,16 @@ impl<'a, B: Allocator> Journal<'a, B> {
         requires { nodes ≤ 32 }
         ensures { IfOk result (λ journal. journal ≡ record { nodes = nodes; steps = []; room = [] }) }
     {
+        let mut causes = Vec::with_capacity(alloc, nodes as usize)?;
+        for _ in 0..nodes {
+            causes.push(Causes::new(alloc))?;
+        }
+        let slots = Slots::new(alloc);
+        let room = Vec::new(alloc);
         Ok(Journal {
-            nodes,
-            steps: Vec::new(alloc),
-            room: Vec::new(alloc),
+            slots,
+            causes,
+            room,
         })
     }
 
@@ -86,14 +71,14 @@ impl<'a, B: Allocator> Journal<'a, B> {
     pub fn len(&self) -> usize
         ensures { result ≡ length (kepts self.now.steps) }
     {
-        self.steps.len()
+        self.slots.len()
     }
 
-    /// The step at this place, from 0.
+    /// The step at this place, from 0: one read where no step was taken out but at the end, else a walk.
     pub fn at(&self, place: usize) -> Option<&Kept<&'a B>>
         ensures { option_copied result ≡ slice_get (kepts self.now.steps) place }
     {
-        match held_at(self.steps.as_slice(), place) {
+        match self.slots.at(place) {
             Some(held) => Some(held.kept()),
             None => None,
         }
@@ -103,7 +88,10 @@ impl<'a, B: Allocator> Journal<'a, B> {
     pub fn find(&self, number: u64) -> Option<&Kept<&'a B>>
         ensures { option_copied result ≡ find_number (kepts self.now.steps) number }
     {
-        find(self.steps.as_slice(), number)
+        match self.slots.find(number) {
+            Some(held) => Some(held.kept()),
+            None => None,
+        }
     }
 
     /// The number of the last step of a node.
@@ -111,7 +99,7 @@ impl<'a, B: Allocator> Journal<'a, B> {
         requires { node < self.now.nodes }
         ensures { result ≡ last_of (kepts self.now.steps) node }
     {
-        last_of(self.steps.as_slice(), node)
+        self.causes[node as usize].last()
     }
 
     /// The number of the least direct consequence of a step: of the steps that are later ones of its node, or deliver what
@@ -119,7 +107,11 @@ impl<'a, B: Allocator> Journal<'a, B> {
     pub fn first_consequence(&self, number: u64) -> Option<u64>
         ensures { result ≡ first_consequence (kepts self.now.steps) number }
     {
-        first_consequence(self.steps.as_slice(), number)
+        let Some(kept) = self.find(number) else {
+            return None;
+        };
+        let causes = &self.causes[kept.node as usize];
+        least(causes.next(number), causes.first_delivery(number))
     }
 
     /// The number of a step and those of all that follows from it: of its direct consequences, of theirs, and so on.
@@ -128,7 +120,12 @@ impl<'a, B: Allocator> Journal<'a, B> {
         ensures future { IfOk result (λ numbers. IsFuture (kepts self.now.steps) number numbers.items) }
         ensures in_order { AreInCausalOrder (kepts self.now.steps) }
     {
-        future(*self.steps.allocator(), self.steps.as_slice(), number)
+        future(
+            *self.causes.allocator(),
+            &self.slots,
+            self.causes.as_slice(),
+            number,
+        )
     }
 
     /// Makes room for one step of this node. After an `Ok` the next `keep`, if it is of such a step, isn't refused; room
@@ -140,8 +137,9 @@ impl<'a, B: Allocator> Journal<'a, B> {
         ensures ok { OnOk result (self.new.room ≡ self.old.room ++ room_for node (plain step.now) ∷ []) }
         ensures err { OnErr result (self.new ≡ self.old) }
     {
-        self.steps.reserve(1)?;
-        self.room.push(Room::of(node, step))?;
+        let room = Room::of(node, step);
+        make_all_room(&mut self.slots, &mut self.causes, room)?;
+        self.room.push(room)?;
         Ok(())
     }
 
@@ -166,13 +164,19 @@ impl<'a, B: Allocator> Journal<'a, B> {
         ensures step_given_back { IfErr result (λ failed. plain failed.0 ≡ plain step.entry) }
         ensures inverse_given_back { IfErr result (λ failed. plain_inverse failed.1 ≡ plain_inverse inverse.entry) }
     {
-        let ready = Room::of(node, &step).is_in(self.room.as_slice());
-        if !ready && self.steps.reserve(1).is_err() {
+        let room = Room::of(node, &step);
+        let made = make_sure(
+            &mut self.slots,
+            &mut self.causes,
+            self.room.as_slice(),
+            room,
+        );
+        if made.is_err() {
             return Err((step, inverse, Oom));
         }
-        let kept = Kept { number, node, step };
-        self.steps.push_reserved(Held::new(kept, inverse));
         self.room.clear();
+        let kept = Kept { number, node, step };
+        keep(&mut self.slots, &mut self.causes, Held::new(kept, inverse));
         Ok(())
     }
 
@@ -182,10 +186,7 @@ impl<'a, B: Allocator> Journal<'a, B> {
         ensures value { option_map plain_inverse result ≡ inverse_of (find_held self.old.steps number) }
         ensures after { self.new ≡ record { nodes = self.old.nodes; steps = with_inverse self.old.steps number None; room = self.old.room } }
     {
-        let Some(place) = place(self.steps.as_slice(), number) else {
-            return None;
-        };
-        self.steps[place].lend()
+        self.slots.lend(number)
     }
 
     /// Ends a loan: the inverse is from then on that of the step.
@@ -193,9 +194,7 @@ impl<'a, B: Allocator> Journal<'a, B> {
         requires { IsLent self.old.steps number }
         ensures { self.new ≡ record self.old { steps = with_inverse self.old.steps number (Some (plain_inverse inverse.entry)) } }
     {
-        if let Some(place) = place(self.steps.as_slice(), number) {
-            self.steps[place].put_back(inverse);
-        }
+        self.slots.put_back(number, inverse);
     }
 
     /// Ends a loan: the step, of which nothing follows, is taken out, and every other stays with its inverse.
@@ -204,8 +203,6 @@ impl<'a, B: Allocator> Journal<'a, B> {
         requires free { first_consequence (kepts self.old.steps) number ≡ None }
         ensures { self.new ≡ record { nodes = self.old.nodes; steps = without_held self.old.steps number; room = self.old.room } }
     {
-        if let Some(place) = place(self.steps.as_slice(), number) {
-            drop(self.steps.remove(place));
-        }
+        take_out(&mut self.slots, &mut self.causes, number);
     }
 }

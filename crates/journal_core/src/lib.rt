@@ -2,14 +2,21 @@
 //!
 //! It stands on `node_core` (steps and inverses as values; what a step delivers and whether it sends), and knows nothing of
 //! nodes and what they hold. In the order to read them: `kept`, a step with its number; `held`, a kept step with its
-//! inverse; `search`, what is looked up among the steps; `journal`; `laws`.
+//! inverse; `numbers`, rising lists of numbers; `slots`, the held steps by number; `causes`, of one node the index of what its
+//! steps caused, and `edits` of the indices of all nodes; `room`, for which steps to come there is room; `future`, what
+//! follows from a step; `journal`; `laws`.
 #![tactic(auto)]
 
+mod causes;
+mod edits;
+mod future;
 mod held;
 mod journal;
 mod kept;
 pub mod laws;
-mod search;
+mod numbers;
+mod room;
+mod slots;
 
 pub use journal::Journal;
 pub use kept::Kept;

@@ -1,23 +1,19 @@
-use Rattle.std.proofs.Common.{rules, sym, ap, subst, List, ◌≡◌, ◌++◌, ◌∷◌, [], ◌<◌, ◌∙◌}
-use Rattle.node_core.specs.Operations.{plain, delivers}
-use Rattle.journal_core.specs.Journals.{AreBelow, AreInCausalOrder}
-use Rattle.journal_core.specs.Holdings.{HasSender, Held, Journal, kepts}
-use Rattle.journal_core.proofs.Senders.{order_kept}
+use Rattle.std.proofs.Common.{map, sym, subst}
+use Rattle.journal_core.specs.Holdings.{plain_room}
+use Rattle.journal_core.specs.Rooms.{ArePromised}
+use Rattle.journal_core.proofs.Promises.{promised_keeps, same_journal}
 use Rattle.journal_core.proofs.journal.Journal.keep.Goals as goal
 
+pub invariant_of-self : goal.invariant_of-self
+invariant_of-self g c = (
+  same_journal c.self.inside.slots.steps c.make_sure-made.new.slots.steps c.self.inside.causes.items c.make_sure-made.new.causes.items
+      c.make_sure-made.ensures.steps c.make_sure-made.ensures.same c.self.invariant.0,
+  promised_keeps c.self.inside.causes.items c.make_sure-made.new.causes.items c.self.inside.slots.room c.make_sure-made.new.slots.room
+      (map plain_room c.self.inside.room.items) c.make_sure-made.ensures.keeps c.make_sure-made.ensures.more c.self.invariant.1,
+)
+
 pub invariant_of-self-2 : goal.invariant_of-self-2
-invariant_of-self-2 g c =
-    let same : c.else-not-ready.self-inside.steps.items ≡ c.self.inside.steps.items = search rules in
-    let number : c.args.number ≡ c.new.result.kept.number = sym (ap (λ (h : Held). h.kept.number) c.new.ensures) in
-    let below = subst (λ n. AreBelow n (kepts c.self.inside.steps.items)) number
-    (subst (λ (j : Journal). AreBelow c.args.number (kepts j.steps)) (sym c.self.view_is) c.requires.above) in
-    let low = subst (λ n. 0 < n) number c.requires.positive in
-    let step = sym (ap (λ (h : Held). h.kept.step) c.new.ensures) in
-    let sender = subst (λ o. HasSender (kepts c.self.inside.steps.items) (delivers o)) step
-    (subst (λ (j : Journal). HasSender (kepts j.steps) (delivers (plain c.args.step))) (sym c.self.view_is) c.requires.sender) in (
-      search rules,
-      λ some. absurd (some c.clear.ensures.items),
-      subst (λ (hs : List Held). AreInCausalOrder (kepts hs))
-          (sym (c.push_reserved.ensures.items ∙ ap (λ (hs : List Held). hs ++ c.new.result ∷ []) same))
-          (order_kept c.self.inside.steps.items c.new.result low below sender c.self.invariant.2),
-    )
+invariant_of-self-2 g c = (
+  c.keep.ensures.indexed,
+  subst (λ rs. ArePromised c.keep.new.causes.items c.keep.new.slots.room (map plain_room rs)) (sym c.clear.ensures.items) tt,
+)

@@ -1,5 +1,0 @@
-use Rattle.journal_core.proofs.Rooms.{is_found}
-use Rattle.journal_core.proofs.journal.Room.is_in.Goals as goal
-
-pub returns : goal.returns
-returns c = is_found c.args.self c.args.made.now c.contains.result c.contains.ensures.value

@@ -1,0 +1,169 @@
+//! The future of a step: what follows from it, all the way.
+ghost use Rattle.std.specs.Prelude.{◌≡◌, ◌<◌, ◌-◌, ◌&&◌, replicate, nat_lt, IfOk, OnOk, OnErr, length, Some, None, [], option_map, option_copied};
+ghost use Rattle.std.specs.Prelude.{slice_set};
+ghost use Rattle.journal_core.specs.Journals.{AreInCausalOrder, find_number, first_number, NumbersRise};
+ghost use Rattle.journal_core.specs.Futures.{IsFuture};
+ghost use Rattle.journal_core.specs.Holdings.{Held, kepts};
+ghost use Rattle.journal_core.specs.Causes.{AreIndexed, AreKnown};
+ghost use Rattle.journal_core.specs.Bounds.{bound_at, lower_bound, lower_at, lowered, next_own, reaches, delivered_from, IsGatheredUpTo};
+
+use crate::causes::Causes;
+use crate::held::Held;
+use crate::numbers::least;
+use crate::slots::Slots;
+use node_core::Oom;
+use std::alloc::Allocator;
+
+/// Brings the bound of a step's node below the step.
+fn lower_below<'a, B: Allocator>(bounds: &mut [Option<u64>], held: &Held<'a, B>)
+    requires { held.now.kept.node < length bounds.old }
+    ensures { bounds.new ≡ lower_at bounds.old (Some held.now.kept) }
+{
+    let node = held.node() as usize;
+    let number = held.number();
+    let lower = match bounds[node] {
+        Some(above) if above < number => above,
+        _ => number.saturating_sub(1),
+    };
+    bounds[node] = Some(lower);
+}
+
+/// Brings the bounds below the steps of these numbers.
+fn lower_all<'a, B: Allocator>(slots: &Slots<'a, B>, numbers: &[u64], bounds: &mut [Option<u64>])
+    requires { AreKnown (length bounds.old) (kepts slots.now.steps) }
+    ensures { bounds.new ≡ lowered (kepts slots.now.steps) numbers.now bounds.old }
+{
+    for number in numbers {
+        if let Some(held) = slots.find(*number) {
+            lower_below(bounds, held);
+        }
+    }
+}
+
+/// The first step of a node above its bound and above a number.
+fn next_of<'a, B: Allocator>(causes: &Causes<'a, B>, bound: Option<u64>, number: u64) -> Option<u64>
+    ensures { result ≡ next_own bound number causes.now.own }
+{
+    match bound {
+        Some(above) => causes.next(if above < number { number } else { above }),
+        None => None,
+    }
+}
+
+/// The first step above the bound of its node and above a number.
+fn next_above<'a, B: Allocator>(
+    slots: &Slots<'a, B>,
+    causes: &[Causes<'a, B>],
+    bounds: &[Option<u64>],
+    number: u64,
+) -> Option<u64>
+    requires long { length bounds.now ≡ length causes.now }
+    requires known { AreKnown (length causes.now) (kepts slots.now.steps) }
+    requires rises { NumbersRise 0 (kepts slots.now.steps) }
+    requires indexed { AreIndexed (kepts slots.now.steps) (kepts slots.now.steps) causes.now }
+    ensures { result ≡ first_number (λ k. reaches bounds.now k && nat_lt number k.number) (kepts slots.now.steps) }
+{
+    let mut next = None;
+    for (node, causes) in causes.iter().enumerate() {
+        next = least(next, next_of(causes, bounds[node], number));
+    }
+    next
+}
+
+/// Brings the bounds below the deliveries of what a step sent.
+fn lower<'a, B: Allocator>(
+    slots: &Slots<'a, B>,
+    causes: &[Causes<'a, B>],
+    number: u64,
+    bounds: &mut [Option<u64>],
+)
+    requires long { length bounds.old ≡ length causes.now }
+    requires known { AreKnown (length causes.now) (kepts slots.now.steps) }
+    ensures { bounds.new ≡ lowered (kepts slots.now.steps) (delivered_from causes.now (find_number (kepts slots.now.steps) number) number) bounds.old }
+{
+    let Some(held) = slots.find(number) else {
+        return;
+    };
+    let node = held.node() as usize;
+    lower_all(slots, causes[node].deliveries_of(number), bounds);
+}
+
+/// Of no node the bound, but of this one: below this number.
+fn start<'a, B: Allocator>(
+    alloc: &'a B,
+    nodes: usize,
+    node: usize,
+    number: u64,
+) -> Result<Vec<Option<u64>, &'a B>, Oom>
+    requires { node < nodes }
+    ensures { IfOk result (λ bounds. bounds.items ≡ slice_set (replicate nodes None) node (Some (number - 1))) }
+{
+    let mut bounds = vec![in alloc; None; nodes]?;
+    bounds[node] = Some(number.saturating_sub(1));
+    Ok(bounds)
+}
+
+/// Gathers the numbers of what follows, least first.
+fn gather<'a, B: Allocator>(
+    alloc: &'a B,
+    slots: &Slots<'a, B>,
+    causes: &[Causes<'a, B>],
+    number: u64,
+    bounds: &mut [Option<u64>],
+) -> Result<Vec<u64, &'a B>, Oom>
+    requires long { length bounds.old ≡ length causes.now }
+    requires known { AreKnown (length causes.now) (kepts slots.now.steps) }
+    requires order { AreInCausalOrder (kepts slots.now.steps) }
+    requires indexed { AreIndexed (kepts slots.now.steps) (kepts slots.now.steps) causes.now }
+    requires starts { IsGatheredUpTo (kepts slots.now.steps) number [] bounds.old (Some number) }
+    ensures { IfOk result (λ numbers. IsGatheredUpTo (kepts slots.now.steps) number numbers.items bounds.new None) }
+{
+    let mut numbers = Vec::new(alloc);
+    let mut next = Some(number);
+    while let Some(n) = next {
+        numbers.push(n)?;
+        lower(slots, causes, n, bounds);
+        next = next_above(slots, causes, bounds, n);
+    }
+    Ok(numbers)
+}
+
+/// The numbers of a step and of all that follows from it, greatest first.
+fn gather_back<'a, B: Allocator>(
+    alloc: &'a B,
+    slots: &Slots<'a, B>,
+    causes: &[Causes<'a, B>],
+    number: u64,
+    bounds: &mut [Option<u64>],
+) -> Result<Vec<u64, &'a B>, Oom>
+    requires long { length bounds.old ≡ length causes.now }
+    requires known { AreKnown (length causes.now) (kepts slots.now.steps) }
+    requires order { AreInCausalOrder (kepts slots.now.steps) }
+    requires indexed { AreIndexed (kepts slots.now.steps) (kepts slots.now.steps) causes.now }
+    requires starts { IsGatheredUpTo (kepts slots.now.steps) number [] bounds.old (Some number) }
+    ensures { IfOk result (λ numbers. IsFuture (kepts slots.now.steps) number numbers.items) }
+{
+    let mut numbers = gather(alloc, slots, causes, number, bounds)?;
+    numbers.reverse();
+    Ok(numbers)
+}
+
+/// The numbers of a step and of all that follows from it, greatest first, in time of so many times a logarithm.
+pub(crate) fn future<'a, B: Allocator>(
+    alloc: &'a B,
+    slots: &Slots<'a, B>,
+    causes: &[Causes<'a, B>],
+    number: u64,
+) -> Result<Vec<u64, &'a B>, Oom>
+    requires known { AreKnown (length causes.now) (kepts slots.now.steps) }
+    requires order { AreInCausalOrder (kepts slots.now.steps) }
+    requires indexed { AreIndexed (kepts slots.now.steps) (kepts slots.now.steps) causes.now }
+    ensures { IfOk result (λ numbers. IsFuture (kepts slots.now.steps) number numbers.items) }
+{
+    let Some(held) = slots.find(number) else {
+        return Ok(Vec::new(alloc));
+    };
+    let node = held.node() as usize;
+    let mut bounds = start(alloc, causes.len(), node, number)?;
+    gather_back(alloc, slots, causes, number, bounds.as_mut_slice())
+}

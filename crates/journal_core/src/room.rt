@@ -1,0 +1,36 @@
+//! `Room`: for which steps to come there is room.
+ghost use Rattle.std.specs.Prelude.{◌≡◌, ◌↔◌, IsTrue, map};
+ghost use Rattle.std.specs.List.{Contains};
+ghost use Rattle.node_core.specs.Operations.{plain};
+ghost use Rattle.journal_core.specs.Holdings.{plain_room, room_for};
+
+use node_core::Step;
+use std::alloc::Allocator;
+
+/// For which steps room was made: those of a node that deliver this message, if any, and that send one or don't.
+#[derive(Clone, Copy, PartialEq, Eq)]
+pub(crate) struct Room {
+    pub(crate) node: u16,
+    pub(crate) delivers: Option<(u16, u64)>,
+    pub(crate) sends: bool,
+}
+
+impl Room {
+    /// The room that a step of this node needs.
+    pub(crate) fn of<A: Allocator>(node: u16, step: &Step<A>) -> Room
+        ensures { plain_room result ≡ room_for node (plain step.now) }
+    {
+        Room {
+            node,
+            delivers: step.delivers(),
+            sends: step.sends(),
+        }
+    }
+
+    /// Whether this room is among what was made.
+    pub(crate) fn is_in(self, made: &[Room]) -> bool
+        ensures { IsTrue result ↔ Contains (map plain_room made.now) (plain_room self) }
+    {
+        made.contains(&self)
+    }
+}
