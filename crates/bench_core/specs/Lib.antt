@@ -12,3 +12,5 @@ pub mod Laws
 pub mod Headline
 pub mod Unwinds
 pub mod Benches
+pub mod Swaps
+pub mod Movables

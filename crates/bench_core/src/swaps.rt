@@ -1,0 +1,118 @@
+//! `same_cluster`: whether swaps lead from the steps that remain of one bench to those of another.
+ghost use Rattle.std.specs.Prelude.{◌≡◌, ◌↔◌, ◌+◌, ◌<◌, [], Some, None, Ok, IsTrue, IfErr, IfOk, OnOk, length, map, if◌then◌else◌};
+ghost use Rattle.payload_core.specs.Answers.{GivesUnless};
+ghost use Rattle.journal_core.specs.Holdings.{kepts};
+ghost use Rattle.bench_core.specs.Clusters.{Cluster};
+ghost use Rattle.bench_core.specs.Machine.{cluster_of};
+ghost use Rattle.bench_core.specs.Swaps.{after_swaps, exchanged, SwapsEnd};
+ghost use Rattle.bench_core.specs.Movables.{may_swap, movable_after, movables_after, unnumbered_at, AreOfNodes, CountSent};
+
+use crate::bench::Bench;
+use crate::movable::Movable;
+use crate::swap_fault::SwapFault;
+use journal_core::{Journal, Kept};
+use node_core::Oom;
+use std::alloc::Allocator;
+
+/// What is to be noted of a step at this place. `sent` has for each node how many messages it sent before.
+fn noted<A: Allocator>(kept: &Kept<A>, place: usize, sent: &mut [u64]) -> Movable {
+    let mut sends = None;
+    if kept.step.sends() {
+        sent[kept.node as usize] += 1;
+        sends = Some((kept.node, sent[kept.node as usize]));
+    }
+    Movable {
+        place,
+        node: kept.node,
+        delivers: kept.step.delivers(),
+        sends,
+    }
+}
+
+/// The steps of the journal in their order.
+fn movables<'a, B: Allocator>(
+    alloc: &'a B,
+    journal: &Journal<'a, B>,
+    nodes: usize,
+) -> Result<Vec<Movable, &'a B>, Oom> {
+    let mut sent = vec![in alloc; 0; nodes]?;
+    let mut movables = Vec::with_capacity(alloc, journal.len())?;
+    for place in 0..journal.len() {
+        let kept = journal.at(place).unwrap();
+        movables.push_reserved(noted(kept, place, sent.as_mut_slice()));
+    }
+    Ok(movables)
+}
+
+/// Exchanges the steps at this place, from 1, and the next, if they are there and independent; else it changes nothing.
+/// Says whether it did.
+fn swap(steps: &mut [Movable], place: u64) -> bool {
+    if place == 0 || place >= steps.len() as u64 {
+        return false;
+    }
+    let i = place as usize - 1;
+    if !steps[i].may_swap(steps[i + 1]) {
+        return false;
+    }
+    steps.swap(i, i + 1);
+    true
+}
+
+/// Makes these swaps in turn, until one is bad.
+fn swap_each(steps: &mut [Movable], places: &[u64]) -> Result<(), SwapFault> {
+    for (i, place) in places.iter().enumerate() {
+        if !swap(steps, *place) {
+            return Err(SwapFault::BadSwap { at: i + 1 });
+        }
+    }
+    Ok(())
+}
+
+/// Whether the step at this place of a journal is that at another place of another, its number aside.
+fn is_same<'a, B: Allocator>(
+    one: &Journal<'a, B>,
+    place: usize,
+    other: &Journal<'a, B>,
+    other_place: usize,
+) -> bool {
+    match (one.at(place), other.at(other_place)) {
+        (Some(kept), Some(second)) => kept.node == second.node && kept.step.same(&second.step),
+        _ => false,
+    }
+}
+
+/// Whether these steps of a journal are those of the other, numbers aside.
+fn are_steps_of<'a, B: Allocator>(
+    one: &Journal<'a, B>,
+    steps: &[Movable],
+    other: &Journal<'a, B>,
+) -> bool {
+    if steps.len() != other.len() {
+        return false;
+    }
+    for (i, step) in steps.iter().enumerate() {
+        if !is_same(one, step.place, other, i) {
+            return false;
+        }
+    }
+    true
+}
+
+/// Whether these swaps lead from the remaining steps of one bench to those of the other, numbers aside: swap `i` exchanges
+/// the steps at places `i` and `i + 1`, from 1, which are of different nodes, and neither delivers what the other sent.
+/// (Danos and Krivine: what differs by such swaps is the same but for the order in which it was told.)
+pub fn same_cluster<'a, B: Allocator>(
+    one: &Bench<'a, B>,
+    other: &Bench<'a, B>,
+    places: &[u64],
+) -> Result<(), SwapFault> {
+    if !one.names().same(other.names()) || one.limits() != other.limits() {
+        return Err(SwapFault::OtherBench);
+    }
+    let mut steps = movables(one.allocator(), one.remaining(), one.names().len())?;
+    swap_each(steps.as_mut_slice(), places)?;
+    if !are_steps_of(one.remaining(), steps.as_slice(), other.remaining()) {
+        return Err(SwapFault::OtherSteps);
+    }
+    Ok(())
+}
