@@ -15,3 +15,5 @@ pub mod Openings
 pub mod Invariant
 pub mod InTurn
 pub mod Gone
+pub mod Swapped
+pub mod Movables

@@ -1,5 +1,5 @@
 -- The laws of runs (Danos and Krivine: the loop, and the undo of a step whose consequences are gone).
-use Rattle.std.specs.Prelude.{◌≡◌, ℕ, List, [], ◌∷◌, ◌++◌, Some, None, Result, Ok, Err, slice_get, slice_set}
+use Rattle.std.specs.Prelude.{◌≡◌, ◌↔◌, ℕ, List, [], ◌∷◌, ◌++◌, Some, None, Result, Ok, Err, slice_get, slice_set}
 use Rattle.std.specs.Option.{option_map, unwrap_or}
 use Rattle.node_core.specs.declared.step_fault.StepFault.{StepFault}
 use Rattle.replica_core.specs.declared.node_limits.NodeLimits.{NodeLimits}
@@ -10,6 +10,7 @@ use Rattle.journal_core.specs.Journals.{Kept, NumbersRise, own_steps, find_numbe
 use Rattle.bench_core.specs.Runs.{runs}
 use Rattle.journal_core.specs.Holdings.{Held, kepts}
 use Rattle.bench_core.specs.Chains.{Chain, OwnChains}
+use Rattle.bench_core.specs.Swaps.{AreEquivalent, all_swapped, unnumbered}
 
 -- the journal with one more step at its end
 abbrev pub added : List Kept → ℕ → ℕ → Operation → List Kept
@@ -51,3 +52,11 @@ abbrev pub ChainLaw : Type 0
 ChainLaw =
     (l : NodeLimits) (count : ℕ) (hs : List Held) (c : Cluster) → Chain (Ok (opening_of l count)) hs → runs l count (kepts hs) ≡ Ok c →
     OwnChains l count c hs
+
+-- of two equivalent journals, one runs exactly where the other does, and to the same cluster
+abbrev pub SwapLaw : Type 0
+SwapLaw = (l : NodeLimits) (count : ℕ) (ks js : List Kept) → AreEquivalent ks js → (c : Cluster) → (runs l count ks ≡ Ok c) ↔ (runs l count js ≡ Ok c)
+
+-- swaps by place lead to an equivalent journal
+abbrev pub PlacesLaw : Type 0
+PlacesLaw = (ks js other : List Kept) (places : List ℕ) → all_swapped ks places ≡ Ok js → unnumbered js ≡ unnumbered other → AreEquivalent ks other

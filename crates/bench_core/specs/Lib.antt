@@ -8,9 +8,9 @@ pub mod Runs
 pub mod Chains
 pub mod Machine
 pub mod Histories
+pub mod Swaps
+pub mod Movables
 pub mod Laws
 pub mod Headline
 pub mod Unwinds
 pub mod Benches
-pub mod Swaps
-pub mod Movables

@@ -1,10 +1,9 @@
 -- What a swap asks of a step, noted beside the step's place in its journal.
-use Rattle.std.specs.Prelude.{◌≡◌, ℕ, ◌+◌, ◌<◌, ◌==◌, ◌&&◌, not, Bool, false, if◌then◌else◌, List, [], ◌∷◌, ◌++◌, length, map, slice_get, Option, Some, None, option_map}
+use Rattle.std.specs.Prelude.{◌≡◌, ℕ, ◌+◌, ◌<◌, ◌==◌, ◌&&◌, not, Bool, false, if◌then◌else◌, List, [], ◌∷◌, ◌++◌, length, slice_get, Option, Some, None}
 use Rattle.std.specs.List.{AllByRecursion}
-use Rattle.node_core.specs.Operations.{Operation, delivers, sends}
+use Rattle.node_core.specs.Operations.{delivers, sends}
 use Rattle.journal_core.specs.Journals.{Kept, sent_by}
 use Rattle.bench_core.specs.declared.movable.Movable.{Movable}
-use Rattle.bench_core.specs.Swaps.{exchanged}
 
 -- the sender and the number of the message that the step sends after these, if it sends one
 abbrev pub sent_after : List Kept → Kept → Option (ℕ × ℕ)
@@ -37,6 +36,16 @@ CountSent count ks counts = (node : ℕ) → node < count → slice_get counts n
 abbrev pub AreOfNodes : ℕ → List Kept → Type 0
 AreOfNodes count ks = AllByRecursion (λ (k : Kept). k.node < count) ks
 
--- the node and the step at a place
-abbrev pub unnumbered_at : List Kept → ℕ → Option (ℕ × Operation)
-unnumbered_at ks i = option_map (λ k. (k.node, k.step)) (slice_get ks i)
+-- the step at this place of one journal is that at another place of the other, its number aside
+pub record IsSameAt (ks : List Kept) (place : ℕ) (js : List Kept) (second : ℕ) : Type 0 where
+  pub one : Kept
+  pub other : Kept
+  pub at : slice_get ks place ≡ Some one
+  pub second_at : slice_get js second ≡ Some other
+  pub node : one.node ≡ other.node
+  pub step : one.step ≡ other.step
+
+-- these steps of one journal are those of the other, numbers aside
+pub record AreStepsOf (ks : List Kept) (ms : List Movable) (js : List Kept) : Type 0 where
+  pub count : length ms ≡ length js
+  pub each : (i : ℕ) (m : Movable) → slice_get ms i ≡ Some m → IsSameAt ks m.place js i

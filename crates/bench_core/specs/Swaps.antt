@@ -26,12 +26,12 @@ pub data AreEquivalent : List Kept → List Kept → Type 0 where
 abbrev pub exchange : {X : Type 0} → (X → X → Bool) → List X → ℕ → Option X → Option X → Option (List X)
 exchange may xs i None next = None
 exchange may xs i (Some x) None = None
-exchange may xs i (Some x) (Some y) = if may x y then Some (slice_set (slice_set xs i y) (i + 1) x) else None
+exchange may xs i (Some x) (Some y) = if may x y then Some (slice_set (slice_set xs i y) (suc i) x) else None
 
 -- the list with this place, from 1, and the next exchanged, if it has them and they may be exchanged
 abbrev pub exchanged : {X : Type 0} → (X → X → Bool) → List X → ℕ → Option (List X)
 exchanged may xs zero = None
-exchanged may xs (suc i) = exchange may xs i (slice_get xs i) (slice_get xs (i + 1))
+exchanged may xs (suc i) = exchange may xs i (slice_get xs i) (slice_get xs (suc i))
 
 -- the journal after a swap of this place and the next
 abbrev pub swapped : List Kept → ℕ → Option (List Kept)

@@ -1,11 +1,11 @@
 //! `same_cluster`: whether swaps lead from the steps that remain of one bench to those of another.
-ghost use Rattle.std.specs.Prelude.{◌≡◌, ◌↔◌, ◌+◌, ◌<◌, [], Some, None, Ok, IsTrue, IfErr, IfOk, OnOk, length, map, if◌then◌else◌};
-ghost use Rattle.payload_core.specs.Answers.{GivesUnless};
+ghost use Rattle.std.specs.Prelude.{◌≡◌, ◌↔◌, ◌+◌, ◌++◌, ◌∷◌, ◌<◌, [], Ok, Err, Some, None, IsTrue, IfOk, IfSome, length, slice_get, if◌then◌else◌};
 ghost use Rattle.journal_core.specs.Holdings.{kepts};
+ghost use Rattle.bench_core.specs.declared.swap_fault.SwapFault.TheVariants.{BadSwap};
 ghost use Rattle.bench_core.specs.Clusters.{Cluster};
 ghost use Rattle.bench_core.specs.Machine.{cluster_of};
 ghost use Rattle.bench_core.specs.Swaps.{after_swaps, exchanged, SwapsEnd};
-ghost use Rattle.bench_core.specs.Movables.{may_swap, movable_after, movables_after, unnumbered_at, AreOfNodes, CountSent};
+ghost use Rattle.bench_core.specs.Movables.{may_swap, movable_after, movables_after, AreOfNodes, AreStepsOf, CountSent, IsSameAt};
 
 use crate::bench::Bench;
 use crate::movable::Movable;
@@ -15,11 +15,18 @@ use node_core::Oom;
 use std::alloc::Allocator;
 
 /// What is to be noted of a step at this place. `sent` has for each node how many messages it sent before.
-fn noted<A: Allocator>(kept: &Kept<A>, place: usize, sent: &mut [u64]) -> Movable {
+fn noted<A: Allocator>(kept: &Kept<A>, place: usize, sent: &mut [u64]) -> Movable
+    requires known { kept.now.node < length sent.old }
+    requires few { (n : ℕ) → slice_get sent.old kept.now.node ≡ Some n → n < 18446744073709551615 }
+    ensures noted { (first : List Kept) → length first ≡ place → CountSent (length sent.old) first sent.old → result ≡ movable_after first kept.now }
+    ensures counts { (first : List Kept) → CountSent (length sent.old) first sent.old → CountSent (length sent.old) (first ++ kept.now ∷ []) sent.new }
+    ensures length { length sent.new ≡ length sent.old }
+{
     let mut sends = None;
     if kept.step.sends() {
-        sent[kept.node as usize] += 1;
-        sends = Some((kept.node, sent[kept.node as usize]));
+        let number = sent[kept.node as usize] + 1;
+        sent[kept.node as usize] = number;
+        sends = Some((kept.node, number));
     }
     Movable {
         place,
@@ -34,7 +41,10 @@ fn movables<'a, B: Allocator>(
     alloc: &'a B,
     journal: &Journal<'a, B>,
     nodes: usize,
-) -> Result<Vec<Movable, &'a B>, Oom> {
+) -> Result<Vec<Movable, &'a B>, Oom>
+    requires { AreOfNodes nodes (kepts journal.now.steps) }
+    ensures { IfOk result (λ steps. steps.items ≡ movables_after [] (kepts journal.now.steps)) }
+{
     let mut sent = vec![in alloc; 0; nodes]?;
     let mut movables = Vec::with_capacity(alloc, journal.len())?;
     for place in 0..journal.len() {
@@ -46,7 +56,9 @@ fn movables<'a, B: Allocator>(
 
 /// Exchanges the steps at this place, from 1, and the next, if they are there and independent; else it changes nothing.
 /// Says whether it did.
-fn swap(steps: &mut [Movable], place: u64) -> bool {
+fn swap(steps: &mut [Movable], place: u64) -> bool
+    ensures { exchanged may_swap steps.old place ≡ (if result then Some steps.new else None) }
+{
     if place == 0 || place >= steps.len() as u64 {
         return false;
     }
@@ -58,14 +70,17 @@ fn swap(steps: &mut [Movable], place: u64) -> bool {
     true
 }
 
-/// Makes these swaps in turn, until one is bad.
-fn swap_each(steps: &mut [Movable], places: &[u64]) -> Result<(), SwapFault> {
+/// Makes these swaps in turn, until one is bad: then its place in their list, from 1.
+fn first_bad(steps: &mut [Movable], places: &[u64]) -> Option<usize>
+    ensures none { result ≡ None → after_swaps (exchanged may_swap) 1 steps.old places.now ≡ Ok steps.new }
+    ensures bad { IfSome result (λ at. after_swaps (exchanged may_swap) 1 steps.old places.now ≡ Err (BadSwap at)) }
+{
     for (i, place) in places.iter().enumerate() {
         if !swap(steps, *place) {
-            return Err(SwapFault::BadSwap { at: i + 1 });
+            return Some(i + 1);
         }
     }
-    Ok(())
+    None
 }
 
 /// Whether the step at this place of a journal is that at another place of another, its number aside.
@@ -73,10 +88,12 @@ fn is_same<'a, B: Allocator>(
     one: &Journal<'a, B>,
     place: usize,
     other: &Journal<'a, B>,
-    other_place: usize,
-) -> bool {
-    match (one.at(place), other.at(other_place)) {
-        (Some(kept), Some(second)) => kept.node == second.node && kept.step.same(&second.step),
+    second: usize,
+) -> bool
+    ensures { IsTrue result ↔ IsSameAt (kepts one.now.steps) place (kepts other.now.steps) second }
+{
+    match (one.at(place), other.at(second)) {
+        (Some(one), Some(other)) => one.node == other.node && one.step.same(&other.step),
         _ => false,
     }
 }
@@ -86,7 +103,9 @@ fn are_steps_of<'a, B: Allocator>(
     one: &Journal<'a, B>,
     steps: &[Movable],
     other: &Journal<'a, B>,
-) -> bool {
+) -> bool
+    ensures { IsTrue result ↔ AreStepsOf (kepts one.now.steps) steps.now (kepts other.now.steps) }
+{
     if steps.len() != other.len() {
         return false;
     }
@@ -105,12 +124,18 @@ pub fn same_cluster<'a, B: Allocator>(
     one: &Bench<'a, B>,
     other: &Bench<'a, B>,
     places: &[u64],
-) -> Result<(), SwapFault> {
+) -> Result<(), SwapFault>
+    ensures ends { SwapsEnd one.now other.now places.now result }
+    ensures one_cluster { IfOk result (λ _. (c : Cluster) × (cluster_of one.now ≡ Ok c) × (cluster_of other.now ≡ Ok c)) }
+{
+    one.bench_law();
     if !one.names().same(other.names()) || one.limits() != other.limits() {
         return Err(SwapFault::OtherBench);
     }
     let mut steps = movables(one.allocator(), one.remaining(), one.names().len())?;
-    swap_each(steps.as_mut_slice(), places)?;
+    if let Some(at) = first_bad(steps.as_mut_slice(), places) {
+        return Err(SwapFault::BadSwap { at });
+    }
     if !are_steps_of(one.remaining(), steps.as_slice(), other.remaining()) {
         return Err(SwapFault::OtherSteps);
     }
