@@ -1,7 +1,10 @@
 -- What is noted of the steps of a journal serves for swaps as the journal itself does.
 use Rattle.std.proofs.Common.{◌≡◌, ◌≢◌, ◌⊎◌, inl, inr, ℕ, zero, suc, ◌+◌, ◌<◌, ◌≤◌, ◌==◌, ◌&&◌, not, Bool, true, false, if◌then◌else◌, cond, List, [], ◌∷◌, ◌++◌}
-use Rattle.std.proofs.Common.{length, set, slice_get, Option, Some, None, option_map, Result, Ok, Err, refl, sym, ap, ◌∙◌, subst, arith, append_assoc, append-nil}
-use Rattle.std.proofs.lemmas.Bool.{cases_eq, eqb-true, eqb-false, eq-eqb, ne_eqb}
+use Rattle.std.proofs.Common.{length, set, slice_get, Option, Some, None, option_map, Result, Ok, Err, refl, sym, ap, ◌∙◌, subst, subst₂, arith, append_assoc, append-nil}
+use Rattle.std.proofs.Common.{length-append, length-set, take}
+use Rattle.std.proofs.lemmas.List.{take_more}
+use Rattle.std.proofs.lemmas.Bool.{cases_eq, eqb-true, eqb-false, eq-eqb, ne_eqb, and_from}
+use Rattle.std.proofs.lemmas.Option.{slice_get_within, get_or_from_slice_get}
 use Rattle.std.proofs.lemmas.List.Elements.{filter-append}
 use Rattle.std.specs.List.{AllByRecursion as Each}
 use Rattle.payload_core.specs.Messages.{numbered}
@@ -13,10 +16,21 @@ use Rattle.journal_core.proofs.Each.{each_imp, each_filter, finds_all}
 use Rattle.journal_core.proofs.Rising.{below_part, rises_after}
 use Rattle.bench_core.specs.declared.movable.Movable.{Movable}
 use Rattle.bench_core.specs.declared.swap_fault.SwapFault.{SwapFault}
-use Rattle.bench_core.specs.declared.swap_fault.SwapFault.TheVariants.{BadSwap}
-use Rattle.bench_core.specs.Swaps.{are_independent, unnumbered, exchange, exchanged, swapped, unless_bad, after_swaps, all_swapped}
-use Rattle.bench_core.specs.Movables.{sent_after, movable_after, movables_after, is_message, may_swap, IsSameAt, AreStepsOf}
-use Rattle.bench_core.proofs.Swapped.{pair_of, source_swapped, IsExchange, is_exchange, TwoAt, two_at}
+use Rattle.bench_core.specs.declared.swap_fault.SwapFault.TheVariants.{BadSwap, OtherSteps}
+use Rattle.bench_core.specs.Swaps.{are_independent, unnumbered, exchange, exchanged, swapped, unless_bad, after_swaps, all_swapped, AreOfOneKind}
+use Rattle.bench_core.specs.Swaps.{SwapsEnd, IsBad, LeadsAway, Leads}
+use Rattle.bench_core.specs.Movables.{sent_after, movable_after, movables_after, is_message, may_swap, IsSameAt, AreStepsOf, CountSent, AreOfNodes}
+use Rattle.replica_core.specs.declared.node_limits.NodeLimits.{NodeLimits}
+use Rattle.bench_core.specs.Limits.{node_limits}
+use Rattle.bench_core.specs.Clusters.{Cluster, opening_from, opening_of, step}
+use Rattle.bench_core.specs.Runs.{then_runs, runs}
+use Rattle.bench_core.specs.NameList.{Texts}
+use Rattle.bench_core.specs.Machine.{Config, State, Machine, config_of, cluster_of}
+use Rattle.bench_core.specs.Headline.{IsReached}
+use Rattle.bench_core.proofs.Clusters.{get-set_same, get-set_other, stepped}
+use Rattle.bench_core.proofs.Runs.{run_one}
+use Rattle.bench_core.proofs.Reached.{kept_reached}
+use Rattle.bench_core.proofs.Swapped.{pair_of, source_swapped, IsExchange, is_exchange, TwoAt, two_at, swap_holds, places_hold}
 
 -- what is noted of a step: its place, and who delivers what it sends
 pub record IsNoted (ks : List Kept) (k : Kept) (m : Movable) : Type 0 where
@@ -61,10 +75,10 @@ module _ (first rest : List Kept) (k : Kept) (rises : NumbersRise 0 (first ++ k 
   high : Each (Other k.number) rest
   high = each_imp _ _ (λ j h e. let above = h.0 in omega arith) rest (finds_all k.number rest (rises_after 0 first rest k rises))
 
-  before : ℕ → List Kept
+  abbrev before : ℕ → List Kept
   before node = sent_by first node
 
-  number : List Kept → ℕ → Bool
+  abbrev number : List Kept → ℕ → Bool
   number js p = is_number (option_map (λ (j : Kept). j.number) (numbered js p)) k.number
 
   sent : (node : ℕ) → sent_by (first ++ k ∷ rest) node ≡
@@ -243,22 +257,24 @@ pub data SwapsAlike (ks : List Kept) (one : Result (List Kept) SwapFault) (two :
 swaps_alike : (at : ℕ) (ks js : List Kept) (ms : List Movable) (places : List ℕ) → OnTheWay ks js ms →
     SwapsAlike ks (after_swaps swapped at js places) (after_swaps (exchanged may_swap) at ms places)
 swaps_alike at ks js ms [] way = BothGood js ms refl refl way
-swaps_alike at ks js ms (place ∷ places) way = go (swap_alike ks js ms place way)
+swaps_alike at ks js ms (place ∷ places) way =
+    go (swap_alike ks js ms place way) (λ next mid way'. swaps_alike (at + 1) ks next mid places way')
   where
-    go : SwapAlike ks js ms place → SwapsAlike ks (after_swaps swapped at js (place ∷ places))
+    go : SwapAlike ks js ms place → ((next : List Kept) (mid : List Movable) → OnTheWay ks next mid →
+        SwapsAlike ks (after_swaps swapped (at + 1) next places) (after_swaps (exchanged may_swap) (at + 1) mid places)) → SwapsAlike ks (after_swaps swapped at js (place ∷ places))
         (after_swaps (exchanged may_swap) at ms (place ∷ places))
-    go (Neither bad also) =
+    go (Neither bad also) more =
         BothBad at (ap (λ o. unless_bad at o >>= λ next. after_swaps swapped (at + 1) next places) bad)
         (ap (λ o. unless_bad at o >>= λ next. after_swaps (exchanged may_swap) (at + 1) next places) also)
-    go (Both next then is also way') = later (swaps_alike (at + 1) ks next then places way')
+    go (Both next mid is also way') more = later (more next mid way')
       where
         one : after_swaps swapped at js (place ∷ places) ≡ after_swaps swapped (at + 1) next places
         one = ap (λ o. unless_bad at o >>= λ next. after_swaps swapped (at + 1) next places) is
 
-        two : after_swaps (exchanged may_swap) at ms (place ∷ places) ≡ after_swaps (exchanged may_swap) (at + 1) then places
+        two : after_swaps (exchanged may_swap) at ms (place ∷ places) ≡ after_swaps (exchanged may_swap) (at + 1) mid places
         two = ap (λ o. unless_bad at o >>= λ next. after_swaps (exchanged may_swap) (at + 1) next places) also
 
-        later : SwapsAlike ks (after_swaps swapped (at + 1) next places) (after_swaps (exchanged may_swap) (at + 1) then places) →
+        later : SwapsAlike ks (after_swaps swapped (at + 1) next places) (after_swaps (exchanged may_swap) (at + 1) mid places) →
             SwapsAlike ks (after_swaps swapped at js (place ∷ places)) (after_swaps (exchanged may_swap) at ms (place ∷ places))
         later (BothBad n e f) = BothBad n (one ∙ e) (two ∙ f)
         later (BothGood js' ms' e f way'') = BothGood js' ms' (one ∙ e) (two ∙ f) way''
@@ -313,3 +329,149 @@ same_steps ks (k ∷ js) (o ∷ other) (m ∷ ms) all same =
 pub steps_of : (ks js other : List Kept) (ms : List Movable) → OnTheWay ks js ms → (AreStepsOf ks ms other → unnumbered js ≡ unnumbered other) ×
     (unnumbered js ≡ unnumbered other → AreStepsOf ks ms other)
 steps_of ks js other ms way = (steps_same ks js other ms way.noted, same_steps ks js other ms way.noted)
+
+-- the counts of what was sent
+
+sent_push : (first : List Kept) (k : Kept) (node : ℕ) →
+    sent_by (first ++ k ∷ []) node ≡ sent_by first node ++ cond ((k.node == node) && sends k.step) (k ∷ []) []
+sent_push first k node = filter-append (λ j. (j.node == node) && sends j.step) first (k ∷ [])
+
+pub counted_silent : (first : List Kept) (k : Kept) (counts : List ℕ) → sends k.step ≡ false → CountSent (length counts) first counts →
+    CountSent (length counts) (first ++ k ∷ []) counts
+counted_silent first k counts silent counted node known = counted node known ∙ ap (λ (l : List Kept). Some (length l)) (sym (same (k.node == node) refl))
+  where
+    same : (t : Bool) → (k.node == node) ≡ t → sent_by (first ++ k ∷ []) node ≡ sent_by first node
+    same t is = sent_push first k node ∙ rw (silent, is) (none t)
+      where
+        none : (t : Bool) → sent_by first node ++ cond (t && false) (k ∷ []) [] ≡ sent_by first node
+        none true = append-nil (sent_by first node)
+        none false = append-nil (sent_by first node)
+
+pub counted_sent : (first : List Kept) (k : Kept) (counts : List ℕ) (n : ℕ) → sends k.step ≡ true → CountSent (length counts) first counts →
+    k.node < length counts → slice_get counts k.node ≡ Some n → CountSent (length counts) (first ++ k ∷ []) (set counts k.node (n + 1))
+counted_sent first k counts n sending counted here is node known = go (cases_eq k.node node)
+  where
+    go : (k.node ≡ node) ⊎ (k.node ≢ node) → slice_get (set counts k.node (n + 1)) node ≡ Some (length (sent_by (first ++ k ∷ []) node))
+    go (inl e) =
+        let one : n ≡ length (sent_by first node) = let all = counted node known in
+        let same : slice_get counts node ≡ Some n = ap (slice_get counts) (sym e) ∙ is in cc in
+        let more : length (sent_by (first ++ k ∷ []) node) ≡ length (sent_by first node) + 1 =
+        ap length (sent_push first k node ∙ ap (λ t. sent_by first node ++ cond t (k ∷ []) []) (and_from _ _ (eq-eqb k.node node e) sending))
+        ∙ length-append (sent_by first node) (k ∷ []) in
+        ap (slice_get (set counts k.node (n + 1))) (sym e) ∙ get-set_same counts k.node n (n + 1) is ∙ ap Some (omega arith)
+    go (inr other) =
+        get-set_other counts k.node node (n + 1) (λ e. other (sym e)) ∙ counted node known
+        ∙ ap (λ (l : List Kept). Some (length l)) (sym (sent_push first k node
+        ∙ ap (λ t. sent_by first node ++ cond (t && sends k.step) (k ∷ []) []) (ne_eqb k.node node other) ∙ append-nil (sent_by first node)))
+
+-- no node sent more messages than there are steps
+sent_few : (ks : List Kept) (node : ℕ) → length (sent_by ks node) ≤ length ks
+sent_few [] node = omega arith
+sent_few (k ∷ ks) node = go ((k.node == node) && sends k.step) (sent_few ks node)
+  where
+    go : (t : Bool) → length (sent_by ks node) ≤ length ks → length (cond t (k ∷ sent_by ks node) (sent_by ks node)) ≤ suc (length ks)
+    go true few = omega arith
+    go false few = omega arith
+
+pub counted_few : (count node n : ℕ) (ks : List Kept) (counts : List ℕ) → CountSent count ks counts → node < count → slice_get counts node ≡ Some n →
+    n ≤ length ks
+counted_few count node n ks counts counted known is =
+    let same : n ≡ length (sent_by ks node) = let all = counted node known in cc in
+    let few = sent_few ks node in omega arith
+
+pub of_node_at : (count : ℕ) (ks : List Kept) (i : ℕ) (k : Kept) → AreOfNodes count ks → slice_get ks i ≡ Some k → k.node < count
+of_node_at count [] i k all is = absurd (cc)
+of_node_at count (j ∷ ks) zero k all is = let same : j ≡ k = cc in subst (λ (k : Kept). k.node < count) same all.0
+of_node_at count (j ∷ ks) (suc i) k all is = of_node_at count ks i k all.1 is
+
+pub take_next : (ks : List Kept) (i : ℕ) (k : Kept) → slice_get ks i ≡ Some k → take (i + 1) ks ≡ take i ks ++ k ∷ []
+take_next ks i k is =
+    take_more ks i k (slice_get_within ks i k is) ∙ ap (λ (k : Kept). take i ks ++ k ∷ []) (get_or_from_slice_get ks i k k is)
+
+-- one more step is noted
+pub movables_push : (before first : List Kept) (k : Kept) →
+    movables_after before (first ++ k ∷ []) ≡ movables_after before first ++ movable_after (before ++ first) k ∷ []
+movables_push before [] k = ap (λ (l : List Kept). movable_after l k ∷ []) (sym (append-nil before))
+movables_push before (j ∷ first) k =
+    ap (λ (l : List Movable). movable_after before j ∷ l) (movables_push (before ++ j ∷ []) first k
+    ∙ ap (λ (l : List Kept). movables_after (before ++ j ∷ []) first ++ movable_after l k ∷ []) (append_assoc before (j ∷ []) first))
+
+-- each step of a run is of one of its nodes
+of_nodes_at : (c d : Cluster) (ks : List Kept) → then_runs (Ok c) ks ≡ Ok d → AreOfNodes (length c) ks
+of_nodes_at c d [] h = tt
+of_nodes_at c d (k ∷ ks) h =
+    let one = run_one c d k ks h in
+    let s = stepped c k.node k.step one.0 one.1 in
+    let same : length one.0 ≡ length c = ap (λ (d : Cluster). length d) s.gives ∙ length-set c k.node s.to in
+    (slice_get_within c k.node s.from s.at, subst (λ n. AreOfNodes n ks) same (of_nodes_at one.0 d ks one.2))
+
+pub of_nodes : (c : Config) (s : State) → IsReached c s → AreOfNodes c.nodes s.remaining
+of_nodes c s reached =
+    let kept = kept_reached c s reached in
+    subst (λ n. AreOfNodes n s.remaining) (length_opening (node_limits c.limits) 0 c.nodes)
+    (of_nodes_at (opening_of (node_limits c.limits) c.nodes) kept.cluster s.remaining kept.is_now)
+  where
+    length_opening : (l : NodeLimits) (first count : ℕ) → length (opening_from l first count) ≡ count
+    length_opening l first zero = refl
+    length_opening l first (suc count) = ap suc (length_opening l (first + 1) count)
+
+-- what the call answers
+
+noted_swaps : (one : Machine) (places : List ℕ) (ks : List Kept) (ms : List Movable) → IsReached (config_of one) one.state →
+    ks ≡ one.state.remaining → ms ≡ movables_after [] ks →
+    SwapsAlike one.state.remaining (all_swapped one.state.remaining places) (after_swaps (exchanged may_swap) 1 ms places)
+noted_swaps one places ks ms reached is noted =
+    subst (λ ms. SwapsAlike one.state.remaining (all_swapped one.state.remaining places) (after_swaps (exchanged may_swap) 1 ms places))
+    (sym (noted ∙ ap (movables_after []) is)) (swaps_noted one.state.remaining places (kept_reached (config_of one) one.state reached).rises)
+
+-- what the swaps lead to, where all were made
+record LedTo (one : Machine) (places : List ℕ) (ms : List Movable) : Type 0 where
+  steps : List Kept
+  leads : all_swapped one.state.remaining places ≡ Ok steps
+  way : OnTheWay one.state.remaining steps ms
+
+module _ (one other : Machine) (places : List ℕ) (ks js : List Kept) (ms end : List Movable) (reached : IsReached (config_of one) one.state)
+    (is : ks ≡ one.state.remaining) (also : js ≡ other.state.remaining) (noted : ms ≡ movables_after [] ks) where
+  pub ends_bad : {Y : Type 0} (at : ℕ) → AreOfOneKind one other → after_swaps (exchanged may_swap) 1 ms places ≡ Err (BadSwap at) →
+      SwapsEnd {Y = Y} one other places (Err (BadSwap at))
+  ends_bad {Y = Y} at kind bad = go (noted_swaps one places ks ms reached is noted)
+    where
+      go : SwapsAlike one.state.remaining (all_swapped one.state.remaining places) (after_swaps (exchanged may_swap) 1 ms places) →
+          SwapsEnd {Y = Y} one other places (Err (BadSwap at))
+      go (BothBad n e f) = let same : n ≡ at = cc in IsBad at kind (e ∙ ap (λ n. Err (BadSwap n)) same) refl
+      go (BothGood steps mid e f way) = absurd (cc)
+
+  led_to : after_swaps (exchanged may_swap) 1 ms places ≡ Ok end → LedTo one places end
+  led_to good = go (noted_swaps one places ks ms reached is noted)
+    where
+      go : SwapsAlike one.state.remaining (all_swapped one.state.remaining places) (after_swaps (exchanged may_swap) 1 ms places) → LedTo one places end
+      go (BothBad n e f) = absurd (cc)
+      go (BothGood steps mid e f way) =
+          let same : mid ≡ end = cc in record { steps = steps; leads = e; way = subst (OnTheWay one.state.remaining steps) same way }
+
+  steps_end : (l : LedTo one places end) → AreStepsOf ks end js → unnumbered l.steps ≡ unnumbered other.state.remaining
+  steps_end l same =
+      (steps_of one.state.remaining l.steps other.state.remaining end l.way).0 (subst₂ (λ ks js. AreStepsOf ks end js) is also same)
+
+  pub ends_away : {Y : Type 0} → AreOfOneKind one other → after_swaps (exchanged may_swap) 1 ms places ≡ Ok end → (AreStepsOf ks end js → ⊥) →
+      SwapsEnd {Y = Y} one other places (Err OtherSteps)
+  ends_away kind good differ =
+      let l = led_to good in
+      LeadsAway l.steps kind l.leads
+      (λ same. differ (subst₂ (λ ks js. AreStepsOf ks end js) (sym is) (sym also)
+      ((steps_of one.state.remaining l.steps other.state.remaining end l.way).1 same))) refl
+
+  pub ends_well : {Y : Type 0} (y : Y) → AreOfOneKind one other → after_swaps (exchanged may_swap) 1 ms places ≡ Ok end → AreStepsOf ks end js →
+      SwapsEnd one other places (Ok y)
+  ends_well y kind good same = let l = led_to good in Leads l.steps y kind l.leads (steps_end l same) refl
+
+  -- equivalent journals give one cluster
+  pub one_cluster : AreOfOneKind one other → after_swaps (exchanged may_swap) 1 ms places ≡ Ok end → AreStepsOf ks end js →
+      (c : Cluster) × (cluster_of one ≡ Ok c) × (cluster_of other ≡ Ok c)
+  one_cluster kind good same =
+      let l = led_to good in
+      let c = (kept_reached (config_of one) one.state reached).cluster in
+      let now = (kept_reached (config_of one) one.state reached).is_now in
+      let swaps = places_hold one.state.remaining l.steps other.state.remaining places l.leads (steps_end l same) in
+      let later = (swap_holds (node_limits one.limits) (length one.names) one.state.remaining other.state.remaining swaps c).0 now in
+      (c, now, subst₂ (λ limits (names : Texts). runs (node_limits limits) (length names) other.state.remaining ≡ Ok c) kind.limits kind.names later)

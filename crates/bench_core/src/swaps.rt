@@ -1,5 +1,6 @@
 //! `same_cluster`: whether swaps lead from the steps that remain of one bench to those of another.
-ghost use Rattle.std.specs.Prelude.{◌≡◌, ◌↔◌, ◌+◌, ◌++◌, ◌∷◌, ◌<◌, [], Ok, Err, Some, None, IsTrue, IfOk, IfSome, length, slice_get, if◌then◌else◌};
+ghost use Rattle.std.specs.Prelude.{◌≡◌, ℕ, List, ◌↔◌, ◌+◌, ◌++◌, ◌∷◌, ◌<◌, [], Ok, Err, Some, None, IsTrue, IfOk, IfSome, length, slice_get, if◌then◌else◌};
+ghost use Rattle.journal_core.specs.Journals.{Kept as KeptStep};
 ghost use Rattle.journal_core.specs.Holdings.{kepts};
 ghost use Rattle.bench_core.specs.declared.swap_fault.SwapFault.TheVariants.{BadSwap};
 ghost use Rattle.bench_core.specs.Clusters.{Cluster};
@@ -18,8 +19,8 @@ use std::alloc::Allocator;
 fn noted<A: Allocator>(kept: &Kept<A>, place: usize, sent: &mut [u64]) -> Movable
     requires known { kept.now.node < length sent.old }
     requires few { (n : ℕ) → slice_get sent.old kept.now.node ≡ Some n → n < 18446744073709551615 }
-    ensures noted { (first : List Kept) → length first ≡ place → CountSent (length sent.old) first sent.old → result ≡ movable_after first kept.now }
-    ensures counts { (first : List Kept) → CountSent (length sent.old) first sent.old → CountSent (length sent.old) (first ++ kept.now ∷ []) sent.new }
+    ensures noted { (first : List KeptStep) → length first ≡ place → CountSent (length sent.old) first sent.old → result ≡ movable_after first kept.now }
+    ensures counts { (first : List KeptStep) → CountSent (length sent.old) first sent.old → CountSent (length sent.old) (first ++ kept.now ∷ []) sent.new }
     ensures length { length sent.new ≡ length sent.old }
 {
     let mut sends = None;
