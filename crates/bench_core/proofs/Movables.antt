@@ -3,6 +3,7 @@ use Rattle.std.proofs.Common.{◌≡◌, ◌≢◌, ◌⊎◌, inl, inr, ℕ, ze
 use Rattle.std.proofs.Common.{length, set, slice_get, Option, Some, None, option_map, Result, Ok, Err, refl, sym, ap, ◌∙◌, subst, subst₂, arith, append_assoc, append-nil}
 use Rattle.std.proofs.Common.{length-append, length-set, take}
 use Rattle.std.proofs.lemmas.List.{take_more}
+use Rattle.std.proofs.Math.Seq.{take-append_seam}
 use Rattle.std.proofs.lemmas.Bool.{cases_eq, eqb-true, eqb-false, eq-eqb, ne_eqb, and_from}
 use Rattle.std.proofs.lemmas.Option.{slice_get_within, get_or_from_slice_get}
 use Rattle.std.proofs.lemmas.List.Elements.{filter-append}
@@ -387,6 +388,10 @@ of_node_at count (j ∷ ks) (suc i) k all is = of_node_at count ks i k all.1 is
 pub take_next : (ks : List Kept) (i : ℕ) (k : Kept) → slice_get ks i ≡ Some k → take (i + 1) ks ≡ take i ks ++ k ∷ []
 take_next ks i k is =
     take_more ks i k (slice_get_within ks i k is) ∙ ap (λ (k : Kept). take i ks ++ k ∷ []) (get_or_from_slice_get ks i k k is)
+
+-- what a call wrote through a slice of as many
+pub written_back : {X : Type 0} (n : ℕ) (xs ys : List X) → n ≡ length xs → take n (xs ++ ys) ≡ xs
+written_back n xs ys e = ap (λ n. take n (xs ++ ys)) e ∙ take-append_seam xs ys
 
 -- one more step is noted
 pub movables_push : (before first : List Kept) (k : Kept) →

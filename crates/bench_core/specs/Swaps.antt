@@ -1,5 +1,5 @@
 -- Swaps of adjacent independent steps, and the journals that they lead to (Danos and Krivine; Mazurkiewicz's traces).
-use Rattle.std.specs.Prelude.{◌≡◌, ◌≢◌, ◌⊎◌, ℕ, zero, suc, ◌+◌, ◌==◌, ◌&&◌, not, Bool, true, if◌then◌else◌, List, [], ◌∷◌, ◌++◌, map, slice_get, slice_set}
+use Rattle.std.specs.Prelude.{◌≡◌, ◌≢◌, ℕ, zero, suc, ◌+◌, ◌==◌, ◌&&◌, not, Bool, true, if◌then◌else◌, List, [], ◌∷◌, ◌++◌, map, slice_get, slice_set}
 use Rattle.std.specs.Prelude.{Option, Some, None, Result, Ok, Err}
 use Rattle.payload_core.specs.Answers.{◌>>=◌}
 use Rattle.node_core.specs.Operations.{Operation}
@@ -59,7 +59,7 @@ pub record AreOfOneKind (one other : Machine) : Type 0 where
 -- how swaps of the remaining steps of one bench end, held against those of another
 pub data SwapsEnd {Y : Type 0} (one other : Machine) (places : List ℕ) (result : Result Y SwapFault) : Type 0 where
   -- the names or the limits differ
-  IsOther : (one.names ≢ other.names) ⊎ (one.limits ≢ other.limits) → result ≡ Err OtherBench → SwapsEnd one other places result
+  IsOther : (AreOfOneKind one other → ⊥) → result ≡ Err OtherBench → SwapsEnd one other places result
   Unmade : AreOfOneKind one other → result ≡ Err OutOfMemory → SwapsEnd one other places result
   -- swap `at`, counted from 1, is the first that isn't one of independent steps
   IsBad : (at : ℕ) → AreOfOneKind one other → all_swapped one.state.remaining places ≡ Err (BadSwap at) → result ≡ Err (BadSwap at) →

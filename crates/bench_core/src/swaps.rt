@@ -5,7 +5,7 @@ ghost use Rattle.journal_core.specs.Holdings.{kepts};
 ghost use Rattle.bench_core.specs.declared.swap_fault.SwapFault.TheVariants.{BadSwap};
 ghost use Rattle.bench_core.specs.Clusters.{Cluster};
 ghost use Rattle.bench_core.specs.Machine.{cluster_of};
-ghost use Rattle.bench_core.specs.Swaps.{after_swaps, exchanged, SwapsEnd};
+ghost use Rattle.bench_core.specs.Swaps.{after_swaps, exchanged, AreOfOneKind, SwapsEnd};
 ghost use Rattle.bench_core.specs.Movables.{may_swap, movable_after, movables_after, AreOfNodes, AreStepsOf, CountSent, IsSameAt};
 
 use crate::bench::Bench;
@@ -118,6 +118,13 @@ fn are_steps_of<'a, B: Allocator>(
     true
 }
 
+/// Whether the benches have the same names and limits.
+fn are_of_one_kind<'a, B: Allocator>(one: &Bench<'a, B>, other: &Bench<'a, B>) -> bool
+    ensures { IsTrue result ↔ AreOfOneKind one.now other.now }
+{
+    one.names().same(other.names()) && one.limits() == other.limits()
+}
+
 /// Whether these swaps lead from the remaining steps of one bench to those of the other, numbers aside: swap `i` exchanges
 /// the steps at places `i` and `i + 1`, from 1, which are of different nodes, and neither delivers what the other sent.
 /// (Danos and Krivine: what differs by such swaps is the same but for the order in which it was told.)
@@ -130,7 +137,7 @@ pub fn same_cluster<'a, B: Allocator>(
     ensures one_cluster { IfOk result (λ _. (c : Cluster) × (cluster_of one.now ≡ Ok c) × (cluster_of other.now ≡ Ok c)) }
 {
     one.bench_law();
-    if !one.names().same(other.names()) || one.limits() != other.limits() {
+    if !are_of_one_kind(one, other) {
         return Err(SwapFault::OtherBench);
     }
     let mut steps = movables(one.allocator(), one.remaining(), one.names().len())?;

@@ -1,5 +1,4 @@
 use Rattle.std.proofs.Common.{◌≡◌, ◌+◌, ◌<◌, ◌≤◌, ◌++◌, ◌∷◌, [], length, take, drop, slice_get, Some, List, ℕ, sym, ap, ◌∙◌, subst, subst₂, arith}
-use Rattle.std.proofs.Math.Seq.{take-append_seam}
 use Rattle.std.proofs.lemmas.List.{length-take-le}
 use Rattle.std.proofs.lemmas.Option.{slice_get_within}
 use Rattle.std.specs.Option.{option_copied}
@@ -7,7 +6,7 @@ use Rattle.journal_core.specs.Journals.{Kept}
 use Rattle.journal_core.specs.Holdings.{kepts}
 use Rattle.bench_core.specs.declared.movable.Movable.{Movable}
 use Rattle.bench_core.specs.Movables.{movable_after, movables_after, CountSent}
-use Rattle.bench_core.proofs.Movables.{counted_few, of_node_at, take_next, movables_push}
+use Rattle.bench_core.proofs.Movables.{counted_few, of_node_at, take_next, movables_push, written_back}
 use Rattle.bench_core.proofs.swaps.movables.Goals as goal
 
 pub noted-requires-clause-few : goal.noted-requires-clause-few
@@ -42,7 +41,7 @@ loop-place-preserved g c =
     let sent = c.noted.new.sent in
     let long : c.loop-place.sent.len ≡ length sent = sym (c.noted.ensures.length ∙ c.as_mut_slice.ensures.len) in
     let back : take c.loop-place.sent.len (sent ++ drop (length sent) c.loop-place.sent.items) ≡ sent =
-    ap (λ n. take n (sent ++ drop (length sent) c.loop-place.sent.items)) long ∙ take-append_seam sent (drop (length sent) c.loop-place.sent.items) in
+    written_back c.loop-place.sent.len sent (drop (length sent) c.loop-place.sent.items) long in
     let noted : c.noted.result ≡ movable_after first k = c.noted.ensures.noted first size counted in
     record {
       so_far =
