@@ -17,3 +17,6 @@ pub mod InTurn
 pub mod Gone
 pub mod Swapped
 pub mod Movables
+pub mod Sound
+pub mod OneEntry
+pub mod Deliveries
