@@ -3,9 +3,7 @@ use Rattle.std.proofs.Common.{◌≡◌, ◌≢◌, ◌⊎◌, inl, inr, ℕ, �
 use Rattle.std.proofs.Common.{Option, Some, None, Ok, Err, refl, sym, ap, ◌∙◌, length-set}
 use Rattle.std.specs.List.{list_all}
 use Rattle.std.specs.FinMap as fin
-use Rattle.dots_core.specs.declared.dot.Dot.{Dot}
-use Rattle.payload_core.specs.Presences.{Presence}
-use Rattle.payload_core.specs.Messages.{Message, numbered}
+use Rattle.payload_core.specs.Messages.{Message}
 use Rattle.replica_core.specs.declared.node_limits.NodeLimits.{NodeLimits}
 use Rattle.replica_core.specs.declared.replica_fault.ReplicaFault.{ReplicaFault}
 use Rattle.replica_core.specs.declared.replica_fault.ReplicaFault.TheVariants as replica_faults
@@ -22,7 +20,7 @@ use Rattle.journal_core.specs.Journals.{Kept}
 use Rattle.bench_core.specs.Runs.{then_runs, runs}
 use Rattle.bench_core.specs.Laws.{delivery, ExchangeLaw, RepeatLaw}
 use Rattle.bench_core.proofs.Clusters.{get-set_same, set-set_same, message-set, stepped, step_takes}
-use Rattle.bench_core.proofs.OneEntry.{Fine, Held, read_from, fine_run}
+use Rattle.bench_core.proofs.OneEntry.{Fine, read_from, fine_run}
 use Rattle.bench_core.proofs.Runs.{runs_append, runs_split, run_one}
 
 -- the parts of an accepted delivery
@@ -123,7 +121,7 @@ data OtherOrder (c : Cluster) (n sender p other q : ℕ) (e : Cluster) : Type 0 
 
 module _ (c d e : Cluster) (n sender p other q : ℕ) (first : step c n (Deliver sender p) ≡ Ok d) (second : step d n (Deliver other q) ≡ Ok e)
     (commute : (x : Node) (m k : Message) → slice_get c n ≡ Some x → message_for c (Deliver sender p) ≡ Some m →
-        message_for c (Deliver other q) ≡ Some k → merged k (merged m x.replica) ≡ merged m (merged k x.replica)) where
+    message_for c (Deliver other q) ≡ Some k → merged k (merged m x.replica) ≡ merged m (merged k x.replica)) where
   t : Delivered c n sender p d
   t = delivered c n sender p d first
 
@@ -213,9 +211,9 @@ one_way l count n i j sender p other q first rest c room run =
     go : (old end : Cluster) → runs l count first ≡ Ok old → then_runs (Ok end) rest ≡ Ok c → OtherOrder old n sender p other q end →
         runs l count (first ++ delivery j n other q ∷ delivery i n sender p ∷ rest) ≡ Ok c
     go old end run more (IsFull full) = absurd (room (
-      runs_append (Ok (opening_of l count)) first (delivery j n other q ∷ delivery i n sender p ∷ [])
-      ∙ ap (λ r. then_runs r (delivery j n other q ∷ delivery i n sender p ∷ [])) run
-      ∙ ap (λ r. then_runs r (delivery i n sender p ∷ [])) full))
+        runs_append (Ok (opening_of l count)) first (delivery j n other q ∷ delivery i n sender p ∷ [])
+        ∙ ap (λ r. then_runs r (delivery j n other q ∷ delivery i n sender p ∷ [])) run
+        ∙ ap (λ r. then_runs r (delivery i n sender p ∷ [])) full))
     go old end run more (GivesSame b once twice) =
         runs_append (Ok (opening_of l count)) first (delivery j n other q ∷ delivery i n sender p ∷ rest)
         ∙ ap (λ r. then_runs r (delivery j n other q ∷ delivery i n sender p ∷ rest)) run

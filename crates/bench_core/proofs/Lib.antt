@@ -16,6 +16,7 @@ pub mod Invariant
 pub mod InTurn
 pub mod Gone
 pub mod Swapped
+pub mod Noted
 pub mod Movables
 pub mod Sound
 pub mod OneEntry

@@ -1,12 +1,12 @@
 -- In what a journal gives, a dot has one entry, wherever it stands.
-use Rattle.std.proofs.Common.{◌≡◌, ◌≢◌, ◌⊎◌, inl, inr, ℕ, zero, suc, ◌==◌, true, false, cond, not, Bool, List, [], ◌∷◌, ◌++◌, length, set, slice_get, Option, Some, None, is_some}
-use Rattle.std.proofs.Common.{Ok, Err, refl, sym, ap, ◌∙◌, subst, subst₂, true≢false}
+use Rattle.std.proofs.Common.{◌≡◌, ◌≢◌, ◌⊎◌, inl, inr, ℕ, zero, suc, ◌==◌, true, false, cond, not, Bool, List, [], ◌∷◌, ◌++◌, length, set, slice_get}
+use Rattle.std.proofs.Common.{Option, Some, None, Ok, refl, sym, ap, ◌∙◌, subst, subst₂, true≢false}
 use Rattle.std.proofs.lemmas.Bool.{cases_eq}
 use Rattle.std.specs.FinSet as sets
 use Rattle.std.specs.FinMap as fin
 use Rattle.dots_core.specs.declared.dot.Dot.{Dot}
 use Rattle.dots_core.proofs.OwnClock.{not_fresh}
-use Rattle.payload_core.specs.Presences.{Presence, is_tracked_as, entries_of_names}
+use Rattle.payload_core.specs.Presences.{Presence, is_tracked_as}
 use Rattle.payload_core.specs.Messages.{Message, AreSeen, numbered, message_of_names}
 use Rattle.payload_core.proofs.EntryMaps.{get-names}
 use Rattle.payload_core.proofs.SeenEntries.{seen-names}
@@ -112,15 +112,16 @@ changed x (Extract names) m y h seen t =
     (unless_full_ok x _ y t) (change_nothing x.replica h) (extract_from x.replica (sets.contains names) h)
 changed x (Deliver sender number) m y h seen t =
     let d = deliver_ok (sender == x.replica.own) x m y t in
-    by_replica x (merged d.0 x.replica) m None y d.2 (subst (λ m. Change x.replica m None (merged d.0 x.replica)) (sym d.1) (change_merged x.replica d.0 h (subst IfSeen d.1 seen)))
+    by_replica x (merged d.0 x.replica) m None y d.2 (subst (λ m. Change x.replica m None (merged d.0 x.replica)) (sym d.1)
+    (change_merged x.replica d.0 h (subst IfSeen d.1 seen)))
 changed x (Up name) m y h seen t =
     alone x _ m None y (unless_ok (up_refusal x.replica name) _ y t) (change_status x.replica name statuses.Up h)
 changed x (Down name) m y h seen t =
     alone x _ m None y (unless_ok (down_refusal x.replica name) _ y t) (change_status x.replica name statuses.Down h)
 changed x (Permdown name) m y h seen t =
     alone x _ m None y (unless_ok (permdown_refusal x.replica name) _ y t)
-    (change_forgotten x.replica name h (another_name (name == x.replica.own) ((not (is_known x.replica name), NotKnown) ∷ (is_online x.replica name, NotDown) ∷ [])
-    (with_replica x (forgotten name x.replica)) y t))
+    (change_forgotten x.replica name h (another_name (name == x.replica.own)
+    ((not (is_known x.replica name), NotKnown) ∷ (is_online x.replica name, NotDown) ∷ []) (with_replica x (forgotten name x.replica)) y t))
 
 -- clusters of runs
 

@@ -1,5 +1,5 @@
 -- What each change of a replica keeps, whatever its limits, and where the entries after it come from.
-use Rattle.std.proofs.Common.{◌≡◌, ◌≢◌, ◌⊎◌, inl, inr, ℕ, ◌+◌, ◌==◌, ◌&&◌, ◌||◌, not, Bool, true, false, cond, List, [], ◌∷◌, Option, Some, None, is_some}
+use Rattle.std.proofs.Common.{◌≡◌, ◌≢◌, ◌⊎◌, inl, inr, ℕ, ◌==◌, ◌&&◌, ◌||◌, not, Bool, true, false, cond, List, [], ◌∷◌, Option, Some, None, is_some}
 use Rattle.std.proofs.Common.{refl, sym, ap, ◌∙◌, true≢false, arith}
 use Rattle.std.proofs.Math.Bool.{or-false, or-true, and-true}
 use Rattle.std.proofs.lemmas.Bool.{and_from, eqb-false, ne_eqb}
@@ -17,8 +17,8 @@ use Rattle.payload_core.proofs.SeenEntries.{seen_none, seen-insert, seen-remove,
 use Rattle.payload_core.proofs.TrackedDots.{EachPasses, dots_of_pass}
 use Rattle.replica_core.specs.declared.node_limits.NodeLimits.{NodeLimits}
 use Rattle.replica_core.specs.declared.status.Status.{Status}
-use Rattle.replica_core.specs.Replicas.{Replica, opening, fresh, own_dots, joined, dropped, ticked, left, left_each, dropped_each, with_status, is_other, forgotten}
-use Rattle.replica_core.specs.Replicas.{without_delta}
+use Rattle.replica_core.specs.Replicas.{Replica, opening, fresh, own_dots, joined, dropped, ticked, left, left_each, dropped_each, with_status, is_other}
+use Rattle.replica_core.specs.Replicas.{forgotten, without_delta}
 use Rattle.replica_core.specs.Deliveries.{is_other_known, merged}
 use Rattle.replica_core.proofs.Deliveries.{entry_after, get-merged, contains-merged}
 use Rattle.replica_core.proofs.Once.{inserted_entry, removed_entry, own_is_not_other, own_entry-merged}

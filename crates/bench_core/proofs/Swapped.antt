@@ -1,19 +1,17 @@
 -- Independent adjacent steps may be exchanged in a run.
-use Rattle.std.proofs.Common.{Option, zero, None, option_map, if◌then◌else◌, cond, ◌≡◌, ◌≢◌, ℕ, suc, ◌+◌, ◌==◌, ◌&&◌, not, Bool, true, false, List, [], ◌∷◌, ◌++◌}
-use Rattle.std.proofs.Common.{length, set, slice_get, Some, Result, Ok, Err, refl, sym, ap, ◌∙◌, subst, subst₂, append-nil, append_assoc, arith}
+use Rattle.std.proofs.Common.{Option, zero, None, option_map, if◌then◌else◌, cond, ◌≡◌, ◌≢◌, ℕ, suc, ◌+◌, ◌==◌, ◌&&◌, not, Bool, true, false}
+use Rattle.std.proofs.Common.{List, [], ◌∷◌, ◌++◌, length, set, slice_get, Some, Result, Ok, Err, refl, sym, ap, ◌∙◌, subst, subst₂, append-nil, append_assoc}
 use Rattle.std.proofs.lemmas.Bool.{and_parts, not-true, eqb-false, eqb-true, ne_eqb}
 use Rattle.std.proofs.lemmas.List.Elements.{filter-append}
 use Rattle.payload_core.specs.Messages.{Message, numbered}
-use Rattle.payload_core.specs.Answers.{◌>>=◌}
 use Rattle.replica_core.specs.declared.node_limits.NodeLimits.{NodeLimits}
 use Rattle.node_core.specs.Operations.{Operation, delivers, sends}
 use Rattle.node_core.specs.Nodes.{Node}
-use Rattle.journal_core.specs.Journals.{Kept, sent_by, sender_of, source_at, source_of, is_number, delivers_from}
+use Rattle.journal_core.specs.Journals.{Kept, sent_by, sender_of, source_at, is_number, delivers_from}
 use Rattle.bench_core.specs.declared.fault.Fault.{Fault}
-use Rattle.bench_core.specs.declared.swap_fault.SwapFault.{SwapFault}
 use Rattle.bench_core.specs.Clusters.{Cluster, opening_of, message_for, step}
 use Rattle.bench_core.specs.Runs.{then_runs, runs}
-use Rattle.bench_core.specs.Swaps.{are_independent, unnumbered, AreEquivalent, Alike, Swap, exchange, exchanged, swapped, unless_bad, after_swaps, all_swapped}
+use Rattle.bench_core.specs.Swaps.{are_independent, unnumbered, AreEquivalent, Alike, Swap, exchange, exchanged, swapped, unless_bad, after_swaps}
 use Rattle.bench_core.specs.Laws.{SwapLaw, PlacesLaw}
 use Rattle.bench_core.proofs.Clusters.{ReadAlike, set-set_other, mapped, mapped_ok, ReadsAlike, message-set, step-set, stepped}
 use Rattle.bench_core.proofs.Taken.{Posts, posts}
@@ -140,14 +138,14 @@ one_swap l count first rest a b d free run =
     let parts = runs_split (Ok (opening_of l count)) first (a ∷ b ∷ rest) d run in
     let c = parts.0 in
     let for_b : (x y : Node) → slice_get c a.node ≡ Some x → Posts (sends a.step) x.outbox y.outbox →
-        ReadsAlike a.node y.outbox x.outbox b.step =
+    ReadsAlike a.node y.outbox x.outbox b.step =
     λ x y at post.
     let source : sends a.step ≡ true → sender_of ks a.node (suc (length x.outbox)) ≡ Some a.number =
     λ h. subst (λ m. sender_of ks a.node (suc m) ≡ Some a.number) (sym (outbox_counts l count first c a.node x parts.1 at))
     (sender_there first (b ∷ rest) a h) in
     reads_back a.node x.outbox y.outbox b.step (reads_alike ks a x.outbox y.outbox b.step source post p.b_free) in
     let for_a : (x y : Node) → slice_get c b.node ≡ Some x → Posts (sends b.step) x.outbox y.outbox →
-        ReadsAlike b.node y.outbox x.outbox a.step =
+    ReadsAlike b.node y.outbox x.outbox a.step =
     λ x y at post.
     let counted : length x.outbox ≡ length (sent_by (first ++ a ∷ []) b.node) =
     outbox_counts l count first c b.node x parts.1 at ∙ ap (λ (l : List Kept). length l) (sym (not_sent first a b.node p.other)) in

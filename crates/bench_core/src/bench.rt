@@ -196,6 +196,7 @@ impl<'a, B: Allocator> Bench<'a, B> {
         let _ = &self.journal;
     }
 
+    /// What it takes its memory from.
     pub(crate) fn allocator(&self) -> &'a B {
         *self.nodes.allocator()
     }

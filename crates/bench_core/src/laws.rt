@@ -41,8 +41,8 @@ pub fn unwind_law()
 /// Swaps: of two journals between which swaps of adjacent independent steps lead, numbers aside, one runs where the other
 /// does, and then to the same cluster.
 pub fn swap_law()
-    ensures same_cluster { SwapLaw }
-    ensures by_place { PlacesLaw }
+    ensures equal_runs { SwapLaw }
+    ensures swaps_by_place { PlacesLaw }
 {}
 
 /// Deliveries: in what a journal gives, entries of one dot are equal, wherever they stand. Two adjacent deliveries at one

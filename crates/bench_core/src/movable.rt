@@ -2,7 +2,7 @@
 ghost use Rattle.std.specs.Prelude.{◌≡◌};
 ghost use Rattle.bench_core.specs.Movables.{is_message, may_swap};
 
-/// A sender, and the number of a message of its.
+/// A message, by its sender and its number.
 type Message = (u16, u64);
 
 /// A step of a journal, by its place from 0, with its node and the messages that it delivers and sends.

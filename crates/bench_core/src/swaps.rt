@@ -55,8 +55,7 @@ fn movables<'a, B: Allocator>(
     Ok(movables)
 }
 
-/// Exchanges the steps at this place, from 1, and the next, if they are there and independent; else it changes nothing.
-/// Says whether it did.
+/// Exchanges the steps at this place, from 1, and the next, if they are there and independent, and says whether it did.
 fn swap(steps: &mut [Movable], place: u64) -> bool
     ensures { exchanged may_swap steps.old place ≡ (if result then Some steps.new else None) }
 {
@@ -127,24 +126,26 @@ fn are_of_one_kind<'a, B: Allocator>(one: &Bench<'a, B>, other: &Bench<'a, B>) -
 
 /// Whether these swaps lead from the remaining steps of one bench to those of the other, numbers aside: swap `i` exchanges
 /// the steps at places `i` and `i + 1`, from 1, which are of different nodes, and neither delivers what the other sent.
-/// (Danos and Krivine: what differs by such swaps is the same but for the order in which it was told.)
+/// (Causal equivalence, after Danos and Krivine.)
 pub fn same_cluster<'a, B: Allocator>(
     one: &Bench<'a, B>,
     other: &Bench<'a, B>,
     places: &[u64],
 ) -> Result<(), SwapFault>
-    ensures ends { SwapsEnd one.now other.now places.now result }
-    ensures one_cluster { IfOk result (λ _. (c : Cluster) × (cluster_of one.now ≡ Ok c) × (cluster_of other.now ≡ Ok c)) }
+    ensures answers { SwapsEnd one.now other.now places.now result }
+    ensures equal_clusters { IfOk result (λ _. (c : Cluster) × (cluster_of one.now ≡ Ok c) × (cluster_of other.now ≡ Ok c)) }
 {
     one.bench_law();
     if !are_of_one_kind(one, other) {
         return Err(SwapFault::OtherBench);
     }
-    let mut steps = movables(one.allocator(), one.remaining(), one.names().len())?;
+    let from = one.remaining();
+    let to = other.remaining();
+    let mut steps = movables(one.allocator(), from, one.names().len())?;
     if let Some(at) = first_bad(steps.as_mut_slice(), places) {
         return Err(SwapFault::BadSwap { at });
     }
-    if !are_steps_of(one.remaining(), steps.as_slice(), other.remaining()) {
+    if !are_steps_of(from, steps.as_slice(), to) {
         return Err(SwapFault::OtherSteps);
     }
     Ok(())

@@ -181,7 +181,19 @@ fn has_same_node<'a, B: Allocator>(
 #[test]
 fn two_messages_come_in_either_order_and_twice(rt: HostRuntime) {
     let heap = rt.alloc();
-    let one = played(&rt, &heap, Limits::usual(), &FIRST_MESSAGE_FIRST, "in order");
-    let other = played(&rt, &heap, Limits::usual(), &SECOND_MESSAGE_FIRST, "the second first");
+    let one = played(
+        &rt,
+        &heap,
+        Limits::usual(),
+        &FIRST_MESSAGE_FIRST,
+        "in order",
+    );
+    let other = played(
+        &rt,
+        &heap,
+        Limits::usual(),
+        &SECOND_MESSAGE_FIRST,
+        "the second first",
+    );
     assert!(rt; has_same_node(&rt, &one, &other, 1));
 }

@@ -1,4 +1,4 @@
-use Rattle.std.proofs.Common.{◌≡◌, ◌+◌, ◌<◌, ◌≤◌, ◌++◌, ◌∷◌, [], length, take, drop, slice_get, Some, List, ℕ, sym, ap, ◌∙◌, subst, subst₂, arith}
+use Rattle.std.proofs.Common.{◌≡◌, ◌+◌, ◌++◌, ◌∷◌, [], length, take, drop, slice_get, Some, List, ℕ, sym, ap, ◌∙◌, subst, subst₂, arith}
 use Rattle.std.proofs.lemmas.List.{length-take-le}
 use Rattle.std.proofs.lemmas.Option.{slice_get_within}
 use Rattle.std.specs.Option.{option_copied}
@@ -6,7 +6,7 @@ use Rattle.journal_core.specs.Journals.{Kept}
 use Rattle.journal_core.specs.Holdings.{kepts}
 use Rattle.bench_core.specs.declared.movable.Movable.{Movable}
 use Rattle.bench_core.specs.Movables.{movable_after, movables_after, CountSent}
-use Rattle.bench_core.proofs.Movables.{counted_few, of_node_at, take_next, movables_push, written_back}
+use Rattle.bench_core.proofs.Noted.{counted_few, of_node_at, take_next, movables_push, written_back}
 use Rattle.bench_core.proofs.swaps.movables.Goals as goal
 
 pub noted-requires-clause-few : goal.noted-requires-clause-few

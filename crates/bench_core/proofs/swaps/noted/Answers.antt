@@ -1,9 +1,9 @@
-use Rattle.std.proofs.Common.{◌<◌, ◌+◌, ◌++◌, ◌∷◌, [], length, slice_get, slice_set, slice_index_or, sym, ap, ◌∙◌, subst, true, false, ◌≡◌, List, ℕ}
+use Rattle.std.proofs.Common.{◌<◌, ◌++◌, ◌∷◌, [], length, slice_index_or, sym, ◌∙◌, subst}
 use Rattle.std.proofs.lemmas.Option.{slice_get-get_or}
-use Rattle.node_core.specs.Operations.{plain, sends}
+use Rattle.node_core.specs.Operations.{plain}
 use Rattle.journal_core.specs.Journals.{Kept}
 use Rattle.bench_core.specs.Movables.{CountSent}
-use Rattle.bench_core.proofs.Movables.{counted_sent, counted_silent}
+use Rattle.bench_core.proofs.Noted.{counted_sent, counted_silent}
 use Rattle.bench_core.proofs.swaps.noted.Goals.{then-sends, else-sends}
 use Rattle.bench_core.proofs.swaps.noted.Goals as goal
 
