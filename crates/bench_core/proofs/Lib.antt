@@ -15,3 +15,9 @@ pub mod Openings
 pub mod Invariant
 pub mod InTurn
 pub mod Gone
+pub mod Swapped
+pub mod Noted
+pub mod Movables
+pub mod Sound
+pub mod OneEntry
+pub mod Deliveries

@@ -30,22 +30,22 @@ record Took (n : Node) (s : Operation) (m : Option Message) (y : Node) : Type 0 
   owns : y.replica.own ≡ n.replica.own
   limits : y.replica.limits ≡ n.replica.limits
 
-unless_ok : (cause : Option ReplicaFault) (gives y : Node) → unless cause gives ≡ Ok y → y ≡ gives
+pub unless_ok : (cause : Option ReplicaFault) (gives y : Node) → unless cause gives ≡ Ok y → y ≡ gives
 unless_ok None gives y h = cc
 unless_ok (Some fault) gives y h = absurd (cc)
 
-unless_full_ok : (n gives y : Node) → unless_full n gives ≡ Ok y → y ≡ gives
+pub unless_full_ok : (n gives y : Node) → unless_full n gives ≡ Ok y → y ≡ gives
 unless_full_ok n gives y h = go (is_outbox_full n) h
   where
     go : (b : Bool) → (if b then Err OutboxFull else Ok gives) ≡ Ok y → y ≡ gives
     go true h = absurd (cc)
     go false h = cc
 
-broadcast_ok : (some : Bool) (n y : Node) → broadcast some n ≡ Ok y → y ≡ with_sent n (delta_message n.replica) (without_delta n.replica)
+pub broadcast_ok : (some : Bool) (n y : Node) → broadcast some n ≡ Ok y → y ≡ with_sent n (delta_message n.replica) (without_delta n.replica)
 broadcast_ok true n y h = unless_full_ok n (with_sent n (delta_message n.replica) (without_delta n.replica)) y h
 broadcast_ok false n y h = absurd (cc)
 
-deliver_ok : (own : Bool) (n : Node) (m : Option Message) (y : Node) → (if own then Err OwnMessage else deliver n m) ≡ Ok y →
+pub deliver_ok : (own : Bool) (n : Node) (m : Option Message) (y : Node) → (if own then Err OwnMessage else deliver n m) ≡ Ok y →
     (message : Message) × (m ≡ Some message) × (y ≡ with_replica n (merged message n.replica))
 deliver_ok true n m y h = absurd (cc)
 deliver_ok false n None y h = absurd (cc)

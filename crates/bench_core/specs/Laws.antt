@@ -1,15 +1,21 @@
 -- The laws of runs (Danos and Krivine: the loop, and the undo of a step whose consequences are gone).
-use Rattle.std.specs.Prelude.{◌≡◌, ℕ, List, [], ◌∷◌, ◌++◌, Some, None, Result, Ok, Err, slice_get, slice_set}
+use Rattle.std.specs.Prelude.{◌≡◌, ◌≢◌, ◌↔◌, ℕ, List, [], ◌∷◌, ◌++◌, Some, None, Result, Ok, Err, slice_get, slice_set}
 use Rattle.std.specs.Option.{option_map, unwrap_or}
+use Rattle.std.specs.FinMap as fin
+use Rattle.dots_core.specs.declared.dot.Dot.{Dot}
+use Rattle.payload_core.specs.Presences.{Presence}
+use Rattle.payload_core.specs.Messages.{Message, numbered}
 use Rattle.node_core.specs.declared.step_fault.StepFault.{StepFault}
 use Rattle.replica_core.specs.declared.node_limits.NodeLimits.{NodeLimits}
-use Rattle.node_core.specs.Operations.{Operation}
+use Rattle.node_core.specs.Operations.{Operation, Deliver}
 use Rattle.node_core.specs.Nodes.{Node, opening_node, take}
+use Rattle.bench_core.specs.declared.fault.Fault.TheVariants.{EntriesFull}
 use Rattle.bench_core.specs.Clusters.{Cluster, opening_of, message_for, step}
 use Rattle.journal_core.specs.Journals.{Kept, NumbersRise, own_steps, find_number, first_consequence, without, steps_before}
 use Rattle.bench_core.specs.Runs.{runs}
 use Rattle.journal_core.specs.Holdings.{Held, kepts}
 use Rattle.bench_core.specs.Chains.{Chain, OwnChains}
+use Rattle.bench_core.specs.Swaps.{AreEquivalent, all_swapped, unnumbered}
 
 -- the journal with one more step at its end
 abbrev pub added : List Kept → ℕ → ℕ → Operation → List Kept
@@ -51,3 +57,40 @@ abbrev pub ChainLaw : Type 0
 ChainLaw =
     (l : NodeLimits) (count : ℕ) (hs : List Held) (c : Cluster) → Chain (Ok (opening_of l count)) hs → runs l count (kepts hs) ≡ Ok c →
     OwnChains l count c hs
+
+-- of two equivalent journals, one runs exactly where the other does, and to the same cluster
+abbrev pub SwapLaw : Type 0
+SwapLaw = (l : NodeLimits) (count : ℕ) (ks js : List Kept) → AreEquivalent ks js → (c : Cluster) → (runs l count ks ≡ Ok c) ↔ (runs l count js ≡ Ok c)
+
+-- swaps by place lead to an equivalent journal
+abbrev pub PlacesLaw : Type 0
+PlacesLaw = (ks js other : List Kept) (places : List ℕ) → all_swapped ks places ≡ Ok js → unnumbered js ≡ unnumbered other → AreEquivalent ks other
+
+-- an entry stands in a cluster at this dot: at a node, in its delta, or in a message that it sent
+pub data Stands (c : Cluster) (d : Dot) (p : Presence) : Type 0 where
+  AtNode : (n : ℕ) (node : Node) → slice_get c n ≡ Some node → fin.get node.replica.store.entries d ≡ Some p → Stands c d p
+  InDelta : (n : ℕ) (node : Node) → slice_get c n ≡ Some node → fin.get node.replica.delta.entries d ≡ Some p → Stands c d p
+  IsSent : (n number : ℕ) (node : Node) (m : Message) → slice_get c n ≡ Some node → numbered node.outbox number ≡ Some m →
+      fin.get m.entries d ≡ Some p → Stands c d p
+
+-- in what a journal gives, entries of one dot are equal, wherever they stand
+abbrev pub OneEntryLaw : Type 0
+OneEntryLaw =
+    (l : NodeLimits) (count : ℕ) (ks : List Kept) (c : Cluster) (d : Dot) (p q : Presence) → runs l count ks ≡ Ok c → Stands c d p → Stands c d q → p ≡ q
+
+-- a delivery at this node of a message of the sender
+abbrev pub delivery : ℕ → ℕ → ℕ → ℕ → Kept
+delivery number node sender message = record { number = number; node = node; step = Deliver sender message }
+
+-- two adjacent deliveries at one node may be exchanged, where neither order fills it
+abbrev pub ExchangeLaw : Type 0
+ExchangeLaw =
+    (l : NodeLimits) (count node : ℕ) (first rest : List Kept) (i j sender message other second : ℕ) →
+    runs l count (first ++ delivery i node sender message ∷ delivery j node other second ∷ []) ≢ Err EntriesFull →
+    runs l count (first ++ delivery j node other second ∷ delivery i node sender message ∷ []) ≢ Err EntriesFull → (c : Cluster) →
+    (runs l count (first ++ delivery i node sender message ∷ delivery j node other second ∷ rest) ≡ Ok c) ↔
+    (runs l count (first ++ delivery j node other second ∷ delivery i node sender message ∷ rest) ≡ Ok c)
+
+-- a delivery that is repeated at once is accepted, and changes nothing
+abbrev pub RepeatLaw : Type 0
+RepeatLaw = (c d : Cluster) (node sender message : ℕ) → step c node (Deliver sender message) ≡ Ok d → step d node (Deliver sender message) ≡ Ok d

@@ -8,6 +8,8 @@ pub mod Runs
 pub mod Chains
 pub mod Machine
 pub mod Histories
+pub mod Swaps
+pub mod Movables
 pub mod Laws
 pub mod Headline
 pub mod Unwinds

@@ -196,6 +196,11 @@ impl<'a, B: Allocator> Bench<'a, B> {
         let _ = &self.journal;
     }
 
+    /// What it takes its memory from.
+    pub(crate) fn allocator(&self) -> &'a B {
+        *self.nodes.allocator()
+    }
+
     /// How many more calls and steps there is room for.
     fn free(&self) -> u64
         ensures { result ≡ free_places (config_of self.now) self.now.state }

@@ -3,7 +3,7 @@
 //! A crate above uses a law by calling its function.
 ghost use Rattle.bench_core.specs.Headline.{BackLaw, GivenLaw, UndoLaw};
 ghost use Rattle.bench_core.specs.Unwinds.{LeastLaw, UndoneInTurnLaw};
-ghost use Rattle.bench_core.specs.Laws.{ChainLaw, LoopLaw, MiddleLaw, OwnRunLaw};
+ghost use Rattle.bench_core.specs.Laws.{ChainLaw, ExchangeLaw, LoopLaw, MiddleLaw, OneEntryLaw, OwnRunLaw, PlacesLaw, RepeatLaw, SwapLaw};
 
 /// The loop: a step at the end of a journal has no direct consequence, and taking it out gives the journal before.
 pub fn loop_law()
@@ -36,4 +36,20 @@ pub fn chain_law()
 pub fn unwind_law()
     ensures future { UndoneInTurnLaw }
     ensures least { LeastLaw }
+{}
+
+/// Swaps: of two journals between which swaps of adjacent independent steps lead, numbers aside, one runs where the other
+/// does, and then to the same cluster.
+pub fn swap_law()
+    ensures equal_runs { SwapLaw }
+    ensures swaps_by_place { PlacesLaw }
+{}
+
+/// Deliveries: in what a journal gives, entries of one dot are equal, wherever they stand. Two adjacent deliveries at one
+/// node may be exchanged, where neither order fills it; a delivery that is repeated at once is accepted and changes
+/// nothing.
+pub fn delivery_law()
+    ensures one_entry { OneEntryLaw }
+    ensures exchanged { ExchangeLaw }
+    ensures repeated { RepeatLaw }
 {}

@@ -5,7 +5,8 @@
 //! inverses); words come from `payload_core`, memory's refusal from `dots_core`.
 //!
 //! In the order to read them: `names`, over `names_fault` and `texts`, and `limits`, for whom and how much; `act`, `fault`,
-//! `reply` and `unwound`, what is asked and answered; `history`; `bench`, the machine; `laws`.
+//! `reply` and `unwound`, what is asked and answered; `history`; `bench`, the machine;
+//! `swaps`, over `movable` and `swap_fault`; `laws`.
 #![tactic(auto)]
 
 mod act;
@@ -14,9 +15,12 @@ mod fault;
 mod history;
 pub mod laws;
 mod limits;
+mod movable;
 mod names;
 mod names_fault;
 mod reply;
+mod swap_fault;
+mod swaps;
 mod texts;
 mod unwound;
 
@@ -30,5 +34,7 @@ pub use names::{Names, is_name};
 pub use names_fault::NamesFault;
 pub use node_core::{Node, NodeLimits, Step, StepFault};
 pub use reply::Reply;
+pub use swap_fault::SwapFault;
+pub use swaps::same_cluster;
 pub use texts::TextSet;
 pub use unwound::Unwound;

@@ -3,7 +3,7 @@
 //!
 //! Each says what no clause can: that calls succeed with memory, what a refusal of memory leaves, and which calls take none;
 //! and worked rows, for whether the clauses say what was meant. In the order to read them: `rows`, an assertion that names
-//! its row; `calls`, what tables are made of; `names`, `machine`, `steps`, `leaves`, `memory` and `unwinds`, of benches;
+//! its row; `calls`, what tables are made of; `names`, `machine`, `steps`, `leaves`, `memory`, `unwinds` and `swaps`, of benches;
 //! `laws`, of a bench that is handed over;
 //! `lists`, of online lists; `diffs`, what each call of a bench changes in them.
 #![tactic(auto)]
@@ -28,5 +28,7 @@ mod names;
 mod rows;
 #[cfg(test)]
 mod steps;
+#[cfg(test)]
+mod swaps;
 #[cfg(test)]
 mod unwinds;

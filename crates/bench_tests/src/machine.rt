@@ -1,5 +1,5 @@
 //! What no contract says of the machine: that calls succeed with ample memory, and what its parts tell then.
-use crate::calls::{Call, Row, Shown, open, played};
+use crate::calls::{Call, Row, Shown, answers, open, played};
 use crate::steps::{DELIVERED, DELIVERED_AND_UNDONE, UNDONE_JOIN};
 use bench_core::{Act, Bench, Fault, Journal, Limits, Reply, Step};
 use dots_core::NameSet;
@@ -83,6 +83,27 @@ fn a_step_is_held_by_its_least_consequence(rt: HostRuntime) {
     let held = [(1, Some(3)), (2, Some(4)), (3, Some(4)), (4, None)];
     assert!(rt; are_held(bench.remaining(), &held));
     assert!(rt; last_of(&bench, 0) == Some(3) && last_of(&bench, 1) == Some(4));
+}
+
+/// A message that is delivered, the delivery undone, and the message delivered again.
+const DELIVERED_AGAIN: [Row; 6] = [
+    (0, Call::Join(1, Shown::Alice), Reply::Taken(1)),
+    (1, Call::Up(0), Reply::Taken(2)),
+    (0, Call::Broadcast, Reply::Taken(3)),
+    (1, Call::Deliver(0, 1), Reply::Taken(4)),
+    (2, Call::Undo(4), Reply::Undone(4)),
+    (1, Call::Deliver(0, 1), Reply::Taken(5)),
+];
+
+#[test]
+fn a_send_is_held_by_the_delivery_that_remains(rt: HostRuntime) {
+    let heap = rt.alloc();
+    let name = "delivered again";
+    let mut bench = played(&rt, &heap, Limits::usual(), &DELIVERED_AGAIN, name);
+    assert!(rt; bench.remaining().first_consequence(3) == Some(5));
+    let undo = (2, Call::Undo(5), Reply::Undone(5));
+    answers(&rt, &heap, &mut bench, &undo, name);
+    assert!(rt; bench.remaining().first_consequence(3).is_none());
 }
 
 /// Whether the first step that remains is number 2, an up of name 0 by node 1.

@@ -1,0 +1,199 @@
+//! Swaps between the steps of two benches, and deliveries in either order: worked rows, and refused memory.
+use crate::calls::{Call, Row, Shown, limits_of, played};
+use crate::rows::holds;
+use crate::steps::DELIVERED;
+use bench_core::{Bench, Limits, Reply, SwapFault, same_cluster};
+use std::alloc::{Allocator, Global};
+use std::process::Abort;
+use test_alloc::Refusing;
+
+const ALICE_FIRST: [Row; 2] = [
+    (0, Call::Join(1, Shown::Alice), Reply::Taken(1)),
+    (1, Call::Join(9, Shown::Bob), Reply::Taken(2)),
+];
+
+const BOB_FIRST: [Row; 2] = [
+    (1, Call::Join(9, Shown::Bob), Reply::Taken(1)),
+    (0, Call::Join(1, Shown::Alice), Reply::Taken(2)),
+];
+
+/// Swaps by place, and what the steps of one bench and of another come to by them.
+struct Swaps {
+    name: &'static str,
+    one: &'static [Row],
+    other: &'static [Row],
+    places: &'static [u64],
+    answer: Result<(), SwapFault>,
+}
+
+const SWAPS: [Swaps; 9] = [
+    Swaps {
+        name: "two joins in the other order",
+        one: &ALICE_FIRST,
+        other: &BOB_FIRST,
+        places: &[1],
+        answer: Ok(()),
+    },
+    Swaps {
+        name: "no swap of two joins in the other order",
+        one: &ALICE_FIRST,
+        other: &BOB_FIRST,
+        places: &[],
+        answer: Err(SwapFault::OtherSteps),
+    },
+    Swaps {
+        name: "a swap of the last place",
+        one: &ALICE_FIRST,
+        other: &BOB_FIRST,
+        places: &[2],
+        answer: Err(SwapFault::BadSwap { at: 1 }),
+    },
+    Swaps {
+        name: "a swap of place 0, after one that is good",
+        one: &ALICE_FIRST,
+        other: &ALICE_FIRST,
+        places: &[1, 0],
+        answer: Err(SwapFault::BadSwap { at: 2 }),
+    },
+    Swaps {
+        name: "a send and its delivery",
+        one: &DELIVERED,
+        other: &DELIVERED,
+        places: &[3],
+        answer: Err(SwapFault::BadSwap { at: 1 }),
+    },
+    Swaps {
+        name: "one place twice",
+        one: &DELIVERED,
+        other: &DELIVERED,
+        places: &[1, 1],
+        answer: Ok(()),
+    },
+    Swaps {
+        name: "two steps of one node, once they are adjacent",
+        one: &DELIVERED,
+        other: &DELIVERED,
+        places: &[1, 2],
+        answer: Err(SwapFault::BadSwap { at: 2 }),
+    },
+    Swaps {
+        name: "fewer steps",
+        one: &DELIVERED,
+        other: &ALICE_FIRST,
+        places: &[],
+        answer: Err(SwapFault::OtherSteps),
+    },
+    Swaps {
+        name: "a swap that leads away",
+        one: &ALICE_FIRST,
+        other: &ALICE_FIRST,
+        places: &[1],
+        answer: Err(SwapFault::OtherSteps),
+    },
+];
+
+fn answers<'a, B: Allocator>(rt: &impl Abort, alloc: &'a B, swaps: &Swaps) {
+    let one = played(rt, alloc, Limits::usual(), swaps.one, swaps.name);
+    let other = played(rt, alloc, Limits::usual(), swaps.other, swaps.name);
+    let answer = same_cluster(&one, &other, swaps.places);
+    holds(rt, answer == swaps.answer, swaps.name);
+}
+
+#[test]
+fn swaps_lead_from_one_bench_to_another(rt: HostRuntime) {
+    let heap = rt.alloc();
+    for swaps in &SWAPS {
+        answers(&rt, &heap, swaps);
+    }
+}
+
+#[test]
+fn a_bench_with_another_limit_is_another(rt: HostRuntime) {
+    let heap = rt.alloc();
+    let one = played(&rt, &heap, Limits::usual(), &ALICE_FIRST, "usual limits");
+    let limits = limits_of(&rt, [100_000, 10_000, 9, 10_000], "a clock of 9");
+    let other = played(&rt, &heap, limits, &ALICE_FIRST, "a clock of 9");
+    assert!(rt; same_cluster(&one, &other, &[9]) == Err(SwapFault::OtherBench));
+}
+
+/// Answers with this request for memory refused alone.
+fn answer_refused<'a>(
+    heap: &'a Refusing<Global>,
+    one: &Bench<'a, Refusing<Global>>,
+    other: &Bench<'a, Refusing<Global>>,
+    number: u64,
+) -> Result<(), SwapFault> {
+    heap.refuse_only(number);
+    let answer = same_cluster(one, other, &[1]);
+    heap.refuse_none();
+    answer
+}
+
+#[test]
+fn swaps_are_told_from_want_of_memory(rt: HostRuntime) {
+    let heap = Refusing::new(rt.alloc());
+    let one = played(&rt, &heap, Limits::usual(), &ALICE_FIRST, "one order");
+    let other = played(&rt, &heap, Limits::usual(), &BOB_FIRST, "the other order");
+    let mut refused = 0;
+    while refused < 10 && answer_refused(&heap, &one, &other, refused + 1) != Ok(()) {
+        let answer = answer_refused(&heap, &one, &other, refused + 1);
+        assert!(rt; answer == Err(SwapFault::OutOfMemory));
+        refused += 1;
+    }
+    assert!(rt; 0 < refused && refused < 10);
+}
+
+const FIRST_MESSAGE_FIRST: [Row; 9] = [
+    (0, Call::Join(1, Shown::Alice), Reply::Taken(1)),
+    (0, Call::Broadcast, Reply::Taken(2)),
+    (0, Call::Join(2, Shown::Bob), Reply::Taken(3)),
+    (0, Call::Broadcast, Reply::Taken(4)),
+    (1, Call::Up(0), Reply::Taken(5)),
+    (1, Call::Deliver(0, 1), Reply::Taken(6)),
+    (1, Call::Deliver(0, 1), Reply::Taken(7)),
+    (1, Call::Deliver(0, 2), Reply::Taken(8)),
+    (1, Call::Deliver(0, 2), Reply::Taken(9)),
+];
+
+const SECOND_MESSAGE_FIRST: [Row; 9] = [
+    (0, Call::Join(1, Shown::Alice), Reply::Taken(1)),
+    (0, Call::Broadcast, Reply::Taken(2)),
+    (0, Call::Join(2, Shown::Bob), Reply::Taken(3)),
+    (0, Call::Broadcast, Reply::Taken(4)),
+    (1, Call::Up(0), Reply::Taken(5)),
+    (1, Call::Deliver(0, 2), Reply::Taken(6)),
+    (1, Call::Deliver(0, 2), Reply::Taken(7)),
+    (1, Call::Deliver(0, 1), Reply::Taken(8)),
+    (1, Call::Deliver(0, 1), Reply::Taken(9)),
+];
+
+/// Whether a node is the same in both benches.
+fn has_same_node<'a, B: Allocator>(
+    rt: &impl Abort,
+    one: &Bench<'a, B>,
+    other: &Bench<'a, B>,
+    number: u16,
+) -> bool {
+    let node = other.node(number).expect(rt, "a node");
+    one.node(number).expect(rt, "a node").same(node)
+}
+
+#[test]
+fn two_messages_come_in_either_order_and_twice(rt: HostRuntime) {
+    let heap = rt.alloc();
+    let one = played(
+        &rt,
+        &heap,
+        Limits::usual(),
+        &FIRST_MESSAGE_FIRST,
+        "in order",
+    );
+    let other = played(
+        &rt,
+        &heap,
+        Limits::usual(),
+        &SECOND_MESSAGE_FIRST,
+        "the second first",
+    );
+    assert!(rt; has_same_node(&rt, &one, &other, 1));
+}
