@@ -15,3 +15,4 @@ pub mod Openings
 pub mod Invariant
 pub mod InTurn
 pub mod Gone
+pub mod Replays
