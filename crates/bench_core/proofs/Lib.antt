@@ -21,3 +21,4 @@ pub mod Movables
 pub mod Sound
 pub mod OneEntry
 pub mod Deliveries
+pub mod Replays

@@ -14,3 +14,4 @@ pub mod Laws
 pub mod Headline
 pub mod Unwinds
 pub mod Benches
+pub mod Replays

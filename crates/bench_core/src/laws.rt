@@ -2,6 +2,7 @@
 //!
 //! A crate above uses a law by calling its function.
 ghost use Rattle.bench_core.specs.Headline.{BackLaw, GivenLaw, UndoLaw};
+ghost use Rattle.bench_core.specs.Replays.{ReplayLaw};
 ghost use Rattle.bench_core.specs.Unwinds.{LeastLaw, UndoneInTurnLaw};
 ghost use Rattle.bench_core.specs.Laws.{ChainLaw, ExchangeLaw, LoopLaw, MiddleLaw, OneEntryLaw, OwnRunLaw, PlacesLaw, RepeatLaw, SwapLaw};
 
@@ -52,4 +53,10 @@ pub fn delivery_law()
     ensures one_entry { OneEntryLaw }
     ensures exchanged { ExchangeLaw }
     ensures repeated { RepeatLaw }
+{}
+
+/// The recorded calls of a reached machine, asked again from the opening on, are each answered as before and recorded, and
+/// lead to the same state.
+pub fn replay_law()
+    ensures { ReplayLaw }
 {}

@@ -2,10 +2,12 @@
 use crate::chosen::{Choice, Subcommand};
 use crate::line::choice;
 use crate::program::program;
+use crate::run::run;
 use bench_core::Limits;
 use clap::error::ErrorKind;
 use script_core::{FakeReader, FakeWriter};
 use std::alloc::Allocator;
+use std::process::Termination;
 use test_alloc::Refusing;
 
 const JOINED: &str = "nodes a b\na join 1 r alice phone\na undo 1\n";
@@ -191,8 +193,8 @@ fn want_of_memory_prints_nothing(rt: HostRuntime) {
 /// The words of the tests' own command line choose nothing.
 #[test]
 fn run_ends_with_the_status(rt: HostRuntime) {
-    let ended = crate::run(&rt);
+    let code = run(&rt).report(&rt);
     let mut text = String::new(rt.alloc());
-    assert!(rt; write!(text, "{ended:?}").is_ok());
+    assert!(rt; write!(text, "{code:?}").is_ok());
     assert!(rt; text.as_str() == "ExitCode(unix_exit_status(2))");
 }

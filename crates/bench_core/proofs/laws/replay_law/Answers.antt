@@ -1,0 +1,5 @@
+use Rattle.bench_core.proofs.Replays.{replay_holds}
+use Rattle.bench_core.proofs.laws.replay_law.Goals as goal
+
+pub returns : goal.returns
+returns c = replay_holds

@@ -1,0 +1,47 @@
+//! `run`: the program on the runtime's words and standard streams.
+use crate::program;
+use bench_core::Limits;
+use std::process::{ExitCode, Termination};
+use std::{env, io};
+
+/// How the program ended. Only `run` makes one, so that a `main` which gives one back ran the program and keeps its status.
+#[derive(Drop, Debug)]
+pub struct Ended {
+    status: u8,
+}
+
+impl Termination for Ended {
+    fn report<R: io::Eprint>(self, _rt: &R) -> ExitCode {
+        ExitCode::from(self.status)
+    }
+}
+
+/// Does what the words after the program's name ask.
+pub fn run(rt: &HostRuntime) -> Ended {
+    Ended {
+        status: status(rt),
+    }
+}
+
+/// The status of `program`. Words that can't be read choose nothing.
+fn status(rt: &HostRuntime) -> u8 {
+    let words = match env::args(rt) {
+        Ok(words) => words,
+        Err(fault) if fault.kind() == io::ErrorKind::OutOfMemory => return 4,
+        Err(_) => return 2,
+    };
+    let Ok(words) = words.skip(1).collect::<Vec<String>>(rt.alloc()) else {
+        return 4;
+    };
+    let mut output = io::writer(rt);
+    let mut errors = rt.stderr();
+    program::program(
+        rt.alloc(),
+        &rt.alloc(),
+        &words,
+        &mut rt.reader(),
+        &mut output,
+        &mut errors,
+        Limits::usual(),
+    )
+}
