@@ -136,8 +136,9 @@ own_is_not_other r d e = and_right (is_known r d.name) _ (ap not (eq-eqb d.name 
 
 pub own_entry-merged : (m : Message) (r : Replica) (d : Dot) → d.name ≡ r.own → fin.get (merged m r).store.entries d ≡ fin.get r.store.entries d
 own_entry-merged m r d mine =
-    get-merged (is_other_known r) (store_of m) r.store d ∙ ap (λ k. entry_after k (set.contains r.store.seen d) (fin.get r.store.entries d) (set.contains m.seen d)
-    (fin.get m.entries d)) (own_is_not_other r d mine)
+    get-merged (is_other_known r) (store_of m) r.store d
+    ∙ ap (λ k. entry_after k (set.contains r.store.seen d) (fin.get r.store.entries d) (set.contains m.seen d) (fin.get m.entries d))
+    (own_is_not_other r d mine)
 
 pub once_merged : (m : Message) (r : Replica) → IsOnce r → IsOnce (merged m r)
 once_merged m r once = once_kept r (merged m r) refl (λ d p mine h. sym (own_entry-merged m r d mine) ∙ h) once
