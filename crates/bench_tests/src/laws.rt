@@ -2,21 +2,18 @@
 ghost use Rattle.std.specs.Prelude.{◌≡◌, ℕ, List, Ok, Some, None, length, map};
 ghost use Rattle.journal_core.specs.Journals.{Kept, NumbersRise, steps_before, find_number, first_consequence, own_steps, without};
 ghost use Rattle.journal_core.specs.Futures.{IsFuture};
-ghost use Rattle.dots_core.specs.declared.dot.Dot.{Dot};
-ghost use Rattle.payload_core.specs.Presences.{Presence};
 ghost use Rattle.node_core.specs.Nodes.{Node, opening_node};
 ghost use Rattle.bench_core.specs.declared.reply.Reply.TheVariants.{Undone};
 ghost use Rattle.bench_core.specs.Limits.{node_limits};
 ghost use Rattle.bench_core.specs.Clusters.{Cluster};
 ghost use Rattle.bench_core.specs.Runs.{runs};
-ghost use Rattle.bench_core.specs.Laws.{with_node_of, Stands};
-ghost use Rattle.bench_core.specs.Swaps.{AreEquivalent};
+ghost use Rattle.bench_core.specs.Laws.{with_node_of};
 ghost use Rattle.bench_core.specs.Chains.{OwnChains};
 ghost use Rattle.bench_core.specs.Machine.{cluster_of, config_of, replies_of};
 ghost use Rattle.bench_core.specs.Unwinds.{undos};
 
 use crate::calls::open;
-use bench_core::laws::{chain_law, delivery_law, headline_law, middle_law, swap_law, unwind_law};
+use bench_core::laws::{chain_law, headline_law, middle_law, unwind_law};
 use bench_core::{Bench, Journal, Limits};
 use std::alloc::Allocator;
 
@@ -58,23 +55,6 @@ fn can_be_unwound<'a, B: Allocator>(bench: &Bench<'a, B>, number: u64)
     unwind_law();
 }
 
-/// Steps to which swaps of adjacent independent steps lead give the same cluster.
-fn can_be_swapped<'a, B: Allocator>(bench: &Bench<'a, B>)
-    ensures { (ks : List Kept) (c : Cluster) → cluster_of bench.now ≡ Ok c → AreEquivalent bench.now.state.remaining ks →
-        runs (node_limits bench.now.limits) (length bench.now.names) ks ≡ Ok c }
-{
-    let _ = bench.limits();
-    swap_law();
-}
-
-/// Entries of one dot are equal, wherever they stand.
-fn has_one_entry_a_dot<'a, B: Allocator>(bench: &Bench<'a, B>)
-    ensures { (c : Cluster) (d : Dot) (p q : Presence) → cluster_of bench.now ≡ Ok c → Stands c d p → Stands c d q → p ≡ q }
-{
-    let _ = bench.limits();
-    delivery_law();
-}
-
 #[test]
 fn laws_hold_of_a_bench(rt: HostRuntime) {
     let heap = rt.alloc();
@@ -82,7 +62,5 @@ fn laws_hold_of_a_bench(rt: HostRuntime) {
     runs_in_order(&bench);
     can_be_left_out(&bench, 1);
     can_be_unwound(&bench, 1);
-    can_be_swapped(&bench);
-    has_one_entry_a_dot(&bench);
     assert_eq!(rt; leads_back(&bench).len(), 0);
 }
