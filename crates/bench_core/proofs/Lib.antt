@@ -16,3 +16,4 @@ pub mod Invariant
 pub mod InTurn
 pub mod Gone
 pub mod Replays
+pub mod NoMemory
