@@ -22,3 +22,4 @@ pub mod Sound
 pub mod OneEntry
 pub mod Deliveries
 pub mod Replays
+pub mod NoMemory

@@ -1,5 +1,8 @@
 -- Recorded calls asked again, of a bench that was just opened.
-use Rattle.std.specs.Prelude.{◌≡◌, true, List, [], ◌∷◌}
+use Rattle.std.specs.Prelude.{◌≡◌, ◌≢◌, ℕ, true, List, [], ◌∷◌}
+use Rattle.bench_core.specs.declared.reply.Reply.TheVariants.{Refused}
+use Rattle.bench_core.specs.declared.fault.Fault.TheVariants.{OutOfMemory}
+use Rattle.bench_core.specs.Acts.{Action}
 use Rattle.bench_core.specs.Machine.{Config, State, Event, opening_state, reply_to, is_recorded, after}
 use Rattle.bench_core.specs.Headline.{IsReached}
 
@@ -15,3 +18,7 @@ Replays c old (e ∷ es) new = Records c old e × Replays c (after c old e.actor
 -- a reached state is that of its recorded calls, asked again from the opening on: those that weren't recorded changed nothing
 abbrev pub ReplayLaw : Type 0
 ReplayLaw = (c : Config) (s : State) → IsReached c s → Replays c opening_state s.history s
+
+-- the machine's reply is never want of memory
+abbrev pub NoMemoryLaw : Type 0
+NoMemoryLaw = (c : Config) (s : State) (actor : ℕ) (act : Action) → reply_to c s actor act ≢ Refused OutOfMemory

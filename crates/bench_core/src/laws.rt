@@ -2,7 +2,7 @@
 //!
 //! A crate above uses a law by calling its function.
 ghost use Rattle.bench_core.specs.Headline.{BackLaw, GivenLaw, UndoLaw};
-ghost use Rattle.bench_core.specs.Replays.{ReplayLaw};
+ghost use Rattle.bench_core.specs.Replays.{NoMemoryLaw, ReplayLaw};
 ghost use Rattle.bench_core.specs.Unwinds.{LeastLaw, UndoneInTurnLaw};
 ghost use Rattle.bench_core.specs.Laws.{ChainLaw, ExchangeLaw, LoopLaw, MiddleLaw, OneEntryLaw, OwnRunLaw, PlacesLaw, RepeatLaw, SwapLaw};
 
@@ -56,7 +56,8 @@ pub fn delivery_law()
 {}
 
 /// The recorded calls of a reached machine, asked again from the opening on, are each answered as before and recorded, and
-/// lead to the same state.
+/// lead to the same state. None of them is answered by want of memory.
 pub fn replay_law()
-    ensures { ReplayLaw }
+    ensures replayed { ReplayLaw }
+    ensures no_memory { NoMemoryLaw }
 {}

@@ -1,5 +1,5 @@
 //! `Names`: the names of the nodes, with their numbers.
-ghost use Rattle.std.specs.Prelude.{◌≡◌, ◌↔◌, ◌⊎◌, ◌<◌, ◌≤◌, Err, length, map, slice_get, option_copied, IsTrue, IfOk};
+ghost use Rattle.std.specs.Prelude.{◌≡◌, ◌↔◌, ◌⊎◌, ◌<◌, ◌≤◌, Err, Ok, length, map, slice_get, option_copied, IsTrue, IfOk};
 ghost use Rattle.std.specs.List.{list_all};
 ghost use Rattle.payload_core.specs.Answers.{GivesUnless};
 ghost use Rattle.bench_core.specs.NameText.{is_name, is_name_byte};
@@ -95,6 +95,13 @@ impl<A: Allocator> Names<A> {
         ensures { option_copied result ≡ slice_get self.now number }
     {
         self.texts.text(number as usize)
+    }
+
+    /// Does nothing. Its contract says what all names keep.
+    pub fn names_law(&self)
+        ensures { names_of self.now ≡ Ok self.now }
+    {
+        let _ = &self.texts;
     }
 
     /// Whether the names and their order are the same.
