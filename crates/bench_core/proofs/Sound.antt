@@ -14,13 +14,14 @@ use Rattle.payload_core.specs.Presences.{Presence, Entries}
 use Rattle.payload_core.specs.Messages.{Message, AreSeen}
 use Rattle.payload_core.proofs.EntryMaps.{get-names, get_inserted, get_insert_other, get_remove_other}
 use Rattle.payload_core.proofs.SeenEntries.{seen_none, seen-insert, seen-remove, seen-names}
+use Rattle.payload_core.proofs.StoreMerges.{entry_after, get-merged, contains-merged}
+use Rattle.payload_core.specs.Stores.{is_other, store_of}
 use Rattle.payload_core.proofs.TrackedDots.{EachPasses, dots_of_pass}
 use Rattle.replica_core.specs.declared.node_limits.NodeLimits.{NodeLimits}
 use Rattle.replica_core.specs.declared.status.Status.{Status}
-use Rattle.replica_core.specs.Replicas.{Replica, opening, fresh, own_dots, joined, dropped, ticked, left, left_each, dropped_each, with_status, is_other}
+use Rattle.replica_core.specs.Replicas.{Replica, opening, fresh, own_dots, joined, dropped, ticked, left, left_each, dropped_each, with_status}
 use Rattle.replica_core.specs.Replicas.{forgotten, without_delta}
 use Rattle.replica_core.specs.Deliveries.{is_other_known, merged}
-use Rattle.replica_core.proofs.Deliveries.{entry_after, get-merged, contains-merged}
 use Rattle.replica_core.proofs.Once.{inserted_entry, removed_entry, own_is_not_other, own_entry-merged}
 
 -- the own dots have the clocks from 1 on, entries' dots were seen, and the delta has own dots and live entries
@@ -237,16 +238,17 @@ entry_cases true false false e None p h = inl h
 module _ (r : Replica) (m : Message) where
   merged_cases : (d : Dot) (p : Presence) → fin.get (merged m r).store.entries d ≡ Some p →
       (fin.get r.store.entries d ≡ Some p) ⊎ ((is_other_known r d.name ≡ true) × (fin.get m.entries d ≡ Some p))
-  merged_cases d p e = entry_cases _ _ _ _ _ p (sym (get-merged m r d) ∙ e)
+  merged_cases d p e = entry_cases _ _ _ _ _ p (sym (get-merged (is_other_known r) (store_of m) r.store d) ∙ e)
 
   merged_more : (d : Dot) → set.contains r.store.seen d ≡ true → set.contains (merged m r).store.seen d ≡ true
-  merged_more d e = contains-merged m r d ∙ ap (λ b. b || (is_other_known r d.name && set.contains m.seen d)) e
+  merged_more d e = contains-merged (is_other_known r) (store_of m) r.store d ∙ ap (λ b. b || (is_other_known r d.name && set.contains m.seen d)) e
 
   merged_too : (d : Dot) → is_other_known r d.name ≡ true → set.contains m.seen d ≡ true → set.contains (merged m r).store.seen d ≡ true
-  merged_too d known e = contains-merged m r d ∙ ap (λ b. set.contains r.store.seen d || b) (and_from _ _ known e) ∙ or-true (set.contains r.store.seen d)
+  merged_too d known e = contains-merged (is_other_known r) (store_of m) r.store d
+      ∙ ap (λ b. set.contains r.store.seen d || b) (and_from _ _ known e) ∙ or-true (set.contains r.store.seen d)
 
   merged_own : (d : Dot) → d.name ≡ r.own → set.contains r.store.seen d ≡ set.contains (merged m r).store.seen d
-  merged_own d e = sym (contains-merged m r d ∙ ap (λ b. set.contains r.store.seen d || (b && set.contains m.seen d))
+  merged_own d e = sym (contains-merged (is_other_known r) (store_of m) r.store d ∙ ap (λ b. set.contains r.store.seen d || (b && set.contains m.seen d))
       (own_is_not_other r d e) ∙ or-false (set.contains r.store.seen d))
 
   pub change_merged : IsSound r → AreSeen m.seen m.entries → Change r (Some m) None (merged m r)
