@@ -9,13 +9,6 @@ use Rattle.journal_core.specs.Causes.{Causes, HasMessage, HasDeliveryRoom, AreSa
 use Rattle.journal_core.specs.Rooms.{KeepsRoom, HasDeliveryRoomIfThere, IsPromised, ArePromised}
 use Rattle.journal_core.proofs.Indexed.{indexed_same}
 
-pub keeps_both : (bs cs ds : List Causes) → KeepsRoom bs cs → KeepsRoom cs ds → KeepsRoom bs ds
-keeps_both bs cs ds one two = record {
-  nodes = λ n. let a = one.nodes n in let b = two.nodes n in omega arith;
-  shorter = λ n. let a = one.shorter n in let b = two.shorter n in omega arith;
-  messages = λ n p low h. two.messages n p low (one.messages n p (let b = two.shorter n in omega arith) h);
-}
-
 delivery_keeps : (cs ds : List Causes) (d : Option (ℕ × ℕ)) → KeepsRoom cs ds → HasDeliveryRoomIfThere d cs → HasDeliveryRoomIfThere d ds
 delivery_keeps cs ds None keeps h = tt
 delivery_keeps cs ds (Some m) keeps h =

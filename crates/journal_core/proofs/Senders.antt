@@ -8,16 +8,14 @@ use Rattle.std.proofs.lemmas.Bool.{cases_eq, cases_lt, eqb-true, ne_eqb, eq-eqb,
 use Rattle.std.proofs.lemmas.List.Elements.{filter-append}
 use Rattle.payload_core.specs.Messages.{numbered}
 use Rattle.node_core.specs.Operations.{Operation, delivers, sends}
-use Rattle.node_core.specs.Inverses.{Inverse}
 use Rattle.journal_core.specs.Journals.{Kept, NumbersRise, AreBelow, sent_by, sender_of, source_at, source_of, IsSentBefore, AreSentBefore}
-use Rattle.journal_core.specs.Journals.{AreInCausalOrder, is_number, delivers_from, is_consequence, find_number, first_consequence, without}
+use Rattle.journal_core.specs.Journals.{AreInCausalOrder, is_number, delivers_from, is_consequence, find_number, without}
 use Rattle.journal_core.specs.Journals.{steps_before}
-use Rattle.journal_core.specs.Holdings.{Held, HasSender, IsLent, kepts, with_inverse, without_held}
+use Rattle.journal_core.specs.Holdings.{HasSender}
 use Rattle.journal_core.proofs.Each.{each_push, each_front, each_rest, each_imp, each_both, each_where, each_filter, each_find, NoneOf}
-use Rattle.journal_core.proofs.Each.{none_follows}
 use Rattle.journal_core.proofs.Numbered.{get-append_at, numbered_append, numbered_push_other}
-use Rattle.journal_core.proofs.Rising.{kepts-append, kepts_with, rises_push, below_more, rises_filter, below_part}
-use Rattle.journal_core.proofs.Split.{Split, split, found_kept, kepts_out}
+use Rattle.journal_core.proofs.Rising.{rises_push, below_more, rises_filter, below_part}
+use Rattle.journal_core.proofs.Split.{Split, split}
 
 below_at : (n : ℕ) (ks : List Kept) (i : ℕ) (k : Kept) → AreBelow n ks → slice_get ks i ≡ Some k → k.number < n
 below_at n [] i k all h = absurd (cc)
@@ -184,20 +182,3 @@ order_without ks n k found none order =
         IsSentBefore (without ks n) x.number (delivers x.step)
     sent x free h =
         stays x.number (delivers x.step) (or_parts ((k.node == x.node) && nat_lt k.number x.number) (delivers_from ks x k) free).1 h
-
-pub order_kept : (hs : List Held) (h : Held) → 0 < h.kept.number → AreBelow h.kept.number (kepts hs) →
-    HasSender (kepts hs) (delivers h.kept.step) → AreInCausalOrder (kepts hs) → AreInCausalOrder (kepts (hs ++ h ∷ []))
-order_kept hs h low below sender order =
-    subst AreInCausalOrder (sym (kepts-append hs (h ∷ []))) (order_more (kepts hs) h.kept low below sender order)
-
-pub order_lent : (hs : List Held) (n : ℕ) (o : Option Inverse) → AreInCausalOrder (kepts hs) →
-    AreInCausalOrder (kepts (with_inverse hs n o))
-order_lent hs n o order = subst AreInCausalOrder (sym (kepts_with hs n o)) order
-
-pub order_out : (hs : List Held) (n : ℕ) → IsLent hs n → first_consequence (kepts hs) n ≡ None → AreInCausalOrder (kepts hs) →
-    AreInCausalOrder (kepts (without_held hs n))
-order_out hs n lent free order =
-    let h : Held = record { kept = lent.0; inverse = None } in
-    let found = found_kept hs n h lent.1 in
-    subst AreInCausalOrder (sym (kepts_out 0 hs n h order.0 lent.1))
-    (order_without (kepts hs) n lent.0 found (none_follows (kepts hs) n lent.0 found free) order)

@@ -16,6 +16,7 @@ use crate::kept::Kept;
 use crate::numbers::least;
 use crate::room::Room;
 use crate::slots::Slots;
+use crate::steps::Steps;
 use node_core::{Inverse, Oom, Step};
 use std::alloc::Allocator;
 use std::marker::Model;
@@ -82,6 +83,13 @@ impl<'a, B: Allocator> Journal<'a, B> {
             Some(held) => Some(held.kept()),
             None => None,
         }
+    }
+
+    /// A walk over the steps that remain, in order.
+    pub fn steps(&self) -> Steps<'_, 'a, B>
+        ensures { result ≡ kepts self.now.steps }
+    {
+        self.slots.steps()
     }
 
     /// The step of this number.

@@ -2,9 +2,9 @@
 //!
 //! It stands on `node_core` (steps and inverses as values; what a step delivers and whether it sends), and knows nothing of
 //! nodes and what they hold. In the order to read them: `kept`, a step with its number; `held`, a kept step with its
-//! inverse; `numbers`, rising lists of numbers; `slots`, the held steps by number; `causes`, of one node the index of what its
-//! steps caused, and `edits` of the indices of all nodes; `room`, for which steps to come there is room; `future`, what
-//! follows from a step; `journal`; `laws`.
+//! inverse; `numbers`, rising lists of numbers; `slots`, the held steps by number; `steps`, a walk over them; `causes`, of
+//! one node the index of what its steps caused, and `edits` of the indices of all nodes; `room`, for which steps to come
+//! there is room; `future`, what follows from a step; `journal`; `laws`.
 #![tactic(auto)]
 
 mod causes;
@@ -17,7 +17,9 @@ pub mod laws;
 mod numbers;
 mod room;
 mod slots;
+mod steps;
 
 pub use journal::Journal;
 pub use kept::Kept;
 pub use node_core::Oom;
+pub use steps::Steps;

@@ -3,11 +3,12 @@ ghost use Rattle.std.specs.Prelude.{◌≡◌, ◌≤◌, ◌++◌, ◌∷◌, [
 ghost use Rattle.std.specs.Prelude.{length, slice_set, vec_len, vec_capacity};
 ghost use Rattle.node_core.specs.Inverses.{plain_inverse};
 ghost use Rattle.journal_core.specs.Numbers.{Rises};
-ghost use Rattle.journal_core.specs.Holdings.{find_held, inverse_of, with_inverse, without_held};
+ghost use Rattle.journal_core.specs.Holdings.{kepts, find_held, inverse_of, with_inverse, without_held};
 ghost use Rattle.journal_core.specs.Slots.{steps_in, IsAboveAll, AreAligned, ends_empty, lent_in, count_in};
 
 use crate::held::Held;
 use crate::numbers::place;
+use crate::steps::Steps;
 use node_core::{Inverse, Oom};
 use std::alloc::Allocator;
 use std::marker::Model;
@@ -68,6 +69,13 @@ impl<'a, B: Allocator> Slots<'a, B> {
         } else {
             step_at(self.slots.as_slice(), place)
         }
+    }
+
+    /// A walk over the steps, in order.
+    pub(crate) fn steps(&self) -> Steps<'_, 'a, B>
+        ensures { result ≡ kepts self.now.steps }
+    {
+        Steps::of(self.slots.as_slice())
     }
 
     /// The step of this number.

@@ -231,6 +231,41 @@ fn a_loan_ends_in_two_ways(rt: HostRuntime) {
     assert!(rt; journal.len() == 0 && journal.find(1).is_none());
 }
 
+/// Two steps, of which the first is taken out.
+fn a_step_taken_out_before_another<'a, B: Allocator>(
+    rt: &impl Abort,
+    alloc: &'a B,
+) -> Journal<'a, B> {
+    let mut journal = opened(rt, alloc, 2);
+    let up = Step::Up { name: 1 };
+    keeps(rt, &mut journal, 1, 0, up, inverse(rt, alloc));
+    let up = Step::Up { name: 0 };
+    keeps(rt, &mut journal, 2, 1, up, inverse(rt, alloc));
+    let is_free = journal.first_consequence(1) == None;
+    assert!(rt; is_free);
+    lends_and_takes_out(rt, &mut journal, 1);
+    journal
+}
+
+/// Whether these are the numbers of the steps, by a walk and by their places.
+fn are_numbers<'a, B: Allocator>(journal: &Journal<'a, B>, expected: &[u64]) -> bool {
+    let mut steps = journal.steps();
+    for (place, number) in expected.iter().enumerate() {
+        match (steps.next(), journal.at(place)) {
+            (Some(next), Some(at)) if next.number == *number && at.number == *number => (),
+            _ => return false,
+        }
+    }
+    steps.next().is_none()
+}
+
+#[test]
+fn a_walk_meets_the_steps_that_remain(rt: HostRuntime) {
+    let heap = rt.alloc();
+    assert!(rt; are_numbers(&four_steps(&rt, &heap), &[1, 2, 3, 4]));
+    assert!(rt; are_numbers(&a_step_taken_out_before_another(&rt, &heap), &[2]));
+}
+
 /// A step of the last of 32 nodes is its last one.
 #[test]
 fn each_of_32_nodes_has_its_steps(rt: HostRuntime) {

@@ -3,7 +3,7 @@ ghost use Rattle.std.specs.Prelude.{◌≡◌, ◌++◌, OnOk, string_bytes};
 ghost use Rattle.node_core.specs.Operations.{plain};
 ghost use Rattle.journal_core.specs.Holdings.{kepts};
 ghost use Rattle.script_core.specs.Rows.{name_at};
-ghost use Rattle.script_core.specs.StepText.{presence_text, chosen_text, extract_from, step_text, act_line, kept_line, kept_lines, place_line, journal_text};
+ghost use Rattle.script_core.specs.StepText.{presence_text, chosen_text, extract_from, step_text, act_line, kept_line, kept_lines, journal_text};
 
 use crate::rows::name_at;
 use bench_core::{Journal, Kept, Names, Step};
@@ -148,21 +148,6 @@ fn put_kept<A: Allocator, N: Allocator, W: Allocator>(
     Ok(text.push_str("\n")?)
 }
 
-/// The step at this place, from 0.
-fn put_place<'a, A: Allocator, N: Allocator, B: Allocator>(
-    text: &mut String<A>,
-    names: &Names<N>,
-    journal: &Journal<'a, B>,
-    place: usize,
-) -> Result<(), Oom>
-    ensures { OnOk result (string_bytes text.new ≡ string_bytes text.old ++ place_line names.now (kepts journal.now.steps) place) }
-{
-    match journal.at(place) {
-        Some(kept) => put_kept(text, names, kept),
-        None => Ok(()),
-    }
-}
-
 /// Each kept step on a line.
 #[tactic(auto, unfolding(crate::specs::StepText::kept_lines))]
 fn put_kepts<'a, A: Allocator, N: Allocator, B: Allocator>(
@@ -172,8 +157,9 @@ fn put_kepts<'a, A: Allocator, N: Allocator, B: Allocator>(
 ) -> Result<(), Oom>
     ensures { OnOk result (string_bytes text.new ≡ string_bytes text.old ++ kept_lines names.now (kepts journal.now.steps)) }
 {
-    for place in 0..journal.len() {
-        put_place(text, names, journal, place)?;
+    let mut steps = journal.steps();
+    while let Some(kept) = steps.next() {
+        put_kept(text, names, kept)?;
     }
     Ok(())
 }
