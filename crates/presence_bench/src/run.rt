@@ -18,9 +18,7 @@ impl Termination for Ended {
 
 /// Does what the words after the program's name ask.
 pub fn run(rt: &HostRuntime) -> Ended {
-    Ended {
-        status: status(rt),
-    }
+    Ended { status: status(rt) }
 }
 
 /// The status of `program`. Words that can't be read choose nothing.
