@@ -1,0 +1,100 @@
+-- The JSON of an event is read as that event, and a saved session as its parts.
+use Rattle.std.proofs.Common.{◌≡◌, ℕ, List, [], ◌∷◌, map, codes, Bool, true, false, ◌&&◌, Option, Some, None, Result, Ok, refl, ap, ap₂, ◌∙◌, arith}
+use Rattle.std.specs.Prelude.{nat_lt, nat_le, option_map, option_and_then}
+use Rattle.std.proofs.lemmas.Bool.{le-leb}
+use Rattle.serde_json.specs.Data.{Data, string, Items}
+use Rattle.serde_json.specs.View.{items_of}
+use Rattle.node_core.specs.Operations.{Operation, Join, Leave, LeaveAll, Update, Broadcast, Extract, Deliver, Up, Down, Permdown}
+use Rattle.bench_core.specs.declared.reply.Reply.{Reply}
+use Rattle.bench_core.specs.declared.reply.Reply.TheVariants.{Taken, Undone, Refused}
+use Rattle.bench_core.specs.declared.fault.Fault.{Fault}
+use Rattle.bench_core.specs.declared.fault.Fault.TheVariants.{OwnReplica, NotKnown, NotDown, AlreadyTracked, NotTracked, NothingToSend, EntriesFull}
+use Rattle.bench_core.specs.declared.fault.Fault.TheVariants.{ClockFull, OwnMessage, NoSuchMessage, OutboxFull, UnknownNode, NoSuchStep, AlreadyUndone}
+use Rattle.bench_core.specs.declared.fault.Fault.TheVariants.{NothingToUndo, HasConsequence, HistoryFull, OutOfMemory}
+use Rattle.bench_core.specs.Acts.{Action, Do, Undo, Back}
+use Rattle.bench_core.specs.Limits.{Limits, AreLimits}
+use Rattle.bench_core.specs.Machine.{Event}
+use Rattle.bench_core.specs.NameList.{Texts, names_of}
+use Rattle.session_core.specs.Format.{list, whole, numbers_of, act_json, reply_json, event_json, limits_json, session}
+use Rattle.session_core.specs.Decoding.{◌>>=◌, presence_at, leave_at, leave_all_at, extract_at, deliver_at, name_at, status_at, message_at, tracking_at, step_at}
+use Rattle.session_core.specs.Decoding.{undo_at, back_at, act_at, consequence_at, fault_at, counted_at, reply_at, event_at, are_limits, limits_at, texts_of}
+use Rattle.session_core.specs.Decoding.{if_ok, names_at, values_at, Parts, parts_at}
+use Rattle.session_core.specs.Sessions.{IsAction, IsRecordedFault, IsRecordedReply, IsTold}
+use Rattle.session_core.proofs.Numbers.{names_again}
+
+act_again : (a : Action) → IsAction a → act_at (act_json a) ≡ Some a
+unfolding act_at step_at tracking_at message_at status_at presence_at leave_at leave_all_at extract_at deliver_at name_at undo_at back_at
+act_again (Do (Join p)) h = rw (h.0, h.1, h.2) refl
+act_again (Do (Leave pid topic key)) h = rw (h.0, h.1) refl
+act_again (Do (LeaveAll pid)) h = refl
+act_again (Do (Update p)) h = rw (h.0, h.1, h.2) refl
+act_again (Do Broadcast) h = refl
+act_again (Do (Extract names)) h = rw (names_again names h) refl
+act_again (Do (Deliver sender k)) h = rw h refl
+act_again (Do (Up name)) h = rw h refl
+act_again (Do (Down name)) h = rw h refl
+act_again (Do (Permdown name)) h = rw h refl
+act_again (Undo k) h = refl
+act_again (Back n) h = rw h refl
+
+fault_again : (fault : Fault) → IsRecordedFault fault → reply_at (reply_json (Refused fault)) ≡ Some (Refused fault)
+unfolding reply_at fault_at consequence_at
+fault_again OwnReplica h = refl
+fault_again NotKnown h = refl
+fault_again NotDown h = refl
+fault_again AlreadyTracked h = refl
+fault_again NotTracked h = refl
+fault_again NothingToSend h = refl
+fault_again EntriesFull h = refl
+fault_again ClockFull h = refl
+fault_again OwnMessage h = refl
+fault_again NoSuchMessage h = refl
+fault_again OutboxFull h = refl
+fault_again UnknownNode h = refl
+fault_again NoSuchStep h = refl
+fault_again AlreadyUndone h = refl
+fault_again NothingToUndo h = refl
+fault_again (HasConsequence step held_by) h = refl
+fault_again HistoryFull h = absurd h
+fault_again OutOfMemory h = absurd h
+
+reply_again : (r : Reply) → IsRecordedReply r → reply_at (reply_json r) ≡ Some r
+unfolding reply_at counted_at
+reply_again (Taken n) h = refl
+reply_again (Undone n) h = refl
+reply_again (Refused fault) h = fault_again fault h
+
+pub event_again : (e : Event) → IsTold e → event_at (event_json e) ≡ Some e
+unfolding event_at
+event_again e told = rw (told.0.0, act_again e.act told.0.1, reply_again e.reply told.1) refl
+
+texts_again : (texts : Texts) → texts_of (items_of (map string texts)) ≡ Some texts
+texts_again [] = refl
+texts_again (text ∷ texts) = ap (λ o. o >>= λ rest. Some (text ∷ rest)) (texts_again texts)
+
+names_at_again : (names : Texts) → names_of names ≡ Ok names → names_at (items_of (map string names)) ≡ Some names
+names_at_again names is = ap (option_and_then (λ texts. if_ok (names_of texts))) (texts_again names) ∙ ap if_ok is
+
+are_in_range : (l : Limits) → AreLimits l → are_limits l ≡ true
+are_in_range l r = rw (
+  le-leb 1 l.acts r.acts_some,
+  le-leb l.acts 1000000 r.acts_few,
+  le-leb 1 l.entries r.entries_some,
+  le-leb l.entries 100000 r.entries_few,
+  le-leb 1 l.clock r.clock_some,
+  le-leb l.clock 1000000000 r.clock_few,
+  le-leb 1 l.messages r.messages_some,
+  le-leb l.messages 100000 r.messages_few,
+) refl
+
+limits_again : (l : Limits) → AreLimits l → limits_at (limits_json l) ≡ Some l
+unfolding limits_at
+limits_again l r = rw (are_in_range l r) refl
+
+abbrev pub parts : Texts → Limits → List Event → Parts
+parts names limits events = record { acts = items_of (map event_json events); limits = limits; names = names }
+
+pub parts_again : (names : Texts) (limits : Limits) (events : List Event) → names_of names ≡ Ok names → AreLimits limits →
+    parts_at (session names limits events) ≡ Some (parts names limits events)
+unfolding parts_at values_at
+parts_again names limits events is within = rw (names_at_again names is, limits_again limits within) refl

@@ -1,0 +1,12 @@
+pub mod Lists
+pub mod Numbers
+pub mod Steps
+pub mod Events
+pub mod Parts
+pub mod Shape
+pub mod Loops
+pub mod Replayed
+pub mod Again
+pub mod Asked
+pub mod ComesBack
+pub mod Told

@@ -1,0 +1,105 @@
+-- What is loaded is the session of the bench that it gives.
+use Rattle.std.proofs.Common.{◌≡◌, ℕ, List, [], ◌∷◌, ◌++◌, length, map, if◌then◌else◌, Some, Ok, Err, inr, refl, sym, ap, ap₂, subst, ◌∙◌, append_assoc, append-nil}
+use Rattle.std.specs.Prelude.{IfOk, Result, IsUtf8}
+use Rattle.serde_json.specs.Data.{Data, array, object, Items, no_items, item}
+use Rattle.serde_json.specs.Read.{read}
+use Rattle.serde_json.specs.View.{items_of}
+use Rattle.bench_core.specs.Limits.{Limits}
+use Rattle.bench_core.specs.NameList.{Texts}
+use Rattle.bench_core.specs.Histories.{note}
+use Rattle.bench_core.specs.Machine.{Config, State, Event, Machine, opening_state, config_of, with_state, is_recorded, after}
+use Rattle.bench_core.specs.Replays.{Records, Replays}
+use Rattle.session_core.specs.declared.session_fault.SessionFault.{SessionFault}
+use Rattle.session_core.specs.declared.session_fault.SessionFault.TheVariants.{NotJson, BadShape, BadVersion, Disagrees, OutOfMemory}
+use Rattle.session_core.specs.Format.{list, event_json, session}
+use Rattle.session_core.specs.Decoding.{Parts, version_of, parts_at, event_at}
+use Rattle.session_core.specs.Sessions.{with_event, first_bench, Reads, Faults, data_of, Gives, IsRefused, IsJson, Answers, IsSession}
+use Rattle.session_core.proofs.Events.{event_is}
+use Rattle.session_core.proofs.Parts.{parts_are}
+
+pub data_of-items_of : (ds : List Data) → data_of (items_of ds) ≡ ds
+data_of-items_of [] = refl
+data_of-items_of (d ∷ ds) = ap (λ xs. d ∷ xs) (data_of-items_of ds)
+
+items_of-data_of : (ds : Items) → items_of (data_of ds) ≡ ds
+items_of-data_of no_items = refl
+items_of-data_of (item d ds) = ap (item d) (items_of-data_of ds)
+
+-- from the loop over the acts to the answer
+
+abbrev parts : Texts → Limits → List Data → Parts
+parts names limits ds = record { acts = items_of ds; limits = limits; names = names }
+
+module _ (d : Data) (names : Texts) (limits : Limits) (ds : List Data) (one : version_of d ≡ Some 1) (is : parts_at d ≡ Some (parts names limits ds)) where
+  pub gives : (m : Machine) → Reads (first_bench (parts names limits ds)) ds m → Gives d m
+  gives m h = (one, (parts names limits ds, is, rw data_of-items_of h))
+
+  pub refused : (fault : SessionFault) → Faults 1 (first_bench (parts names limits ds)) ds fault → IsRefused d fault
+  refused NotJson h = absurd h
+  refused BadVersion h = absurd h
+  refused (BadShape k) h = inr (one, (parts names limits ds, is, rw data_of-items_of h))
+  refused (Disagrees k) h = (one, (parts names limits ds, is, rw data_of-items_of h))
+  refused OutOfMemory h = tt
+
+-- what the acts say, and where they lead
+
+-- a recorded event comes last in the history
+grown : (c : Config) (s : State) (e : Event) → Records c s e → (after c s e.actor e.act e.reply).history ≡ s.history ++ e ∷ []
+grown c s e recs = ap (λ b. if b then note e.actor e.act e.reply s.history else s.history) recs.1
+
+record Came (old : Machine) (ds : List Data) (new : Machine) : Type 0 where
+  events : List Event
+  values : ds ≡ map event_json events
+  names : new.names ≡ old.names
+  limits : new.limits ≡ old.limits
+  history : new.state.history ≡ old.state.history ++ events
+  replays : Replays (config_of old) old.state events new.state
+
+came : (old : Machine) (ds : List Data) (new : Machine) → Reads old ds new → Came old ds new
+came old [] new h = record {
+  events = [];
+  values = refl;
+  names = ap (λ (m : Machine). m.names) h;
+  limits = ap (λ (m : Machine). m.limits) h;
+  history = ap (λ (m : Machine). m.state.history) h ∙ sym (append-nil old.state.history);
+  replays = ap (λ (m : Machine). m.state) h;
+}
+came old (d ∷ ds) new (e, is, recs, h) =
+    let more = came (with_event old e) ds new h in
+    record {
+      events = e ∷ more.events;
+      values = ap₂ (λ (x : Data) (xs : List Data). x ∷ xs) (event_is d e is) more.values;
+      names = more.names;
+      limits = more.limits;
+      history = more.history ∙ ap (λ (es : List Event). es ++ more.events) (grown (config_of old) old.state e recs)
+          ∙ append_assoc old.state.history (e ∷ []) more.events;
+      replays = (recs, more.replays);
+    }
+
+-- the session of a bench, by parts
+session_same : (d : Data) (p : Parts) (names : Texts) (limits : Limits) (events : List Event) → version_of d ≡ Some 1 → parts_at d ≡ Some p →
+    names ≡ p.names → limits ≡ p.limits → array p.acts ≡ list (map event_json events) → d ≡ session names limits events
+session_same d p names limits events one is same_names same_limits acts = parts_are d p one is ∙ rw (same_names, same_limits, acts) refl
+
+module _ (p : Parts) (m : Machine) (c : Came (first_bench p) (data_of p.acts) m) where
+  same_config : config_of (first_bench p) ≡ config_of m
+  same_config = ap₂ (λ (names : Texts) (limits : Limits). record { nodes = length names; limits = limits }) (sym c.names) (sym c.limits)
+
+  opened : Replays (config_of m) opening_state m.state.history m.state
+  opened =
+      subst (λ (es : List Event). Replays (config_of m) opening_state es m.state) (sym c.history)
+      (subst (λ (k : Config). Replays k opening_state c.events m.state) same_config c.replays)
+
+pub session_of : (d : Data) (m : Machine) → Gives d m → (d ≡ session m.names m.limits m.state.history) × Replays (config_of m) opening_state m.state.history m.state
+session_of d m h =
+    let p = h.1.0 in
+    let c = came (first_bench p) (data_of p.acts) m h.1.2 in
+    let acts : array p.acts ≡ list (map event_json m.state.history) = ap array (sym (items_of-data_of p.acts)) ∙ ap list c.values
+    ∙ ap (λ (es : List Event). list (map event_json es)) (sym c.history) in
+    (session_same d p m.names m.limits m.state.history h.0 h.1.1 c.names c.limits acts, opened p m c)
+
+pub is_session : (bytes : List ℕ) (d : Data) (r : Result Machine SessionFault) → IsJson bytes d → Answers d r → IfOk r (IsSession bytes)
+is_session bytes d (Ok m) json h =
+    let s = session_of d m h in
+    record { utf8 = json.0; reads = json.1 ∙ ap Some s.0; replays = s.1 }
+is_session bytes d (Err e) json h = tt

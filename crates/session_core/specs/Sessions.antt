@@ -1,0 +1,158 @@
+-- What a load answers, and what a saved text is.
+use Rattle.std.specs.Prelude.{◌≡◌, ◌≢◌, ◌⊎◌, ℕ, ◌+◌, ◌<◌, nat_lt, Bool, true, false, List, [], ◌∷◌, length, Some, None, Option, Result, Ok, Err, IsUtf8}
+use Rattle.std.specs.List.{AllByRecursion}
+use Rattle.serde_json.specs.Data.{Data, Items, no_items, item}
+use Rattle.serde_json.specs.Read.{read}
+use Rattle.payload_core.specs.Words.{is_word}
+use Rattle.payload_core.specs.Presences.{Presence}
+use Rattle.node_core.specs.Operations.{Operation, Join, Leave, LeaveAll, Update, Broadcast, Extract, Deliver, Up, Down, Permdown}
+use Rattle.dots_core.specs.Names.{AreNamesBelow}
+use Rattle.bench_core.specs.declared.reply.Reply.{Reply}
+use Rattle.bench_core.specs.declared.reply.Reply.TheVariants.{Refused}
+use Rattle.bench_core.specs.declared.fault.Fault.{Fault}
+use Rattle.bench_core.specs.declared.fault.Fault.TheVariants as faults
+use Rattle.bench_core.specs.Acts.{Action, Do, Undo, Back}
+use Rattle.bench_core.specs.Limits.{AreLimits}
+use Rattle.bench_core.specs.Machine.{Config, State, Event, Machine, opening_state, opening_machine, config_of, with_state, reply_to, is_recorded, after}
+use Rattle.bench_core.specs.NameList.{names_of}
+use Rattle.bench_core.specs.Replays.{Records, Replays}
+use Rattle.session_core.specs.declared.session_fault.SessionFault.{SessionFault}
+use Rattle.session_core.specs.declared.session_fault.SessionFault.TheVariants.{NotJson, BadShape, BadVersion, Disagrees, OutOfMemory}
+use Rattle.session_core.specs.Format.{session}
+use Rattle.session_core.specs.Decoding.{Parts, version_of, parts_at, event_at}
+
+-- a bench after it recorded the event
+abbrev pub with_event : Machine → Event → Machine
+with_event m e = with_state m (after (config_of m) m.state e.actor e.act e.reply)
+
+-- the bench, asked the event's call, gives its reply and records it
+abbrev pub RecordsNext : Machine → Event → Type 0
+RecordsNext m e = Records (config_of m) m.state e
+
+-- from `old` on, the bench records the events that these values are, and comes to `new`
+abbrev pub Reads : Machine → List Data → Machine → Type 0
+Reads old [] new = new ≡ old
+Reads old (d ∷ ds) new = (e : Event) × (event_at d ≡ Some e) × RecordsNext old e × Reads (with_event old e) ds new
+
+-- whether the bench, asked the event's call, gave its reply and recorded it
+abbrev pub Asked : Event → Machine → Machine → Bool → Type 0
+Asked e old new true = RecordsNext old e × (new ≡ with_event old e)
+Asked e old new false = ¬ RecordsNext old e
+
+-- what the value d of act n does to a bench
+abbrev pub Steps : ℕ → Machine → Data → Result (Unit {0}) SessionFault → Machine → Type 0
+Steps n old d (Ok u) new = (e : Event) × (event_at d ≡ Some e) × RecordsNext old e × (new ≡ with_event old e)
+Steps n old d (Err (BadShape k)) new = (k ≡ n) × (event_at d ≡ None)
+Steps n old d (Err (Disagrees k)) new = (k ≡ n) × ((e : Event) × (event_at d ≡ Some e) × ¬ RecordsNext old e)
+Steps n old d (Err OutOfMemory) new = Unit {0}
+Steps n old d (Err NotJson) new = ⊥
+Steps n old d (Err BadVersion) new = ⊥
+
+-- the fault of the first value that is at fault, of values numbered from n
+abbrev pub Faults : ℕ → Machine → List Data → SessionFault → Type 0
+Faults n m ds OutOfMemory = Unit {0}
+Faults n m ds NotJson = ⊥
+Faults n m ds BadVersion = ⊥
+Faults n m [] fault = ⊥
+Faults n m (d ∷ ds) fault = Steps n m d (Err fault) m ⊎ ((e : Event) × (event_at d ≡ Some e) × RecordsNext m e × Faults (n + 1) (with_event m e) ds fault)
+
+abbrev pub data_of : Items → List Data
+data_of no_items = []
+data_of (item d ds) = d ∷ data_of ds
+
+-- the bytes are the JSON text of this value
+abbrev pub IsJson : List ℕ → Data → Type 0
+IsJson bytes d = IsUtf8 bytes × (read bytes ≡ Some d)
+
+-- the bench with which a session begins
+abbrev pub first_bench : Parts → Machine
+first_bench p = opening_machine p.names p.limits
+
+-- the value is a session, whose calls leave the bench
+abbrev pub Gives : Data → Machine → Type 0
+Gives d m = (version_of d ≡ Some 1) × ((p : Parts) × (parts_at d ≡ Some p) × Reads (first_bench p) (data_of p.acts) m)
+
+-- the value is no session, whatever its acts are
+abbrev pub IsMisshapen : Data → Type 0
+IsMisshapen d = (version_of d ≡ None) ⊎ ((version_of d ≡ Some 1) × (parts_at d ≡ None))
+
+-- an act of the value is at fault
+abbrev pub HasFault : Data → SessionFault → Type 0
+HasFault d fault = (version_of d ≡ Some 1) × ((p : Parts) × (parts_at d ≡ Some p) × Faults 1 (first_bench p) (data_of p.acts) fault)
+
+-- the case of each fault of a value
+abbrev pub IsRefused : Data → SessionFault → Type 0
+IsRefused d NotJson = ⊥
+IsRefused d BadVersion = (v : ℕ) × (version_of d ≡ Some v) × (v ≢ 1)
+IsRefused d (BadShape k) = ((k ≡ 0) × IsMisshapen d) ⊎ HasFault d (BadShape k)
+IsRefused d (Disagrees k) = HasFault d (Disagrees k)
+IsRefused d OutOfMemory = Unit {0}
+
+abbrev pub Answers : Data → Result Machine SessionFault → Type 0
+Answers d (Ok m) = Gives d m
+Answers d (Err fault) = IsRefused d fault
+
+-- the text is refused so: a fault comes only in its case, and no earlier one is met
+abbrev pub Refuses : List ℕ → SessionFault → Type 0
+Refuses bytes NotJson = IsUtf8 bytes → read bytes ≡ None
+Refuses bytes OutOfMemory = Unit {0}
+Refuses bytes fault = (d : Data) × IsJson bytes d × IsRefused d fault
+
+-- the text is the session of this bench: its names, limits and history, which the machine, opened so and asked these
+-- calls, records one by one and ends in its state
+pub record IsSession (bytes : List ℕ) (m : Machine) : Type 0 where
+  pub utf8 : IsUtf8 bytes
+  pub reads : read bytes ≡ Some (session m.names m.limits m.state.history)
+  pub replays : Replays (config_of m) opening_state m.state.history m.state
+
+-- what the parts of a bench keep by their types
+
+abbrev pub IsPresence : Presence → Type 0
+IsPresence p = (is_word p.topic ≡ true) × (is_word p.key ≡ true) × (is_word p.metadata ≡ true)
+
+abbrev pub IsOperation : Operation → Type 0
+IsOperation (Join p) = IsPresence p
+IsOperation (Leave pid topic key) = (is_word topic ≡ true) × (is_word key ≡ true)
+IsOperation (LeaveAll pid) = Unit {0}
+IsOperation (Update p) = IsPresence p
+IsOperation Broadcast = Unit {0}
+IsOperation (Extract names) = AreNamesBelow 32 names
+IsOperation (Deliver sender number) = nat_lt sender 65536 ≡ true
+IsOperation (Up name) = nat_lt name 65536 ≡ true
+IsOperation (Down name) = nat_lt name 65536 ≡ true
+IsOperation (Permdown name) = nat_lt name 65536 ≡ true
+
+abbrev pub IsAction : Action → Type 0
+IsAction (Do operation) = IsOperation operation
+IsAction (Undo k) = Unit {0}
+IsAction (Back node) = nat_lt node 65536 ≡ true
+
+-- its actor and the nodes that it names are numbers below 65,536, and its words are words
+abbrev pub IsEvent : Event → Type 0
+IsEvent e = (nat_lt e.actor 65536 ≡ true) × IsAction e.act
+
+-- the faults that a bench records
+abbrev pub IsRecordedFault : Fault → Type 0
+IsRecordedFault faults.HistoryFull = ⊥
+IsRecordedFault faults.OutOfMemory = ⊥
+IsRecordedFault _ = Unit {0}
+
+abbrev pub IsRecordedReply : Reply → Type 0
+IsRecordedReply (Refused fault) = IsRecordedFault fault
+IsRecordedReply _ = Unit {0}
+
+-- the event can be told by its JSON
+abbrev pub IsTold : Event → Type 0
+IsTold e = IsEvent e × IsRecordedReply e.reply
+
+-- the session of a bench, as it is saved
+pub record IsSaved (bytes : List ℕ) (m : Machine) : Type 0 where
+  pub session : IsSession bytes m
+  pub names : names_of m.names ≡ Ok m.names
+  pub limits : AreLimits m.limits
+  pub events : AllByRecursion IsTold m.state.history
+
+-- a saved bench comes back as it was, unless memory was refused
+abbrev pub ComesBack : Machine → Result Machine SessionFault → Type 0
+ComesBack m (Ok loaded) = loaded ≡ m
+ComesBack m (Err fault) = fault ≡ OutOfMemory

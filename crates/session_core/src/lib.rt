@@ -1,0 +1,25 @@
+//! Saved sessions: a bench's names, limits and recorded calls as JSON, and the bench that they give again.
+//!
+//! Stands on `bench_core` and on the kit's `serde_json`, whose values take their memory from the global heap. In the order
+//! to read them: `session_fault`; `write_act`, `write_reply` and `saving`, from a bench to its text; `unread`, `places`,
+//! `read_step`, `read_act`, `read_reply`, `read_event` and `read_parts`, from JSON values to what they say; `same_reply` and `loading`, which
+//! asks the calls again and compares each reply.
+#![tactic(auto)]
+
+mod loading;
+mod places;
+mod read_act;
+mod read_event;
+mod read_parts;
+mod read_reply;
+mod read_step;
+mod same_reply;
+mod saving;
+mod session_fault;
+mod unread;
+mod write_act;
+mod write_reply;
+
+pub use loading::load;
+pub use saving::save;
+pub use session_fault::SessionFault;

@@ -1,0 +1,215 @@
+//! The step that a JSON list asks, after the word `do`.
+ghost use Rattle.std.specs.Prelude.{◌≡◌, option_map};
+ghost use Rattle.serde_json.specs.View.{view, items_view};
+ghost use Rattle.dots_core.specs.Names.{Names};
+ghost use Rattle.node_core.specs.Operations.{plain, Join, Update, Up, Down, Permdown};
+ghost use Rattle.session_core.specs.Decoded.{Gives};
+ghost use Rattle.session_core.specs.Decoding.{presence_at, leave_at, leave_all_at, number_of, names_from, extract_at, deliver_at, name_at};
+ghost use Rattle.session_core.specs.Decoding.{status_at, message_at, tracking_at, step_at};
+ghost use Rattle.std.specs.FinSet as set;
+
+use crate::places::{ends_at, node_in, number_in, text_in, word_in};
+use crate::unread::Unread;
+use bench_core::Step;
+use dots_core::NameSet;
+use payload_core::Word;
+use serde_json::Value;
+use std::alloc::Allocator;
+
+/// What a join and an update say of a process.
+#[derive(Drop)]
+struct Presence<A: Allocator> {
+    pid: u64,
+    topic: Word<A>,
+    key: Word<A>,
+    metadata: Word<A>,
+}
+
+#[tactic(auto, unfolding(crate::specs::Decoding::presence_at))]
+fn presence_at<'a, B: Allocator>(alloc: &'a B, list: &Value) -> Result<Presence<&'a B>, Unread>
+    ensures { Gives (λ p. record { pid = p.pid; topic = p.topic; key = p.key; metadata = p.metadata }) result (presence_at (view list.now)) }
+{
+    let pid = number_in(list, 2)?;
+    let topic = word_in(alloc, list, 3)?;
+    let key = word_in(alloc, list, 4)?;
+    let metadata = word_in(alloc, list, 5)?;
+    if !ends_at(list, 6) {
+        return Err(Unread::Shape);
+    }
+    Ok(Presence {
+        pid,
+        topic,
+        key,
+        metadata,
+    })
+}
+
+fn join_at<'a, B: Allocator>(alloc: &'a B, list: &Value) -> Result<Step<&'a B>, Unread>
+    ensures { Gives plain result (option_map Join (presence_at (view list.now))) }
+{
+    let Presence {
+        pid,
+        topic,
+        key,
+        metadata,
+    } = presence_at(alloc, list)?;
+    Ok(Step::Join {
+        pid,
+        topic,
+        key,
+        metadata,
+    })
+}
+
+fn update_at<'a, B: Allocator>(alloc: &'a B, list: &Value) -> Result<Step<&'a B>, Unread>
+    ensures { Gives plain result (option_map Update (presence_at (view list.now))) }
+{
+    let Presence {
+        pid,
+        topic,
+        key,
+        metadata,
+    } = presence_at(alloc, list)?;
+    Ok(Step::Update {
+        pid,
+        topic,
+        key,
+        metadata,
+    })
+}
+
+#[tactic(auto, unfolding(crate::specs::Decoding::leave_at))]
+fn leave_at<'a, B: Allocator>(alloc: &'a B, list: &Value) -> Result<Step<&'a B>, Unread>
+    ensures { Gives plain result (leave_at (view list.now)) }
+{
+    let pid = number_in(list, 2)?;
+    let topic = word_in(alloc, list, 3)?;
+    let key = word_in(alloc, list, 4)?;
+    if !ends_at(list, 5) {
+        return Err(Unread::Shape);
+    }
+    Ok(Step::Leave { pid, topic, key })
+}
+
+#[tactic(auto, unfolding(crate::specs::Decoding::leave_all_at))]
+fn leave_all_at<A: Allocator>(list: &Value) -> Result<Step<A>, Unread>
+    ensures { Gives plain result (leave_all_at (view list.now)) }
+{
+    let pid = number_in(list, 2)?;
+    if !ends_at(list, 3) {
+        return Err(Unread::Shape);
+    }
+    Ok(Step::LeaveAll { pid })
+}
+
+/// The set of these numbers, which rise and are below 32.
+fn names_from(values: &[Value]) -> Option<NameSet>
+    ensures { option_map (λ names. names) result ≡ names_from 0 set.empty (items_view values.now) }
+{
+    let mut names = NameSet::empty();
+    let mut least = 0;
+    for value in values {
+        let number = value.as_u64()?;
+        if number < least || number >= 32 {
+            return None;
+        }
+        names = names.with(number as u16);
+        least = number + 1;
+    }
+    Some(names)
+}
+
+#[tactic(auto, unfolding(crate::specs::Decoding::extract_at))]
+fn extract_at<A: Allocator>(list: &Value) -> Result<Step<A>, Unread>
+    ensures { Gives plain result (extract_at (view list.now)) }
+{
+    let values = list.get(2).and_then(Value::as_array).ok_or(Unread::Shape)?;
+    let names = names_from(values).ok_or(Unread::Shape)?;
+    if !ends_at(list, 3) {
+        return Err(Unread::Shape);
+    }
+    Ok(Step::Extract { names })
+}
+
+#[tactic(auto, unfolding(crate::specs::Decoding::deliver_at))]
+fn deliver_at<A: Allocator>(list: &Value) -> Result<Step<A>, Unread>
+    ensures { Gives plain result (deliver_at (view list.now)) }
+{
+    let sender = node_in(list, 2)?;
+    let number = number_in(list, 3)?;
+    if !ends_at(list, 4) {
+        return Err(Unread::Shape);
+    }
+    Ok(Step::Deliver { sender, number })
+}
+
+/// The one name of an up, a down or a permanently down.
+#[tactic(auto, unfolding(crate::specs::Decoding::name_at))]
+fn name_at(list: &Value) -> Result<u16, Unread>
+    ensures { Gives (λ n. n) result (name_at (view list.now)) }
+{
+    let name = node_in(list, 2)?;
+    if !ends_at(list, 3) {
+        return Err(Unread::Shape);
+    }
+    Ok(name)
+}
+
+/// A status of another name.
+#[tactic(auto, unfolding(crate::specs::Decoding::status_at))]
+fn status_at<A: Allocator>(verb: &str, list: &Value) -> Result<Step<A>, Unread>
+    ensures { Gives plain result (status_at verb.now (view list.now)) }
+{
+    match verb {
+        "up" => Ok(Step::Up {
+            name: name_at(list)?,
+        }),
+        "down" => Ok(Step::Down {
+            name: name_at(list)?,
+        }),
+        "permdown" => Ok(Step::Permdown {
+            name: name_at(list)?,
+        }),
+        _ => Err(Unread::Shape),
+    }
+}
+
+/// A message sent or delivered, or else a status.
+#[tactic(auto, unfolding(crate::specs::Decoding::message_at))]
+fn message_at<A: Allocator>(verb: &str, list: &Value) -> Result<Step<A>, Unread>
+    ensures { Gives plain result (message_at verb.now (view list.now)) }
+{
+    match verb {
+        "broadcast" if ends_at(list, 2) => Ok(Step::Broadcast),
+        "broadcast" => Err(Unread::Shape),
+        "extract" => extract_at(list),
+        "deliver" => deliver_at(list),
+        _ => status_at(verb, list),
+    }
+}
+
+/// A change of the own entries, or else another step.
+#[tactic(auto, unfolding(crate::specs::Decoding::tracking_at))]
+fn tracking_at<'a, B: Allocator>(
+    alloc: &'a B,
+    verb: &str,
+    list: &Value,
+) -> Result<Step<&'a B>, Unread>
+    ensures { Gives plain result (tracking_at verb.now (view list.now)) }
+{
+    match verb {
+        "join" => join_at(alloc, list),
+        "leave" => leave_at(alloc, list),
+        "leaveall" => leave_all_at(list),
+        "update" => update_at(alloc, list),
+        _ => message_at(verb, list),
+    }
+}
+
+#[tactic(auto, unfolding(crate::specs::Decoding::step_at))]
+pub(crate) fn step_at<'a, B: Allocator>(alloc: &'a B, list: &Value) -> Result<Step<&'a B>, Unread>
+    ensures { Gives plain result (step_at (view list.now)) }
+{
+    let verb = text_in(list, 1)?;
+    tracking_at(alloc, verb, list)
+}

@@ -1,0 +1,76 @@
+//! `save`: a bench as the text of its session.
+ghost use Rattle.std.specs.Prelude.{◌≡◌, IfOk, IsUtf8, Some, map};
+ghost use Rattle.std.specs.List.{AllByRecursion};
+ghost use Rattle.serde_json.specs.Data.{string};
+ghost use Rattle.serde_json.specs.View.{view};
+ghost use Rattle.serde_json.specs.Written.{compact_text};
+ghost use Rattle.session_core.specs.Format.{list, event_json, limits_json, session};
+ghost use Rattle.session_core.specs.Sessions.{IsEvent, IsSaved};
+
+use crate::write_act::act_value;
+use crate::write_reply::reply_value;
+use bench_core::laws::replay_law;
+use bench_core::{Bench, Event, History, Limits, Names};
+use dots_core::Oom;
+use serde_json::{Value, json};
+use std::alloc::{Allocator, Global};
+
+fn event_value<A: Allocator>(heap: Global, event: &Event<A>) -> Result<Value, Oom>
+    ensures json { IfOk result (λ v. view v ≡ event_json event.now) }
+    ensures told { IfOk result (λ _. IsEvent event.now) }
+{
+    let act = act_value(heap, &event.act)?;
+    let reply = reply_value(heap, &event.reply)?;
+    json!(in heap; [event.actor, act, reply])
+}
+
+fn events_value<'a, B: Allocator>(heap: Global, history: &History<'a, B>) -> Result<Value, Oom>
+    ensures json { IfOk result (λ v. view v ≡ list (map event_json history.now)) }
+    ensures told { IfOk result (λ _. AllByRecursion IsEvent history.now) }
+{
+    let mut values = Vec::new(heap);
+    for place in 0..history.len() {
+        let event = history.at(place).unwrap();
+        values.push(event_value(heap, event)?)?;
+    }
+    Ok(Value::Array(values))
+}
+
+fn nodes_value<A: Allocator>(heap: Global, names: &Names<A>) -> Result<Value, Oom>
+    ensures { IfOk result (λ v. view v ≡ list (map string names.now)) }
+{
+    let mut values = Vec::new(heap);
+    for number in 0..names.len() as u16 {
+        let text = names.text(number).unwrap();
+        values.push(Value::try_from_str(heap, text)?)?;
+    }
+    Ok(Value::Array(values))
+}
+
+fn limits_value(heap: Global, limits: Limits) -> Result<Value, Oom>
+    ensures { IfOk result (λ v. view v ≡ limits_json limits) }
+{
+    json!(in heap; [limits.acts(), limits.entries(), limits.clock(), limits.messages()])
+}
+
+fn session_value<'a, B: Allocator>(heap: Global, bench: &Bench<'a, B>) -> Result<Value, Oom>
+    ensures json { IfOk result (λ v. view v ≡ session bench.now.names bench.now.limits bench.now.state.history) }
+    ensures told { IfOk result (λ _. AllByRecursion IsEvent bench.now.state.history) }
+{
+    let acts = events_value(heap, bench.history())?;
+    let limits = limits_value(heap, bench.limits())?;
+    let nodes = nodes_value(heap, bench.names())?;
+    json!(in heap; {"acts": acts, "limits": limits, "nodes": nodes, "version": 1u64})
+}
+
+/// The compact text of the bench's session: its names, its limits, and each recorded call with its reply. JSON values take
+/// their memory from the global heap.
+pub fn save<'a, B: Allocator>(heap: Global, bench: &Bench<'a, B>) -> Result<Vec<u8>, Oom>
+    ensures text { IfOk result (λ text. text.items ≡ compact_text (session bench.now.names bench.now.limits bench.now.state.history)) }
+    ensures saved { IfOk result (λ text. IsSaved text.items bench.now) }
+{
+    bench.bench_law();
+    bench.names().names_law();
+    replay_law();
+    session_value(heap, bench)?.to_vec(heap)
+}

@@ -1,0 +1,91 @@
+//! An act as JSON.
+ghost use Rattle.std.specs.Prelude.{◌≡◌, IfOk, map};
+ghost use Rattle.serde_json.specs.View.{view};
+ghost use Rattle.dots_core.specs.Names.{AreNamesBelow};
+ghost use Rattle.node_core.specs.Operations.{plain, Extract};
+ghost use Rattle.bench_core.specs.Acts.{plain_act, Do};
+ghost use Rattle.session_core.specs.Format.{list, whole, numbers_of, act_json};
+ghost use Rattle.session_core.specs.Sessions.{IsAction, IsOperation};
+
+use bench_core::{Act, Step};
+use dots_core::NameSet;
+use serde_json::{Value, json};
+use std::alloc::{AllocError, Allocator, Global};
+
+/// The numbers of the names, rising.
+fn numbers_of(heap: Global, names: NameSet) -> Result<Vec<u16>, AllocError>
+    ensures { IfOk result (λ numbers. numbers.items ≡ numbers_of names) }
+{
+    let mut numbers = Vec::new(heap);
+    for number in 0..32u16 {
+        if names.has(number) {
+            numbers.push(number)?;
+        }
+    }
+    Ok(numbers)
+}
+
+fn numbers_value(heap: Global, numbers: &[u16]) -> Result<Value, AllocError>
+    ensures { IfOk result (λ v. view v ≡ list (map whole numbers.now)) }
+{
+    let mut values = Vec::new(heap);
+    for number in numbers {
+        values.push(Value::from(*number))?;
+    }
+    Ok(Value::Array(values))
+}
+
+fn extract_value(heap: Global, names: NameSet) -> Result<Value, AllocError>
+    ensures json { IfOk result (λ v. view v ≡ act_json (Do (Extract names))) }
+    ensures told { AreNamesBelow 32 names }
+{
+    names.names_law();
+    let numbers = numbers_of(heap, names)?;
+    let numbers = numbers_value(heap, numbers.as_slice())?;
+    json!(in heap; ["do", "extract", numbers])
+}
+
+fn step_value<A: Allocator>(heap: Global, step: &Step<A>) -> Result<Value, AllocError>
+    ensures json { IfOk result (λ v. view v ≡ act_json (Do (plain step.now))) }
+    ensures told { IfOk result (λ _. IsOperation (plain step.now)) }
+{
+    match step {
+        Step::Join {
+            pid,
+            topic,
+            key,
+            metadata,
+        } => {
+            json!(in heap; ["do", "join", *pid, topic.as_str(), key.as_str(), metadata.as_str()])
+        }
+        Step::Leave { pid, topic, key } => {
+            json!(in heap; ["do", "leave", *pid, topic.as_str(), key.as_str()])
+        }
+        Step::LeaveAll { pid } => json!(in heap; ["do", "leaveall", *pid]),
+        Step::Update {
+            pid,
+            topic,
+            key,
+            metadata,
+        } => {
+            json!(in heap; ["do", "update", *pid, topic.as_str(), key.as_str(), metadata.as_str()])
+        }
+        Step::Broadcast => json!(in heap; ["do", "broadcast"]),
+        Step::Extract { names } => extract_value(heap, *names),
+        Step::Deliver { sender, number } => json!(in heap; ["do", "deliver", *sender, *number]),
+        Step::Up { name } => json!(in heap; ["do", "up", *name]),
+        Step::Down { name } => json!(in heap; ["do", "down", *name]),
+        Step::Permdown { name } => json!(in heap; ["do", "permdown", *name]),
+    }
+}
+
+pub(crate) fn act_value<A: Allocator>(heap: Global, act: &Act<A>) -> Result<Value, AllocError>
+    ensures json { IfOk result (λ v. view v ≡ act_json (plain_act act.now)) }
+    ensures told { IfOk result (λ _. IsAction (plain_act act.now)) }
+{
+    match act {
+        Act::Do(step) => step_value(heap, step),
+        Act::Undo(number) => json!(in heap; ["undo", *number]),
+        Act::Back(node) => json!(in heap; ["back", *node]),
+    }
+}
