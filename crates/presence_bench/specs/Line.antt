@@ -1,22 +1,43 @@
 -- What the command line takes, and what words choose.
-use Rattle.std.specs.Prelude.{◌≡◌, ℕ, List, codes, true, Some}
-use Rattle.clap.specs.Words.{App, Row, new_app, with_subcommand, subcommand_of}
+use Rattle.std.specs.Prelude.{◌≡◌, ℕ, List, codes, true, Option, Some, None}
+use Rattle.clap.specs.Words.{App, Row, Rule, first_of, new_app, new_rule, with_rule, with_subcommand, subcommand_of}
+use Rattle.presence_bench.specs.declared.chosen.Form.{Form}
+use Rattle.presence_bench.specs.declared.chosen.Form.TheVariants.{Report, Session}
 use Rattle.presence_bench.specs.declared.chosen.Subcommand.{Subcommand}
-use Rattle.presence_bench.specs.declared.chosen.Subcommand.TheVariants.{Play}
+use Rattle.presence_bench.specs.declared.chosen.Subcommand.TheVariants.{Play, Load}
 use Rattle.presence_bench.specs.declared.chosen.Choice.{Choice}
 
+-- the option that names a form
+abbrev pub as_rule : Rule
+as_rule = record (new_rule (codes "as")) { long = Some (codes "as"); value_names = 1 }
+
 abbrev pub play_app : App
-play_app = new_app (codes "play")
+play_app = with_rule (new_app (codes "play")) as_rule
+
+abbrev pub load_app : App
+load_app = with_rule (new_app (codes "load")) as_rule
 
 abbrev pub app : App
 app =
     let bare = new_app (codes "presence_bench") in
     let top : App = record bare { top = record bare.top { has_version = true; no_binary_name = true; subcommand_required = true } } in
-    with_subcommand top play_app.top
+    with_subcommand (with_subcommand top play_app.top) load_app.top
 
 abbrev pub name_of : Subcommand → List ℕ
 name_of Play = codes "play"
+name_of Load = codes "load"
 
--- the subcommand is the one that the command line finds in the words
-abbrev pub Chooses : List (List ℕ) → Choice → Type 0
-Chooses words choice = (rows : List Row) × (subcommand_of app words ≡ Some (name_of choice.command, rows))
+abbrev pub form_name : Form → List ℕ
+form_name Report = codes "report"
+form_name Session = codes "session"
+
+-- the form that a value names; without a value it is the report
+abbrev pub IsForm : Option (List ℕ) → Form → Type 0
+IsForm None form = form ≡ Report
+IsForm (Some name) form = name ≡ form_name form
+
+-- the subcommand is the one that the command line finds in the words, and the form that of its option
+pub record Chooses (words : List (List ℕ)) (choice : Choice) : Type 0 where
+  pub rows : List Row
+  pub command : subcommand_of app words ≡ Some (name_of choice.command, rows)
+  pub form : IsForm (first_of (codes "as") rows) choice.form

@@ -1,24 +1,120 @@
--- How the program ends.
-use Rattle.std.specs.Prelude.{◌≡◌, ℕ, List, Option, Result, Ok, Err, OnOk, IfErr}
-use Rattle.std.specs.Io.KnownBytes.{IsAtEnd}
+-- What the program prints, and how it ends.
+use Rattle.std.specs.Prelude.{◌≡◌, ◌≢◌, ℕ, ◌<◌, List, [], ◌∷◌, ◌++◌, length, take, ⊤, Option, None, Some, Result, Ok, Err, OnOk, IfErr, IsOkAnd}
+use Rattle.std.specs.Io.KnownBytes.{Appends, IsAtEnd, Keeps}
+use Rattle.serde_json.specs.Written.{compact_text}
 use Rattle.bench_core.specs.Limits.{Limits}
-use Rattle.script_core.specs.Play.{EndsAt, KeepsBefore, TellsMemory}
+use Rattle.bench_core.specs.Machine.{Machine}
+use Rattle.script_core.specs.Grammar.{script_of}
+use Rattle.script_core.specs.Report.{history_text, played, report_of}
+use Rattle.script_core.specs.Scripts.{Script}
+use Rattle.script_core.specs.declared.fault.FaultKind.TheVariants as kinds
 use Rattle.script_core.specs.declared.fault.PlayFault.{PlayFault}
-use Rattle.script_core.specs.declared.fault.PlayFault.TheVariants as faults
+use Rattle.script_core.specs.declared.fault.PlayFault.TheVariants as plays
+use Rattle.session_core.specs.Format.{session}
+use Rattle.session_core.specs.Sessions.{IsSession, Refuses}
+use Rattle.session_core.specs.declared.session_fault.SessionFault.TheVariants as sessions
+use Rattle.presence_bench.specs.declared.chosen.Choice.{Choice}
+use Rattle.presence_bench.specs.declared.chosen.Form.{Form}
+use Rattle.presence_bench.specs.declared.chosen.Form.TheVariants.{Report, Session}
+use Rattle.presence_bench.specs.declared.chosen.Subcommand.{Subcommand}
+use Rattle.presence_bench.specs.declared.chosen.Subcommand.TheVariants.{Play, Load}
+use Rattle.presence_bench.specs.declared.fault.Fault.{Fault}
+use Rattle.presence_bench.specs.declared.fault.Fault.TheVariants as faults
+
+abbrev pub fault_status : Fault → ℕ
+fault_status (faults.Script fault) = 1
+fault_status (faults.Session fault) = 1
+fault_status faults.LongSession = 1
+fault_status faults.ReadFault = 3
+fault_status (faults.WriteFault written) = 3
+fault_status faults.OutOfMemory = 4
 
 -- the status of an answer
-abbrev pub status_of : Result (Unit {0}) PlayFault → ℕ
+abbrev pub status_of : Result (Unit {0}) Fault → ℕ
 status_of (Ok _) = 0
-status_of (Err (faults.Script fault)) = 1
-status_of (Err faults.ReadFault) = 3
-status_of (Err (faults.WriteFault written)) = 3
-status_of (Err faults.OutOfMemory) = 4
+status_of (Err fault) = fault_status fault
 
--- the status is that of an answer by which a play of the input may end, with what is left of the input and what went out
-pub record Exits (input left : Option (List ℕ)) (limits : Limits) (status : ℕ) (old new : Option (List ℕ)) : Type 0 where
-  pub answer : Result (Unit {0}) PlayFault
+abbrev pub fault_of_play : PlayFault → Fault
+fault_of_play (plays.Script fault) = faults.Script fault
+fault_of_play plays.ReadFault = faults.ReadFault
+fault_of_play (plays.WriteFault written) = faults.WriteFault written
+fault_of_play plays.OutOfMemory = faults.OutOfMemory
+
+-- the text of a bench's session, and a line feed
+abbrev pub session_text : Machine → List ℕ
+session_text m = compact_text (session m.names m.limits m.state.history) ++ 10 ∷ []
+
+-- the input spells this script; so, where it is known
+abbrev pub IsScriptAt : Option (List ℕ) → Script → Type 0
+IsScriptAt None script = ⊤
+IsScriptAt (Some input) script = script_of input ≡ Ok script
+
+-- the input is the session of this bench; so, where it is known
+abbrev pub IsSessionAt : Option (List ℕ) → Machine → Type 0
+IsSessionAt None bench = ⊤
+IsSessionAt (Some input) bench = IsSession input bench
+
+-- the input is refused so: a fault of a script is its first, one of a session comes only in its case
+abbrev pub IsCause : List ℕ → Fault → Type 0
+IsCause input (faults.Script fault) = script_of input ≡ Err fault
+IsCause input (faults.Session fault) = Refuses input fault
+IsCause input faults.LongSession = 67108864 < length input
+IsCause input _ = ⊤
+
+abbrev pub IsCauseAt : Option (List ℕ) → Fault → Type 0
+IsCauseAt None fault = ⊤
+IsCauseAt (Some input) fault = IsCause input fault
+
+-- what is shown of a bench that has this report
+abbrev pub shown : Form → List ℕ → Machine → List ℕ
+shown Report report bench = report
+shown Session report bench = session_text bench
+
+-- the text is what the subcommand prints of the input: of a script's bench, or of a session's
+abbrev pub Prints : Subcommand → Form → Limits → List ℕ → List ℕ → Type 0
+Prints Play form limits input text = IsOkAnd (script_of input) (λ s. text ≡ shown form (report_of limits s) (played limits s))
+Prints Load form limits input text = (m : Machine) × IsSession input m × (text ≡ shown form (history_text m) m)
+
+-- all of the text went out, or, where the writing failed, its first `written` bytes
+abbrev pub EndsAsText : List ℕ → Result (Unit {0}) Fault → Option (List ℕ) → Option (List ℕ) → Type 0
+EndsAsText text (Ok _) old new = Appends old new text
+EndsAsText text (Err (faults.WriteFault written)) old new = (written < length text) × Appends old new (take written text)
+EndsAsText text (Err fault) old new = ⊥
+
+-- what went out, by the answer: what is printed of the input; its first bytes, where a write failed; and else nothing, and the
+-- fault is the input's
+abbrev pub Ends : Subcommand → Form → Limits → List ℕ → Result (Unit {0}) Fault → Option (List ℕ) → Option (List ℕ) → Type 0
+Ends command form limits input (Ok u) old new = (text : List ℕ) × Prints command form limits input text × Appends old new text
+Ends command form limits input (Err (faults.WriteFault written)) old new =
+    (text : List ℕ) × Prints command form limits input text × (written < length text) × Appends old new (take written text)
+Ends command form limits input (Err fault) old new = IsCause input fault × Keeps old new
+
+-- the same, where the reader's bytes are known
+abbrev pub EndsAt : Subcommand → Form → Limits → Option (List ℕ) → Result (Unit {0}) Fault → Option (List ℕ) → Option (List ℕ) → Type 0
+EndsAt command form limits None result old new = ⊤
+EndsAt command form limits (Some input) result old new = Ends command form limits input result old new
+
+-- nothing went out for a fault that came before the writing
+abbrev pub KeepsBefore : Fault → Option (List ℕ) → Option (List ℕ) → Type 0
+KeepsBefore (faults.WriteFault written) old new = ⊤
+KeepsBefore _ old new = Keeps old new
+
+-- it is no fault of a write
+abbrev pub IsUnwritten : Fault → Type 0
+IsUnwritten (faults.WriteFault written) = ⊥
+IsUnwritten _ = ⊤
+
+-- want of memory is never told as a fault of the input
+abbrev pub TellsMemory : Fault → Type 0
+TellsMemory (faults.Script fault) = fault.kind ≢ kinds.OutOfMemory
+TellsMemory (faults.Session fault) = fault ≢ sessions.OutOfMemory
+TellsMemory _ = ⊤
+
+-- the status is that of an answer by which the choice may end on the input, with what is left of the input and what went out
+pub record Exits (choice : Choice) (input left : Option (List ℕ)) (limits : Limits) (status : ℕ) (old new : Option (List ℕ)) : Type 0 where
+  pub answer : Result (Unit {0}) Fault
   pub status_is : status ≡ status_of answer
-  pub ends : EndsAt input limits answer old new
+  pub ends : EndsAt choice.command choice.form limits input answer old new
   pub read : OnOk answer (IsAtEnd left)
   pub unwritten : IfErr answer (λ fault. KeepsBefore fault old new)
   pub memory : IfErr answer TellsMemory

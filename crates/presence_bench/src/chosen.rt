@@ -5,10 +5,22 @@
 pub enum Subcommand {
     /// Plays a script.
     Play,
+    /// Plays a saved session again.
+    Load,
+}
+
+/// What it prints of the bench that was played on.
+#[derive(Clone, Copy, Debug, PartialEq, Eq)]
+pub enum Form {
+    /// The report.
+    Report,
+    /// The session, which can be loaded again.
+    Session,
 }
 
 /// What the words of a command line ask.
 #[derive(Clone, Copy, Debug, PartialEq, Eq)]
 pub struct Choice {
     pub command: Subcommand,
+    pub form: Form,
 }

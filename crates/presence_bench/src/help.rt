@@ -7,6 +7,10 @@ pub const PURPOSE: &str =
 
 pub const PLAY: &str = "Plays the script on standard input, and prints its report";
 
+pub const LOAD: &str = "Plays the session on standard input again, and compares every reply";
+
+pub const FORM: &str = "What to print: report (as without it), or session, which load takes";
+
 /// The whole script language, in one screen.
 pub const LANGUAGE: &str = "\
 Script lines (words between spaces; a line that begins with # is a comment):

@@ -1,33 +1,54 @@
 //! The command line, read by `clap`.
-ghost use Rattle.std.specs.Prelude.{◌≡◌, IfOk, IfSome, map, false};
-ghost use Rattle.clap.specs.Words.{app_of};
+ghost use Rattle.std.specs.Prelude.{◌≡◌, IfOk, IfSome, codes, map, false};
+ghost use Rattle.clap.specs.Words.{app_of, first_value, found_of, new_app, rule_of, with_rule};
 ghost use Rattle.clap.specs.declared.Command.TheViews.{out-Command as fields_of};
-ghost use Rattle.presence_bench.specs.Line.{app, play_app, name_of, Chooses};
+ghost use Rattle.presence_bench.specs.Line.{app, as_rule, name_of, IsForm, Chooses};
 
-use crate::chosen::{Choice, Subcommand};
-use crate::help::{LANGUAGE, PLAY, PURPOSE, VERSION};
+use crate::chosen::{Choice, Form, Subcommand};
+use crate::help::{FORM, LANGUAGE, LOAD, PLAY, PURPOSE, VERSION};
 use clap::error::ErrorKind;
-use clap::{Command, Error};
+use clap::{Arg, ArgMatches, Command, Error};
 use std::alloc::{AllocError, Global};
 use std::convert::AsStr;
 
-fn play_line<'a>(alloc: Global) -> Command<'a>
-    ensures app { app_of result ≡ play_app }
-    ensures local { (fields_of result).has_globals ≡ false }
+/// The option that names a form.
+fn form_option<'a>(alloc: Global) -> Arg<'a>
+    ensures rule { rule_of result ≡ as_rule }
+    ensures local { result.global ≡ false }
 {
-    Command::new(alloc, "play").about(PLAY)
+    Arg::new(alloc, "as")
+        .long("as")
+        .value_name("FORM")
+        .help(FORM)
+}
+
+/// A subcommand with the option.
+fn subcommand_line<'a>(
+    alloc: Global,
+    name: &'a str,
+    about: &'a str,
+) -> Result<Command<'a>, AllocError>
+    ensures app { IfOk result (λ line. app_of line ≡ with_rule (new_app name.entry.now) as_rule) }
+    ensures local { IfOk result (λ line. (fields_of line).has_globals ≡ false) }
+{
+    Command::new(alloc, name)
+        .about(about)
+        .arg(form_option(alloc))
 }
 
 fn line<'a>(alloc: Global) -> Result<Command<'a>, AllocError>
     ensures { IfOk result (λ line. app_of line ≡ app) }
 {
+    let play = subcommand_line(alloc, "play", PLAY)?;
+    let load = subcommand_line(alloc, "load", LOAD)?;
     Command::new(alloc, "presence_bench")
         .about(PURPOSE)
         .version(VERSION)
         .after_help(LANGUAGE)
         .no_binary_name(true)
         .subcommand_required(true)
-        .subcommand(play_line(alloc))
+        .subcommand(play)?
+        .subcommand(load)
 }
 
 fn command_of(name: &str) -> Option<Subcommand>
@@ -35,7 +56,19 @@ fn command_of(name: &str) -> Option<Subcommand>
 {
     match name {
         "play" => Some(Subcommand::Play),
+        "load" => Some(Subcommand::Load),
         _ => None,
+    }
+}
+
+/// The form that a subcommand's words name, the report where they name none.
+fn form_of<'a>(matches: &ArgMatches<'a>) -> Option<Form>
+    ensures { IfSome result (IsForm (first_value (found_of matches.now) (codes "as"))) }
+{
+    match matches.get_str("as") {
+        None | Some("report") => Some(Form::Report),
+        Some("session") => Some(Form::Session),
+        Some(_) => None,
     }
 }
 
@@ -45,11 +78,14 @@ pub fn choice<'a, S: AsStr>(alloc: Global, words: &'a [S]) -> Result<Choice, Err
 {
     let mut line = line(alloc)?;
     let matches = line.try_get_matches_from_mut(words)?;
-    let Some((name, _)) = matches.subcommand() else {
+    let Some((name, entered)) = matches.subcommand() else {
         return Err(line.error(ErrorKind::MissingSubcommand, "a subcommand is required")?);
     };
     let Some(command) = command_of(name) else {
         return Err(line.error(ErrorKind::InvalidSubcommand, "no such subcommand")?);
     };
-    Ok(Choice { command })
+    let Some(form) = form_of(entered) else {
+        return Err(line.error(ErrorKind::InvalidValue, "--as takes report or session")?);
+    };
+    Ok(Choice { command, form })
 }

@@ -3,39 +3,40 @@ ghost use Rattle.std.specs.Prelude.{◌≡◌};
 ghost use Rattle.std.specs.Io.KnownBytes.{Keeps};
 ghost use Rattle.presence_bench.specs.Program.{status_of, Exits};
 
-use crate::chosen::Subcommand;
+use crate::chosen::Choice;
+use crate::fault::Fault;
 use crate::line::choice;
+use crate::printing::answer;
 use bench_core::Limits;
 use clap::error::ErrorKind;
-use script_core::{PlayFault, play};
 use std::alloc::{Allocator, Global};
 use std::convert::AsStr;
 use std::io::{Read, Write};
 
-/// The status with which a play ends the program.
-fn status_of(answer: Result<(), PlayFault>) -> u8
+/// The status of an answer.
+fn status_of(answer: Result<(), Fault>) -> u8
     ensures { result ≡ status_of answer }
 {
     match answer {
         Ok(()) => 0,
-        Err(PlayFault::Script(_)) => 1,
-        Err(PlayFault::ReadFault | PlayFault::WriteFault { .. }) => 3,
-        Err(PlayFault::OutOfMemory) => 4,
+        Err(fault) => fault.status(),
     }
 }
 
-/// Plays the input, and gives the status. A fault goes as one line to the errors, where these can be written.
-fn run_play<B: Allocator, R: Read, W: Write, E: Write>(
+/// Does what was chosen, and gives the status. A fault goes as one line to the errors, where these can be written.
+fn run_choice<B: Allocator, R: Read, W: Write, E: Write>(
+    heap: Global,
     alloc: &B,
+    choice: Choice,
     reader: &mut R,
     writer: &mut W,
     errors: &mut E,
     limits: Limits,
 ) -> u8
-    ensures exits { Exits (R.remaining reader.old) (R.remaining reader.new) limits result (W.contents writer.old) (W.contents writer.new) }
+    ensures exits { Exits choice (R.remaining reader.old) (R.remaining reader.new) limits result (W.contents writer.old) (W.contents writer.new) }
     ensures quiet { result ≡ 0 → Keeps (E.contents errors.old) (E.contents errors.new) }
 {
-    let answer = play(alloc, reader, writer, limits);
+    let answer = answer(heap, alloc, choice, reader, writer, limits);
     if let Err(fault) = answer {
         let _ = writeln!(errors, "presence_bench: {fault}");
     }
@@ -61,10 +62,10 @@ fn refuse<W: Write, E: Write>(fault: &clap::Error, writer: &mut W, errors: &mut 
     0
 }
 
-/// Does what the words after the program's name ask, and gives the status. The words are read in memory of `words_alloc`, and
+/// Does what the words after the program's name ask, and gives the status. The words and JSON are read in memory of `heap`, and
 /// all else is done in that of `alloc`.
 pub fn program<S: AsStr, B: Allocator, R: Read, W: Write, E: Write>(
-    words_alloc: Global,
+    heap: Global,
     alloc: &B,
     words: &[S],
     reader: &mut R,
@@ -74,10 +75,8 @@ pub fn program<S: AsStr, B: Allocator, R: Read, W: Write, E: Write>(
 ) -> u8
     ensures quiet { result ≡ 0 → Keeps (E.contents errors.old) (E.contents errors.new) }
 {
-    match choice(words_alloc, words) {
-        Ok(choice) => match choice.command {
-            Subcommand::Play => run_play(alloc, reader, writer, errors, limits),
-        },
+    match choice(heap, words) {
+        Ok(choice) => run_choice(heap, alloc, choice, reader, writer, errors, limits),
         Err(fault) => refuse(&fault, writer, errors),
     }
 }

@@ -1,5 +1,5 @@
 //! What words choose, and the statuses of the program with what it writes.
-use crate::chosen::{Choice, Subcommand};
+use crate::chosen::{Choice, Form, Subcommand};
 use crate::line::choice;
 use crate::program::program;
 use crate::run::run;
@@ -14,17 +14,38 @@ const JOINED: &str = "nodes a b\na join 1 r alice phone\na undo 1\n";
 
 const REPORT: &str = "1 ok\n+ r alice a/1 phone\nundone 1\n- r alice a/1 phone\n";
 
+/// A play of it as it is saved.
+const SESSION: &str = "{\"acts\":[[0,[\"do\",\"join\",1,\"r\",\"alice\",\"phone\"],[\"ok\",1]],\
+[0,[\"undo\",1],[\"undone\",1]]],\"limits\":[100000,10000,1000000,10000],\"nodes\":[\"a\",\"b\"],\"version\":1}\n";
+
+/// The words that choose something, and what they choose.
+const CHOSEN: [(&[&str], Subcommand, Form); 6] = [
+    (&["play"], Subcommand::Play, Form::Report),
+    (&["play", "--as", "report"], Subcommand::Play, Form::Report),
+    (&["play", "--as=session"], Subcommand::Play, Form::Session),
+    (&["load"], Subcommand::Load, Form::Report),
+    (&["load", "--as=report"], Subcommand::Load, Form::Report),
+    (
+        &["load", "--as", "session"],
+        Subcommand::Load,
+        Form::Session,
+    ),
+];
+
 #[test]
-fn play_is_chosen(rt: HostRuntime) {
-    let given = choice(rt.alloc(), &["play"]).expect(&rt, "a choice");
-    let command = Subcommand::Play;
-    assert_eq!(rt; given, Choice { command });
+fn words_choose_a_subcommand_and_a_form(rt: HostRuntime) {
+    for (words, command, form) in CHOSEN {
+        let given = choice(rt.alloc(), words).expect(&rt, "a choice");
+        assert_eq!(rt; given, Choice { command, form });
+    }
     let none: [&str; 0] = [];
     for (words, kind) in [
         (none.as_slice(), ErrorKind::MissingSubcommand),
         (["jump"].as_slice(), ErrorKind::InvalidSubcommand),
-        (["play", "--as", "x"].as_slice(), ErrorKind::UnknownArgument),
+        (["play", "--as", "x"].as_slice(), ErrorKind::InvalidValue),
+        (["load", "--as"].as_slice(), ErrorKind::InvalidValue),
         (["play", "x"].as_slice(), ErrorKind::UnknownArgument),
+        (["--as", "report"].as_slice(), ErrorKind::UnknownArgument),
         (["--help"].as_slice(), ErrorKind::DisplayHelp),
         (["--version"].as_slice(), ErrorKind::DisplayVersion),
     ] {
@@ -55,8 +76,47 @@ const PLAYED: Case = Case {
     told: "",
 };
 
-const CASES: [Case; 5] = [
+const LOADED: Case = Case {
+    words: &["load"],
+    script: SESSION,
+    ..PLAYED
+};
+
+const CASES: [Case; 11] = [
     PLAYED,
+    Case {
+        words: &["play", "--as", "session"],
+        printed: SESSION,
+        ..PLAYED
+    },
+    LOADED,
+    Case {
+        words: &["load", "--as", "session"],
+        printed: SESSION,
+        ..LOADED
+    },
+    Case {
+        script: "{",
+        status: 1,
+        printed: "",
+        told: "presence_bench: session: NotJson\n",
+        ..LOADED
+    },
+    Case {
+        script: "{\"acts\":[[0,[\"back\",0],[\"ok\",1]]],\"limits\":[10,10,10,10],\"nodes\":[\"a\"],\"version\":1}",
+        status: 1,
+        printed: "",
+        told: "presence_bench: session: Disagrees at act 1\n",
+        ..LOADED
+    },
+    Case {
+        room: 9,
+        status: 3,
+        printed: "{\"acts\":[",
+        told: "presence_bench: write fault\n",
+        words: &["load", "--as", "session"],
+        ..LOADED
+    },
     Case {
         script: "nodes a\na join 1 r\n",
         status: 1,
@@ -136,6 +196,7 @@ fn a_status_stands_where_its_line_cannot_be_written(rt: HostRuntime) {
         (["play"].as_slice(), "nodes", 1),
         (["jump"].as_slice(), "", 2),
         (["play"].as_slice(), JOINED, 3),
+        (["load"].as_slice(), "", 1),
         (["--help"].as_slice(), "", 3),
     ] {
         let mut reader = FakeReader::ending(script.as_bytes());

@@ -1,7 +1,7 @@
 //! Benches that are saved and come back.
-use bench_core::{Act, Bench, Fault, Limits, Names, Reply, Step};
+use bench_core::{Act, Bench, Limits, Names, Step};
 use dots_core::NameSet;
-use script_core::{parse_script, report_history, run_script};
+use script_core::{parse_script, run_script};
 use session_core::{load, save};
 use std::alloc::{Allocator, Global};
 use std::process::Abort;
@@ -65,10 +65,69 @@ c1 undo 3
 c1 undo 1
 ";
 
+/// Steps that are refused.
+const REFUSED: &str = "\
+nodes a b
+a join 1 r alice phone
+a join 1 r alice phone
+a leave 2 r bob
+a broadcast
+a broadcast
+b deliver b 1
+b deliver a 7
+a permdown b
+a up b
+a permdown b
+a up a
+";
+
+/// A node that is forgotten, and known again.
+const FORGOTTEN: &str = "\
+nodes a b
+consoles c1
+a join 1 r alice phone
+b up a
+a broadcast
+b deliver a 1
+b down a
+b permdown a
+c1 undo 6
+c1 undo 5
+";
+
+/// A history with two places.
+const FULL: &str = "\
+nodes a b
+a join 1 r alice phone
+a join 2 r bob desk
+a undo 1
+a undo 1
+";
+
+const USUAL: [u64; 4] = [100_000, 10_000, 1_000_000, 10_000];
+
+/// Scripts, each with the limits of its bench: of acts, entries, clocks and messages.
+const KEPT: [(&str, [u64; 4]); 4] = [
+    (TAKEN_BACK, USUAL),
+    (REFUSED, USUAL),
+    (FORGOTTEN, USUAL),
+    (FULL, [2, 10, 10, 10]),
+];
+
+fn limits_of(rt: &impl Abort, numbers: [u64; 4]) -> Limits {
+    let [acts, entries, clock, messages] = numbers;
+    Limits::new(acts, entries, clock, messages).expect(rt, "limits")
+}
+
 /// The bench that a script leaves.
-fn bench_of<'a, B: Allocator>(rt: &impl Abort, alloc: &'a B, script: &str) -> Bench<'a, B> {
+fn bench_of<'a, B: Allocator>(
+    rt: &impl Abort,
+    alloc: &'a B,
+    script: &str,
+    limits: Limits,
+) -> Bench<'a, B> {
     let script = parse_script(alloc, script.as_bytes()).expect(rt, "a script");
-    run_script(alloc, &script, Limits::usual())
+    run_script(alloc, &script, limits)
         .expect(rt, "memory")
         .bench
 }
@@ -133,9 +192,41 @@ fn a_bench_is_saved_as_its_text_and_comes_back(rt: HostRuntime) {
         (EVERY_ACT, EVERY_ACT_SAVED),
     ] {
         let heap = rt.alloc();
-        let bench = bench_of(&rt, &heap, script);
+        let bench = bench_of(&rt, &heap, script, Limits::usual());
         let text = save(rt.alloc(), &bench).expect(&rt, "a text");
         assert!(rt; text.as_slice() == saved.as_bytes(), "{script}");
         assert!(rt; comes_back(&rt, rt.alloc(), &heap, &bench), "{script}");
     }
+}
+
+#[test]
+fn benches_come_back(rt: HostRuntime) {
+    for (script, limits) in KEPT {
+        let heap = rt.alloc();
+        let bench = bench_of(&rt, &heap, script, limits_of(&rt, limits));
+        assert!(rt; comes_back(&rt, rt.alloc(), &heap, &bench), "{script}");
+    }
+}
+
+/// Calls of actors and of nodes that there are none of.
+#[test]
+fn calls_that_name_no_node_come_back(rt: HostRuntime) {
+    let heap = rt.alloc();
+    let names = Names::new(&heap, &["a", "b"]).expect(&rt, "names");
+    let mut bench = Bench::new(&heap, names, Limits::usual()).expect(&rt, "memory");
+    let calls = [
+        (7, Act::Do(Step::Broadcast)),
+        (0, Act::Do(Step::Up { name: 5 })),
+        (
+            0,
+            Act::Do(Step::Extract {
+                names: NameSet::empty().with(5),
+            }),
+        ),
+        (0, Act::Back(2)),
+        (40, Act::Undo(1)),
+    ];
+    let replies = bench.run(&calls).expect(&rt, "memory");
+    assert_eq!(rt; replies.len(), 5);
+    assert!(rt; comes_back(&rt, rt.alloc(), &heap, &bench));
 }

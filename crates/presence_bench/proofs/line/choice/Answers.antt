@@ -1,7 +1,8 @@
-use Rattle.std.proofs.Common.{◌≡◌, ◌∙◌, ap, sym, subst, List, ℕ, map, Some, true, refl}
+use Rattle.std.proofs.Common.{◌≡◌, ◌∙◌, ap, sym, subst, List, ℕ, map, Option, Some, true, refl, codes}
 use Rattle.clap.specs.Words.{App, HasMatchesOf, is_simple, subcommand_of, subcommand_rows_of, rows_of, found_of}
 use Rattle.clap.proofs.OnLiterals.{clap_on_literals}
-use Rattle.presence_bench.specs.Line.{app, name_of}
+use Rattle.clap.proofs.WalkLemmas.{first_value-rows}
+use Rattle.presence_bench.specs.Line.{app, name_of, IsForm}
 use Rattle.presence_bench.proofs.Rows.{both_parts}
 use Rattle.presence_bench.proofs.line.choice.Goals as goal
 
@@ -15,6 +16,10 @@ returns g c =
     let words = map g.S.AsStr.text c.args.words.now in
     let matched : HasMatchesOf app words m =
     subst (λ (a : App). HasMatchesOf a words m) c.in_ok-line.ensures c.in_ok-matches.ensures.ok.2 in
-    let rows = rows_of (found_of c.in-Some.field-0-1.now) in
+    let rows = rows_of (found_of c.in-Some.entered.now) in
     let met : subcommand_rows_of m ≡ Some (c.in-Some.name.now, rows) = both_parts _ _ _ _ _ c.in-Some.ensures.name c.in-Some.ensures.rows in
-    (rows, sym (matched simple).1 ∙ met ∙ ap (λ (n : List ℕ). Some (n, rows)) c.in-Some-command_of.ensures)
+    record {
+      rows = rows;
+      command = sym (matched simple).1 ∙ met ∙ ap (λ (n : List ℕ). Some (n, rows)) c.in-Some-command_of.ensures;
+      form = subst (λ (o : Option (List ℕ)). IsForm o c.in-Some-form_of.form) (first_value-rows (found_of c.in-Some.entered.now) (codes "as")) c.in-Some-form_of.ensures;
+    }

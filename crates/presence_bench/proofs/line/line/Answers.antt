@@ -10,5 +10,6 @@ returns c =
     let plain_is : app_of c.subcommand_required.result ≡ set (new_app (codes "presence_bench")) =
     rw (c.subcommand_required.ensures, c.no_binary_name.ensures, c.after_help.ensures, c.version.ensures, c.about.ensures)
     (ap set c.new.ensures.app) in
-    IfOk-weaker c.subcommand.result _ _
-    (λ r h. h.shape c.play_line.ensures.local ∙ ap₂ with_subcommand plain_is (ap top c.play_line.ensures.app)) c.subcommand.ensures
+    let first = c.in_ok-subcommand.ensures.shape c.in_ok-play.ensures.local ∙ ap₂ with_subcommand plain_is (ap top c.in_ok-play.ensures.app) in
+    IfOk-weaker c.subcommand-2.result _ _
+    (λ r h. h.shape c.in_ok-load.ensures.local ∙ ap₂ with_subcommand first (ap top c.in_ok-load.ensures.app)) c.subcommand-2.ensures

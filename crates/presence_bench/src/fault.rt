@@ -1,0 +1,59 @@
+//! `Fault`: why the program ends early, its status and its line.
+ghost use Rattle.std.specs.Prelude.{◌≡◌};
+ghost use Rattle.presence_bench.specs.Program.{fault_status};
+
+use script_core::{PlayFault, ScriptFault};
+use session_core::SessionFault;
+use thiserror::Error;
+
+/// Why the program ends early. Printed, it is what the line on standard error tells.
+#[derive(Clone, Copy, Debug, PartialEq, Eq, Error)]
+pub enum Fault {
+    /// The first fault of a script.
+    #[error("{0}")]
+    Script(ScriptFault),
+    /// Why a text is no session.
+    #[error("session: {0}")]
+    Session(SessionFault),
+    /// A text is longer than a session may be.
+    #[error("session: TooLong")]
+    LongSession,
+    /// A read failed.
+    #[error("read fault")]
+    ReadFault,
+    /// Exactly the first `written` bytes went out.
+    #[error("write fault")]
+    WriteFault { written: usize },
+    /// A request for memory was refused.
+    #[error("out of memory")]
+    OutOfMemory,
+}
+
+impl Fault {
+    /// The status with which it ends the program.
+    pub fn status(self) -> u8
+        ensures { result ≡ fault_status self }
+    {
+        match self {
+            Fault::Script(_) | Fault::Session(_) | Fault::LongSession => 1,
+            Fault::ReadFault | Fault::WriteFault { .. } => 3,
+            Fault::OutOfMemory => 4,
+        }
+    }
+}
+
+impl From<PlayFault> for Fault {
+    ghost use Rattle.std.specs.Prelude.{◌≡◌};
+    ghost use Rattle.presence_bench.specs.Program.{fault_of_play};
+
+    ghost from_gives = { λ fault given. given ≡ fault_of_play fault };
+
+    fn from(fault: PlayFault) -> Fault {
+        match fault {
+            PlayFault::Script(fault) => Fault::Script(fault),
+            PlayFault::ReadFault => Fault::ReadFault,
+            PlayFault::WriteFault { written } => Fault::WriteFault { written },
+            PlayFault::OutOfMemory => Fault::OutOfMemory,
+        }
+    }
+}

@@ -1,0 +1,131 @@
+//! What each choice of the command line prints of the input.
+ghost use Rattle.std.specs.Prelude.{IfErr, OnOk};
+ghost use Rattle.std.specs.Io.KnownBytes.{Appends, IsAtEnd};
+ghost use Rattle.presence_bench.specs.declared.chosen.Form.TheVariants as forms;
+ghost use Rattle.presence_bench.specs.declared.chosen.Subcommand.TheVariants as subcommands;
+ghost use Rattle.presence_bench.specs.Program.{EndsAt, EndsAsText, KeepsBefore, TellsMemory};
+
+use crate::chosen::{Choice, Form, Subcommand};
+use crate::fault::Fault;
+use crate::texts::{read_script, read_session, session_line};
+use bench_core::Limits;
+use script_core::{play, report_history, run_script, write_out};
+use std::alloc::{Allocator, Global};
+use std::io::{Read, Write};
+
+/// Writes the text.
+fn print<W: Write>(writer: &mut W, text: &[u8]) -> Result<(), Fault>
+    ensures { EndsAsText text.now result (W.contents writer.old) (W.contents writer.new) }
+{
+    match write_out(writer, text) {
+        Ok(()) => Ok(()),
+        Err(fault) => Err(Fault::WriteFault {
+            written: fault.written,
+        }),
+    }
+}
+
+/// A script's report.
+fn play_report<B: Allocator, R: Read, W: Write>(
+    alloc: &B,
+    reader: &mut R,
+    writer: &mut W,
+    limits: Limits,
+) -> Result<(), Fault>
+    ensures ends { EndsAt subcommands.Play forms.Report limits (R.remaining reader.old) result (W.contents writer.old) (W.contents writer.new) }
+    ensures read { OnOk result (IsAtEnd (R.remaining reader.new)) }
+    ensures unwritten { IfErr result (λ fault. KeepsBefore fault (W.contents writer.old) (W.contents writer.new)) }
+    ensures memory { IfErr result TellsMemory }
+{
+    let answer = play(alloc, reader, writer, limits);
+    if let Err(fault) = answer {
+        return Err(Fault::from(fault));
+    }
+    Ok(())
+}
+
+/// The session of the bench that a script was played on.
+fn play_session<B: Allocator, R: Read, W: Write>(
+    heap: Global,
+    alloc: &B,
+    reader: &mut R,
+    writer: &mut W,
+    limits: Limits,
+) -> Result<(), Fault>
+    ensures ends { EndsAt subcommands.Play forms.Session limits (R.remaining reader.old) result (W.contents writer.old) (W.contents writer.new) }
+    ensures read { OnOk result (IsAtEnd (R.remaining reader.new)) }
+    ensures unwritten { IfErr result (λ fault. KeepsBefore fault (W.contents writer.old) (W.contents writer.new)) }
+    ensures memory { IfErr result TellsMemory }
+{
+    let script = read_script(alloc, reader)?;
+    let Ok(played) = run_script(alloc, &script, limits) else {
+        return Err(Fault::OutOfMemory);
+    };
+    let Ok(text) = session_line(heap, &played.bench) else {
+        return Err(Fault::OutOfMemory);
+    };
+    print(writer, &text)
+}
+
+/// What the calls of a session print in a report.
+fn load_report<B: Allocator, R: Read, W: Write>(
+    heap: Global,
+    alloc: &B,
+    reader: &mut R,
+    writer: &mut W,
+    limits: Limits,
+) -> Result<(), Fault>
+    ensures ends { EndsAt subcommands.Load forms.Report limits (R.remaining reader.old) result (W.contents writer.old) (W.contents writer.new) }
+    ensures read { OnOk result (IsAtEnd (R.remaining reader.new)) }
+    ensures unwritten { IfErr result (λ fault. KeepsBefore fault (W.contents writer.old) (W.contents writer.new)) }
+    ensures memory { IfErr result TellsMemory }
+{
+    let bench = read_session(heap, alloc, reader)?;
+    let Ok(text) = report_history(alloc, &bench) else {
+        return Err(Fault::OutOfMemory);
+    };
+    print(writer, &text)
+}
+
+/// A session, once it was played again.
+fn load_session<B: Allocator, R: Read, W: Write>(
+    heap: Global,
+    alloc: &B,
+    reader: &mut R,
+    writer: &mut W,
+    limits: Limits,
+) -> Result<(), Fault>
+    ensures ends { EndsAt subcommands.Load forms.Session limits (R.remaining reader.old) result (W.contents writer.old) (W.contents writer.new) }
+    ensures read { OnOk result (IsAtEnd (R.remaining reader.new)) }
+    ensures unwritten { IfErr result (λ fault. KeepsBefore fault (W.contents writer.old) (W.contents writer.new)) }
+    ensures memory { IfErr result TellsMemory }
+{
+    let bench = read_session(heap, alloc, reader)?;
+    let Ok(text) = session_line(heap, &bench) else {
+        return Err(Fault::OutOfMemory);
+    };
+    print(writer, &text)
+}
+
+/// Reads the whole input, plays it as was chosen, and then prints; nothing is written before the whole text stands. Limits
+/// are those of a script's bench; a session has its own. JSON takes its memory from `heap`, and all else from `alloc`.
+pub fn answer<B: Allocator, R: Read, W: Write>(
+    heap: Global,
+    alloc: &B,
+    choice: Choice,
+    reader: &mut R,
+    writer: &mut W,
+    limits: Limits,
+) -> Result<(), Fault>
+    ensures ends { EndsAt choice.command choice.form limits (R.remaining reader.old) result (W.contents writer.old) (W.contents writer.new) }
+    ensures read { OnOk result (IsAtEnd (R.remaining reader.new)) }
+    ensures unwritten { IfErr result (λ fault. KeepsBefore fault (W.contents writer.old) (W.contents writer.new)) }
+    ensures memory { IfErr result TellsMemory }
+{
+    match (choice.command, choice.form) {
+        (Subcommand::Play, Form::Report) => play_report(alloc, reader, writer, limits),
+        (Subcommand::Play, Form::Session) => play_session(heap, alloc, reader, writer, limits),
+        (Subcommand::Load, Form::Report) => load_report(heap, alloc, reader, writer, limits),
+        (Subcommand::Load, Form::Session) => load_session(heap, alloc, reader, writer, limits),
+    }
+}
