@@ -41,21 +41,21 @@ one b = cond b 1 0
 abbrev pub times : Row → List Row → ℕ
 times x rows = sum_by (λ r. one (is_row x r)) rows
 
-abbrev times_at : Dot → List (Dot × Presence) → ℕ
+abbrev pub times_at : Dot → List (Dot × Presence) → ℕ
 times_at d es = sum_by (λ e. one (is_dot d e.0)) es
 
-abbrev dot_of : Row → Dot
+abbrev pub dot_of : Row → Dot
 dot_of r = dot r.name r.clock
 
 one_le : (a b : Bool) → (a ≡ true → b ≡ true) → one a ≤ one b
 one_le true b h = let e = ap one (h refl) in omega arith
 one_le false b h = omega arith
 
-same_dot : (x : Row) (e : Dot × Presence) → is_row x (row_of e) ≡ true → is_dot (dot_of x) e.0 ≡ true
+pub same_dot : (x : Row) (e : Dot × Presence) → is_row x (row_of e) ≡ true → is_dot (dot_of x) e.0 ≡ true
 same_dot x e h = ap (λ r. is_dot (dot_of r) e.0) (is_row-true x (row_of e) h) ∙ is_dot_same e.0
 
 -- the rows of some entries hold a row as often as the entries hold its dot, at most
-row_le : (test : Dot × Presence → Bool) (x : Row) (es : List (Dot × Presence)) →
+pub row_le : (test : Dot × Presence → Bool) (x : Row) (es : List (Dot × Presence)) →
     times x (map row_of (filter test es)) ≤ times_at (dot_of x) es
 row_le test x [] = omega arith
 row_le test x (e ∷ es) = go (row_le test x es) (test e)
@@ -72,7 +72,7 @@ row_le test x (e ∷ es) = go (row_le test x es) (test e)
     go rest false = omega (arith, dots, rest)
 
 -- a dot stands once, at most, among rising keys
-none_at : (d : Dot) (es : List (Dot × Presence)) → T (below_all dot_cmp d es) → times_at d es ≡ 0
+pub none_at : (d : Dot) (es : List (Dot × Presence)) → T (below_all dot_cmp d es) → times_at d es ≡ 0
 none_at d [] below = refl
 none_at d (e ∷ es) below =
     let first = ap (λ r. one (is_eq r)) (less (dot_cmp d e.0) (and_yes (is_lt (dot_cmp d e.0)) (below_all dot_cmp d es) below).0) in
@@ -123,7 +123,7 @@ heads x (y ∷ ys) none low = (
     above e = absurd (true≢false (ap is_lt (sym e) ∙ low zero x (omega arith)))
 
 -- rows that do not fall, none of them twice, are in order
-rises : (xs : List Row) → ((x : Row) → times x xs ≤ 1) →
+pub rises : (xs : List Row) → ((x : Row) → times x xs ≤ 1) →
     ((i j : ℕ) (d : Row) → i < j → j < length xs → is_lt (row_cmp (slice_index_or xs j d) (slice_index_or xs i d)) ≡ false) → AreInOrder xs
 unfolding IsStrictlySortedBy
 rises [] once far = tt

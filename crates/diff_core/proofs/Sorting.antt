@@ -1,13 +1,11 @@
 -- The rows that are shown, put in order one by one, are the online list, and no other rows are.
-use Rattle.std.proofs.Common.{◌≡◌, ◌↔◌, ℕ, ◌+◌, ◌≤◌, Bool, true, false, if◌then◌else◌, List, [], ◌∷◌, refl, sym, ap, ◌∙◌, subst, true≢false, arith}
+use Rattle.std.proofs.Common.{◌≡◌, ◌+◌, ◌≤◌, Bool, true, false, if◌then◌else◌, List, [], ◌∷◌, refl, sym, ap, ◌∙◌, subst, true≢false, arith}
 use Rattle.std.specs.declared.cmp.Ordering.TheVariants.{Less}
 use Rattle.std.specs.Ordering.{is_lt}
-use Rattle.std.specs.List.{AllByRecursion}
 use Rattle.std.specs.List.Sorted.{IsPermutation, IsStrictlySortedBy}
 use Rattle.std.proofs.lemmas.List.Sorted.{IsPermutation-refl, IsPermutation-trans, IsPermutation-cons, IsPermutation-middle, sum_by-IsPermutation}
 use Rattle.std.proofs.ByRecursion.{all_shuffled}
 use Rattle.std.proofs.lemmas.List.Sums.{sum_by-cons}
-use Rattle.replica_core.specs.Replicas.{Replica}
 use Rattle.diff_core.specs.Rows.{Row, row_cmp}
 use Rattle.diff_core.specs.Online.{AreInOrder, IsOnlineList, shown}
 use Rattle.diff_core.specs.Sorting.{with_row, in_order, online_of}
@@ -29,7 +27,7 @@ in_order_has : (rows : List Row) → IsPermutation rows (in_order rows)
 in_order_has [] = IsPermutation-refl []
 in_order_has (x ∷ xs) = IsPermutation-trans _ _ _ (IsPermutation-cons x _ _ (in_order_has xs)) (with_row_has x (in_order xs))
 
-times_in_order : (x : Row) (rows : List Row) → times x (in_order rows) ≡ times x rows
+pub times_in_order : (x : Row) (rows : List Row) → times x (in_order rows) ≡ times x rows
 times_in_order x rows = sum_by-IsPermutation (λ r. one (is_row x r)) rows (in_order rows) (in_order_has rows)
 
 -- a row that is none of these goes among them in order
@@ -55,7 +53,7 @@ with_row_rises x (y ∷ ys) none rises = go (is_lt (row_cmp y x)) refl (with_row
         (all_shuffled (λ r. row_cmp y r ≡ Less) (x ∷ ys) (with_row x ys) (with_row_has x ys) (less_of (row_cmp y x) below, rises.0), rest)
     go false above_it rest = ((before above_it, all_above x y ys (before above_it) rises.0), rises)
 
-in_order_rises : (rows : List Row) → ((x : Row) → times x rows ≤ 1) → AreInOrder (in_order rows)
+pub in_order_rises : (rows : List Row) → ((x : Row) → times x rows ≤ 1) → AreInOrder (in_order rows)
 unfolding IsStrictlySortedBy
 in_order_rises [] once = tt
 in_order_rises (x ∷ xs) once =

@@ -4,3 +4,4 @@ pub mod Online
 pub mod Diffs
 pub mod Sorting
 pub mod Laws
+pub mod ChangedRows

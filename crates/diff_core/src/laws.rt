@@ -1,7 +1,7 @@
 //! The laws of online lists and their differences, as contracts of functions that do nothing.
 //!
 //! A crate above uses a law by calling its function.
-ghost use Rattle.diff_core.specs.Laws.{DiffLaw, OneListLaw, OnlineLaw};
+ghost use Rattle.diff_core.specs.Laws.{ChangedLaw, DiffLaw, OneListLaw, OnlineLaw};
 
 /// Two replicas with the same entries and statuses have the same online list.
 pub fn one_list_law()
@@ -16,4 +16,10 @@ pub fn diff_law()
 /// A replica has one online list, which `online_of` gives.
 pub fn online_law()
     ensures { OnlineLaw }
+{}
+
+/// What is kept of a call tells how the online list after it differs from the list before it.
+#[tactic(auto, using(crate::proofs::Told::changed_holds))]
+pub fn changed_law()
+    ensures { ChangedLaw }
 {}
