@@ -28,7 +28,8 @@ use Rattle.replica_core.specs.declared.status.Status.TheVariants.{Up, Down}
 use Rattle.replica_core.specs.Replicas.{Replica, last}
 use Rattle.replica_core.specs.Views.{View, is_some_up}
 use Rattle.replica_core.specs.Deliveries.{is_other_known}
-use Rattle.replica_core.specs.Changes.{Change, ChangeLeadsBack, ChangeLeadsSomewhere, back, OfJoin, OfLeave, OfLeaveAll, OfUpdate, OfUp, OfDown, OfPermdown, OfDeliver}
+use Rattle.replica_core.specs.Changes.{Change, ChangeLeadsBack, ChangeLeadsSomewhere, back, OfJoin, OfLeave}
+use Rattle.replica_core.specs.Changes.{OfLeaveAll, OfUpdate, OfUp, OfDown, OfPermdown, OfDeliver}
 use Rattle.replica_core.proofs.Back.{back_holds, restorable_leave, restorable_update}
 use Rattle.replica_core.proofs.ProcessLeft.{restorable_all}
 use Rattle.replica_core.proofs.Views.{get_insert_view, get_remove_view}
@@ -73,7 +74,8 @@ module _ (change : Change) (b a : Replica) (ds : List Dot) (ps : List (Dot × Pr
   at_last : (x : Row) → times x (shown b) ≡ times x (rows_shown b (found_each ds b.store.entries)) + held (is_shown b) x (without_each ds b.store.entries)
   at_last x = shown_times b x ∙ all_taken_out (is_shown b) x ds b.store.entries differ
 
-  few : (x : Row) → times x (rows_shown b ps) + times x (rows_shown b (found_each ds b.store.entries)) + held (is_shown b) x (without_each ds b.store.entries) ≤ 1
+  few : (x : Row) → times x (rows_shown b ps) + times x (rows_shown b (found_each ds b.store.entries)) +
+      held (is_shown b) x (without_each ds b.store.entries) ≤ 1
   few x =
       let whole = all_put_in (is_shown b) x ps b.store.entries absent in
       let once = most (shows (is_shown b) x (fin.get (with_each ps b.store.entries) (dot_of x))) in
@@ -254,7 +256,8 @@ down_told name before b a h = told (OfDown name before) b a (λ x. times x (show
 
 -- a name that is down is forgotten
 still_shown : (a : Replica) (name : ℕ) → fin.get a.view name ≡ Some Down → (x : Row) →
-    held (λ e. is_some_up (fin.get (fin.remove a.view name) e.0.name)) x (entries_of_names (is_other name) a.store.entries) ≡ held (is_shown a) x a.store.entries
+    held (λ e. is_some_up (fin.get (fin.remove a.view name) e.0.name)) x (entries_of_names (is_other name) a.store.entries) ≡
+    held (is_shown a) x a.store.entries
 still_shown a name down x =
     ap (λ o. one (shows (λ e. is_some_up (fin.get (fin.remove a.view name) e.0.name)) x o)) (get-names a.store.entries (is_other name) (dot_of x))
     ∙ go (fin.get a.store.entries (dot_of x)) (x.name == name) refl
