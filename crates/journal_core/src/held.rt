@@ -43,6 +43,13 @@ impl<'a, B: Allocator> Held<'a, B> {
         &self.kept
     }
 
+    /// The inverse, unless it is lent.
+    pub(crate) fn inverse(&self) -> Option<&Inverse<&'a B>>
+        ensures { option_map (λ i. plain_inverse i.now) result ≡ self.now.inverse }
+    {
+        self.inverse.as_ref()
+    }
+
     pub(crate) fn number(&self) -> u64
         ensures { result ≡ self.now.kept.number }
     {

@@ -102,6 +102,16 @@ impl<'a, B: Allocator> Journal<'a, B> {
         }
     }
 
+    /// The inverse of the step of this number, for looking, if the step remains and its inverse is not lent.
+    pub fn inverse(&self, number: u64) -> Option<&Inverse<&'a B>>
+        ensures { option_map (λ i. plain_inverse i.now) result ≡ inverse_of (find_held self.now.steps number) }
+    {
+        match self.slots.find(number) {
+            Some(held) => held.inverse(),
+            None => None,
+        }
+    }
+
     /// The number of the last step of a node.
     pub fn last_of(&self, node: u16) -> Option<u64>
         requires { node < self.now.nodes }
