@@ -106,7 +106,8 @@ impl<'a, B: Allocator> Journal<'a, B> {
     pub fn inverse(&self, number: u64) -> Option<&Inverse<&'a B>>
         ensures { option_map (λ i. plain_inverse i.now) result ≡ inverse_of (find_held self.now.steps number) }
     {
-        match self.slots.find(number) {
+        let held = self.slots.find(number);
+        match held {
             Some(held) => held.inverse(),
             None => None,
         }
