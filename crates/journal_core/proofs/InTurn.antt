@@ -20,7 +20,7 @@ use Rattle.journal_core.proofs.Futures.{any_numbers}
 
 -- finding in a journal without a step
 
-find-without : (ks : List Kept) (m n : ℕ) → n ≢ m → find_number (without ks m) n ≡ find_number ks n
+pub find-without : (ks : List Kept) (m n : ℕ) → n ≢ m → find_number (without ks m) n ≡ find_number ks n
 find-without [] m n other = refl
 find-without (k ∷ ks) m n other = go (k.number == m) refl (find-without ks m n other)
   where
@@ -30,7 +30,7 @@ find-without (k ∷ ks) m n other = go (k.number == m) refl (find-without ks m n
         more ∙ ap (λ b. if b then Some k else find_number ks n) (sym (ne_eqb k.number n (λ e. other (sym e ∙ eqb-true k.number m is))))
     go false is more = ap (λ o. if k.number == n then Some k else o) more
 
-find_out : (ks : List Kept) (m : ℕ) → find_number (without ks m) m ≡ None
+pub find_out : (ks : List Kept) (m : ℕ) → find_number (without ks m) m ≡ None
 find_out [] m = refl
 find_out (k ∷ ks) m = go (k.number == m) refl (find_out ks m)
   where
