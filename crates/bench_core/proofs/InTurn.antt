@@ -166,7 +166,7 @@ undone_no_more old mid new actor numbers i n reply low at all so_far answer refu
 
 -- undos that the machine makes
 
-undone_parts : (s : State) (n : ℕ) → undo_reply s n ≡ Undone n →
+pub undone_parts : (s : State) (n : ℕ) → undo_reply s n ≡ Undone n →
     ((x : Kept) × (find_number s.remaining n ≡ Some x)) × (first_consequence s.remaining n ≡ None)
 undone_parts s n is = outer ((n == 0) || nat_lt (given s.history) n) is
   where

@@ -30,7 +30,7 @@ use Rattle.bench_core.specs.Machine.{Event, Config, State, Machine, config_of, o
 use Rattle.bench_core.specs.Machine.{do_reply, reply_to, now, is_recorded, after, call, calls, AnswersAs, Answered, Unmade}
 use Rattle.bench_core.specs.Histories.{note}
 use Rattle.bench_core.specs.Headline.{IsReached}
-use Rattle.bench_core.specs.Benches.{AreNodes, HasCluster, IsBackable, IsBench, IsMachine, IsNumbered, IsTaken}
+use Rattle.bench_core.specs.Benches.{AreNodes, IsBackable, IsBench, IsMachine, IsNumbered, IsTaken}
 use Rattle.journal_core.proofs.Rising.{kepts-append, find_kepts}
 use Rattle.bench_core.proofs.Clusters.{get-set_same, get-set_other, step_takes}
 use Rattle.bench_core.proofs.Taken.{was_read}
@@ -373,7 +373,7 @@ refused_asked names limits h later nodes d hs mid taken count actor asked copy a
 
 -- undoing
 
-find_kept : (hs : List Held) (n : ℕ) (k : Kept) → find_number (kepts hs) n ≡ Some k → (h : Held) × (find_held hs n ≡ Some h) × (h.kept ≡ k)
+pub find_kept : (hs : List Held) (n : ℕ) (k : Kept) → find_number (kepts hs) n ≡ Some k → (h : Held) × (find_held hs n ≡ Some h) × (h.kept ≡ k)
 find_kept hs n k is = go (find_held hs n) refl (sym (find_kepts hs n) ∙ is)
   where
     go : (o : Option Held) → find_held hs n ≡ o → option_map (λ (h : Held). h.kept) o ≡ Some k →

@@ -14,6 +14,8 @@ pub mod OneStep
 pub mod Openings
 pub mod Invariant
 pub mod InTurn
+pub mod Others
+pub mod WaysBack
 pub mod Gone
 pub mod Swapped
 pub mod Noted

@@ -10,16 +10,15 @@ use Rattle.node_core.specs.declared.step_fault.StepFault.{StepFault}
 use Rattle.node_core.specs.declared.step_fault.StepFault.TheVariants as step_faults
 use Rattle.node_core.specs.Faults.{step_fault_of}
 use Rattle.node_core.specs.Operations.{Operation, Join, Leave, LeaveAll, Update, Broadcast, Extract, Deliver, Up, Down, Permdown, named_in}
-use Rattle.node_core.specs.Nodes.{Node, unless, unless_full, is_outbox_full, broadcast, deliver, take}
+use Rattle.node_core.specs.Nodes.{Node, unless, is_outbox_full, broadcast, deliver, take}
 use Rattle.journal_core.specs.Journals.{Kept, find_number, first_consequence, last_of}
-use Rattle.bench_core.specs.declared.reply.Reply.{Reply}
 use Rattle.bench_core.specs.declared.reply.Reply.TheVariants.{Refused}
 use Rattle.bench_core.specs.declared.fault.Fault.{Fault}
 use Rattle.bench_core.specs.declared.fault.Fault.TheVariants.{UnknownNode, HistoryFull, NoSuchStep, OutOfMemory}
-use Rattle.bench_core.specs.Acts.{Action, Do, Undo, Back}
+use Rattle.bench_core.specs.Acts.{Do, Undo, Back}
 use Rattle.bench_core.specs.Clusters.{Cluster, opening_of, fault_of, of_node, node_step, with_node, step, message_for}
 use Rattle.bench_core.specs.Limits.{node_limits}
-use Rattle.bench_core.specs.Machine.{Config, State, given, free_places, unheld, undo_found, undo_reply, back_reply, step_reply, knows, do_reply, reply_to, now}
+use Rattle.bench_core.specs.Machine.{Config, State, given, free_places, unheld, undo_found, undo_reply, back_reply, step_reply, knows, do_reply, now}
 use Rattle.bench_core.specs.Runs.{then_runs}
 use Rattle.bench_core.specs.Replays.{NoMemoryLaw}
 

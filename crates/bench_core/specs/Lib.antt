@@ -14,4 +14,5 @@ pub mod Laws
 pub mod Headline
 pub mod Unwinds
 pub mod Benches
+pub mod WaysBack
 pub mod Replays

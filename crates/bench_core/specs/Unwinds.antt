@@ -1,5 +1,5 @@
 -- What an undo of a step waits for, and the undo of a step with all that follows from it.
-use Rattle.std.specs.Prelude.{◌≡◌, ◌≢◌, ℕ, List, [], ◌++◌, map, Some, None}
+use Rattle.std.specs.Prelude.{◌≡◌, ◌≢◌, ℕ, List, [], ◌∷◌, ◌++◌, map, slice_get, Some, None, Ok}
 use Rattle.bench_core.specs.declared.reply.Reply.TheVariants.{Undone, Refused}
 use Rattle.bench_core.specs.declared.fault.Fault.{Fault}
 use Rattle.bench_core.specs.declared.fault.Fault.TheVariants.{OutOfMemory}
@@ -9,7 +9,8 @@ use Rattle.journal_core.specs.Journals.{Kept, find_number}
 use Rattle.journal_core.specs.Futures.{Follows, IsFuture, without_all}
 use Rattle.journal_core.specs.Gathering.{gathered_numbers}
 use Rattle.bench_core.specs.Acts.{Action, Undo}
-use Rattle.bench_core.specs.Machine.{Event, Config, State, Machine, with_state, config_of, undo_reply, calls, replies_of}
+use Rattle.bench_core.specs.Clusters.{Cluster}
+use Rattle.bench_core.specs.Machine.{Event, Config, State, Machine, with_state, config_of, undo_reply, now, calls, replies_of}
 use Rattle.bench_core.specs.Headline.{IsReached}
 
 -- step n remains, and these are its number and those of all that follows from it, greatest first
@@ -46,6 +47,18 @@ LeastLaw =
     replies_of c s (asked_undos asked) ≡ map (λ a. Undone a.1) asked →
     find_number (calls c s (asked_undos asked)).remaining n ≡ None → (j : ℕ) → Follows s.remaining n j →
     find_number (calls c s (asked_undos asked)).remaining j ≡ None
+
+-- none of these steps is of this node
+abbrev pub HasNoneOf : List Kept → ℕ → List ℕ → Type 0
+HasNoneOf ks node [] = Unit {0}
+HasNoneOf ks node (n ∷ numbers) = ((k : Kept) → find_number ks n ≡ Some k → k.node ≢ node) × HasNoneOf ks node numbers
+
+-- a node of which none of these steps is: their undos leave it as it was
+abbrev pub OthersLaw : Type 0
+OthersLaw =
+    (c : Config) (s : State) (actor node : ℕ) (numbers : List ℕ) (old : Cluster) → IsReached c s → now c s ≡ Ok old →
+    replies_of c s (undos actor numbers) ≡ map Undone numbers → HasNoneOf s.remaining node numbers →
+    (new : Cluster) × (now c (calls c s (undos actor numbers)) ≡ Ok new) × (slice_get new node ≡ slice_get old node)
 
 -- whoever asks for the undos of these steps, in this order, each is made
 abbrev pub CanBeUndone : Machine → List ℕ → Type 0

@@ -1,8 +1,10 @@
 //! `Bench`: the machine over its nodes, its journal and its history.
-ghost use Rattle.std.specs.Prelude.{◌≡◌, ◌≢◌, ◌↔◌, ◌<◌, ◌≤◌, ◌+◌, Ok, IfErr, IfOk, IsSome, OnOk, OnErr, length, take, true, nat_lt, option_map};
+ghost use Rattle.std.specs.Prelude.{◌≡◌, ◌≢◌, ◌↔◌, ◌<◌, ◌≤◌, ◌+◌, Ok, IfErr, IfOk, IfSome, IsSome, OnOk, OnErr, length, take, true, nat_lt, option_map};
 ghost use Rattle.std.specs.List.{list_all};
 ghost use Rattle.replica_core.specs.Limits.{AreNodeLimits};
+ghost use Rattle.node_core.specs.Inverses.{plain_inverse};
 ghost use Rattle.node_core.specs.Operations.{named_in, plain};
+ghost use Rattle.journal_core.specs.Journals.{find_number};
 ghost use Rattle.journal_core.specs.Gathering.{gathered_numbers};
 ghost use Rattle.journal_core.specs.Holdings.{without_held, kepts};
 ghost use Rattle.bench_core.specs.declared.fault.Fault.TheVariants.{HistoryFull};
@@ -14,6 +16,7 @@ ghost use Rattle.bench_core.specs.Chains.{Chain};
 ghost use Rattle.bench_core.specs.Machine.{config_of, free_places, given, knows, reply_to, undo_reply, opening_machine, AnswersAs, AllAnswered};
 ghost use Rattle.bench_core.specs.Headline.{CanBeTakenBack, RefusedOnlyForConsequence};
 ghost use Rattle.bench_core.specs.Unwinds.{AreUndone, CanBeUndone, Explains, IsUnwound, IsWhole, Unexplained, undone_by};
+ghost use Rattle.bench_core.specs.WaysBack.{IsWayBack};
 ghost use Rattle.bench_core.specs.Benches.{AreNodes, GoesBack, IsBackable, IsGone, IsMachine, IsNodeOf, IsNumbered, IsStepOf, Steps};
 
 use crate::act::Act;
@@ -180,6 +183,15 @@ impl<'a, B: Allocator> Bench<'a, B> {
         ensures each { IsSome result ↔ (number < length self.now.names) }
     {
         self.nodes.get(number as usize)
+    }
+
+    /// The inverse of a step that remains, for looking: while nothing follows from the step, it leads from the step's node
+    /// back along the undo. (Danos and Krivine: causal undo.)
+    pub fn way_back(&self, number: u64) -> Option<&Inverse<&'a B>>
+        ensures leads { IfSome result (λ inverse. IsWayBack self.now number (plain_inverse inverse.now)) }
+        ensures each { IsSome result ↔ IsSome (find_number self.now.state.remaining number) }
+    {
+        self.journal.inverse(number)
     }
 
     /// How many steps were ever taken.

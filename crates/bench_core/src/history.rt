@@ -1,5 +1,5 @@
 //! `History`: the calls that were recorded, each with its reply.
-ghost use Rattle.std.specs.Prelude.{◌≡◌, [], OnOk, OnErr, option_copied, slice_get, length};
+ghost use Rattle.std.specs.Prelude.{◌≡◌, [], IfOk, OnOk, OnErr, option_copied, slice_get, length};
 ghost use Rattle.bench_core.specs.Acts.{plain_act};
 ghost use Rattle.bench_core.specs.Histories.{note, IsAnswered, IsForgotten};
 
@@ -27,6 +27,19 @@ impl<A: Allocator> Model for Event<A> {
     ghost coded = { event_code reply_row.coded };
 
     ghost view = { λ e. record { actor = e.actor; act = plain_act e.act; reply = e.reply } };
+}
+
+impl<A: Allocator + Copy> Event<A> {
+    /// A second event of the same call and reply.
+    fn try_copy(&self) -> Result<Self, Oom>
+        ensures { IfOk result (λ copy. copy ≡ self.now) }
+    {
+        Ok(Event {
+            actor: self.actor,
+            act: self.act.try_copy()?,
+            reply: self.reply,
+        })
+    }
 }
 
 /// The recorded calls, oldest first. A contract sees the list of them.
@@ -69,6 +82,17 @@ impl<'a, B: Allocator> History<'a, B> {
         ensures { option_copied result ≡ slice_get self.now place }
     {
         self.events.get(place)
+    }
+
+    /// A second list of the same calls.
+    pub fn try_copy(&self) -> Result<Self, Oom>
+        ensures { IfOk result (λ copy. copy ≡ self.now) }
+    {
+        let mut events = Vec::with_capacity(*self.events.allocator(), self.len())?;
+        for event in &self.events {
+            events.push(event.try_copy()?)?;
+        }
+        Ok(History { events })
     }
 
     /// Records a call that is answered so.

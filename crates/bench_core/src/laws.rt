@@ -3,7 +3,7 @@
 //! A crate above uses a law by calling its function.
 ghost use Rattle.bench_core.specs.Headline.{BackLaw, GivenLaw, UndoLaw};
 ghost use Rattle.bench_core.specs.Replays.{NoMemoryLaw, ReplayLaw};
-ghost use Rattle.bench_core.specs.Unwinds.{LeastLaw, UndoneInTurnLaw};
+ghost use Rattle.bench_core.specs.Unwinds.{LeastLaw, OthersLaw, UndoneInTurnLaw};
 ghost use Rattle.bench_core.specs.Laws.{ChainLaw, ExchangeLaw, LoopLaw, MiddleLaw, OneEntryLaw, OwnRunLaw, PlacesLaw, RepeatLaw, SwapLaw};
 
 /// The loop: a step at the end of a journal has no direct consequence, and taking it out gives the journal before.
@@ -32,11 +32,12 @@ pub fn chain_law()
     ensures { ChainLaw }
 {}
 
-/// Of a reached machine: the undos of the future of a step are all made, greatest number first; and whatever undos take
-/// the step back take back all of it.
+/// Of a reached machine: the undos of the future of a step are all made, greatest number first; whatever undos take
+/// the step back take back all of it; and a node of which no step is undone stays as it was.
 pub fn unwind_law()
     ensures future { UndoneInTurnLaw }
     ensures least { LeastLaw }
+    ensures others { OthersLaw }
 {}
 
 /// Swaps: of two journals between which swaps of adjacent independent steps lead, numbers aside, one runs where the other

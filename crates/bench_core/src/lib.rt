@@ -32,7 +32,7 @@ pub use journal_core::{Journal, Kept};
 pub use limits::Limits;
 pub use names::{Names, is_name};
 pub use names_fault::NamesFault;
-pub use node_core::{Node, NodeLimits, Step, StepFault};
+pub use node_core::{Inverse, Node, NodeLimits, Step, StepFault};
 pub use reply::Reply;
 pub use swap_fault::SwapFault;
 pub use swaps::same_cluster;

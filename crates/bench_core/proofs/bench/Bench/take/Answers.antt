@@ -5,7 +5,7 @@ use Rattle.node_core.specs.declared.step_fault.StepFault.TheVariants as step_fau
 use Rattle.node_core.specs.Operations.{plain}
 use Rattle.node_core.specs.Inverses.{plain_inverse}
 use Rattle.journal_core.specs.Holdings.{Held, Journal, Room, kepts, room_for}
-use Rattle.bench_core.specs.declared.reply.Reply.TheVariants.{Taken, Refused}
+use Rattle.bench_core.specs.declared.reply.Reply.TheVariants.{Refused}
 use Rattle.bench_core.specs.declared.fault.Fault.TheVariants.{OutOfMemory}
 use Rattle.bench_core.specs.Acts.{plain_act}
 use Rattle.bench_core.specs.Histories.{note}
