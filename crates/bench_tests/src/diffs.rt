@@ -4,7 +4,7 @@ ghost use Rattle.diff_core.specs.Online.{AreInOrder};
 use crate::calls::{
     Call, HELD_1_BY_3, HELD_3_BY_4, HELD_6_BY_7, Row, Shown, USUAL, answers, limits_of, open,
 };
-use crate::lists::{ALICE, ALICE_UNDER_S, AWAY, Change, NONE, Seen, differ, list_of};
+use crate::lists::{ALICE, ALICE_UNDER_S, AWAY, NONE, Rows, Seen, differ, list_of};
 use crate::rows::holds;
 use bench_core::{Bench, Fault, Limits, Reply, Unwound};
 use diff_core::OnlineRow;
@@ -14,7 +14,7 @@ use std::process::Abort;
 const BOB: Seen = (1, 9, Shown::Bob);
 
 /// A call with its reply, and how the lists of the nodes `a` and `b` differ after it.
-type Turn = (Row, Change, Change);
+type Turn = (Row, Rows, Rows);
 
 /// Calls of a bench of two nodes, with what they change.
 struct Case {
@@ -253,14 +253,23 @@ fn changes<'a, B: Allocator>(
     bench: &Bench<'a, B>,
     node: u16,
     before: &[OnlineRow<&'a B>],
-    change: Change,
+    rows: Rows,
 ) -> bool
     requires { AreInOrder before.now }
 {
     let after = list(rt, alloc, bench, node);
-    let (left, joined) = change;
-    let there = differ(rt, alloc, before, &after, change);
+    let (left, joined) = rows;
+    let there = differ(rt, alloc, before, &after, rows);
     there && differ(rt, alloc, &after, before, (joined, left))
+}
+
+/// Whether there is a way back from a step that was taken, and none from one that was undone.
+fn has_way_back<'a, B: Allocator>(bench: &Bench<'a, B>, reply: Reply) -> bool {
+    match reply {
+        Reply::Taken(number) => bench.way_back(number).is_some(),
+        Reply::Undone(number) => bench.way_back(number).is_none(),
+        Reply::Refused(_) => true,
+    }
 }
 
 /// Makes the call, which changes each list as its row says.
@@ -275,6 +284,7 @@ fn shows<'a, B: Allocator>(
     let a = list(rt, alloc, bench, 0);
     let b = list(rt, alloc, bench, 1);
     answers(rt, alloc, bench, row, name);
+    holds(rt, has_way_back(bench, row.2), name);
     holds(rt, changes(rt, alloc, bench, 0, &a, *at_a), name);
     holds(rt, changes(rt, alloc, bench, 1, &b, *at_b), name);
 }

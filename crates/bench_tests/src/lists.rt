@@ -1,14 +1,15 @@
 //! Online lists: that they and their differences are had with ample memory, that a refusal of memory is told, and the rows
 //! that calls of a replica bring and take away.
-ghost use Rattle.std.specs.Prelude.{◌<◌};
+ghost use Rattle.std.specs.Prelude.{◌<◌, IfOk};
+ghost use Rattle.replica_core.specs.Changes.{plain_change, ChangeLeadsBack, ChangeLeadsSomewhere};
 ghost use Rattle.diff_core.specs.Online.{AreInOrder};
 
 use crate::calls::{Shown, word};
 use crate::rows::holds;
-use diff_core::{OnlineRow, Oom, diff, online_list};
+use diff_core::{OnlineRow, Oom, changed, diff, online_list};
 use dots_core::NameSet;
 use payload_core::{Payload, Word};
-use replica_core::{NodeLimits, Replica};
+use replica_core::{Change, NodeLimits, Replica, ReplicaFault};
 use std::alloc::{Allocator, Global};
 use std::cmp::Ordering;
 use std::process::Abort;
@@ -26,9 +27,9 @@ pub const AWAY: Seen = (0, 1, Shown::Away);
 pub const ALICE_UNDER_S: Seen = (0, 1, Shown::AliceUnderS);
 
 /// The rows that leave, and those that join, each in order.
-pub type Change = (&'static [Seen], &'static [Seen]);
+pub type Rows = (&'static [Seen], &'static [Seen]);
 
-pub const NONE: Change = (&[], &[]);
+pub const NONE: Rows = (&[], &[]);
 
 fn is<'a, B: Allocator>(row: &OnlineRow<&'a B>, expected: &Seen) -> bool {
     let (name, pid, shown) = *expected;
@@ -68,12 +69,12 @@ pub fn differ<'a, B: Allocator>(
     alloc: &'a B,
     before: &[OnlineRow<&'a B>],
     after: &[OnlineRow<&'a B>],
-    change: Change,
+    rows: Rows,
 ) -> bool
     requires before { AreInOrder before.now }
     requires after { AreInOrder after.now }
 {
-    let (left, joined) = change;
+    let (left, joined) = rows;
     let diff = diff(alloc, before, after).expect(rt, "a difference");
     are(&diff.left, left) && are(&diff.joined, joined)
 }
@@ -113,10 +114,11 @@ fn joins<'a, B: Allocator>(
     alloc: &'a B,
     replica: &mut Replica<&'a B>,
     shown: Shown,
-) -> bool {
+) -> Result<Change<&'a B>, ReplicaFault>
+    ensures { IfOk result (λ change. ChangeLeadsBack (plain_change change) replica.new replica.old) }
+{
     let words = words_of(rt, alloc, shown);
-    let made = replica.join(1, &words.topic, &words.key, &words.metadata);
-    made.is_ok()
+    replica.join(1, &words.topic, &words.key, &words.metadata)
 }
 
 fn updates<'a, B: Allocator>(
@@ -124,10 +126,11 @@ fn updates<'a, B: Allocator>(
     alloc: &'a B,
     replica: &mut Replica<&'a B>,
     shown: Shown,
-) -> bool {
+) -> Result<Change<&'a B>, ReplicaFault>
+    ensures { IfOk result (λ change. ChangeLeadsBack (plain_change change) replica.new replica.old) }
+{
     let words = words_of(rt, alloc, shown);
-    let made = replica.update(1, &words.topic, &words.key, &words.metadata);
-    made.is_ok()
+    replica.update(1, &words.topic, &words.key, &words.metadata)
 }
 
 fn leaves<'a, B: Allocator>(
@@ -135,40 +138,64 @@ fn leaves<'a, B: Allocator>(
     alloc: &'a B,
     replica: &mut Replica<&'a B>,
     shown: Shown,
-) -> bool {
+) -> Result<Change<&'a B>, ReplicaFault>
+    ensures { IfOk result (λ change. ChangeLeadsBack (plain_change change) replica.new replica.old) }
+{
     let words = words_of(rt, alloc, shown);
-    replica.leave(1, &words.topic, &words.key).is_ok()
+    replica.leave(1, &words.topic, &words.key)
 }
 
-fn merges<'a, B: Allocator>(
-    replica: &mut Replica<&'a B>,
-    messages: &[Payload<&'a B>],
-    place: usize,
-) -> bool {
-    match messages.get(place) {
-        Some(message) => replica.merge(message).is_ok(),
-        None => false,
-    }
-}
-
-/// Whether the call is made.
-fn makes<'a, B: Allocator>(
+/// The call is asked; of a message that isn't there nothing is.
+fn asked<'a, B: Allocator>(
     rt: &impl Abort,
     alloc: &'a B,
     replica: &mut Replica<&'a B>,
     messages: &[Payload<&'a B>],
     call: Call,
-) -> bool {
+) -> Result<Change<&'a B>, ReplicaFault>
+    ensures { IfOk result (λ change. ChangeLeadsBack (plain_change change) replica.new replica.old) }
+{
     match call {
         Call::Join(shown) => joins(rt, alloc, replica, shown),
         Call::Leave(shown) => leaves(rt, alloc, replica, shown),
         Call::Update(shown) => updates(rt, alloc, replica, shown),
-        Call::Merge(place) => merges(replica, messages, place),
-        Call::LeaveAll => replica.leave_all(1).is_ok(),
-        Call::Up => replica.up(0).is_ok(),
-        Call::Down => replica.down(0).is_ok(),
-        Call::Permdown => replica.permdown(0).is_ok(),
+        Call::Merge(place) => match messages.get(place) {
+            Some(message) => replica.merge(message),
+            None => Err(ReplicaFault::OutOfMemory),
+        },
+        Call::LeaveAll => replica.leave_all(1),
+        Call::Up => replica.up(0),
+        Call::Down => replica.down(0),
+        Call::Permdown => replica.permdown(0),
     }
+}
+
+/// The call is made; what is kept of it.
+fn made<'a, B: Allocator>(
+    rt: &impl Abort,
+    alloc: &'a B,
+    replica: &mut Replica<&'a B>,
+    messages: &[Payload<&'a B>],
+    call: Call,
+) -> Change<&'a B>
+    ensures { ChangeLeadsBack (plain_change result) replica.new replica.old }
+{
+    asked(rt, alloc, replica, messages, call).expect(rt, "a call")
+}
+
+/// Whether what is kept of the last call tells that exactly these rows left and joined.
+fn tells<'a, B: Allocator>(
+    rt: &impl Abort,
+    alloc: &'a B,
+    change: &Change<&'a B>,
+    replica: &Replica<&'a B>,
+    rows: Rows,
+) -> bool
+    requires { ChangeLeadsSomewhere (plain_change change.now) replica.now }
+{
+    let (left, joined) = rows;
+    let diff = changed(alloc, change, replica).expect(rt, "a difference");
+    are(&diff.left, left) && are(&diff.joined, joined)
 }
 
 fn opening<'a, B: Allocator>(alloc: &'a B, own: u16) -> Replica<&'a B>
@@ -182,21 +209,21 @@ fn opening<'a, B: Allocator>(alloc: &'a B, own: u16) -> Replica<&'a B>
     Replica::opening(alloc, own, limits)
 }
 
-/// Whether the call changes the list so, and the other way round on the way back.
+/// Whether the call changes the list so, the other way round on the way back, and what is kept of it tells the same.
 fn shows<'a, B: Allocator>(
     rt: &impl Abort,
     alloc: &'a B,
     replica: &mut Replica<&'a B>,
     messages: &[Payload<&'a B>],
-    row: &(Call, Change),
+    row: &(Call, Rows),
 ) -> bool {
-    let (call, change) = *row;
+    let (call, rows) = *row;
     let before = list_of(rt, alloc, replica);
-    let is_made = makes(rt, alloc, replica, messages, call);
+    let change = made(rt, alloc, replica, messages, call);
     let after = list_of(rt, alloc, replica);
-    let (left, joined) = change;
-    is_made
-        && differ(rt, alloc, &before, &after, change)
+    let (left, joined) = rows;
+    tells(rt, alloc, &change, replica, rows)
+        && differ(rt, alloc, &before, &after, rows)
         && differ(rt, alloc, &after, &before, (joined, left))
 }
 
@@ -204,7 +231,7 @@ fn shows<'a, B: Allocator>(
 struct Case {
     name: &'static str,
     own: u16,
-    rows: &'static [(Call, Change)],
+    rows: &'static [(Call, Rows)],
 }
 
 const CASES: [Case; 3] = [
@@ -253,8 +280,7 @@ fn told<'a, B: Allocator>(
     replica: &mut Replica<&'a B>,
     call: Call,
 ) -> Payload<&'a B> {
-    let is_made = makes(rt, alloc, replica, &[], call);
-    assert!(rt; is_made);
+    made(rt, alloc, replica, &[], call);
     replica.take_delta().expect(rt, "a message")
 }
 
@@ -265,8 +291,7 @@ fn told_in_all<'a, B: Allocator>(
     replica: &mut Replica<&'a B>,
     call: Call,
 ) -> Payload<&'a B> {
-    let is_made = makes(rt, alloc, replica, &[], call);
-    assert!(rt; is_made);
+    made(rt, alloc, replica, &[], call);
     replica
         .extract(NameSet::empty().with(0))
         .expect(rt, "a message")
@@ -316,7 +341,7 @@ fn rows_stand_in_order(rt: HostRuntime) {
     let heap = rt.alloc();
     let mut replica = opening(&heap, 0);
     for shown in [Shown::AliceUnderS, Shown::Bob, Shown::Alice] {
-        assert!(rt; joins(&rt, &heap, &mut replica, shown));
+        assert!(rt; joins(&rt, &heap, &mut replica, shown).is_ok());
     }
     let rows = list_of(&rt, &heap, &replica);
     assert!(rt; are(&rows, &[ALICE, (0, 1, Shown::Bob), ALICE_UNDER_S]));
@@ -342,7 +367,7 @@ fn is_compared<'a, B: Allocator>(alloc: &'a B, replica: &Replica<&'a B>) -> Resu
 fn refused_memory_is_told(rt: HostRuntime) {
     let heap = Refusing::new(rt.alloc());
     let mut replica = opening(&heap, 0);
-    assert!(rt; joins(&rt, &heap, &mut replica, Shown::Alice));
+    assert!(rt; joins(&rt, &heap, &mut replica, Shown::Alice).is_ok());
     for number in 1..16 {
         assert!(rt; fails_where_refused(&heap, &replica, number));
     }

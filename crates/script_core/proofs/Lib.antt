@@ -4,6 +4,9 @@ pub mod Calls
 pub mod Texts
 pub mod Orders
 pub mod Printed
+pub mod StepDiffs
+pub mod Touched
+pub mod Unwound
 pub mod OnePart
 pub mod Bytes
 pub mod Spaced

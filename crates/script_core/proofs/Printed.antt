@@ -1,25 +1,21 @@
 -- What the reply to an act says of the node that it changed, and the refusals of `why`.
-use Rattle.std.proofs.Common.{◌≡◌, ◌==◌, ◌||◌, ℕ, ◌+◌, Bool, true, false, not, nat_lt, if◌then◌else◌, List, [], ◌∷◌, ◌++◌, length, Option, Some, None}
-use Rattle.std.proofs.Common.{Result, Ok, Err, refl, sym, ap, ◌∙◌, append-nil, append_assoc, true≢false, ◌<◌, drop, get_or, slice_get, map, zero, suc}
+use Rattle.std.proofs.Common.{◌≡◌, ℕ, ◌+◌, false, List, [], ◌∷◌, ◌++◌, length, Some, None}
+use Rattle.std.proofs.Common.{sym, ap, ◌∙◌, append-nil, append_assoc, true≢false, ◌<◌, drop, slice_get, map, zero, suc}
 use Rattle.std.proofs.Common.{arith}
-use Rattle.std.specs.Option.{option_and_then}
 use Rattle.bench_core.specs.declared.fault.Fault.{Fault}
-use Rattle.bench_core.specs.declared.fault.Fault.TheVariants.{UnknownNode, HistoryFull, NoSuchStep}
 use Rattle.bench_core.specs.declared.reply.Reply.{Reply}
 use Rattle.bench_core.specs.declared.reply.Reply.TheVariants.{Refused}
-use Rattle.journal_core.specs.Journals.{Kept, find_number, first_consequence, last_of}
+use Rattle.journal_core.specs.Journals.{Kept, find_number}
 use Rattle.journal_core.specs.Gathering.{gathered_numbers}
 use Rattle.std.proofs.lemmas.List.{at_drop_more}
 use Rattle.std.proofs.lemmas.Option.{get_or_from_slice_get}
-use Rattle.bench_core.specs.Acts.{Action, Do, Undo, Back}
-use Rattle.bench_core.specs.Clusters.{Cluster, step}
-use Rattle.bench_core.specs.Machine.{Machine, State, Event, config_of, given, knows, free_places, now, step_reply, undo_reply, undo_found, unheld}
-use Rattle.bench_core.specs.Machine.{back_reply, with_state, calls}
+use Rattle.bench_core.specs.Acts.{Action}
+use Rattle.bench_core.specs.Machine.{Machine, State, Event, config_of, now}
+use Rattle.bench_core.specs.Machine.{with_state, calls}
 use Rattle.bench_core.specs.Unwinds.{Unexplained, Gone, Unmade, undos}
-use Rattle.payload_core.specs.Answers.{◌>>=◌}
 use Rattle.diff_core.specs.Rows.{Row}
-use Rattle.script_core.specs.Rows.{reply_line, diff_text, change_lines, row_lines, at_text, undone_lines}
-use Rattle.script_core.specs.Shown.{changed, concerned, node_of_step, rows_at, rows_of, rows_to}
+use Rattle.script_core.specs.Rows.{reply_line, diff_text, change_lines, row_lines, undone_lines}
+use Rattle.script_core.specs.Shown.{changed, rows_of, rows_to}
 use Rattle.script_core.specs.Report.{reply_of, after_act, act_text, change_text, unless_gone, unless_none, is_want, unwound, after_unwind, unwind_text}
 use Rattle.script_core.specs.Report.{changes_from, changes_text, commands_text, command_text, call_of, after_command}
 
@@ -29,50 +25,6 @@ pub gone_text : (s : State) (n : ℕ) (fault : Fault) (text : List ℕ) → Unex
 gone_text s n _ text (Gone fault none refused) other = ap reply_line (sym refused) ∙ ap (λ o. unless_gone s n o text) (sym none)
 gone_text s n _ text (Unmade k found) other = absurd (true≢false other)
 
-abbrev IsMade : Reply → Type 0
-IsMade reply = (fault : Fault) → reply ≡ Refused fault → ⊥
-
--- an undo that is made is of the node of its step
-undo_changed : (s : State) (actor k : ℕ) → IsMade (undo_reply s k) → changed s.remaining actor (undo_reply s k) ≡ node_of_step s.remaining k
-unfolding changed
-undo_changed s actor k = go ((k == 0) || nat_lt (given s.history) k) (find_number s.remaining k)
-  where
-    held : (o : Option ℕ) → IsMade (unheld k o) → changed s.remaining actor (unheld k o) ≡ node_of_step s.remaining k
-    held None made = refl
-    held (Some j) made = absurd (made _ refl)
-
-    go : (b : Bool) (o : Option Kept) → IsMade (if b then Refused NoSuchStep else undo_found s.remaining k o) →
-        changed s.remaining actor (if b then Refused NoSuchStep else undo_found s.remaining k o) ≡ node_of_step s.remaining k
-    go true o made = absurd (made _ refl)
-    go false None made = absurd (made _ refl)
-    go false (Some x) made = held (first_consequence s.remaining k) made
-
--- an act that isn't refused changes the node that it concerns
-pub changed_concerned : (m : Machine) (actor : ℕ) (act : Action) → IsMade (reply_of m actor act) →
-    changed m.state.remaining actor (reply_of m actor act) ≡ concerned m actor act
-unfolding changed concerned reply_of
-changed_concerned m actor (Do operation) =
-    go (not (knows (config_of m) actor operation)) (nat_lt (free_places (config_of m) m.state) 2)
-    (now (config_of m) m.state >>= λ cluster. step cluster actor operation)
-  where
-    go : (a b : Bool) (r : Result Cluster Fault) →
-        IsMade (if a then Refused UnknownNode else if b then Refused HistoryFull else step_reply (given m.state.history + 1) r)
-        → changed m.state.remaining actor
-        (if a then Refused UnknownNode else if b then Refused HistoryFull else step_reply (given m.state.history + 1) r) ≡ Some actor
-    go true b r made = absurd (made _ refl)
-    go false true r made = absurd (made _ refl)
-    go false false (Ok c) made = refl
-    go false false (Err e) made = absurd (made _ refl)
-changed_concerned m actor (Undo k) = undo_changed m.state actor k
-changed_concerned m actor (Back node) = go (nat_lt node (length m.names)) (last_of m.state.remaining node)
-  where
-    go : (b : Bool) (o : Option ℕ) → IsMade (if b then back_reply m.state o else Refused UnknownNode)
-        → changed m.state.remaining actor (if b then back_reply m.state o else Refused UnknownNode) ≡
-        (if b then option_and_then (node_of_step m.state.remaining) o else None)
-    go true None made = absurd (made _ refl)
-    go true (Some k) made = undo_changed m.state actor k made
-    go false o made = absurd (made _ refl)
-
 -- nothing changed
 pub refused_text : (m : Machine) (actor : ℕ) (act : Action) (reply : Reply) (fault : Fault) → reply ≡ reply_of m actor act →
     reply ≡ Refused fault → act_text m actor act ≡ reply_line reply
@@ -80,33 +32,6 @@ unfolding act_text change_text changed rows_of diff_text change_lines row_lines
 refused_text m actor act reply fault said is =
     ap (λ r. reply_line r ++ change_text m (after_act m actor act) (changed m.state.remaining actor r)) (sym said ∙ is)
     ∙ append-nil (reply_line (Refused fault)) ∙ ap reply_line (sym is)
-
--- the node that the act concerns
-pub made_text : (m : Machine) (actor : ℕ) (act : Action) (reply : Reply) → reply ≡ reply_of m actor act → IsMade reply
-    → act_text m actor act ≡ reply_line reply ++
-    diff_text m.names (rows_of m (concerned m actor act)) (rows_of (after_act m actor act) (concerned m actor act))
-unfolding act_text change_text
-made_text m actor act reply said made =
-    ap (λ r. reply_line r ++ change_text m (after_act m actor act) (changed m.state.remaining actor (reply_of m actor act))) (sym said)
-    ∙ ap (λ n. reply_line reply ++ change_text m (after_act m actor act) n)
-    (changed_concerned m actor act (λ fault e. made fault (said ∙ e)))
-
--- and so the text of an act, put together from what was asked before it and after it
-pub act_done : (m new : Machine) (actor : ℕ) (act : Action) (reply : Reply) (node : Option ℕ) (before : List Row)
-    (start middle end : List ℕ) → node ≡ concerned m actor act → before ≡ rows_of m node → reply ≡ reply_of m actor act →
-    new ≡ after_act m actor act → IsMade reply
-    → middle ≡ start ++ reply_line reply → end ≡ middle ++ diff_text new.names before (rows_of new node) →
-    end ≡ start ++ act_text m actor act
-unfolding after_act
-act_done m new actor act reply node before start middle end there was said now made first second =
-    let change : diff_text new.names before (rows_of new node) ≡
-    diff_text m.names (rows_of m (concerned m actor act)) (rows_of (after_act m actor act) (concerned m actor act)) =
-    ap (λ (x : Machine). diff_text x.names before (rows_of x node)) now
-    ∙ ap (λ rows. diff_text m.names rows (rows_of (after_act m actor act) node)) was
-    ∙ ap (λ n. diff_text m.names (rows_of m n) (rows_of (after_act m actor act) n)) there in
-    second ∙ ap (λ t. t ++ diff_text new.names before (rows_of new node)) first
-    ∙ append_assoc start (reply_line reply) (diff_text new.names before (rows_of new node))
-    ∙ ap (λ t. start ++ (reply_line reply ++ t)) change ∙ ap (λ t. start ++ t) (sym (made_text m actor act reply said made))
 
 -- an unwind
 
@@ -148,18 +73,6 @@ pub gone_unwind : (m : Machine) (actor n : ℕ) (fault : Fault) → Unexplained 
     reply_line (Refused fault) ≡ unwind_text m actor n
 unfolding unwind_text
 gone_unwind m actor n fault gone told = gone_text m.state n fault _ gone told
-
--- one more node of which the list changed, or didn't
-pub changes_more : (new : Machine) (lists : List (List Row)) (n : ℕ) (before : List Row) (start now next : List ℕ) → n < length lists →
-    now ++ changes_from new n (drop n lists) ≡ start → before ≡ get_or lists n before →
-    next ≡ now ++ at_text new.names n before (rows_at new n) → next ++ changes_from new (n + 1) (drop (n + 1) lists) ≡ start
-unfolding changes_from
-changes_more new lists n before start now next within so_far is more =
-    let rest = changes_from new (n + 1) (drop (n + 1) lists) in
-    let here = at_text new.names n before (rows_at new n) in
-    let split : changes_from new n (drop n lists) ≡ here ++ rest =
-    at_drop_more (changes_from new n) lists n before within ∙ ap (λ rows. at_text new.names n rows (rows_at new n) ++ rest) (sym is) in
-    ap (λ t. t ++ rest) more ∙ append_assoc now here rest ∙ ap (λ t. now ++ t) (sym split) ∙ so_far
 
 -- one more recorded act
 pub events_more : (m next : Machine) (events : List Event) (n : ℕ) (e : Event) (start now text : List ℕ) → n < length events →

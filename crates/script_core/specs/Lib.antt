@@ -8,6 +8,8 @@ pub mod Readings
 pub mod Rows
 pub mod StepText
 pub mod Shown
+pub mod StepDiffs
+pub mod Touched
 pub mod Dots
 pub mod Report
 pub mod Play

@@ -1,12 +1,12 @@
 //! An act on a bench, and what is printed of it.
-ghost use Rattle.std.specs.Prelude.{◌≡◌, ◌++◌, OnOk, IfOk, string_bytes};
+ghost use Rattle.std.specs.Prelude.{◌≡◌, ◌++◌, OnOk, IfOk, None, string_bytes};
+ghost use Rattle.journal_core.specs.Journals.{first_consequence};
 ghost use Rattle.bench_core.specs.Acts.{plain_act};
-ghost use Rattle.script_core.specs.Rows.{diff_text};
-ghost use Rattle.script_core.specs.Shown.{rows_of};
+ghost use Rattle.script_core.specs.StepDiffs.{PutsStep};
 ghost use Rattle.script_core.specs.Report.{reply_of, after_act, act_text};
 
-use crate::rows::{put_diff, put_reply};
-use crate::shown::{Listed, concerned, rows_of};
+use crate::rows::{put_lines, put_reply};
+use crate::step_diff::{step_diff, undo_diff};
 use bench_core::{Act, Bench, Fault, Reply};
 use payload_core::Oom;
 use std::alloc::Allocator;
@@ -28,18 +28,18 @@ fn answer<'a, B: Allocator>(
     Ok(reply)
 }
 
-/// How the online list of a node changed.
-fn put_change<'a, B: Allocator>(
+/// What the last step changed of its node's online list.
+fn put_step<'a, B: Allocator>(
     alloc: &'a B,
     text: &mut String<&'a B>,
     bench: &Bench<'a, B>,
-    node: Option<u16>,
-    before: &Listed<'a, B>,
+    number: u64,
 ) -> Result<(), Oom>
-    ensures { OnOk result (string_bytes text.new ≡ string_bytes text.old ++ diff_text bench.now.names before.now (rows_of bench.now node)) }
+    requires { first_consequence bench.now.state.remaining number ≡ None }
+    ensures { OnOk result (PutsStep bench.now number (string_bytes text.old) (string_bytes text.new)) }
 {
-    let after = rows_of(alloc, bench, node)?;
-    put_diff(alloc, text, bench.names(), before.rows(), after.rows())
+    let diff = step_diff(alloc, bench, number)?;
+    put_lines(text, bench.names(), &diff.left, &diff.joined)
 }
 
 /// An act: its reply, and how the online list of its node changed.
@@ -54,12 +54,13 @@ pub fn act<'a, B: Allocator>(
     ensures bench { OnOk result (bench.new ≡ after_act bench.old actor (plain_act act.now)) }
     ensures text { OnOk result (string_bytes text.new ≡ string_bytes text.old ++ act_text bench.old actor (plain_act act.now)) }
 {
-    let node = concerned(bench, actor, act);
-    let before = rows_of(alloc, bench, node)?;
+    bench.bench_law();
+    let undone = undo_diff(alloc, bench, act)?;
     let reply = answer(bench, actor, act)?;
     put_reply(text, reply)?;
-    if let Reply::Refused(_) = reply {
-        return Ok(());
+    match reply {
+        Reply::Taken(number) => put_step(alloc, text, bench, number),
+        Reply::Undone(_) => put_lines(text, bench.names(), &undone.joined, &undone.left),
+        Reply::Refused(_) => Ok(()),
     }
-    put_change(alloc, text, bench, node, &before)
 }

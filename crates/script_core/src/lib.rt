@@ -4,7 +4,7 @@
 //!
 //! In the order in which data flows: `streams` takes the input in; `words`, `keyword`, `cast`, `steps`, `command`, `parse`
 //! make a `script` of it, or a `fault`; `run` plays it on a bench, `acting` and `unwinding` being what changes one, and puts the report
-//! together from `shown` (what a bench shows), `rows`, `step_text` and `dots_text` (what is printed of it); `history` does the
+//! together from `step_diff` (what a step changed), `shown` (what a bench shows), `rows`, `step_text` and `dots_text` (what is printed of it); `history` does the
 //! same for recorded acts; `playing`
 //! goes from a reader to a writer. `laws` says that what is printed of a step is read as that step. `fakes` are a reader and a
 //! writer that fail, for the tests of this crate and of those above.
@@ -25,6 +25,7 @@ mod rows;
 mod run;
 mod script;
 mod shown;
+mod step_diff;
 mod step_text;
 mod steps;
 mod streams;
