@@ -1,0 +1,5 @@
+pub mod Answering
+pub mod Named
+pub mod Counts
+pub mod Interleaving
+pub mod Replies

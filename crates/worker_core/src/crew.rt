@@ -1,0 +1,232 @@
+//! The workers of a race, one thread for each actor that has a line.
+use crate::asking::ask;
+use crate::gate::Gate;
+use crate::race_fault::CrewFault;
+use crate::receipt::Receipt;
+use bench_core::{Act, Bench};
+use crossbeam_channel::{Receiver, Sender};
+use payload_core::Oom;
+use std::alloc::Allocator;
+use std::sync::{Mutex, Wait};
+use std::thread;
+use std::thread::{JoinHandle, Scope, Threads};
+
+/// What workers share under its lock: it is asked one act of an actor's line, and gives a receipt.
+pub(crate) trait Shared<L, T> {
+    fn ask_line(&mut self, actor: u16, number: u64, act: L) -> T;
+}
+
+impl<'a, B: Allocator> Shared<Act<&'a B>, Receipt<&'a B>> for Bench<'a, B> {
+    fn ask_line(&mut self, actor: u16, number: u64, act: Act<&'a B>) -> Receipt<&'a B> {
+        ask(self, actor, number, act)
+    }
+}
+
+/// A line on its way to its worker.
+#[derive(Drop)]
+struct Line<L> {
+    number: u64,
+    act: L,
+}
+
+/// What a worker is given: its actor, the lines that come, and room for a receipt of each.
+#[derive(Drop)]
+struct Station<L, T, A: Allocator + Clone> {
+    actor: u16,
+    lines: Receiver<Line<L>, A>,
+    receipts: Vec<T, A>,
+}
+
+/// The ways to the stations, by actor; none for an actor without a line.
+type Ways<L, A> = Vec<Option<Sender<Line<L>, A>>, A>;
+
+/// The stations by actor, with the ways to them.
+#[derive(Drop)]
+struct Stations<L, T, A: Allocator + Clone> {
+    stations: Vec<Option<Station<L, T, A>>, A>,
+    ways: Ways<L, A>,
+}
+
+/// The workers by actor; none for an actor without a line.
+type Workers<T, A> = Vec<Option<JoinHandle<Vec<T, A>>>, A>;
+
+/// Makes one call under the lock, which it takes for this call alone.
+fn ask_alone<L, T, S: Shared<L, T>, R: Wait>(
+    rt: &R,
+    shared: &Mutex<S>,
+    actor: u16,
+    number: u64,
+    act: L,
+) -> T {
+    let mut guard = shared.lock(rt);
+    let bench = &mut *guard;
+    bench.ask_line(actor, number, act)
+}
+
+/// Asks each line that comes, until no more can come. A receipt for which there were no room would be missed by `agree`.
+fn work<L: Drop, T: Drop, A: Allocator + Clone, S: Shared<L, T>, G: Gate, R: Wait>(
+    rt: &R,
+    shared: &Mutex<S>,
+    gate: &G,
+    station: Station<L, T, A>,
+) -> Vec<T, A> {
+    let Station {
+        actor,
+        lines,
+        mut receipts,
+    } = station;
+    for _ in rt.forever() {
+        let Ok(Line { number, act }) = lines.recv(rt) else {
+            break;
+        };
+        gate.before(actor, number);
+        let receipt = ask_alone(rt, shared, actor, number, act);
+        gate.after(actor, number);
+        let _ = receipts.push(receipt);
+    }
+    receipts
+}
+
+/// Starts a worker on its station.
+fn start<
+    's,
+    E,
+    L: Drop + Send + 's,
+    T: Drop + Send + 's,
+    A: Allocator + Clone + Send + Sync + 's,
+    S: Shared<L, T> + Send + 's,
+    G: Gate + Sync + 's,
+    R: Threads + Wait + Sync + 's,
+>(
+    rt: &'s R,
+    scope: &Scope<'s, E>,
+    shared: &'s Mutex<S>,
+    gate: &'s G,
+    station: Station<L, T, A>,
+) -> Result<JoinHandle<Vec<T, A>>, CrewFault> {
+    scope
+        .spawn(move || work(rt, shared, gate, station))
+        .map_err(|_| CrewFault::WorkerRefused)
+}
+
+/// Starts a worker at each station. The first that can't be started ends it.
+fn start_all<
+    's,
+    E,
+    L: Drop + Send + 's,
+    T: Drop + Send + 's,
+    A: Allocator + Copy + Send + Sync + 's,
+    S: Shared<L, T> + Send + 's,
+    G: Gate + Sync + 's,
+    R: Threads + Wait + Sync + 's,
+>(
+    rt: &'s R,
+    alloc: A,
+    scope: &Scope<'s, E>,
+    shared: &'s Mutex<S>,
+    gate: &'s G,
+    stations: Vec<Option<Station<L, T, A>>, A>,
+) -> Result<Workers<T, A>, CrewFault> {
+    let mut workers = Vec::with_capacity(alloc, stations.len())?;
+    for station in stations {
+        let worker = match station {
+            Some(station) => Some(start(rt, scope, shared, gate, station)?),
+            None => None,
+        };
+        let Ok(()) = workers.push(worker) else {
+            return Err(CrewFault::OutOfMemory);
+        };
+    }
+    Ok(workers)
+}
+
+/// Takes the workers in. An actor without a worker has no receipts.
+fn join_all<T: Drop, A: Allocator + Copy, R: Threads>(
+    rt: &R,
+    alloc: A,
+    workers: Workers<T, A>,
+) -> Result<Vec<Vec<T, A>, A>, CrewFault> {
+    let mut lists = Vec::with_capacity(alloc, workers.len())?;
+    for worker in workers {
+        let list = match worker {
+            Some(worker) => worker.join(rt),
+            None => Vec::new(alloc),
+        };
+        let Ok(()) = lists.push(list) else {
+            return Err(CrewFault::OutOfMemory);
+        };
+    }
+    Ok(lists)
+}
+
+/// How many of the lines are the actor's.
+fn count_lines<L>(lines: &[(u16, L)], actor: u16) -> usize {
+    lines.iter().filter(|(other, _)| *other == actor).count()
+}
+
+/// A station for each actor that has a line, with room for all its lines and receipts, and the way to it.
+fn stations_of<L: Drop, T: Drop, A: Allocator + Copy>(
+    alloc: A,
+    actors: u16,
+    lines: &[(u16, L)],
+) -> Result<Stations<L, T, A>, Oom> {
+    let mut stations = Vec::with_capacity(alloc, usize::from(actors))?;
+    let mut ways = Vec::with_capacity(alloc, usize::from(actors))?;
+    for actor in 0..actors {
+        let count = count_lines(lines, actor);
+        if count == 0 {
+            stations.push(None)?;
+            ways.push(None)?;
+            continue;
+        }
+        let (way, lines) = crossbeam_channel::bounded(alloc, count)?;
+        let receipts = Vec::with_capacity(alloc, count)?;
+        stations.push(Some(Station {
+            actor,
+            lines,
+            receipts,
+        }))?;
+        ways.push(Some(way))?;
+    }
+    Ok(Stations { stations, ways })
+}
+
+/// Sends each line to its worker. A line that were lost would be missed by `agree`.
+fn send_all<L: Drop, A: Allocator + Clone, R: Wait>(
+    rt: &R,
+    ways: Ways<L, A>,
+    lines: Vec<(u16, L), A>,
+) {
+    let mut number = 0u64;
+    for (actor, act) in lines {
+        number = number.saturating_add(1);
+        if let Some(Some(way)) = ways.get(usize::from(actor)) {
+            let _ = way.send(rt, Line { number, act });
+        }
+    }
+}
+
+/// Has each line asked by its actor's worker, and gives the receipts by actor. All memory for it is asked for before the first
+/// worker is started, and no line is sent before each has been: where one can't be, none is asked.
+pub(crate) fn ask_all<
+    L: Drop + Send,
+    T: Drop + Send,
+    A: Allocator + Copy + Send + Sync,
+    S: Shared<L, T> + Send,
+    G: Gate + Sync,
+    R: Threads + Wait + Sync,
+>(
+    rt: &R,
+    alloc: A,
+    shared: &Mutex<S>,
+    actors: u16,
+    lines: Vec<(u16, L), A>,
+    gate: &G,
+) -> Result<Vec<Vec<T, A>, A>, CrewFault> {
+    let Stations { stations, ways } = stations_of(alloc, actors, &lines)?;
+    thread::scope(thread::scope_env(), rt, move |scope| {
+        let workers = start_all(rt, alloc, scope, shared, gate, stations)?;
+        send_all(rt, ways, lines);
+        join_all(rt, alloc, workers)
+    })
+}

@@ -1,0 +1,190 @@
+//! `race`: each actor's lines are asked by a worker of the actor's own.
+ghost use Rattle.std.specs.Prelude.{◌≡◌, OnOk, IfOk, IfErr, IfSome, Err, MatchOption, drop, length, map, vec_len};
+ghost use Rattle.bench_core.specs.Acts.{calls_of};
+ghost use Rattle.bench_core.specs.Benches.{IsMachine};
+ghost use Rattle.bench_core.specs.Machine.{config_of};
+ghost use Rattle.worker_core.specs.Agree.{Agrees};
+ghost use Rattle.worker_core.specs.Interleaving.{IsInterleaving, all_told};
+ghost use Rattle.worker_core.specs.Races.{IsLate, has_room, are_known, refusal_of};
+ghost use Rattle.worker_core.specs.Replies.{AreMachineReplies};
+
+use crate::agreeing::agree;
+use crate::crew::ask_all;
+use crate::gate::Gate;
+use crate::race_fault::RaceFault;
+use crate::receipt::{Receipt, Receipts};
+use bench_core::laws::replay_law;
+use bench_core::{Act, Bench, Fault, History, Limits, Names, Reply};
+use payload_core::Oom;
+use std::alloc::Allocator;
+use std::sync::{Mutex, Wait};
+use std::thread::Threads;
+
+/// Whether each line's actor is one of so many.
+fn are_known<A: Allocator>(lines: &[(u16, Act<A>)], actors: u16) -> bool
+    ensures { result ≡ are_known actors (calls_of lines.now) }
+{
+    for (actor, _) in lines {
+        if *actor >= actors {
+            return false;
+        }
+    }
+    true
+}
+
+/// Whether the bench has twice as many free places as there are lines.
+fn has_room<'a, B: Allocator>(bench: &Bench<'a, B>, lines: &[(u16, Act<&'a B>)]) -> bool
+    ensures { result ≡ has_room bench.now (calls_of lines.now) }
+{
+    bench.bench_law();
+    let taken = bench.history().len() as u64 + bench.remaining().len() as u64;
+    let free = bench.limits().acts() - taken;
+    lines.len() as u64 <= free / 2
+}
+
+/// What refuses a race before it begins.
+fn refusal<'a, B: Allocator>(
+    bench: &Bench<'a, B>,
+    actors: u16,
+    lines: &[(u16, Act<&'a B>)],
+) -> Option<RaceFault>
+    ensures { result ≡ refusal_of bench.now actors (calls_of lines.now) }
+{
+    if !are_known(lines, actors) {
+        return Some(RaceFault::UnknownActor);
+    }
+    if !has_room(bench, lines) {
+        return Some(RaceFault::NoRoom);
+    }
+    None
+}
+
+/// Whether a call was refused memory.
+fn met_want<'a, B: Allocator>(lists: &[Vec<Receipt<&'a B>, &'a B>]) -> bool {
+    lists.iter().any(|receipts| {
+        receipts.iter().any(|receipt| receipt.reply == Reply::Refused(Fault::OutOfMemory))
+    })
+}
+
+/// What is kept of the bench that a race is given, to compare it with what comes out.
+#[derive(Drop)]
+struct Known<'a, B: Allocator> {
+    history: History<'a, B>,
+    names: Names<&'a B>,
+    limits: Limits,
+}
+
+/// Vouches for a race, or says why it can't.
+#[tactic(auto, using(crate::proofs::Interleaving::agrees_interleave, crate::proofs::Replies::agrees_replies))]
+fn vouch<'a, B: Allocator>(
+    alloc: &'a B,
+    before: &Known<'a, B>,
+    bench: &Bench<'a, B>,
+    actors: u16,
+    lines: &[(u16, Act<&'a B>)],
+    receipts: &[Vec<Receipt<&'a B>, &'a B>],
+) -> Result<(), RaceFault>
+    ensures agrees { OnOk result (Agrees before.now.history bench.now.state.history (calls_of lines.now) (map (λ v. v.items) receipts.now)) }
+    ensures interleaving { OnOk result (IsInterleaving (drop (length before.now.history) bench.now.state.history) (all_told (map (λ v. v.items) receipts.now))) }
+    ensures replies { OnOk result (AreMachineReplies (config_of bench.now) bench.now.state.history (map (λ v. v.items) receipts.now)) }
+    ensures names { OnOk result (bench.now.names ≡ before.now.names) }
+    ensures limits { OnOk result (bench.now.limits ≡ before.now.limits) }
+    ensures lists { OnOk result (length receipts.now ≡ actors) }
+    ensures machine { OnOk result (IsMachine bench.now) }
+    ensures late { IfErr result IsLate }
+{
+    bench.bench_law();
+    replay_law();
+    if met_want(receipts) {
+        return Err(RaceFault::OutOfMemory);
+    }
+    let Ok(agrees) = agree(alloc, &before.history, bench.history(), lines, receipts) else {
+        return Err(RaceFault::OutOfMemory);
+    };
+    let is_same = bench.names().same(&before.names) && bench.limits() == before.limits;
+    if agrees && is_same && receipts.len() == usize::from(actors) {
+        Ok(())
+    } else {
+        Err(RaceFault::LogsDisagree)
+    }
+}
+
+/// What is known of the bench, copied.
+fn known_of<'a, B: Allocator>(bench: &Bench<'a, B>) -> Option<Known<'a, B>>
+    ensures history { IfSome result (λ known. known.history ≡ bench.now.state.history) }
+    ensures names { IfSome result (λ known. known.names ≡ bench.now.names) }
+    ensures limits { IfSome result (λ known. known.limits ≡ bench.now.limits) }
+{
+    let Ok(history) = bench.history().try_copy() else {
+        return None;
+    };
+    let Ok(names) = bench.names().try_copy() else {
+        return None;
+    };
+    Some(Known {
+        history,
+        names,
+        limits: bench.limits(),
+    })
+}
+
+fn copied<A: Allocator + Copy>(
+    alloc: A,
+    lines: &[(u16, Act<A>)],
+) -> Result<Vec<(u16, Act<A>), A>, Oom> {
+    let mut copies = Vec::with_capacity(alloc, lines.len())?;
+    for (actor, act) in lines {
+        copies.push((*actor, act.try_copy()?))?;
+    }
+    Ok(copies)
+}
+
+/// Lets go of receipts that nobody vouches for.
+fn discard<A: Allocator>(receipts: Receipts<A>) {
+    drop(receipts);
+}
+
+/// Has each line asked on the one bench by a thread of its actor's own, in the actor's order, and compares what the workers
+/// tell with the history. Lines are numbered from 1. The faults, in their order: `UnknownActor` and `NoRoom`, before anything
+/// is done; `WorkerRefused`, and then no line was asked; `OutOfMemory`; `LogsDisagree`. All that is promised holds if it returns.
+pub fn race<'a, B: Allocator + Sync, G: Gate + Sync, R: Threads + Wait + Sync>(
+    rt: &R,
+    alloc: &'a B,
+    bench: Bench<'a, B>,
+    actors: u16,
+    lines: Vec<(u16, Act<&'a B>), &'a B>,
+    gate: &G,
+) -> Result<(Bench<'a, B>, Receipts<&'a B>), (RaceFault, Bench<'a, B>)>
+    ensures agrees { IfOk result (λ r. Agrees bench.entry.state.history r.0.state.history (calls_of lines.entry.items) (map (λ v. v.items) r.1.items)) }
+    ensures interleaving { IfOk result (λ r. IsInterleaving (drop (length bench.entry.state.history) r.0.state.history) (all_told (map (λ v. v.items) r.1.items))) }
+    ensures replies { IfOk result (λ r. AreMachineReplies (config_of r.0) r.0.state.history (map (λ v. v.items) r.1.items)) }
+    ensures names { IfOk result (λ r. r.0.names ≡ bench.entry.names) }
+    ensures limits { IfOk result (λ r. r.0.limits ≡ bench.entry.limits) }
+    ensures lists { IfOk result (λ r. vec_len r.1 ≡ actors) }
+    ensures machine { IfOk result (λ r. IsMachine r.0) }
+    ensures refused { MatchOption (refusal_of bench.entry actors (calls_of lines.entry.items)) (IfErr result (λ e. IsLate e.0)) (λ fault. result ≡ Err (fault, bench.entry)) }
+{
+    if let Some(fault) = refusal(&bench, actors, &lines) {
+        return Err((fault, bench));
+    }
+    let Some(before) = known_of(&bench) else {
+        return Err((RaceFault::OutOfMemory, bench));
+    };
+    let Ok(copies) = copied(alloc, &lines) else {
+        return Err((RaceFault::OutOfMemory, bench));
+    };
+    let shared = Mutex::new(bench);
+    let asked = ask_all(rt, alloc, &shared, actors, copies, gate);
+    let bench = shared.into_inner();
+    let receipts = match asked {
+        Ok(receipts) => receipts,
+        Err(fault) => return Err((fault.of_race(), bench)),
+    };
+    match vouch(alloc, &before, &bench, actors, &lines, &receipts) {
+        Ok(()) => Ok((bench, receipts)),
+        Err(fault) => {
+            discard(receipts);
+            Err((fault, bench))
+        }
+    }
+}
