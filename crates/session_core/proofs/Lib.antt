@@ -10,3 +10,7 @@ pub mod Again
 pub mod Asked
 pub mod ComesBack
 pub mod Told
+pub mod Reading
+pub mod Heads
+pub mod Drafting
+pub mod Plain

@@ -48,14 +48,9 @@ stops n m d ds start all fault new g s = g.err fault (now n m d ds fault new s)
 pub starts : (start : Machine) (all : List Data) → Goes 1 start all start all
 starts start all = record { ok = λ new h. h; err = λ fault h. h }
 
--- the values from a place on, where there is one
-pub rest_is : {A B : Type 0} (f : A → B) (xs : List A) (i : ℕ) (d : A) → i < length xs →
-    map f (drop i xs) ≡ f (get_or xs i d) ∷ map f (drop (i + 1) xs)
-rest_is f xs i d h = let e : drop i xs ≡ get_or xs i d ∷ drop (i + 1) xs = drop-cons xs i d h ∙ rw add-one refl in ap (map f) e
-
-pub ends : {A : Type 0} (n : ℕ) (m start : Machine) (all : List Data) (xs : List A) (f : A → Data) (i : ℕ) → length xs ≤ i →
-    Goes n m (map f (drop i xs)) start all → Reads start all m
-ends n m start all xs f i h g = g.ok m (rw (drop_all i xs h) refl)
+-- the list from a place on, where there is one
+pub from_here : {A : Type 0} (xs : List A) (i : ℕ) (d : A) → i < length xs → drop i xs ≡ get_or xs i d ∷ drop (i + 1) xs
+from_here xs i d h = drop-cons xs i d h ∙ rw add-one refl
 
 take_more : {A : Type 0} (xs : List A) (i : ℕ) (x : A) → slice_get xs i ≡ Some x → take (suc i) xs ≡ take i xs ++ x ∷ []
 take_more [] i x e = absurd (cc)

@@ -1,19 +1,21 @@
 -- What is loaded is the session of the bench that it gives.
 use Rattle.std.proofs.Common.{◌≡◌, ℕ, List, [], ◌∷◌, ◌++◌, length, map, if◌then◌else◌, Some, Ok, Err, inr, refl, sym, ap, ap₂, subst, ◌∙◌, append_assoc, append-nil}
-use Rattle.std.specs.Prelude.{IfOk, Result, IsUtf8}
+use Rattle.std.specs.Prelude.{IfOk, IfErr, Result, IsUtf8}
 use Rattle.serde_json.specs.Data.{Data, array, object, Items, no_items, item}
 use Rattle.serde_json.specs.Read.{read}
 use Rattle.serde_json.specs.View.{items_of}
 use Rattle.bench_core.specs.Limits.{Limits}
 use Rattle.bench_core.specs.NameList.{Texts}
 use Rattle.bench_core.specs.Histories.{note}
-use Rattle.bench_core.specs.Machine.{Config, State, Event, Machine, opening_state, config_of, with_state, is_recorded, after}
+use Rattle.bench_core.specs.Machine.{Config, State, Event, Machine, opening_state, opening_machine, config_of, with_state, is_recorded, after}
 use Rattle.bench_core.specs.Replays.{Records, Replays}
 use Rattle.session_core.specs.declared.session_fault.SessionFault.{SessionFault}
 use Rattle.session_core.specs.declared.session_fault.SessionFault.TheVariants.{NotJson, BadShape, BadVersion, Disagrees, OutOfMemory}
 use Rattle.session_core.specs.Format.{list, event_json, session}
 use Rattle.session_core.specs.Decoding.{Parts, version_of, parts_at, event_at}
-use Rattle.session_core.specs.Sessions.{with_event, first_bench, Reads, Faults, data_of, Gives, IsRefused, IsJson, Answers, IsSession}
+use Rattle.session_core.specs.Sessions.{with_event, first_bench, Reads, Faults, data_of, Gives, HasFault, IsRefused, IsJson, Answers, Refuses, IsSession}
+use Rattle.session_core.specs.Drafts.{head, acts}
+use Rattle.session_core.proofs.Heads.{head_version, parts_back}
 use Rattle.session_core.proofs.Events.{event_is}
 use Rattle.session_core.proofs.Parts.{parts_are}
 
@@ -25,20 +27,30 @@ items_of-data_of : (ds : Items) → items_of (data_of ds) ≡ ds
 items_of-data_of no_items = refl
 items_of-data_of (item d ds) = ap (item d) (items_of-data_of ds)
 
--- from the loop over the acts to the answer
+-- from the head and the loop over the acts to the answer
 
-abbrev parts : Texts → Limits → List Data → Parts
-parts names limits ds = record { acts = items_of ds; limits = limits; names = names }
+module _ (d : Data) (q : Parts) (one : version_of (head d) ≡ Some 1) (is : parts_at (head d) ≡ Some q) where
+  at_first : (X : Machine → Type 0) (p : Parts) → p.limits ≡ q.limits → p.names ≡ q.names → X (first_bench q) → X (first_bench p)
+  at_first X p l n h = subst X (sym (ap₂ opening_machine n l)) h
 
-module _ (d : Data) (names : Texts) (limits : Limits) (ds : List Data) (one : version_of d ≡ Some 1) (is : parts_at d ≡ Some (parts names limits ds)) where
-  pub gives : (m : Machine) → Reads (first_bench (parts names limits ds)) ds m → Gives d m
-  gives m h = (one, (parts names limits ds, is, rw data_of-items_of h))
+  is_one : version_of d ≡ Some 1
+  is_one = sym (head_version d) ∙ one
 
-  pub refused : (fault : SessionFault) → Faults 1 (first_bench (parts names limits ds)) ds fault → IsRefused d fault
+  pub gives : (m : Machine) → Reads (first_bench q) (data_of (acts d)) m → Gives d m
+  gives m h =
+      let p = parts_back d q is in
+      (is_one, (p.0, p.1, at_first (λ b. Reads b (data_of p.0.acts) m) p.0 p.2 p.3 (subst (λ ds. Reads (first_bench q) (data_of ds) m) p.4 h)))
+
+  at_fault : (fault : SessionFault) → Faults 1 (first_bench q) (data_of (acts d)) fault → HasFault d fault
+  at_fault fault h =
+      let p = parts_back d q is in
+      (is_one, (p.0, p.1, at_first (λ b. Faults 1 b (data_of p.0.acts) fault) p.0 p.2 p.3 (subst (λ ds. Faults 1 (first_bench q) (data_of ds) fault) p.4 h)))
+
+  pub refused : (fault : SessionFault) → Faults 1 (first_bench q) (data_of (acts d)) fault → IsRefused d fault
   refused NotJson h = absurd h
   refused BadVersion h = absurd h
-  refused (BadShape k) h = inr (one, (parts names limits ds, is, rw data_of-items_of h))
-  refused (Disagrees k) h = (one, (parts names limits ds, is, rw data_of-items_of h))
+  refused (BadShape k) h = inr (at_fault (BadShape k) h)
+  refused (Disagrees k) h = at_fault (Disagrees k) h
   refused OutOfMemory h = tt
 
 -- what the acts say, and where they lead
@@ -103,3 +115,11 @@ is_session bytes d (Ok m) json h =
     let s = session_of d m h in
     record { utf8 = json.0; reads = json.1 ∙ ap Some s.0; replays = s.1 }
 is_session bytes d (Err e) json h = tt
+
+pub is_refused : (bytes : List ℕ) (d : Data) (r : Result Machine SessionFault) → IsJson bytes d → Answers d r → IfErr r (Refuses bytes)
+is_refused bytes d (Ok m) json h = tt
+is_refused bytes d (Err NotJson) json h = absurd h
+is_refused bytes d (Err OutOfMemory) json h = tt
+is_refused bytes d (Err BadVersion) json h = (d, json, h)
+is_refused bytes d (Err (BadShape k)) json h = (d, json, h)
+is_refused bytes d (Err (Disagrees k)) json h = (d, json, h)

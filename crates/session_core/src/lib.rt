@@ -1,12 +1,17 @@
 //! Saved sessions: a bench's names, limits and recorded calls as JSON, and the bench that they give again.
 //!
-//! Stands on `bench_core` and on the kit's `serde_json`, whose values take their memory from the global heap. In the order
-//! to read them: `session_fault`; `write_act`, `write_reply` and `saving`, from a bench to its text; `unread`, `places`,
-//! `read_step`, `read_act`, `read_reply`, `read_event` and `read_parts`, from JSON values to what they say; `same_reply` and `loading`, which
-//! asks the calls again and compares each reply.
+//! Stands on `bench_core`, on the kit's `json`, whose reader gives a text's tokens, and on its `serde_json`, whose values
+//! take their memory from the global heap. In the order to read them: `session_fault`; `write_act`, `write_reply` and
+//! `saving`, from a bench to its text; `unread`, `places`, `read_step`, `read_act`, `read_reply`, `read_event` and
+//! `read_parts`, from JSON values to what they say; `one_value`, `acts` and `draft`, from a text to the values of its
+//! head and the events of its acts, value by value; `same_reply` and `loading`, which asks the calls again and compares
+//! each reply.
 #![tactic(auto)]
 
+mod acts;
+mod draft;
 mod loading;
+mod one_value;
 mod places;
 mod read_act;
 mod read_event;

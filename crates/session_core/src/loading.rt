@@ -1,31 +1,22 @@
 //! `load`: the bench of a session, asked its calls again.
-ghost use Rattle.std.specs.Prelude.{◌≡◌, ◌⊎◌, Some, None, IfOk, OnOk, IfErr, IsUtf8, map};
+ghost use Rattle.std.specs.Prelude.{◌≡◌, ◌⊎◌, List, Some, None, IfOk, OnOk, IfErr, IsUtf8};
+ghost use Rattle.serde_json.specs.Data.{Data};
 ghost use Rattle.serde_json.specs.Read.{read};
 ghost use Rattle.serde_json.specs.View.{view};
 ghost use Rattle.bench_core.specs.Machine.{Machine};
-ghost use Rattle.session_core.specs.Sessions.{Asked, Steps, Reads, Faults, Refuses, Answers, ComesBack, IsSaved, IsSession};
+ghost use Rattle.session_core.specs.Decoding.{event_at};
+ghost use Rattle.session_core.specs.Drafts.{AreRead, IsDraft};
+ghost use Rattle.session_core.specs.Sessions.{Asked, Steps, Reads, Faults, Refuses, Answers, ComesBack, IsJson, IsSaved, IsSession};
 
-use crate::read_event::event_at;
+use crate::acts::Acts;
+use crate::draft::{Draft, draft_of};
 use crate::read_parts::{parts_at, version_of};
 use crate::same_reply::same_reply;
 use crate::session_fault::SessionFault;
 use crate::unread::Unread;
 use bench_core::{Bench, Event, Fault, Reply};
 use dots_core::Oom;
-use serde_json::Value;
 use std::alloc::{Allocator, Global};
-
-fn parsed(heap: Global, bytes: &[u8]) -> Result<Value, SessionFault>
-    ensures ok { IfOk result (λ v. IsUtf8 bytes.now × (read bytes.now ≡ Some (view v))) }
-    ensures err { IfErr result (λ e. (e ≡ SessionFault.OutOfMemory)
-        ⊎ ((e ≡ SessionFault.NotJson) × (IsUtf8 bytes.now → read bytes.now ≡ None))) }
-{
-    match Value::from_slice(heap, bytes) {
-        Ok(value) => Ok(value),
-        Err(fault) if fault.is_memory() => Err(SessionFault::OutOfMemory),
-        Err(_) => Err(SessionFault::NotJson),
-    }
-}
 
 /// Asks the event's call. Whether the bench gave its reply, and recorded it.
 fn records_next<'a, B: Allocator>(
@@ -47,19 +38,13 @@ fn records_next<'a, B: Allocator>(
 
 /// Asks the call of act `number`, and compares the reply.
 fn take_event<'a, B: Allocator>(
-    alloc: &'a B,
     bench: &mut Bench<'a, B>,
-    value: &Value,
+    event: &Event<&'a B>,
     number: u64,
 ) -> Result<(), SessionFault>
-    ensures { Steps number bench.old (view value.now) result bench.new }
+    ensures { (d : Data) → event_at d ≡ Some event.now → Steps number bench.old d result bench.new }
 {
-    let event = match event_at(alloc, value) {
-        Ok(event) => event,
-        Err(Unread::Memory) => return Err(SessionFault::OutOfMemory),
-        Err(Unread::Shape) => return Err(SessionFault::BadShape { act: number }),
-    };
-    match records_next(bench, &event) {
+    match records_next(bench, event) {
         Ok(true) => Ok(()),
         Ok(false) => Err(SessionFault::Disagrees { act: number }),
         Err(_) => Err(SessionFault::OutOfMemory),
@@ -68,32 +53,35 @@ fn take_event<'a, B: Allocator>(
 
 /// Asks the calls of the acts, in order.
 fn take_events<'a, B: Allocator>(
-    alloc: &'a B,
     bench: &mut Bench<'a, B>,
-    values: &[Value],
+    acts: &Acts<&'a B>,
 ) -> Result<(), SessionFault>
-    ensures ok { OnOk result (Reads bench.old (map view values.now) bench.new) }
-    ensures err { IfErr result (Faults 1 bench.old (map view values.now)) }
+    ensures ok { OnOk result ((ds : List Data) → AreRead ds acts.now.events.items acts.now.is_cut → Reads bench.old ds bench.new) }
+    ensures err { IfErr result (λ fault. (ds : List Data) → AreRead ds acts.now.events.items acts.now.is_cut → Faults 1 bench.old ds fault) }
 {
-    for (place, value) in values.iter().enumerate() {
-        take_event(alloc, bench, value, place as u64 + 1)?;
+    for (place, event) in acts.events.iter().enumerate() {
+        take_event(bench, event, place as u64 + 1)?;
+    }
+    if acts.is_cut {
+        let number = acts.events.len() as u64 + 1;
+        return Err(SessionFault::BadShape { act: number });
     }
     Ok(())
 }
 
-fn from_value<'a, B: Allocator>(
+fn from_draft<'a, B: Allocator>(
     heap: Global,
     alloc: &'a B,
-    value: &Value,
+    draft: &Draft<&'a B>,
 ) -> Result<Bench<'a, B>, SessionFault>
-    ensures { Answers (view value.now) result }
+    ensures { (d : Data) → IsDraft d (view draft.now.head) draft.now.acts.events.items draft.now.acts.is_cut → Answers d result }
 {
-    match version_of(value) {
+    match version_of(&draft.head) {
         None => return Err(SessionFault::BadShape { act: 0 }),
         Some(1) => {}
         Some(_) => return Err(SessionFault::BadVersion),
     }
-    let parts = match parts_at(heap, alloc, value) {
+    let parts = match parts_at(heap, alloc, &draft.head) {
         Ok(parts) => parts,
         Err(Unread::Memory) => return Err(SessionFault::OutOfMemory),
         Err(Unread::Shape) => return Err(SessionFault::BadShape { act: 0 }),
@@ -101,14 +89,35 @@ fn from_value<'a, B: Allocator>(
     let Ok(mut bench) = Bench::new(alloc, parts.names, parts.limits) else {
         return Err(SessionFault::OutOfMemory);
     };
-    take_events(alloc, &mut bench, parts.acts)?;
+    take_events(&mut bench, &draft.acts)?;
     Ok(bench)
+}
+
+/// What the bytes are as JSON, where they are.
+fn read<'a, B: Allocator>(
+    heap: Global,
+    alloc: &'a B,
+    bytes: &[u8],
+) -> Result<Draft<&'a B>, SessionFault>
+    ensures ok { IfOk result (λ x. (d : Data) × IsJson bytes.now d × IsDraft d (view x.head) x.acts.events.items x.acts.is_cut) }
+    ensures err { IfErr result (λ e. (e ≡ SessionFault.OutOfMemory)
+        ⊎ ((e ≡ SessionFault.NotJson) × (IsUtf8 bytes.now → read bytes.now ≡ None))) }
+{
+    let Ok(text) = std::str::from_utf8(bytes) else {
+        return Err(SessionFault::NotJson);
+    };
+    match draft_of(heap, alloc, text) {
+        Ok(draft) => Ok(draft),
+        Err(Unread::Memory) => Err(SessionFault::OutOfMemory),
+        Err(Unread::Shape) => Err(SessionFault::NotJson),
+    }
 }
 
 /// The bench of a session: opened with the session's names and limits, and asked its calls in order. Each reply has to be
 /// the one in the text, and recorded. Of an object with two equal keys the last counts. The refusals come in this order:
 /// `NotJson`; `BadShape {act: 0}` where there is no whole number at `version`; `BadVersion`; `BadShape {act: 0}` for the
-/// rest of the head; then act by act `BadShape` before `Disagrees`. JSON values take their memory from the global heap.
+/// rest of the head; then act by act `BadShape` before `Disagrees`. Each act's JSON is dropped once its event is known.
+/// JSON values and the list of events take their memory from the global heap.
 pub fn load<'a, B: Allocator>(
     heap: Global,
     alloc: &'a B,
@@ -118,6 +127,6 @@ pub fn load<'a, B: Allocator>(
     ensures refused { IfErr result (Refuses bytes.now) }
     ensures comes_back { (m : Machine) → IsSaved bytes.now m → ComesBack m result }
 {
-    let value = parsed(heap, bytes)?;
-    from_value(heap, alloc, &value)
+    let draft = read(heap, alloc, bytes)?;
+    from_draft(heap, alloc, &draft)
 }

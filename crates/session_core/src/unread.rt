@@ -1,7 +1,8 @@
 //! `Unread`: why a part of a session could not be read.
 ghost use Rattle.std.specs.Prelude.{◌≡◌};
-ghost use Rattle.session_core.specs.declared.unread.Unread.TheVariants.{Memory};
+ghost use Rattle.session_core.specs.declared.unread.Unread.TheVariants.{Memory, Shape};
 
+use json::Invalid;
 use std::alloc::{AllocError, AllocFailed};
 
 /// Why a part could not be read.
@@ -26,5 +27,13 @@ impl<T: Drop> From<AllocFailed<T>> for Unread {
 
     fn from(_fault: AllocFailed<T>) -> Unread {
         Unread::Memory
+    }
+}
+
+impl From<Invalid> for Unread {
+    ghost from_gives = { λ _ e. e ≡ Shape };
+
+    fn from(_fault: Invalid) -> Unread {
+        Unread::Shape
     }
 }

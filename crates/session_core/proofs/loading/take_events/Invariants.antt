@@ -1,8 +1,10 @@
-use Rattle.std.proofs.Common.{◌+◌, map, drop}
-use Rattle.serde_json.specs.View.{view}
+use Rattle.std.proofs.Common.{◌+◌, List, drop}
+use Rattle.serde_json.specs.Data.{Data}
+use Rattle.session_core.specs.Drafts.{AreRead}
 use Rattle.session_core.proofs.Loops.{Goes}
 use Rattle.session_core.proofs.loading.take_events.Given as goal
 
 -- what is left, asked of the bench as it is, makes of all what it makes
 abbrev pub invariant-loop-place : goal.invariant-loop-place
-invariant-loop-place g l = Goes (l.place + 1) l.bench (map view (drop l.place l.values)) l.fn.bench (map view l.fn.values)
+invariant-loop-place g l = (ds : List Data) → AreRead ds l.fn.acts.events.items l.fn.acts.is_cut →
+    (rest : List Data) × AreRead rest (drop l.place l.fn.acts.events.items) l.fn.acts.is_cut × Goes (l.place + 1) l.bench rest l.fn.bench ds
