@@ -1,23 +1,20 @@
 //! What calls of the machine leave where memory is refused.
 use crate::calls::{Call, HELD_1_BY_2, Row, Shown, answers, limits_of, open, played};
 use crate::rows::holds;
-use bench_core::{Act, Bench, Fault, Limits, Node, Reply};
+use bench_core::{Act, Bench, Fault, History, Limits, Node, Reply};
 use std::alloc::Global;
 use std::process::Abort;
 use test_alloc::Refusing;
 
 type Heap = Refusing<Global>;
 
-/// The bench has so many remaining steps, recorded calls and steps ever taken, and this is the actor's node.
-fn is_as_before<'a>(
-    rt: &impl Abort,
-    bench: &Bench<'a, Heap>,
-    actor: u16,
-    node: &Node<'a, Heap>,
+/// What a bench of two nodes held.
+#[derive(Drop)]
+struct Held<'a> {
+    first: Node<'a, Heap>,
+    second: Node<'a, Heap>,
+    history: History<'a, Heap>,
     counts: (usize, usize, u64),
-) {
-    assert!(rt; bench.node(actor).expect(rt, "a node").same(node));
-    assert!(rt; counts_of(bench) == counts);
 }
 
 fn counts_of<'a>(bench: &Bench<'a, Heap>) -> (usize, usize, u64) {
@@ -26,6 +23,44 @@ fn counts_of<'a>(bench: &Bench<'a, Heap>) -> (usize, usize, u64) {
         bench.history().len(),
         bench.meter(),
     )
+}
+
+fn copy_of<'a>(rt: &impl Abort, bench: &Bench<'a, Heap>, number: u16) -> Node<'a, Heap> {
+    let node = bench.node(number).expect(rt, "a node");
+    node.try_copy().expect(rt, "a copy")
+}
+
+fn copied<'a>(rt: &impl Abort, bench: &Bench<'a, Heap>) -> Held<'a> {
+    Held {
+        first: copy_of(rt, bench, 0),
+        second: copy_of(rt, bench, 1),
+        history: bench.history().try_copy().expect(rt, "a copy"),
+        counts: counts_of(bench),
+    }
+}
+
+/// Whether the recorded calls are these.
+fn has_calls<'a>(bench: &Bench<'a, Heap>, history: &History<'a, Heap>) -> bool {
+    for place in 0..history.len() {
+        let (Some(one), Some(other)) = (bench.history().at(place), history.at(place)) else {
+            return false;
+        };
+        if one.actor != other.actor || !one.act.same(&other.act) || one.reply != other.reply {
+            return false;
+        }
+    }
+    true
+}
+
+/// Whether the bench has the nodes, the recorded calls, and the numbers of remaining steps and of steps ever taken that it had.
+fn is_as_before<'a>(bench: &Bench<'a, Heap>, held: &Held<'a>) -> bool {
+    let (Some(one), Some(other)) = (bench.node(0), bench.node(1)) else {
+        return false;
+    };
+    one.same(&held.first)
+        && other.same(&held.second)
+        && has_calls(bench, &held.history)
+        && counts_of(bench) == held.counts
 }
 
 /// Makes the call with this request for memory refused alone.
@@ -42,8 +77,8 @@ fn answer_refused<'a>(
     answer
 }
 
-/// Makes the call with its first, second, .. request for memory refused, until it meets none. Each refused call leaves
-/// the actor's node, the remaining steps and the history as they were. Gives the number of refused calls.
+/// Makes the call with its first, second, .. request for memory refused, until it meets none. Each refused call leaves all as
+/// it was. Gives the number of refused calls.
 fn refused_in_turn<'a>(
     rt: &impl Abort,
     heap: &'a Heap,
@@ -52,16 +87,14 @@ fn refused_in_turn<'a>(
 ) -> u64 {
     let (actor, call, reply) = *row;
     let act = call.act(rt, heap);
-    let place = bench.node(actor).expect(rt, "a node");
-    let node = place.try_copy().expect(rt, "a copy");
-    let counts = counts_of(bench);
+    let held = copied(rt, bench);
     for number in 1..100 {
         let answer = answer_refused(heap, bench, actor, &act, number);
         if answer == reply {
             return number - 1;
         }
         assert!(rt; answer == Reply::Refused(Fault::OutOfMemory));
-        is_as_before(rt, bench, actor, &node, counts);
+        assert!(rt; is_as_before(bench, &held));
     }
     100
 }
@@ -98,6 +131,30 @@ const LEAVES: [Row; 13] = [
     (0, Call::Back(0), Reply::Undone(2)),
 ];
 
+/// Calls that are refused, between some that are not.
+const REFUSED: [Row; 12] = [
+    (0, Call::Join(1, Shown::Alice), Reply::Taken(1)),
+    (
+        0,
+        Call::Join(1, Shown::Alice),
+        Reply::Refused(Fault::AlreadyTracked),
+    ),
+    (
+        0,
+        Call::Leave(2, Shown::Bob),
+        Reply::Refused(Fault::NotTracked),
+    ),
+    (0, Call::Broadcast, Reply::Taken(2)),
+    (0, Call::Broadcast, Reply::Refused(Fault::NothingToSend)),
+    (1, Call::Deliver(1, 1), Reply::Refused(Fault::OwnMessage)),
+    (1, Call::Deliver(0, 7), Reply::Refused(Fault::NoSuchMessage)),
+    (0, Call::Permdown(1), Reply::Refused(Fault::NotKnown)),
+    (0, Call::Up(1), Reply::Taken(3)),
+    (0, Call::Permdown(1), Reply::Refused(Fault::NotDown)),
+    (0, Call::Up(0), Reply::Refused(Fault::OwnReplica)),
+    (2, Call::Undo(1), Reply::Refused(HELD_1_BY_2)),
+];
+
 /// Makes the calls of a table so. Gives how often one was refused memory, at most.
 fn all_refused_in_turn<'a>(rt: &impl Abort, heap: &'a Heap, rows: &[Row]) -> u64 {
     let mut bench = open(rt, heap, Limits::usual());
@@ -112,8 +169,8 @@ fn all_refused_in_turn<'a>(rt: &impl Abort, heap: &'a Heap, rows: &[Row]) -> u64
 #[test]
 fn a_call_that_is_refused_memory_changes_nothing(rt: HostRuntime) {
     let heap = Refusing::new(rt.alloc());
-    for rows in [MESSAGES, LEAVES] {
-        let most = all_refused_in_turn(&rt, &heap, &rows);
+    for rows in [MESSAGES.as_slice(), &LEAVES, &REFUSED] {
+        let most = all_refused_in_turn(&rt, &heap, rows);
         assert!(rt; 0 < most && most < 100);
     }
 }

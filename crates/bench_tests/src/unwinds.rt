@@ -86,48 +86,65 @@ fn no_step_that_is_gone_has_a_future(rt: HostRuntime) {
     assert!(rt; bench.history().len() == 2);
 }
 
-/// How many steps an unwind of step 1 undid with all requests for memory from this one on refused; none where it is not
-/// refused.
-fn undone_in_part<'a>(
-    heap: &'a Refusing<Global>,
-    bench: &mut Bench<'a, Refusing<Global>>,
-    number: u64,
-) -> Option<usize> {
-    heap.refuse_from(number);
-    let unwound = bench.unwind(2, 1);
-    heap.refuse_none();
-    match unwound {
-        Unwound::Partial { numbers } => Some(numbers.len()),
-        Unwound::Refused(Fault::OutOfMemory) => Some(0),
-        _ => None,
+type Heap = Refusing<Global>;
+
+/// How many of the steps 5, 4, 3 and 1, in this order, these are; none for others.
+fn so_many(numbers: &[u64]) -> Option<usize> {
+    let steps = [5, 4, 3, 1];
+    if steps.get(..numbers.len()) == Some(numbers) {
+        Some(numbers.len())
+    } else {
+        None
     }
 }
 
-/// Unwinds step 1 of five with the first, second, .. request for memory and all later ones refused, until an undo was
-/// made. What was made is recorded, and gone. Gives how many undos.
-fn first_undone<'a>(
+/// Unwinds step 1 of five with this request for memory refused. Gives how many steps were undone, and whether the request was
+/// met: just then the unwind is told as refused, or done in part.
+fn undone_in_part<'a>(
     rt: &impl Abort,
-    heap: &'a Refusing<Global>,
-    bench: &mut Bench<'a, Refusing<Global>>,
-) -> usize {
-    for number in 1..20 {
-        let undone = undone_in_part(heap, bench, number).expect(rt, "a refusal");
-        assert!(rt; bench.history().len().checked_sub(5) == Some(undone));
-        assert!(rt; bench.remaining().len().checked_add(undone) == Some(5));
-        if undone > 0 {
-            return undone;
-        }
+    heap: &'a Heap,
+    bench: &mut Bench<'a, Heap>,
+    number: u64,
+) -> (usize, bool) {
+    heap.refuse_only(number);
+    let unwound = bench.unwind(2, 1);
+    let is_met = number <= heap.requests();
+    heap.refuse_none();
+    let (undone, is_done) = match unwound {
+        Unwound::Done(numbers) => (so_many(&numbers), true),
+        Unwound::Partial { numbers } => (so_many(&numbers), false),
+        Unwound::Refused(Fault::OutOfMemory) => (Some(0), false),
+        _ => (None, false),
+    };
+    assert!(rt; is_done != is_met);
+    (undone.expect(rt, "a part"), is_met)
+}
+
+/// Unwinds step 1 of five so, and then the rest of it with memory. Gives how many steps were undone first, where the request
+/// was met.
+fn goes_on<'a>(rt: &impl Abort, heap: &'a Heap, number: u64) -> Option<usize> {
+    let mut bench = played(rt, heap, Limits::usual(), &FIVE_STEPS, "five steps");
+    let (undone, is_met) = undone_in_part(rt, heap, &mut bench, number);
+    assert!(rt; bench.history().len().checked_sub(5) == Some(undone));
+    assert!(rt; bench.remaining().len().checked_add(undone) == Some(5));
+    if undone < 4 {
+        let rest = [5, 4, 3, 1];
+        let rest = rest.get(undone..).expect(rt, "a rest");
+        unwinds(rt, &mut bench, 1, rest, (9, 1));
     }
-    0
+    if is_met { Some(undone) } else { None }
 }
 
 #[test]
 fn an_unwind_that_is_refused_memory_can_go_on(rt: HostRuntime) {
     let heap = Refusing::new(rt.alloc());
-    let mut bench = played(&rt, &heap, Limits::usual(), &FIVE_STEPS, "five steps");
-    let undone = first_undone(&rt, &heap, &mut bench);
-    assert!(rt; 0 < undone && undone < 4);
-    let numbers = [5, 4, 3, 1];
-    let rest = numbers.get(undone..).expect(&rt, "a rest");
-    unwinds(&rt, &mut bench, 1, rest, (9, 1));
+    let mut most = 0;
+    for number in 1..100 {
+        let Some(undone) = goes_on(&rt, &heap, number) else {
+            break;
+        };
+        most = most.max(undone);
+        assert!(rt; number < 99);
+    }
+    assert!(rt; 0 < most && most < 4);
 }
