@@ -40,15 +40,17 @@ struct Station<L, T, A: Allocator + Clone> {
 /// The ways to the stations, by actor; none for an actor without a line.
 type Ways<L, A> = Vec<Option<Sender<Line<L>, A>>, A>;
 
-/// The stations by actor, with the ways to them.
-#[derive(Drop)]
-struct Stations<L, T, A: Allocator + Clone> {
-    stations: Vec<Option<Station<L, T, A>>, A>,
-    ways: Ways<L, A>,
-}
-
 /// The workers by actor; none for an actor without a line.
 type Workers<T, A> = Vec<Option<JoinHandle<Vec<T, A>>>, A>;
+
+/// All that a crew needs memory for: the stations by actor, the ways to them, and room for the workers and their lists.
+#[derive(Drop)]
+struct Quarters<L, T, A: Allocator + Clone> {
+    stations: Vec<Option<Station<L, T, A>>, A>,
+    ways: Ways<L, A>,
+    workers: Workers<T, A>,
+    lists: Vec<Vec<T, A>, A>,
+}
 
 /// Makes one call under the lock, which it takes for this call alone.
 fn ask_alone<L, T, S: Shared<L, T>, R: Wait>(
@@ -121,13 +123,12 @@ fn start_all<
     R: Threads + Wait + Sync + 's,
 >(
     rt: &'s R,
-    alloc: A,
     scope: &Scope<'s, E>,
     shared: &'s Mutex<S>,
     gate: &'s G,
     stations: Vec<Option<Station<L, T, A>>, A>,
+    mut workers: Workers<T, A>,
 ) -> Result<Workers<T, A>, CrewFault> {
-    let mut workers = Vec::with_capacity(alloc, stations.len())?;
     for station in stations {
         let worker = match station {
             Some(station) => Some(start(rt, scope, shared, gate, station)?),
@@ -145,8 +146,8 @@ fn join_all<T: Drop, A: Allocator + Copy, R: Threads>(
     rt: &R,
     alloc: A,
     workers: Workers<T, A>,
+    mut lists: Vec<Vec<T, A>, A>,
 ) -> Result<Vec<Vec<T, A>, A>, CrewFault> {
-    let mut lists = Vec::with_capacity(alloc, workers.len())?;
     for worker in workers {
         let list = match worker {
             Some(worker) => worker.join(rt),
@@ -164,31 +165,54 @@ fn count_lines<L>(lines: &[(u16, L)], actor: u16) -> usize {
     lines.iter().filter(|(other, _)| *other == actor).count()
 }
 
+/// A station with room for so many lines of the actor, and the way to it.
+fn station_of<L: Drop, T: Drop, A: Allocator + Copy>(
+    alloc: A,
+    actor: u16,
+    count: usize,
+) -> Result<(Station<L, T, A>, Sender<Line<L>, A>), Oom> {
+    let (way, lines) = crossbeam_channel::bounded(alloc, count)?;
+    let receipts = Vec::with_capacity(alloc, count)?;
+    let station = Station {
+        actor,
+        lines,
+        receipts,
+    };
+    Ok((station, way))
+}
+
+/// Nobody's quarters, with room for so many.
+fn empty_quarters<L: Drop, T: Drop, A: Allocator + Copy>(
+    alloc: A,
+    actors: usize,
+) -> Result<Quarters<L, T, A>, Oom> {
+    Ok(Quarters {
+        stations: Vec::with_capacity(alloc, actors)?,
+        ways: Vec::with_capacity(alloc, actors)?,
+        workers: Vec::with_capacity(alloc, actors)?,
+        lists: Vec::with_capacity(alloc, actors)?,
+    })
+}
+
 /// A station for each actor that has a line, with room for all its lines and receipts, and the way to it.
-fn stations_of<L: Drop, T: Drop, A: Allocator + Copy>(
+fn quarters_of<L: Drop, T: Drop, A: Allocator + Copy>(
     alloc: A,
     actors: u16,
     lines: &[(u16, L)],
-) -> Result<Stations<L, T, A>, Oom> {
-    let mut stations = Vec::with_capacity(alloc, usize::from(actors))?;
-    let mut ways = Vec::with_capacity(alloc, usize::from(actors))?;
+) -> Result<Quarters<L, T, A>, Oom> {
+    let mut quarters = empty_quarters(alloc, usize::from(actors))?;
     for actor in 0..actors {
         let count = count_lines(lines, actor);
         if count == 0 {
-            stations.push(None)?;
-            ways.push(None)?;
-            continue;
+            quarters.stations.push(None)?;
+            quarters.ways.push(None)?;
+        } else {
+            let (station, way) = station_of(alloc, actor, count)?;
+            quarters.stations.push(Some(station))?;
+            quarters.ways.push(Some(way))?;
         }
-        let (way, lines) = crossbeam_channel::bounded(alloc, count)?;
-        let receipts = Vec::with_capacity(alloc, count)?;
-        stations.push(Some(Station {
-            actor,
-            lines,
-            receipts,
-        }))?;
-        ways.push(Some(way))?;
     }
-    Ok(Stations { stations, ways })
+    Ok(quarters)
 }
 
 /// Sends each line to its worker. A line that were lost would be missed by `agree`.
@@ -223,10 +247,15 @@ pub(crate) fn ask_all<
     lines: Vec<(u16, L), A>,
     gate: &G,
 ) -> Result<Vec<Vec<T, A>, A>, CrewFault> {
-    let Stations { stations, ways } = stations_of(alloc, actors, &lines)?;
+    let Quarters {
+        stations,
+        ways,
+        workers,
+        lists,
+    } = quarters_of(alloc, actors, &lines)?;
     thread::scope(thread::scope_env(), rt, move |scope| {
-        let workers = start_all(rt, alloc, scope, shared, gate, stations)?;
+        let workers = start_all(rt, scope, shared, gate, stations, workers)?;
         send_all(rt, ways, lines);
-        join_all(rt, alloc, workers)
+        join_all(rt, alloc, workers, lists)
     })
 }

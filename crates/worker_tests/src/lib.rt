@@ -1,0 +1,16 @@
+//! Tests of `worker_core`, by its public calls alone, in a crate of their own, so that it is proved once. They say what no
+//! clause can: that a race with memory is vouched for, that its workers run on threads of their own, that the lock is free
+//! while a gate waits, and that each line passes the gate once. In the order to read them: `gates`; `lines`, what a race is
+//! given; `races`; `orders`, races with consoles in orders that a gate fixes; `shared`, want of memory, and threads outside a race.
+#![tactic(auto)]
+
+#[cfg(test)]
+mod gates;
+#[cfg(test)]
+mod lines;
+#[cfg(test)]
+mod orders;
+#[cfg(test)]
+mod races;
+#[cfg(test)]
+mod shared;

@@ -1,0 +1,21 @@
+//! What a race is given: a bench of two nodes, and the lines of a script.
+use bench_core::{Act, Bench, Limits, Names};
+use script_core::{acts, parse_script};
+use std::alloc::Allocator;
+use std::process::Abort;
+
+/// Lines, each with its actor.
+pub type Lines<'a, B> = Vec<(u16, Act<&'a B>), &'a B>;
+
+/// The act lines of a script.
+pub fn lines_of<'a, B: Allocator>(rt: &impl Abort, alloc: &'a B, script: &str) -> Lines<'a, B> {
+    let script = parse_script(alloc, script.as_bytes()).expect(rt, "a script");
+    acts(alloc, &script).expect(rt, "act lines")
+}
+
+/// A bench of the nodes `a` and `b`, with this limit on acts.
+pub fn open<'a, B: Allocator>(rt: &impl Abort, alloc: &'a B, acts: u64) -> Bench<'a, B> {
+    let names = Names::new(alloc, &["a", "b"]).expect(rt, "names");
+    let limits = Limits::new(acts, 10_000, 1_000_000, 10_000).expect(rt, "limits");
+    Bench::new(alloc, names, limits).expect(rt, "a bench")
+}

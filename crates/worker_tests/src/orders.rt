@@ -1,0 +1,258 @@
+//! Consoles that undo against running nodes in orders that a gate fixes, and receipts of such a race that were altered.
+use crate::gates::InOrder;
+use crate::lines::{Lines, lines_of, open};
+use crate::races::fault_of;
+use bench_core::{Act, Bench, Fault, Reply};
+use std::alloc::{Allocator, Global};
+use std::process::Abort;
+use std::sync::Wait;
+use std::thread::Threads;
+use std::time::Clock;
+use worker_core::{Receipt, Receipts, agree, race};
+
+/// A console undoes what a node did, beside the nodes.
+pub const UNDONE_BESIDE: &str = "\
+nodes a b
+consoles c1
+a join 1 r alice phone
+b up a
+a broadcast
+b deliver a 1
+c1 undo 3
+";
+
+/// An order of its lines, their replies in that order, and how many entries node `b` has then.
+struct Order {
+    lines: &'static [u64],
+    replies: [Reply; 5],
+    entries: usize,
+}
+
+const HELD: Reply = Reply::Refused(Fault::HasConsequence {
+    step: 3,
+    held_by: 4,
+});
+
+const ORDERS: [Order; 4] = [
+    Order {
+        lines: &[1, 2, 3, 4, 5],
+        replies: [
+            Reply::Taken(1),
+            Reply::Taken(2),
+            Reply::Taken(3),
+            Reply::Taken(4),
+            HELD,
+        ],
+        entries: 1,
+    },
+    Order {
+        lines: &[1, 2, 3, 5, 4],
+        replies: [
+            Reply::Taken(1),
+            Reply::Taken(2),
+            Reply::Taken(3),
+            Reply::Undone(3),
+            Reply::Refused(Fault::NoSuchMessage),
+        ],
+        entries: 0,
+    },
+    Order {
+        lines: &[5, 1, 2, 3, 4],
+        replies: [
+            Reply::Refused(Fault::NoSuchStep),
+            Reply::Taken(1),
+            Reply::Taken(2),
+            Reply::Taken(3),
+            Reply::Taken(4),
+        ],
+        entries: 1,
+    },
+    Order {
+        lines: &[1, 3, 2, 5, 4],
+        replies: [
+            Reply::Taken(1),
+            Reply::Taken(2),
+            Reply::Taken(3),
+            Reply::Undone(3),
+            Reply::Taken(4),
+        ],
+        entries: 0,
+    },
+];
+
+/// Whether the history has these lines in this order, with these replies.
+fn is_told<'a, B: Allocator>(
+    bench: &Bench<'a, B>,
+    order: &Order,
+    lines: &[(u16, Act<&'a B>)],
+) -> bool {
+    let mut is_so = bench.history().len() == order.lines.len();
+    let mut place = 0usize;
+    for line in order.lines {
+        if let (Some(event), Some((actor, act)), Some(reply)) = (
+            bench.history().at(place),
+            lines.get(line.saturating_sub(1) as usize),
+            order.replies.get(place),
+        ) {
+            is_so = is_so && event.actor == *actor && event.act.same(act) && event.reply == *reply;
+        } else {
+            is_so = false;
+        }
+        place = place.saturating_add(1);
+    }
+    is_so
+}
+
+/// How many entries the node of this number has.
+fn entries_of<'a, B: Allocator>(rt: &impl Abort, bench: &Bench<'a, B>, number: u16) -> usize {
+    let node = bench.node(number).expect(rt, "a node");
+    node.replica().entries().len()
+}
+
+#[test]
+fn consoles_undo_beside_running_nodes(rt: HostRuntime) {
+    for order in &ORDERS {
+        let heap = rt.alloc();
+        let gate = InOrder::new(rt, order.lines);
+        let bench = open(&rt, &heap, 100);
+        let lines = lines_of(&rt, &heap, UNDONE_BESIDE);
+        let raced = race(&rt, &heap, bench, 3, lines, &gate).map_err(fault_of);
+        let (bench, _receipts) = raced.expect(&rt, "a race");
+        assert!(rt; gate.has_passed_each_once());
+        let kept = lines_of(&rt, &heap, UNDONE_BESIDE);
+        assert!(rt; is_told(&bench, order, &kept));
+        assert_eq!(rt; entries_of(&rt, &bench, 1), order.entries);
+    }
+}
+
+/// What is changed of the receipts.
+#[derive(Clone, Copy)]
+enum Alteration {
+    Nothing,
+    OneDropped,
+    OneDoubled,
+    OneMoved,
+    TwoExchanged,
+    Line,
+    Act,
+    Reply,
+    Place,
+    NoPlace,
+}
+
+const ALTERATIONS: [Alteration; 9] = [
+    Alteration::OneDropped,
+    Alteration::OneDoubled,
+    Alteration::OneMoved,
+    Alteration::TwoExchanged,
+    Alteration::Line,
+    Alteration::Act,
+    Alteration::Reply,
+    Alteration::Place,
+    Alteration::NoPlace,
+];
+
+/// The last receipt of an actor, again.
+fn last_again<'a, B: Allocator>(rt: &impl Abort, receipts: &[Receipt<&'a B>]) -> Receipt<&'a B> {
+    let last = receipts.last().expect(rt, "a receipt");
+    Receipt {
+        actor: last.actor,
+        line: last.line,
+        act: last.act.try_copy().expect(rt, "a copy"),
+        reply: last.reply,
+        place: last.place,
+    }
+}
+
+/// Alters a list of receipts by what it has alone.
+fn alter_list<'a, B: Allocator>(
+    rt: &impl Abort,
+    alteration: Alteration,
+    list: &mut Vec<Receipt<&'a B>, &'a B>,
+) {
+    match alteration {
+        Alteration::OneDropped => drop(list.pop()),
+        Alteration::OneDoubled => {
+            let again = last_again(rt, list);
+            list.push(again).expect(rt, "memory");
+        }
+        Alteration::TwoExchanged => {
+            let last = list.pop().expect(rt, "a receipt");
+            let one = list.pop().expect(rt, "a receipt");
+            list.push(last).expect(rt, "memory");
+            list.push(one).expect(rt, "memory");
+        }
+        _ => {
+            let receipt = list.get_mut(0).expect(rt, "a receipt");
+            alter_receipt(alteration, receipt);
+        }
+    }
+}
+
+/// Alters a receipt, of a line at place 1.
+fn alter_receipt<A: Allocator>(alteration: Alteration, receipt: &mut Receipt<A>) {
+    match alteration {
+        Alteration::Line => receipt.line = 2,
+        Alteration::Act => receipt.act = Act::Undo(1),
+        Alteration::Reply => receipt.reply = Reply::Taken(3),
+        Alteration::Place => receipt.place = Some(2),
+        Alteration::NoPlace => receipt.place = None,
+        _ => {}
+    }
+}
+
+/// Alters the receipts of node `a`, of its lines 1 and 3.
+fn alter<'a, B: Allocator>(rt: &impl Abort, alteration: Alteration, lists: &mut Receipts<&'a B>) {
+    let list = lists.get_mut(0).expect(rt, "a list");
+    if let Alteration::OneMoved = alteration {
+        let moved = list.pop().expect(rt, "a receipt");
+        let other = lists.get_mut(1).expect(rt, "a list");
+        other.push(moved).expect(rt, "memory");
+    } else {
+        alter_list(rt, alteration, list);
+    }
+}
+
+/// A race in the order of the lines, and its receipts.
+fn raced<'a, R: Threads + Wait + Clock + Abort + Sync + Copy>(
+    rt: &R,
+    heap: &'a Global,
+) -> (Bench<'a, Global>, Receipts<&'a Global>) {
+    let gate = InOrder::new(*rt, &[1, 2, 3, 4, 5]);
+    let bench = open(rt, heap, 100);
+    let lines = lines_of(rt, heap, UNDONE_BESIDE);
+    let raced = race(rt, heap, bench, 3, lines, &gate).map_err(fault_of);
+    raced.expect(rt, "a race")
+}
+
+/// Whether the receipts of such a race agree with its history once they are altered.
+fn agrees_altered<R: Threads + Wait + Clock + Abort + Sync + Copy>(
+    rt: &R,
+    heap: &Global,
+    alteration: Alteration,
+) -> bool {
+    let opening = open(rt, heap, 100);
+    let (bench, mut receipts) = raced(rt, heap);
+    alter(rt, alteration, &mut receipts);
+    let lines: Lines<'_, Global> = lines_of(rt, heap, UNDONE_BESIDE);
+    let agrees = agree(heap, opening.history(), bench.history(), &lines, &receipts);
+    agrees.expect(rt, "memory")
+}
+
+#[test]
+fn altered_receipts_disagree(rt: HostRuntime) {
+    assert!(rt; agrees_altered(&rt, &rt.alloc(), Alteration::Nothing));
+    for alteration in ALTERATIONS {
+        assert!(rt; !agrees_altered(&rt, &rt.alloc(), alteration));
+    }
+}
+
+#[test]
+fn receipts_disagree_with_a_history_that_does_not_go_on(rt: HostRuntime) {
+    let heap = rt.alloc();
+    let opening = open(&rt, &heap, 100);
+    let (bench, receipts) = raced(&rt, &heap);
+    let lines = lines_of(&rt, &heap, UNDONE_BESIDE);
+    let agrees = agree(&heap, bench.history(), opening.history(), &lines, &receipts);
+    assert!(rt; !agrees.expect(&rt, "memory"));
+}

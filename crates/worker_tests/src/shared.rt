@@ -1,0 +1,186 @@
+//! A race that is refused memory, and threads of a test's own that share a bench.
+use crate::gates::Idle;
+use crate::lines::{Lines, lines_of, open};
+use crate::orders::UNDONE_BESIDE;
+use bench_core::{Act, Bench, Fault, Reply};
+use std::alloc::{Allocator, Global};
+use std::process::Abort;
+use std::sync::{Mutex, Wait};
+use std::thread;
+use std::thread::Threads;
+use test_alloc::Refusing;
+use worker_core::{RaceFault, Receipt, Receipts, agree, ask, race};
+
+type Heap = Refusing<Global>;
+
+/// Whether the bench that comes back from a race still answers.
+fn still_answers<'a>(mut bench: Bench<'a, Heap>) -> bool {
+    bench.act(0, &Act::Undo(0)) == Reply::Refused(Fault::NoSuchStep)
+}
+
+/// Whether a race meets this request for memory, which is refused. Then it says so, and the bench comes back; else it is vouched for.
+fn refused<R: Threads + Wait + Abort + Sync>(rt: &R, heap: &Heap, number: u64) -> bool {
+    let lines = lines_of(rt, heap, UNDONE_BESIDE);
+    let bench = open(rt, heap, 100);
+    heap.refuse_only(number);
+    let raced = race(rt, heap, bench, 3, lines, &Idle);
+    let is_met = number <= heap.requests();
+    heap.refuse_none();
+    match raced {
+        Ok((_bench, _receipts)) => {
+            assert!(rt; !is_met, "request {number}");
+            false
+        }
+        Err((fault, bench)) => {
+            let is_so = fault == RaceFault::OutOfMemory || fault == RaceFault::WorkerRefused;
+            assert!(rt; is_met && is_so && still_answers(bench), "request {number}");
+            true
+        }
+    }
+}
+
+#[test]
+fn a_race_that_is_refused_memory_gives_its_bench_back(rt: HostRuntime) {
+    let heap = Refusing::new(rt.alloc());
+    let mut count = 0u64;
+    for number in 1..1_000 {
+        if !refused(&rt, &heap, number) {
+            break;
+        }
+        count = count.saturating_add(1);
+    }
+    assert!(rt; 10 <= count && count < 999);
+}
+
+/// What two threads share: it is asked a line, and gives a receipt.
+trait Shared<L, T> {
+    fn ask_line(&mut self, number: u64, line: L) -> T;
+}
+
+impl<'a, B: Allocator> Shared<(u16, Act<&'a B>), Receipt<&'a B>> for Bench<'a, B> {
+    fn ask_line(&mut self, number: u64, line: (u16, Act<&'a B>)) -> Receipt<&'a B> {
+        let (actor, act) = line;
+        ask(self, actor, number, act)
+    }
+}
+
+/// Asks the lines, which are numbered on from this number, each under a hold of the lock of its own.
+fn ask_many<L: Drop, T: Drop, A: Allocator + Copy, S: Shared<L, T>, R: Wait + Abort>(
+    rt: &R,
+    shared: &Mutex<S>,
+    from: u64,
+    lines: Vec<L, A>,
+    mut receipts: Vec<T, A>,
+) -> Vec<T, A> {
+    let mut number = from;
+    for line in lines {
+        number = number.saturating_add(1);
+        let receipt = ask_alone(rt, shared, number, line);
+        receipts.push(receipt).expect(rt, "memory");
+    }
+    receipts
+}
+
+fn ask_alone<L, T, S: Shared<L, T>, R: Wait>(rt: &R, shared: &Mutex<S>, number: u64, line: L) -> T {
+    let mut guard = shared.lock(rt);
+    let bench = &mut *guard;
+    bench.ask_line(number, line)
+}
+
+/// A thousand joins of each of two nodes, as a script.
+fn joins<A: Allocator>(rt: &impl Abort, alloc: A) -> String<A> {
+    let mut script = String::new(alloc);
+    script.push_str("nodes a b\n").expect(rt, "memory");
+    for name in ["a", "b"] {
+        for pid in 1..1_001u64 {
+            write!(script, "{name} join {pid} r alice phone\n").expect(rt, "memory");
+        }
+    }
+    script
+}
+
+/// Has two threads ask the lines of node `a` and those of node `b`, side by side.
+fn ask_both<
+    L: Drop + Send,
+    T: Drop + Send,
+    A: Allocator + Copy + Send + Sync,
+    S: Shared<L, T> + Send,
+    R: Threads + Wait + Sync + Abort,
+>(
+    rt: &R,
+    alloc: A,
+    shared: &Mutex<S>,
+    first: Vec<L, A>,
+    second: Vec<L, A>,
+) -> (Vec<T, A>, Vec<T, A>) {
+    thread::join(
+        rt,
+        move || ask_many(rt, shared, 0, first, Vec::new(alloc)),
+        move || ask_many(rt, shared, 1_000, second, Vec::new(alloc)),
+    )
+}
+
+/// The lines of one node.
+fn lines_by<'a>(rt: &impl Abort, heap: &'a Global, script: &str, node: u16) -> Lines<'a, Global> {
+    let mut lines = Vec::new(heap);
+    for (actor, act) in lines_of(rt, heap, script) {
+        if actor == node {
+            lines.push((actor, act)).expect(rt, "memory");
+        }
+    }
+    lines
+}
+
+/// How many of the receipts tell of a step that was taken.
+fn taken_of<A: Allocator>(receipts: &[Receipt<A>]) -> usize {
+    let mut count = 0usize;
+    for receipt in receipts {
+        if let Reply::Taken(_) = receipt.reply {
+            count = count.saturating_add(1);
+        }
+    }
+    count
+}
+
+/// The own clock of a node.
+fn clock_of<'a>(rt: &impl Abort, bench: &Bench<'a, Global>, node: u16) -> u64 {
+    assert!(rt; node < 32);
+    let replica = bench.node(node).expect(rt, "a node").replica();
+    replica.seen().clock_of(node)
+}
+
+/// A bench that two threads have asked the lines of the script, and their receipts.
+fn shared_by_two<'a, R: Threads + Wait + Abort + Sync>(
+    rt: &R,
+    heap: &'a Global,
+    script: &str,
+) -> (Bench<'a, Global>, Receipts<&'a Global>) {
+    let shared = Mutex::new(open(rt, heap, 10_000));
+    let first = lines_by(rt, heap, script, 0);
+    let second = lines_by(rt, heap, script, 1);
+    let (of_a, of_b) = ask_both(rt, heap, &shared, first, second);
+    let mut receipts = Vec::new(heap);
+    receipts.push(of_a).expect(rt, "memory");
+    receipts.push(of_b).expect(rt, "memory");
+    (shared.into_inner(), receipts)
+}
+
+#[test]
+fn two_threads_share_a_bench(rt: HostRuntime) {
+    let heap = rt.alloc();
+    let script = joins(&rt, heap);
+    let opening = open(&rt, &heap, 10_000);
+    let (bench, receipts) = shared_by_two(&rt, &heap, script.as_str());
+    for node in 0..2u16 {
+        let list = receipts.get(usize::from(node)).expect(&rt, "a list");
+        assert_eq!(rt; taken_of(list), 1_000);
+        assert_eq!(rt; clock_of(&rt, &bench, node), 1_000);
+    }
+    assert_eq!(rt;
+        (bench.history().len(), bench.remaining().len()),
+        (2_000, 2_000)
+    );
+    let lines = lines_of(&rt, &heap, script.as_str());
+    let agrees = agree(&heap, opening.history(), bench.history(), &lines, &receipts);
+    assert!(rt; agrees.expect(&rt, "memory"));
+}
