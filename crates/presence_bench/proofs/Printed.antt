@@ -1,6 +1,7 @@
 -- What a text that was written is, for the input that it was made of.
-use Rattle.std.proofs.Common.{◌≡◌, List, ℕ, Option, None, Some, Result, Ok, Err, IfErr, IsOkAnd, OnOk, sym, subst, arith}
+use Rattle.std.proofs.Common.{◌≡◌, List, ℕ, Option, None, Some, Result, Ok, Err, IfErr, IsOkAnd, OnOk, sym, subst, arith, ◌⊎◌, inl, inr}
 use Rattle.std.proofs.lemmas.Bool.Decides.{nat_tests}
+use Rattle.std.specs.Io.KnownBytes.{Keeps}
 use Rattle.bench_core.specs.Limits.{Limits}
 use Rattle.bench_core.specs.Machine.{Machine}
 use Rattle.script_core.specs.Grammar.{script_of}
@@ -10,10 +11,12 @@ use Rattle.script_core.specs.Scripts.{Script}
 use Rattle.script_core.specs.declared.fault.FaultKind.TheVariants.{TooLong}
 use Rattle.presence_bench.specs.declared.chosen.Form.{Form}
 use Rattle.presence_bench.specs.declared.chosen.Subcommand.{Subcommand}
-use Rattle.presence_bench.specs.declared.chosen.Subcommand.TheVariants.{Play, Load}
+use Rattle.presence_bench.specs.declared.chosen.Subcommand.TheVariants.{Play, Race, Load}
 use Rattle.presence_bench.specs.declared.fault.Fault.{Fault}
 use Rattle.presence_bench.specs.declared.fault.Fault.TheVariants as faults
-use Rattle.presence_bench.specs.Program.{IsCauseAt, IsScriptAt, IsSessionAt, Prints, Ends, EndsAt, EndsAsText, KeepsBefore, TellsMemory, shown}
+use Rattle.script_core.specs.declared.fault.ScriptFault.{ScriptFault}
+use Rattle.presence_bench.specs.Races.{IsRaceOf, RefusesRaceOf}
+use Rattle.presence_bench.specs.Program.{IsCause, IsCauseOf, IsUnwritten, IsCauseAt, IsScriptAt, IsSessionAt, Prints, Ends, EndsAt, EndsAsText, KeepsBefore, TellsMemory, shown}
 
 -- an input past the limit has that fault
 pub too_long : (known : Option (List ℕ)) → IsLonger known 1048576 → IsCauseAt known (faults.Script (record { line = 0; kind = TooLong }))
@@ -34,6 +37,7 @@ module _ (form : Form) (limits : Limits) (text : List ℕ) (old new : Option (Li
   ends command input (Err (faults.Script fault)) p e = elim e [ ]
   ends command input (Err (faults.Session fault)) p e = elim e [ ]
   ends command input (Err faults.LongSession) p e = elim e [ ]
+  ends command input (Err (faults.Race fault)) p e = elim e [ ]
   ends command input (Err faults.ReadFault) p e = elim e [ ]
   ends command input (Err faults.OutOfMemory) p e = elim e [ ]
 
@@ -48,6 +52,14 @@ module _ (form : Form) (limits : Limits) (text : List ℕ) (old new : Option (Li
   ends_load None m r k is e = tt
   ends_load (Some input) m r k is e = ends Load input r (m, k, is) e
 
+  pub ends_race : (known : Option (List ℕ)) (s : Script) (m : Machine) (r : Result (Unit {0}) Fault) → IsScriptAt known s →
+      IsRaceOf limits s m → text ≡ shown form (history_text m) m → EndsAsText text r old new → EndsAt Race form limits known r old new
+  ends_race None s m r k raced is e = tt
+  ends_race (Some input) s m r k raced is e =
+      let P : Result Script ScriptFault → Type 0 =
+      λ o. IsOkAnd o (λ s. (m : Machine) × IsRaceOf limits s m × (text ≡ shown form (history_text m) m)) in
+      ends Race input r (subst P (sym k) (m, raced, is)) e
+
   -- a text that goes out meets no fault but that of a write
   pub keeps_before : (r : Result (Unit {0}) Fault) → EndsAsText text r old new → IfErr r (λ fault. KeepsBefore fault old new)
   keeps_before (Ok u) e = tt
@@ -55,6 +67,7 @@ module _ (form : Form) (limits : Limits) (text : List ℕ) (old new : Option (Li
   keeps_before (Err (faults.Script fault)) e = elim e [ ]
   keeps_before (Err (faults.Session fault)) e = elim e [ ]
   keeps_before (Err faults.LongSession) e = elim e [ ]
+  keeps_before (Err (faults.Race fault)) e = elim e [ ]
   keeps_before (Err faults.ReadFault) e = elim e [ ]
   keeps_before (Err faults.OutOfMemory) e = elim e [ ]
 
@@ -64,5 +77,30 @@ module _ (form : Form) (limits : Limits) (text : List ℕ) (old new : Option (Li
   tells_memory (Err (faults.Script fault)) e = elim e [ ]
   tells_memory (Err (faults.Session fault)) e = elim e [ ]
   tells_memory (Err faults.LongSession) e = elim e [ ]
+  tells_memory (Err (faults.Race fault)) e = elim e [ ]
   tells_memory (Err faults.ReadFault) e = elim e [ ]
   tells_memory (Err faults.OutOfMemory) e = elim e [ ]
+
+-- a race that is refused before the writing
+module _ (form : Form) (limits : Limits) (old new : Option (List ℕ)) where
+  ends_unwritten : (input : List ℕ) (fault : Fault) → IsCauseOf Race limits input fault → IsUnwritten fault → Keeps old new →
+      Ends Race form limits input (Err fault) old new
+  ends_unwritten input (faults.WriteFault written) c u k = absurd u
+  ends_unwritten input (faults.Script fault) c u k = (c, k)
+  ends_unwritten input (faults.Session fault) c u k = (c, k)
+  ends_unwritten input faults.LongSession c u k = (c, k)
+  ends_unwritten input (faults.Race fault) c u k = (c, k)
+  ends_unwritten input faults.ReadFault c u k = (c, k)
+  ends_unwritten input faults.OutOfMemory c u k = (c, k)
+
+  pub ends_unread : (known : Option (List ℕ)) (fault : Fault) → IsCauseAt known fault → IsUnwritten fault → Keeps old new →
+      EndsAt Race form limits known (Err fault) old new
+  ends_unread None fault c u k = tt
+  ends_unread (Some input) fault c u k = ends_unwritten input fault (inl c) u k
+
+  pub ends_unraced : (known : Option (List ℕ)) (s : Script) (fault : Fault) → IsScriptAt known s → RefusesRaceOf limits s fault →
+      IsUnwritten fault → Keeps old new → EndsAt Race form limits known (Err fault) old new
+  ends_unraced None s fault at c u k = tt
+  ends_unraced (Some input) s fault at c u k =
+      let P : Result Script ScriptFault → Type 0 = λ o. IsOkAnd o (λ s. RefusesRaceOf limits s fault) in
+      ends_unwritten input fault (inr (subst P (sym at) c)) u k

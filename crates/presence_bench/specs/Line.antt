@@ -4,7 +4,7 @@ use Rattle.clap.specs.Words.{App, Row, Rule, first_of, new_app, new_rule, with_r
 use Rattle.presence_bench.specs.declared.chosen.Form.{Form}
 use Rattle.presence_bench.specs.declared.chosen.Form.TheVariants.{Report, Session}
 use Rattle.presence_bench.specs.declared.chosen.Subcommand.{Subcommand}
-use Rattle.presence_bench.specs.declared.chosen.Subcommand.TheVariants.{Play, Load}
+use Rattle.presence_bench.specs.declared.chosen.Subcommand.TheVariants.{Play, Race, Load}
 use Rattle.presence_bench.specs.declared.chosen.Choice.{Choice}
 
 -- the option that names a form
@@ -14,6 +14,9 @@ as_rule = record (new_rule (codes "as")) { long = Some (codes "as"); value_names
 abbrev pub play_app : App
 play_app = with_rule (new_app (codes "play")) as_rule
 
+abbrev pub race_app : App
+race_app = with_rule (new_app (codes "race")) as_rule
+
 abbrev pub load_app : App
 load_app = with_rule (new_app (codes "load")) as_rule
 
@@ -21,10 +24,11 @@ abbrev pub app : App
 app =
     let bare = new_app (codes "presence_bench") in
     let top : App = record bare { top = record bare.top { has_version = true; no_binary_name = true; subcommand_required = true } } in
-    with_subcommand (with_subcommand top play_app.top) load_app.top
+    with_subcommand (with_subcommand (with_subcommand top play_app.top) race_app.top) load_app.top
 
 abbrev pub name_of : Subcommand → List ℕ
 name_of Play = codes "play"
+name_of Race = codes "race"
 name_of Load = codes "load"
 
 abbrev pub form_name : Form → List ℕ

@@ -1,5 +1,5 @@
 -- What the program prints, and how it ends.
-use Rattle.std.specs.Prelude.{◌≡◌, ◌≢◌, ℕ, ◌<◌, List, [], ◌∷◌, ◌++◌, length, take, ⊤, Option, None, Some, Result, Ok, Err, OnOk, IfErr, IsOkAnd}
+use Rattle.std.specs.Prelude.{◌≡◌, ◌≢◌, ◌⊎◌, ℕ, ◌<◌, List, [], ◌∷◌, ◌++◌, length, take, ⊤, Option, None, Some, Result, Ok, Err, OnOk, IfErr, IsOkAnd}
 use Rattle.std.specs.Io.KnownBytes.{Appends, IsAtEnd, Keeps}
 use Rattle.serde_json.specs.Written.{compact_text}
 use Rattle.bench_core.specs.Limits.{Limits}
@@ -13,11 +13,14 @@ use Rattle.script_core.specs.declared.fault.PlayFault.TheVariants as plays
 use Rattle.session_core.specs.Format.{session}
 use Rattle.session_core.specs.Sessions.{IsSession, Refuses}
 use Rattle.session_core.specs.declared.session_fault.SessionFault.TheVariants as sessions
+use Rattle.worker_core.specs.declared.race_fault.RaceFault.{RaceFault}
+use Rattle.worker_core.specs.declared.race_fault.RaceFault.TheVariants as races
+use Rattle.presence_bench.specs.Races.{IsRaceOf, RefusesRaceOf}
 use Rattle.presence_bench.specs.declared.chosen.Choice.{Choice}
 use Rattle.presence_bench.specs.declared.chosen.Form.{Form}
 use Rattle.presence_bench.specs.declared.chosen.Form.TheVariants.{Report, Session}
 use Rattle.presence_bench.specs.declared.chosen.Subcommand.{Subcommand}
-use Rattle.presence_bench.specs.declared.chosen.Subcommand.TheVariants.{Play, Load}
+use Rattle.presence_bench.specs.declared.chosen.Subcommand.TheVariants.{Play, Race, Load}
 use Rattle.presence_bench.specs.declared.fault.Fault.{Fault}
 use Rattle.presence_bench.specs.declared.fault.Fault.TheVariants as faults
 
@@ -25,6 +28,11 @@ abbrev pub fault_status : Fault → ℕ
 fault_status (faults.Script fault) = 1
 fault_status (faults.Session fault) = 1
 fault_status faults.LongSession = 1
+fault_status (faults.Race races.UnknownActor) = 1
+fault_status (faults.Race races.NoRoom) = 1
+fault_status (faults.Race races.WorkerRefused) = 5
+fault_status (faults.Race races.OutOfMemory) = 4
+fault_status (faults.Race races.LogsDisagree) = 5
 fault_status faults.ReadFault = 3
 fault_status (faults.WriteFault written) = 3
 fault_status faults.OutOfMemory = 4
@@ -39,6 +47,10 @@ fault_of_play (plays.Script fault) = faults.Script fault
 fault_of_play plays.ReadFault = faults.ReadFault
 fault_of_play (plays.WriteFault written) = faults.WriteFault written
 fault_of_play plays.OutOfMemory = faults.OutOfMemory
+
+abbrev pub fault_of_race : RaceFault → Fault
+fault_of_race races.OutOfMemory = faults.OutOfMemory
+fault_of_race fault = faults.Race fault
 
 -- the text of a bench's session, and a line feed
 abbrev pub session_text : Machine → List ℕ
@@ -59,7 +71,14 @@ abbrev pub IsCause : List ℕ → Fault → Type 0
 IsCause input (faults.Script fault) = script_of input ≡ Err fault
 IsCause input (faults.Session fault) = Refuses input fault
 IsCause input faults.LongSession = 67108864 < length input
+IsCause input (faults.Race fault) = ⊥
 IsCause input _ = ⊤
+
+-- what refuses the input of this command: of a race also that a line is no act line, or that the race can't be had
+abbrev pub IsCauseOf : Subcommand → Limits → List ℕ → Fault → Type 0
+IsCauseOf Race limits input fault = IsCause input fault ⊎ IsOkAnd (script_of input) (λ s. RefusesRaceOf limits s fault)
+IsCauseOf Play limits input fault = IsCause input fault
+IsCauseOf Load limits input fault = IsCause input fault
 
 abbrev pub IsCauseAt : Option (List ℕ) → Fault → Type 0
 IsCauseAt None fault = ⊤
@@ -73,6 +92,7 @@ shown Session report bench = session_text bench
 -- the text is what the subcommand prints of the input: of a script's bench, or of a session's
 abbrev pub Prints : Subcommand → Form → Limits → List ℕ → List ℕ → Type 0
 Prints Play form limits input text = IsOkAnd (script_of input) (λ s. text ≡ shown form (report_of limits s) (played limits s))
+Prints Race form limits input text = IsOkAnd (script_of input) (λ s. (m : Machine) × IsRaceOf limits s m × (text ≡ shown form (history_text m) m))
 Prints Load form limits input text = (m : Machine) × IsSession input m × (text ≡ shown form (history_text m) m)
 
 -- all of the text went out, or, where the writing failed, its first `written` bytes
@@ -87,7 +107,7 @@ abbrev pub Ends : Subcommand → Form → Limits → List ℕ → Result (Unit {
 Ends command form limits input (Ok u) old new = (text : List ℕ) × Prints command form limits input text × Appends old new text
 Ends command form limits input (Err (faults.WriteFault written)) old new =
     (text : List ℕ) × Prints command form limits input text × (written < length text) × Appends old new (take written text)
-Ends command form limits input (Err fault) old new = IsCause input fault × Keeps old new
+Ends command form limits input (Err fault) old new = IsCauseOf command limits input fault × Keeps old new
 
 -- the same, where the reader's bytes are known
 abbrev pub EndsAt : Subcommand → Form → Limits → Option (List ℕ) → Result (Unit {0}) Fault → Option (List ℕ) → Option (List ℕ) → Type 0
@@ -108,6 +128,7 @@ IsUnwritten _ = ⊤
 abbrev pub TellsMemory : Fault → Type 0
 TellsMemory (faults.Script fault) = fault.kind ≢ kinds.OutOfMemory
 TellsMemory (faults.Session fault) = fault ≢ sessions.OutOfMemory
+TellsMemory (faults.Race fault) = fault ≢ races.OutOfMemory
 TellsMemory _ = ⊤
 
 -- the status is that of an answer by which the choice may end on the input, with what is left of the input and what went out

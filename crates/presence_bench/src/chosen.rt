@@ -5,6 +5,8 @@
 pub enum Subcommand {
     /// Plays a script.
     Play,
+    /// Has the act lines of a script asked by a worker for each actor.
+    Race,
     /// Plays a saved session again.
     Load,
 }

@@ -5,6 +5,7 @@ ghost use Rattle.presence_bench.specs.Program.{fault_status};
 use script_core::{PlayFault, ScriptFault};
 use session_core::SessionFault;
 use thiserror::Error;
+use worker_core::RaceFault;
 
 /// Why the program ends early. Printed, it is what the line on standard error tells.
 #[derive(Clone, Copy, Debug, PartialEq, Eq, Error)]
@@ -18,6 +19,9 @@ pub enum Fault {
     /// A text is longer than a session may be.
     #[error("session: TooLong")]
     LongSession,
+    /// Why a race can't be vouched for. Want of memory is never in it.
+    #[error("race: {0}")]
+    Race(RaceFault),
     /// A read failed.
     #[error("read fault")]
     ReadFault,
@@ -36,8 +40,10 @@ impl Fault {
     {
         match self {
             Fault::Script(_) | Fault::Session(_) | Fault::LongSession => 1,
+            Fault::Race(RaceFault::UnknownActor | RaceFault::NoRoom) => 1,
             Fault::ReadFault | Fault::WriteFault { .. } => 3,
-            Fault::OutOfMemory => 4,
+            Fault::Race(RaceFault::OutOfMemory) | Fault::OutOfMemory => 4,
+            Fault::Race(RaceFault::WorkerRefused | RaceFault::LogsDisagree) => 5,
         }
     }
 }

@@ -7,6 +7,9 @@ pub const PURPOSE: &str =
 
 pub const PLAY: &str = "Plays the script on standard input, and prints its report";
 
+pub const RACE: &str =
+    "Has the act lines of the script on standard input asked by a thread for each actor";
+
 pub const LOAD: &str = "Plays the session on standard input again, and compares every reply";
 
 pub const FORM: &str = "What to print: report (as without it), or session, which load takes";

@@ -5,7 +5,7 @@ ghost use Rattle.clap.specs.declared.Command.TheViews.{out-Command as fields_of}
 ghost use Rattle.presence_bench.specs.Line.{app, as_rule, name_of, IsForm, Chooses};
 
 use crate::chosen::{Choice, Form, Subcommand};
-use crate::help::{FORM, LANGUAGE, LOAD, PLAY, PURPOSE, VERSION};
+use crate::help::{FORM, LANGUAGE, LOAD, PLAY, PURPOSE, RACE, VERSION};
 use clap::error::ErrorKind;
 use clap::{Arg, ArgMatches, Command, Error};
 use std::alloc::{AllocError, Global};
@@ -40,6 +40,7 @@ fn line<'a>(alloc: Global) -> Result<Command<'a>, AllocError>
     ensures { IfOk result (λ line. app_of line ≡ app) }
 {
     let play = subcommand_line(alloc, "play", PLAY)?;
+    let race = subcommand_line(alloc, "race", RACE)?;
     let load = subcommand_line(alloc, "load", LOAD)?;
     Command::new(alloc, "presence_bench")
         .about(PURPOSE)
@@ -48,6 +49,7 @@ fn line<'a>(alloc: Global) -> Result<Command<'a>, AllocError>
         .no_binary_name(true)
         .subcommand_required(true)
         .subcommand(play)?
+        .subcommand(race)?
         .subcommand(load)
 }
 
@@ -56,6 +58,7 @@ fn command_of(name: &str) -> Option<Subcommand>
 {
     match name {
         "play" => Some(Subcommand::Play),
+        "race" => Some(Subcommand::Race),
         "load" => Some(Subcommand::Load),
         _ => None,
     }

@@ -7,11 +7,14 @@ ghost use Rattle.presence_bench.specs.Program.{EndsAt, EndsAsText, KeepsBefore, 
 
 use crate::chosen::{Choice, Form, Subcommand};
 use crate::fault::Fault;
+use crate::racing::race_script;
 use crate::texts::{read_script, read_session, session_line};
 use bench_core::Limits;
 use script_core::{play, report_history, run_script, write_out};
 use std::alloc::{Allocator, Global};
 use std::io::{Read, Write};
+use std::sync::Wait;
+use std::thread::Threads;
 
 /// Writes the text.
 fn print<W: Write>(writer: &mut W, text: &[u8]) -> Result<(), Fault>
@@ -67,6 +70,49 @@ fn play_session<B: Allocator, R: Read, W: Write>(
     print(writer, &text)
 }
 
+/// What the calls print in a report that a race of a script's lines recorded.
+fn race_report<B: Allocator + Sync, T: Threads + Wait + Sync, R: Read, W: Write>(
+    rt: &T,
+    alloc: &B,
+    reader: &mut R,
+    writer: &mut W,
+    limits: Limits,
+) -> Result<(), Fault>
+    ensures ends { EndsAt subcommands.Race forms.Report limits (R.remaining reader.old) result (W.contents writer.old) (W.contents writer.new) }
+    ensures read { OnOk result (IsAtEnd (R.remaining reader.new)) }
+    ensures unwritten { IfErr result (λ fault. KeepsBefore fault (W.contents writer.old) (W.contents writer.new)) }
+    ensures memory { IfErr result TellsMemory }
+{
+    let script = read_script(alloc, reader)?;
+    let bench = race_script(rt, alloc, &script, limits)?;
+    let Ok(text) = report_history(alloc, &bench) else {
+        return Err(Fault::OutOfMemory);
+    };
+    print(writer, &text)
+}
+
+/// The session of the bench that such a race leaves.
+fn race_session<B: Allocator + Sync, T: Threads + Wait + Sync, R: Read, W: Write>(
+    rt: &T,
+    heap: Global,
+    alloc: &B,
+    reader: &mut R,
+    writer: &mut W,
+    limits: Limits,
+) -> Result<(), Fault>
+    ensures ends { EndsAt subcommands.Race forms.Session limits (R.remaining reader.old) result (W.contents writer.old) (W.contents writer.new) }
+    ensures read { OnOk result (IsAtEnd (R.remaining reader.new)) }
+    ensures unwritten { IfErr result (λ fault. KeepsBefore fault (W.contents writer.old) (W.contents writer.new)) }
+    ensures memory { IfErr result TellsMemory }
+{
+    let script = read_script(alloc, reader)?;
+    let bench = race_script(rt, alloc, &script, limits)?;
+    let Ok(text) = session_line(heap, &bench) else {
+        return Err(Fault::OutOfMemory);
+    };
+    print(writer, &text)
+}
+
 /// What the calls of a session print in a report.
 fn load_report<B: Allocator, R: Read, W: Write>(
     heap: Global,
@@ -109,7 +155,8 @@ fn load_session<B: Allocator, R: Read, W: Write>(
 
 /// Reads the whole input, plays it as was chosen, and then prints; nothing is written before the whole text stands. Limits
 /// are those of a script's bench; a session has its own. JSON takes its memory from `heap`, and all else from `alloc`.
-pub fn answer<B: Allocator, R: Read, W: Write>(
+pub fn answer<B: Allocator + Sync, T: Threads + Wait + Sync, R: Read, W: Write>(
+    rt: &T,
     heap: Global,
     alloc: &B,
     choice: Choice,
@@ -125,6 +172,8 @@ pub fn answer<B: Allocator, R: Read, W: Write>(
     match (choice.command, choice.form) {
         (Subcommand::Play, Form::Report) => play_report(alloc, reader, writer, limits),
         (Subcommand::Play, Form::Session) => play_session(heap, alloc, reader, writer, limits),
+        (Subcommand::Race, Form::Report) => race_report(rt, alloc, reader, writer, limits),
+        (Subcommand::Race, Form::Session) => race_session(rt, heap, alloc, reader, writer, limits),
         (Subcommand::Load, Form::Report) => load_report(heap, alloc, reader, writer, limits),
         (Subcommand::Load, Form::Session) => load_session(heap, alloc, reader, writer, limits),
     }

@@ -12,6 +12,8 @@ use clap::error::ErrorKind;
 use std::alloc::{Allocator, Global};
 use std::convert::AsStr;
 use std::io::{Read, Write};
+use std::sync::Wait;
+use std::thread::Threads;
 
 /// The status of an answer.
 fn status_of(answer: Result<(), Fault>) -> u8
@@ -24,7 +26,8 @@ fn status_of(answer: Result<(), Fault>) -> u8
 }
 
 /// Does what was chosen, and gives the status. A fault goes as one line to the errors, where these can be written.
-fn run_choice<B: Allocator, R: Read, W: Write, E: Write>(
+fn run_choice<B: Allocator + Sync, T: Threads + Wait + Sync, R: Read, W: Write, E: Write>(
+    rt: &T,
     heap: Global,
     alloc: &B,
     choice: Choice,
@@ -36,7 +39,7 @@ fn run_choice<B: Allocator, R: Read, W: Write, E: Write>(
     ensures exits { Exits choice (R.remaining reader.old) (R.remaining reader.new) limits result (W.contents writer.old) (W.contents writer.new) }
     ensures quiet { result ≡ 0 → Keeps (E.contents errors.old) (E.contents errors.new) }
 {
-    let answer = answer(heap, alloc, choice, reader, writer, limits);
+    let answer = answer(rt, heap, alloc, choice, reader, writer, limits);
     if let Err(fault) = answer {
         let _ = writeln!(errors, "presence_bench: {fault}");
     }
@@ -64,7 +67,15 @@ fn refuse<W: Write, E: Write>(fault: &clap::Error, writer: &mut W, errors: &mut 
 
 /// Does what the words after the program's name ask, and gives the status. The words and JSON are read in memory of `heap`, and
 /// all else is done in that of `alloc`.
-pub fn program<S: AsStr, B: Allocator, R: Read, W: Write, E: Write>(
+pub fn program<
+    S: AsStr,
+    B: Allocator + Sync,
+    T: Threads + Wait + Sync,
+    R: Read,
+    W: Write,
+    E: Write,
+>(
+    rt: &T,
     heap: Global,
     alloc: &B,
     words: &[S],
@@ -76,7 +87,7 @@ pub fn program<S: AsStr, B: Allocator, R: Read, W: Write, E: Write>(
     ensures quiet { result ≡ 0 → Keeps (E.contents errors.old) (E.contents errors.new) }
 {
     match choice(heap, words) {
-        Ok(choice) => run_choice(heap, alloc, choice, reader, writer, errors, limits),
+        Ok(choice) => run_choice(rt, heap, alloc, choice, reader, writer, errors, limits),
         Err(fault) => refuse(&fault, writer, errors),
     }
 }

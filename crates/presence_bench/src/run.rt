@@ -2,6 +2,8 @@
 use crate::program;
 use bench_core::Limits;
 use std::process::{ExitCode, Termination};
+use std::sync::Wait;
+use std::thread::Threads;
 use std::{env, io};
 
 /// How the program ended. Only `run` makes one, so that a `main` which gives one back ran the program and keeps its status.
@@ -16,13 +18,15 @@ impl Termination for Ended {
     }
 }
 
-/// Does what the words after the program's name ask.
-pub fn run(rt: &HostRuntime) -> Ended {
-    Ended { status: status(rt) }
+/// Does what the words after the program's name ask. A race has its threads of `threads`.
+pub fn run<T: Threads + Wait + Sync>(rt: &HostRuntime, threads: &T) -> Ended {
+    Ended {
+        status: status(rt, threads),
+    }
 }
 
 /// The status of `program`. Words that can't be read choose nothing.
-fn status(rt: &HostRuntime) -> u8 {
+fn status<T: Threads + Wait + Sync>(rt: &HostRuntime, threads: &T) -> u8 {
     let words = match env::args(rt) {
         Ok(words) => words,
         Err(fault) if fault.kind() == io::ErrorKind::OutOfMemory => return 4,
@@ -34,6 +38,7 @@ fn status(rt: &HostRuntime) -> u8 {
     let mut output = io::writer(rt);
     let mut errors = rt.stderr();
     program::program(
+        threads,
         rt.alloc(),
         &rt.alloc(),
         &words,

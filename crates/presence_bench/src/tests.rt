@@ -1,14 +1,19 @@
 //! What words choose, and the statuses of the program with what it writes.
 use crate::chosen::{Choice, Form, Subcommand};
+use crate::fault::Fault;
 use crate::line::choice;
 use crate::program::program;
 use crate::run::run;
 use bench_core::Limits;
 use clap::error::ErrorKind;
 use script_core::{FakeReader, FakeWriter};
-use std::alloc::Allocator;
-use std::process::Termination;
+use session_core::load;
+use std::alloc::{Allocator, Global};
+use std::process::{Abort, Termination};
+use std::sync::Wait;
+use std::thread::Threads;
 use test_alloc::Refusing;
+use worker_core::RaceFault;
 
 const JOINED: &str = "nodes a b\na join 1 r alice phone\na undo 1\n";
 
@@ -19,10 +24,16 @@ const SESSION: &str = "{\"acts\":[[0,[\"do\",\"join\",1,\"r\",\"alice\",\"phone\
 [0,[\"undo\",1],[\"undone\",1]]],\"limits\":[100000,10000,1000000,10000],\"nodes\":[\"a\",\"b\"],\"version\":1}\n";
 
 /// The words that choose something, and what they choose.
-const CHOSEN: [(&[&str], Subcommand, Form); 6] = [
+const CHOSEN: [(&[&str], Subcommand, Form); 8] = [
     (&["play"], Subcommand::Play, Form::Report),
     (&["play", "--as", "report"], Subcommand::Play, Form::Report),
     (&["play", "--as=session"], Subcommand::Play, Form::Session),
+    (&["race"], Subcommand::Race, Form::Report),
+    (
+        &["race", "--as", "session"],
+        Subcommand::Race,
+        Form::Session,
+    ),
     (&["load"], Subcommand::Load, Form::Report),
     (&["load", "--as=report"], Subcommand::Load, Form::Report),
     (
@@ -82,7 +93,13 @@ const LOADED: Case = Case {
     ..PLAYED
 };
 
-const CASES: [Case; 11] = [
+/// A race of one actor, whose order is given.
+const RACED: Case = Case {
+    words: &["race"],
+    ..PLAYED
+};
+
+const CASES: [Case; 14] = [
     PLAYED,
     Case {
         words: &["play", "--as", "session"],
@@ -138,6 +155,21 @@ const CASES: [Case; 11] = [
         told: "presence_bench: write fault\n",
         ..PLAYED
     },
+    RACED,
+    Case {
+        script: "nodes a\na join 1 r alice phone\nshow a\n",
+        status: 1,
+        printed: "",
+        told: "presence_bench: line 3: NotAllowed\n",
+        ..RACED
+    },
+    Case {
+        script: "nodes a\nb broadcast\n",
+        status: 1,
+        printed: "",
+        told: "presence_bench: line 2: UnknownWord\n",
+        ..RACED
+    },
     Case {
         words: &["--version"],
         printed: "presence_bench 0.1.0\n",
@@ -146,19 +178,21 @@ const CASES: [Case; 11] = [
 ];
 
 /// The status with which the program ends, and what it wrote to its output and to its errors, each a writer of so much room.
-fn ended<B: Allocator>(
-    rt: &HostRuntime,
-    heap: &B,
+fn ended<T: Threads + Wait + Sync, B: Allocator + Sync>(
+    rt: &T,
+    heap: Global,
+    alloc: &B,
     words: &[&str],
     reader: &mut FakeReader<'_>,
     rooms: [usize; 2],
 ) -> (u8, FakeWriter, FakeWriter) {
     let [room, errors_room] = rooms;
-    let mut writer = FakeWriter::new(rt.alloc(), room);
-    let mut errors = FakeWriter::new(rt.alloc(), errors_room);
+    let mut writer = FakeWriter::new(heap, room);
+    let mut errors = FakeWriter::new(heap, errors_room);
     let status = program(
-        rt.alloc(),
+        rt,
         heap,
+        alloc,
         words,
         reader,
         &mut writer,
@@ -169,9 +203,14 @@ fn ended<B: Allocator>(
 }
 
 /// Whether the program ends as the case says.
-fn ends_so(rt: &HostRuntime, case: &Case, reader: &mut FakeReader<'_>) -> bool {
+fn ends_so<T: Threads + Wait + Sync>(
+    rt: &T,
+    heap: Global,
+    case: &Case,
+    reader: &mut FakeReader<'_>,
+) -> bool {
     let rooms = [case.room, 1000];
-    let (status, writer, errors) = ended(rt, &rt.alloc(), case.words, reader, rooms);
+    let (status, writer, errors) = ended(rt, heap, &heap, case.words, reader, rooms);
     status == case.status
         && writer.taken() == case.printed.as_bytes()
         && errors.taken() == case.told.as_bytes()
@@ -182,9 +221,9 @@ fn each_end_has_its_status_and_its_line(rt: HostRuntime) {
     for case in &CASES {
         let script = case.script.as_bytes();
         let is_so = if case.fails {
-            ends_so(&rt, case, &mut FakeReader::failing(script))
+            ends_so(&rt, rt.alloc(), case, &mut FakeReader::failing(script))
         } else {
-            ends_so(&rt, case, &mut FakeReader::ending(script))
+            ends_so(&rt, rt.alloc(), case, &mut FakeReader::ending(script))
         };
         assert!(rt; is_so, "{}", case.told);
     }
@@ -200,7 +239,14 @@ fn a_status_stands_where_its_line_cannot_be_written(rt: HostRuntime) {
         (["--help"].as_slice(), "", 3),
     ] {
         let mut reader = FakeReader::ending(script.as_bytes());
-        let (ended, writer, errors) = ended(&rt, &rt.alloc(), words, &mut reader, [0, 0]);
+        let (ended, writer, errors) = ended(
+            &rt,
+            rt.alloc(),
+            &rt.alloc(),
+            words,
+            &mut reader,
+            [0, 0],
+        );
         assert_eq!(rt; ended, status);
         assert!(rt; writer.taken().is_empty() && errors.taken().is_empty());
     }
@@ -216,7 +262,14 @@ fn refused_words_are_told_and_help_is_printed(rt: HostRuntime) {
     ] {
         let mut reader = FakeReader::failing(b"");
         let rooms = [100_000, 100_000];
-        let (ended, writer, errors) = ended(&rt, &rt.alloc(), words, &mut reader, rooms);
+        let (ended, writer, errors) = ended(
+            &rt,
+            rt.alloc(),
+            &rt.alloc(),
+            words,
+            &mut reader,
+            rooms,
+        );
         assert_eq!(rt; ended, status);
         assert_eq!(rt; writer.taken().is_empty(), status == 2);
         assert_eq!(rt; errors.taken().is_empty(), status == 0);
@@ -224,37 +277,98 @@ fn refused_words_are_told_and_help_is_printed(rt: HostRuntime) {
     }
 }
 
+/// Words, an input, and what is printed of it.
+const ANSWERED: [(&[&str], &str, &str); 6] = [
+    (&["play"], JOINED, REPORT),
+    (&["play", "--as", "session"], JOINED, SESSION),
+    (&["race"], JOINED, REPORT),
+    (&["race", "--as", "session"], JOINED, SESSION),
+    (&["load"], SESSION, REPORT),
+    (&["load", "--as", "session"], SESSION, SESSION),
+];
+
+/// Runs the program with this request for memory refused: it prints all, or nothing and says so. Gives whether the request was
+/// met, and whether the program ended early.
+fn refused<T: Threads + Wait + Sync + Abort>(
+    rt: &T,
+    global: Global,
+    heap: &Refusing<Global>,
+    answered: (&[&str], &str, &str),
+    number: u64,
+) -> (bool, bool) {
+    let (words, input, printed) = answered;
+    heap.refuse_only(number);
+    let mut reader = FakeReader::ending(input.as_bytes());
+    let (status, writer, errors) = ended(rt, global, heap, words, &mut reader, [1000, 1000]);
+    let (out, told) = match status {
+        0 => (printed, ""),
+        _ => ("", "presence_bench: out of memory\n"),
+    };
+    let is_met = number <= heap.requests();
+    assert!(rt; status == 0 || is_met && status == 4, "request {number}");
+    assert!(rt; writer.taken() == out.as_bytes(), "request {number}");
+    assert!(rt; errors.taken() == told.as_bytes(), "request {number}");
+    (is_met, status == 4)
+}
+
 #[test]
 fn want_of_memory_prints_nothing(rt: HostRuntime) {
     let heap = Refusing::new(rt.alloc());
-    let mut ended_early = 0u64;
-    for number in 1..10_000 {
-        heap.refuse_only(number);
-        let mut reader = FakeReader::ending(JOINED.as_bytes());
-        let rooms = [1000, 1000];
-        let (status, writer, errors) = ended(&rt, &heap, &["play"], &mut reader, rooms);
-        if heap.requests() < number {
-            assert_eq!(rt; status, 0);
-            break;
+    for answered in ANSWERED {
+        let mut ended_early = 0u64;
+        for number in 1..10_000 {
+            let (is_met, is_early) = refused(&rt, rt.alloc(), &heap, answered, number);
+            ended_early = ended_early.saturating_add(u64::from(is_early));
+            if !is_met {
+                break;
+            }
+            assert!(rt; number < 9_999);
         }
-        let (printed, told) = match status {
-            0 => (REPORT, ""),
-            _ => ("", "presence_bench: out of memory\n"),
-        };
-        assert!(rt; status == 0 || status == 4, "request {number}");
-        assert_eq!(rt; writer.taken(), printed.as_bytes(), "request {number}");
-        assert_eq!(rt; errors.taken(), told.as_bytes(), "request {number}");
-        if status == 4 {
-            ended_early = ended_early.saturating_add(1);
-        }
+        assert!(rt; 10 <= ended_early);
     }
-    assert!(rt; 10 <= ended_early && ended_early < 9_000);
+}
+
+/// Lines of two nodes, in whatever order they are asked: a session with an event for each.
+#[test]
+fn a_race_is_saved_and_loads_again(rt: HostRuntime) {
+    let script = "nodes a b\na join 1 r alice phone\nb up a\na broadcast\nb deliver a 1\n";
+    let mut reader = FakeReader::ending(script.as_bytes());
+    let words = ["race", "--as", "session"];
+    let (status, writer, errors) = ended(
+        &rt,
+        rt.alloc(),
+        &rt.alloc(),
+        &words,
+        &mut reader,
+        [10_000, 1000],
+    );
+    assert!(rt; status == 0 && errors.taken().is_empty());
+    let heap = rt.alloc();
+    let bench = load(rt.alloc(), &heap, writer.taken()).expect(&rt, "a session");
+    assert_eq!(rt; bench.history().len(), 4);
+}
+
+/// The status and the line of each fault of a race.
+#[test]
+fn the_faults_of_a_race_have_their_status(rt: HostRuntime) {
+    for (fault, status, line) in [
+        (RaceFault::UnknownActor, 1, "race: UnknownActor"),
+        (RaceFault::NoRoom, 1, "race: NoRoom"),
+        (RaceFault::WorkerRefused, 5, "race: WorkerRefused"),
+        (RaceFault::LogsDisagree, 5, "race: LogsDisagree"),
+    ] {
+        let fault = Fault::Race(fault);
+        assert_eq!(rt; fault.status(), status);
+        let mut text = String::new(rt.alloc());
+        assert!(rt; write!(text, "{fault}").is_ok());
+        assert!(rt; text.as_str() == line);
+    }
 }
 
 /// The words of the tests' own command line choose nothing.
 #[test]
 fn run_ends_with_the_status(rt: HostRuntime) {
-    let code = run(&rt).report(&rt);
+    let code = run(&rt, &rt).report(&rt);
     let mut text = String::new(rt.alloc());
     assert!(rt; write!(text, "{code:?}").is_ok());
     assert!(rt; text.as_str() == "ExitCode(unix_exit_status(2))");

@@ -11,5 +11,6 @@ returns c =
     rw (c.subcommand_required.ensures, c.no_binary_name.ensures, c.after_help.ensures, c.version.ensures, c.about.ensures)
     (ap set c.new.ensures.app) in
     let first = c.in_ok-subcommand.ensures.shape c.in_ok-play.ensures.local ∙ ap₂ with_subcommand plain_is (ap top c.in_ok-play.ensures.app) in
-    IfOk-weaker c.subcommand-2.result _ _
-    (λ r h. h.shape c.in_ok-load.ensures.local ∙ ap₂ with_subcommand first (ap top c.in_ok-load.ensures.app)) c.subcommand-2.ensures
+    let second = c.in_ok-subcommand-2.ensures.shape c.in_ok-race.ensures.local ∙ ap₂ with_subcommand first (ap top c.in_ok-race.ensures.app) in
+    IfOk-weaker c.subcommand-3.result _ _
+    (λ r h. h.shape c.in_ok-load.ensures.local ∙ ap₂ with_subcommand second (ap top c.in_ok-load.ensures.app)) c.subcommand-3.ensures
