@@ -46,13 +46,20 @@ fn run_choice<B: Allocator + Sync, T: Threads + Wait + Sync, R: Read, W: Write, 
     status_of(answer)
 }
 
+/// Tells that a request for memory was refused, and gives the status of that.
+pub fn want_of_memory<E: Write>(errors: &mut E) -> u8
+    ensures status { result ≡ 4 }
+{
+    let _ = writeln!(errors, "presence_bench: {}", Fault::OutOfMemory);
+    4
+}
+
 /// Answers words that choose nothing: help and the version go to the output, a fault of the words to the errors.
 fn refuse<W: Write, E: Write>(fault: &clap::Error, writer: &mut W, errors: &mut E) -> u8
     ensures quiet { result ≡ 0 → Keeps (E.contents errors.old) (E.contents errors.new) }
 {
     if fault.kind() == ErrorKind::OutOfMemory {
-        let _ = writeln!(errors, "presence_bench: out of memory");
-        return 4;
+        return want_of_memory(errors);
     }
     if fault.use_stderr() {
         let _ = write!(errors, "{fault}");

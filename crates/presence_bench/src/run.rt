@@ -1,6 +1,7 @@
 //! `run`: the program on the runtime's words and standard streams.
 use crate::program;
 use bench_core::Limits;
+use std::io::Write;
 use std::process::{ExitCode, Termination};
 use std::sync::Wait;
 use std::thread::Threads;
@@ -25,18 +26,23 @@ pub fn run<T: Threads + Wait + Sync>(rt: &HostRuntime, threads: &T) -> Ended {
     }
 }
 
-/// The status of `program`. Words that can't be read choose nothing.
+/// The status of `program`. Words that can't be read choose nothing, and are told.
 fn status<T: Threads + Wait + Sync>(rt: &HostRuntime, threads: &T) -> u8 {
+    let mut errors = rt.stderr();
     let words = match env::args(rt) {
         Ok(words) => words,
-        Err(fault) if fault.kind() == io::ErrorKind::OutOfMemory => return 4,
-        Err(_) => return 2,
+        Err(fault) if fault.kind() == io::ErrorKind::OutOfMemory => {
+            return program::want_of_memory(&mut errors);
+        }
+        Err(_) => {
+            let _ = writeln!(errors, "error: a word is no text");
+            return 2;
+        }
     };
     let Ok(words) = words.skip(1).collect::<Vec<String>>(rt.alloc()) else {
-        return 4;
+        return program::want_of_memory(&mut errors);
     };
     let mut output = io::writer(rt);
-    let mut errors = rt.stderr();
     program::program(
         threads,
         rt.alloc(),
