@@ -91,10 +91,10 @@ limits_again : (l : Limits) → AreLimits l → limits_at (limits_json l) ≡ So
 unfolding limits_at
 limits_again l r = rw (are_in_range l r) refl
 
-abbrev pub parts : Texts → Limits → List Event → Parts
-parts names limits events = record { acts = items_of (map event_json events); limits = limits; names = names }
+abbrev pub parts : Texts → Limits → Parts
+parts names limits = record { limits = limits; names = names }
 
 pub parts_again : (names : Texts) (limits : Limits) (events : List Event) → names_of names ≡ Ok names → AreLimits limits →
-    parts_at (session names limits events) ≡ Some (parts names limits events)
+    parts_at (session names limits events) ≡ Some (parts names limits)
 unfolding parts_at values_at
 parts_again names limits events is within = rw (names_at_again names is, limits_again limits within) refl

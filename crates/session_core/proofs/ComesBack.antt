@@ -14,8 +14,8 @@ use Rattle.bench_core.specs.Replays.{Records, Replays}
 use Rattle.session_core.specs.declared.session_fault.SessionFault.{SessionFault}
 use Rattle.session_core.specs.declared.session_fault.SessionFault.TheVariants.{NotJson, BadShape, BadVersion, Disagrees, OutOfMemory}
 use Rattle.session_core.specs.Format.{event_json, session}
-use Rattle.session_core.specs.Decoding.{Parts, version_of, parts_at, event_at}
-use Rattle.session_core.specs.Sessions.{with_event, RecordsNext, Reads, Steps, Faults, data_of, first_bench, Gives, IsRefused, IsMisshapen, HasFault, IsJson, Answers, IsSaved, ComesBack, IsEvent, IsTold}
+use Rattle.session_core.specs.Decoding.{Parts, version_of, parts_at, acts_of, event_at}
+use Rattle.session_core.specs.Sessions.{with_event, RecordsNext, Reads, Steps, Faults, data_of, first_bench, LeadsTo, IsRefused, IsMisshapen, HasFault, IsJson, Answers, IsSaved, ComesBack, IsEvent, IsTold}
 use Rattle.session_core.proofs.Again.{event_again, parts, parts_again}
 use Rattle.session_core.proofs.Replayed.{data_of-items_of}
 
@@ -66,21 +66,23 @@ module _ (bytes : List ℕ) (m : Machine) (saved : IsSaved bytes m) (d : Data) (
   version_is : version_of d ≡ Some 1
   version_is = ap version_of d_is
 
-  parts_is : parts_at d ≡ Some (parts m.names m.limits m.state.history)
+  parts_is : parts_at d ≡ Some (parts m.names m.limits)
   parts_is = ap parts_at d_is ∙ parts_again m.names m.limits m.state.history saved.names saved.limits
 
-  one_parts : (p : Parts) → parts_at d ≡ Some p → p ≡ parts m.names m.limits m.state.history
+  one_parts : (p : Parts) → parts_at d ≡ Some p → p ≡ parts m.names m.limits
   one_parts p is = let same = sym is ∙ parts_is in cc
+
+  acts_are : data_of (acts_of d) ≡ map event_json m.state.history
+  acts_are = ap (λ (x : Data). data_of (acts_of x)) d_is ∙ data_of-items_of (map event_json m.state.history)
 
   reads : Reads (opening_machine m.names m.limits) (map event_json m.state.history) m
   reads = reads_again (opening_machine m.names m.limits) m.state.history m.state saved.events saved.session.replays
 
   -- what the acts of a value with these parts come to
-  at_parts : (X : Machine → List Data → Type 0) (p : Parts) → parts_at d ≡ Some p → X (first_bench p) (data_of p.acts) →
+  at_parts : (X : Machine → List Data → Type 0) (p : Parts) → parts_at d ≡ Some p → X (first_bench p) (data_of (acts_of d)) →
       X (opening_machine m.names m.limits) (map event_json m.state.history)
   at_parts X p is h =
-      subst (X (opening_machine m.names m.limits)) (data_of-items_of (map event_json m.state.history))
-      (subst (λ (q : Parts). X (first_bench q) (data_of q.acts)) (one_parts p is) h)
+      subst (X (opening_machine m.names m.limits)) acts_are (subst (λ (q : Parts). X (first_bench q) (data_of (acts_of d))) (one_parts p is) h)
 
   pub comes_back : (r : Result Machine SessionFault) → Answers d r → ComesBack m r
   comes_back (Ok loaded) (one, (p, is, h)) = one_end (map event_json m.state.history) (opening_machine m.names m.limits) m loaded reads

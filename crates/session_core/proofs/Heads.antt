@@ -7,11 +7,11 @@ use Rattle.std.specs.Bool.{MatchBool}
 use Rattle.std.specs.Ordering.{match_ordering}
 use Rattle.serde_json.specs.Data.{Data, null, boolean, number, string, array, object, Items, no_items, Members, no_members, member, put}
 use Rattle.serde_json.specs.Find.{get_member, as_array, as_object}
-use Rattle.session_core.specs.Decoding.{◌>>=◌, kept_if, Parts, version_of, limits_at, names_at, are_keys, values_at, parts_at}
+use Rattle.session_core.specs.Decoding.{◌>>=◌, kept_if, Parts, version_of, limits_at, names_at, are_keys, values_at, parts_at, items_in, are_acts, acts_members}
 use Rattle.bench_core.specs.Limits.{Limits}
 use Rattle.bench_core.specs.NameList.{Texts}
-use Rattle.session_core.specs.Drafts.{emptied, items_in, are_acts, emptied_at, head_members, acts_members, head, acts}
-use Rattle.session_core.proofs.Lists.{both, same_text, bind_some, map_some, array_is, object_is}
+use Rattle.session_core.specs.Drafts.{emptied, emptied_at, head_members, head}
+use Rattle.session_core.proofs.Lists.{both, same_text}
 
 -- a member that is put, under the head
 
@@ -116,57 +116,32 @@ values_head (member k a (member l b (member m c no_members))) = refl
 values_head (member k a (member l b (member m c (member n d no_members)))) = four_keys (are_keys k l m n) k l m n a b c refl
 values_head (member k a (member l b (member m c (member n d (member o f ms))))) = refl
 
-values_acts : (ms : Members) (v : Three) → values_at ms ≡ Some v → acts_members ms ≡ items_in v.0
-unfolding values_at
-values_acts no_members v e = absurd cc
-values_acts (member k a no_members) v e = absurd cc
-values_acts (member k a (member l b no_members)) v e = absurd cc
-values_acts (member k a (member l b (member m c no_members))) v e = absurd cc
-values_acts (member k a (member l b (member m c (member n d no_members)))) v e = first_acts (are_keys k l m n) k l m n a b c d v refl e
-  where
-    first_acts : (t : Bool) (k l m n : List ℕ) (a b c d : Data) (v : Three) → are_keys k l m n ≡ t → kept_if t (a, b, c) ≡ Some v →
-        acts_members (member k a (member l b (member m c (member n d no_members)))) ≡ items_in v.0
-    first_acts true k l m n a b c d v is e =
-        let x = both (bytes_eq k (codes "acts") && bytes_eq l (codes "limits") && bytes_eq m (codes "nodes")) (bytes_eq n (codes "version")) is in
-        let y = both (bytes_eq k (codes "acts") && bytes_eq l (codes "limits")) (bytes_eq m (codes "nodes")) x.0 in
-        let z = both (bytes_eq k (codes "acts")) (bytes_eq l (codes "limits")) y.0 in
-        let same : a ≡ v.0 = (let p = e in cc) in
-        rw (z.0) (ap items_in same)
-    first_acts false k l m n a b c d v is e = absurd cc
-values_acts (member k a (member l b (member m c (member n d (member o f ms))))) v e = absurd cc
+same_bind : {A B : Type 0} (o : Option A) (f g : A → Option B) → ((x : A) → f x ≡ g x) → (o >>= f) ≡ (o >>= g)
+same_bind None f g same = refl
+same_bind (Some x) f g same = same x
 
-abbrev without_acts : Parts → Parts
-without_acts p = record { acts = no_items; limits = p.limits; names = p.names }
+last_part : (a : Data) (p : Parts) → (as_array (emptied a) >>= λ acts. Some p) ≡ (as_array a >>= λ acts. Some p)
+last_part null p = refl
+last_part (boolean b) p = refl
+last_part (number n) p = refl
+last_part (string s) p = refl
+last_part (array ds) p = refl
+last_part (object ms) p = refl
 
-bind_map : {A B C : Type 0} (o : Option A) (f : A → Option C) (g : A → Option B) (h : B → C) → ((x : A) → f x ≡ option_map h (g x)) →
-    (o >>= f) ≡ option_map h (o >>= g)
-bind_map None f g h k = refl
-bind_map (Some x) f g h k = k x
-
-abbrev with_acts : Texts → Limits → Items → Option Parts
-with_acts names limits acts = Some (record { acts = acts; limits = limits; names = names })
-
-last_part : (a : Data) (names : Texts) (limits : Limits) →
-    (as_array (emptied a) >>= λ acts. with_acts names limits acts)
-    ≡ option_map without_acts (as_array a >>= λ acts. with_acts names limits acts)
-last_part null names limits = refl
-last_part (boolean b) names limits = refl
-last_part (number n) names limits = refl
-last_part (string s) names limits = refl
-last_part (array ds) names limits = refl
-last_part (object ms) names limits = refl
+abbrev parts_of : Texts → Limits → Parts
+parts_of names limits = record { limits = limits; names = names }
 
 abbrev from_values : Option Three → Option Parts
 from_values o = o >>= λ values. as_array values.2 >>= λ nodes. names_at nodes >>= λ names. limits_at values.1 >>= λ limits.
-    as_array values.0 >>= λ acts. with_acts names limits acts
+    as_array values.0 >>= λ acts. Some (parts_of names limits)
 
-emptied_values : (o : Option Three) → from_values (option_map without_items o) ≡ option_map without_acts (from_values o)
+emptied_values : (o : Option Three) → from_values (option_map without_items o) ≡ from_values o
 emptied_values None = refl
 emptied_values (Some v) =
-    bind_map (as_array v.2) _ _ without_acts (λ nodes. bind_map (names_at nodes) _ _ without_acts (λ names.
-    bind_map (limits_at v.1) _ _ without_acts (λ limits. last_part v.0 names limits)))
+    same_bind (as_array v.2) _ _ (λ nodes. same_bind (names_at nodes) _ _ (λ names.
+    same_bind (limits_at v.1) _ _ (λ limits. last_part v.0 (parts_of names limits))))
 
-head_parts : (d : Data) → parts_at (head d) ≡ option_map without_acts (parts_at d)
+pub head_parts : (d : Data) → parts_at (head d) ≡ parts_at d
 unfolding parts_at
 head_parts null = refl
 head_parts (boolean b) = refl
@@ -174,35 +149,6 @@ head_parts (number n) = refl
 head_parts (string s) = refl
 head_parts (array ds) = refl
 head_parts (object ms) = ap from_values (values_head ms) ∙ emptied_values (values_at ms)
-
-acts_are : (d : Data) (p : Parts) → parts_at d ≡ Some p → acts d ≡ p.acts
-unfolding parts_at
-acts_are d p e =
-    let ms = bind_some (as_object d) (λ ms. from_values (values_at ms)) p e in
-    let v = bind_some (values_at ms.0) (λ values. from_values (Some values)) p ms.2 in
-    let n = bind_some (as_array v.0.2) (λ nodes. names_at nodes >>= λ names. limits_at v.0.1 >>= λ limits. as_array v.0.0 >>= λ acts.
-    Some (record { acts = acts; limits = limits; names = names })) p v.2 in
-    let names = bind_some (names_at n.0) (λ names. limits_at v.0.1 >>= λ limits. as_array v.0.0 >>= λ acts.
-    Some (record { acts = acts; limits = limits; names = names })) p n.2 in
-    let limits = bind_some (limits_at v.0.1) (λ limits. as_array v.0.0 >>= λ acts. Some (record { acts = acts; limits = limits; names = names.0 })) p names.2 in
-    let found = bind_some (as_array v.0.0) (λ acts. Some (record { acts = acts; limits = limits.0; names = names.0 })) p limits.2 in
-    let made : Parts = record { acts = found.0; limits = limits.0; names = names.0 } in
-    let same : made ≡ p = (let q = found.2 in cc) in
-    ap acts (object_is d ms.0 ms.1) ∙ values_acts ms.0 v.0 v.1 ∙ ap items_in (array_is v.0.0 found.0 found.1) ∙ ap (λ (x : Parts). x.acts) same
-
--- the parts of the value, from those of its head
-pub parts_back : (d : Data) (q : Parts) → parts_at (head d) ≡ Some q →
-    (p : Parts) × (parts_at d ≡ Some p) × (p.limits ≡ q.limits) × (p.names ≡ q.names) × (acts d ≡ p.acts)
-parts_back d q e =
-    let p = map_some without_acts (parts_at d) q (sym (head_parts d) ∙ e) in
-    (p.0, p.1, ap (λ (x : Parts). x.limits) p.2, ap (λ (x : Parts). x.names) p.2, acts_are d p.0 p.1)
-
-none_mapped : {A B : Type 0} (f : A → B) (o : Option A) → option_map f o ≡ None → o ≡ None
-none_mapped f None e = refl
-none_mapped f (Some x) e = absurd cc
-
-pub no_parts : (d : Data) → parts_at (head d) ≡ None → parts_at d ≡ None
-no_parts d e = none_mapped without_acts (parts_at d) (sym (head_parts d) ∙ e)
 
 -- what is known of the acts, after a member was put
 module _ {X : Type 0} (R : Items → X → Type 0) (k : List ℕ) (d : Data) (ms : Members) (before after : X) where

@@ -10,7 +10,7 @@ use Rattle.bench_core.specs.declared.names_fault.NamesFault.{NamesFault}
 use Rattle.bench_core.specs.NameList.{Texts, names_of, with_names}
 use Rattle.session_core.specs.Format.{list, whole, limits_json}
 use Rattle.session_core.specs.Decoding.{◌>>=◌, kept_if, number_in, ends_at, Parts, version_of, are_limits, limits_at, texts_of, if_ok, names_at, are_keys}
-use Rattle.session_core.specs.Decoding.{values_at, parts_at}
+use Rattle.session_core.specs.Decoding.{values_at, parts_at, items_in, acts_members, acts_of}
 use Rattle.session_core.proofs.Lists.{HasItems, bind_some, then_some, tested, both, same_text, string_is, whole_is, array_is, object_is, number_there, list_is}
 use Rattle.bench_core.proofs.TextLists.{with_names_ok}
 
@@ -85,30 +85,53 @@ values_are (member k a (member l b (member m c (member n d no_members)))) v e =
     (d, keys_are k l m n p.0 a b c d ∙ ap (λ (x : Data × Data × Data). four x.0 x.1 x.2 d) p.1)
 values_are (member k a (member l b (member m c (member n d (member o f ms))))) v e = absurd cc
 
+-- the first of the four values has the acts
+values_acts : (ms : Members) (v : Data × Data × Data) → values_at ms ≡ Some v → acts_members ms ≡ items_in v.0
+unfolding values_at
+values_acts no_members v e = absurd cc
+values_acts (member k a no_members) v e = absurd cc
+values_acts (member k a (member l b no_members)) v e = absurd cc
+values_acts (member k a (member l b (member m c no_members))) v e = absurd cc
+values_acts (member k a (member l b (member m c (member n d no_members)))) v e = first_acts (are_keys k l m n) k l m n a b c d v refl e
+  where
+    first_acts : (t : Bool) (k l m n : List ℕ) (a b c d : Data) (v : Data × Data × Data) → are_keys k l m n ≡ t → kept_if t (a, b, c) ≡ Some v →
+        acts_members (member k a (member l b (member m c (member n d no_members)))) ≡ items_in v.0
+    first_acts true k l m n a b c d v is e =
+        let x = both (bytes_eq k (codes "acts") && bytes_eq l (codes "limits") && bytes_eq m (codes "nodes")) (bytes_eq n (codes "version")) is in
+        let y = both (bytes_eq k (codes "acts") && bytes_eq l (codes "limits")) (bytes_eq m (codes "nodes")) x.0 in
+        let z = both (bytes_eq k (codes "acts")) (bytes_eq l (codes "limits")) y.0 in
+        let same : a ≡ v.0 = (let p = e in cc) in
+        rw (z.0) (ap items_in same)
+    first_acts false k l m n a b c d v is e = absurd cc
+values_acts (member k a (member l b (member m c (member n d (member o f ms))))) v e = absurd cc
+
 four_same : (a b c d k l m n : Data) → a ≡ k → b ≡ l → c ≡ m → d ≡ n → object (four a b c d) ≡ object (four k l m n)
 four_same a b c d k l m n p q r t = rw (p, q, r, t) refl
 
--- the four members, from the parts
+-- the four members, from the parts and the acts
 pub parts_are : (d : Data) (p : Parts) → version_of d ≡ Some 1 → parts_at d ≡ Some p →
-    d ≡ object (four (array p.acts) (limits_json p.limits) (list (map string p.names)) (whole 1))
+    d ≡ object (four (array (acts_of d)) (limits_json p.limits) (list (map string p.names)) (whole 1))
 unfolding parts_at
 parts_are d p one e =
     let ms = bind_some (as_object d) (λ ms. values_at ms >>= λ values. as_array values.2 >>= λ nodes. names_at nodes >>= λ names.
-    limits_at values.1 >>= λ limits. as_array values.0 >>= λ acts. Some (record { acts = acts; limits = limits; names = names })) p e in
+    limits_at values.1 >>= λ limits. as_array values.0 >>= λ acts. Some (record { limits = limits; names = names })) p e in
     let v = bind_some (values_at ms.0) (λ values. as_array values.2 >>= λ nodes. names_at nodes >>= λ names. limits_at values.1 >>= λ limits.
-    as_array values.0 >>= λ acts. Some (record { acts = acts; limits = limits; names = names })) p ms.2 in
+    as_array values.0 >>= λ acts. Some (record { limits = limits; names = names })) p ms.2 in
     let n = bind_some (as_array v.0.2) (λ nodes. names_at nodes >>= λ names. limits_at v.0.1 >>= λ limits. as_array v.0.0 >>= λ acts.
-    Some (record { acts = acts; limits = limits; names = names })) p v.2 in
+    Some (record { limits = limits; names = names })) p v.2 in
     let names = bind_some (names_at n.0) (λ names. limits_at v.0.1 >>= λ limits. as_array v.0.0 >>= λ acts.
-    Some (record { acts = acts; limits = limits; names = names })) p n.2 in
-    let limits = bind_some (limits_at v.0.1) (λ limits. as_array v.0.0 >>= λ acts. Some (record { acts = acts; limits = limits; names = names.0 })) p names.2 in
-    let acts = bind_some (as_array v.0.0) (λ acts. Some (record { acts = acts; limits = limits.0; names = names.0 })) p limits.2 in
-    let made : Parts = record { acts = acts.0; limits = limits.0; names = names.0 } in
+    Some (record { limits = limits; names = names })) p n.2 in
+    let limits = bind_some (limits_at v.0.1) (λ limits. as_array v.0.0 >>= λ acts. Some (record { limits = limits; names = names.0 })) p names.2 in
+    let acts = bind_some (as_array v.0.0) (λ acts. Some (record { limits = limits.0; names = names.0 })) p limits.2 in
+    let made : Parts = record { limits = limits.0; names = names.0 } in
     let same : made ≡ p = (let q = acts.2 in cc) in
     let m = values_are ms.0 v.0 v.1 in
-    let d_is : d ≡ object (four v.0.0 v.0.1 v.0.2 m.0) = object_is d ms.0 ms.1 ∙ ap object m.1 in
+    let of_object : d ≡ object ms.0 = object_is d ms.0 ms.1 in
+    let d_is : d ≡ object (four v.0.0 v.0.1 v.0.2 m.0) = of_object ∙ ap object m.1 in
     let w_is : m.0 ≡ whole 1 = whole_is m.0 1 (sym (ap version_of d_is) ∙ one) in
-    let whole_d : d ≡ object (four (array made.acts) (limits_json made.limits) (list (map string made.names)) (whole 1)) =
-    d_is ∙ four_same v.0.0 v.0.1 v.0.2 m.0 (array made.acts) (limits_json made.limits) (list (map string made.names)) (whole 1)
-    (array_is v.0.0 acts.0 acts.1) (limits_are v.0.1 limits.0 limits.1) (array_is v.0.2 n.0 n.1 ∙ ap array (names_are n.0 names.0 names.1)) w_is in
-    whole_d ∙ ap (λ (x : Parts). object (four (array x.acts) (limits_json x.limits) (list (map string x.names)) (whole 1))) same
+    let acts_is : v.0.0 ≡ array acts.0 = array_is v.0.0 acts.0 acts.1 in
+    let found : acts_of d ≡ acts.0 = ap acts_of of_object ∙ values_acts ms.0 v.0 v.1 ∙ ap items_in acts_is in
+    let whole_d : d ≡ object (four (array (acts_of d)) (limits_json made.limits) (list (map string made.names)) (whole 1)) =
+    d_is ∙ four_same v.0.0 v.0.1 v.0.2 m.0 (array (acts_of d)) (limits_json made.limits) (list (map string made.names)) (whole 1)
+    (acts_is ∙ ap array (sym found)) (limits_are v.0.1 limits.0 limits.1) (array_is v.0.2 n.0 n.1 ∙ ap array (names_are n.0 names.0 names.1)) w_is in
+    whole_d ∙ ap (λ (x : Parts). object (four (array (acts_of d)) (limits_json x.limits) (list (map string x.names)) (whole 1))) same

@@ -9,7 +9,8 @@ use Rattle.json.specs.declared.token.Token.TheVariants.{BeginObject, EndObject, 
 use Rattle.json.proofs.Grammar.{value_is, value-begin_array, value-begin_object}
 use Rattle.serde_json.specs.Data.{Num, Data, null, boolean, number, string, array, object, Items, no_items, Members, no_members}
 use Rattle.serde_json.specs.Read.{number_of, of_json, of_items, of_members, converted}
-use Rattle.session_core.specs.Drafts.{emptied, items_in, head, acts}
+use Rattle.session_core.specs.Decoding.{items_in, acts_of}
+use Rattle.session_core.specs.Drafts.{emptied, head}
 use Rattle.session_core.proofs.Reading.{converted-array, converted-object}
 
 abbrev both_of : Data → List spec.Token → Data × List spec.Token
@@ -37,7 +38,7 @@ abbrev NoArray : Data → Type 0
 NoArray d = (emptied d ≡ d) × (items_in d ≡ no_items)
 
 abbrev NoObject : Data → Type 0
-NoObject d = (head d ≡ d) × (acts d ≡ no_items)
+NoObject d = (head d ≡ d) × (acts_of d ≡ no_items)
 
 module _ (depth : ℕ) (some : 0 < depth) (ts : List spec.Token) (d : Data) (r : List spec.Token) where
   abbrev in_object : Option (json.Members × List spec.Token)

@@ -1,7 +1,7 @@
 -- What is loaded is the session of the bench that it gives.
 use Rattle.std.proofs.Common.{◌≡◌, ℕ, List, [], ◌∷◌, ◌++◌, length, map, if◌then◌else◌, Some, Ok, Err, inr, refl, sym, ap, ap₂, subst, ◌∙◌, append_assoc, append-nil}
 use Rattle.std.specs.Prelude.{IfOk, IfErr, Result, IsUtf8}
-use Rattle.serde_json.specs.Data.{Data, array, object, Items, no_items, item}
+use Rattle.serde_json.specs.Data.{Data, string, array, object, Items, no_items, item}
 use Rattle.serde_json.specs.Read.{read}
 use Rattle.serde_json.specs.View.{items_of}
 use Rattle.bench_core.specs.Limits.{Limits}
@@ -11,13 +11,13 @@ use Rattle.bench_core.specs.Machine.{Config, State, Event, Machine, opening_stat
 use Rattle.bench_core.specs.Replays.{Records, Replays}
 use Rattle.session_core.specs.declared.session_fault.SessionFault.{SessionFault}
 use Rattle.session_core.specs.declared.session_fault.SessionFault.TheVariants.{NotJson, BadShape, BadVersion, Disagrees, OutOfMemory}
-use Rattle.session_core.specs.Format.{list, event_json, session}
-use Rattle.session_core.specs.Decoding.{Parts, version_of, parts_at, event_at}
-use Rattle.session_core.specs.Sessions.{with_event, first_bench, Reads, Faults, data_of, Gives, HasFault, IsRefused, IsJson, Answers, Refuses, IsSession}
-use Rattle.session_core.specs.Drafts.{head, acts}
-use Rattle.session_core.proofs.Heads.{head_version, parts_back}
+use Rattle.session_core.specs.Format.{list, whole, limits_json, event_json, session}
+use Rattle.session_core.specs.Decoding.{Parts, version_of, parts_at, acts_of, event_at}
+use Rattle.session_core.specs.Sessions.{with_event, first_bench, Reads, Faults, data_of, LeadsTo, HasFault, IsRefused, IsJson, Answers, Refuses, IsSession}
+use Rattle.session_core.specs.Drafts.{head}
+use Rattle.session_core.proofs.Heads.{head_version, head_parts}
 use Rattle.session_core.proofs.Events.{event_is}
-use Rattle.session_core.proofs.Parts.{parts_are}
+use Rattle.session_core.proofs.Parts.{four, parts_are}
 
 pub data_of-items_of : (ds : List Data) → data_of (items_of ds) ≡ ds
 data_of-items_of [] = refl
@@ -29,24 +29,20 @@ items_of-data_of (item d ds) = ap (item d) (items_of-data_of ds)
 
 -- from the head and the loop over the acts to the answer
 
-module _ (d : Data) (q : Parts) (one : version_of (head d) ≡ Some 1) (is : parts_at (head d) ≡ Some q) where
-  at_first : (X : Machine → Type 0) (p : Parts) → p.limits ≡ q.limits → p.names ≡ q.names → X (first_bench q) → X (first_bench p)
-  at_first X p l n h = subst X (sym (ap₂ opening_machine n l)) h
-
+module _ (d : Data) (p : Parts) (one : version_of (head d) ≡ Some 1) (is : parts_at (head d) ≡ Some p) where
   is_one : version_of d ≡ Some 1
   is_one = sym (head_version d) ∙ one
 
-  pub gives : (m : Machine) → Reads (first_bench q) (data_of (acts d)) m → Gives d m
-  gives m h =
-      let p = parts_back d q is in
-      (is_one, (p.0, p.1, at_first (λ b. Reads b (data_of p.0.acts) m) p.0 p.2 p.3 (subst (λ ds. Reads (first_bench q) (data_of ds) m) p.4 h)))
+  has_parts : parts_at d ≡ Some p
+  has_parts = sym (head_parts d) ∙ is
 
-  at_fault : (fault : SessionFault) → Faults 1 (first_bench q) (data_of (acts d)) fault → HasFault d fault
-  at_fault fault h =
-      let p = parts_back d q is in
-      (is_one, (p.0, p.1, at_first (λ b. Faults 1 b (data_of p.0.acts) fault) p.0 p.2 p.3 (subst (λ ds. Faults 1 (first_bench q) (data_of ds) fault) p.4 h)))
+  pub gives : (m : Machine) → Reads (first_bench p) (data_of (acts_of d)) m → LeadsTo d m
+  gives m h = (is_one, (p, has_parts, h))
 
-  pub refused : (fault : SessionFault) → Faults 1 (first_bench q) (data_of (acts d)) fault → IsRefused d fault
+  at_fault : (fault : SessionFault) → Faults 1 (first_bench p) (data_of (acts_of d)) fault → HasFault d fault
+  at_fault fault h = (is_one, (p, has_parts, h))
+
+  pub refused : (fault : SessionFault) → Faults 1 (first_bench p) (data_of (acts_of d)) fault → IsRefused d fault
   refused NotJson h = absurd h
   refused BadVersion h = absurd h
   refused (BadShape k) h = inr (at_fault (BadShape k) h)
@@ -89,11 +85,16 @@ came old (d ∷ ds) new (e, is, recs, h) =
     }
 
 -- the session of a bench, by parts
-session_same : (d : Data) (p : Parts) (names : Texts) (limits : Limits) (events : List Event) → version_of d ≡ Some 1 → parts_at d ≡ Some p →
-    names ≡ p.names → limits ≡ p.limits → array p.acts ≡ list (map event_json events) → d ≡ session names limits events
-session_same d p names limits events one is same_names same_limits acts = parts_are d p one is ∙ rw (same_names, same_limits, acts) refl
+session_of_parts : (acts : Data) (p : Parts) (names : Texts) (limits : Limits) (events : List Event) → names ≡ p.names → limits ≡ p.limits →
+    acts ≡ list (map event_json events) → object (four acts (limits_json p.limits) (list (map string p.names)) (whole 1)) ≡ session names limits events
+session_of_parts acts p names limits events same_names same_limits same_acts = rw (same_names, same_limits, same_acts) refl
 
-module _ (p : Parts) (m : Machine) (c : Came (first_bench p) (data_of p.acts) m) where
+session_same : (d : Data) (p : Parts) (names : Texts) (limits : Limits) (events : List Event) → version_of d ≡ Some 1 → parts_at d ≡ Some p →
+    names ≡ p.names → limits ≡ p.limits → array (acts_of d) ≡ list (map event_json events) → d ≡ session names limits events
+session_same d p names limits events one is same_names same_limits same_acts =
+    parts_are d p one is ∙ session_of_parts (array (acts_of d)) p names limits events same_names same_limits same_acts
+
+module _ (p : Parts) (ds : List Data) (m : Machine) (c : Came (first_bench p) ds m) where
   same_config : config_of (first_bench p) ≡ config_of m
   same_config = ap₂ (λ (names : Texts) (limits : Limits). record { nodes = length names; limits = limits }) (sym c.names) (sym c.limits)
 
@@ -102,13 +103,14 @@ module _ (p : Parts) (m : Machine) (c : Came (first_bench p) (data_of p.acts) m)
       subst (λ (es : List Event). Replays (config_of m) opening_state es m.state) (sym c.history)
       (subst (λ (k : Config). Replays k opening_state c.events m.state) same_config c.replays)
 
-pub session_of : (d : Data) (m : Machine) → Gives d m → (d ≡ session m.names m.limits m.state.history) × Replays (config_of m) opening_state m.state.history m.state
+pub session_of : (d : Data) (m : Machine) → LeadsTo d m → (d ≡ session m.names m.limits m.state.history) × Replays (config_of m) opening_state m.state.history m.state
 session_of d m h =
     let p = h.1.0 in
-    let c = came (first_bench p) (data_of p.acts) m h.1.2 in
-    let acts : array p.acts ≡ list (map event_json m.state.history) = ap array (sym (items_of-data_of p.acts)) ∙ ap list c.values
+    let ds = data_of (acts_of d) in
+    let c = came (first_bench p) ds m h.1.2 in
+    let acts : array (acts_of d) ≡ list (map event_json m.state.history) = ap array (sym (items_of-data_of (acts_of d))) ∙ ap list c.values
     ∙ ap (λ (es : List Event). list (map event_json es)) (sym c.history) in
-    (session_same d p m.names m.limits m.state.history h.0 h.1.1 c.names c.limits acts, opened p m c)
+    (session_same d p m.names m.limits m.state.history h.0 h.1.1 c.names c.limits acts, opened p ds m c)
 
 pub is_session : (bytes : List ℕ) (d : Data) (r : Result Machine SessionFault) → IsJson bytes d → Answers d r → IfOk r (IsSession bytes)
 is_session bytes d (Ok m) json h =

@@ -3,7 +3,7 @@ use Rattle.std.specs.Prelude.{◌≡◌, ℕ, suc, ◌+◌, ◌==◌, ◌&&◌, 
 use Rattle.std.specs.Prelude.{Option, Some, None, option_and_then, option_map, Result, Ok, Err, is_none}
 use Rattle.std.specs.Str.{bytes_eq}
 use Rattle.std.specs.FinSet as set
-use Rattle.serde_json.specs.Data.{Data, Items, no_items, item, Members, no_members, member}
+use Rattle.serde_json.specs.Data.{Data, null, boolean, number, string, array, object, Items, no_items, item, Members, no_members, member}
 use Rattle.serde_json.specs.Find.{at, get, as_object, as_array, as_str, as_number, as_u64}
 use Rattle.dots_core.specs.Names.{Names}
 use Rattle.payload_core.specs.Presences.{Presence}
@@ -88,8 +88,8 @@ extract_at d = do
 unfoldable pub deliver_at : Data → Option Operation
 deliver_at d = do
   sender ← node_in 2 d
-  number ← number_in 3 d
-  kept_if (ends_at 4 d) (Deliver sender number)
+  k ← number_in 3 d
+  kept_if (ends_at 4 d) (Deliver sender k)
 
 -- the one name of an up, a down or a permanently down
 unfoldable pub name_at : Data → Option ℕ
@@ -197,9 +197,8 @@ event_at d = do
 
 -- sessions
 
--- the parts of a session, but for its version
+-- what a session opens its bench with
 pub record Parts : Type 0 where
-  pub acts : Items
   pub limits : Limits
   pub names : Texts
 
@@ -256,6 +255,7 @@ values_at ms = do
   d ← first_member c.2
   kept_if (is_end d.2 && are_keys a.0 b.0 c.0 d.0) (a.1, b.1, c.1)
 
+-- the parts, where the acts are an array, whatever its items are
 unfoldable pub parts_at : Data → Option Parts
 parts_at d = do
   ms ← as_object d
@@ -264,4 +264,29 @@ parts_at d = do
   names ← names_at nodes
   limits ← limits_at values.1
   acts ← as_array values.0
-  Some (record { acts = acts; limits = limits; names = names })
+  Some (record { limits = limits; names = names })
+
+-- the items of an array
+abbrev pub items_in : Data → Items
+items_in null = no_items
+items_in (boolean b) = no_items
+items_in (number n) = no_items
+items_in (string s) = no_items
+items_in (array ds) = ds
+items_in (object ms) = no_items
+
+abbrev pub are_acts : List ℕ → Bool
+are_acts key = bytes_eq key (codes "acts")
+
+abbrev pub acts_members : Members → Items
+acts_members no_members = no_items
+acts_members (member key d ms) = if are_acts key then items_in d else acts_members ms
+
+-- the items of a session's acts
+abbrev pub acts_of : Data → Items
+acts_of null = no_items
+acts_of (boolean b) = no_items
+acts_of (number n) = no_items
+acts_of (string s) = no_items
+acts_of (array ds) = no_items
+acts_of (object ms) = acts_members ms

@@ -1,9 +1,8 @@
 -- A session's value without the items of its acts, and the events that these items are.
-use Rattle.std.specs.Prelude.{◌≡◌, ℕ, List, [], ◌∷◌, codes, Bool, true, false, if◌then◌else◌, Some, None}
-use Rattle.std.specs.Str.{bytes_eq}
-use Rattle.serde_json.specs.Data.{Data, null, boolean, number, string, array, object, Items, no_items, Members, no_members, member}
+use Rattle.std.specs.Prelude.{◌≡◌, ℕ, List, [], ◌∷◌, Bool, true, false, if◌then◌else◌, Some, None}
+use Rattle.serde_json.specs.Data.{Data, null, boolean, number, string, array, object, no_items, Members, no_members, member}
 use Rattle.bench_core.specs.Machine.{Event}
-use Rattle.session_core.specs.Decoding.{event_at}
+use Rattle.session_core.specs.Decoding.{event_at, are_acts, acts_of}
 use Rattle.session_core.specs.Sessions.{data_of}
 
 -- an array without its items
@@ -15,28 +14,12 @@ emptied (string s) = string s
 emptied (array ds) = array no_items
 emptied (object ms) = object ms
 
--- the items of an array
-abbrev pub items_in : Data → Items
-items_in null = no_items
-items_in (boolean b) = no_items
-items_in (number n) = no_items
-items_in (string s) = no_items
-items_in (array ds) = ds
-items_in (object ms) = no_items
-
-abbrev pub are_acts : List ℕ → Bool
-are_acts key = bytes_eq key (codes "acts")
-
 abbrev pub emptied_at : List ℕ → Data → Data
 emptied_at key d = if are_acts key then emptied d else d
 
 abbrev pub head_members : Members → Members
 head_members no_members = no_members
 head_members (member key d ms) = member key (emptied_at key d) (head_members ms)
-
-abbrev pub acts_members : Members → Items
-acts_members no_members = no_items
-acts_members (member key d ms) = if are_acts key then items_in d else acts_members ms
 
 -- the value, with no items in its acts
 abbrev pub head : Data → Data
@@ -47,15 +30,6 @@ head (string s) = string s
 head (array ds) = array ds
 head (object ms) = object (head_members ms)
 
--- the items of its acts
-abbrev pub acts : Data → Items
-acts null = no_items
-acts (boolean b) = no_items
-acts (number n) = no_items
-acts (string s) = no_items
-acts (array ds) = no_items
-acts (object ms) = acts_members ms
-
 -- the values are these events, to their end or, where they are cut, to the first that is none
 abbrev pub AreRead : List Data → List Event → Bool → Type 0
 AreRead [] [] is_cut = is_cut ≡ false
@@ -65,4 +39,4 @@ AreRead (d ∷ ds) (e ∷ es) is_cut = (event_at d ≡ Some e) × AreRead ds es 
 
 -- what was read of a value
 abbrev pub IsDraft : Data → Data → List Event → Bool → Type 0
-IsDraft d first events is_cut = (first ≡ head d) × AreRead (data_of (acts d)) events is_cut
+IsDraft d first events is_cut = (first ≡ head d) × AreRead (data_of (acts_of d)) events is_cut

@@ -19,7 +19,7 @@ use Rattle.bench_core.specs.Replays.{Records, Replays}
 use Rattle.session_core.specs.declared.session_fault.SessionFault.{SessionFault}
 use Rattle.session_core.specs.declared.session_fault.SessionFault.TheVariants.{NotJson, BadShape, BadVersion, Disagrees, OutOfMemory}
 use Rattle.session_core.specs.Format.{session}
-use Rattle.session_core.specs.Decoding.{Parts, version_of, parts_at, event_at}
+use Rattle.session_core.specs.Decoding.{Parts, version_of, parts_at, acts_of, event_at}
 
 -- a bench after it recorded the event
 abbrev pub with_event : Machine → Event → Machine
@@ -69,8 +69,8 @@ abbrev pub first_bench : Parts → Machine
 first_bench p = opening_machine p.names p.limits
 
 -- the value is a session, whose calls leave the bench
-abbrev pub Gives : Data → Machine → Type 0
-Gives d m = (version_of d ≡ Some 1) × ((p : Parts) × (parts_at d ≡ Some p) × Reads (first_bench p) (data_of p.acts) m)
+abbrev pub LeadsTo : Data → Machine → Type 0
+LeadsTo d m = (version_of d ≡ Some 1) × ((p : Parts) × (parts_at d ≡ Some p) × Reads (first_bench p) (data_of (acts_of d)) m)
 
 -- the value is no session, whatever its acts are
 abbrev pub IsMisshapen : Data → Type 0
@@ -78,7 +78,7 @@ IsMisshapen d = (version_of d ≡ None) ⊎ ((version_of d ≡ Some 1) × (parts
 
 -- an act of the value is at fault
 abbrev pub HasFault : Data → SessionFault → Type 0
-HasFault d fault = (version_of d ≡ Some 1) × ((p : Parts) × (parts_at d ≡ Some p) × Faults 1 (first_bench p) (data_of p.acts) fault)
+HasFault d fault = (version_of d ≡ Some 1) × ((p : Parts) × (parts_at d ≡ Some p) × Faults 1 (first_bench p) (data_of (acts_of d)) fault)
 
 -- the case of each fault of a value
 abbrev pub IsRefused : Data → SessionFault → Type 0
@@ -89,7 +89,7 @@ IsRefused d (Disagrees k) = HasFault d (Disagrees k)
 IsRefused d OutOfMemory = Unit {0}
 
 abbrev pub Answers : Data → Result Machine SessionFault → Type 0
-Answers d (Ok m) = Gives d m
+Answers d (Ok m) = LeadsTo d m
 Answers d (Err fault) = IsRefused d fault
 
 -- the text is refused so: a fault comes only in its case, and no earlier one is met

@@ -17,7 +17,7 @@ use serde_json::Value;
 use std::alloc::{AllocError, Allocator, Global};
 
 /// How deep an item may nest: one less than an array that is a member of the outermost object.
-const DEPTH: usize = 125;
+const ITEM_DEPTH: usize = 125;
 
 /// The events of a list of JSON values, up to the first value that is none.
 #[derive(Drop)]
@@ -69,7 +69,7 @@ impl<'a, B: Allocator> Acts<&'a B> {
     {
         let mut acts = Acts::none(heap);
         'items: while !reader.take_end_array() {
-            let item = value_of(heap, reader, DEPTH)?;
+            let item = value_of(heap, reader, ITEM_DEPTH)?;
             acts.add(alloc, &item)?;
         }
         Ok(acts)

@@ -6,7 +6,8 @@ ghost use Rattle.json.specs.Token.{begin_object};
 ghost use Rattle.serde_json.specs.Data.{Data, Members, no_members};
 ghost use Rattle.serde_json.specs.Read.{read, of_json, of_members, converted};
 ghost use Rattle.serde_json.specs.View.{view, members_view};
-ghost use Rattle.session_core.specs.Drafts.{AreRead, IsDraft, are_acts, emptied, emptied_at, items_in, head_members, acts_members};
+ghost use Rattle.session_core.specs.Decoding.{are_acts, items_in, acts_members};
+ghost use Rattle.session_core.specs.Drafts.{AreRead, IsDraft, emptied, emptied_at, head_members};
 ghost use Rattle.session_core.specs.Sessions.{data_of};
 ghost use Rattle.session_core.specs.declared.unread.Unread.TheVariants.{Shape};
 

@@ -18,7 +18,7 @@ use bench_core::{Bench, Event, Fault, Reply};
 use dots_core::Oom;
 use std::alloc::{Allocator, Global};
 
-/// Asks the event's call. Whether the bench gave its reply, and recorded it.
+/// Asks the event's call, and says whether the bench gave its reply and recorded it.
 fn records_next<'a, B: Allocator>(
     bench: &mut Bench<'a, B>,
     event: &Event<&'a B>,
@@ -69,6 +69,7 @@ fn take_events<'a, B: Allocator>(
     Ok(())
 }
 
+/// The bench of a text that was read.
 fn from_draft<'a, B: Allocator>(
     heap: Global,
     alloc: &'a B,
@@ -93,7 +94,7 @@ fn from_draft<'a, B: Allocator>(
     Ok(bench)
 }
 
-/// What the bytes are as JSON, where they are.
+/// The text that the bytes are, read before its calls are asked.
 fn read<'a, B: Allocator>(
     heap: Global,
     alloc: &'a B,

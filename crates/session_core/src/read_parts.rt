@@ -1,4 +1,4 @@
-//! The parts of a session: its version, its names, its limits, and the values of its acts.
+//! The parts of a session's head: its version, its names and its limits.
 ghost use Rattle.std.specs.Prelude.{◌≡◌, map};
 ghost use Rattle.serde_json.specs.View.{view, items_view, members_view};
 ghost use Rattle.session_core.specs.Decoded.{Gives};
@@ -80,31 +80,28 @@ fn values_at(members: &Map<String, Value>) -> Result<(&Value, &Value, &Value), U
     }
 }
 
-/// A session but for its version.
+/// What a session opens its bench with.
 #[derive(Drop)]
-pub(crate) struct Parts<'v, A: Allocator> {
-    pub(crate) acts: &'v [Value],
+pub(crate) struct Parts<A: Allocator> {
     pub(crate) limits: Limits,
     pub(crate) names: Names<A>,
 }
 
 #[tactic(auto, unfolding(crate::specs::Decoding::parts_at))]
-pub(crate) fn parts_at<'v, 'a, B: Allocator>(
+pub(crate) fn parts_at<'a, B: Allocator>(
     heap: Global,
     alloc: &'a B,
-    value: &'v Value,
-) -> Result<Parts<'v, &'a B>, Unread>
-    ensures { Gives (λ p. record { acts = items_view p.acts.now; limits = p.limits; names = p.names }) result (parts_at (view value.now)) }
+    value: &Value,
+) -> Result<Parts<&'a B>, Unread>
+    ensures { Gives (λ p. record { limits = p.limits; names = p.names }) result (parts_at (view value.now)) }
 {
     let members = value.as_object().ok_or(Unread::Shape)?;
     let (acts, limits, nodes) = values_at(members)?;
     let nodes = nodes.as_array().ok_or(Unread::Shape)?;
     let names = names_at(heap, alloc, nodes)?;
     let limits = limits_at(limits)?;
-    let acts = acts.as_array().ok_or(Unread::Shape)?;
-    Ok(Parts {
-        acts,
-        limits,
-        names,
-    })
+    if !acts.is_array() {
+        return Err(Unread::Shape);
+    }
+    Ok(Parts { limits, names })
 }

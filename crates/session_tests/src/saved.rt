@@ -1,12 +1,27 @@
 //! Benches that are saved and come back.
 use bench_core::{Act, Bench, Limits, Names, Step};
 use dots_core::NameSet;
-use script_core::{parse_script, run_script};
+use script_core::{Played, parse_script, report_history, run_script};
 use session_core::{load, save};
 use std::alloc::{Allocator, Global};
 use std::process::Abort;
 
-/// The session of a join and its undo.
+/// A join and its undo.
+const JOINED: &str = "\
+nodes a b
+consoles c1
+a join 1 r alice phone
+a undo 1
+";
+
+const JOINED_REPORT: &str = "\
+1 ok
++ r alice a/1 phone
+undone 1
+- r alice a/1 phone
+";
+
+/// Their session.
 pub(crate) const JOINED_AND_UNDONE: &str = concat!(
     r#"{"acts":[[0,["do","join",1,"r","alice","phone"],["ok",1]],[0,["undo",1],["undone",1]]],"#,
     r#""limits":[100000,10000,1000000,10000],"nodes":["a","b"],"version":1}"#
@@ -32,7 +47,7 @@ c undo 1
 a back b
 ";
 
-const EVERY_ACT_SAVED: &str = concat!(
+pub(crate) const EVERY_ACT_SAVED: &str = concat!(
     r#"{"acts":[[0,["do","join",1,"r","alice","phone"],["ok",1]],"#,
     r#"[0,["do","join",1,"s","bob","desk"],["ok",2]],"#,
     r#"[0,["do","update",1,"r","alice","away"],["ok",3]],"#,
@@ -49,6 +64,50 @@ const EVERY_ACT_SAVED: &str = concat!(
     r#"[0,["back",1],["undone",11]]],"#,
     r#""limits":[100000,10000,1000000,10000],"nodes":["a","b"],"version":1}"#
 );
+
+/// A join, sent and delivered, and unwound with all that follows from it.
+const UNWOUND: &str = "\
+nodes a b
+consoles c1
+a join 1 r alice phone
+b up a
+a broadcast
+b deliver a 1
+b join 9 r bob desk
+c1 unwind 1
+";
+
+const UNWOUND_SAVED: &str = concat!(
+    r#"{"acts":[[0,["do","join",1,"r","alice","phone"],["ok",1]],"#,
+    r#"[1,["do","up",0],["ok",2]],"#,
+    r#"[0,["do","broadcast"],["ok",3]],"#,
+    r#"[1,["do","deliver",0,1],["ok",4]],"#,
+    r#"[1,["do","join",9,"r","bob","desk"],["ok",5]],"#,
+    r#"[2,["undo",5],["undone",5]],"#,
+    r#"[2,["undo",4],["undone",4]],"#,
+    r#"[2,["undo",3],["undone",3]],"#,
+    r#"[2,["undo",1],["undone",1]]],"#,
+    r#""limits":[100000,10000,1000000,10000],"nodes":["a","b"],"version":1}"#
+);
+
+/// What its undos print, one by one.
+const UNWOUND_REPORT: &str = "\
+1 ok
++ r alice a/1 phone
+2 ok
+3 ok
+4 ok
++ r alice a/1 phone
+5 ok
++ r bob b/9 desk
+undone 5
+- r bob b/9 desk
+undone 4
+- r alice a/1 phone
+undone 3
+undone 1
+- r alice a/1 phone
+";
 
 /// A join, sent and delivered, and undone step by step.
 const TAKEN_BACK: &str = "\
@@ -119,17 +178,15 @@ fn limits_of(rt: &impl Abort, numbers: [u64; 4]) -> Limits {
     Limits::new(acts, entries, clock, messages).expect(rt, "limits")
 }
 
-/// The bench that a script leaves.
-fn bench_of<'a, B: Allocator>(
+/// What a script leaves.
+fn played<'a, B: Allocator>(
     rt: &impl Abort,
     alloc: &'a B,
     script: &str,
     limits: Limits,
-) -> Bench<'a, B> {
+) -> Played<'a, B> {
     let script = parse_script(alloc, script.as_bytes()).expect(rt, "a script");
-    run_script(alloc, &script, limits)
-        .expect(rt, "memory")
-        .bench
+    run_script(alloc, &script, limits).expect(rt, "memory")
 }
 
 /// Whether both have the same recorded calls.
@@ -185,14 +242,12 @@ fn comes_back<'a, B: Allocator>(
 #[test]
 fn a_bench_is_saved_as_its_text_and_comes_back(rt: HostRuntime) {
     for (script, saved) in [
-        (
-            "nodes a b\nconsoles c1\na join 1 r alice phone\na undo 1\n",
-            JOINED_AND_UNDONE,
-        ),
+        (JOINED, JOINED_AND_UNDONE),
         (EVERY_ACT, EVERY_ACT_SAVED),
+        (UNWOUND, UNWOUND_SAVED),
     ] {
         let heap = rt.alloc();
-        let bench = bench_of(&rt, &heap, script, Limits::usual());
+        let bench = played(&rt, &heap, script, Limits::usual()).bench;
         let text = save(rt.alloc(), &bench).expect(&rt, "a text");
         assert!(rt; text.as_slice() == saved.as_bytes(), "{script}");
         assert!(rt; comes_back(&rt, rt.alloc(), &heap, &bench), "{script}");
@@ -203,8 +258,34 @@ fn a_bench_is_saved_as_its_text_and_comes_back(rt: HostRuntime) {
 fn benches_come_back(rt: HostRuntime) {
     for (script, limits) in KEPT {
         let heap = rt.alloc();
-        let bench = bench_of(&rt, &heap, script, limits_of(&rt, limits));
+        let bench = played(&rt, &heap, script, limits_of(&rt, limits)).bench;
         assert!(rt; comes_back(&rt, rt.alloc(), &heap, &bench), "{script}");
+    }
+}
+
+#[test]
+fn a_loaded_session_prints_its_calls(rt: HostRuntime) {
+    for (saved, report) in [
+        (JOINED_AND_UNDONE, JOINED_REPORT),
+        (UNWOUND_SAVED, UNWOUND_REPORT),
+    ] {
+        let heap = rt.alloc();
+        let bench = load(rt.alloc(), &heap, saved.as_bytes()).expect(&rt, "a session");
+        let printed = report_history(&heap, &bench).expect(&rt, "memory");
+        assert!(rt; printed.as_slice() == report.as_bytes(), "{saved}");
+    }
+}
+
+/// What was played of acts alone, each recorded, is printed again by the bench that was loaded.
+#[test]
+fn what_was_played_is_printed_again(rt: HostRuntime) {
+    for script in [TAKEN_BACK, REFUSED, FORGOTTEN, EVERY_ACT] {
+        let heap = rt.alloc();
+        let played = played(&rt, &heap, script, Limits::usual());
+        let text = save(rt.alloc(), &played.bench).expect(&rt, "a text");
+        let again = load(rt.alloc(), &heap, &text).expect(&rt, "a session");
+        let printed = report_history(&heap, &again).expect(&rt, "memory");
+        assert!(rt; printed.as_slice() == played.report.as_slice(), "{script}");
     }
 }
 

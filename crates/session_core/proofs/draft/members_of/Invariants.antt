@@ -3,7 +3,8 @@ use Rattle.json.specs.Json.{members, value}
 use Rattle.serde_json.specs.Data.{Members, no_members}
 use Rattle.serde_json.specs.Read.{of_members, converted}
 use Rattle.serde_json.specs.View.{members_view}
-use Rattle.session_core.specs.Drafts.{AreRead, head_members, acts_members}
+use Rattle.session_core.specs.Decoding.{acts_members}
+use Rattle.session_core.specs.Drafts.{AreRead, head_members}
 use Rattle.session_core.specs.Sessions.{data_of}
 use Rattle.session_core.proofs.draft.members_of.Given as goal
 

@@ -1,12 +1,12 @@
 use Rattle.std.proofs.Common.{◌≡◌, Some, None, inl, inr, refl, sym, ap, ◌∙◌, subst, rules}
 use Rattle.std.proofs.lemmas.Result.{err_from_is_err_and}
-use Rattle.serde_json.specs.View.{view, items_view}
+use Rattle.serde_json.specs.View.{view}
 use Rattle.bench_core.specs.Machine.{Machine}
 use Rattle.session_core.specs.Decoded.{Fails}
-use Rattle.session_core.specs.Decoding.{Parts, version_of, parts_at}
-use Rattle.session_core.specs.Drafts.{head, acts}
+use Rattle.session_core.specs.Decoding.{Parts, version_of, parts_at, acts_of}
+use Rattle.session_core.specs.Drafts.{head}
 use Rattle.session_core.specs.Sessions.{Reads, Faults, data_of}
-use Rattle.session_core.proofs.Heads.{head_version, no_parts}
+use Rattle.session_core.proofs.Heads.{head_version, head_parts}
 use Rattle.session_core.proofs.Replayed.{gives, refused}
 use Rattle.session_core.proofs.loading.from_draft.Goals as goal
 
@@ -22,24 +22,24 @@ returns-in-Err-Shape g c = λ d draft.
     let one = sym (head_version d) ∙ ap version_of (sym draft.0) ∙ sym c.in-Some-eq1.ensures ∙ ap Some c.in-Some-eq1.field-0-test in
     let first = view c.args.draft.now.head in
     let none : parts_at first ≡ None = subst (λ u. Fails u (parts_at first)) c.in-Err-Shape.field-0-is c.in-Err-Shape.ensures in
-    inl (refl, inr (one, no_parts d (ap parts_at (sym draft.0) ∙ none)))
+    inl (refl, inr (one, sym (head_parts d) ∙ ap parts_at (sym draft.0) ∙ none))
 
 pub returns-in_err-take_events : goal.returns-in_err-take_events
 returns-in_err-take_events g c =
     let parts = c.in-Ok.parts in
-    let q : Parts = record { acts = items_view parts.acts.now; limits = parts.limits; names = parts.names } in
+    let p : Parts = record { limits = parts.limits; names = parts.names } in
     let fault = c.in_err-take_events.field-0.0 in
-    let p = err_from_is_err_and c.from_residual.result c.from_residual.ensures.1 in
-    rw (p.1, p.2) (λ d draft.
+    let faulted = err_from_is_err_and c.from_residual.result c.from_residual.ensures.1 in
+    rw (faulted.1, faulted.2) (λ d draft.
     let one = ap version_of (sym draft.0) ∙ sym c.in-Some-eq1.ensures ∙ ap Some c.in-Some-eq1.field-0-test in
-    let is : parts_at (head d) ≡ Some q = ap parts_at (sym draft.0) ∙ c.in-Ok.ensures in
-    refused d q one is fault (subst (λ (m : Machine). Faults 1 m (data_of (acts d)) fault) c.in-Ok-new.ensures (c.in_err-take_events.ensures.err (data_of (acts d)) draft.1)))
+    let is : parts_at (head d) ≡ Some p = ap parts_at (sym draft.0) ∙ c.in-Ok.ensures in
+    refused d p one is fault (subst (λ (m : Machine). Faults 1 m (data_of (acts_of d)) fault) c.in-Ok-new.ensures (c.in_err-take_events.ensures.err (data_of (acts_of d)) draft.1)))
 
 pub returns : goal.returns
 returns g c = λ d draft.
     let parts = c.in-Ok.parts in
-    let q : Parts = record { acts = items_view parts.acts.now; limits = parts.limits; names = parts.names } in
+    let p : Parts = record { limits = parts.limits; names = parts.names } in
     let one = ap version_of (sym draft.0) ∙ sym c.in-Some-eq1.ensures ∙ ap Some c.in-Some-eq1.field-0-test in
-    let is : parts_at (head d) ≡ Some q = ap parts_at (sym draft.0) ∙ c.in-Ok.ensures in
+    let is : parts_at (head d) ≡ Some p = ap parts_at (sym draft.0) ∙ c.in-Ok.ensures in
     let new = c.take_events.new.bench in
-    gives d q one is new (subst (λ (m : Machine). Reads m (data_of (acts d)) new) c.in-Ok-new.ensures (c.in_ok-take_events.ensures.ok (data_of (acts d)) draft.1))
+    gives d p one is new (subst (λ (m : Machine). Reads m (data_of (acts_of d)) new) c.in-Ok-new.ensures (c.in_ok-take_events.ensures.ok (data_of (acts_of d)) draft.1))

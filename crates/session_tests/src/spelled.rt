@@ -1,0 +1,46 @@
+//! Other spellings of one session.
+use crate::saved::JOINED_AND_UNDONE;
+use session_core::{load, save};
+
+const SPELLED: [&str; 5] = [
+    // other keys first
+    concat!(
+        r#"{"version":1,"nodes":["a","b"],"acts":[[0,["do","join",1,"r","alice","phone"],["ok",1]],"#,
+        r#"[0,["undo",1],["undone",1]]],"limits":[100000,10000,1000000,10000]}"#
+    ),
+    // space between tokens
+    " {\n\t\"acts\" : [\r\n[ 0 , [ \"do\",\"join\", 1 ,\"r\",\"alice\",\"phone\" ], [\"ok\", 1] ],
+ [0,[\"undo\",1],[\"undone\",1 ]]\n] , \"limits\": [100000, 10000, 1000000, 10000] ,
+\"nodes\" : [ \"a\" , \"b\" ],\"version\"\t:\t1 }\n ",
+    // escapes in keys, words and names
+    concat!(
+        r#"{"\u0061cts":[[0,["d\u006f","\u006aoin",1,"\u0072","\u0061lice","phon\u0065"],["ok",1]],"#,
+        r#"[0,["und\u006F",1],["undone",1]]],"l\u0069mits":[100000,10000,1000000,10000],"#,
+        r#""nodes":["\u0061","b"],"version":1}"#
+    ),
+    // of two equal keys the last counts
+    concat!(
+        r#"{"acts":[[7],7],"limits":7,"version":"7","nodes":["a","b"],"#,
+        r#""acts":[[0,["do","join",1,"r","alice","phone"],["ok",1]],"#,
+        r#"[0,["undo",1],["undone",1]]],"limits":[100000,10000,1000000,10000],"version":1}"#
+    ),
+    // and the last may have fewer acts
+    concat!(
+        r#"{"acts":[[0,["do","join",1,"r","alice","phone"],["ok",1]],[0,["undo",1],["undone",1]],[0,["undo",2],["no",13]]],"#,
+        r#""acts":[[0,["do","join",1,"r","alice","phone"],["ok",1]],"#,
+        r#"[0,["undo",1],["undone",1]]],"limits":[100000,10000,1000000,10000],"nodes":["a","b"],"version":1}"#
+    ),
+];
+
+#[test]
+fn each_spelling_gives_the_session(rt: HostRuntime) {
+    for spelled in SPELLED {
+        let heap = rt.alloc();
+        let bench = load(rt.alloc(), &heap, spelled.as_bytes()).expect(&rt, "a session");
+        let text = save(rt.alloc(), &bench).expect(&rt, "memory");
+        assert!(rt;
+            text.as_slice() == JOINED_AND_UNDONE.as_bytes(),
+            "{spelled}"
+        );
+    }
+}
