@@ -3,6 +3,7 @@ use Rattle.std.proofs.Common.{◌≡◌, ◌≢◌, ◌⊎◌, inl, inr, ℕ, �
 use Rattle.std.proofs.Common.{Option, Some, None, Ok, Err, refl, sym, ap, ◌∙◌, length-set}
 use Rattle.std.specs.List.{list_all}
 use Rattle.std.specs.FinMap as fin
+use Rattle.dots_core.specs.Names.{Names}
 use Rattle.payload_core.specs.Messages.{Message}
 use Rattle.replica_core.specs.declared.node_limits.NodeLimits.{NodeLimits}
 use Rattle.replica_core.specs.declared.replica_fault.ReplicaFault.{ReplicaFault}
@@ -13,7 +14,7 @@ use Rattle.replica_core.specs.Refusals.{first_of, merge_refusal}
 use Rattle.replica_core.proofs.Deliveries.{again_holds, order_holds}
 use Rattle.node_core.specs.declared.step_fault.StepFault.TheVariants.{OwnMessage}
 use Rattle.node_core.specs.Operations.{Deliver, delivers}
-use Rattle.node_core.specs.Nodes.{Node, with_replica, unless, deliver, take}
+use Rattle.node_core.specs.Nodes.{Node, with_replica, unless, deliver, deliver_unasked, take}
 use Rattle.bench_core.specs.declared.fault.Fault.TheVariants.{EntriesFull}
 use Rattle.bench_core.specs.Clusters.{Cluster, of_node, with_node, step, message_for, opening_of}
 use Rattle.journal_core.specs.Journals.{Kept}
@@ -30,6 +31,7 @@ record Delivered (c : Cluster) (n sender p : ℕ) (d : Cluster) : Type 0 where
   at : slice_get c n ≡ Some from
   named : list_all (λ k. nat_lt k (length c)) (sender ∷ []) ≡ true
   there : message_for c (Deliver sender p) ≡ Some message
+  no_request : message.asked ≡ None
   other : (sender == from.replica.own) ≡ false
   fits : merge_refusal from.replica message ≡ None
   gives : d ≡ set c n (with_replica from (merged message from.replica))
@@ -38,6 +40,7 @@ record Delivered (c : Cluster) (n sender p : ℕ) (d : Cluster) : Type 0 where
 record Accepted (own : Bool) (x : Node) (o : Option Message) (y : Node) : Type 0 where
   message : Message
   there : o ≡ Some message
+  no_request : message.asked ≡ None
   other : own ≡ false
   fits : merge_refusal x.replica message ≡ None
   gives : y ≡ with_replica x (merged message x.replica)
@@ -45,12 +48,16 @@ record Accepted (own : Bool) (x : Node) (o : Option Message) (y : Node) : Type 0
 accepted : (own : Bool) (x : Node) (o : Option Message) (y : Node) → (if own then Err OwnMessage else deliver x o) ≡ Ok y → Accepted own x o y
 accepted true x o y h = absurd (cc)
 accepted false x None y h = absurd (cc)
-accepted false x (Some m) y h = go (merge_refusal x.replica m) refl h
+accepted false x (Some m) y h = asking m.asked refl h
   where
-    go : (cause : Option ReplicaFault) → merge_refusal x.replica m ≡ cause → unless cause (with_replica x (merged m x.replica)) ≡ Ok y →
-        Accepted false x (Some m) y
-    go None is h = record { message = m; there = refl; other = refl; fits = is; gives = cc }
-    go (Some fault) is h = absurd (cc)
+    go : m.asked ≡ None → (cause : Option ReplicaFault) → merge_refusal x.replica m ≡ cause →
+        unless cause (with_replica x (merged m x.replica)) ≡ Ok y → Accepted false x (Some m) y
+    go asks None is h = record { message = m; there = refl; no_request = asks; other = refl; fits = is; gives = cc }
+    go asks (Some fault) is h = absurd (cc)
+
+    asking : (asked : Option Names) → m.asked ≡ asked → deliver_unasked asked x m ≡ Ok y → Accepted false x (Some m) y
+    asking None asks h = go asks (merge_refusal x.replica m) refl h
+    asking (Some names) asks h = absurd (cc)
 
 delivered : (c : Cluster) (n sender p : ℕ) (d : Cluster) → step c n (Deliver sender p) ≡ Ok d → Delivered c n sender p d
 delivered c n sender p d h =
@@ -62,6 +69,7 @@ delivered c n sender p d h =
       at = s.at;
       named = s.named;
       there = a.there;
+      no_request = a.no_request;
       other = a.other;
       fits = a.fits;
       gives = s.gives ∙ ap (set c n) a.gives;
@@ -70,11 +78,12 @@ delivered c n sender p d h =
 -- what a delivery of a message that is there gives
 deliver_gives : (c : Cluster) (n sender p : ℕ) (x : Node) (m : Message) (cause : Option ReplicaFault) → slice_get c n ≡ Some x →
     list_all (λ k. nat_lt k (length c)) (sender ∷ []) ≡ true → message_for c (Deliver sender p) ≡ Some m →
-    (sender == x.replica.own) ≡ false → merge_refusal x.replica m ≡ cause →
+    m.asked ≡ None → (sender == x.replica.own) ≡ false → merge_refusal x.replica m ≡ cause →
     step c n (Deliver sender p) ≡ with_node c n (of_node (unless cause (with_replica x (merged m x.replica))))
-deliver_gives c n sender p x m cause at named there other is =
+deliver_gives c n sender p x m cause at named there asks other is =
     step_takes c n (Deliver sender p) x (unless cause (with_replica x (merged m x.replica))) at named
     (ap (take x (Deliver sender p)) there ∙ ap (λ t. if t then Err OwnMessage else deliver x (Some m)) other
+    ∙ ap (λ asked. deliver_unasked asked x m) asks
     ∙ ap (λ o. unless o (with_replica x (merged m x.replica))) is)
 
 -- where a replica alone changed, the messages are those before
@@ -93,7 +102,7 @@ repeat_holds c d n sender p h =
     let y = with_replica t.from (merged t.message r) in
     let again : step (set c n y) n (Deliver sender p) ≡ Ok (set (set c n y) n (with_replica y (merged t.message (merged t.message r)))) =
     deliver_gives (set c n y) n sender p y t.message None (get-set_same c n t.from y t.at) (still_named c n y (sender ∷ []) t.named)
-    (same_message c n t.from (merged t.message r) sender p t.at ∙ t.there) t.other (again_holds.accepted t.message r t.fits) in
+    (same_message c n t.from (merged t.message r) sender p t.at ∙ t.there) t.no_request t.other (again_holds.accepted t.message r t.fits) in
     ap (λ (c : Cluster). step c n (Deliver sender p)) t.gives
     ∙ again
     ∙ ap (λ (r : Replica). Ok (set (set c n y) n (with_replica y r))) (again_holds.same t.message r)
@@ -177,11 +186,11 @@ module _ (c d e : Cluster) (n sender p other q : ℕ) (first : step c n (Deliver
     where
       go : (refusal_of r.limits (merged k r) ≡ None) ⊎ (refusal_of r.limits (merged k r) ≡ Some replica_faults.EntriesFull) →
           OtherOrder c n sender p other q e
-      go (inr full) = IsFull (deliver_gives c n other q x k (Some replica_faults.EntriesFull) t.at named there not_own full)
+      go (inr full) = IsFull (deliver_gives c n other q x k (Some replica_faults.EntriesFull) t.at named there u.no_request not_own full)
       go (inl free) =
-          GivesSame (set c n z) (deliver_gives c n other q x k None t.at named there not_own free)
+          GivesSame (set c n z) (deliver_gives c n other q x k None t.at named there u.no_request not_own free)
           (deliver_gives (set c n z) n sender p z m None (get-set_same c n x z t.at) (still_named c n z (sender ∷ []) t.named)
-          (same_message c n x (merged k r) sender p t.at ∙ t.there) t.other fits ∙ ap Ok ends)
+          (same_message c n x (merged k r) sender p t.at ∙ t.there) t.no_request t.other fits ∙ ap Ok ends)
 
 -- messages that are delivered in a run have no two entries at one dot
 commute_in : (l : NodeLimits) (count : ℕ) (old : Cluster) (n sender p other q : ℕ) → Fine old → (x : Node) (m k : Message) →

@@ -77,6 +77,8 @@ fault_of_other step_faults.EntriesFull e = cc
 fault_of_other step_faults.ClockFull e = cc
 fault_of_other step_faults.OwnMessage e = cc
 fault_of_other step_faults.NoSuchMessage e = cc
+fault_of_other step_faults.NotRequest e = cc
+fault_of_other step_faults.IsRequest e = cc
 fault_of_other step_faults.OutboxFull e = cc
 fault_of_other step_faults.OutOfMemory e = cc
 

@@ -2,6 +2,7 @@
 use Rattle.std.proofs.Common.{◌≡◌, ◌≢◌, ℕ, ◌+◌, ◌==◌, ◌||◌, not, nat_lt, Bool, true, false, if◌then◌else◌, List, [], ◌∷◌, length, slice_get, Option, Some, None, Result, Ok, Err, refl, ap}
 use Rattle.std.specs.List.{list_all}
 use Rattle.payload_core.specs.Answers.{◌>>=◌}
+use Rattle.dots_core.specs.Names.{Names}
 use Rattle.payload_core.specs.Messages.{Message}
 use Rattle.replica_core.specs.declared.replica_fault.ReplicaFault.{ReplicaFault}
 use Rattle.replica_core.specs.declared.replica_fault.ReplicaFault.TheVariants as faults
@@ -9,8 +10,8 @@ use Rattle.replica_core.specs.Refusals.{first_of, has_dots}
 use Rattle.node_core.specs.declared.step_fault.StepFault.{StepFault}
 use Rattle.node_core.specs.declared.step_fault.StepFault.TheVariants as step_faults
 use Rattle.node_core.specs.Faults.{step_fault_of}
-use Rattle.node_core.specs.Operations.{Operation, Join, Leave, LeaveAll, Update, Broadcast, Extract, Deliver, Up, Down, Permdown, named_in}
-use Rattle.node_core.specs.Nodes.{Node, unless, is_outbox_full, broadcast, deliver, take}
+use Rattle.node_core.specs.Operations.{Operation, Join, Leave, LeaveAll, Update, Broadcast, Extract, Deliver, Request, Answer, Up, Down, Permdown, named_in}
+use Rattle.node_core.specs.Nodes.{Node, unless, is_outbox_full, broadcast, deliver, deliver_unasked, answer, answer_asked, take}
 use Rattle.journal_core.specs.Journals.{Kept, find_number, first_consequence, last_of}
 use Rattle.bench_core.specs.declared.reply.Reply.TheVariants.{Refused}
 use Rattle.bench_core.specs.declared.fault.Fault.{Fault}
@@ -60,10 +61,25 @@ take_known n Broadcast m = go (has_dots n.replica.delta.seen)
 take_known n (Extract names) m = full_known (is_outbox_full n) _
 take_known n (Deliver sender number) m = go (sender == n.replica.own) m
   where
+    asking : (asked : Option Names) (x : Message) → NoMemory (deliver_unasked asked n x)
+    asking None x = unless_one _ faults.EntriesFull _ (λ e. cc)
+    asking (Some names) x = λ e. cc
+
     go : (b : Bool) (o : Option Message) → NoMemory (if b then Err step_faults.OwnMessage else deliver n o)
     go true o = λ e. cc
     go false None = λ e. cc
-    go false (Some x) = unless_one _ faults.EntriesFull _ (λ e. cc)
+    go false (Some x) = asking x.asked x
+take_known n Request m = full_known (is_outbox_full n) _
+take_known n (Answer sender number) m = go (sender == n.replica.own) m
+  where
+    asking : (asked : Option Names) → NoMemory (answer_asked asked n)
+    asking None = λ e. cc
+    asking (Some names) = full_known (is_outbox_full n) _
+
+    go : (b : Bool) (o : Option Message) → NoMemory (if b then Err step_faults.OwnMessage else answer n o)
+    go true o = λ e. cc
+    go false None = λ e. cc
+    go false (Some x) = asking x.asked
 take_known n (Up name) m = unless_one _ faults.OwnReplica _ (λ e. cc)
 take_known n (Down name) m = unless_two _ _ faults.OwnReplica faults.NotKnown _ (λ e. cc) (λ e. cc)
 take_known n (Permdown name) m = unless_three _ _ _ faults.OwnReplica faults.NotKnown faults.NotDown _ (λ e. cc) (λ e. cc) (λ e. cc)
@@ -81,6 +97,8 @@ fault_known step_faults.EntriesFull other e = cc
 fault_known step_faults.ClockFull other e = cc
 fault_known step_faults.OwnMessage other e = cc
 fault_known step_faults.NoSuchMessage other e = cc
+fault_known step_faults.NotRequest other e = cc
+fault_known step_faults.IsRequest other e = cc
 fault_known step_faults.OutboxFull other e = cc
 fault_known step_faults.OutOfMemory other e = other refl
 

@@ -9,15 +9,15 @@ use Rattle.dots_core.proofs.OwnClock.{not_fresh}
 use Rattle.payload_core.specs.Presences.{Presence, is_tracked_as}
 use Rattle.payload_core.specs.Messages.{Message, AreSeen, numbered, message_of_names}
 use Rattle.payload_core.proofs.EntryMaps.{get-names}
-use Rattle.payload_core.proofs.SeenEntries.{seen-names}
+use Rattle.payload_core.proofs.SeenEntries.{seen_none, seen-names}
 use Rattle.replica_core.specs.declared.node_limits.NodeLimits.{NodeLimits}
 use Rattle.replica_core.specs.declared.replica_fault.ReplicaFault.{ReplicaFault}
 use Rattle.replica_core.specs.declared.replica_fault.ReplicaFault.TheVariants.{OwnReplica, NotKnown, NotDown}
 use Rattle.replica_core.specs.declared.status.Status.TheVariants as statuses
-use Rattle.replica_core.specs.Replicas.{Replica, fresh, is_known, is_online, forgotten}
+use Rattle.replica_core.specs.Replicas.{Replica, fresh, is_known, is_online, forgotten, request_of}
 use Rattle.replica_core.specs.Deliveries.{merged}
 use Rattle.replica_core.specs.Refusals.{first_of, join_refusal, leave_refusal, leave_all_refusal, up_refusal, down_refusal, permdown_refusal, has_dots}
-use Rattle.node_core.specs.Operations.{Operation, Join, Leave, LeaveAll, Update, Broadcast, Extract, Deliver, Up, Down, Permdown, delivers}
+use Rattle.node_core.specs.Operations.{Operation, Join, Leave, LeaveAll, Update, Broadcast, Extract, Deliver, Request, Answer, Up, Down, Permdown, delivers}
 use Rattle.node_core.specs.Nodes.{Node, opening_node, with_replica, with_sent, unless, take}
 use Rattle.journal_core.specs.Journals.{Kept}
 use Rattle.journal_core.proofs.Numbered.{get-append_at, numbered_push_other}
@@ -26,7 +26,7 @@ use Rattle.bench_core.specs.Runs.{then_runs, runs}
 use Rattle.bench_core.specs.Laws.{OneEntryLaw, Stands, AtNode, InDelta, IsSent}
 use Rattle.bench_core.proofs.Clusters.{get-set_same, get-set_other, stepped}
 use Rattle.bench_core.proofs.Runs.{run_one, opening_at}
-use Rattle.bench_core.proofs.Taken.{unless_ok, unless_full_ok, broadcast_ok, deliver_ok}
+use Rattle.bench_core.proofs.Taken.{unless_ok, unless_full_ok, broadcast_ok, deliver_ok, extract_of, answer_ok}
 use Rattle.bench_core.proofs.Sound.{IsSound, InMessage, ComesFrom, Change, no_entry, sound_opening, change_nothing, change_joined, change_left_each}
 use Rattle.bench_core.proofs.Sound.{change_updated, change_merged, change_status, change_forgotten, change_sent}
 
@@ -94,6 +94,9 @@ extract_from r named h = record {
     go d p true e = e
     go d p false e = absurd (cc)
 
+request_from : (r : Replica) → IsFrom r (request_of r)
+request_from r = record { seen = seen_none sets.empty; stand = λ d p e. absurd (no_entry d p e) }
+
 changed : (x : Node) (s : Operation) (m : Option Message) (y : Node) → IsSound x.replica → IfSeen m → take x s m ≡ Ok y → Changed x m y
 changed x (Join p) m y h seen t =
     alone x _ m (Some p) y (unless_ok (join_refusal x.replica p.pid p.topic p.key) _ y t) (change_joined x.replica p h)
@@ -108,12 +111,17 @@ changed x Broadcast m y h seen t =
     by_sending x _ _ m y (broadcast_ok (has_dots x.replica.delta.seen) x y t) (change_sent x.replica h)
     (record { seen = h.delta_live; stand = h.delta_in })
 changed x (Extract names) m y h seen t =
-    by_sending x x.replica (message_of_names (sets.contains names) x.replica.own x.replica.store.seen x.replica.store.entries) m y
+    by_sending x x.replica (extract_of x names) m y
     (unless_full_ok x _ y t) (change_nothing x.replica h) (extract_from x.replica (sets.contains names) h)
 changed x (Deliver sender number) m y h seen t =
     let d = deliver_ok (sender == x.replica.own) x m y t in
     by_replica x (merged d.0 x.replica) m None y d.2 (subst (λ m. Change x.replica m None (merged d.0 x.replica)) (sym d.1)
     (change_merged x.replica d.0 h (subst IfSeen d.1 seen)))
+changed x Request m y h seen t =
+    by_sending x x.replica (request_of x.replica) m y (unless_full_ok x _ y t) (change_nothing x.replica h) (request_from x.replica)
+changed x (Answer sender number) m y h seen t =
+    let a = answer_ok (sender == x.replica.own) x m y t in
+    by_sending x x.replica (extract_of x a.2.0) m y a.2.1 (change_nothing x.replica h) (extract_from x.replica (sets.contains a.2.0) h)
 changed x (Up name) m y h seen t =
     alone x _ m None y (unless_ok (up_refusal x.replica name) _ y t) (change_status x.replica name statuses.Up h)
 changed x (Down name) m y h seen t =

@@ -7,8 +7,8 @@ use Rattle.payload_core.specs.Messages.{Message, numbered}
 use Rattle.node_core.specs.declared.inverse.Inverse as declared
 use Rattle.node_core.specs.declared.step_fault.StepFault.{StepFault}
 use Rattle.node_core.specs.declared.step_fault.StepFault.TheVariants.{OwnMessage, OutOfMemory}
-use Rattle.node_core.specs.Operations.{Operation, Join, Leave, LeaveAll, Update, Broadcast, Extract, Deliver, Up, Down, Permdown, named_in, AreNames}
-use Rattle.node_core.specs.Nodes.{Node, deliver, take}
+use Rattle.node_core.specs.Operations.{Operation, Join, Leave, LeaveAll, Update, Broadcast, Extract, Deliver, Request, Answer, Up, Down, Permdown, named_in, AreNames}
+use Rattle.node_core.specs.Nodes.{Node, deliver, answer, take}
 use Rattle.node_core.specs.Invariant.{IsNode}
 use Rattle.node_core.specs.Inverses.{plain_inverse, LeadsBack}
 use Rattle.bench_core.specs.Clusters.{Cluster, outbox_of, message_for}
@@ -29,9 +29,25 @@ names_named (Update p) count few named = tt
 names_named Broadcast count few named = tt
 names_named (Extract names) count few named = tt
 names_named (Deliver sender number) count few named = let low = ltb-true sender count (and_parts _ _ named).0 in omega arith
+names_named Request count few named = tt
+names_named (Answer sender number) count few named = let low = ltb-true sender count (and_parts _ _ named).0 in omega arith
 names_named (Up name) count few named = let low = ltb-true name count (and_parts _ _ named).0 in omega arith
 names_named (Down name) count few named = let low = ltb-true name count (and_parts _ _ named).0 in omega arith
 names_named (Permdown name) count few named = let low = ltb-true name count (and_parts _ _ named).0 in omega arith
+
+-- a step that reads a message of its own node is refused before it is read
+read_alike : (f : Option Message → Result Node StepFault) (c : Cluster) (n sender p : ℕ) (x other : Node) → x.replica.own ≡ n →
+    (if sender == x.replica.own then Err OwnMessage else f (numbered (outbox_of (slice_get (set c n other) sender)) p)) ≡
+    (if sender == x.replica.own then Err OwnMessage else f (numbered (outbox_of (slice_get c sender)) p))
+read_alike f c n sender p x other own = go (sender == x.replica.own) refl
+  where
+    go : (b : Bool) → (sender == x.replica.own) ≡ b →
+        (if b then Err OwnMessage else f (numbered (outbox_of (slice_get (set c n other) sender)) p)) ≡
+        (if b then Err OwnMessage else f (numbered (outbox_of (slice_get c sender)) p))
+    go true is = refl
+    go false is =
+        let apart : sender ≢ n = λ e. eqb-false sender x.replica.own is (e ∙ sym own) in
+        ap (λ o. f (numbered (outbox_of o) p)) (get-set_other c n sender other apart)
 
 -- a step reads no message of its own node
 take_alike : (c : Cluster) (n : ℕ) (s : Operation) (x other : Node) → x.replica.own ≡ n →
@@ -45,15 +61,9 @@ take_alike c n (Extract names) x other own = refl
 take_alike c n (Up name) x other own = refl
 take_alike c n (Down name) x other own = refl
 take_alike c n (Permdown name) x other own = refl
-take_alike c n (Deliver sender p) x other own = go (sender == x.replica.own) refl
-  where
-    go : (b : Bool) → (sender == x.replica.own) ≡ b →
-        (if b then Err OwnMessage else deliver x (numbered (outbox_of (slice_get (set c n other) sender)) p)) ≡
-        (if b then Err OwnMessage else deliver x (numbered (outbox_of (slice_get c sender)) p))
-    go true is = refl
-    go false is =
-        let apart : sender ≢ n = λ e. eqb-false sender x.replica.own is (e ∙ sym own) in
-        ap (λ o. deliver x (numbered (outbox_of o) p)) (get-set_other c n sender other apart)
+take_alike c n (Deliver sender p) x other own = read_alike (deliver x) c n sender p x other own
+take_alike c n Request x other own = refl
+take_alike c n (Answer sender p) x other own = read_alike (answer x) c n sender p x other own
 
 module _ (c : Cluster) (n : ℕ) (s : Operation) (x y z other : Node) (m : Option Message) (own : IsNumbered c) (at : slice_get c n ≡ Some x)
     (named : list_all (λ k. nat_lt k (length c)) (named_in s) ≡ true) (is : m ≡ message_for (set c n other) s) (same : z ≡ x) where

@@ -2,16 +2,18 @@
 -- steps are told apart.
 use Rattle.std.proofs.Common.{◌≡◌, ℕ, ◌==◌, Bool, true, false, if◌then◌else◌, List, [], ◌∷◌, ◌++◌, Option, Some, None, Ok, Err, refl, sym, ap, ◌∙◌, subst}
 use Rattle.std.specs.FinSet as set
+use Rattle.dots_core.specs.Names.{Names}
 use Rattle.payload_core.specs.Messages.{Message, message_of_names}
 use Rattle.replica_core.specs.declared.replica_fault.ReplicaFault.{ReplicaFault}
 use Rattle.replica_core.specs.declared.status.Status.TheVariants as statuses
 use Rattle.replica_core.specs.Replicas.{Replica, tracked_dots, dots_of_process, joined, left_each, updated, with_status, forgotten, delta_message}
-use Rattle.replica_core.specs.Replicas.{without_delta}
+use Rattle.replica_core.specs.Replicas.{request_of, without_delta}
 use Rattle.replica_core.specs.Deliveries.{merged}
 use Rattle.replica_core.specs.Refusals.{join_refusal, leave_refusal, leave_all_refusal, merge_refusal, up_refusal, down_refusal, permdown_refusal, has_dots}
 use Rattle.node_core.specs.declared.step_fault.StepFault.TheVariants.{OwnMessage, OutboxFull}
-use Rattle.node_core.specs.Operations.{Operation, Join, Leave, LeaveAll, Update, Broadcast, Extract, Deliver, Up, Down, Permdown, delivers, sends}
-use Rattle.node_core.specs.Nodes.{Node, with_replica, with_sent, is_outbox_full, unless, unless_full, broadcast, deliver, take}
+use Rattle.node_core.specs.Operations.{Operation, Join, Leave, LeaveAll, Update, Broadcast, Extract, Deliver, Request, Answer, Up, Down, Permdown, delivers, sends}
+use Rattle.node_core.specs.Nodes.{Node, with_replica, with_sent, is_outbox_full, unless, unless_full, broadcast, deliver, deliver_unasked}
+use Rattle.node_core.specs.Nodes.{answer, answer_asked, take}
 use Rattle.node_core.proofs.Changes.{Stays, through_leaves, through_drops}
 
 -- what a step does to the outbox
@@ -49,7 +51,26 @@ pub deliver_ok : (own : Bool) (n : Node) (m : Option Message) (y : Node) → (if
     (message : Message) × (m ≡ Some message) × (y ≡ with_replica n (merged message n.replica))
 deliver_ok true n m y h = absurd (cc)
 deliver_ok false n None y h = absurd (cc)
-deliver_ok false n (Some m) y h = (m, refl, unless_ok (merge_refusal n.replica m) (with_replica n (merged m n.replica)) y h)
+deliver_ok false n (Some m) y h = (m, refl, go m.asked h)
+  where
+    go : (asked : Option Names) → deliver_unasked asked n m ≡ Ok y → y ≡ with_replica n (merged m n.replica)
+    go None h = unless_ok (merge_refusal n.replica m) (with_replica n (merged m n.replica)) y h
+    go (Some names) h = absurd (cc)
+
+-- what a node sends of these names
+abbrev pub extract_of : Node → Names → Message
+extract_of n names = message_of_names (set.contains names) n.replica.own n.replica.store.seen n.replica.store.entries
+
+-- an answer that was accepted sends what an extract of the names sends that it was asked for
+pub answer_ok : (own : Bool) (n : Node) (m : Option Message) (y : Node) → (if own then Err OwnMessage else answer n m) ≡ Ok y →
+    (message : Message) × (m ≡ Some message) × ((names : Names) × (y ≡ with_sent n (extract_of n names) n.replica))
+answer_ok true n m y h = absurd (cc)
+answer_ok false n None y h = absurd (cc)
+answer_ok false n (Some m) y h = (m, refl, go m.asked h)
+  where
+    go : (asked : Option Names) → answer_asked asked n ≡ Ok y → (names : Names) × (y ≡ with_sent n (extract_of n names) n.replica)
+    go None h = absurd (cc)
+    go (Some names) h = (names, unless_full_ok n (with_sent n (extract_of n names) n.replica) y h)
 
 outbox_at : (y z : Node) → y ≡ z → y.outbox ≡ z.outbox
 outbox_at y z e = ap (λ (x : Node). x.outbox) e
@@ -92,14 +113,21 @@ took n Broadcast m y h =
     let e = broadcast_ok (has_dots n.replica.delta.seen) n y h in
     record { posts = (delta_message n.replica, outbox_at y gives e); was_read = tt; owns = own_at y gives e; limits = limits_at y gives e }
 took n (Extract names) m y h =
-    let message = message_of_names (set.contains names) n.replica.own n.replica.store.seen n.replica.store.entries in
-    let gives = with_sent n message n.replica in
+    let gives = with_sent n (extract_of n names) n.replica in
     let e = unless_full_ok n gives y h in
-    record { posts = (message, outbox_at y gives e); was_read = tt; owns = own_at y gives e; limits = limits_at y gives e }
+    record { posts = (extract_of n names, outbox_at y gives e); was_read = tt; owns = own_at y gives e; limits = limits_at y gives e }
 took n (Deliver sender number) m y h =
     let d = deliver_ok (sender == n.replica.own) n m y h in
     let gives = with_replica n (merged d.0 n.replica) in
     record { posts = outbox_at y gives d.2; was_read = (d.0, d.1); owns = own_at y gives d.2; limits = limits_at y gives d.2 }
+took n Request m y h =
+    let gives = with_sent n (request_of n.replica) n.replica in
+    let e = unless_full_ok n gives y h in
+    record { posts = (request_of n.replica, outbox_at y gives e); was_read = tt; owns = own_at y gives e; limits = limits_at y gives e }
+took n (Answer sender number) m y h =
+    let a = answer_ok (sender == n.replica.own) n m y h in
+    let gives = with_sent n (extract_of n a.2.0) n.replica in
+    record { posts = (extract_of n a.2.0, outbox_at y gives a.2.1); was_read = (a.0, a.1); owns = own_at y gives a.2.1; limits = limits_at y gives a.2.1 }
 took n (Up name) m y h =
     alone n (Up name) m y (up_refusal n.replica name) (with_status name statuses.Up n.replica) refl refl
     (record { own = refl; limits = refl }) h

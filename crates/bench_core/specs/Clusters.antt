@@ -6,7 +6,7 @@ use Rattle.node_core.specs.declared.step_fault.StepFault.{StepFault}
 use Rattle.node_core.specs.declared.step_fault.StepFault.TheVariants as step_faults
 use Rattle.bench_core.specs.declared.fault.Fault.{Fault}
 use Rattle.bench_core.specs.declared.fault.Fault.TheVariants.{OwnReplica, NotKnown, NotDown, AlreadyTracked, NotTracked, NothingToSend, EntriesFull}
-use Rattle.bench_core.specs.declared.fault.Fault.TheVariants.{ClockFull, OwnMessage, NoSuchMessage, OutboxFull, UnknownNode, OutOfMemory}
+use Rattle.bench_core.specs.declared.fault.Fault.TheVariants.{ClockFull, OwnMessage, NoSuchMessage, NotRequest, IsRequest, OutboxFull, UnknownNode, OutOfMemory}
 use Rattle.replica_core.specs.declared.node_limits.NodeLimits.{NodeLimits}
 use Rattle.node_core.specs.Operations.{Operation, delivers, named_in}
 use Rattle.node_core.specs.Nodes.{Node, opening_node, take}
@@ -47,6 +47,8 @@ fault_of step_faults.EntriesFull = EntriesFull
 fault_of step_faults.ClockFull = ClockFull
 fault_of step_faults.OwnMessage = OwnMessage
 fault_of step_faults.NoSuchMessage = NoSuchMessage
+fault_of step_faults.NotRequest = NotRequest
+fault_of step_faults.IsRequest = IsRequest
 fault_of step_faults.OutboxFull = OutboxFull
 fault_of step_faults.OutOfMemory = OutOfMemory
 

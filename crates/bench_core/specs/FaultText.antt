@@ -2,8 +2,8 @@
 use Rattle.std.specs.Prelude.{ℕ, List, ◌++◌, codes, decimal}
 use Rattle.bench_core.specs.declared.fault.Fault.{Fault}
 use Rattle.bench_core.specs.declared.fault.Fault.TheVariants.{OwnReplica, NotKnown, NotDown, AlreadyTracked, NotTracked, NothingToSend, EntriesFull}
-use Rattle.bench_core.specs.declared.fault.Fault.TheVariants.{ClockFull, OwnMessage, NoSuchMessage, OutboxFull, UnknownNode, NoSuchStep, AlreadyUndone}
-use Rattle.bench_core.specs.declared.fault.Fault.TheVariants.{NothingToUndo, HasConsequence, HistoryFull, OutOfMemory}
+use Rattle.bench_core.specs.declared.fault.Fault.TheVariants.{ClockFull, OwnMessage, NoSuchMessage, NotRequest, IsRequest, OutboxFull, UnknownNode}
+use Rattle.bench_core.specs.declared.fault.Fault.TheVariants.{NoSuchStep, AlreadyUndone, NothingToUndo, HasConsequence, HistoryFull, OutOfMemory}
 
 -- the fault's name, and behind that of HasConsequence the step and what holds it
 abbrev pub fault_text : Fault → List ℕ
@@ -17,6 +17,8 @@ fault_text EntriesFull = codes "EntriesFull"
 fault_text ClockFull = codes "ClockFull"
 fault_text OwnMessage = codes "OwnMessage"
 fault_text NoSuchMessage = codes "NoSuchMessage"
+fault_text NotRequest = codes "NotRequest"
+fault_text IsRequest = codes "IsRequest"
 fault_text OutboxFull = codes "OutboxFull"
 fault_text UnknownNode = codes "UnknownNode"
 fault_text NoSuchStep = codes "NoSuchStep"

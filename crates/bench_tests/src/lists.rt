@@ -145,7 +145,7 @@ fn leaves<'a, B: Allocator>(
     replica.leave(1, &words.topic, &words.key)
 }
 
-/// The call is asked; of a message that isn't there nothing is.
+/// The call is asked; of a message that isn't there, or is a request, nothing is.
 fn asked<'a, B: Allocator>(
     rt: &impl Abort,
     alloc: &'a B,
@@ -160,8 +160,8 @@ fn asked<'a, B: Allocator>(
         Call::Leave(shown) => leaves(rt, alloc, replica, shown),
         Call::Update(shown) => updates(rt, alloc, replica, shown),
         Call::Merge(place) => match messages.get(place) {
-            Some(message) => replica.merge(message),
-            None => Err(ReplicaFault::OutOfMemory),
+            Some(message) if message.asked().is_none() => replica.merge(message),
+            _ => Err(ReplicaFault::OutOfMemory),
         },
         Call::LeaveAll => replica.leave_all(1),
         Call::Up => replica.up(0),

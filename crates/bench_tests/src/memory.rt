@@ -155,6 +155,21 @@ const REFUSED: [Row; 12] = [
     (2, Call::Undo(1), Reply::Refused(HELD_1_BY_2)),
 ];
 
+const HELD_2_BY_3: Fault = Fault::HasConsequence {
+    step: 2,
+    held_by: 3,
+};
+
+const ANSWERS: [Row; 7] = [
+    (0, Call::Join(1, Shown::Alice), Reply::Taken(1)),
+    (1, Call::Request, Reply::Taken(2)),
+    (0, Call::Answer(1, 1), Reply::Taken(3)),
+    (0, Call::Deliver(1, 1), Reply::Refused(Fault::IsRequest)),
+    (1, Call::Undo(2), Reply::Refused(HELD_2_BY_3)),
+    (0, Call::Undo(3), Reply::Undone(3)),
+    (1, Call::Back(1), Reply::Undone(2)),
+];
+
 /// Makes the calls of a table so. Gives how often one was refused memory, at most.
 fn all_refused_in_turn<'a>(rt: &impl Abort, heap: &'a Heap, rows: &[Row]) -> u64 {
     let mut bench = open(rt, heap, Limits::usual());
@@ -169,7 +184,7 @@ fn all_refused_in_turn<'a>(rt: &impl Abort, heap: &'a Heap, rows: &[Row]) -> u64
 #[test]
 fn a_call_that_is_refused_memory_changes_nothing(rt: HostRuntime) {
     let heap = Refusing::new(rt.alloc());
-    for rows in [MESSAGES.as_slice(), &LEAVES, &REFUSED] {
+    for rows in [MESSAGES.as_slice(), &LEAVES, &REFUSED, &ANSWERS] {
         let most = all_refused_in_turn(&rt, &heap, rows);
         assert!(rt; 0 < most && most < 100);
     }

@@ -53,10 +53,11 @@ const NO_REMAINING_STEP: [Row; 6] = [
     (2, Call::Back(1), Reply::Refused(Fault::NothingToUndo)),
 ];
 
-const NO_NODES: [Row; 5] = [
+const NO_NODES: [Row; 6] = [
     (7, Call::Broadcast, Reply::Refused(Fault::UnknownNode)),
     (0, Call::Up(5), Reply::Refused(Fault::UnknownNode)),
     (0, Call::Extract(5), Reply::Refused(Fault::UnknownNode)),
+    (0, Call::Answer(5, 1), Reply::Refused(Fault::UnknownNode)),
     (0, Call::Back(2), Reply::Refused(Fault::UnknownNode)),
     (40, Call::Undo(1), Reply::Refused(Fault::NoSuchStep)),
 ];
@@ -169,7 +170,57 @@ const FAULTS_OF_MESSAGES: [Row; 6] = [
     (1, Call::Up(1), Reply::Refused(Fault::OwnReplica)),
 ];
 
-const CASES: [Case; 18] = [
+const HELD_4_BY_5: Fault = Fault::HasConsequence {
+    step: 4,
+    held_by: 5,
+};
+
+/// A request of node 1, its answer, and the answer's delivery, each undone in turn.
+const ANSWERED: [Row; 10] = [
+    (0, Call::Join(1, Shown::Alice), Reply::Taken(1)),
+    (1, Call::Up(0), Reply::Taken(2)),
+    (1, Call::Request, Reply::Taken(3)),
+    (0, Call::Answer(1, 1), Reply::Taken(4)),
+    (1, Call::Deliver(0, 1), Reply::Taken(5)),
+    (2, Call::Undo(3), Reply::Refused(HELD_3_BY_4)),
+    (2, Call::Undo(4), Reply::Refused(HELD_4_BY_5)),
+    (2, Call::Undo(5), Reply::Undone(5)),
+    (2, Call::Undo(4), Reply::Undone(4)),
+    (2, Call::Undo(3), Reply::Undone(3)),
+];
+
+const FAULTS_OF_REQUESTS: [Row; 10] = [
+    (0, Call::Join(1, Shown::Alice), Reply::Taken(1)),
+    (1, Call::Up(0), Reply::Taken(2)),
+    (1, Call::Request, Reply::Taken(3)),
+    (0, Call::Answer(1, 1), Reply::Taken(4)),
+    (0, Call::Deliver(1, 1), Reply::Refused(Fault::IsRequest)),
+    (1, Call::Answer(0, 1), Reply::Refused(Fault::NotRequest)),
+    (1, Call::Answer(1, 1), Reply::Refused(Fault::OwnMessage)),
+    (0, Call::Answer(1, 2), Reply::Refused(Fault::NoSuchMessage)),
+    (0, Call::Answer(1, 1), Reply::Taken(5)),
+    (2, Call::Undo(3), Reply::Refused(HELD_3_BY_4)),
+];
+
+const FULL_OF_MESSAGES: [Row; 6] = [
+    (0, Call::Join(1, Shown::Alice), Reply::Taken(1)),
+    (1, Call::Up(0), Reply::Taken(2)),
+    (1, Call::Request, Reply::Taken(3)),
+    (0, Call::Answer(1, 1), Reply::Taken(4)),
+    (0, Call::Answer(1, 1), Reply::Refused(Fault::OutboxFull)),
+    (1, Call::Request, Reply::Refused(Fault::OutboxFull)),
+];
+
+/// Node 1 asks before it knows node 0.
+const ASKED_EARLY: [Row; 5] = [
+    (0, Call::Join(1, Shown::Alice), Reply::Taken(1)),
+    (1, Call::Request, Reply::Taken(2)),
+    (0, Call::Answer(1, 1), Reply::Taken(3)),
+    (1, Call::Up(0), Reply::Taken(4)),
+    (1, Call::Deliver(0, 1), Reply::Taken(5)),
+];
+
+const CASES: [Case; 23] = [
     Case {
         name: "an undo waits for later steps of its node",
         limits: USUAL,
@@ -196,8 +247,8 @@ const CASES: [Case; 18] = [
         name: "a number that is no node's is refused",
         limits: USUAL,
         rows: &NO_NODES,
-        asked: 5,
-        recorded: 5,
+        asked: 6,
+        recorded: 6,
         remaining: 0,
         clock: 0,
         cloud: &[],
@@ -364,6 +415,61 @@ const CASES: [Case; 18] = [
         asked: 6,
         recorded: 6,
         remaining: 1,
+        clock: 0,
+        cloud: &[],
+        entries: 0,
+    },
+    Case {
+        name: "an answer's delivery brings a join",
+        limits: USUAL,
+        rows: &ANSWERED,
+        asked: 5,
+        recorded: 5,
+        remaining: 5,
+        clock: 1,
+        cloud: &[],
+        entries: 1,
+    },
+    Case {
+        name: "a request and its answer are taken back in turn",
+        limits: USUAL,
+        rows: &ANSWERED,
+        asked: 10,
+        recorded: 10,
+        remaining: 2,
+        clock: 0,
+        cloud: &[],
+        entries: 0,
+    },
+    Case {
+        name: "each fault of a request has its name",
+        limits: USUAL,
+        rows: &FAULTS_OF_REQUESTS,
+        asked: 10,
+        recorded: 10,
+        remaining: 5,
+        clock: 0,
+        cloud: &[],
+        entries: 0,
+    },
+    Case {
+        name: "a full outbox refuses an answer and a request",
+        limits: [100_000, 10_000, 1_000_000, 1],
+        rows: &FULL_OF_MESSAGES,
+        asked: 6,
+        recorded: 6,
+        remaining: 4,
+        clock: 0,
+        cloud: &[],
+        entries: 0,
+    },
+    Case {
+        name: "a request names the replicas that were known then",
+        limits: USUAL,
+        rows: &ASKED_EARLY,
+        asked: 5,
+        recorded: 5,
+        remaining: 5,
         clock: 0,
         cloud: &[],
         entries: 0,

@@ -6,7 +6,8 @@ use script_core::{FakeReader, FakeWriter, play};
 use std::process::ExitCode;
 use std::{fs, io};
 
-const EXAMPLES: [&str; 6] = [
+const EXAMPLES: [&str; 7] = [
+    "comes-back",
     "late-up",
     "lost-removal",
     "out-of-order",

@@ -1,5 +1,5 @@
 //! Inverses: what each step destroyed is kept to take it back, and nothing more.
-use crate::node::{Ask, Side, USUAL, message};
+use crate::node::{Ask, Side, USUAL, message, request};
 use crate::words::word;
 use dots_core::Dot;
 use node_core::{Inverse, Meter, Node};
@@ -27,7 +27,7 @@ enum Told {
     LeaveAll(&'static [Stood]),
     Update(Stood),
     Broadcast,
-    Extract,
+    Sent,
     Deliver {
         joined: &'static [u64],
         left: &'static [u64],
@@ -154,12 +154,12 @@ fn is_inverse<A: Allocator>(inverse: &Inverse<A>, told: Told) -> bool {
     match inverse {
         Inverse::Change(change) => is_change(change, told),
         Inverse::Broadcast => matches!(told, Told::Broadcast),
-        Inverse::Extract => matches!(told, Told::Extract),
+        Inverse::Sent => matches!(told, Told::Sent),
     }
 }
 
 /// Own steps: an entry that was not sent, one that was, and the entries of a process.
-const OWN: [(Ask, Told); 12] = [
+const OWN: [(Ask, Told); 13] = [
     (Ask::Join(1), Told::Join),
     (
         Ask::Update(1),
@@ -187,7 +187,8 @@ const OWN: [(Ask, Told); 12] = [
         }),
     ),
     (Ask::Join(2), Told::Join),
-    (Ask::Extract(Side::Here), Told::Extract),
+    (Ask::Extract(Side::Here), Told::Sent),
+    (Ask::Request, Told::Sent),
     (Ask::Broadcast, Told::Broadcast),
     (Ask::JoinElsewhere(2), Told::Join),
     (
@@ -273,6 +274,9 @@ const AGAIN: [(Ask, Told); 2] = [
     ),
 ];
 
+/// A step on its request.
+const ASKED: [(Ask, Told); 1] = [(Ask::Answer(Side::There), Told::Sent)];
+
 /// What the node there sends after its process 1 has left.
 fn left_message<'a>(rt: &impl Abort, heap: &'a Heap) -> Payload<&'a Heap> {
     let word = word(rt, heap, "r");
@@ -321,4 +325,5 @@ fn each_inverse_keeps_what_its_step_destroyed(rt: HostRuntime) {
     each_keeps(&rt, &heap, &mut node, &first, &FIRST);
     each_keeps(&rt, &heap, &mut node, &second, &SECOND);
     each_keeps(&rt, &heap, &mut node, &first, &AGAIN);
+    each_keeps(&rt, &heap, &mut node, &request(&heap), &ASKED);
 }

@@ -52,6 +52,8 @@ pub enum Ask {
     Broadcast,
     Extract(Side),
     Deliver(Side),
+    Request,
+    Answer(Side),
     Up(Side),
     Down(Side),
     Permdown(Side),
@@ -75,6 +77,11 @@ impl Ask {
                 names: NameSet::empty().with(side.name()),
             },
             Ask::Deliver(side) => Step::Deliver {
+                sender: side.name(),
+                number: 1,
+            },
+            Ask::Request => Step::Request,
+            Ask::Answer(side) => Step::Answer {
                 sender: side.name(),
                 number: 1,
             },
@@ -124,7 +131,7 @@ struct Case {
     rows: &'static [Row],
 }
 
-const SENDS: [Row; 10] = [
+const SENDS: [Row; 13] = [
     (Ask::Broadcast, Some(StepFault::NothingToSend)),
     (Ask::Join(1), None),
     (Ask::Join(1), Some(StepFault::AlreadyTracked)),
@@ -132,6 +139,9 @@ const SENDS: [Row; 10] = [
     (Ask::Broadcast, Some(StepFault::NothingToSend)),
     (Ask::Deliver(Side::Here), Some(StepFault::OwnMessage)),
     (Ask::Deliver(Side::There), Some(StepFault::NoSuchMessage)),
+    (Ask::Request, None),
+    (Ask::Answer(Side::Here), Some(StepFault::OwnMessage)),
+    (Ask::Answer(Side::There), Some(StepFault::NoSuchMessage)),
     (Ask::Up(Side::There), None),
     (Ask::Up(Side::There), None),
     (Ask::Up(Side::Here), Some(StepFault::OwnReplica)),
@@ -173,13 +183,14 @@ const FULL_CLOCK: [Row; 8] = [
     (Ask::Broadcast, Some(StepFault::NothingToSend)),
 ];
 
-const FULL_NODE: [Row; 6] = [
+const FULL_NODE: [Row; 7] = [
     (Ask::Join(1), None),
     (Ask::Join(1), Some(StepFault::AlreadyTracked)),
     (Ask::Join(2), Some(StepFault::EntriesFull)),
     (Ask::Extract(Side::There), None),
     (Ask::Extract(Side::Here), Some(StepFault::OutboxFull)),
     (Ask::Broadcast, Some(StepFault::OutboxFull)),
+    (Ask::Request, Some(StepFault::OutboxFull)),
 ];
 
 const CASES: [Case; 5] = [
@@ -219,7 +230,7 @@ const CASES: [Case; 5] = [
 ];
 
 /// A step of each kind.
-const KINDS: [Ask; 10] = [
+const KINDS: [Ask; 12] = [
     Ask::Join(1),
     Ask::Leave(1),
     Ask::LeaveAll(1),
@@ -227,6 +238,8 @@ const KINDS: [Ask; 10] = [
     Ask::Broadcast,
     Ask::Extract(Side::There),
     Ask::Deliver(Side::There),
+    Ask::Request,
+    Ask::Answer(Side::There),
     Ask::Up(Side::There),
     Ask::Down(Side::There),
     Ask::Permdown(Side::There),
@@ -307,6 +320,35 @@ pub fn message<'a, B: Allocator>(rt: &impl Abort, alloc: &'a B) -> Payload<&'a B
     replica.take_delta().expect(rt, "a message")
 }
 
+/// A request of the node there.
+pub fn request<'a, B: Allocator>(alloc: &'a B) -> Payload<&'a B> {
+    Replica::opening(alloc, Side::There.name(), USUAL).request()
+}
+
+/// The fault of a step that is given this message.
+fn fault_given<'a, B: Allocator>(
+    rt: &impl Abort,
+    alloc: &'a B,
+    ask: Ask,
+    message: &Payload<&'a B>,
+) -> Option<StepFault> {
+    let step = ask.step(rt, alloc);
+    let mut node = Node::new(alloc, 0, USUAL);
+    node.take(&step, Some(message), &mut Meter::new()).err()
+}
+
+/// A request is answered and not delivered, and another message is delivered and not answered.
+#[test]
+fn a_request_alone_is_answered(rt: HostRuntime) {
+    let heap = rt.alloc();
+    let (message, request) = (message(&rt, &heap), request(&heap));
+    let (deliver, answer) = (Ask::Deliver(Side::There), Ask::Answer(Side::There));
+    assert!(rt; fault_given(&rt, &heap, deliver, &message).is_none());
+    assert!(rt; fault_given(&rt, &heap, answer, &message) == Some(StepFault::NotRequest));
+    assert!(rt; fault_given(&rt, &heap, deliver, &request) == Some(StepFault::IsRequest));
+    assert!(rt; fault_given(&rt, &heap, answer, &request).is_none());
+}
+
 /// Takes a step for which memory and the message are there.
 fn takes<'a>(
     rt: &impl Abort,
@@ -381,7 +423,7 @@ enum Turn {
 }
 
 /// The outbox is empty until the broadcast that is not taken back, and holds a message from then on.
-const TURNS: [Turn; 24] = [
+const TURNS: [Turn; 26] = [
     Turn::Back(Ask::Up(Side::There)),
     Turn::There(Ask::Join(1)),
     Turn::There(Ask::Up(Side::There)),
@@ -392,6 +434,7 @@ const TURNS: [Turn; 24] = [
     Turn::Back(Ask::Broadcast),
     Turn::Back(Ask::Extract(Side::Here)),
     Turn::Back(Ask::Deliver(Side::There)),
+    Turn::Back(Ask::Request),
     Turn::Back(Ask::Down(Side::There)),
     Turn::There(Ask::Broadcast),
     Turn::There(Ask::Join(2)),
@@ -402,21 +445,41 @@ const TURNS: [Turn; 24] = [
     Turn::Back(Ask::Broadcast),
     Turn::Back(Ask::Extract(Side::Here)),
     Turn::Back(Ask::Deliver(Side::There)),
+    Turn::Back(Ask::Request),
     Turn::Back(Ask::Down(Side::There)),
     Turn::There(Ask::Deliver(Side::There)),
     Turn::There(Ask::Down(Side::There)),
     Turn::Back(Ask::Permdown(Side::There)),
 ];
 
-fn each_is_taken_back<'a>(rt: &impl Abort, heap: &'a Heap, number: u64) {
-    let message = message(rt, heap);
+/// Answers to a request: one is taken back before anything was sent, one after.
+const ANSWERS: [Turn; 4] = [
+    Turn::There(Ask::Join(1)),
+    Turn::Back(Ask::Answer(Side::There)),
+    Turn::There(Ask::Answer(Side::There)),
+    Turn::Back(Ask::Answer(Side::There)),
+];
+
+/// What a node that is given this message is asked in turn.
+fn are_taken_back<'a>(
+    rt: &impl Abort,
+    heap: &'a Heap,
+    message: &Payload<&'a Heap>,
+    turns: &[Turn],
+    number: u64,
+) {
     let mut node = Node::new(heap, 0, USUAL);
-    for turn in &TURNS {
+    for turn in turns {
         match turn {
-            Turn::There(ask) => takes(rt, heap, &mut node, *ask, &message),
-            Turn::Back(ask) => taken_back(rt, heap, &mut node, *ask, &message, number),
+            Turn::There(ask) => takes(rt, heap, &mut node, *ask, message),
+            Turn::Back(ask) => taken_back(rt, heap, &mut node, *ask, message, number),
         }
     }
+}
+
+fn each_is_taken_back<'a>(rt: &impl Abort, heap: &'a Heap, number: u64) {
+    are_taken_back(rt, heap, &message(rt, heap), &TURNS, number);
+    are_taken_back(rt, heap, &request(heap), &ANSWERS, number);
 }
 
 #[test]
@@ -470,11 +533,12 @@ fn is_refused_in_turn<'a>(
     false
 }
 
-const REFUSED: [Ask; 11] = [
+const REFUSED: [Ask; 12] = [
     Ask::Join(1),
     Ask::Up(Side::There),
     Ask::Deliver(Side::There),
     Ask::Extract(Side::There),
+    Ask::Request,
     Ask::Update(1),
     Ask::Broadcast,
     Ask::Leave(1),
@@ -504,5 +568,7 @@ fn a_step_that_is_refused_memory_changes_nothing(rt: HostRuntime) {
     for ask in REFUSED {
         assert!(rt; refuses(&rt, &heap, &mut node, &message, ask));
     }
-    assert!(rt; node.outbox().len() == 2);
+    let request = request(&heap);
+    assert!(rt; refuses(&rt, &heap, &mut node, &request, Ask::Answer(Side::There)));
+    assert!(rt; node.outbox().len() == 4);
 }

@@ -1,5 +1,5 @@
 //! Replicas: context clocks and clouds in rows of several calls, undos, and refused memory.
-ghost use Rattle.std.specs.Prelude.{◌<◌, IfOk};
+ghost use Rattle.std.specs.Prelude.{◌≡◌, ◌<◌, IfOk, None, is_none, true};
 ghost use Rattle.replica_core.specs.Changes.{plain_change, ChangeLeadsBack};
 ghost use Rattle.replica_core.specs.Limits.{AreNodeLimits};
 
@@ -63,7 +63,9 @@ fn sent<'a, B: Allocator>(
     replica: &mut Replica<&'a B>,
     words: &Words<&'a B>,
     pid: u64,
-) -> Payload<&'a B> {
+) -> Payload<&'a B>
+    ensures { result.asked ≡ None }
+{
     joins(rt, replica, words, pid);
     replica.take_delta().expect(rt, "a message")
 }
@@ -107,6 +109,7 @@ struct Inputs<A: Allocator> {
     second: Payload<A>,
     left: Payload<A>,
     foreign: Payload<A>,
+    ghost no_requests: { (is_none first.asked ≡ true) × (is_none second.asked ≡ true) × (is_none left.asked ≡ true) × (is_none foreign.asked ≡ true) },
 }
 
 fn inputs_of<'a, B: Allocator>(rt: &impl Abort, alloc: &'a B, pair: Pair) -> Inputs<&'a B> {

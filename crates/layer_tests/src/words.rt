@@ -1,4 +1,6 @@
 //! Words, entries, sets of entries, messages and outboxes.
+ghost use Rattle.std.specs.Prelude.{◌≡◌, None};
+
 use crate::dots::set_of;
 use crate::rows::{holds, holds_at};
 use dots_core::{Dot, NameSet, Oom};
@@ -195,7 +197,9 @@ pub fn seen_alone<'a, B: Allocator>(
     rt: &impl Abort,
     alloc: &'a B,
     pairs: &[(u16, u64)],
-) -> Payload<&'a B> {
+) -> Payload<&'a B>
+    ensures { result.asked ≡ None }
+{
     let seen = set_of(rt, alloc, pairs);
     Payload::new(0, seen, EntrySet::new(alloc))
 }
@@ -213,6 +217,20 @@ fn a_message_gives_its_parts(rt: HostRuntime) {
     assert!(rt; copy.same(&message));
     assert!(rt; message.seen().contains(Dot { name: 0, clock: 4 }));
     assert!(rt; are_parts(copy, &message));
+}
+
+/// A request gives the names that it asks for, and is neither another request nor a message without them.
+#[test]
+fn a_request_gives_its_names(rt: HostRuntime) {
+    let heap = rt.alloc();
+    let names = NameSet::empty().with(0).with(31);
+    let request = Payload::request(&heap, 0, names);
+    let other = Payload::request(&heap, 0, NameSet::empty().with(31));
+    let copy = request.try_copy().expect(&rt, "a copy");
+    assert!(rt; copy.same(&request) && !request.same(&other));
+    assert!(rt; !request.same(&seen_alone(&rt, &heap, &[])));
+    assert!(rt; copy.asked().is_some_and(|asked| asked.same(names)));
+    assert!(rt; are_parts(copy, &seen_alone(&rt, &heap, &[])));
 }
 
 /// Whether the message falls into the parts of the other.

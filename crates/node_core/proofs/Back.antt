@@ -6,7 +6,7 @@ use Rattle.replica_core.specs.Invariant.{IsReplica}
 use Rattle.replica_core.specs.Changes as changes
 use Rattle.node_core.specs.Nodes.{Node, with_replica, with_sent}
 use Rattle.node_core.specs.Invariant.{IsNode}
-use Rattle.node_core.specs.Inverses.{Inverse, OfChange, OfBroadcast, OfExtract, LeadsSomewhere, GivesBack}
+use Rattle.node_core.specs.Inverses.{Inverse, OfChange, OfBroadcast, OfSent, LeadsSomewhere, GivesBack}
 use Rattle.node_core.specs.Laws.{OneWayBackLaw}
 use Rattle.replica_core.proofs.Back.{back_holds}
 use Rattle.node_core.proofs.Changes.{limits_stay}
@@ -26,7 +26,7 @@ same_last (a ∷ xs) (b ∷ ys) x y h =
     (cc, rest.1)
 
 can_be_given : (r : Replica) → IsReplica r → CanBeDelta (delta_message r) (without_delta r)
-can_be_given r h = record { nothing = refl; sender = refl; own = h.delta_own; live = h.delta_in }
+can_be_given r h = record { nothing = refl; sender = refl; no_request = refl; own = h.delta_own; live = h.delta_in }
 
 -- `before` is the node as its parts say it
 module _ (before n : Node) (same : before ≡ n) where
@@ -91,8 +91,8 @@ module _ (before n : Node) (same : before ≡ n) where
         let outbox : rest ≡ a.outbox = parts.0 in
         λ i. record { replica = replica i; outbox = outbox i }
 
-    pub extract_back : GivesBack OfExtract n (record { replica = before.replica; outbox = rest })
-    extract_back a leads =
+    pub message_back : GivesBack OfSent n (record { replica = before.replica; outbox = rest })
+    message_back a leads =
         let outbox : rest ≡ a.outbox = (sent_rest a leads.names.0 a.replica leads.names.1).0 in
         let replica : before.replica ≡ a.replica = sent_replica a leads.names.0 a.replica leads.names.1 in
         λ i. record { replica = replica i; outbox = outbox i }
@@ -112,7 +112,7 @@ way_back OfBroadcast now one other first second =
     let given = broadcast_back now now refl one.outbox (delta_message one.replica) popped
     (with_delta (delta_message one.replica) now.replica) refl in
     sym (given one first) ∙ given other second
-way_back OfExtract now one other first second =
+way_back OfSent now one other first second =
     let popped : now.outbox ≡ one.outbox ++ first.names.0 ∷ [] = ap (λ (n : Node). n.outbox) first.names.1 in
-    let given = extract_back now now refl one.outbox first.names.0 popped in
+    let given = message_back now now refl one.outbox first.names.0 popped in
     sym (given one first) ∙ given other second

@@ -1,22 +1,25 @@
 -- A step that sends a message: what it keeps, and that it leads back.
 use Rattle.std.proofs.Common.{◌≡◌, ℕ, ◌<◌, ◌≤◌, not, nat_lt, Bool, true, false, if◌then◌else◌, List, [], ◌∷◌, ◌++◌, length, Option, None, Ok, Err, refl}
-use Rattle.std.proofs.Common.{sym, ◌∙◌, subst, arith, length-append}
+use Rattle.std.proofs.Common.{Some, Result, ◌==◌, sym, ap, ◌∙◌, subst, true≢false, arith, length-append}
 use Rattle.std.proofs.lemmas.Bool.{and_parts, ltb-true}
 use Rattle.std.specs.FinSet as set
+use Rattle.dots_core.specs.Dots.{dot_cmp}
 use Rattle.dots_core.specs.Names as name_sets
 use Rattle.dots_core.proofs.Sets.{contains-retain}
 use Rattle.payload_core.specs.Messages.{Message, message_of_names}
-use Rattle.payload_core.proofs.SeenEntries.{seen-names}
+use Rattle.payload_core.proofs.SeenEntries.{seen_none, seen-names}
 use Rattle.replica_core.specs.declared.node_limits.NodeLimits.{NodeLimits}
-use Rattle.replica_core.specs.Replicas.{Replica, delta_message, without_delta}
+use Rattle.replica_core.specs.Replicas.{Replica, delta_message, request_of, without_delta}
 use Rattle.replica_core.specs.Refusals.{has_dots}
 use Rattle.replica_core.specs.Invariant.{IsReplica}
 use Rattle.replica_core.proofs.Invariant.{kept_without_delta}
-use Rattle.node_core.specs.declared.step_fault.StepFault.TheVariants.{OutboxFull}
-use Rattle.node_core.specs.Operations.{Operation, Broadcast, Extract}
-use Rattle.node_core.specs.Nodes.{Node, with_sent, is_outbox_full, unless_full, broadcast, take}
+use Rattle.node_core.specs.declared.step_fault.StepFault.TheVariants.{OwnMessage, OutboxFull}
+use Rattle.node_core.specs.Operations.{Operation, Broadcast, Extract, Request, Answer}
+use Rattle.node_core.specs.Nodes.{Node, with_sent, is_outbox_full, unless_full, broadcast, answer, answer_asked, take}
 use Rattle.node_core.specs.Invariant.{IsMessageOf, AreMessagesOf, IsNode}
-use Rattle.node_core.specs.Inverses.{Inverse, Names, LeadsBack}
+use Rattle.node_core.specs.declared.step_fault.StepFault.{StepFault}
+use Rattle.node_core.specs.declared.inverse.Inverse as declared
+use Rattle.node_core.specs.Inverses.{Inverse, Names, LeadsBack, Takes}
 
 -- a send leads back by its kind; `before` is the node as its parts say it
 pub sent : (before n : Node) (s : Operation) (m : Option Message) (now : Node) (inverse : Inverse) →
@@ -57,6 +60,13 @@ extract_sound named r h = record {
   live = seen-names named r.store.seen r.store.entries h.live;
 }
 
+request_sound : (r : Replica) → IsMessageOf r.own (request_of r)
+request_sound r = record {
+  from = refl;
+  valid = λ d e. absurd (true≢false (sym e ∙ set.contains-empty dot_cmp d));
+  live = seen_none set.empty;
+}
+
 unless_full_ok : (n gives d : Node) → unless_full n gives ≡ Ok d → (is_outbox_full n ≡ false) × (d ≡ gives)
 unless_full_ok n gives d h = go (is_outbox_full n) refl h
   where
@@ -81,3 +91,19 @@ extract_kept n d asked h taken =
     let ok = unless_full_ok n (with_sent n message n.replica) d taken in
     subst IsNode (sym ok.1) (sent_kept n message n.replica h refl refl ok.0 h.replica
     (extract_sound (set.contains asked) n.replica h.replica))
+
+pub request_kept : (n d : Node) → IsNode n → take n Request None ≡ Ok d → IsNode d
+request_kept n d h taken =
+    let ok = unless_full_ok n (with_sent n (request_of n.replica) n.replica) d taken in
+    subst IsNode (sym ok.1) (sent_kept n (request_of n.replica) n.replica h refl refl ok.0 h.replica (request_sound n.replica))
+
+-- an answer is an extract of the names that are asked for
+module _ (n : Node) (sender number : ℕ) (m : Message) (names : name_sets.Names) (other : (sender == n.replica.own) ≡ false)
+    (asks : m.asked ≡ Some names) where
+  answer_extracts : take n (Answer sender number) (Some m) ≡ take n (Extract names) None
+  answer_extracts = ap (λ own. if own then Err OwnMessage else answer n (Some m)) other ∙ ap (λ asked. answer_asked asked n) asks
+
+  pub answered : {X : Type 0} (result : Result (declared.Inverse X) StepFault) (now : Node) → Takes n (Extract names) None result now →
+      Takes n (Answer sender number) (Some m) result now
+  answered (Ok inverse) now h = (answer_extracts ∙ h.0, h.1)
+  answered (Err fault) now h = (h.0, λ known. answer_extracts ∙ h.1 known)

@@ -13,32 +13,32 @@ use Rattle.node_core.specs.Operations.{Operation}
 use Rattle.node_core.specs.Nodes.{Node, take, with_sent}
 use Rattle.node_core.specs.Invariant.{IsNode}
 
--- a step changed the replica; or it sent the delta; or it sent a message beside it
+-- a step changed the replica; or it sent the delta; or it sent a message beside it: an extract, a request or an answer
 pub data Inverse : Type 0 where
   OfChange : (change : changes.Change) → Inverse
   OfBroadcast : Inverse
-  OfExtract : Inverse
+  OfSent : Inverse
 
 abbrev pub plain_inverse : {X : Type 0} → declared.Inverse X → Inverse
 plain_inverse (variants.Change change) = OfChange (changes.plain_change change)
 plain_inverse variants.Broadcast = OfBroadcast
-plain_inverse variants.Extract = OfExtract
+plain_inverse variants.Sent = OfSent
 
 -- whether it is the inverse of a step that sent a message
 abbrev pub is_of_send : Inverse → Bool
 is_of_send (OfChange change) = false
 is_of_send OfBroadcast = true
-is_of_send OfExtract = true
+is_of_send OfSent = true
 
 -- an inverse is stored as its change, if it has one, and whether it is of a broadcast
 abbrev stored : Inverse → Option changes.Change × Bool
 stored (OfChange change) = (Some change, false)
 stored OfBroadcast = (None, true)
-stored OfExtract = (None, false)
+stored OfSent = (None, false)
 
 abbrev of_send : Bool → Inverse
 of_send true = OfBroadcast
-of_send false = OfExtract
+of_send false = OfSent
 
 abbrev from_stored : Option changes.Change → Bool → Inverse
 from_stored None broadcast = of_send broadcast
@@ -47,7 +47,7 @@ from_stored (Some change) broadcast = OfChange change
 abbrev from_stored-stored : (i : Inverse) → from_stored (stored i).0 (stored i).1 ≡ i
 from_stored-stored (OfChange change) = refl
 from_stored-stored OfBroadcast = refl
-from_stored-stored OfExtract = refl
+from_stored-stored OfSent = refl
 
 abbrev pub inverse_code : Coded Inverse
 inverse_code =
@@ -58,7 +58,7 @@ inverse_code =
 abbrev pub Names : Inverse → Node → Node → Type 0
 Names (OfChange change) b a = changes.ChangeLeadsBack change b.replica a.replica × (b.outbox ≡ a.outbox)
 Names OfBroadcast b a = b ≡ with_sent a (delta_message a.replica) (without_delta a.replica)
-Names OfExtract b a = (m : Message) × (b ≡ with_sent a m a.replica)
+Names OfSent b a = (m : Message) × (b ≡ with_sent a m a.replica)
 
 -- the inverse leads from node b back to node a: one accepted step takes a to b, and the inverse names what it destroyed
 pub record LeadsBack (inverse : Inverse) (b a : Node) : Type 0 where

@@ -17,6 +17,8 @@ pub data Operation : Type 0 where
   Broadcast : Operation
   Extract : (names : Names) → Operation
   Deliver : (sender number : ℕ) → Operation
+  Request : Operation
+  Answer : (sender number : ℕ) → Operation
   Up : (name : ℕ) → Operation
   Down : (name : ℕ) → Operation
   Permdown : (name : ℕ) → Operation
@@ -29,6 +31,8 @@ plain (steps.Update pid topic key metadata) = Update (record { pid = pid; topic 
 plain steps.Broadcast = Broadcast
 plain (steps.Extract names) = Extract names
 plain (steps.Deliver sender number) = Deliver sender number
+plain steps.Request = Request
+plain (steps.Answer sender number) = Answer sender number
 plain (steps.Up name) = Up name
 plain (steps.Down name) = Down name
 plain (steps.Permdown name) = Permdown name
@@ -42,6 +46,8 @@ delivers (Update presence) = None
 delivers Broadcast = None
 delivers (Extract names) = None
 delivers (Deliver sender number) = Some (sender, number)
+delivers Request = None
+delivers (Answer sender number) = Some (sender, number)
 delivers (Up name) = None
 delivers (Down name) = None
 delivers (Permdown name) = None
@@ -55,6 +61,8 @@ sends (Update presence) = false
 sends Broadcast = true
 sends (Extract names) = true
 sends (Deliver sender number) = false
+sends Request = true
+sends (Answer sender number) = true
 sends (Up name) = false
 sends (Down name) = false
 sends (Permdown name) = false
@@ -68,6 +76,8 @@ named_in (Update presence) = []
 named_in Broadcast = []
 named_in (Extract names) = set.items names
 named_in (Deliver sender number) = sender ∷ []
+named_in Request = []
+named_in (Answer sender number) = sender ∷ []
 named_in (Up name) = name ∷ []
 named_in (Down name) = name ∷ []
 named_in (Permdown name) = name ∷ []
@@ -81,6 +91,8 @@ AreNames (Update presence) = Unit {0}
 AreNames Broadcast = Unit {0}
 AreNames (Extract names) = Unit {0}
 AreNames (Deliver sender number) = sender < 32
+AreNames Request = Unit {0}
+AreNames (Answer sender number) = sender < 32
 AreNames (Up name) = name < 32
 AreNames (Down name) = name < 32
 AreNames (Permdown name) = name < 32
@@ -107,17 +119,24 @@ stored (Deliver sender number) = (6, (no_presence, (set.empty, (sender, number))
 stored (Up name) = (7, (no_presence, (set.empty, (name, 0))))
 stored (Down name) = (8, (no_presence, (set.empty, (name, 0))))
 stored (Permdown name) = (9, (no_presence, (set.empty, (name, 0))))
+stored Request = (10, (no_presence, (set.empty, (0, 0))))
+stored (Answer sender number) = (11, (no_presence, (set.empty, (sender, number))))
 
-abbrev of_status_kind : ℕ → ℕ → Operation
-of_status_kind zero name = Up name
-of_status_kind (suc zero) name = Down name
-of_status_kind (suc (suc kind)) name = Permdown name
+abbrev of_request_kind : ℕ → ℕ → ℕ → Operation
+of_request_kind zero one other = Request
+of_request_kind (suc kind) one other = Answer one other
+
+abbrev of_status_kind : ℕ → ℕ → ℕ → Operation
+of_status_kind zero one other = Up one
+of_status_kind (suc zero) one other = Down one
+of_status_kind (suc (suc zero)) one other = Permdown one
+of_status_kind (suc (suc (suc kind))) one other = of_request_kind kind one other
 
 abbrev of_message_kind : ℕ → Names → ℕ → ℕ → Operation
 of_message_kind zero names one other = Broadcast
 of_message_kind (suc zero) names one other = Extract names
 of_message_kind (suc (suc zero)) names one other = Deliver one other
-of_message_kind (suc (suc (suc kind))) names one other = of_status_kind kind one
+of_message_kind (suc (suc (suc kind))) names one other = of_status_kind kind one other
 
 abbrev of_kind : ℕ → Presence → Names → ℕ → ℕ → Operation
 of_kind zero presence names one other = Join presence
@@ -140,6 +159,8 @@ from_stored-stored (Deliver sender number) = refl
 from_stored-stored (Up name) = refl
 from_stored-stored (Down name) = refl
 from_stored-stored (Permdown name) = refl
+from_stored-stored Request = refl
+from_stored-stored (Answer sender number) = refl
 
 abbrev pub operation_code : Coded Operation
 operation_code =

@@ -10,6 +10,6 @@ pub enum Inverse<A: Allocator> {
     Change(Change<A>),
     /// The step sent the delta: it is the last message.
     Broadcast,
-    /// The step sent the last message beside the delta.
-    Extract,
+    /// The step sent the last message beside the delta: an extract, a request or an answer.
+    Sent,
 }

@@ -3,10 +3,10 @@ ghost use Rattle.std.specs.Prelude.{◌≡◌, ◌↔◌, ◌<◌, ◌≢◌, �
 ghost use Rattle.replica_core.specs.Changes.{plain_change};
 ghost use Rattle.replica_core.specs.Limits.{AreNodeLimits};
 ghost use Rattle.node_core.specs.declared.step_fault.StepFault.TheVariants.{OutOfMemory};
-ghost use Rattle.node_core.specs.Operations.{plain, AreNames, Join, Leave, LeaveAll, Update, Broadcast, Extract, Deliver, Up, Down, Permdown};
+ghost use Rattle.node_core.specs.Operations.{plain, AreNames, Join, Leave, LeaveAll, Update, Broadcast, Extract, Deliver, Request, Answer, Up, Down, Permdown};
 ghost use Rattle.node_core.specs.Nodes.{opening_node, take};
 ghost use Rattle.node_core.specs.Invariant.{IsNode};
-ghost use Rattle.node_core.specs.Inverses.{plain_inverse, is_of_send, OfChange, OfBroadcast, OfExtract, LeadsBack, LeadsSomewhere, GivesBack, Takes};
+ghost use Rattle.node_core.specs.Inverses.{plain_inverse, is_of_send, OfChange, OfBroadcast, OfSent, LeadsBack, LeadsSomewhere, GivesBack, Takes};
 
 use crate::inverse::Inverse;
 use crate::meter::Meter;
@@ -87,8 +87,8 @@ impl<'a, B: Allocator> Node<'a, B> {
                 self.take_back_delta();
                 Ok(())
             }
-            Inverse::Extract => {
-                self.take_back_extract();
+            Inverse::Sent => {
+                self.take_back_message();
                 Ok(())
             }
         }
@@ -111,9 +111,9 @@ impl<'a, B: Allocator> Node<'a, B> {
         self.replica.give_delta(payload);
     }
 
-    fn take_back_extract(&mut self)
-        requires { LeadsSomewhere OfExtract self.old }
-        ensures { GivesBack OfExtract self.old self.new }
+    fn take_back_message(&mut self)
+        requires { LeadsSomewhere OfSent self.old }
+        ensures { GivesBack OfSent self.old self.new }
     {
         let _ = self.outbox.pop().unwrap();
     }
@@ -215,7 +215,7 @@ impl<'a, B: Allocator> Node<'a, B> {
         self.outbox.make_room()?;
         let payload = self.replica.extract(names)?;
         self.outbox.push(payload).unwrap();
-        Ok(Inverse::Extract)
+        Ok(Inverse::Sent)
     }
 
     fn deliver(
@@ -232,9 +232,43 @@ impl<'a, B: Allocator> Node<'a, B> {
         let Some(message) = message else {
             return Err(StepFault::NoSuchMessage);
         };
+        if message.asked().is_some() {
+            return Err(StepFault::IsRequest);
+        }
         let change = self.replica.merge(message)?;
         self.replica.replica_law();
         Ok(Inverse::Change(change))
+    }
+
+    fn request(&mut self) -> Result<Inverse<&'a B>, StepFault>
+        ensures { Takes self.old Request None result self.new }
+    {
+        if self.outbox.is_full() {
+            return Err(StepFault::OutboxFull);
+        }
+        self.outbox.make_room()?;
+        self.outbox.push(self.replica.request()).unwrap();
+        Ok(Inverse::Sent)
+    }
+
+    fn answer(
+        &mut self,
+        sender: u16,
+        number: u64,
+        message: Option<&Payload<&'a B>>,
+    ) -> Result<Inverse<&'a B>, StepFault>
+        ensures { Takes self.old (Answer sender number) (option_map (λ m. m.now) message.entry) result self.new }
+    {
+        if sender == self.replica.own() {
+            return Err(StepFault::OwnMessage);
+        }
+        let Some(message) = message else {
+            return Err(StepFault::NoSuchMessage);
+        };
+        let Some(names) = message.asked() else {
+            return Err(StepFault::NotRequest);
+        };
+        self.extract(names)
     }
 
     fn up(&mut self, name: u16) -> Result<Inverse<&'a B>, StepFault>
@@ -290,15 +324,18 @@ impl<'a, B: Allocator> Node<'a, B> {
             Step::Broadcast => self.broadcast(),
             Step::Extract { names } => self.extract(*names),
             Step::Deliver { sender, number } => self.deliver(*sender, *number, message),
+            Step::Request => self.request(),
+            Step::Answer { sender, number } => self.answer(*sender, *number, message),
             Step::Up { name } => self.up(*name),
             Step::Down { name } => self.down(*name),
             Step::Permdown { name } => self.permdown(*name),
         }
     }
 
-    /// Takes the step forward, and gives the inverse that leads back. A delivery is given the named message, or `None`
-    /// where there is none; other steps ignore it. The faults come in this order: `OwnMessage`, `NoSuchMessage`, those of
-    /// the replica, `OutboxFull`. `OutOfMemory` comes where a request for memory was refused.
+    /// Takes the step forward, and gives the inverse that leads back. A delivery and an answer are given the
+    /// named message, or `None` where there is none; other steps ignore it. The faults come in this order: `OwnMessage`,
+    /// `NoSuchMessage`, `NotRequest`, `IsRequest`, those of the replica, `OutboxFull`. `OutOfMemory` comes where a request
+    /// for memory was refused.
     pub fn take(
         &mut self,
         step: &Step<&'a B>,

@@ -1,7 +1,7 @@
 //! `Step`: what one node does.
 ghost use Rattle.std.specs.Prelude.{◌≡◌, ◌↔◌, IsTrue, IfOk, nat_lt};
 ghost use Rattle.std.specs.List.{list_all};
-ghost use Rattle.node_core.specs.Operations.{Join, Leave, Update, Deliver, delivers, named_in, plain, sends};
+ghost use Rattle.node_core.specs.Operations.{Join, Leave, Update, Deliver, Answer, delivers, named_in, plain, sends};
 
 use dots_core::NameSet;
 use payload_core::{Oom, Word};
@@ -42,6 +42,14 @@ pub enum Step<A: Allocator> {
     },
     /// Merges a message of another node, by its number in that node's outbox, from 1.
     Deliver {
+        sender: u16,
+        number: u64,
+    },
+    /// Sends a request for what others have of the names that the node knows. The delta stays.
+    Request,
+    /// Delivers a request of another node, by its number in that node's outbox, and sends all that the node has seen and
+    /// holds of the names that it asks for. The delta stays.
+    Answer {
         sender: u16,
         number: u64,
     },
@@ -86,6 +94,8 @@ impl<A: Allocator> Step<A> {
                 matches!(other, Step::Extract { names: others } if names.same(*others))
             }
             Step::Deliver { sender, number } => other.is_deliver(*sender, *number),
+            Step::Request => matches!(other, Step::Request),
+            Step::Answer { sender, number } => other.is_answer(*sender, *number),
             Step::Up { name } => matches!(other, Step::Up { name: other } if name == other),
             Step::Down { name } => matches!(other, Step::Down { name: other } if name == other),
             Step::Permdown { name } => {
@@ -157,12 +167,26 @@ impl<A: Allocator> Step<A> {
         }
     }
 
+    fn is_answer(&self, sender: u16, number: u64) -> bool
+        ensures { IsTrue result ↔ (plain self.now ≡ Answer sender number) }
+    {
+        match self {
+            Step::Answer {
+                sender: own_sender,
+                number: own_number,
+            } => *own_sender == sender && *own_number == number,
+            _ => false,
+        }
+    }
+
     /// The sender and the number of the message that the step delivers.
     pub fn delivers(&self) -> Option<(u16, u64)>
         ensures { result ≡ delivers (plain self.now) }
     {
         match self {
-            Step::Deliver { sender, number } => Some((*sender, *number)),
+            Step::Deliver { sender, number } | Step::Answer { sender, number } => {
+                Some((*sender, *number))
+            }
             _ => None,
         }
     }
@@ -171,7 +195,10 @@ impl<A: Allocator> Step<A> {
     pub fn sends(&self) -> bool
         ensures { result ≡ sends (plain self.now) }
     {
-        matches!(self, Step::Broadcast | Step::Extract { .. })
+        matches!(
+            self,
+            Step::Broadcast | Step::Extract { .. } | Step::Request | Step::Answer { .. }
+        )
     }
 
     /// Whether each number that names a node in the step is below `count`.
@@ -180,9 +207,9 @@ impl<A: Allocator> Step<A> {
     {
         match self {
             Step::Join { .. } | Step::Leave { .. } | Step::LeaveAll { .. } => true,
-            Step::Update { .. } | Step::Broadcast => true,
+            Step::Update { .. } | Step::Broadcast | Step::Request => true,
             Step::Extract { names } => names.is_below(count),
-            Step::Deliver { sender, .. } => *sender < count,
+            Step::Deliver { sender, .. } | Step::Answer { sender, .. } => *sender < count,
             Step::Up { name } | Step::Down { name } | Step::Permdown { name } => *name < count,
         }
     }
@@ -211,6 +238,11 @@ impl<A: Allocator> Step<A> {
             Step::Broadcast => Ok(Step::Broadcast),
             Step::Extract { names } => Ok(Step::Extract { names: *names }),
             Step::Deliver { sender, number } => Ok(Step::Deliver {
+                sender: *sender,
+                number: *number,
+            }),
+            Step::Request => Ok(Step::Request),
+            Step::Answer { sender, number } => Ok(Step::Answer {
                 sender: *sender,
                 number: *number,
             }),

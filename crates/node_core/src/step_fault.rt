@@ -3,8 +3,8 @@ use payload_core::{Oom, OutboxFault};
 use replica_core::ReplicaFault;
 use thiserror::Error;
 
-/// Why a node refuses a step. `OwnMessage` and `NoSuchMessage` are looked for first, then the causes of the replica in
-/// their order, then `OutboxFull`.
+/// Why a node refuses a step. `OwnMessage`, `NoSuchMessage`, `NotRequest` and `IsRequest` are looked for first, then the
+/// causes of the replica in their order, then `OutboxFull`.
 #[derive(Clone, Copy, Debug, PartialEq, Eq, Error)]
 pub enum StepFault {
     /// The name is the node's own.
@@ -37,6 +37,12 @@ pub enum StepFault {
     /// The sender has no message of this number.
     #[error("NoSuchMessage")]
     NoSuchMessage,
+    /// The message that is to be answered is no request.
+    #[error("NotRequest")]
+    NotRequest,
+    /// The message that is to be delivered is a request.
+    #[error("IsRequest")]
+    IsRequest,
     /// The outbox holds as many messages as it may.
     #[error("OutboxFull")]
     OutboxFull,

@@ -1,43 +1,45 @@
 //! `Payload`, a message of a node.
-ghost use Rattle.std.specs.Prelude.{◌≡◌, ◌↔◌, IfOk, IsTrue};
-ghost use Rattle.payload_core.specs.Messages.{AreSeen};
+ghost use Rattle.std.specs.Prelude.{◌≡◌, ◌↔◌, IfOk, IfSome, IsTrue};
+ghost use Rattle.payload_core.specs.Messages.{AreSeen, request_message, store_message};
 
 use crate::entry_set::EntrySet;
-use dots_core::{DotSet, Oom};
+use dots_core::{DotSet, NameSet, Oom};
 use std::alloc::Allocator;
 use std::marker::Model;
 
-/// A message: its sender, the dots that it has seen, and the live entries among them. A contract sees the three as one
-/// `Message`.
+/// A message: its sender, the dots that it has seen, and the live entries among them; or, of a request, the names that it
+/// asks for, without dots and entries. A contract sees these as one `Message`.
 #[derive(Drop)]
 pub struct Payload<A: Allocator> {
     sender: u16,
     seen: DotSet<A>,
     entries: EntrySet<A>,
+    asked: Option<NameSet>,
 }
 
 impl<A: Allocator> Model for Payload<A> {
-    ghost use Rattle.payload_core.specs.Messages.{AreSeen, Message, message_code};
+    ghost use Rattle.payload_core.specs.Messages.{IsMessage, Message, message_code};
 
     ghost Value = { Message };
 
     ghost coded = { message_code };
 
-    ghost view = { λ p. record { sender = p.sender; seen = p.seen; entries = p.entries.map } };
+    ghost view = { λ p. record { sender = p.sender; seen = p.seen; entries = p.entries.map; asked = p.asked } };
 
-    ghost invariant = { λ p. AreSeen p.seen p.entries.map };
+    ghost invariant = { λ p. IsMessage (record { sender = p.sender; seen = p.seen; entries = p.entries.map; asked = p.asked }) };
 }
 
 impl<A: Allocator> Payload<A> {
     /// The message of these parts; its entries' room is forgotten. It takes no memory.
     pub fn new(sender: u16, seen: DotSet<A>, entries: EntrySet<A>) -> Payload<A>
         requires { AreSeen seen entries.map }
-        ensures { result ≡ record { sender = sender; seen = seen; entries = entries.map } }
+        ensures { result ≡ store_message sender seen entries.map }
     {
         Payload {
             sender,
             seen,
             entries,
+            asked: None,
         }
     }
 
@@ -46,6 +48,14 @@ impl<A: Allocator> Payload<A> {
         ensures { result ≡ self.now.sender }
     {
         self.sender
+    }
+
+    /// The names that a request asks for; `None` of other messages. A request has neither dots nor entries.
+    pub fn asked(&self) -> Option<NameSet>
+        ensures asked { result ≡ self.now.asked }
+        ensures bare { IfSome result (λ names. self.now ≡ request_message self.now.sender names) }
+    {
+        self.asked
     }
 
     /// The dots that are seen.
@@ -63,7 +73,7 @@ impl<A: Allocator> Payload<A> {
         &self.entries
     }
 
-    /// The sender, the seen dots and the entries.
+    /// The sender, the seen dots and the entries; the names of a request are forgotten.
     pub fn into_parts(self) -> (u16, DotSet<A>, EntrySet<A>)
         ensures sender { result.0 ≡ self.sender }
         ensures seen { result.1 ≡ self.seen }
@@ -74,17 +84,19 @@ impl<A: Allocator> Payload<A> {
             sender,
             seen,
             entries,
+            asked: _asked,
         } = self;
         (sender, seen, entries)
     }
 
-    /// Whether both have the same sender, dots and entries. It takes no memory.
+    /// Whether both have the same sender, dots and entries, and ask for the same names or for none. It takes no memory.
     pub fn same(&self, other: &Payload<A>) -> bool
         ensures { IsTrue result ↔ (self.now ≡ other.now) }
     {
         other.sender == self.sender
             && self.seen.same(&other.seen)
             && self.entries.same(&other.entries)
+            && ask_alike(self.asked, other.asked)
     }
 
     /// A message with the same parts.
@@ -99,6 +111,32 @@ impl<A: Allocator> Payload<A> {
             sender: self.sender,
             seen,
             entries,
+            asked: self.asked,
         })
+    }
+}
+
+impl<A: Allocator + Copy> Payload<A> {
+    /// The request of a node that asks for these names. It takes no memory.
+    pub fn request(alloc: A, sender: u16, names: NameSet) -> Payload<A>
+        ensures { result ≡ request_message sender names }
+    {
+        Payload {
+            sender,
+            seen: DotSet::new(alloc),
+            entries: EntrySet::new(alloc),
+            asked: Some(names),
+        }
+    }
+}
+
+/// Whether both ask for the same names, or both for none.
+fn ask_alike(one: Option<NameSet>, other: Option<NameSet>) -> bool
+    ensures { IsTrue result ↔ (one ≡ other) }
+{
+    match (one, other) {
+        (Some(one), Some(other)) => one.same(other),
+        (None, None) => true,
+        _ => false,
     }
 }

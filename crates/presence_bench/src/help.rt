@@ -26,6 +26,8 @@ Script lines (words between spaces; a line that begins with # is a comment):
   NODE broadcast                  sends what the node changed since it last did
   NODE extract NAME ..            sends all that the node holds of these nodes
   NODE deliver NAME NUMBER        takes in a message of NAME, by its number from 1
+  NODE request                    asks for what others hold of the nodes it knows
+  NODE answer NAME NUMBER         sends what a request of NAME asks for
   NODE up NAME                    takes NAME to be up
   NODE down NAME                  takes NAME to be down
   NODE permdown NAME              forgets NAME, which is down

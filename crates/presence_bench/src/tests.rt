@@ -21,7 +21,7 @@ const REPORT: &str = "1 ok\n+ r alice a/1 phone\nundone 1\n- r alice a/1 phone\n
 
 /// A play of it as it is saved.
 const SESSION: &str = "{\"acts\":[[0,[\"do\",\"join\",1,\"r\",\"alice\",\"phone\"],[\"ok\",1]],\
-[0,[\"undo\",1],[\"undone\",1]]],\"limits\":[100000,10000,1000000,10000],\"nodes\":[\"a\",\"b\"],\"version\":1}\n";
+[0,[\"undo\",1],[\"undone\",1]]],\"limits\":[100000,10000,1000000,10000],\"nodes\":[\"a\",\"b\"],\"version\":2}\n";
 
 /// The words that choose something, and what they choose.
 const CHOSEN: [(&[&str], Subcommand, Form); 8] = [
@@ -120,7 +120,7 @@ const CASES: [Case; 14] = [
         ..LOADED
     },
     Case {
-        script: "{\"acts\":[[0,[\"back\",0],[\"ok\",1]]],\"limits\":[10,10,10,10],\"nodes\":[\"a\"],\"version\":1}",
+        script: "{\"acts\":[[0,[\"back\",0],[\"ok\",1]]],\"limits\":[10,10,10,10],\"nodes\":[\"a\"],\"version\":2}",
         status: 1,
         printed: "",
         told: "presence_bench: session: Disagrees at act 1\n",

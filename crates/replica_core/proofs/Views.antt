@@ -12,7 +12,7 @@ use Rattle.dots_core.specs.FlagsBack.{contains-insert_name}
 use Rattle.dots_core.proofs.Names.{same_names, contains-remove_name}
 use Rattle.replica_core.specs.declared.status.Status.{Status}
 use Rattle.replica_core.specs.declared.status.Status.TheVariants.{Up, Down}
-use Rattle.replica_core.specs.Views.{View, is_some_up, status_by, AreKnown, AreUpKnown, view_of, with_old}
+use Rattle.replica_core.specs.Views.{View, is_some_up, status_by, AreKnown, AreUpKnown, known_of, view_of, with_old}
 
 pub get_insert_view : (v : View) (k q : ℕ) (s : Status) → fin.get (fin.insert v k s) q ≡ cond (q == k) (Some s) (fin.get v q)
 get_insert_view v k q s = fin.get-insert nat_cmp_total v k s q ∙ ap (λ b. cond b (Some s) (fin.get v q)) (unsigned_tied q k)
@@ -119,6 +119,11 @@ module _ (known up : Names) where
   up_known_forgotten h n q e =
       let parts = and_parts (not (q == n)) (set.contains up q) (sym (contains-remove_name up n q) ∙ e) in
       contains-remove_name known n q ∙ and_from (not (q == n)) (set.contains known q) parts.0 (h q parts.1)
+
+-- the known names are told by which they are
+pub known_is : (v : View) (known : Names) → AreKnown v known → known ≡ known_of v
+known_is v known are =
+    same_names known (known_of v) (λ n. are n ∙ fin.contains_key-keys v n ∙ sym (set.contains-from_list nat_cmp_total (fin.keys v) n))
 
 pub view_of_none : (up : Names) → view_of (set.items (set.empty {R = nat_cmp})) up ≡ fin.empty
 view_of_none up =

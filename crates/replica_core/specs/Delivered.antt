@@ -22,6 +22,8 @@ with_undelivered d r = record r { store = undelivered d r.store }
 -- one accepted delivery takes replica a to replica b, and the record names what it destroyed of a
 pub record IsDelivery (d : Delivered) (a b : Replica) : Type 0 where
   pub message : Message
+  -- it is no request
+  pub no_request : message.asked ≡ None
   pub accepted : merge_refusal a message ≡ None
   pub destroyed : Destroys (is_other_known a) (store_of message) a.store d
   pub held : undelivered d b.store ≡ a.store

@@ -1,19 +1,19 @@
 -- A replica, as sets, and what a join, a leave, an update, a status and a send change (Phoenix.Tracker.State, as sets; the
 -- dots of RR-8083).
-use Rattle.std.specs.Prelude.{◌≡◌, ℕ, ◌+◌, ◌==◌, Bool, true, List, [], ◌∷◌, Some, refl}
+use Rattle.std.specs.Prelude.{◌≡◌, ℕ, ◌+◌, ◌==◌, Bool, true, List, [], ◌∷◌, None, Some, refl}
 use Rattle.std.specs.Coded.{Coded, code_by, coded×, coded_ℕ}
 use Rattle.std.specs.FinSet as set
 use Rattle.std.specs.FinMap as fin
 use Rattle.dots_core.specs.declared.dot.Dot.{Dot}
 use Rattle.dots_core.specs.Dots.{dot, count_of}
 use Rattle.payload_core.specs.Presences.{Presence, dots_of, is_tracked_as}
-use Rattle.payload_core.specs.Messages.{Message}
+use Rattle.payload_core.specs.Messages.{Message, request_message, store_message}
 use Rattle.payload_core.specs.Stores.{Store, store_code, is_other, nothing, part, store_of, with_dot, with_entry, with_removal, without_entry}
 use Rattle.replica_core.specs.declared.node_limits.NodeLimits.{NodeLimits}
 use Rattle.replica_core.specs.declared.status.Status.{Status}
 use Rattle.replica_core.specs.declared.status.Status.TheVariants.{Up}
 use Rattle.replica_core.specs.Limits.{node_limits_code}
-use Rattle.replica_core.specs.Views.{View, view_code, is_some_up}
+use Rattle.replica_core.specs.Views.{View, view_code, is_some_up, known_of}
 
 -- the own name, the limits, all that was seen with the live entries, the statuses of the known names; and the delta: the
 -- own dots of which nothing was sent yet, with the entries among them
@@ -101,11 +101,15 @@ forgotten name r = record r { store = part (is_other name) r.store; view = fin.r
 
 -- what a broadcast sends: the delta
 abbrev pub delta_message : Replica → Message
-delta_message r = record { sender = r.own; seen = r.delta.seen; entries = r.delta.entries }
+delta_message r = store_message r.own r.delta.seen r.delta.entries
 
 -- all was sent
 abbrev pub without_delta : Replica → Replica
 without_delta r = record r { delta = nothing }
+
+-- what a request sends: the names that are known, the own among them
+abbrev pub request_of : Replica → Message
+request_of r = request_message r.own (known_of r.view)
 
 -- what the message has is the delta
 abbrev pub with_delta : Message → Replica → Replica
@@ -115,6 +119,8 @@ with_delta m r = record r { delta = store_of m }
 pub record CanBeDelta (m : Message) (r : Replica) : Type 0 where
   pub nothing : r.delta ≡ nothing
   pub sender : m.sender ≡ r.own
+  -- it is no request
+  pub no_request : m.asked ≡ None
   -- its dots are own dots that were seen
   pub own : (d : Dot) → set.contains m.seen d ≡ true → (d.name ≡ r.own) × (set.contains r.store.seen d ≡ true)
   -- its entries are live

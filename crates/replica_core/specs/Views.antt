@@ -27,6 +27,10 @@ abbrev pub is_some_up : Option Status → Bool
 is_some_up None = false
 is_some_up (Some s) = is_up s
 
+-- the names that the view has
+abbrev pub known_of : View → Names
+known_of view = set.from_list (fin.keys view)
+
 -- these are the names that the view has
 abbrev pub AreKnown : View → Names → Type 0
 AreKnown view names = (n : ℕ) → set.contains names n ≡ fin.contains_key view n

@@ -8,6 +8,7 @@ ghost use Rattle.replica_core.specs.Invariant.{IsReplica};
 ghost use Rattle.replica_core.specs.Limits.{AreNodeLimits};
 ghost use Rattle.replica_core.specs.Refusals.{are_too_many, has_dots, is_clock_full};
 ghost use Rattle.replica_core.specs.Replicas.{is_online, last, opening, own_clock};
+ghost use Rattle.replica_core.specs.Views.{AreKnown, known_of};
 
 mod deliveries;
 mod deltas;
@@ -102,6 +103,14 @@ impl<A: Allocator> Replica<A> {
         ensures { result ≡ is_online self.now name }
     {
         self.view.status(name) == Some(Status::Up)
+    }
+
+    /// The names that it knows, the own among them.
+    pub fn known(&self) -> NameSet
+        ensures names { result ≡ known_of self.now.view }
+        ensures known { AreKnown self.now.view result }
+    {
+        self.view.known()
     }
 
     /// Whether the delta has a dot, so that there is something to send.

@@ -1,7 +1,7 @@
 //! `View`: which names are known, and which of them are up.
 ghost use Rattle.std.specs.Prelude.{◌≡◌, ◌↔◌, ◌<◌, IsTrue, true};
 ghost use Rattle.std.specs.FinMap as fin;
-ghost use Rattle.replica_core.specs.Views.{AreKnown, with_old};
+ghost use Rattle.replica_core.specs.Views.{AreKnown, known_of, with_old};
 ghost use Rattle.replica_core.specs.declared.status.Status.TheVariants.{Up, Down};
 
 use crate::status::Status;
@@ -57,7 +57,8 @@ impl View {
 
     /// The known names.
     pub fn known(&self) -> NameSet
-        ensures { AreKnown self.now result }
+        ensures names { result ≡ known_of self.now }
+        ensures known { AreKnown self.now result }
     {
         self.known
     }

@@ -9,7 +9,7 @@ use Rattle.std.proofs.lemmas.Bool.Decides.{nat_tests}
 use Rattle.dots_core.specs.Names.{Names}
 use Rattle.payload_core.specs.Presences.{Presence}
 use Rattle.payload_core.specs.Words.{is_word_byte}
-use Rattle.node_core.specs.Operations.{Operation, Join, Leave, LeaveAll, Update, Broadcast, Extract, Deliver, Up, Down, Permdown}
+use Rattle.node_core.specs.Operations.{Operation, Join, Leave, LeaveAll, Update, Broadcast, Extract, Deliver, Request, Answer, Up, Down, Permdown}
 use Rattle.bench_core.specs.NameList.{Texts}
 use Rattle.script_core.specs.Rows.{name_at}
 use Rattle.script_core.specs.StepText.{presence_text, extract_from, step_text, act_line}
@@ -114,6 +114,8 @@ step_words names (Update p) = codes "update" ∷ presence_words p
 step_words names Broadcast = codes "broadcast" ∷ []
 step_words names (Extract chosen) = codes "extract" ∷ chosen_from chosen 0 names
 step_words names (Deliver sender number) = codes "deliver" ∷ name_at names sender ∷ decimal number ∷ []
+step_words names Request = codes "request" ∷ []
+step_words names (Answer sender number) = codes "answer" ∷ name_at names sender ∷ decimal number ∷ []
 step_words names (Up name) = codes "up" ∷ name_at names name ∷ []
 step_words names (Down name) = codes "down" ∷ name_at names name ∷ []
 step_words names (Permdown name) = codes "permdown" ∷ name_at names name ∷ []
@@ -145,6 +147,8 @@ step_spaced names (Update p) = presence_spaced (codes "update") p
 step_spaced names Broadcast = refl
 step_spaced names (Extract chosen) = extract_spaced (codes "extract") chosen 0 names
 step_spaced names (Deliver sender number) = simp append_assoc
+step_spaced names Request = refl
+step_spaced names (Answer sender number) = simp append_assoc
 step_spaced names (Up name) = refl
 step_spaced names (Down name) = refl
 step_spaced names (Permdown name) = refl
@@ -162,6 +166,8 @@ some_words names (Update p) = omega arith
 some_words names Broadcast = omega arith
 some_words names (Extract chosen) = omega arith
 some_words names (Deliver sender number) = omega arith
+some_words names Request = omega arith
+some_words names (Answer sender number) = omega arith
 some_words names (Up name) = omega arith
 some_words names (Down name) = omega arith
 some_words names (Permdown name) = omega arith

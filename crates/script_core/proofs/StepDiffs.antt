@@ -9,7 +9,7 @@ use Rattle.bench_core.specs.declared.reply.Reply.TheVariants.{Taken, Undone, Ref
 use Rattle.node_core.specs.Nodes.{Node}
 use Rattle.node_core.specs.declared.inverse.Inverse as declared
 use Rattle.node_core.specs.declared.inverse.Inverse.TheVariants as variants
-use Rattle.node_core.specs.Inverses.{Inverse, plain_inverse, OfChange, OfBroadcast, OfExtract, Names, LeadsBack, LeadsSomewhere}
+use Rattle.node_core.specs.Inverses.{Inverse, plain_inverse, OfChange, OfBroadcast, OfSent, Names, LeadsBack, LeadsSomewhere}
 use Rattle.journal_core.specs.Journals.{Kept, find_number, first_consequence, last_of, without}
 use Rattle.journal_core.proofs.InTurn.{find_out}
 use Rattle.payload_core.specs.Answers.{◌>>=◌}
@@ -71,23 +71,23 @@ no_change law one online a b entries view =
       joined_is = sym (law.itself (online_of b)) ∙ ap (alone (online_of b)) (sym same);
     }
 
-pub is_send : {X : Type 0} (i : declared.Inverse X) → (i ≡ variants.Broadcast) ⊎ (i ≡ variants.Extract) →
-    (plain_inverse i ≡ OfBroadcast) ⊎ (plain_inverse i ≡ OfExtract)
+pub is_send : {X : Type 0} (i : declared.Inverse X) → (i ≡ variants.Broadcast) ⊎ (i ≡ variants.Sent) →
+    (plain_inverse i ≡ OfBroadcast) ⊎ (plain_inverse i ≡ OfSent)
 is_send i (inl is) = inl (ap plain_inverse is)
 is_send i (inr is) = inr (ap plain_inverse is)
 
 pub tells_send : (law : DiffLaw) (one : OneListLaw) (online : OnlineLaw) (inverse : Inverse) (b : Node) (left joined : List Row) →
-    (inverse ≡ OfBroadcast) ⊎ (inverse ≡ OfExtract) → left ≡ [] → joined ≡ [] → TellsInverse inverse b left joined
+    (inverse ≡ OfBroadcast) ⊎ (inverse ≡ OfSent) → left ≡ [] → joined ≡ [] → TellsInverse inverse b left joined
 tells_send law one online inverse b left joined is no_left no_joined a leads =
     subst₂ (Differ (online_of a.replica) (online_of b.replica)) (sym no_left) (sym no_joined) (go is)
   where
-    go : (inverse ≡ OfBroadcast) ⊎ (inverse ≡ OfExtract) → Differ (online_of a.replica) (online_of b.replica) [] []
+    go : (inverse ≡ OfBroadcast) ⊎ (inverse ≡ OfSent) → Differ (online_of a.replica) (online_of b.replica) [] []
     go (inl is) =
         let named : Names OfBroadcast b a = subst (λ i. Names i b a) is leads.names in
         no_change law one online a.replica b.replica (ap (λ (n : Node). n.replica.store.entries) (sym named))
         (ap (λ (n : Node). n.replica.view) (sym named))
     go (inr is) =
-        let named : Names OfExtract b a = subst (λ i. Names i b a) is leads.names in
+        let named : Names OfSent b a = subst (λ i. Names i b a) is leads.names in
         no_change law one online a.replica b.replica (ap (λ (n : Node). n.replica.store.entries) (sym named.1))
         (ap (λ (n : Node). n.replica.view) (sym named.1))
 

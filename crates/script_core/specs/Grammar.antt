@@ -7,7 +7,7 @@ use Rattle.std.specs.FinSet as set
 use Rattle.dots_core.specs.Names.{Names}
 use Rattle.payload_core.specs.Answers.{◌>>=◌}
 use Rattle.payload_core.specs.Presences.{Presence}
-use Rattle.node_core.specs.Operations.{Operation, Join, Leave, LeaveAll, Update, Broadcast, Extract, Deliver, Up, Down, Permdown}
+use Rattle.node_core.specs.Operations.{Operation, Join, Leave, LeaveAll, Update, Broadcast, Extract, Deliver, Request, Answer, Up, Down, Permdown}
 use Rattle.bench_core.specs.declared.names_fault.NamesFault.{NamesFault}
 use Rattle.bench_core.specs.declared.names_fault.NamesFault.TheVariants as names_faults
 use Rattle.bench_core.specs.NameText.{is_name}
@@ -48,13 +48,15 @@ verb_of word =
     else (if bytes_eq word (codes "broadcast") then Some verbs.Broadcast
     else (if bytes_eq word (codes "extract") then Some verbs.Extract
     else (if bytes_eq word (codes "deliver") then Some verbs.Deliver
+    else (if bytes_eq word (codes "request") then Some verbs.Request
+    else (if bytes_eq word (codes "answer") then Some verbs.Answer
     else (if bytes_eq word (codes "up") then Some verbs.Up
     else (if bytes_eq word (codes "down") then Some verbs.Down
     else (if bytes_eq word (codes "permdown") then Some verbs.Permdown
     else (if bytes_eq word (codes "undo") then Some verbs.Undo
     else (if bytes_eq word (codes "back") then Some verbs.Back
     else (if bytes_eq word (codes "unwind") then Some verbs.Unwind
-    else None))))))))))))
+    else None))))))))))))))
 
 -- the verbs of a console
 abbrev pub is_for_consoles : Verb → Bool
@@ -183,6 +185,10 @@ unfoldable pub broadcast_of : Texts → Result Operation FaultKind
 broadcast_of [] = Ok Broadcast
 broadcast_of (word ∷ words) = Err WrongCount
 
+unfoldable pub request_of : Texts → Result Operation FaultKind
+request_of [] = Ok Request
+request_of (word ∷ words) = Err WrongCount
+
 -- the nodes of an `extract`, each once
 unfoldable pub with_node : Texts → Names → List ℕ → Result Names FaultKind
 with_node nodes chosen name = do
@@ -200,16 +206,22 @@ extract_of nodes names =
     if (length names == 0) || nat_lt 32 (length names) then Err WrongCount
     else (with_nodes nodes set.empty names >>= λ chosen. Ok (Extract chosen))
 
--- `NAME NUMBER`
-unfoldable pub deliver_with : Texts → List ℕ → List ℕ → Result Operation FaultKind
-deliver_with nodes name number = do
+-- `NAME NUMBER`, a message of a node
+unfoldable pub message_with : Texts → List ℕ → List ℕ → Result (ℕ × ℕ) FaultKind
+message_with nodes name number = do
   sender ← node_at nodes name
   number ← number_at number
-  Ok (Deliver sender number)
+  Ok (sender, number)
+
+unfoldable pub one_message : Texts → Texts → Result (ℕ × ℕ) FaultKind
+one_message nodes (name ∷ number ∷ []) = message_with nodes name number
+one_message nodes _ = Err WrongCount
 
 unfoldable pub deliver_of : Texts → Texts → Result Operation FaultKind
-deliver_of nodes (name ∷ number ∷ []) = deliver_with nodes name number
-deliver_of nodes _ = Err WrongCount
+deliver_of nodes args = one_message nodes args >>= λ message. Ok (Deliver message.0 message.1)
+
+unfoldable pub answer_of : Texts → Texts → Result Operation FaultKind
+answer_of nodes args = one_message nodes args >>= λ message. Ok (Answer message.0 message.1)
 
 -- commands
 
@@ -225,6 +237,8 @@ verb_line nodes actor verbs.Update args = does actor (update_of args)
 verb_line nodes actor verbs.Broadcast args = does actor (broadcast_of args)
 verb_line nodes actor verbs.Extract args = does actor (extract_of nodes args)
 verb_line nodes actor verbs.Deliver args = does actor (deliver_of nodes args)
+verb_line nodes actor verbs.Request args = does actor (request_of args)
+verb_line nodes actor verbs.Answer args = does actor (answer_of nodes args)
 verb_line nodes actor verbs.Up args = does actor (up_of nodes args)
 verb_line nodes actor verbs.Down args = does actor (down_of nodes args)
 verb_line nodes actor verbs.Permdown args = does actor (permdown_of nodes args)

@@ -10,8 +10,8 @@ use crate::cast::Cast;
 use crate::fault::FaultKind;
 use crate::keyword::{Keyword, Verb, is_for_consoles, keyword_of, verb_of};
 use crate::steps::{
-    broadcast_of, deliver_of, down_of, extract_of, join_of, leave_all_of, leave_of, one_node,
-    one_number, permdown_of, up_of, update_of,
+    answer_of, broadcast_of, deliver_of, down_of, extract_of, join_of, leave_all_of, leave_of,
+    one_node, one_number, permdown_of, request_of, up_of, update_of,
 };
 use bench_core::{Act, Names};
 use std::alloc::Allocator;
@@ -52,6 +52,8 @@ fn verb_line<A: Allocator + Copy>(
         Verb::Broadcast => Ok(Command::Call(actor, Act::Do(broadcast_of(args)?))),
         Verb::Extract => Ok(Command::Call(actor, Act::Do(extract_of(nodes, args)?))),
         Verb::Deliver => Ok(Command::Call(actor, Act::Do(deliver_of(nodes, args)?))),
+        Verb::Request => Ok(Command::Call(actor, Act::Do(request_of(args)?))),
+        Verb::Answer => Ok(Command::Call(actor, Act::Do(answer_of(nodes, args)?))),
         Verb::Up => Ok(Command::Call(actor, Act::Do(up_of(nodes, args)?))),
         Verb::Down => Ok(Command::Call(actor, Act::Do(down_of(nodes, args)?))),
         Verb::Permdown => Ok(Command::Call(actor, Act::Do(permdown_of(nodes, args)?))),

@@ -38,7 +38,7 @@ fn inverse_diff<'a, B: Allocator>(
     online_law();
     match inverse {
         Inverse::Change(change) => changed(alloc, change, node.replica()),
-        Inverse::Broadcast | Inverse::Extract => Ok(none(alloc)),
+        Inverse::Broadcast | Inverse::Sent => Ok(none(alloc)),
     }
 }
 

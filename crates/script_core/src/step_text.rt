@@ -103,6 +103,11 @@ fn put_step<A: Allocator, N: Allocator, W: Allocator>(
             let sender = name_at(names, *sender);
             Ok(write!(text, "deliver {sender} {number}")?)
         }
+        Step::Request => Ok(text.push_str("request")?),
+        Step::Answer { sender, number } => {
+            let sender = name_at(names, *sender);
+            Ok(write!(text, "answer {sender} {number}")?)
+        }
         Step::Up { name } => {
             let name = name_at(names, *name);
             Ok(write!(text, "up {name}")?)

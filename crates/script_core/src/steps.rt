@@ -5,7 +5,7 @@ ghost use Rattle.node_core.specs.Operations.{plain};
 ghost use Rattle.script_core.specs.Answers.{Gives};
 ghost use Rattle.script_core.specs.Grammar.{node_at, number_at, word_at, presence_with, presence_of, join_of, update_of, leave_with, leave_of};
 ghost use Rattle.script_core.specs.Grammar.{leave_all_of, one_number, one_node, up_of, down_of, permdown_of, broadcast_of, with_node, with_nodes};
-ghost use Rattle.script_core.specs.Grammar.{extract_of, deliver_with, deliver_of};
+ghost use Rattle.script_core.specs.Grammar.{extract_of, message_with, one_message, deliver_of, request_of, answer_of};
 ghost use Rattle.script_core.specs.Presences.{plain_presence};
 ghost use Rattle.script_core.specs.Words.{is_visible};
 
@@ -209,6 +209,16 @@ pub fn broadcast_of<A: Allocator>(args: &[&str]) -> Result<Step<A>, FaultKind>
     Ok(Step::Broadcast)
 }
 
+#[tactic(auto, unfolding(crate::specs::Grammar::request_of))]
+pub fn request_of<A: Allocator>(args: &[&str]) -> Result<Step<A>, FaultKind>
+    ensures { Gives plain result (request_of (map (λ word. word.now) args.now)) }
+{
+    if !args.is_empty() {
+        return Err(FaultKind::WrongCount);
+    }
+    Ok(Step::Request)
+}
+
 /// The chosen nodes with one more.
 #[tactic(auto, unfolding(crate::specs::Grammar::with_node))]
 fn with_node<A: Allocator>(
@@ -240,26 +250,42 @@ pub fn extract_of<A: Allocator>(nodes: &Names<A>, names: &[&str]) -> Result<Step
     Ok(Step::Extract { names: chosen })
 }
 
-#[tactic(auto, unfolding(crate::specs::Grammar::deliver_with))]
-fn deliver_with<A: Allocator>(
+#[tactic(auto, unfolding(crate::specs::Grammar::message_with))]
+fn message_with<A: Allocator>(
     nodes: &Names<A>,
     name: &str,
     number: &str,
-) -> Result<Step<A>, FaultKind>
-    ensures { Gives plain result (deliver_with nodes.now name.now number.now) }
+) -> Result<(u16, u64), FaultKind>
+    ensures { Gives (λ message. message) result (message_with nodes.now name.now number.now) }
 {
     let sender = node_at(nodes, name)?;
     let number = number_at(number)?;
-    Ok(Step::Deliver { sender, number })
+    Ok((sender, number))
 }
 
 /// `NAME NUMBER`
-#[tactic(auto, unfolding(crate::specs::Grammar::deliver_of))]
-pub fn deliver_of<A: Allocator>(nodes: &Names<A>, args: &[&str]) -> Result<Step<A>, FaultKind>
-    ensures { Gives plain result (deliver_of nodes.now (map (λ word. word.now) args.now)) }
+#[tactic(auto, unfolding(crate::specs::Grammar::one_message))]
+fn one_message<A: Allocator>(nodes: &Names<A>, args: &[&str]) -> Result<(u16, u64), FaultKind>
+    ensures { Gives (λ message. message) result (one_message nodes.now (map (λ word. word.now) args.now)) }
 {
     let [name, number] = args else {
         return Err(FaultKind::WrongCount);
     };
-    deliver_with(nodes, name, number)
+    message_with(nodes, name, number)
+}
+
+#[tactic(auto, unfolding(crate::specs::Grammar::deliver_of))]
+pub fn deliver_of<A: Allocator>(nodes: &Names<A>, args: &[&str]) -> Result<Step<A>, FaultKind>
+    ensures { Gives plain result (deliver_of nodes.now (map (λ word. word.now) args.now)) }
+{
+    let (sender, number) = one_message(nodes, args)?;
+    Ok(Step::Deliver { sender, number })
+}
+
+#[tactic(auto, unfolding(crate::specs::Grammar::answer_of))]
+pub fn answer_of<A: Allocator>(nodes: &Names<A>, args: &[&str]) -> Result<Step<A>, FaultKind>
+    ensures { Gives plain result (answer_of nodes.now (map (λ word. word.now) args.now)) }
+{
+    let (sender, number) = one_message(nodes, args)?;
+    Ok(Step::Answer { sender, number })
 }

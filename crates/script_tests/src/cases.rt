@@ -502,7 +502,124 @@ b deliver a 1
 ",
 };
 
-pub(crate) const CASES: [Case; 17] = [
+pub(crate) const ASKED_AND_UNWOUND: Case = Case {
+    name: "a request holds its answer, and that its delivery",
+    limits: USUAL,
+    script: "\
+nodes a b
+consoles c1
+a join 1 r alice phone
+b up a
+b request
+a answer b 1
+b deliver a 1
+c1 undo 3
+c1 undo 4
+why 3
+c1 unwind 3
+journal
+",
+    report: "\
+1 ok
++ r alice a/1 phone
+2 ok
+3 ok
+4 ok
+5 ok
++ r alice a/1 phone
+no HasConsequence 3 by 4
+no HasConsequence 4 by 5
+future 5 4 3
+undone 5
+undone 4
+undone 3
+at b
+- r alice a/1 phone
+journal 2
+1 a join 1 r alice phone
+2 b up a
+",
+};
+
+pub(crate) const ASKED_AGAIN: Case = Case {
+    name: "a request is answered and not delivered, any number of times",
+    limits: USUAL,
+    script: "\
+nodes a b
+consoles c1
+a join 1 r alice phone
+b up a
+b request
+a answer b 1
+a deliver b 1
+b answer a 1
+b answer b 1
+a answer b 2
+a answer b 1
+c1 undo 3
+",
+    report: "\
+1 ok
++ r alice a/1 phone
+2 ok
+3 ok
+4 ok
+no IsRequest
+no NotRequest
+no OwnMessage
+no NoSuchMessage
+5 ok
+no HasConsequence 3 by 4
+",
+};
+
+pub(crate) const FULL_OF_MESSAGES: Case = Case {
+    name: "an answer and a request want a place in the outbox",
+    limits: [100_000, 10_000, 1_000_000, 1],
+    script: "\
+nodes a b
+consoles c1
+a join 1 r alice phone
+b up a
+b request
+a answer b 1
+a answer b 1
+b request
+",
+    report: "\
+1 ok
++ r alice a/1 phone
+2 ok
+3 ok
+4 ok
+no OutboxFull
+no OutboxFull
+",
+};
+
+pub(crate) const ASKED_EARLY: Case = Case {
+    name: "a request names the replicas that were known then",
+    limits: USUAL,
+    script: "\
+nodes a b
+consoles c1
+a join 1 r alice phone
+b request
+a answer b 1
+b up a
+b deliver a 1
+",
+    report: "\
+1 ok
++ r alice a/1 phone
+2 ok
+3 ok
+4 ok
+5 ok
+",
+};
+
+pub(crate) const CASES: [Case; 21] = [
     JOINED_AND_UNDONE,
     NOTHING_ASKED,
     TAKEN_BACK_STEP_BY_STEP,
@@ -520,4 +637,8 @@ pub(crate) const CASES: [Case; 17] = [
     FULL_OF_ENTRIES,
     LEFT_AT_ONCE,
     REMOVED_FIRST,
+    ASKED_AND_UNWOUND,
+    ASKED_AGAIN,
+    FULL_OF_MESSAGES,
+    ASKED_EARLY,
 ];

@@ -1,4 +1,5 @@
 //! The first fault of each script that is refused.
+use crate::cases::TAKEN_BACK_STEP_BY_STEP;
 use crate::tests::played_from;
 use bench_core::Limits;
 use script_core::{FaultKind, PlayFault, ScriptFault, parse_script};
@@ -58,7 +59,62 @@ fn the_first_fault_is_told(rt: HostRuntime) {
     ] {
         assert!(rt; is_refused(&rt, script.as_bytes(), line, kind), "{script}");
     }
-    assert!(rt; is_refused(&rt, b"nodes a\n\x80", 2, FaultKind::NotText));
+    for script in [
+        b"nodes a\n\x80".as_slice(),
+        b"nodes a\n# x\r",
+        b"nodes a\n# x\x80",
+    ] {
+        assert!(rt; is_refused(&rt, script, 2, FaultKind::NotText));
+    }
+}
+
+/// How many lines are begun in the text, and how many of its bytes are lines to their end.
+fn lines_of(text: &[u8]) -> (u64, usize) {
+    let mut begun = 0u64;
+    let mut whole = 0;
+    let mut is_begun = false;
+    for (place, &byte) in text.iter().enumerate() {
+        if !is_begun {
+            begun = begun.saturating_add(1);
+        }
+        is_begun = byte != b'\n';
+        if !is_begun {
+            whole = place + 1;
+        }
+    }
+    (begun, whole)
+}
+
+/// The front of the script gives a report that goes on from that of its whole lines; or its last line is at fault, and
+/// nothing is written.
+fn is_read_to_its_end(rt: &HostRuntime, front: &[u8]) -> bool {
+    let (begun, whole) = lines_of(front);
+    let (answer, writer) = played_from(rt, front, Limits::usual());
+    if let Err(PlayFault::Script(fault)) = answer {
+        return writer.taken().is_empty() && fault.line == begun;
+    }
+    let Some(lines) = front.get(..whole) else {
+        return false;
+    };
+    let (_answer, before) = played_from(rt, lines, Limits::usual());
+    answer == Ok(()) && writer.taken().starts_with(before.taken())
+}
+
+/// Each front of a script: its whole lines are played, and a line that is cut is played as it stands or told.
+#[test]
+fn a_script_that_is_cut_is_played_or_told(rt: HostRuntime) {
+    let script = TAKEN_BACK_STEP_BY_STEP.script.as_bytes();
+    let report = TAKEN_BACK_STEP_BY_STEP.report.as_bytes();
+    for count in 0..script.len() + 1 {
+        let front = &script[..count];
+        assert!(rt; is_read_to_its_end(&rt, front), "{count} bytes");
+        let (begun, whole) = lines_of(front);
+        if 0 < begun && whole == count {
+            let (answer, writer) = played_from(&rt, front, Limits::usual());
+            assert_eq!(rt; answer, Ok(()), "{count} bytes");
+            assert!(rt; report.starts_with(writer.taken()), "{count} bytes");
+        }
+    }
 }
 
 /// The front, so many times the middle, and the end.

@@ -4,26 +4,26 @@ use Rattle.std.specs.Prelude.{nat_lt, nat_le, option_map, option_and_then}
 use Rattle.std.proofs.lemmas.Bool.{le-leb}
 use Rattle.serde_json.specs.Data.{Data, string, Items}
 use Rattle.serde_json.specs.View.{items_of}
-use Rattle.node_core.specs.Operations.{Operation, Join, Leave, LeaveAll, Update, Broadcast, Extract, Deliver, Up, Down, Permdown}
+use Rattle.node_core.specs.Operations.{Operation, Join, Leave, LeaveAll, Update, Broadcast, Extract, Deliver, Request, Answer, Up, Down, Permdown}
 use Rattle.bench_core.specs.declared.reply.Reply.{Reply}
 use Rattle.bench_core.specs.declared.reply.Reply.TheVariants.{Taken, Undone, Refused}
 use Rattle.bench_core.specs.declared.fault.Fault.{Fault}
 use Rattle.bench_core.specs.declared.fault.Fault.TheVariants.{OwnReplica, NotKnown, NotDown, AlreadyTracked, NotTracked, NothingToSend, EntriesFull}
-use Rattle.bench_core.specs.declared.fault.Fault.TheVariants.{ClockFull, OwnMessage, NoSuchMessage, OutboxFull, UnknownNode, NoSuchStep, AlreadyUndone}
+use Rattle.bench_core.specs.declared.fault.Fault.TheVariants.{ClockFull, OwnMessage, NoSuchMessage, NotRequest, IsRequest, OutboxFull, UnknownNode, NoSuchStep, AlreadyUndone}
 use Rattle.bench_core.specs.declared.fault.Fault.TheVariants.{NothingToUndo, HasConsequence, HistoryFull, OutOfMemory}
 use Rattle.bench_core.specs.Acts.{Action, Do, Undo, Back}
 use Rattle.bench_core.specs.Limits.{Limits, AreLimits}
 use Rattle.bench_core.specs.Machine.{Event}
 use Rattle.bench_core.specs.NameList.{Texts, names_of}
 use Rattle.session_core.specs.Format.{list, whole, numbers_of, act_json, reply_json, event_json, limits_json, session}
-use Rattle.session_core.specs.Decoding.{◌>>=◌, presence_at, leave_at, leave_all_at, extract_at, deliver_at, name_at, status_at, message_at, tracking_at, step_at}
+use Rattle.session_core.specs.Decoding.{◌>>=◌, presence_at, leave_at, leave_all_at, extract_at, sent_at, name_at, status_at, message_at, tracking_at, step_at}
 use Rattle.session_core.specs.Decoding.{undo_at, back_at, act_at, consequence_at, fault_at, counted_at, reply_at, event_at, are_limits, limits_at, texts_of}
 use Rattle.session_core.specs.Decoding.{if_ok, names_at, values_at, Parts, parts_at}
 use Rattle.session_core.specs.Sessions.{IsAction, IsRecordedFault, IsRecordedReply, IsTold}
 use Rattle.session_core.proofs.Numbers.{names_again}
 
 act_again : (a : Action) → IsAction a → act_at (act_json a) ≡ Some a
-unfolding act_at step_at tracking_at message_at status_at presence_at leave_at leave_all_at extract_at deliver_at name_at undo_at back_at
+unfolding act_at step_at tracking_at message_at status_at presence_at leave_at leave_all_at extract_at sent_at name_at undo_at back_at
 act_again (Do (Join p)) h = rw (h.0, h.1, h.2) refl
 act_again (Do (Leave pid topic key)) h = rw (h.0, h.1) refl
 act_again (Do (LeaveAll pid)) h = refl
@@ -31,6 +31,8 @@ act_again (Do (Update p)) h = rw (h.0, h.1, h.2) refl
 act_again (Do Broadcast) h = refl
 act_again (Do (Extract names)) h = rw (names_again names h) refl
 act_again (Do (Deliver sender k)) h = rw h refl
+act_again (Do Request) h = refl
+act_again (Do (Answer sender k)) h = rw h refl
 act_again (Do (Up name)) h = rw h refl
 act_again (Do (Down name)) h = rw h refl
 act_again (Do (Permdown name)) h = rw h refl
@@ -49,6 +51,8 @@ fault_again EntriesFull h = refl
 fault_again ClockFull h = refl
 fault_again OwnMessage h = refl
 fault_again NoSuchMessage h = refl
+fault_again NotRequest h = refl
+fault_again IsRequest h = refl
 fault_again OutboxFull h = refl
 fault_again UnknownNode h = refl
 fault_again NoSuchStep h = refl

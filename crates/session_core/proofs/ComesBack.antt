@@ -63,7 +63,7 @@ module _ (bytes : List ℕ) (m : Machine) (saved : IsSaved bytes m) (d : Data) (
   d_is : d ≡ session m.names m.limits m.state.history
   d_is = let same = sym json.1 ∙ saved.session.reads in cc
 
-  version_is : version_of d ≡ Some 1
+  version_is : version_of d ≡ Some 2
   version_is = ap version_of d_is
 
   parts_is : parts_at d ≡ Some (parts m.names m.limits)

@@ -11,7 +11,7 @@ use Rattle.bench_core.specs.declared.fault.Fault.TheVariants.{HasConsequence}
 use Rattle.bench_core.specs.Acts.{Action, Do, Undo, Back}
 use Rattle.bench_core.specs.Machine.{Event}
 use Rattle.session_core.specs.Format.{list, whole, step_data, act_json, code_of, fault_rest, reply_json, event_json}
-use Rattle.session_core.specs.Decoding.{◌>>=◌, kept_if, number_in, node_in, text_in, ends_at, step_at, undo_at, back_at, act_at, numbered_from, plain_faults, fault_of, consequence_at}
+use Rattle.session_core.specs.Decoding.{◌>>=◌, kept_if, number_in, node_in, text_in, ends_at, step_at, undo_at, back_at, act_at, numbered_from, plain_faults, request_faults, fault_of, consequence_at}
 use Rattle.session_core.specs.Decoding.{fault_at, counted_at, reply_at, event_at}
 use Rattle.session_core.proofs.Lists.{HasItems, list_is, bind_some, then_some, map_some, chosen, tested, number_there, node_there, verb_there}
 use Rattle.session_core.proofs.Steps.{step_there}
@@ -73,12 +73,13 @@ abbrev ArePlain : ℕ → List Fault → Type 0
 ArePlain i [] = Unit {0}
 ArePlain i (fault ∷ rest) = IsPlain i fault × ArePlain (suc i) rest
 
-plain_from : (i : ℕ) (fs : List Fault) → ArePlain i fs → (n : ℕ) (fault : Fault) → numbered_from i fs n ≡ Some fault → IsPlain n fault
-plain_from i [] each n fault e = absurd (cc)
-plain_from i (f ∷ fs) each n fault e =
-    elim (chosen (n == i) (Some f) (numbered_from (suc i) fs n) fault e) [
+plain_from : (i : ℕ) (fs : List Fault) (other : Option Fault) → ArePlain i fs → (n : ℕ) (fault : Fault) →
+    (other ≡ Some fault → IsPlain n fault) → numbered_from i fs other n ≡ Some fault → IsPlain n fault
+plain_from i [] other each n fault rest e = rest e
+plain_from i (f ∷ fs) other each n fault rest e =
+    elim (chosen (n == i) (Some f) (numbered_from (suc i) fs other n) fault e) [
       | inl h ↦ found (eqb-true n i h.0) h.1
-      | inr h ↦ plain_from (suc i) fs each.1 n fault h.1
+      | inr h ↦ plain_from (suc i) fs other each.1 n fault rest h.1
     ]
   where
     found : n ≡ i → Some f ≡ Some fault → IsPlain n fault
@@ -123,7 +124,9 @@ are_plain = (
 )
 
 plain_of : (n : ℕ) (fault : Fault) → fault_of n ≡ Some fault → IsPlain n fault
-plain_of n fault e = plain_from 1 plain_faults are_plain n fault e
+plain_of n fault e =
+    plain_from 1 plain_faults (numbered_from 18 request_faults None n) are_plain n fault
+    (plain_from 18 request_faults None (one_more 18 _ refl refl, (one_more 19 _ refl refl, tt)) n fault (λ none. absurd (cc))) e
 
 fault_there : (d : Data) (fault : Fault) → fault_at d ≡ Some fault → Tells d fault
 unfolding fault_at

@@ -29,8 +29,8 @@ items_of-data_of (item d ds) = ap (item d) (items_of-data_of ds)
 
 -- from the head and the loop over the acts to the answer
 
-module _ (d : Data) (p : Parts) (one : version_of (head d) ≡ Some 1) (is : parts_at (head d) ≡ Some p) where
-  is_one : version_of d ≡ Some 1
+module _ (d : Data) (p : Parts) (one : version_of (head d) ≡ Some 2) (is : parts_at (head d) ≡ Some p) where
+  is_one : version_of d ≡ Some 2
   is_one = sym (head_version d) ∙ one
 
   has_parts : parts_at d ≡ Some p
@@ -86,10 +86,10 @@ came old (d ∷ ds) new (e, is, recs, h) =
 
 -- the session of a bench, by parts
 session_of_parts : (acts : Data) (p : Parts) (names : Texts) (limits : Limits) (events : List Event) → names ≡ p.names → limits ≡ p.limits →
-    acts ≡ list (map event_json events) → object (four acts (limits_json p.limits) (list (map string p.names)) (whole 1)) ≡ session names limits events
+    acts ≡ list (map event_json events) → object (four acts (limits_json p.limits) (list (map string p.names)) (whole 2)) ≡ session names limits events
 session_of_parts acts p names limits events same_names same_limits same_acts = rw (same_names, same_limits, same_acts) refl
 
-session_same : (d : Data) (p : Parts) (names : Texts) (limits : Limits) (events : List Event) → version_of d ≡ Some 1 → parts_at d ≡ Some p →
+session_same : (d : Data) (p : Parts) (names : Texts) (limits : Limits) (events : List Event) → version_of d ≡ Some 2 → parts_at d ≡ Some p →
     names ≡ p.names → limits ≡ p.limits → array (acts_of d) ≡ list (map event_json events) → d ≡ session names limits events
 session_same d p names limits events one is same_names same_limits same_acts =
     parts_are d p one is ∙ session_of_parts (array (acts_of d)) p names limits events same_names same_limits same_acts

@@ -4,12 +4,12 @@ use Rattle.serde_json.specs.Data.{Data, depth, items_depth, string}
 use Rattle.serde_json.specs.View.{items_of}
 use Rattle.serde_json.specs.Read.{max_depth}
 use Rattle.serde_json.specs.Written.{has_float, items_have_float}
-use Rattle.node_core.specs.Operations.{Operation, Join, Leave, LeaveAll, Update, Broadcast, Extract, Deliver, Up, Down, Permdown}
+use Rattle.node_core.specs.Operations.{Operation, Join, Leave, LeaveAll, Update, Broadcast, Extract, Deliver, Request, Answer, Up, Down, Permdown}
 use Rattle.bench_core.specs.declared.reply.Reply.{Reply}
 use Rattle.bench_core.specs.declared.reply.Reply.TheVariants.{Taken, Undone, Refused}
 use Rattle.bench_core.specs.declared.fault.Fault.{Fault}
 use Rattle.bench_core.specs.declared.fault.Fault.TheVariants.{OwnReplica, NotKnown, NotDown, AlreadyTracked, NotTracked, NothingToSend, EntriesFull}
-use Rattle.bench_core.specs.declared.fault.Fault.TheVariants.{ClockFull, OwnMessage, NoSuchMessage, OutboxFull, UnknownNode, NoSuchStep, AlreadyUndone}
+use Rattle.bench_core.specs.declared.fault.Fault.TheVariants.{ClockFull, OwnMessage, NoSuchMessage, NotRequest, IsRequest, OutboxFull, UnknownNode, NoSuchStep, AlreadyUndone}
 use Rattle.bench_core.specs.declared.fault.Fault.TheVariants.{NothingToUndo, HasConsequence, HistoryFull, OutOfMemory}
 use Rattle.bench_core.specs.Acts.{Action, Do, Undo, Back}
 use Rattle.bench_core.specs.Limits.{Limits}
@@ -34,6 +34,8 @@ step_no_float (Update p) = refl
 step_no_float Broadcast = refl
 step_no_float (Extract names) = rw (no_float_in whole (λ n. refl) (numbers_of names)) refl
 step_no_float (Deliver sender k) = refl
+step_no_float Request = refl
+step_no_float (Answer sender k) = refl
 step_no_float (Up name) = refl
 step_no_float (Down name) = refl
 step_no_float (Permdown name) = refl
@@ -55,6 +57,8 @@ rest_no_float EntriesFull = refl
 rest_no_float ClockFull = refl
 rest_no_float OwnMessage = refl
 rest_no_float NoSuchMessage = refl
+rest_no_float NotRequest = refl
+rest_no_float IsRequest = refl
 rest_no_float OutboxFull = refl
 rest_no_float UnknownNode = refl
 rest_no_float NoSuchStep = refl
@@ -82,6 +86,8 @@ step_depth (Update p) = omega arith
 step_depth Broadcast = omega arith
 step_depth (Extract names) = omega (arith, depth_in whole 0 (λ n. omega arith) (numbers_of names))
 step_depth (Deliver sender k) = omega arith
+step_depth Request = omega arith
+step_depth (Answer sender k) = omega arith
 step_depth (Up name) = omega arith
 step_depth (Down name) = omega arith
 step_depth (Permdown name) = omega arith
@@ -103,6 +109,8 @@ rest_depth EntriesFull = omega arith
 rest_depth ClockFull = omega arith
 rest_depth OwnMessage = omega arith
 rest_depth NoSuchMessage = omega arith
+rest_depth NotRequest = omega arith
+rest_depth IsRequest = omega arith
 rest_depth OutboxFull = omega arith
 rest_depth UnknownNode = omega arith
 rest_depth NoSuchStep = omega arith

@@ -6,10 +6,10 @@ use Rattle.serde_json.specs.Data.{Data, string, array}
 use Rattle.serde_json.specs.Find.{at, as_array}
 use Rattle.dots_core.specs.Names.{Names}
 use Rattle.payload_core.specs.Presences.{Presence}
-use Rattle.node_core.specs.Operations.{Operation, Join, Leave, LeaveAll, Update, Broadcast, Extract, Deliver, Up, Down, Permdown}
+use Rattle.node_core.specs.Operations.{Operation, Join, Leave, LeaveAll, Update, Broadcast, Extract, Deliver, Request, Answer, Up, Down, Permdown}
 use Rattle.session_core.specs.Format.{list, whole, numbers_of, step_data}
 use Rattle.session_core.specs.Decoding.{◌>>=◌, kept_if, number_in, node_in, text_in, word_in, ends_at, names_from, presence_at, leave_at, leave_all_at}
-use Rattle.session_core.specs.Decoding.{extract_at, deliver_at, name_at, status_at, message_at, tracking_at, step_at}
+use Rattle.session_core.specs.Decoding.{extract_at, sent_at, deliver_at, answer_at, name_at, status_at, message_at, tracking_at, step_at}
 use Rattle.session_core.proofs.Lists.{HasItems, bind_some, then_some, map_some, chosen, tested, absent, array_is, number_there, node_there, word_there, verb_there}
 use Rattle.session_core.proofs.Numbers.{names_are}
 
@@ -70,13 +70,25 @@ extract_there d s verb e =
     let there : at 2 d ≡ Some (list (map whole (numbers_of n.0))) = x.1 ∙ ap Some (array_is x.0 v.0 x.2 ∙ ap array (names_are v.0 n.0 n.1)) in
     subst (Asks d) k.1 (verb, (there, k.0))
 
+-- a sender and a number, from place 2 on
+sent_there : (d : Data) (m : ℕ × ℕ) → sent_at d ≡ Some m → HasItems 2 d (whole m.0 ∷ whole m.1 ∷ [])
+unfolding sent_at
+sent_there d m e =
+    let a = bind_some (node_in 2 d) (λ sender. number_in 3 d >>= λ number. kept_if (ends_at 4 d) (sender, number)) m e in
+    let n = bind_some (number_in 3 d) (λ number. kept_if (ends_at 4 d) (a.0, number)) m a.2 in
+    let k = cond_some _ (a.0, n.0) m n.2 in
+    subst (λ (m : ℕ × ℕ). HasItems 2 d (whole m.0 ∷ whole m.1 ∷ [])) k.1 (node_there 2 d a.0 a.1, (number_there 3 d n.0 n.1, k.0))
+
 deliver_there : (d : Data) (s : Operation) → at 1 d ≡ Some (string (codes "deliver")) → deliver_at d ≡ Some s → Asks d s
-unfolding deliver_at
 deliver_there d s verb e =
-    let a = bind_some (node_in 2 d) (λ sender. number_in 3 d >>= λ number. kept_if (ends_at 4 d) (Deliver sender number)) s e in
-    let n = bind_some (number_in 3 d) (λ number. kept_if (ends_at 4 d) (Deliver a.0 number)) s a.2 in
-    let k = cond_some _ (Deliver a.0 n.0) s n.2 in
-    subst (Asks d) k.1 (verb, (node_there 2 d a.0 a.1, (number_there 3 d n.0 n.1, k.0)))
+    let m = map_some (λ message. Deliver message.0 message.1) (sent_at d) s e in subst (Asks d) m.2 (verb, sent_there d m.0 m.1)
+
+request_there : (d : Data) (s : Operation) → at 1 d ≡ Some (string (codes "request")) → kept_if (ends_at 2 d) Request ≡ Some s → Asks d s
+request_there d s verb e = let k = cond_some _ Request s e in subst (Asks d) k.1 (verb, k.0)
+
+answer_there : (d : Data) (s : Operation) → at 1 d ≡ Some (string (codes "answer")) → answer_at d ≡ Some s → Asks d s
+answer_there d s verb e =
+    let m = map_some (λ message. Answer message.0 message.1) (sent_at d) s e in subst (Asks d) m.2 (verb, sent_there d m.0 m.1)
 
 -- one name, from place 2 on
 name_there : (d : Data) (n : ℕ) → name_at d ≡ Some n → HasItems 2 d (whole n ∷ [])
@@ -106,15 +118,23 @@ status_there verb d s at e =
 message_there : (verb : List ℕ) (d : Data) (s : Operation) → text_in 1 d ≡ Some verb → message_at verb d ≡ Some s → Asks d s
 unfolding message_at
 message_there verb d s at e =
-    let deliver = cond (bytes_eq verb (codes "deliver")) (deliver_at d) (status_at verb d) in
+    let answer = cond (bytes_eq verb (codes "answer")) (answer_at d) (status_at verb d) in
+    let request = cond (bytes_eq verb (codes "request")) (kept_if (ends_at 2 d) Request) answer in
+    let deliver = cond (bytes_eq verb (codes "deliver")) (deliver_at d) request in
     let extract = cond (bytes_eq verb (codes "extract")) (extract_at d) deliver in
     elim (chosen (bytes_eq verb (codes "broadcast")) (kept_if (ends_at 2 d) Broadcast) extract s e) [
       | inl h ↦ broadcast_there d s (verb_there 1 d verb (codes "broadcast") at h.0) h.1
       | inr h ↦ elim (chosen (bytes_eq verb (codes "extract")) (extract_at d) deliver s h.1) [
         | inl i ↦ extract_there d s (verb_there 1 d verb (codes "extract") at i.0) i.1
-        | inr i ↦ elim (chosen (bytes_eq verb (codes "deliver")) (deliver_at d) (status_at verb d) s i.1) [
+        | inr i ↦ elim (chosen (bytes_eq verb (codes "deliver")) (deliver_at d) request s i.1) [
           | inl j ↦ deliver_there d s (verb_there 1 d verb (codes "deliver") at j.0) j.1
-          | inr j ↦ status_there verb d s at j.1
+          | inr j ↦ elim (chosen (bytes_eq verb (codes "request")) (kept_if (ends_at 2 d) Request) answer s j.1) [
+            | inl k ↦ request_there d s (verb_there 1 d verb (codes "request") at k.0) k.1
+            | inr k ↦ elim (chosen (bytes_eq verb (codes "answer")) (answer_at d) (status_at verb d) s k.1) [
+              | inl l ↦ answer_there d s (verb_there 1 d verb (codes "answer") at l.0) l.1
+              | inr l ↦ status_there verb d s at l.1
+            ]
+          ]
         ]
       ]
     ]

@@ -8,7 +8,7 @@ use Rattle.serde_json.specs.Find.{at, get, as_object, as_array, as_str, as_numbe
 use Rattle.dots_core.specs.Names.{Names}
 use Rattle.payload_core.specs.Presences.{Presence}
 use Rattle.payload_core.specs.Words.{is_word}
-use Rattle.node_core.specs.Operations.{Operation, Join, Leave, LeaveAll, Update, Broadcast, Extract, Deliver, Up, Down, Permdown}
+use Rattle.node_core.specs.Operations.{Operation, Join, Leave, LeaveAll, Update, Broadcast, Extract, Deliver, Request, Answer, Up, Down, Permdown}
 use Rattle.bench_core.specs.declared.reply.Reply.{Reply}
 use Rattle.bench_core.specs.declared.reply.Reply.TheVariants.{Taken, Undone, Refused}
 use Rattle.bench_core.specs.declared.fault.Fault.{Fault}
@@ -85,11 +85,18 @@ extract_at d = do
   names ← names_from 0 set.empty values
   kept_if (ends_at 3 d) (Extract names)
 
-unfoldable pub deliver_at : Data → Option Operation
-deliver_at d = do
+-- the sender and the number of the message of a delivery or an answer
+unfoldable pub sent_at : Data → Option (ℕ × ℕ)
+sent_at d = do
   sender ← node_in 2 d
   k ← number_in 3 d
-  kept_if (ends_at 4 d) (Deliver sender k)
+  kept_if (ends_at 4 d) (sender, k)
+
+abbrev pub deliver_at : Data → Option Operation
+deliver_at d = option_map (λ message. Deliver message.0 message.1) (sent_at d)
+
+abbrev pub answer_at : Data → Option Operation
+answer_at d = option_map (λ message. Answer message.0 message.1) (sent_at d)
 
 -- the one name of an up, a down or a permanently down
 unfoldable pub name_at : Data → Option ℕ
@@ -109,7 +116,9 @@ unfoldable pub message_at : List ℕ → Data → Option Operation
 message_at verb d =
     if bytes_eq verb (codes "broadcast") then kept_if (ends_at 2 d) Broadcast
     else (if bytes_eq verb (codes "extract") then extract_at d
-    else (if bytes_eq verb (codes "deliver") then deliver_at d else status_at verb d))
+    else (if bytes_eq verb (codes "deliver") then deliver_at d
+    else (if bytes_eq verb (codes "request") then kept_if (ends_at 2 d) Request
+    else (if bytes_eq verb (codes "answer") then answer_at d else status_at verb d))))
 
 -- a change of the own entries, or else one of the others
 unfoldable pub tracking_at : List ℕ → Data → Option Operation
@@ -145,10 +154,10 @@ act_at d = do
 
 -- replies
 
--- of faults that are numbered from i on, the one of this number
-abbrev pub numbered_from : ℕ → List Fault → ℕ → Option Fault
-numbered_from i [] n = None
-numbered_from i (fault ∷ rest) n = if n == i then Some fault else numbered_from (suc i) rest n
+-- of faults that are numbered from i on, the one of this number, or else another
+abbrev pub numbered_from : ℕ → List Fault → Option Fault → ℕ → Option Fault
+numbered_from i [] other n = other
+numbered_from i (fault ∷ rest) other n = if n == i then Some fault else numbered_from (suc i) rest other n
 
 -- the recorded faults with no more to them than a number, from 1 on
 abbrev pub plain_faults : List Fault
@@ -157,8 +166,12 @@ plain_faults =
     ∷ faults.ClockFull ∷ faults.OwnMessage ∷ faults.NoSuchMessage ∷ faults.OutboxFull ∷ faults.UnknownNode ∷ faults.NoSuchStep
     ∷ faults.AlreadyUndone ∷ faults.NothingToUndo ∷ []
 
+-- and from 18 on
+abbrev pub request_faults : List Fault
+request_faults = faults.NotRequest ∷ faults.IsRequest ∷ []
+
 abbrev pub fault_of : ℕ → Option Fault
-fault_of n = numbered_from 1 plain_faults n
+fault_of n = numbered_from 1 plain_faults (numbered_from 18 request_faults None n) n
 
 unfoldable pub consequence_at : Data → Option Fault
 consequence_at d = do

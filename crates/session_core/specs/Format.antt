@@ -4,7 +4,7 @@ use Rattle.std.specs.FinSet as set
 use Rattle.serde_json.specs.Data.{Data, number, unsigned, string, array, object, no_members, member}
 use Rattle.serde_json.specs.View.{items_of}
 use Rattle.dots_core.specs.Names.{Names}
-use Rattle.node_core.specs.Operations.{Operation, Join, Leave, LeaveAll, Update, Broadcast, Extract, Deliver, Up, Down, Permdown}
+use Rattle.node_core.specs.Operations.{Operation, Join, Leave, LeaveAll, Update, Broadcast, Extract, Deliver, Request, Answer, Up, Down, Permdown}
 use Rattle.bench_core.specs.declared.reply.Reply.{Reply}
 use Rattle.bench_core.specs.declared.reply.Reply.TheVariants.{Taken, Undone, Refused}
 use Rattle.bench_core.specs.declared.fault.Fault.{Fault}
@@ -40,6 +40,8 @@ step_data (Update p) = string (codes "update") ∷ whole p.pid ∷ string p.topi
 step_data Broadcast = string (codes "broadcast") ∷ []
 step_data (Extract names) = string (codes "extract") ∷ list (map whole (numbers_of names)) ∷ []
 step_data (Deliver sender k) = string (codes "deliver") ∷ whole sender ∷ whole k ∷ []
+step_data Request = string (codes "request") ∷ []
+step_data (Answer sender k) = string (codes "answer") ∷ whole sender ∷ whole k ∷ []
 step_data (Up name) = string (codes "up") ∷ whole name ∷ []
 step_data (Down name) = string (codes "down") ∷ whole name ∷ []
 step_data (Permdown name) = string (codes "permdown") ∷ whole name ∷ []
@@ -68,6 +70,8 @@ code_of faults.AlreadyUndone = 14
 code_of faults.NothingToUndo = 15
 code_of (faults.HasConsequence step held_by) = 16
 code_of faults.HistoryFull = 17
+code_of faults.NotRequest = 18
+code_of faults.IsRequest = 19
 code_of faults.OutOfMemory = 20
 
 -- what stands behind a fault's number: the step and what holds it
@@ -92,4 +96,4 @@ session names limits events = object (
     member (codes "acts") (list (map event_json events)) (
     member (codes "limits") (limits_json limits) (
     member (codes "nodes") (list (map string names)) (
-    member (codes "version") (whole 1) no_members))))
+    member (codes "version") (whole 2) no_members))))

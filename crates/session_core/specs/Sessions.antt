@@ -5,7 +5,7 @@ use Rattle.serde_json.specs.Data.{Data, Items, no_items, item}
 use Rattle.serde_json.specs.Read.{read}
 use Rattle.payload_core.specs.Words.{is_word}
 use Rattle.payload_core.specs.Presences.{Presence}
-use Rattle.node_core.specs.Operations.{Operation, Join, Leave, LeaveAll, Update, Broadcast, Extract, Deliver, Up, Down, Permdown}
+use Rattle.node_core.specs.Operations.{Operation, Join, Leave, LeaveAll, Update, Broadcast, Extract, Deliver, Request, Answer, Up, Down, Permdown}
 use Rattle.dots_core.specs.Names.{AreNamesBelow}
 use Rattle.bench_core.specs.declared.reply.Reply.{Reply}
 use Rattle.bench_core.specs.declared.reply.Reply.TheVariants.{Refused}
@@ -70,20 +70,20 @@ first_bench p = opening_machine p.names p.limits
 
 -- the value is a session, whose calls leave the bench
 abbrev pub LeadsTo : Data → Machine → Type 0
-LeadsTo d m = (version_of d ≡ Some 1) × ((p : Parts) × (parts_at d ≡ Some p) × Reads (first_bench p) (data_of (acts_of d)) m)
+LeadsTo d m = (version_of d ≡ Some 2) × ((p : Parts) × (parts_at d ≡ Some p) × Reads (first_bench p) (data_of (acts_of d)) m)
 
 -- the value is no session, whatever its acts are
 abbrev pub IsMisshapen : Data → Type 0
-IsMisshapen d = (version_of d ≡ None) ⊎ ((version_of d ≡ Some 1) × (parts_at d ≡ None))
+IsMisshapen d = (version_of d ≡ None) ⊎ ((version_of d ≡ Some 2) × (parts_at d ≡ None))
 
 -- an act of the value is at fault
 abbrev pub HasFault : Data → SessionFault → Type 0
-HasFault d fault = (version_of d ≡ Some 1) × ((p : Parts) × (parts_at d ≡ Some p) × Faults 1 (first_bench p) (data_of (acts_of d)) fault)
+HasFault d fault = (version_of d ≡ Some 2) × ((p : Parts) × (parts_at d ≡ Some p) × Faults 1 (first_bench p) (data_of (acts_of d)) fault)
 
 -- the case of each fault of a value
 abbrev pub IsRefused : Data → SessionFault → Type 0
 IsRefused d NotJson = ⊥
-IsRefused d BadVersion = (v : ℕ) × (version_of d ≡ Some v) × (v ≢ 1)
+IsRefused d BadVersion = (v : ℕ) × (version_of d ≡ Some v) × (v ≢ 2)
 IsRefused d (BadShape k) = ((k ≡ 0) × IsMisshapen d) ⊎ HasFault d (BadShape k)
 IsRefused d (Disagrees k) = HasFault d (Disagrees k)
 IsRefused d OutOfMemory = Unit {0}
@@ -118,6 +118,8 @@ IsOperation (Update p) = IsPresence p
 IsOperation Broadcast = Unit {0}
 IsOperation (Extract names) = AreNamesBelow 32 names
 IsOperation (Deliver sender number) = nat_lt sender 65536 ≡ true
+IsOperation Request = Unit {0}
+IsOperation (Answer sender number) = nat_lt sender 65536 ≡ true
 IsOperation (Up name) = nat_lt name 65536 ≡ true
 IsOperation (Down name) = nat_lt name 65536 ≡ true
 IsOperation (Permdown name) = nat_lt name 65536 ≡ true

@@ -79,7 +79,7 @@ fn from_draft<'a, B: Allocator>(
 {
     match version_of(&draft.head) {
         None => return Err(SessionFault::BadShape { act: 0 }),
-        Some(1) => {}
+        Some(2) => {}
         Some(_) => return Err(SessionFault::BadVersion),
     }
     let parts = match parts_at(heap, alloc, &draft.head) {

@@ -29,6 +29,8 @@ fn fault_of(code: u64) -> Option<Fault>
         13 => Some(Fault::NoSuchStep),
         14 => Some(Fault::AlreadyUndone),
         15 => Some(Fault::NothingToUndo),
+        18 => Some(Fault::NotRequest),
+        19 => Some(Fault::IsRequest),
         _ => None,
     }
 }

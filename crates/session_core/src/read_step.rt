@@ -2,9 +2,9 @@
 ghost use Rattle.std.specs.Prelude.{◌≡◌, option_map};
 ghost use Rattle.serde_json.specs.View.{view, items_view};
 ghost use Rattle.dots_core.specs.Names.{Names};
-ghost use Rattle.node_core.specs.Operations.{plain, Join, Update, Up, Down, Permdown};
+ghost use Rattle.node_core.specs.Operations.{plain, Join, Update, Deliver, Answer, Up, Down, Permdown};
 ghost use Rattle.session_core.specs.Decoded.{Gives};
-ghost use Rattle.session_core.specs.Decoding.{presence_at, leave_at, leave_all_at, number_of, names_from, extract_at, deliver_at, name_at};
+ghost use Rattle.session_core.specs.Decoding.{presence_at, leave_at, leave_all_at, number_of, names_from, extract_at, sent_at, name_at};
 ghost use Rattle.session_core.specs.Decoding.{status_at, message_at, tracking_at, step_at};
 ghost use Rattle.std.specs.FinSet as set;
 
@@ -131,16 +131,31 @@ fn extract_at<A: Allocator>(list: &Value) -> Result<Step<A>, Unread>
     Ok(Step::Extract { names })
 }
 
-#[tactic(auto, unfolding(crate::specs::Decoding::deliver_at))]
-fn deliver_at<A: Allocator>(list: &Value) -> Result<Step<A>, Unread>
-    ensures { Gives plain result (deliver_at (view list.now)) }
+/// The sender and the number of the message of a delivery or an answer.
+#[tactic(auto, unfolding(crate::specs::Decoding::sent_at))]
+fn sent_at(list: &Value) -> Result<(u16, u64), Unread>
+    ensures { Gives (λ message. message) result (sent_at (view list.now)) }
 {
     let sender = node_in(list, 2)?;
     let number = number_in(list, 3)?;
     if !ends_at(list, 4) {
         return Err(Unread::Shape);
     }
+    Ok((sender, number))
+}
+
+fn deliver_at<A: Allocator>(list: &Value) -> Result<Step<A>, Unread>
+    ensures { Gives plain result (option_map (λ message. Deliver message.0 message.1) (sent_at (view list.now))) }
+{
+    let (sender, number) = sent_at(list)?;
     Ok(Step::Deliver { sender, number })
+}
+
+fn answer_at<A: Allocator>(list: &Value) -> Result<Step<A>, Unread>
+    ensures { Gives plain result (option_map (λ message. Answer message.0 message.1) (sent_at (view list.now))) }
+{
+    let (sender, number) = sent_at(list)?;
+    Ok(Step::Answer { sender, number })
 }
 
 /// The one name of an up, a down or a permanently down.
@@ -184,6 +199,9 @@ fn message_at<A: Allocator>(verb: &str, list: &Value) -> Result<Step<A>, Unread>
         "broadcast" => Err(Unread::Shape),
         "extract" => extract_at(list),
         "deliver" => deliver_at(list),
+        "request" if ends_at(list, 2) => Ok(Step::Request),
+        "request" => Err(Unread::Shape),
+        "answer" => answer_at(list),
         _ => status_at(verb, list),
     }
 }

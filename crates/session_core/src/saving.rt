@@ -60,7 +60,7 @@ fn session_value<'a, B: Allocator>(heap: Global, bench: &Bench<'a, B>) -> Result
     let acts = events_value(heap, bench.history())?;
     let limits = limits_value(heap, bench.limits())?;
     let nodes = nodes_value(heap, bench.names())?;
-    json!(in heap; {"acts": acts, "limits": limits, "nodes": nodes, "version": 1u64})
+    json!(in heap; {"acts": acts, "limits": limits, "nodes": nodes, "version": 2u64})
 }
 
 /// The compact text of the bench's session: its names, its limits, and each recorded call with its reply. JSON values take

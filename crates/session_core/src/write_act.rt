@@ -1,5 +1,6 @@
 //! An act as JSON.
-ghost use Rattle.std.specs.Prelude.{◌≡◌, IfOk, map};
+ghost use Rattle.std.specs.Prelude.{◌≡◌, ◌∷◌, [], IfOk, codes, map};
+ghost use Rattle.serde_json.specs.Data.{string};
 ghost use Rattle.serde_json.specs.View.{view};
 ghost use Rattle.dots_core.specs.Names.{AreNamesBelow};
 ghost use Rattle.node_core.specs.Operations.{plain, Extract};
@@ -45,6 +46,20 @@ fn extract_value(heap: Global, names: NameSet) -> Result<Value, AllocError>
     json!(in heap; ["do", "extract", numbers])
 }
 
+/// A step that names a message.
+fn message_value(heap: Global, verb: &str, sender: u16, number: u64) -> Result<Value, AllocError>
+    ensures { IfOk result (λ v. view v ≡ list (string (codes "do") ∷ string verb.now ∷ whole sender ∷ whole number ∷ [])) }
+{
+    json!(in heap; ["do", verb, sender, number])
+}
+
+/// A status of another name.
+fn status_value(heap: Global, verb: &str, name: u16) -> Result<Value, AllocError>
+    ensures { IfOk result (λ v. view v ≡ list (string (codes "do") ∷ string verb.now ∷ whole name ∷ [])) }
+{
+    json!(in heap; ["do", verb, name])
+}
+
 fn step_value<A: Allocator>(heap: Global, step: &Step<A>) -> Result<Value, AllocError>
     ensures json { IfOk result (λ v. view v ≡ act_json (Do (plain step.now))) }
     ensures told { IfOk result (λ _. IsOperation (plain step.now)) }
@@ -72,10 +87,12 @@ fn step_value<A: Allocator>(heap: Global, step: &Step<A>) -> Result<Value, Alloc
         }
         Step::Broadcast => json!(in heap; ["do", "broadcast"]),
         Step::Extract { names } => extract_value(heap, *names),
-        Step::Deliver { sender, number } => json!(in heap; ["do", "deliver", *sender, *number]),
-        Step::Up { name } => json!(in heap; ["do", "up", *name]),
-        Step::Down { name } => json!(in heap; ["do", "down", *name]),
-        Step::Permdown { name } => json!(in heap; ["do", "permdown", *name]),
+        Step::Deliver { sender, number } => message_value(heap, "deliver", *sender, *number),
+        Step::Request => json!(in heap; ["do", "request"]),
+        Step::Answer { sender, number } => message_value(heap, "answer", *sender, *number),
+        Step::Up { name } => status_value(heap, "up", *name),
+        Step::Down { name } => status_value(heap, "down", *name),
+        Step::Permdown { name } => status_value(heap, "permdown", *name),
     }
 }
 

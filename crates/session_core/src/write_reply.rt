@@ -29,6 +29,8 @@ pub(crate) fn code_of(fault: Fault) -> u8
         Fault::NothingToUndo => 15,
         Fault::HasConsequence { .. } => 16,
         Fault::HistoryFull => 17,
+        Fault::NotRequest => 18,
+        Fault::IsRequest => 19,
         Fault::OutOfMemory => 20,
     }
 }

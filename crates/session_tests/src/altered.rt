@@ -50,23 +50,24 @@ const ALTERED: &[(&str, &str, Option<SessionFault>)] = &[
     (JOINED_AND_UNDONE, "{}", HEAD),
     (JOINED_AND_UNDONE, "1", HEAD),
     (JOINED_AND_UNDONE, r#"{"version":"1"}"#, HEAD),
-    (JOINED_AND_UNDONE, r#"{"version":1}"#, HEAD),
+    (JOINED_AND_UNDONE, r#"{"version":2}"#, HEAD),
     (JOINED_AND_UNDONE, r#"{"version":9}"#, VERSION),
-    (r#""version":1"#, r#""version":"1""#, HEAD),
-    (r#""version":1"#, r#""version":1.0"#, HEAD),
-    (r#""version":1"#, r#""version":1e0"#, HEAD),
-    (r#""version":1"#, r#""version":-0"#, HEAD),
-    (r#""version":1"#, r#""version":18446744073709551616"#, HEAD),
+    (r#""version":2"#, r#""version":"1""#, HEAD),
+    (r#""version":2"#, r#""version":2.0"#, HEAD),
+    (r#""version":2"#, r#""version":2e0"#, HEAD),
+    (r#""version":2"#, r#""version":-0"#, HEAD),
+    (r#""version":2"#, r#""version":18446744073709551616"#, HEAD),
     (
-        r#""version":1"#,
+        r#""version":2"#,
         r#""version":18446744073709551615"#,
         VERSION,
     ),
-    (r#""version":1"#, r#""version":0"#, VERSION),
-    (r#""version":1"#, r#""version":9"#, VERSION),
-    (r#""version":1"#, r#""version":9,"version":1"#, None),
-    (r#""version":1"#, r#""version":1,"x":1"#, HEAD),
-    (r#","version":1"#, "", HEAD),
+    (r#""version":2"#, r#""version":1"#, VERSION),
+    (r#""version":2"#, r#""version":0"#, VERSION),
+    (r#""version":2"#, r#""version":9"#, VERSION),
+    (r#""version":2"#, r#""version":9,"version":2"#, None),
+    (r#""version":2"#, r#""version":2,"x":1"#, HEAD),
+    (r#","version":2"#, "", HEAD),
     (r#""nodes":["a","b"],"#, "", HEAD),
     (LIMITS, "[0,10,10,10]", HEAD),
     (LIMITS, "[1,10,10,10]", FIRST_DISAGREES),
@@ -89,6 +90,8 @@ const ALTERED: &[(&str, &str, Option<SessionFault>)] = &[
     (r#"["ok",1]"#, r#"["no",16,1,1]"#, FIRST_DISAGREES),
     (r#"["ok",1]"#, r#"["no",17]"#, FIRST),
     (r#"["ok",1]"#, r#"["no",0]"#, FIRST),
+    (r#"["ok",1]"#, r#"["no",18]"#, FIRST_DISAGREES),
+    (r#"["ok",1]"#, r#"["no",20]"#, FIRST),
     (r#"["ok",1]"#, r#"["no",16]"#, FIRST),
     (r#"["ok",1]"#, r#"["no",14,1,2]"#, FIRST),
     (r#"["ok",1]"#, r#"["ok",1],1"#, FIRST),
@@ -164,7 +167,7 @@ fn each_altered_session_has_its_fault(rt: HostRuntime) {
 /// An undo of an undone step, behind a join and its undo.
 const UNDONE_AGAIN: &str = concat!(
     r#"{"acts":[[0,["do","join",1,"r","alice","phone"],["ok",1]],[0,["undo",1],["undone",1]],"#,
-    r#"[0,["undo",1],["no",14]]],"limits":[LIMITS],"nodes":["a"],"version":1}"#
+    r#"[0,["undo",1],["no",14]]],"limits":[LIMITS],"nodes":["a"],"version":2}"#
 );
 
 /// With two places a bench gives the third reply, too, and doesn't record it.
@@ -180,7 +183,7 @@ fn a_reply_that_is_not_recorded_disagrees(rt: HostRuntime) {
 
 /// An act that is so many lists, one in another, in the place of all acts.
 fn nested(rt: &impl Abort, heap: Global, lists: usize) -> String {
-    let (before, after) = r#"{"acts":[ACT],"limits":[9,9,9,9],"nodes":["a"],"version":1}"#
+    let (before, after) = r#"{"acts":[ACT],"limits":[9,9,9,9],"nodes":["a"],"version":2}"#
         .split_once("ACT")
         .expect(rt, "the act");
     let mut text = String::from_str(heap, before).expect(rt, "memory");

@@ -24,7 +24,7 @@ undone 1
 /// Their session.
 pub(crate) const JOINED_AND_UNDONE: &str = concat!(
     r#"{"acts":[[0,["do","join",1,"r","alice","phone"],["ok",1]],[0,["undo",1],["undone",1]]],"#,
-    r#""limits":[100000,10000,1000000,10000],"nodes":["a","b"],"version":1}"#
+    r#""limits":[100000,10000,1000000,10000],"nodes":["a","b"],"version":2}"#
 );
 
 /// Each step, two refusals and a step back.
@@ -62,7 +62,21 @@ pub(crate) const EVERY_ACT_SAVED: &str = concat!(
     r#"[1,["do","permdown",0],["ok",11]],"#,
     r#"[2,["undo",1],["no",16,1,2]],"#,
     r#"[0,["back",1],["undone",11]]],"#,
-    r#""limits":[100000,10000,1000000,10000],"nodes":["a","b"],"version":1}"#
+    r#""limits":[100000,10000,1000000,10000],"nodes":["a","b"],"version":2}"#
+);
+
+/// A request, and its answer.
+const ANSWERED: &str = "\
+nodes a b
+a join 1 r alice phone
+b request
+a answer b 1
+";
+
+const ANSWERED_SAVED: &str = concat!(
+    r#"{"acts":[[0,["do","join",1,"r","alice","phone"],["ok",1]],"#,
+    r#"[1,["do","request"],["ok",2]],[0,["do","answer",1,1],["ok",3]]],"#,
+    r#""limits":[100000,10000,1000000,10000],"nodes":["a","b"],"version":2}"#
 );
 
 /// A join, sent and delivered, and unwound with all that follows from it.
@@ -87,7 +101,7 @@ const UNWOUND_SAVED: &str = concat!(
     r#"[2,["undo",4],["undone",4]],"#,
     r#"[2,["undo",3],["undone",3]],"#,
     r#"[2,["undo",1],["undone",1]]],"#,
-    r#""limits":[100000,10000,1000000,10000],"nodes":["a","b"],"version":1}"#
+    r#""limits":[100000,10000,1000000,10000],"nodes":["a","b"],"version":2}"#
 );
 
 /// What its undos print, one by one.
@@ -245,6 +259,7 @@ fn a_bench_is_saved_as_its_text_and_comes_back(rt: HostRuntime) {
         (JOINED, JOINED_AND_UNDONE),
         (EVERY_ACT, EVERY_ACT_SAVED),
         (UNWOUND, UNWOUND_SAVED),
+        (ANSWERED, ANSWERED_SAVED),
     ] {
         let heap = rt.alloc();
         let bench = played(&rt, &heap, script, Limits::usual()).bench;

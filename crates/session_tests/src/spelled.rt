@@ -5,30 +5,30 @@ use session_core::{load, save};
 const SPELLED: [&str; 5] = [
     // other keys first
     concat!(
-        r#"{"version":1,"nodes":["a","b"],"acts":[[0,["do","join",1,"r","alice","phone"],["ok",1]],"#,
+        r#"{"version":2,"nodes":["a","b"],"acts":[[0,["do","join",1,"r","alice","phone"],["ok",1]],"#,
         r#"[0,["undo",1],["undone",1]]],"limits":[100000,10000,1000000,10000]}"#
     ),
     // space between tokens
     " {\n\t\"acts\" : [\r\n[ 0 , [ \"do\",\"join\", 1 ,\"r\",\"alice\",\"phone\" ], [\"ok\", 1] ],
  [0,[\"undo\",1],[\"undone\",1 ]]\n] , \"limits\": [100000, 10000, 1000000, 10000] ,
-\"nodes\" : [ \"a\" , \"b\" ],\"version\"\t:\t1 }\n ",
+\"nodes\" : [ \"a\" , \"b\" ],\"version\"\t:\t2 }\n ",
     // escapes in keys, words and names
     concat!(
         r#"{"\u0061cts":[[0,["d\u006f","\u006aoin",1,"\u0072","\u0061lice","phon\u0065"],["ok",1]],"#,
         r#"[0,["und\u006F",1],["undone",1]]],"l\u0069mits":[100000,10000,1000000,10000],"#,
-        r#""nodes":["\u0061","b"],"version":1}"#
+        r#""nodes":["\u0061","b"],"version":2}"#
     ),
     // of two equal keys the last counts
     concat!(
         r#"{"acts":[[7],7],"limits":7,"version":"7","nodes":["a","b"],"#,
         r#""acts":[[0,["do","join",1,"r","alice","phone"],["ok",1]],"#,
-        r#"[0,["undo",1],["undone",1]]],"limits":[100000,10000,1000000,10000],"version":1}"#
+        r#"[0,["undo",1],["undone",1]]],"limits":[100000,10000,1000000,10000],"version":2}"#
     ),
     // and the last may have fewer acts
     concat!(
         r#"{"acts":[[0,["do","join",1,"r","alice","phone"],["ok",1]],[0,["undo",1],["undone",1]],[0,["undo",2],["no",13]]],"#,
         r#""acts":[[0,["do","join",1,"r","alice","phone"],["ok",1]],"#,
-        r#"[0,["undo",1],["undone",1]]],"limits":[100000,10000,1000000,10000],"nodes":["a","b"],"version":1}"#
+        r#"[0,["undo",1],["undone",1]]],"limits":[100000,10000,1000000,10000],"nodes":["a","b"],"version":2}"#
     ),
 ];
 

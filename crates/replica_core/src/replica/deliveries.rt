@@ -37,10 +37,11 @@ impl<A: Allocator> Replica<A> {
 }
 
 impl<A: Allocator + Copy> Replica<A> {
-    /// The message is merged: its entries of other known names join where their dots are new, entries of such names leave
+    /// The message, which is no request, is merged: its entries of other known names join where their dots are new, entries of such names leave
     /// where the message has seen their dots and has no entry there, and its dots were seen. Refused with `EntriesFull`
     /// where there would be too many entries.
     pub fn merge(&mut self, message: &Payload<A>) -> Result<Change<A>, ReplicaFault>
+        requires { message.now.asked ≡ None }
         ensures merged { OnOk result (self.new ≡ merged message.now self.old) }
         ensures greater_standings { OnOk result (TakesGreaterStandings message.now self.old self.new) }
         ensures refused { IsRefusedFor (merge_refusal self.old message.now) result }

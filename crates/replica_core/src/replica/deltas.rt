@@ -1,10 +1,10 @@
-//! What a replica sends: its delta, which can be given back, and an extract.
+//! What a replica sends: its delta, which can be given back, an extract, and a request.
 ghost use Rattle.std.specs.Prelude.{◌≡◌, ◌↔◌, IfErr, IfOk, IsOk, IsTrue, OnErr, OnOk};
 ghost use Rattle.std.specs.FinSet as set;
 ghost use Rattle.payload_core.specs.Messages.{message_of_names};
 ghost use Rattle.replica_core.specs.declared.replica_fault.ReplicaFault.TheVariants.{NothingToSend};
 ghost use Rattle.replica_core.specs.Refusals.{has_dots};
-ghost use Rattle.replica_core.specs.Replicas.{CanBeDelta, delta_message, with_delta, without_delta};
+ghost use Rattle.replica_core.specs.Replicas.{CanBeDelta, delta_message, request_of, with_delta, without_delta};
 
 use crate::replica::Replica;
 use crate::replica_fault::ReplicaFault;
@@ -48,5 +48,12 @@ impl<A: Allocator + Copy> Replica<A> {
     {
         let (seen, entries) = self.store.only(names)?.into_parts();
         Ok(Payload::new(self.own, seen, entries))
+    }
+
+    /// A message that asks for what others have of the names that it knows. It takes no memory. The delta stays.
+    pub fn request(&self) -> Payload<A>
+        ensures { result ≡ request_of self.now }
+    {
+        Payload::request(self.alloc, self.own, self.known())
     }
 }

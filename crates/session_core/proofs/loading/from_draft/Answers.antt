@@ -19,7 +19,7 @@ returns-in-Some g c = λ d draft.
 
 pub returns-in-Err-Shape : goal.returns-in-Err-Shape
 returns-in-Err-Shape g c = λ d draft.
-    let one = sym (head_version d) ∙ ap version_of (sym draft.0) ∙ sym c.in-Some-eq1.ensures ∙ ap Some c.in-Some-eq1.field-0-test in
+    let one = sym (head_version d) ∙ ap version_of (sym draft.0) ∙ sym c.in-Some-eq2.ensures ∙ ap Some c.in-Some-eq2.field-0-test in
     let first = view c.args.draft.now.head in
     let none : parts_at first ≡ None = subst (λ u. Fails u (parts_at first)) c.in-Err-Shape.field-0-is c.in-Err-Shape.ensures in
     inl (refl, inr (one, sym (head_parts d) ∙ ap parts_at (sym draft.0) ∙ none))
@@ -31,7 +31,7 @@ returns-in_err-take_events g c =
     let fault = c.in_err-take_events.field-0.0 in
     let faulted = err_from_is_err_and c.from_residual.result c.from_residual.ensures.1 in
     rw (faulted.1, faulted.2) (λ d draft.
-    let one = ap version_of (sym draft.0) ∙ sym c.in-Some-eq1.ensures ∙ ap Some c.in-Some-eq1.field-0-test in
+    let one = ap version_of (sym draft.0) ∙ sym c.in-Some-eq2.ensures ∙ ap Some c.in-Some-eq2.field-0-test in
     let is : parts_at (head d) ≡ Some p = ap parts_at (sym draft.0) ∙ c.in-Ok.ensures in
     refused d p one is fault (subst (λ (m : Machine). Faults 1 m (data_of (acts_of d)) fault) c.in-Ok-new.ensures (c.in_err-take_events.ensures.err (data_of (acts_of d)) draft.1)))
 
@@ -39,7 +39,7 @@ pub returns : goal.returns
 returns g c = λ d draft.
     let parts = c.in-Ok.parts in
     let p : Parts = record { limits = parts.limits; names = parts.names } in
-    let one = ap version_of (sym draft.0) ∙ sym c.in-Some-eq1.ensures ∙ ap Some c.in-Some-eq1.field-0-test in
+    let one = ap version_of (sym draft.0) ∙ sym c.in-Some-eq2.ensures ∙ ap Some c.in-Some-eq2.field-0-test in
     let is : parts_at (head d) ≡ Some p = ap parts_at (sym draft.0) ∙ c.in-Ok.ensures in
     let new = c.take_events.new.bench in
     gives d p one is new (subst (λ (m : Machine). Reads m (data_of (acts_of d)) new) c.in-Ok-new.ensures (c.in_ok-take_events.ensures.ok (data_of (acts_of d)) draft.1))

@@ -1,6 +1,6 @@
 use Rattle.std.proofs.Common.{rules, None, Ok, [], ◌∷◌, ◌++◌, ◌≡◌}
 use Rattle.node_core.specs.Operations.{Extract}
-use Rattle.node_core.specs.Inverses.{OfExtract}
+use Rattle.node_core.specs.Inverses.{OfSent}
 use Rattle.node_core.specs.Nodes.{Node, take}
 use Rattle.node_core.proofs.Sends.{sent, extract_kept}
 use Rattle.node_core.proofs.node.Node.extract.Goals as goal
@@ -18,5 +18,5 @@ returns g c =
     let now : Node = record { replica = c.self.inside.replica; outbox = c.push.new.self.messages } in
     let taken : take before (Extract c.args.names) None ≡ Ok now = search rules in
     let posted : c.push.new.self.messages ≡ c.self.inside.outbox.messages ++ c.in_ok-payload.payload ∷ [] = search rules in
-    sent before c.args.self.now (Extract c.args.names) None now OfExtract c.self.view_is c.self.invariant.0 taken
+    sent before c.args.self.now (Extract c.args.names) None now OfSent c.self.view_is c.self.invariant.0 taken
     (c.in_ok-payload.payload, λ i. record { replica = c.self.inside.replica; outbox = posted i })

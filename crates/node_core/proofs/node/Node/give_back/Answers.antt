@@ -8,8 +8,8 @@ undo-requires g c = (search rules, subst (λ i. LeadsSomewhere (plain_inverse i)
 pub take_back_delta-requires : goal.take_back_delta-requires
 take_back_delta-requires g c = (search rules, subst (λ i. LeadsSomewhere (plain_inverse i) c.args.self.now) c.in-Broadcast.is c.requires)
 
-pub take_back_extract-requires : goal.take_back_extract-requires
-take_back_extract-requires g c = (search rules, subst (λ i. LeadsSomewhere (plain_inverse i) c.args.self.now) c.in-Extract.is c.requires)
+pub take_back_message-requires : goal.take_back_message-requires
+take_back_message-requires g c = (search rules, subst (λ i. LeadsSomewhere (plain_inverse i) c.args.self.now) c.in-Sent.is c.requires)
 
 pub returns-in-Ok-clause-ok : goal.returns-in-Ok-clause-ok
 returns-in-Ok-clause-ok g c =
@@ -19,6 +19,6 @@ pub returns-in-Broadcast-clause-ok : goal.returns-in-Broadcast-clause-ok
 returns-in-Broadcast-clause-ok g c =
     subst (λ i. GivesBack (plain_inverse i) c.args.self.now c.take_back_delta.new.self) (sym c.in-Broadcast.is) c.take_back_delta.ensures
 
-pub returns-in-Extract-clause-ok : goal.returns-in-Extract-clause-ok
-returns-in-Extract-clause-ok g c =
-    subst (λ i. GivesBack (plain_inverse i) c.args.self.now c.take_back_extract.new.self) (sym c.in-Extract.is) c.take_back_extract.ensures
+pub returns-in-Sent-clause-ok : goal.returns-in-Sent-clause-ok
+returns-in-Sent-clause-ok g c =
+    subst (λ i. GivesBack (plain_inverse i) c.args.self.now c.take_back_message.new.self) (sym c.in-Sent.is) c.take_back_message.ensures

@@ -64,6 +64,7 @@ pub returns-clause-leads_back : goal.returns-clause-leads_back
 returns-clause-leads_back g c = record {
   call = record {
     message = c.args.message.now;
+    no_request = c.requires;
     accepted = returns-clause-refused g c;
     destroyed = c.in_ok-delivered.ensures.destroyed;
     held = c.in_ok-delivered.ensures.held;
