@@ -54,7 +54,7 @@ fault_of_race fault = faults.Race fault
 
 -- the text of a bench's session, and a line feed
 abbrev pub session_text : Machine → List ℕ
-session_text m = compact_text (session m.names m.limits m.state.history) ++ 10 ∷ []
+session_text m = compact_text (session 2 m.names m.limits m.state.history) ++ 10 ∷ []
 
 -- the input spells this script; so, where it is known
 abbrev pub IsScriptAt : Option (List ℕ) → Script → Type 0

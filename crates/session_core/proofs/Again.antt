@@ -20,7 +20,10 @@ use Rattle.session_core.specs.Decoding.{◌>>=◌, presence_at, leave_at, leave_
 use Rattle.session_core.specs.Decoding.{undo_at, back_at, act_at, consequence_at, fault_at, counted_at, reply_at, event_at, are_limits, limits_at, texts_of}
 use Rattle.session_core.specs.Decoding.{if_ok, names_at, values_at, Parts, parts_at}
 use Rattle.session_core.specs.Sessions.{IsAction, IsRecordedFault, IsRecordedReply, IsTold}
+use Rattle.session_core.specs.Versions.{tells, event_in}
 use Rattle.session_core.proofs.Numbers.{names_again}
+use Rattle.session_core.proofs.Versions.{told_event}
+use Rattle.std.specs.List.{AllByRecursion}
 
 act_again : (a : Action) → IsAction a → act_at (act_json a) ≡ Some a
 unfolding act_at step_at tracking_at message_at status_at presence_at leave_at leave_all_at extract_at sent_at name_at undo_at back_at
@@ -68,9 +71,17 @@ reply_again (Taken n) h = refl
 reply_again (Undone n) h = refl
 reply_again (Refused fault) h = fault_again fault h
 
-pub event_again : (e : Event) → IsTold e → event_at (event_json e) ≡ Some e
+event_again : (e : Event) → IsTold e → event_at (event_json e) ≡ Some e
 unfolding event_at
 event_again e told = rw (told.0.0, act_again e.act told.0.1, reply_again e.reply told.1) refl
+
+-- a text of the second version can tell every event
+pub all_told : (events : List Event) → AllByRecursion (λ e. tells 2 e ≡ true) events
+all_told [] = tt
+all_told (e ∷ es) = (refl, all_told es)
+
+pub event_in_again : (e : Event) → IsTold e → event_in 2 (event_json e) ≡ Some e
+event_in_again e told = told_event 2 (event_json e) e (event_again e told) refl
 
 texts_again : (texts : Texts) → texts_of (items_of (map string texts)) ≡ Some texts
 texts_again [] = refl
@@ -99,6 +110,6 @@ abbrev pub parts : Texts → Limits → Parts
 parts names limits = record { limits = limits; names = names }
 
 pub parts_again : (names : Texts) (limits : Limits) (events : List Event) → names_of names ≡ Ok names → AreLimits limits →
-    parts_at (session names limits events) ≡ Some (parts names limits)
+    parts_at (session 2 names limits events) ≡ Some (parts names limits)
 unfolding parts_at values_at
 parts_again names limits events is within = rw (names_at_again names is, limits_again limits within) refl

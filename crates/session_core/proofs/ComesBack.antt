@@ -14,53 +14,54 @@ use Rattle.bench_core.specs.Replays.{Records, Replays}
 use Rattle.session_core.specs.declared.session_fault.SessionFault.{SessionFault}
 use Rattle.session_core.specs.declared.session_fault.SessionFault.TheVariants.{NotJson, BadShape, BadVersion, Disagrees, OutOfMemory}
 use Rattle.session_core.specs.Format.{event_json, session}
-use Rattle.session_core.specs.Decoding.{Parts, version_of, parts_at, acts_of, event_at}
-use Rattle.session_core.specs.Sessions.{with_event, RecordsNext, Reads, Steps, Faults, data_of, first_bench, LeadsTo, IsRefused, IsMisshapen, HasFault, IsJson, Answers, IsSaved, ComesBack, IsEvent, IsTold}
-use Rattle.session_core.proofs.Again.{event_again, parts, parts_again}
+use Rattle.session_core.specs.Decoding.{Parts, version_of, parts_at, acts_of}
+use Rattle.session_core.specs.Versions.{event_in}
+use Rattle.session_core.specs.Sessions.{with_event, RecordsNext, Reads, Steps, Faults, data_of, first_bench, HasHead, LeadsTo, IsRefused, IsMisshapen, HasFault, IsJson, Answers, IsSaved, ComesBack, IsEvent, IsTold}
+use Rattle.session_core.proofs.Again.{event_in_again, parts, parts_again}
 use Rattle.session_core.proofs.Replayed.{data_of-items_of}
 
 -- of two events that a value is read as, each is the other
-one_event : (d : Data) (e f : Event) → event_at d ≡ Some e → event_at d ≡ Some f → e ≡ f
-one_event d e f is also = let same = sym is ∙ also in cc
+one_event : (v : ℕ) (d : Data) (e f : Event) → event_in v d ≡ Some e → event_in v d ≡ Some f → e ≡ f
+one_event v d e f is also = let same = sym is ∙ also in cc
 
 -- events that are replayed are read back from their JSON
 reads_again : (old : Machine) (events : List Event) (s : State) → AllByRecursion IsTold events → Replays (config_of old) old.state events s →
-    Reads old (map event_json events) (with_state old s)
+    Reads 2 old (map event_json events) (with_state old s)
 reads_again old [] s each same = ap (with_state old) same
-reads_again old (e ∷ es) s each (recs, more) = (e, event_again e each.0, recs, reads_again (with_event old e) es s each.1 more)
+reads_again old (e ∷ es) s each (recs, more) = (e, event_in_again e each.0, recs, reads_again (with_event old e) es s each.1 more)
 
 -- and lead to one bench
-one_end : (ds : List Data) (old one other : Machine) → Reads old ds one → Reads old ds other → other ≡ one
-one_end [] old one other a b = b ∙ sym a
-one_end (d ∷ ds) old one other (e, is, recs, a) (f, also, recs2, b) =
-    one_end ds (with_event old e) one other a (subst (λ (x : Event). Reads (with_event old x) ds other) (one_event d f e also is) b)
+one_end : (v : ℕ) (ds : List Data) (old one other : Machine) → Reads v old ds one → Reads v old ds other → other ≡ one
+one_end v [] old one other a b = b ∙ sym a
+one_end v (d ∷ ds) old one other (e, is, recs, a) (f, also, recs2, b) =
+    one_end v ds (with_event old e) one other a (subst (λ (x : Event). Reads v (with_event old x) ds other) (one_event v d f e also is) b)
 
 -- what is read without a fault has none
-module _ (n : ℕ) (old : Machine) (d : Data) (ds : List Data) (e : Event) (is : event_at d ≡ Some e) (recs : RecordsNext old e) where
-  first : (fault : SessionFault) → Steps n old d (Err fault) old → fault ≡ OutOfMemory
+module _ (v n : ℕ) (old : Machine) (d : Data) (ds : List Data) (e : Event) (is : event_in v d ≡ Some e) (recs : RecordsNext old e) where
+  first : (fault : SessionFault) → Steps v n old d (Err fault) old → fault ≡ OutOfMemory
   first NotJson h = absurd h
   first BadVersion h = absurd h
   first OutOfMemory h = refl
   first (BadShape k) h = absurd (let none = sym is ∙ h.1 in cc)
-  first (Disagrees k) h = absurd (h.1.2 (subst (RecordsNext old) (one_event d e h.1.0 is h.1.1) recs))
+  first (Disagrees k) h = absurd (h.1.2 (subst (RecordsNext old) (one_event v d e h.1.0 is h.1.1) recs))
 
-no_fault : (ds : List Data) (n : ℕ) (old new : Machine) (fault : SessionFault) → Reads old ds new → Faults n old ds fault → fault ≡ OutOfMemory
-no_fault ds n old new OutOfMemory reads h = refl
-no_fault ds n old new NotJson reads h = absurd h
-no_fault ds n old new BadVersion reads h = absurd h
-no_fault [] n old new (BadShape k) reads h = absurd h
-no_fault [] n old new (Disagrees k) reads h = absurd h
-no_fault (d ∷ ds) n old new (BadShape k) (e, is, recs, reads) (inl h) = first n old d ds e is recs (BadShape k) h
-no_fault (d ∷ ds) n old new (BadShape k) (e, is, recs, reads) (inr (f, also, recs2, h)) =
-    no_fault ds (n + 1) (with_event old e) new (BadShape k) reads
-    (subst (λ (x : Event). Faults (n + 1) (with_event old x) ds (BadShape k)) (one_event d f e also is) h)
-no_fault (d ∷ ds) n old new (Disagrees k) (e, is, recs, reads) (inl h) = first n old d ds e is recs (Disagrees k) h
-no_fault (d ∷ ds) n old new (Disagrees k) (e, is, recs, reads) (inr (f, also, recs2, h)) =
-    no_fault ds (n + 1) (with_event old e) new (Disagrees k) reads
-    (subst (λ (x : Event). Faults (n + 1) (with_event old x) ds (Disagrees k)) (one_event d f e also is) h)
+no_fault : (v : ℕ) (ds : List Data) (n : ℕ) (old new : Machine) (fault : SessionFault) → Reads v old ds new → Faults v n old ds fault → fault ≡ OutOfMemory
+no_fault v ds n old new OutOfMemory reads h = refl
+no_fault v ds n old new NotJson reads h = absurd h
+no_fault v ds n old new BadVersion reads h = absurd h
+no_fault v [] n old new (BadShape k) reads h = absurd h
+no_fault v [] n old new (Disagrees k) reads h = absurd h
+no_fault v (d ∷ ds) n old new (BadShape k) (e, is, recs, reads) (inl h) = first v n old d ds e is recs (BadShape k) h
+no_fault v (d ∷ ds) n old new (BadShape k) (e, is, recs, reads) (inr (f, also, recs2, h)) =
+    no_fault v ds (n + 1) (with_event old e) new (BadShape k) reads
+    (subst (λ (x : Event). Faults v (n + 1) (with_event old x) ds (BadShape k)) (one_event v d f e also is) h)
+no_fault v (d ∷ ds) n old new (Disagrees k) (e, is, recs, reads) (inl h) = first v n old d ds e is recs (Disagrees k) h
+no_fault v (d ∷ ds) n old new (Disagrees k) (e, is, recs, reads) (inr (f, also, recs2, h)) =
+    no_fault v ds (n + 1) (with_event old e) new (Disagrees k) reads
+    (subst (λ (x : Event). Faults v (n + 1) (with_event old x) ds (Disagrees k)) (one_event v d f e also is) h)
 
 module _ (bytes : List ℕ) (m : Machine) (saved : IsSaved bytes m) (d : Data) (json : IsJson bytes d) where
-  d_is : d ≡ session m.names m.limits m.state.history
+  d_is : d ≡ session 2 m.names m.limits m.state.history
   d_is = let same = sym json.1 ∙ saved.session.reads in cc
 
   version_is : version_of d ≡ Some 2
@@ -75,7 +76,7 @@ module _ (bytes : List ℕ) (m : Machine) (saved : IsSaved bytes m) (d : Data) (
   acts_are : data_of (acts_of d) ≡ map event_json m.state.history
   acts_are = ap (λ (x : Data). data_of (acts_of x)) d_is ∙ data_of-items_of (map event_json m.state.history)
 
-  reads : Reads (opening_machine m.names m.limits) (map event_json m.state.history) m
+  reads : Reads 2 (opening_machine m.names m.limits) (map event_json m.state.history) m
   reads = reads_again (opening_machine m.names m.limits) m.state.history m.state saved.events saved.session.replays
 
   -- what the acts of a value with these parts come to
@@ -84,15 +85,25 @@ module _ (bytes : List ℕ) (m : Machine) (saved : IsSaved bytes m) (d : Data) (
   at_parts X p is h =
       subst (X (opening_machine m.names m.limits)) acts_are (subst (λ (q : Parts). X (first_bench q) (data_of (acts_of d))) (one_parts p is) h)
 
+  version_two : (v : ℕ) → version_of d ≡ Some v → v ≡ 2
+  version_two v is = let same = sym is ∙ version_is in cc
+
+  -- what the acts of a value with this version and these parts come to
+  of_second : (X : ℕ → Machine → List Data → Type 0) (v : ℕ) (p : Parts) → HasHead d v p → X v (first_bench p) (data_of (acts_of d)) →
+      X 2 (opening_machine m.names m.limits) (map event_json m.state.history)
+  of_second X v p has h =
+      subst (λ (n : ℕ). X n (opening_machine m.names m.limits) (map event_json m.state.history)) (version_two v has.version)
+      (at_parts (X v) p has.parts h)
+
   pub comes_back : (r : Result Machine SessionFault) → Answers d r → ComesBack m r
-  comes_back (Ok loaded) (one, (p, is, h)) = one_end (map event_json m.state.history) (opening_machine m.names m.limits) m loaded reads
-      (at_parts (λ old ds. Reads old ds loaded) p is h)
+  comes_back (Ok loaded) (v, p, has, h) = one_end 2 (map event_json m.state.history) (opening_machine m.names m.limits) m loaded reads
+      (of_second (λ v old ds. Reads v old ds loaded) v p has h)
   comes_back (Err NotJson) h = absurd h
-  comes_back (Err BadVersion) (v, is, other) = absurd (let same = sym is ∙ version_is in other (cc))
+  comes_back (Err BadVersion) (v, is, other) = absurd (other (inr (version_two v is)))
   comes_back (Err OutOfMemory) h = refl
   comes_back (Err (BadShape k)) (inl (zero, inl none)) = absurd (let same = sym none ∙ version_is in cc)
-  comes_back (Err (BadShape k)) (inl (zero, inr (one, none))) = absurd (let same = sym none ∙ parts_is in cc)
-  comes_back (Err (BadShape k)) (inr (one, (p, is, h))) = no_fault (map event_json m.state.history) 1 (opening_machine m.names m.limits) m (BadShape k) reads
-      (at_parts (λ old ds. Faults 1 old ds (BadShape k)) p is h)
-  comes_back (Err (Disagrees k)) (one, (p, is, h)) = no_fault (map event_json m.state.history) 1 (opening_machine m.names m.limits) m (Disagrees k) reads
-      (at_parts (λ old ds. Faults 1 old ds (Disagrees k)) p is h)
+  comes_back (Err (BadShape k)) (inl (zero, inr (v, is, known, none))) = absurd (let same = sym none ∙ parts_is in cc)
+  comes_back (Err (BadShape k)) (inr (v, p, has, h)) = no_fault 2 (map event_json m.state.history) 1 (opening_machine m.names m.limits) m (BadShape k) reads
+      (of_second (λ v old ds. Faults v 1 old ds (BadShape k)) v p has h)
+  comes_back (Err (Disagrees k)) (v, p, has, h) = no_fault 2 (map event_json m.state.history) 1 (opening_machine m.names m.limits) m (Disagrees k) reads
+      (of_second (λ v old ds. Faults v 1 old ds (Disagrees k)) v p has h)

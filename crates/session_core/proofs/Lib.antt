@@ -1,4 +1,5 @@
 pub mod Lists
+pub mod Versions
 pub mod Numbers
 pub mod Steps
 pub mod Events

@@ -7,7 +7,7 @@ use Rattle.serde_json.specs.Data.{Data}
 use Rattle.bench_core.specs.Machine.{Event, Machine}
 use Rattle.session_core.specs.declared.session_fault.SessionFault.{SessionFault}
 use Rattle.session_core.specs.declared.session_fault.SessionFault.TheVariants.{NotJson, BadShape, BadVersion, Disagrees, OutOfMemory}
-use Rattle.session_core.specs.Decoding.{event_at}
+use Rattle.session_core.specs.Versions.{event_in}
 use Rattle.session_core.specs.Sessions.{Reads, Steps, Faults, RecordsNext, with_event}
 
 -- what was read before, and what is still read
@@ -15,38 +15,38 @@ abbrev pub with_front : {A : Type 0} → List A → Option (List A) → Option (
 with_front front rest = option_map (λ xs. front ++ xs) rest
 
 -- what is left, read from here, makes of all what it makes
-pub record Goes (n : ℕ) (here : Machine) (rest : List Data) (start : Machine) (all : List Data) : Type 0 where
-  pub ok : (new : Machine) → Reads here rest new → Reads start all new
-  pub err : (fault : SessionFault) → Faults n here rest fault → Faults 1 start all fault
+pub record Goes (v n : ℕ) (here : Machine) (rest : List Data) (start : Machine) (all : List Data) : Type 0 where
+  pub ok : (new : Machine) → Reads v here rest new → Reads v start all new
+  pub err : (fault : SessionFault) → Faults v n here rest fault → Faults v 1 start all fault
 
-later : (n : ℕ) (m : Machine) (d : Data) (ds : List Data) (e : Event) → event_at d ≡ Some e → RecordsNext m e → (fault : SessionFault) →
-    Faults (n + 1) (with_event m e) ds fault → Faults n m (d ∷ ds) fault
-later n m d ds e is recs NotJson h = absurd (h)
-later n m d ds e is recs (BadShape k) h = inr (e, is, recs, h)
-later n m d ds e is recs BadVersion h = absurd (h)
-later n m d ds e is recs (Disagrees k) h = inr (e, is, recs, h)
-later n m d ds e is recs OutOfMemory h = tt
+later : (v n : ℕ) (m : Machine) (d : Data) (ds : List Data) (e : Event) → event_in v d ≡ Some e → RecordsNext m e → (fault : SessionFault) →
+    Faults v (n + 1) (with_event m e) ds fault → Faults v n m (d ∷ ds) fault
+later v n m d ds e is recs NotJson h = absurd (h)
+later v n m d ds e is recs (BadShape k) h = inr (e, is, recs, h)
+later v n m d ds e is recs BadVersion h = absurd (h)
+later v n m d ds e is recs (Disagrees k) h = inr (e, is, recs, h)
+later v n m d ds e is recs OutOfMemory h = tt
 
-now : (n : ℕ) (m : Machine) (d : Data) (ds : List Data) (fault : SessionFault) (new : Machine) → Steps n m d (Err fault) new → Faults n m (d ∷ ds) fault
-now n m d ds NotJson new h = absurd h
-now n m d ds (BadShape k) new h = inl h
-now n m d ds BadVersion new h = absurd h
-now n m d ds (Disagrees k) new h = inl h
-now n m d ds OutOfMemory new h = tt
+now : (v n : ℕ) (m : Machine) (d : Data) (ds : List Data) (fault : SessionFault) (new : Machine) → Steps v n m d (Err fault) new → Faults v n m (d ∷ ds) fault
+now v n m d ds NotJson new h = absurd h
+now v n m d ds (BadShape k) new h = inl h
+now v n m d ds BadVersion new h = absurd h
+now v n m d ds (Disagrees k) new h = inl h
+now v n m d ds OutOfMemory new h = tt
 
-pub goes_on : (n : ℕ) (m : Machine) (d : Data) (ds : List Data) (start : Machine) (all : List Data) (new : Machine) → Goes n m (d ∷ ds) start all →
-    Steps n m d (Ok tt) new → Goes (n + 1) new ds start all
-goes_on n m d ds start all new g s = rw s.3 (record {
+pub goes_on : (v n : ℕ) (m : Machine) (d : Data) (ds : List Data) (start : Machine) (all : List Data) (new : Machine) → Goes v n m (d ∷ ds) start all →
+    Steps v n m d (Ok tt) new → Goes v (n + 1) new ds start all
+goes_on v n m d ds start all new g s = rw s.3 (record {
   ok = λ last h. g.ok last (s.0, s.1, s.2, h);
-  err = λ fault h. g.err fault (later n m d ds s.0 s.1 s.2 fault h);
+  err = λ fault h. g.err fault (later v n m d ds s.0 s.1 s.2 fault h);
 })
 
-pub stops : (n : ℕ) (m : Machine) (d : Data) (ds : List Data) (start : Machine) (all : List Data) (fault : SessionFault) (new : Machine) →
-    Goes n m (d ∷ ds) start all → Steps n m d (Err fault) new → Faults 1 start all fault
-stops n m d ds start all fault new g s = g.err fault (now n m d ds fault new s)
+pub stops : (v n : ℕ) (m : Machine) (d : Data) (ds : List Data) (start : Machine) (all : List Data) (fault : SessionFault) (new : Machine) →
+    Goes v n m (d ∷ ds) start all → Steps v n m d (Err fault) new → Faults v 1 start all fault
+stops v n m d ds start all fault new g s = g.err fault (now v n m d ds fault new s)
 
-pub starts : (start : Machine) (all : List Data) → Goes 1 start all start all
-starts start all = record { ok = λ new h. h; err = λ fault h. h }
+pub starts : (v : ℕ) (start : Machine) (all : List Data) → Goes v 1 start all start all
+starts v start all = record { ok = λ new h. h; err = λ fault h. h }
 
 -- the list from a place on, where there is one
 pub from_here : {A : Type 0} (xs : List A) (i : ℕ) (d : A) → i < length xs → drop i xs ≡ get_or xs i d ∷ drop (i + 1) xs

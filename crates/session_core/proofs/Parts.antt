@@ -109,10 +109,10 @@ four_same : (a b c d k l m n : Data) → a ≡ k → b ≡ l → c ≡ m → d �
 four_same a b c d k l m n p q r t = rw (p, q, r, t) refl
 
 -- the four members, from the parts and the acts
-pub parts_are : (d : Data) (p : Parts) → version_of d ≡ Some 2 → parts_at d ≡ Some p →
-    d ≡ object (four (array (acts_of d)) (limits_json p.limits) (list (map string p.names)) (whole 2))
+pub parts_are : (v : ℕ) (d : Data) (p : Parts) → version_of d ≡ Some v → parts_at d ≡ Some p →
+    d ≡ object (four (array (acts_of d)) (limits_json p.limits) (list (map string p.names)) (whole v))
 unfolding parts_at
-parts_are d p one e =
+parts_are version d p one e =
     let ms = bind_some (as_object d) (λ ms. values_at ms >>= λ values. as_array values.2 >>= λ nodes. names_at nodes >>= λ names.
     limits_at values.1 >>= λ limits. as_array values.0 >>= λ acts. Some (record { limits = limits; names = names })) p e in
     let v = bind_some (values_at ms.0) (λ values. as_array values.2 >>= λ nodes. names_at nodes >>= λ names. limits_at values.1 >>= λ limits.
@@ -128,10 +128,10 @@ parts_are d p one e =
     let m = values_are ms.0 v.0 v.1 in
     let of_object : d ≡ object ms.0 = object_is d ms.0 ms.1 in
     let d_is : d ≡ object (four v.0.0 v.0.1 v.0.2 m.0) = of_object ∙ ap object m.1 in
-    let w_is : m.0 ≡ whole 2 = whole_is m.0 2 (sym (ap version_of d_is) ∙ one) in
+    let w_is : m.0 ≡ whole version = whole_is m.0 version (sym (ap version_of d_is) ∙ one) in
     let acts_is : v.0.0 ≡ array acts.0 = array_is v.0.0 acts.0 acts.1 in
     let found : acts_of d ≡ acts.0 = ap acts_of of_object ∙ values_acts ms.0 v.0 v.1 ∙ ap items_in acts_is in
-    let whole_d : d ≡ object (four (array (acts_of d)) (limits_json made.limits) (list (map string made.names)) (whole 2)) =
-    d_is ∙ four_same v.0.0 v.0.1 v.0.2 m.0 (array (acts_of d)) (limits_json made.limits) (list (map string made.names)) (whole 2)
+    let whole_d : d ≡ object (four (array (acts_of d)) (limits_json made.limits) (list (map string made.names)) (whole version)) =
+    d_is ∙ four_same v.0.0 v.0.1 v.0.2 m.0 (array (acts_of d)) (limits_json made.limits) (list (map string made.names)) (whole version)
     (acts_is ∙ ap array (sym found)) (limits_are v.0.1 limits.0 limits.1) (array_is v.0.2 n.0 n.1 ∙ ap array (names_are n.0 names.0 names.1)) w_is in
-    whole_d ∙ ap (λ (x : Parts). object (four (array (acts_of d)) (limits_json x.limits) (list (map string x.names)) (whole 2))) same
+    whole_d ∙ ap (λ (x : Parts). object (four (array (acts_of d)) (limits_json x.limits) (list (map string x.names)) (whole version))) same

@@ -75,8 +75,8 @@ reply_no_float (Refused fault) = rest_no_float fault
 event_no_float : (e : Event) → has_float (event_json e) ≡ false
 event_no_float e = rw (act_no_float e.act, reply_no_float e.reply) refl
 
-pub session_no_float : (names : Texts) (limits : Limits) (events : List Event) → has_float (session names limits events) ≡ false
-session_no_float names limits events = rw (no_float_in event_json event_no_float events, no_float_in string (λ s. refl) names) refl
+pub session_no_float : (version : ℕ) (names : Texts) (limits : Limits) (events : List Event) → has_float (session version names limits events) ≡ false
+session_no_float version names limits events = rw (no_float_in event_json event_no_float events, no_float_in string (λ s. refl) names) refl
 
 step_depth : (s : Operation) → items_depth (items_of (step_data s)) ≤ 1
 step_depth (Join p) = omega arith
@@ -127,5 +127,5 @@ reply_depth (Refused fault) = omega (arith, rest_depth fault)
 event_depth : (e : Event) → depth (event_json e) ≤ 3
 event_depth e = omega (arith, act_depth e.act, reply_depth e.reply)
 
-pub session_depth : (names : Texts) (limits : Limits) (events : List Event) → depth (session names limits events) ≤ max_depth
-session_depth names limits events = omega (arith, depth_in event_json 3 event_depth events, depth_in string 0 (λ s. omega arith) names)
+pub session_depth : (version : ℕ) (names : Texts) (limits : Limits) (events : List Event) → depth (session version names limits events) ≤ max_depth
+session_depth version names limits events = omega (arith, depth_in event_json 3 event_depth events, depth_in string 0 (λ s. omega arith) names)

@@ -90,10 +90,10 @@ event_json e = list (whole e.actor ∷ act_json e.act ∷ reply_json e.reply ∷
 abbrev pub limits_json : Limits → Data
 limits_json l = list (whole l.acts ∷ whole l.entries ∷ whole l.clock ∷ whole l.messages ∷ [])
 
--- the session of these names, limits and events
-abbrev pub session : Texts → Limits → List Event → Data
-session names limits events = object (
+-- the session of these names, limits and events, in the form of this version
+abbrev pub session : ℕ → Texts → Limits → List Event → Data
+session version names limits events = object (
     member (codes "acts") (list (map event_json events)) (
     member (codes "limits") (limits_json limits) (
     member (codes "nodes") (list (map string names)) (
-    member (codes "version") (whole 2) no_members))))
+    member (codes "version") (whole version) no_members))))

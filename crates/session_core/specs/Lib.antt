@@ -1,5 +1,6 @@
 pub mod Format
 pub mod Decoding
 pub mod Decoded
+pub mod Versions
 pub mod Sessions
 pub mod Drafts

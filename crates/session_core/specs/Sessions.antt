@@ -3,6 +3,7 @@ use Rattle.std.specs.Prelude.{◌≡◌, ◌≢◌, ◌⊎◌, ℕ, ◌+◌, ◌
 use Rattle.std.specs.List.{AllByRecursion}
 use Rattle.serde_json.specs.Data.{Data, Items, no_items, item}
 use Rattle.serde_json.specs.Read.{read}
+use Rattle.serde_json.specs.Written.{compact_text}
 use Rattle.payload_core.specs.Words.{is_word}
 use Rattle.payload_core.specs.Presences.{Presence}
 use Rattle.node_core.specs.Operations.{Operation, Join, Leave, LeaveAll, Update, Broadcast, Extract, Deliver, Request, Answer, Up, Down, Permdown}
@@ -19,7 +20,8 @@ use Rattle.bench_core.specs.Replays.{Records, Replays}
 use Rattle.session_core.specs.declared.session_fault.SessionFault.{SessionFault}
 use Rattle.session_core.specs.declared.session_fault.SessionFault.TheVariants.{NotJson, BadShape, BadVersion, Disagrees, OutOfMemory}
 use Rattle.session_core.specs.Format.{session}
-use Rattle.session_core.specs.Decoding.{Parts, version_of, parts_at, acts_of, event_at}
+use Rattle.session_core.specs.Decoding.{Parts, version_of, parts_at, acts_of}
+use Rattle.session_core.specs.Versions.{IsVersion, tells, event_in}
 
 -- a bench after it recorded the event
 abbrev pub with_event : Machine → Event → Machine
@@ -29,10 +31,10 @@ with_event m e = with_state m (after (config_of m) m.state e.actor e.act e.reply
 abbrev pub RecordsNext : Machine → Event → Type 0
 RecordsNext m e = Records (config_of m) m.state e
 
--- from `old` on, the bench records the events that these values are, and comes to `new`
-abbrev pub Reads : Machine → List Data → Machine → Type 0
-Reads old [] new = new ≡ old
-Reads old (d ∷ ds) new = (e : Event) × (event_at d ≡ Some e) × RecordsNext old e × Reads (with_event old e) ds new
+-- from `old` on, the bench records the events that these values are, in a text of this version, and comes to `new`
+abbrev pub Reads : ℕ → Machine → List Data → Machine → Type 0
+Reads v old [] new = new ≡ old
+Reads v old (d ∷ ds) new = (e : Event) × (event_in v d ≡ Some e) × RecordsNext old e × Reads v (with_event old e) ds new
 
 -- whether the bench, asked the event's call, gave its reply and recorded it
 abbrev pub Asked : Event → Machine → Machine → Bool → Type 0
@@ -40,21 +42,22 @@ Asked e old new true = RecordsNext old e × (new ≡ with_event old e)
 Asked e old new false = ¬ RecordsNext old e
 
 -- what the value d of act n does to a bench
-abbrev pub Steps : ℕ → Machine → Data → Result (Unit {0}) SessionFault → Machine → Type 0
-Steps n old d (Ok u) new = (e : Event) × (event_at d ≡ Some e) × RecordsNext old e × (new ≡ with_event old e)
-Steps n old d (Err (BadShape k)) new = (k ≡ n) × (event_at d ≡ None)
-Steps n old d (Err (Disagrees k)) new = (k ≡ n) × ((e : Event) × (event_at d ≡ Some e) × ¬ RecordsNext old e)
-Steps n old d (Err OutOfMemory) new = Unit {0}
-Steps n old d (Err NotJson) new = ⊥
-Steps n old d (Err BadVersion) new = ⊥
+abbrev pub Steps : ℕ → ℕ → Machine → Data → Result (Unit {0}) SessionFault → Machine → Type 0
+Steps v n old d (Ok u) new = (e : Event) × (event_in v d ≡ Some e) × RecordsNext old e × (new ≡ with_event old e)
+Steps v n old d (Err (BadShape k)) new = (k ≡ n) × (event_in v d ≡ None)
+Steps v n old d (Err (Disagrees k)) new = (k ≡ n) × ((e : Event) × (event_in v d ≡ Some e) × ¬ RecordsNext old e)
+Steps v n old d (Err OutOfMemory) new = Unit {0}
+Steps v n old d (Err NotJson) new = ⊥
+Steps v n old d (Err BadVersion) new = ⊥
 
 -- the fault of the first value that is at fault, of values numbered from n
-abbrev pub Faults : ℕ → Machine → List Data → SessionFault → Type 0
-Faults n m ds OutOfMemory = Unit {0}
-Faults n m ds NotJson = ⊥
-Faults n m ds BadVersion = ⊥
-Faults n m [] fault = ⊥
-Faults n m (d ∷ ds) fault = Steps n m d (Err fault) m ⊎ ((e : Event) × (event_at d ≡ Some e) × RecordsNext m e × Faults (n + 1) (with_event m e) ds fault)
+abbrev pub Faults : ℕ → ℕ → Machine → List Data → SessionFault → Type 0
+Faults v n m ds OutOfMemory = Unit {0}
+Faults v n m ds NotJson = ⊥
+Faults v n m ds BadVersion = ⊥
+Faults v n m [] fault = ⊥
+Faults v n m (d ∷ ds) fault =
+    Steps v n m d (Err fault) m ⊎ ((e : Event) × (event_in v d ≡ Some e) × RecordsNext m e × Faults v (n + 1) (with_event m e) ds fault)
 
 abbrev pub data_of : Items → List Data
 data_of no_items = []
@@ -68,22 +71,28 @@ IsJson bytes d = IsUtf8 bytes × (read bytes ≡ Some d)
 abbrev pub first_bench : Parts → Machine
 first_bench p = opening_machine p.names p.limits
 
+-- the head of the value is that of a session of this version, with these parts
+pub record HasHead (d : Data) (v : ℕ) (p : Parts) : Type 0 where
+  pub version : version_of d ≡ Some v
+  pub known : IsVersion v
+  pub parts : parts_at d ≡ Some p
+
 -- the value is a session, whose calls leave the bench
 abbrev pub LeadsTo : Data → Machine → Type 0
-LeadsTo d m = (version_of d ≡ Some 2) × ((p : Parts) × (parts_at d ≡ Some p) × Reads (first_bench p) (data_of (acts_of d)) m)
+LeadsTo d m = (v : ℕ) × (p : Parts) × HasHead d v p × Reads v (first_bench p) (data_of (acts_of d)) m
 
 -- the value is no session, whatever its acts are
 abbrev pub IsMisshapen : Data → Type 0
-IsMisshapen d = (version_of d ≡ None) ⊎ ((version_of d ≡ Some 2) × (parts_at d ≡ None))
+IsMisshapen d = (version_of d ≡ None) ⊎ ((v : ℕ) × (version_of d ≡ Some v) × IsVersion v × (parts_at d ≡ None))
 
 -- an act of the value is at fault
 abbrev pub HasFault : Data → SessionFault → Type 0
-HasFault d fault = (version_of d ≡ Some 2) × ((p : Parts) × (parts_at d ≡ Some p) × Faults 1 (first_bench p) (data_of (acts_of d)) fault)
+HasFault d fault = (v : ℕ) × (p : Parts) × HasHead d v p × Faults v 1 (first_bench p) (data_of (acts_of d)) fault
 
 -- the case of each fault of a value
 abbrev pub IsRefused : Data → SessionFault → Type 0
 IsRefused d NotJson = ⊥
-IsRefused d BadVersion = (v : ℕ) × (version_of d ≡ Some v) × (v ≢ 2)
+IsRefused d BadVersion = (v : ℕ) × (version_of d ≡ Some v) × ¬ IsVersion v
 IsRefused d (BadShape k) = ((k ≡ 0) × IsMisshapen d) ⊎ HasFault d (BadShape k)
 IsRefused d (Disagrees k) = HasFault d (Disagrees k)
 IsRefused d OutOfMemory = Unit {0}
@@ -98,12 +107,18 @@ Refuses bytes NotJson = IsUtf8 bytes → read bytes ≡ None
 Refuses bytes OutOfMemory = Unit {0}
 Refuses bytes fault = (d : Data) × IsJson bytes d × IsRefused d fault
 
--- the text is the session of this bench: its names, limits and history, which the machine, opened so and asked these
--- calls, records one by one and ends in its state
-pub record IsSession (bytes : List ℕ) (m : Machine) : Type 0 where
+-- the text is the session of this bench, in the form of this version: its names, limits and history, which the machine,
+-- opened so and asked these calls, records one by one and ends in its state
+pub record IsSessionIn (version : ℕ) (bytes : List ℕ) (m : Machine) : Type 0 where
   pub utf8 : IsUtf8 bytes
-  pub reads : read bytes ≡ Some (session m.names m.limits m.state.history)
+  pub reads : read bytes ≡ Some (session version m.names m.limits m.state.history)
+  -- a text of this version can tell the history
+  pub told : AllByRecursion (λ e. tells version e ≡ true) m.state.history
   pub replays : Replays (config_of m) opening_state m.state.history m.state
+
+-- the text is the session of this bench, in the form of a version
+abbrev pub IsSession : List ℕ → Machine → Type 0
+IsSession bytes m = (version : ℕ) × IsVersion version × IsSessionIn version bytes m
 
 -- what the parts of a bench keep by their types
 
@@ -149,7 +164,7 @@ IsTold e = IsEvent e × IsRecordedReply e.reply
 
 -- the session of a bench, as it is saved
 pub record IsSaved (bytes : List ℕ) (m : Machine) : Type 0 where
-  pub session : IsSession bytes m
+  pub session : IsSessionIn 2 bytes m
   pub names : names_of m.names ≡ Ok m.names
   pub limits : AreLimits m.limits
   pub events : AllByRecursion IsTold m.state.history
@@ -158,3 +173,7 @@ pub record IsSaved (bytes : List ℕ) (m : Machine) : Type 0 where
 abbrev pub ComesBack : Machine → Result Machine SessionFault → Type 0
 ComesBack m (Ok loaded) = loaded ≡ m
 ComesBack m (Err fault) = fault ≡ OutOfMemory
+
+-- the new text is the session of the old text's bench, in the form of the second version
+abbrev pub IsCarried : List ℕ → List ℕ → Type 0
+IsCarried old new = (m : Machine) × IsSession old m × (new ≡ compact_text (session 2 m.names m.limits m.state.history)) × IsSaved new m

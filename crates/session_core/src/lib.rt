@@ -4,11 +4,12 @@
 //! take their memory from the global heap. In the order to read them: `session_fault`; `write_act`, `write_reply` and
 //! `saving`, from a bench to its text; `unread`, `places`, `read_step`, `read_act`, `read_reply`, `read_event` and
 //! `read_parts`, from JSON values to what they say; `one_value`, `acts` and `draft`, from a text to the values of its
-//! head and the events of its acts, value by value; `same_reply` and `loading`, which asks the calls again and compares
-//! each reply.
+//! head and the events of its acts, value by value; `version`, `same_reply` and `loading`, which asks the calls again and
+//! compares each reply; `carrying`, from a text to that of the latest version.
 #![tactic(auto)]
 
 mod acts;
+mod carrying;
 mod draft;
 mod loading;
 mod one_value;
@@ -22,9 +23,11 @@ mod same_reply;
 mod saving;
 mod session_fault;
 mod unread;
+mod version;
 mod write_act;
 mod write_reply;
 
+pub use carrying::carry;
 pub use loading::load;
 pub use saving::save;
 pub use session_fault::SessionFault;

@@ -6,6 +6,7 @@ ghost use Rattle.serde_json.specs.View.{view};
 ghost use Rattle.bench_core.specs.Machine.{Machine};
 ghost use Rattle.session_core.specs.Decoding.{event_at};
 ghost use Rattle.session_core.specs.Drafts.{AreRead, IsDraft};
+ghost use Rattle.session_core.specs.Versions.{number_of};
 ghost use Rattle.session_core.specs.Sessions.{Asked, Steps, Reads, Faults, Refuses, Answers, ComesBack, IsJson, IsSaved, IsSession};
 
 use crate::acts::Acts;
@@ -14,6 +15,7 @@ use crate::read_parts::{parts_at, version_of};
 use crate::same_reply::same_reply;
 use crate::session_fault::SessionFault;
 use crate::unread::Unread;
+use crate::version::Version;
 use bench_core::{Bench, Event, Fault, Reply};
 use dots_core::Oom;
 use std::alloc::{Allocator, Global};
@@ -36,14 +38,18 @@ fn records_next<'a, B: Allocator>(
     Ok(false)
 }
 
-/// Asks the call of act `number`, and compares the reply.
+/// Asks the call of act `number`, if the text of this version can tell it, and compares the reply.
 fn take_event<'a, B: Allocator>(
     bench: &mut Bench<'a, B>,
     event: &Event<&'a B>,
+    version: Version,
     number: u64,
 ) -> Result<(), SessionFault>
-    ensures { (d : Data) → event_at d ≡ Some event.now → Steps number bench.old d result bench.new }
+    ensures { (d : Data) → event_at d ≡ Some event.now → Steps (number_of version) number bench.old d result bench.new }
 {
+    if !version.tells(event) {
+        return Err(SessionFault::BadShape { act: number });
+    }
     match records_next(bench, event) {
         Ok(true) => Ok(()),
         Ok(false) => Err(SessionFault::Disagrees { act: number }),
@@ -55,16 +61,19 @@ fn take_event<'a, B: Allocator>(
 fn take_events<'a, B: Allocator>(
     bench: &mut Bench<'a, B>,
     acts: &Acts<&'a B>,
+    version: Version,
 ) -> Result<(), SessionFault>
-    ensures ok { OnOk result ((ds : List Data) → AreRead ds acts.now.events.items acts.now.is_cut → Reads bench.old ds bench.new) }
-    ensures err { IfErr result (λ fault. (ds : List Data) → AreRead ds acts.now.events.items acts.now.is_cut → Faults 1 bench.old ds fault) }
+    ensures ok { OnOk result ((ds : List Data) → AreRead ds acts.now.events.items acts.now.is_cut →
+        Reads (number_of version) bench.old ds bench.new) }
+    ensures err { IfErr result (λ fault. (ds : List Data) → AreRead ds acts.now.events.items acts.now.is_cut →
+        Faults (number_of version) 1 bench.old ds fault) }
 {
     for (place, event) in acts.events.iter().enumerate() {
-        take_event(bench, event, place as u64 + 1)?;
+        take_event(bench, event, version, place as u64 + 1)?;
     }
     if acts.is_cut {
-        let number = acts.events.len() as u64 + 1;
-        return Err(SessionFault::BadShape { act: number });
+        let act = acts.events.len() as u64 + 1;
+        return Err(SessionFault::BadShape { act });
     }
     Ok(())
 }
@@ -77,11 +86,12 @@ fn from_draft<'a, B: Allocator>(
 ) -> Result<Bench<'a, B>, SessionFault>
     ensures { (d : Data) → IsDraft d (view draft.now.head) draft.now.acts.events.items draft.now.acts.is_cut → Answers d result }
 {
-    match version_of(&draft.head) {
-        None => return Err(SessionFault::BadShape { act: 0 }),
-        Some(2) => {}
-        Some(_) => return Err(SessionFault::BadVersion),
-    }
+    let Some(number) = version_of(&draft.head) else {
+        return Err(SessionFault::BadShape { act: 0 });
+    };
+    let Some(version) = Version::of_number(number) else {
+        return Err(SessionFault::BadVersion);
+    };
     let parts = match parts_at(heap, alloc, &draft.head) {
         Ok(parts) => parts,
         Err(Unread::Memory) => return Err(SessionFault::OutOfMemory),
@@ -90,7 +100,7 @@ fn from_draft<'a, B: Allocator>(
     let Ok(mut bench) = Bench::new(alloc, parts.names, parts.limits) else {
         return Err(SessionFault::OutOfMemory);
     };
-    take_events(&mut bench, &draft.acts)?;
+    take_events(&mut bench, &draft.acts, version)?;
     Ok(bench)
 }
 
@@ -114,10 +124,11 @@ fn read<'a, B: Allocator>(
     }
 }
 
-/// The bench of a session: opened with the session's names and limits, and asked its calls in order. Each reply has to be
+/// The bench of a session, of either version: opened with the session's names and limits, and asked its calls in order. Each reply has to be
 /// the one in the text, and recorded. Of an object with two equal keys the last counts. The refusals come in this order:
-/// `NotJson`; `BadShape {act: 0}` where there is no whole number at `version`; `BadVersion`; `BadShape {act: 0}` for the
-/// rest of the head; then act by act `BadShape` before `Disagrees`. Each act's JSON is dropped once its event is known.
+/// `NotJson`; `BadShape {act: 0}` where there is no whole number at `version`; `BadVersion` where it is neither 1 nor 2;
+/// `BadShape {act: 0}` for the rest of the head; then act by act `BadShape` before `Disagrees`. A request, an answer and the
+/// refusals that come of these are acts of the second version alone. Each act's JSON is dropped once its event is known.
 /// JSON values and the list of events take their memory from the global heap.
 pub fn load<'a, B: Allocator>(
     heap: Global,

@@ -54,7 +54,7 @@ fn limits_value(heap: Global, limits: Limits) -> Result<Value, Oom>
 }
 
 fn session_value<'a, B: Allocator>(heap: Global, bench: &Bench<'a, B>) -> Result<Value, Oom>
-    ensures json { IfOk result (λ v. view v ≡ session bench.now.names bench.now.limits bench.now.state.history) }
+    ensures json { IfOk result (λ v. view v ≡ session 2 bench.now.names bench.now.limits bench.now.state.history) }
     ensures told { IfOk result (λ _. AllByRecursion IsEvent bench.now.state.history) }
 {
     let acts = events_value(heap, bench.history())?;
@@ -66,7 +66,7 @@ fn session_value<'a, B: Allocator>(heap: Global, bench: &Bench<'a, B>) -> Result
 /// The compact text of the bench's session: its names, its limits, and each recorded call with its reply. JSON values take
 /// their memory from the global heap.
 pub fn save<'a, B: Allocator>(heap: Global, bench: &Bench<'a, B>) -> Result<Vec<u8>, Oom>
-    ensures text { IfOk result (λ text. text.items ≡ compact_text (session bench.now.names bench.now.limits bench.now.state.history)) }
+    ensures text { IfOk result (λ text. text.items ≡ compact_text (session 2 bench.now.names bench.now.limits bench.now.state.history)) }
     ensures saved { IfOk result (λ text. IsSaved text.items bench.now) }
 {
     bench.bench_law();

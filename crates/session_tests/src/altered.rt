@@ -62,8 +62,9 @@ const ALTERED: &[(&str, &str, Option<SessionFault>)] = &[
         r#""version":18446744073709551615"#,
         VERSION,
     ),
-    (r#""version":2"#, r#""version":1"#, VERSION),
+    (r#""version":2"#, r#""version":1"#, None),
     (r#""version":2"#, r#""version":0"#, VERSION),
+    (r#""version":2"#, r#""version":3"#, VERSION),
     (r#""version":2"#, r#""version":9"#, VERSION),
     (r#""version":2"#, r#""version":9,"version":2"#, None),
     (r#""version":2"#, r#""version":2,"x":1"#, HEAD),
@@ -154,6 +155,7 @@ const ALTERED: &[(&str, &str, Option<SessionFault>)] = &[
     ),
 ];
 
+/// Altered so, texts of both versions have the same fault, but for a refusal that the first version hasn't.
 #[test]
 fn each_altered_session_has_its_fault(rt: HostRuntime) {
     for (part, by, fault) in ALTERED {
@@ -161,6 +163,13 @@ fn each_altered_session_has_its_fault(rt: HostRuntime) {
         let mut text = String::new(rt.alloc());
         assert!(rt; write!(text, "{before}{by}{after}").is_ok());
         assert_eq!(rt; fault_of(&rt, text.as_bytes()), *fault, "{by}");
+        if let Some((before, after)) = text.as_str().split_once(r#""version":2}"#) {
+            let mut older = String::new(rt.alloc());
+            assert!(rt; write!(older, "{before}\"version\":1}}{after}").is_ok());
+            if !by.contains(r#"["no",18]"#) {
+                assert_eq!(rt; fault_of(&rt, older.as_bytes()), *fault, "{by}");
+            }
+        }
     }
 }
 

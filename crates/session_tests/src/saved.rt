@@ -73,7 +73,7 @@ b request
 a answer b 1
 ";
 
-const ANSWERED_SAVED: &str = concat!(
+pub(crate) const ANSWERED_SAVED: &str = concat!(
     r#"{"acts":[[0,["do","join",1,"r","alice","phone"],["ok",1]],"#,
     r#"[1,["do","request"],["ok",2]],[0,["do","answer",1,1],["ok",3]]],"#,
     r#""limits":[100000,10000,1000000,10000],"nodes":["a","b"],"version":2}"#
@@ -91,7 +91,7 @@ b join 9 r bob desk
 c1 unwind 1
 ";
 
-const UNWOUND_SAVED: &str = concat!(
+pub(crate) const UNWOUND_SAVED: &str = concat!(
     r#"{"acts":[[0,["do","join",1,"r","alice","phone"],["ok",1]],"#,
     r#"[1,["do","up",0],["ok",2]],"#,
     r#"[0,["do","broadcast"],["ok",3]],"#,
@@ -241,6 +241,11 @@ fn same_nodes<'a, B: Allocator>(one: &Bench<'a, B>, other: &Bench<'a, B>) -> boo
     same
 }
 
+/// Whether both have the same calls, steps and nodes.
+pub(crate) fn comes_to<'a, B: Allocator>(one: &Bench<'a, B>, other: &Bench<'a, B>) -> bool {
+    same_calls(one, other) && same_steps(one, other) && same_nodes(one, other)
+}
+
 /// Whether the bench comes back from its text as it was.
 fn comes_back<'a, B: Allocator>(
     rt: &impl Abort,
@@ -250,7 +255,7 @@ fn comes_back<'a, B: Allocator>(
 ) -> bool {
     let text = save(heap, bench).expect(rt, "a text");
     let again = load(heap, alloc, &text).expect(rt, "a bench");
-    same_calls(bench, &again) && same_steps(bench, &again) && same_nodes(bench, &again)
+    comes_to(bench, &again)
 }
 
 #[test]

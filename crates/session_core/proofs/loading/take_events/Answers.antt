@@ -4,12 +4,14 @@ use Rattle.std.proofs.lemmas.Result.{err_from_is_err_and}
 use Rattle.session_core.specs.Drafts.{AreRead}
 use Rattle.session_core.specs.Sessions.{Reads, Faults}
 use Rattle.session_core.specs.declared.session_fault.SessionFault.TheVariants.{BadShape}
+use Rattle.session_core.specs.Versions.{number_of}
+use Rattle.session_core.proofs.Versions.{no_event}
 use Rattle.session_core.proofs.Drafting.{first_of, none_left, one_left}
 use Rattle.session_core.proofs.Loops.{Goes, goes_on, stops, starts, from_here}
 use Rattle.session_core.proofs.loading.take_events.Goals as goal
 
 pub loop-place-init : goal.loop-place-init
-loop-place-init g c = λ ds are. (ds, are, starts _ _)
+loop-place-init g c = λ ds are. (ds, are, starts (number_of c.args.version) _ _)
 
 pub returns-in_err-take_event-clause-err : goal.returns-in_err-take_event-clause-err
 returns-in_err-take_event-clause-err g c =
@@ -23,8 +25,8 @@ returns-in_err-take_event-clause-err g c =
     rw (p.1, p.2) (λ ds are.
     let here = c.loop-place.invariant ds are in
     let f = first_of here.0 c.event-item.result (drop (c.loop-place.place + 1) es) is_cut (subst (λ xs. AreRead here.0 xs is_cut) split here.1) in
-    stops _ c.loop-place.bench f.0 f.1 c.args.bench.now ds c.in_err-take_event.field-0.0 c.take_event.new.bench
-    (subst (λ xs. Goes (c.loop-place.place + 1) c.loop-place.bench xs c.args.bench.now ds) f.2 here.2) (c.in_err-take_event.ensures f.0 f.3))
+    stops (number_of c.args.version) _ c.loop-place.bench f.0 f.1 c.args.bench.now ds c.in_err-take_event.field-0.0 c.take_event.new.bench
+    (subst (λ xs. Goes (number_of c.args.version) (c.loop-place.place + 1) c.loop-place.bench xs c.args.bench.now ds) f.2 here.2) (c.in_err-take_event.ensures f.0 f.3))
 
 pub loop-place-preserved : goal.loop-place-preserved
 loop-place-preserved g c = λ ds are.
@@ -38,8 +40,8 @@ loop-place-preserved g c = λ ds are.
     let f = first_of here.0 c.event-item.result (drop (c.loop-place.place + 1) es) is_cut (subst (λ xs. AreRead here.0 xs is_cut) split here.1) in (
       f.1,
       f.4,
-      goes_on _ c.loop-place.bench f.0 f.1 c.args.bench.now ds c.take_event.new.bench
-          (subst (λ xs. Goes (c.loop-place.place + 1) c.loop-place.bench xs c.args.bench.now ds) f.2 here.2) (c.in_ok-take_event.ensures f.0 f.3),
+      goes_on (number_of c.args.version) _ c.loop-place.bench f.0 f.1 c.args.bench.now ds c.take_event.new.bench
+          (subst (λ xs. Goes (number_of c.args.version) (c.loop-place.place + 1) c.loop-place.bench xs c.args.bench.now ds) f.2 here.2) (c.in_ok-take_event.ensures f.0 f.3),
     )
 
 pub returns-clause-ok : goal.returns-clause-ok
@@ -50,7 +52,7 @@ returns-clause-ok g c = λ ds are.
     let over : drop c.loop-place.place es ≡ [] = drop_all c.loop-place.place es (omega (arith, c.loop-place-test.false, ap length c.deref-event-items.ensures.value)) in
     let uncut = subst (λ cut. AreRead here.0 (drop c.loop-place.place es) cut) c.if-acts.false here.1 in
     let none = none_left here.0 (subst (λ xs. AreRead here.0 xs false) over uncut) in
-    here.2.ok b (subst (λ xs. Reads b xs b) (sym none) refl)
+    here.2.ok b (subst (λ xs. Reads (number_of c.args.version) b xs b) (sym none) refl)
 
 pub returns-then-acts-clause-err : goal.returns-then-acts-clause-err
 returns-then-acts-clause-err g c = λ ds are.
@@ -62,5 +64,5 @@ returns-then-acts-clause-err g c = λ ds are.
     let cut = subst (λ cut. AreRead here.0 (drop c.loop-place.place es) cut) c.if-acts.true here.1 in
     let one = one_left here.0 (subst (λ xs. AreRead here.0 xs true) over cut) in
     let number : c.len.result + 1 ≡ c.loop-place.place + 1 = omega (arith, c.loop-place-test.false, c.loop-place.auto.place-end, sizes, c.len.ensures) in
-    stops _ b one.0 one.1 c.args.bench.now ds (BadShape (c.len.result + 1)) b
-    (subst (λ xs. Goes (c.loop-place.place + 1) b xs c.args.bench.now ds) one.2 here.2) (number, one.3)
+    stops (number_of c.args.version) _ b one.0 one.1 c.args.bench.now ds (BadShape (c.len.result + 1)) b
+    (subst (λ xs. Goes (number_of c.args.version) (c.loop-place.place + 1) b xs c.args.bench.now ds) one.2 here.2) (number, no_event (number_of c.args.version) one.0 one.3)

@@ -1,0 +1,22 @@
+//! `carry`: a session's text in the form of the latest version.
+ghost use Rattle.std.specs.Prelude.{IfErr, IfOk};
+ghost use Rattle.session_core.specs.Sessions.{IsCarried, Refuses};
+
+use crate::loading::load;
+use crate::saving::save;
+use crate::session_fault::SessionFault;
+use std::alloc::Global;
+
+/// The compact text, in the form of the second version, of the bench that the text is a session of: of the same names,
+/// limits and recorded calls, so with the same remaining steps and the same cluster. It refuses what `load` refuses, in its
+/// order. All memory is taken from the global heap.
+pub fn carry(heap: Global, bytes: &[u8]) -> Result<Vec<u8>, SessionFault>
+    ensures carried { IfOk result (λ text. IsCarried bytes.now text.items) }
+    ensures refused { IfErr result (Refuses bytes.now) }
+{
+    let bench = load(heap, &heap, bytes)?;
+    match save(heap, &bench) {
+        Ok(text) => Ok(text),
+        Err(_) => Err(SessionFault::OutOfMemory),
+    }
+}
