@@ -6,12 +6,13 @@ use script_core::{FakeReader, FakeWriter, play};
 use std::process::ExitCode;
 use std::{fs, io};
 
-const EXAMPLES: [&str; 7] = [
+const EXAMPLES: [&str; 8] = [
     "comes-back",
     "late-up",
     "lost-removal",
     "out-of-order",
     "permdown-and-back",
+    "removal-too-soon",
     "undo-held",
     "unwind",
 ];
