@@ -1,10 +1,11 @@
-//! Plays each script of `examples/` and compares what it prints with the report that stands beside it, byte for byte.
+//! Plays each script of `examples/` and compares what it prints with the report that stands beside it, byte for byte; given the
+//! name of one, prints its report. It reads them where it runs, or in the folder `data` there.
 #![tactic(auto)]
 
 use bench_core::Limits;
 use script_core::{FakeReader, FakeWriter, play};
 use std::process::ExitCode;
-use std::{fs, io};
+use std::{env, fs, io};
 
 const EXAMPLES: [&str; 8] = [
     "comes-back",
@@ -19,8 +20,14 @@ const EXAMPLES: [&str; 8] = [
 
 /// The bytes of an example's file with this ending.
 fn file(rt: &HostRuntime, example: &str, ending: &str) -> io::Result<Vec<u8>> {
-    let path = format!(in rt.alloc(); "{example}.{ending}")?;
-    fs::read(rt, path.as_str())
+    let here = format!(in rt.alloc(); "{example}.{ending}")?;
+    match fs::read(rt, here.as_str()) {
+        Err(fault) if fault.kind() == io::ErrorKind::NotFound => {
+            let below = format!(in rt.alloc(); "data/{example}.{ending}")?;
+            fs::read(rt, below.as_str())
+        }
+        read => read,
+    }
 }
 
 /// Whether the example's script prints its report.
@@ -33,16 +40,41 @@ fn is_as_reported(rt: &HostRuntime, example: &str) -> io::Result<bool> {
     Ok(answer.is_ok() && writer.taken() == report.as_slice())
 }
 
-fn main(rt: HostRuntime) -> ExitCode {
+/// Whether each example could be told of.
+fn tells_each(rt: &HostRuntime) -> bool {
     for example in EXAMPLES {
-        let told = match is_as_reported(&rt, example) {
+        let told = match is_as_reported(rt, example) {
             Ok(true) => "as reported",
             Ok(false) => "not as reported",
             Err(_) => "not read",
         };
         if println!(rt; "{example}: {told}").is_err() {
-            return ExitCode::from(1);
+            return false;
         }
     }
-    ExitCode::SUCCESS
+    true
+}
+
+/// Whether the example's script was played, and its report printed.
+fn prints(rt: &HostRuntime, example: &str) -> io::Result<bool> {
+    let script = file(rt, example, "script")?;
+    let mut reader = FakeReader::ending(&script);
+    let mut output = io::writer(rt);
+    Ok(play(&rt.alloc(), &mut reader, &mut output, Limits::usual()).is_ok())
+}
+
+/// Does what the words after the program's name ask, and tells whether that went well.
+fn ends_well(rt: &HostRuntime) -> io::Result<bool> {
+    let mut words = env::args(rt)?.skip(1);
+    match words.next() {
+        Some(example) => prints(rt, &example),
+        None => Ok(tells_each(rt)),
+    }
+}
+
+fn main(rt: HostRuntime) -> ExitCode {
+    match ends_well(&rt) {
+        Ok(true) => ExitCode::SUCCESS,
+        Ok(false) | Err(_) => ExitCode::from(1),
+    }
 }
