@@ -1,5 +1,5 @@
-//! Plays each script of `examples/` and compares what it prints with the report that stands beside it, byte for byte; given the
-//! name of one, prints its report. It reads them where it runs, or in the folder `data` there.
+//! Plays each script of `examples/` and compares what it prints with the report that stands beside it, byte for byte; given a
+//! file, prints the report of the script in it.
 #![tactic(auto)]
 
 use bench_core::Limits;
@@ -20,14 +20,8 @@ const EXAMPLES: [&str; 8] = [
 
 /// The bytes of an example's file with this ending.
 fn file(rt: &HostRuntime, example: &str, ending: &str) -> io::Result<Vec<u8>> {
-    let here = format!(in rt.alloc(); "{example}.{ending}")?;
-    match fs::read(rt, here.as_str()) {
-        Err(fault) if fault.kind() == io::ErrorKind::NotFound => {
-            let below = format!(in rt.alloc(); "data/{example}.{ending}")?;
-            fs::read(rt, below.as_str())
-        }
-        read => read,
-    }
+    let path = format!(in rt.alloc(); "{example}.{ending}")?;
+    fs::read(rt, path.as_str())
 }
 
 /// Whether the example's script prints its report.
@@ -55,9 +49,9 @@ fn tells_each(rt: &HostRuntime) -> bool {
     true
 }
 
-/// Whether the example's script was played, and its report printed.
-fn prints(rt: &HostRuntime, example: &str) -> io::Result<bool> {
-    let script = file(rt, example, "script")?;
+/// Whether the script in this file was played, and its report printed.
+fn prints(rt: &HostRuntime, path: &str) -> io::Result<bool> {
+    let script = fs::read(rt, path)?;
     let mut reader = FakeReader::ending(&script);
     let mut output = io::writer(rt);
     Ok(play(&rt.alloc(), &mut reader, &mut output, Limits::usual()).is_ok())
@@ -67,7 +61,7 @@ fn prints(rt: &HostRuntime, example: &str) -> io::Result<bool> {
 fn ends_well(rt: &HostRuntime) -> io::Result<bool> {
     let mut words = env::args(rt)?.skip(1);
     match words.next() {
-        Some(example) => prints(rt, &example),
+        Some(path) => prints(rt, &path),
         None => Ok(tells_each(rt)),
     }
 }
