@@ -34,7 +34,7 @@ fn entry<A: Allocator + Copy>(
 }
 
 /// Puts in an entry whose dot is not there.
-fn put<A: Allocator>(rt: &impl Abort, entries: &mut EntrySet<A>, entry: Entry<A>) {
+fn put<A: Allocator + Copy>(rt: &impl Abort, entries: &mut EntrySet<A>, entry: Entry<A>) {
     assert!(rt; entries.get(entry.dot).is_none());
     let is_in = entries.insert(entry).is_ok();
     assert!(rt; is_in);
@@ -322,7 +322,7 @@ fn a_copy_of_a_word_takes_no_memory(rt: HostRuntime) {
 }
 
 /// Whether the insert of an entry whose dot is not there is refused, and gives the entry back.
-fn is_given_back<A: Allocator>(
+fn is_given_back<A: Allocator + Copy>(
     rt: &impl Abort,
     entries: &mut EntrySet<A>,
     entry: Entry<A>,

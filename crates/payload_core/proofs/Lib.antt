@@ -2,6 +2,7 @@ pub mod Collected
 pub mod EntryLists
 pub mod EntryMaps
 pub mod LeftTogether
+pub mod Marked
 pub mod MergedCounts
 pub mod PutBack
 pub mod SeenEntries

@@ -7,9 +7,11 @@ pub mod ForgottenNames
 pub mod Laws
 pub mod LeavesTogether
 pub mod LeftEntries
+pub mod Marks
 pub mod Messages
 pub mod Outboxes
 pub mod Presences
 pub mod StoreCodes
 pub mod Stores
+pub mod TrackIndices
 pub mod Words

@@ -1,7 +1,9 @@
 //! `Entry`, a presence with its dot.
 ghost use Rattle.std.specs.Prelude.{◌≡◌, ◌↔◌, IfOk, IsTrue};
+ghost use Rattle.payload_core.specs.Marks.{mark_of};
 ghost use Rattle.payload_core.specs.Presences.{is_tracked_as, presence_of};
 
+use crate::mark::mark;
 use crate::word::Word;
 use dots_core::{Dot, Oom};
 use std::alloc::Allocator;
@@ -42,6 +44,13 @@ impl<A: Allocator> Entry<A> {
         ensures { result ≡ is_tracked_as pid topic.now key.now (presence_of self.now) }
     {
         self.pid == pid && self.topic == *topic && self.key == *key
+    }
+
+    /// The mark of its process, topic and key.
+    pub fn mark(&self) -> u64
+        ensures { result ≡ mark_of self.now.pid self.now.topic self.now.key }
+    {
+        mark(self.pid, &self.topic, &self.key)
     }
 
     /// An entry with the same fields, which shares its words. It takes no memory.

@@ -52,7 +52,7 @@ pub(crate) fn take_out_each<A: Allocator>(entries: &mut EntrySet<A>, dots: &[Dot
 }
 
 /// Puts these in, for which there is room.
-pub fn put_each<A: Allocator>(entries: &mut EntrySet<A>, taken: Vec<Entry<A>, A>)
+pub fn put_each<A: Allocator + Copy>(entries: &mut EntrySet<A>, taken: Vec<Entry<A>, A>)
     requires room { length taken.items ≤ entries.old.room }
     requires new { AreNew (pairs taken.items) entries.old.map }
     ensures { entries.new.map ≡ with_each (pairs taken.items) entries.old.map }

@@ -5,91 +5,105 @@ ghost use Rattle.std.specs.FinSet as set;
 ghost use Rattle.std.specs.Option.{option_copied, option_map};
 ghost use Rattle.payload_core.specs.EntryLists.{IsPlaceFrom};
 ghost use Rattle.payload_core.specs.Presences.{dots_of, entries_of_names, entry_of, is_tracked_as, presence_of};
+ghost use Rattle.payload_core.specs.TrackIndices.{tracked_at};
 
+use crate::entries_by_dot::EntriesByDot;
 use crate::entry::Entry;
-use crate::entry_list::{are_same, entry_at, first_tracked, search};
+use crate::mark::mark;
+use crate::track_index::{Holder, TrackIndex};
 use crate::word::Word;
 use dots_core::{Dot, NameSet, Oom};
 use std::alloc::Allocator;
 use std::marker::Model;
 
-/// Live entries by their dots, with room for more. It is kept as a list that rises by dot.
+/// Live entries by their dots, with room for more. An index may find those of one name by process, topic and key; a copy
+/// goes without.
 #[derive(Drop)]
 pub struct EntrySet<A: Allocator> {
-    entries: Vec<Entry<A>, A>,
+    by_dot: EntriesByDot<A>,
+    by_mark: TrackIndex<A>,
 }
 
 impl<A: Allocator> Model for EntrySet<A> {
-    ghost use Rattle.std.specs.Prelude.{◌-◌, vec_capacity, vec_len};
-    ghost use Rattle.payload_core.specs.EntryLists.{Rises, entries_of};
+    ghost use Rattle.std.specs.Prelude.{min};
     ghost use Rattle.payload_core.specs.EntrySets.{EntrySet, entry_set_code};
+    ghost use Rattle.payload_core.specs.TrackIndices.{Covers};
 
     ghost Value = { EntrySet };
 
     ghost coded = { entry_set_code };
 
-    ghost view = { λ s. record { map = entries_of s.entries.items; room = vec_capacity s.entries - vec_len s.entries } };
+    ghost view = { λ s. record { map = s.by_dot.map; room = min s.by_dot.room s.by_mark.room } };
 
-    ghost invariant = { λ s. Rises s.entries.items };
+    ghost invariant = { λ s. Covers s.by_mark s.by_dot.map };
 }
 
 impl<A: Allocator> EntrySet<A> {
-    /// The empty set. It takes no memory.
-    pub fn new(alloc: A) -> EntrySet<A>
-        ensures { result.map ≡ fin.empty }
-    {
-        EntrySet {
-            entries: Vec::new(alloc),
-        }
-    }
-
     /// How many entries it has.
     pub fn len(&self) -> usize
         ensures len { result ≡ fin.len self.now.map }
         ensures small { result < 2 ^ 63 }
     {
-        self.entries.len()
+        self.by_dot.len()
     }
 
     /// Whether it has no entry.
     pub fn is_empty(&self) -> bool
         ensures { IsTrue result ↔ (self.now.map ≡ fin.empty) }
     {
-        self.entries.is_empty()
+        self.by_dot.is_empty()
     }
 
     /// The entry of the dot, in a logarithm of comparisons.
     pub fn get(&self, dot: Dot) -> Option<&Entry<A>>
         ensures { option_copied result ≡ option_map (entry_of dot) (fin.get self.now.map dot) }
     {
-        match search(&self.entries, dot) {
-            Ok(place) => Some(&self.entries[place]),
-            Err(_) => None,
-        }
+        self.by_dot.get(dot)
     }
 
     /// The entry at a place, counted from 0 by rising dot.
     pub fn at(&self, place: usize) -> Option<&Entry<A>>
         ensures { option_copied result ≡ option_map (λ e. entry_of e.0 e.1) (slice_get (fin.entries self.now.map) place) }
     {
-        entry_at(&self.entries, place)
+        self.by_dot.at(place)
     }
 
     /// The place of the first entry whose dot is not below this one, or the end, in a logarithm of comparisons.
     pub fn first_from(&self, dot: Dot) -> usize
         ensures { IsPlaceFrom dot (fin.entries self.now.map) result }
     {
-        match search(&self.entries, dot) {
-            Ok(place) => place,
-            Err(place) => place,
-        }
+        self.by_dot.first_from(dot)
     }
 
-    /// The dot of the least clock among those of a name that are tracked as this process, topic and key.
+    /// The dot of the least clock among those of a name that are tracked as this process, topic and key. Where at most one
+    /// is, and the index is of the name, it is found at once.
     pub fn find(&self, name: u16, pid: u64, topic: &Word<A>, key: &Word<A>) -> Option<Dot>
         ensures { result ≡ slice_get (dots_of name (is_tracked_as pid topic.now key.now) self.now.map) 0 }
     {
-        first_tracked(&self.entries, name, pid, topic, key)
+        match self.by_mark.holder(name, mark(pid, topic, key)) {
+            None => None,
+            Some(Holder::One(dot)) => self.tracked_at(dot, name, pid, topic, key),
+            Some(Holder::Several) => self.by_dot.first_tracked(name, pid, topic, key),
+        }
+    }
+
+    /// The dot, where its entry is of the name and tracked as this process, topic and key.
+    fn tracked_at(
+        &self,
+        dot: Dot,
+        name: u16,
+        pid: u64,
+        topic: &Word<A>,
+        key: &Word<A>,
+    ) -> Option<Dot>
+        ensures { result ≡ tracked_at self.now.map dot name (is_tracked_as pid topic.now key.now) }
+    {
+        let entry = self.by_dot.get(dot)?;
+        if dot.name == name && entry.is_tracked_as(pid, topic, key) {
+            Some(dot)
+        } else {
+            None
+        }
     }
 
     /// Takes the entry of the dot out, in a logarithm of comparisons. The room never falls.
@@ -98,9 +112,37 @@ impl<A: Allocator> EntrySet<A> {
         ensures map { self.new.map ≡ fin.remove self.old.map dot }
         ensures room { self.old.room ≤ self.new.room }
     {
-        match search(&self.entries, dot) {
-            Ok(place) => Some(self.entries.remove(place)),
-            Err(_) => None,
+        let entry = self.by_dot.remove(dot)?;
+        self.by_mark.remove(entry.mark(), dot);
+        Some(entry)
+    }
+
+    /// Whether both have the same entries, whatever their room. It takes no memory.
+    pub fn same(&self, other: &EntrySet<A>) -> bool
+        ensures { IsTrue result ↔ (self.now.map ≡ other.now.map) }
+    {
+        self.by_dot.same(&other.by_dot)
+    }
+}
+
+impl<A: Allocator + Copy> EntrySet<A> {
+    /// The empty set, without an index. It takes no memory.
+    pub fn new(alloc: A) -> EntrySet<A>
+        ensures { result.map ≡ fin.empty }
+    {
+        EntrySet {
+            by_dot: EntriesByDot::new(alloc),
+            by_mark: TrackIndex::of_none(),
+        }
+    }
+
+    /// The empty set, with an index of the entries of this name. It takes no memory.
+    pub fn indexed(alloc: A, name: u16) -> EntrySet<A>
+        ensures { result.map ≡ fin.empty }
+    {
+        EntrySet {
+            by_dot: EntriesByDot::new(alloc),
+            by_mark: TrackIndex::of(name),
         }
     }
 
@@ -110,8 +152,10 @@ impl<A: Allocator> EntrySet<A> {
         ensures map { self.new.map ≡ self.old.map }
         ensures room_stays { self.old.room ≤ self.new.room }
         ensures ok { OnOk result (count ≤ self.new.room) }
+        ensures succeeds { count ≤ self.old.room → IsOk result }
     {
-        self.entries.reserve(count)
+        self.by_dot.make_room(count)?;
+        self.by_mark.make_room(count, self.by_dot.allocator())
     }
 
     /// Puts a new entry in, in a logarithm of comparisons. Where memory is refused, it comes back.
@@ -123,47 +167,29 @@ impl<A: Allocator> EntrySet<A> {
         ensures err { OnErr result (self.new.map ≡ self.old.map) }
         ensures given_back { IfErr result (λ failed. failed.0 ≡ entry) }
     {
-        let Err(place) = search(&self.entries, entry.dot) else {
-            unreachable!();
-        };
-        if let Err(failed) = self.entries.insert(place, entry) {
-            return Err((failed.value, Oom));
+        if let Err(failed) = self.make_room(1) {
+            return Err((entry, failed));
         }
+        self.by_mark.add(entry.mark(), entry.dot);
+        self.by_dot.insert(entry).unwrap();
         Ok(())
     }
 
     /// The entries of these names.
     pub fn only(&self, names: NameSet) -> Result<EntrySet<A>, Oom>
-    where
-        A: Copy,
         ensures { IfOk result (λ part. part.map ≡ entries_of_names (set.contains names) self.now.map) }
     {
-        let mut entries = Vec::new(*self.entries.allocator());
-        for entry in &self.entries {
-            if names.has(entry.dot.name) {
-                entries.push(entry.try_copy()?)?;
-            }
-        }
-        Ok(EntrySet { entries })
-    }
-
-    /// Whether both have the same entries, whatever their room. It takes no memory.
-    pub fn same(&self, other: &EntrySet<A>) -> bool
-        ensures { IsTrue result ↔ (self.now.map ≡ other.now.map) }
-    {
-        are_same(&self.entries, &other.entries)
+        let by_dot = self.by_dot.only(names)?;
+        let by_mark = TrackIndex::of_none();
+        Ok(EntrySet { by_dot, by_mark })
     }
 
     /// A set with the same entries.
     pub fn try_copy(&self) -> Result<EntrySet<A>, Oom>
-    where
-        A: Copy,
         ensures { IfOk result (λ copy. copy.map ≡ self.now.map) }
     {
-        let mut entries = Vec::with_capacity(*self.entries.allocator(), self.len())?;
-        for entry in &self.entries {
-            entries.push(entry.try_copy()?)?;
-        }
-        Ok(EntrySet { entries })
+        let by_dot = self.by_dot.try_copy()?;
+        let by_mark = TrackIndex::of_none();
+        Ok(EntrySet { by_dot, by_mark })
     }
 }

@@ -51,7 +51,7 @@ pub fn forget<A: Allocator + Copy>(
 }
 
 /// What was held of the name is held again. Where memory is refused, it comes back.
-pub fn remember<A: Allocator>(
+pub fn remember<A: Allocator + Copy>(
     store: &mut Store<A>,
     name: u16,
     forgotten: Forgotten<A>,

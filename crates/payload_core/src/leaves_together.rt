@@ -278,7 +278,7 @@ fn unsee_next<A: Allocator>(
 }
 
 /// Puts what left back into the entries and into the delta's, which have room for it.
-fn put_lefts<A: Allocator>(
+fn put_lefts<A: Allocator + Copy>(
     entries: &mut EntrySet<A>,
     delta_entries: &mut EntrySet<A>,
     lefts: Vec<Left<A>, A>,

@@ -5,12 +5,14 @@
 //! were seen and the map of the live entries among them, and nothing of how they are kept. This crate uses `dots_core`; it
 //! knows nothing of replicas and steps.
 //!
-//! In the order to read them: `word`; `entry`, `entry_list`, in which the entries stand by dot, and `entry_set`; `payload`,
-//! a message; `outbox`. Then `store`, and its edits, each with what takes it back: `store_joins`; `store_leaves`, with
-//! `left_entry`, what a leave destroyed; `forgotten_name`, what a store held of a name, with `entry_moves`;
-//! `store_deliveries`, with `store_differences`, what a message changes in a store; and `laws`, of deliveries.
+//! In the order to read them: `word`, `mark`; `entry`; `entry_list` and `entries_by_dot`, in which the entries stand by dot,
+//! `track_index`, which finds those of one name by process, topic and key, and `entry_set`; `payload`, a message; `outbox`.
+//! Then `store`, and its edits, each with what takes it back: `store_joins`; `store_leaves`, with `left_entry`, what a leave
+//! destroyed; `leaves_together`; `forgotten_name`, what a store held of a name, with `entry_moves`; `store_deliveries`, with
+//! `store_differences`, what a message changes in a store; and `laws`, of deliveries.
 #![tactic(auto)]
 
+mod entries_by_dot;
 mod entry;
 mod entry_list;
 mod entry_moves;
@@ -19,6 +21,7 @@ mod forgotten_name;
 pub mod laws;
 mod leaves_together;
 mod left_entry;
+mod mark;
 mod outbox;
 mod payload;
 mod store;
@@ -26,6 +29,7 @@ mod store_deliveries;
 mod store_differences;
 mod store_joins;
 mod store_leaves;
+mod track_index;
 mod word;
 
 pub use dots_core::Oom;

@@ -73,6 +73,13 @@ impl<A: Allocator + Copy> Store<A> {
         }
     }
 
+    /// A store of nothing in which the entries of this name are found by process, topic and key.
+    pub fn indexed(alloc: A, name: u16) -> Store<A>
+        ensures { result ≡ nothing }
+    {
+        Store::from_parts(DotSet::new(alloc), EntrySet::indexed(alloc, name))
+    }
+
     /// What it has of these names.
     pub fn only(&self, names: NameSet) -> Result<Store<A>, Oom>
         ensures { IfOk result (λ some. some ≡ part (set.contains names) self.now) }

@@ -72,14 +72,15 @@ pub fn merge<A: Allocator + Copy>(
     ensures new { IfOk result (λ delivered. AreNew (pairs delivered.left) (without_each delivered.joined store.new.entries)) }
     ensures err { OnErr result (store.new ≡ store.old) }
 {
+    let seen = message.seen();
     let joined = dots_of(&joining, alloc)?;
-    let parts = old_parts(&store.seen, message.seen(), names, alloc)?;
+    let parts = old_parts(&store.seen, seen, names, alloc)?;
     let mut left = Vec::with_capacity(alloc, leaving.len())?;
     make_ready(
         &mut store.entries,
         &mut store.seen,
         joining.len(),
-        message.seen(),
+        seen,
         names,
     )?;
     move_each(&mut store.entries, leaving, &mut left);
@@ -150,7 +151,7 @@ fn make_ready<A: Allocator + Copy>(
 
 /// A delivery is taken back: what joined goes, what left stands again, and the dots are those from before. Where memory is
 /// refused, the record comes back.
-pub fn undeliver<A: Allocator>(
+pub fn undeliver<A: Allocator + Copy>(
     store: &mut Store<A>,
     delivered: Delivered<A>,
 ) -> Result<(), (Delivered<A>, Oom)>

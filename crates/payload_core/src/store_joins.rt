@@ -42,7 +42,7 @@ pub fn join<A: Allocator + Copy>(
 }
 
 /// Makes room for one more entry in both, and then puts the dot in.
-fn make_ready<A: Allocator>(
+fn make_ready<A: Allocator + Copy>(
     entries: &mut EntrySet<A>,
     delta_entries: &mut EntrySet<A>,
     delta_seen: &mut DotSet<A>,

@@ -94,7 +94,7 @@ pub fn update<A: Allocator + Copy>(
 }
 
 /// Makes room for one more entry in both, and then puts the dots in.
-fn make_ready<A: Allocator>(
+fn make_ready<A: Allocator + Copy>(
     entries: &mut EntrySet<A>,
     delta_entries: &mut EntrySet<A>,
     delta_seen: &mut DotSet<A>,
@@ -135,7 +135,7 @@ fn see<A: Allocator>(seen: &mut DotSet<A>, dot: Dot, fresh: Dot) -> Result<(), O
 }
 
 /// A leave or an update is taken back: the last dot of the name goes with its entry, and what left stands again.
-pub fn restore<A: Allocator>(
+pub fn restore<A: Allocator + Copy>(
     store: &mut Store<A>,
     delta: &mut Store<A>,
     last: Dot,
@@ -173,7 +173,7 @@ pub fn restore<A: Allocator>(
 }
 
 /// Puts the entry in, if there is one. There is room for it.
-pub(crate) fn put_back<A: Allocator>(entries: &mut EntrySet<A>, entry: Option<Entry<A>>)
+pub(crate) fn put_back<A: Allocator + Copy>(entries: &mut EntrySet<A>, entry: Option<Entry<A>>)
     requires room { 1 ≤ entries.old.room }
     requires absent { IsFree entry entries.old.map }
     ensures map { entries.new.map ≡ put entry entries.old.map }
@@ -185,7 +185,7 @@ pub(crate) fn put_back<A: Allocator>(entries: &mut EntrySet<A>, entry: Option<En
 }
 
 /// Makes room for one more entry in both, and then takes the dot that left out of the delta where it is not to stand there.
-fn make_ready_to_restore<A: Allocator>(
+fn make_ready_to_restore<A: Allocator + Copy>(
     entries: &mut EntrySet<A>,
     delta_entries: &mut EntrySet<A>,
     delta_seen: &mut DotSet<A>,

@@ -190,7 +190,7 @@ impl<A: Allocator + Copy> Replica<A> {
             alloc,
             own,
             limits,
-            store: Store::new(alloc),
+            store: Store::indexed(alloc, own),
             view: View::opening(own),
             delta: Store::new(alloc),
         }

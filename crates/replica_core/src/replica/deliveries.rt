@@ -23,6 +23,8 @@ use std::alloc::Allocator;
 impl<A: Allocator> Replica<A> {
     /// Takes out what joined by a delivery, and puts back what left.
     pub(super) fn undeliver(&mut self, delivered: Delivered<A>) -> Result<(), (Delivered<A>, Oom)>
+    where
+        A: Copy,
         requires new { AreNew (pairs delivered.left) (without_each delivered.joined self.old.store.entries) }
         requires earlier { IsReplica (with_undelivered delivered self.old) }
         ensures ok { OnOk result (self.new ≡ with_undelivered delivered self.old) }

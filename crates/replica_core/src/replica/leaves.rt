@@ -41,6 +41,8 @@ impl<A: Allocator> Replica<A> {
 
     /// Takes the last own dot out, with its entry, and puts back what left.
     pub(super) fn restore(&mut self, left: Left<A>) -> Result<(), (Left<A>, Oom)>
+    where
+        A: Copy,
         requires { CanBeRestored left self.old }
         ensures ok { OnOk result (self.new ≡ with_left left (without_last self.old)) }
         ensures err { OnErr result (self.new ≡ self.old) }

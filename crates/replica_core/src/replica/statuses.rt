@@ -57,6 +57,8 @@ impl<A: Allocator> Replica<A> {
         name: u16,
         forgotten: Forgotten<A>,
     ) -> Result<(), (Forgotten<A>, Oom)>
+    where
+        A: Copy,
         requires name { name < 32 }
         requires new { AreNew (pairs forgotten.entries) self.old.store.entries }
         requires earlier { IsReplica (with_remembered name forgotten self.old) }

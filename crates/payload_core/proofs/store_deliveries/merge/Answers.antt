@@ -20,8 +20,8 @@ returns-clause-ok g c =
     c.args.joining.items c.args.leaving.now c.make_ready.new.entries.map c.move_each.new.entries.map c.put_each.new.entries.map
     c.requires.joining c.requires.leaving
     (c.make_ready.ensures.entries ∙ ap (λ (s : Store). s.entries) c.store.view_is) c.move_each.ensures.map c.put_each.ensures in
-    let seen = seen_after (set.contains c.args.names) (store_of c.args.message.now) c.args.store.now c.store.inside.seen c.seen-2.result.now
-    c.make_ready.new.seen (ap (λ (s : Store). s.seen) c.store.view_is) c.seen-2.ensures c.in_ok-make_ready.ensures.seen in
+    let seen = seen_after (set.contains c.args.names) (store_of c.args.message.now) c.args.store.now c.store.inside.seen c.seen-seen.result.now
+    c.make_ready.new.seen (ap (λ (s : Store). s.seen) c.store.view_is) c.seen-seen.ensures c.in_ok-make_ready.ensures.seen in
     λ i. record { seen = seen i; entries = entries i }
 
 pub returns-clause-destroyed : goal.returns-clause-destroyed
@@ -34,7 +34,7 @@ returns-clause-destroyed g c = record {
       (c.move_each.ensures.taken ∙ ap (λ (es : List Entry). pairs es ++ picked c.args.leaving.now c.make_ready.new.entries.map)
       c.in_ok-left.ensures.items);
   parts =
-      subst₂ (λ other s. AreOldParts (set.contains c.args.names) other s c.in_ok-parts.parts.items) c.seen.ensures
+      subst₂ (λ other s. AreOldParts (set.contains c.args.names) other s c.in_ok-parts.parts.items) c.seen-seen.ensures
       (ap (λ (s : Store). s.seen) c.store.view_is) c.in_ok-parts.ensures.parts;
 }
 
@@ -49,8 +49,8 @@ returns-clause-back g c =
     (c.move_each.ensures.taken ∙ ap (λ (es : List Entry). pairs es ++ picked c.args.leaving.now c.make_ready.new.entries.map)
     c.in_ok-left.ensures.items) in
     let seen = seen_back (set.contains c.args.names) c.in_ok-parts.parts.items
-    (store_of c.args.message.now) c.store.inside.seen c.seen.result.now c.seen-2.result.now c.make_ready.new.seen c.seen.ensures
-    c.seen-2.ensures c.in_ok-make_ready.ensures.seen c.in_ok-parts.ensures.whole
+    (store_of c.args.message.now) c.store.inside.seen c.seen-seen.result.now c.seen-seen.result.now c.make_ready.new.seen c.seen-seen.ensures
+    c.seen-seen.ensures c.in_ok-make_ready.ensures.seen c.in_ok-parts.ensures.whole
     ∙ ap (λ (s : Store). s.seen) c.store.view_is in
     λ i. record { seen = seen i; entries = entries i }
 

@@ -1,9 +1,31 @@
-use Rattle.std.proofs.Common.{ap, ◌∙◌}
+use Rattle.std.proofs.Common.{◌≡◌, ap, false, rules, subst, subst₂, sym, ◌∙◌}
 use Rattle.std.specs.FinMap as fin
+use Rattle.std.specs.FinSet as set
+use Rattle.dots_core.specs.Contexts.{IsLast, IsNext}
+use Rattle.dots_core.specs.Dots.{IsValid}
 use Rattle.payload_core.specs.Presences.{Entry}
 use Rattle.payload_core.specs.Stores.{Store}
 use Rattle.payload_core.proofs.StoreEdits.{never_absent, absent_after}
 use Rattle.payload_core.proofs.store_leaves.update.Goals as goal
+
+pub make_ready-requires : goal.make_ready-requires
+make_ready-requires g c = (
+  search rules,
+  (
+    c.requires.valid,
+    (
+      subst (λ (e : Entry). IsValid e.dot) (sym c.entry.view_is) c.requires.valid_fresh,
+      (
+        subst₂ (λ (e : Entry) (s : Store). IsLast e.dot s.seen) (sym c.entry.view_is) (sym c.delta.view_is) c.requires.last,
+        subst₂ (λ (e : Entry) (s : Store). set.contains s.seen e.dot ≡ false) (sym c.entry.view_is) (sym c.delta.view_is) c.requires.unseen,
+      ),
+    ),
+  ),
+)
+
+pub unwrap-requires : goal.unwrap-requires
+unwrap-requires g c =
+    c.insert.ensures.next (subst₂ (λ (e : Entry) (s : Store). IsNext e.dot s.seen) (sym c.entry.view_is) (sym c.store.view_is) c.requires.next)
 
 pub unreachable-requires : goal.unreachable-requires
 unreachable-requires g c =

@@ -1,7 +1,7 @@
-use Rattle.std.proofs.Common.{ap, ◌∙◌}
-use Rattle.payload_core.specs.EntryLists.{entries_of}
-use Rattle.payload_core.proofs.EntryLists.{entries_of_none}
+use Rattle.std.proofs.Common.{sym, subst}
+use Rattle.payload_core.specs.TrackIndices.{Covers}
+use Rattle.payload_core.proofs.Marked.{covers_empty}
 use Rattle.payload_core.proofs.entry_set.EntrySet.new.Goals as goal
 
-pub returns : goal.returns
-returns g c = ap entries_of c.new.ensures.items ∙ entries_of_none
+pub invariant_of-result : goal.invariant_of-result
+invariant_of-result g c = subst (Covers c.of_none.result) (sym c.new.ensures) (covers_empty c.of_none.result)

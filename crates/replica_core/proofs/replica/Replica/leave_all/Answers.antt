@@ -1,9 +1,38 @@
-use Rattle.std.proofs.Common.{ap, sym, ◌∙◌}
+use Rattle.std.proofs.Common.{◌≡◌, ℕ, ◌==◌, not, true, false, List, [], ◌∷◌, length, Some, refl, ap, sym, subst, ◌∙◌, true≢false, arith}
+use Rattle.std.proofs.lemmas.Bool.{eq-eqb, eqb-true}
+use Rattle.dots_core.specs.declared.dot.Dot.{Dot}
 use Rattle.payload_core.specs.LeavesTogether.{lefts_of}
-use Rattle.replica_core.specs.Replicas.{left_each}
-use Rattle.replica_core.specs.Refusals.{is_clock_full}
+use Rattle.replica_core.specs.declared.replica_fault.ReplicaFault.TheVariants.{NotTracked, ClockFull}
+use Rattle.replica_core.specs.Replicas.{Replica, dots_of_process, left_each}
+use Rattle.replica_core.specs.Refusals.{first_of, is_clock_full, is_some_dot, leave_all_refusal}
 use Rattle.replica_core.proofs.Calls.{leave_all_free}
 use Rattle.replica_core.proofs.replica.Replica.leave_all.Goals as goal
+
+-- where no entry is of the process
+leave_all_untracked : (r : Replica) (pid : ℕ) (ds : List Dot) (len : ℕ) → ds ≡ dots_of_process r pid → len ≡ length ds →
+    (len == 0) ≡ true → leave_all_refusal r pid ≡ Some NotTracked
+leave_all_untracked r pid [] len is count none =
+    subst (λ (ds : List Dot). first_of ((not (is_some_dot ds), NotTracked) ∷ (is_clock_full r (length ds), ClockFull) ∷ []) ≡ Some NotTracked) is refl
+leave_all_untracked r pid (d ∷ ds) len is count none = absurd (omega (arith, eqb-true len 0 none))
+
+-- where there are more than the own clock has room for
+leave_all_full : (r : Replica) (pid : ℕ) (ds : List Dot) (len : ℕ) → ds ≡ dots_of_process r pid → len ≡ length ds →
+    (len == 0) ≡ false → is_clock_full r len ≡ true → leave_all_refusal r pid ≡ Some ClockFull
+leave_all_full r pid [] len is count some full = absurd (true≢false (sym (eq-eqb len 0 count) ∙ some))
+leave_all_full r pid (d ∷ ds) len is count some full =
+    subst (λ (ds : List Dot). first_of ((not (is_some_dot ds), NotTracked) ∷ (is_clock_full r (length ds), ClockFull) ∷ []) ≡ Some ClockFull) is
+    (ap (λ b. first_of ((b, ClockFull) ∷ [])) (ap (is_clock_full r) (sym count) ∙ full))
+
+pub returns-then-is_empty-clause-refused : goal.returns-then-is_empty-clause-refused
+returns-then-is_empty-clause-refused g c =
+    λ _. leave_all_untracked c.args.self.now c.args.pid c.in_ok-leaving.leaving.items _ c.in_ok-leaving.ensures.dots c.in_ok-leaving.leaving.ok.0
+    (sym c.is_empty.ensures ∙ c.if-is_empty.true)
+
+pub returns-then-is_clock_full-clause-refused : goal.returns-then-is_clock_full-clause-refused
+returns-then-is_clock_full-clause-refused g c =
+    λ _. leave_all_full c.args.self.now c.args.pid c.in_ok-leaving.leaving.items _ c.in_ok-leaving.ensures.dots c.in_ok-leaving.leaving.ok.0
+    (sym c.is_empty.ensures ∙ c.if-is_empty.false)
+    (ap (is_clock_full c.args.self.now) (sym c.len.ensures) ∙ sym c.is_clock_full.ensures ∙ c.if-is_clock_full.true)
 
 pub returns-clause-refused : goal.returns-clause-refused
 returns-clause-refused g c =

@@ -10,6 +10,12 @@ use Rattle.replica_core.proofs.Deliveries.{standing_holds}
 use Rattle.replica_core.proofs.Delivered.{merge_asked, store_after}
 use Rattle.replica_core.proofs.replica.Replica.merge.Goals as goal
 
+pub joining-requires : goal.joining-requires
+joining-requires g c = (search rules, search rules)
+
+pub leaving-requires : goal.leaving-requires
+leaving-requires g c = (search rules, search rules)
+
 pub overflow_sub-len : goal.overflow_sub-len
 overflow_sub-len g c =
     (len-merged (set.contains c.others-names.result) (store_of c.args.message.now) _ c.in_ok-joining.joining.items

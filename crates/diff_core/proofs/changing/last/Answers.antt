@@ -1,0 +1,15 @@
+use Rattle.std.proofs.Common.{ℕ, ap, subst, ◌∙◌}
+use Rattle.dots_core.specs.Contexts.{IsContext}
+use Rattle.dots_core.specs.Dots.{Dots, dot}
+use Rattle.replica_core.proofs.Dots.{own_context}
+use Rattle.diff_core.proofs.changing.last.Goals as goal
+
+pub returns : goal.returns
+returns g c =
+    let own = c.args.replica.now.own in
+    let seen = c.args.replica.now.store.seen in
+    ap (λ (n : ℕ). dot n c.clock_of.result) c.own-own.ensures
+    ∙ ap (λ (k : ℕ). dot own k)
+    (own_context own c.clock_of.result seen c.replica_law.ensures.clocks
+    (subst (λ (n : ℕ). IsContext seen n c.clock_of.result) c.own-own.ensures
+    (subst (λ (s : Dots). IsContext s c.own-own.result c.clock_of.result) c.seen.ensures c.clock_of.ensures)))

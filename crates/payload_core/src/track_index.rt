@@ -1,0 +1,175 @@
+//! `TrackIndex`: where an entry of one name with a mark stands.
+ghost use Rattle.std.specs.Prelude.{◌≡◌, ◌≢◌, ◌+◌, ◌<◌, ◌≤◌, IsOk, OnOk, ℕ};
+ghost use Rattle.dots_core.specs.declared.dot.Dot.{Dot};
+ghost use Rattle.std.specs.HashMap.{spare};
+ghost use Rattle.payload_core.specs.TrackIndices.{Holds, held_as, holder_of, is_of};
+
+use dots_core::{Dot, Oom};
+use std::alloc::Allocator;
+use std::collections::HashMap;
+use std::hash::{BuildHasherDefault, FoldHasher};
+use std::marker::Model;
+
+/// Where the entries with a mark stand.
+#[derive(Clone, Copy)]
+pub enum Holder {
+    /// At this dot alone.
+    One(Dot),
+    /// At any of several dots.
+    Several,
+}
+
+/// What is known of each mark. It stands on the heap, so that a set that needs none stays small.
+type Holders<A> = HashMap<u64, Holder, BuildHasherDefault<FoldHasher>, A>;
+
+/// What is known of each mark among the entries of one name, or of none: of a mark that it doesn't have, the name has no
+/// entry. Of other names it knows nothing. It takes no memory before room is made.
+#[derive(Drop)]
+pub struct TrackIndex<A: Allocator> {
+    name: Option<u16>,
+    holders: Option<Box<Holders<A>, A>>,
+}
+
+impl<A: Allocator> Model for TrackIndex<A> {
+    ghost use Rattle.std.specs.Prelude.{◌^◌, [], if◌then◌else◌, is_some};
+    ghost use Rattle.std.specs.HashMap.{spare};
+    ghost use Rattle.payload_core.specs.TrackIndices.{TrackIndex, in_box, track_index_code};
+
+    ghost Value = { TrackIndex };
+
+    ghost coded = { track_index_code };
+
+    ghost view = { λ x. record { name = x.name; holders = in_box [] (λ h. h.value.entries) x.holders; room = (if is_some x.name then in_box 0 (λ h. spare h.value) x.holders else 2 ^ 64) } };
+}
+
+impl<A: Allocator> TrackIndex<A> {
+    /// The index of this name's entries, of which there are none. It takes no memory.
+    pub fn of(name: u16) -> TrackIndex<A> {
+        TrackIndex {
+            name: Some(name),
+            holders: None,
+        }
+    }
+
+    /// The index of no name, whatever entries there are. It takes no memory.
+    pub fn of_none() -> TrackIndex<A>
+        ensures { (name mark : ℕ) (dot : Dot) → Holds (holder_of result name mark) dot }
+    {
+        TrackIndex {
+            name: None,
+            holders: None,
+        }
+    }
+
+    /// Whether it is of this name.
+    fn is_of(&self, name: u16) -> bool
+        ensures { result ≡ is_of self.now.name name }
+    {
+        match self.name {
+            Some(own) => own == name,
+            None => false,
+        }
+    }
+
+    /// What is known of a mark among the entries of a name.
+    pub fn holder(&self, name: u16, mark: u64) -> Option<Holder>
+        ensures { result ≡ holder_of self.now name mark }
+    {
+        if !self.is_of(name) {
+            return Some(Holder::Several);
+        }
+        match &self.holders {
+            Some(holders) => holder_in(holders, mark),
+            None => None,
+        }
+    }
+
+    /// An entry with this mark left the dot. The room never falls.
+    pub fn remove(&mut self, mark: u64, dot: Dot)
+        ensures others { (n m : ℕ) (d : Dot) → d ≢ dot → Holds (holder_of self.old n m) d → Holds (holder_of self.new n m) d }
+        ensures room { self.old.room ≤ self.new.room }
+    {
+        if !self.is_of(dot.name) {
+            return;
+        }
+        if let Some(mut holders) = self.holders.take() {
+            take_out(&mut holders, mark, dot);
+            self.holders = Some(holders);
+        }
+    }
+}
+
+impl<A: Allocator + Copy> TrackIndex<A> {
+    /// After an `Ok` there is room for as many more.
+    pub fn make_room(&mut self, count: usize, alloc: A) -> Result<(), Oom>
+        ensures stays { (n m : ℕ) (d : Dot) → Holds (holder_of self.old n m) d → Holds (holder_of self.new n m) d }
+        ensures room_stays { self.old.room ≤ self.new.room }
+        ensures ok { OnOk result (count ≤ self.new.room) }
+        ensures succeeds { count ≤ self.old.room → IsOk result }
+    {
+        if self.name.is_none() || count == 0 {
+            return Ok(());
+        }
+        let mut holders = match self.holders.take() {
+            Some(holders) => holders,
+            None => Box::new(alloc, HashMap::new(alloc))?,
+        };
+        let made = holders.reserve(count);
+        self.holders = Some(holders);
+        made
+    }
+
+    /// An entry with this mark came to the dot.
+    pub fn add(&mut self, mark: u64, dot: Dot)
+        requires { 0 < self.old.room }
+        ensures added { Holds (holder_of self.new dot.name mark) dot }
+        ensures stays { (n m : ℕ) (d : Dot) → Holds (holder_of self.old n m) d → Holds (holder_of self.new n m) d }
+        ensures room { self.old.room ≤ self.new.room + 1 }
+    {
+        if !self.is_of(dot.name) {
+            return;
+        }
+        if let Some(mut holders) = self.holders.take() {
+            put_in(&mut holders, mark, dot);
+            self.holders = Some(holders);
+        }
+    }
+}
+
+/// What is known of a mark among these.
+fn holder_in<A: Allocator>(holders: &Holders<A>, mark: u64) -> Option<Holder>
+    ensures { result ≡ held_as holders.now.entries mark }
+{
+    match holders.get(&mark) {
+        Some(holder) => Some(*holder),
+        None => None,
+    }
+}
+
+/// An entry with this mark left the dot.
+fn take_out<A: Allocator>(holders: &mut Holders<A>, mark: u64, dot: Dot)
+    ensures others { (m : ℕ) (d : Dot) → d ≢ dot → Holds (held_as holders.old.entries m) d → Holds (held_as holders.new.entries m) d }
+    ensures room { spare holders.old ≤ spare holders.new }
+{
+    if let Some(Holder::One(held)) = holder_in(holders, mark) {
+        if held == dot {
+            holders.remove(&mark);
+        }
+    }
+}
+
+/// An entry with this mark came to the dot.
+fn put_in<A: Allocator + Copy>(holders: &mut Holders<A>, mark: u64, dot: Dot)
+    requires { 0 < spare holders.old }
+    ensures added { Holds (held_as holders.new.entries mark) dot }
+    ensures stays { (m : ℕ) (d : Dot) → Holds (held_as holders.old.entries m) d → Holds (held_as holders.new.entries m) d }
+    ensures room { spare holders.old ≤ spare holders.new + 1 }
+{
+    let holder = if holders.contains_key(&mark) {
+        Holder::Several
+    } else {
+        Holder::One(dot)
+    };
+    let put: Result<_, _> = holders.insert(mark, holder);
+    drop(put.unwrap());
+}
