@@ -1,0 +1,6 @@
+use Rattle.std.proofs.Common.{take}
+use Rattle.explore_core.specs.Waypoints.{Gathers}
+use Rattle.explore_core.proofs.exploring.outcomes_of.Given as goal
+
+abbrev pub invariant-loop-waypoint : goal.invariant-loop-waypoint
+invariant-loop-waypoint g l = Gathers (take l.waypoint-index l.waypoints) l.outcomes.items

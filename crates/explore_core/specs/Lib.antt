@@ -1,0 +1,4 @@
+pub mod Orders
+pub mod Alike
+pub mod Waypoints
+pub mod Explorations

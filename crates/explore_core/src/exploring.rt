@@ -1,0 +1,156 @@
+//! `explore`: what all orders of some lines lead to.
+ghost use Rattle.std.specs.Prelude.{◌≡◌, ◌≢◌, ◌≤◌, ◌<◌, ◌^◌, [], ◌∷◌, IfErr, IfOk, MatchBool, OnOk, length};
+ghost use Rattle.std.specs.List.{AllByRecursion};
+ghost use Rattle.bench_core.specs.Machine.{Machine, cluster_of, opening_machine};
+ghost use Rattle.explore_core.specs.Orders.{end_of, plain_lists, total};
+ghost use Rattle.explore_core.specs.Alike.{are_steps};
+ghost use Rattle.explore_core.specs.Explorations.{IsAny, IsOutcome, IsEveryOrder, AreDistinct, IsRefusal, IsEveryRefusal};
+ghost use Rattle.explore_core.specs.Waypoints.{opening_waypoint, AddsOutcome, AreMore, Gathers, IsAt};
+
+use crate::alike::{are_steps, same_nodes};
+use crate::explore_fault::ExploreFault;
+use crate::outcome::{Explored, Outcome};
+use crate::walking::{Found, Plan, deepened};
+use crate::waypoint::Waypoint;
+use bench_core::{Act, Limits, Names};
+use node_core::Oom;
+use std::alloc::Allocator;
+
+/// Whether an outcome has these nodes.
+fn is_among<'a, B: Allocator>(outcomes: &[Outcome<'a, B>], waypoint: &Waypoint<'a, B>) -> bool
+    ensures { MatchBool result (IsAny (λ o. cluster_of waypoint.now.machine ≡ cluster_of o.machine) outcomes.now)
+        (AllByRecursion (λ o. cluster_of waypoint.now.machine ≢ cluster_of o.machine) outcomes.now) }
+{
+    for outcome in outcomes {
+        if same_nodes(&waypoint.bench, &outcome.bench) {
+            return true;
+        }
+    }
+    false
+}
+
+/// Tells the waypoint as an outcome, unless one has its nodes.
+fn gather<'a, B: Allocator>(
+    alloc: &'a B,
+    outcomes: &mut Vec<Outcome<'a, B>, &'a B>,
+    waypoint: &Waypoint<'a, B>,
+) -> Result<(), Oom>
+    ensures { OnOk result (AddsOutcome outcomes.old.items waypoint.now outcomes.new.items) }
+{
+    if is_among(outcomes.as_slice(), waypoint) {
+        return Ok(());
+    }
+    let outcome = waypoint.outcome(alloc)?;
+    outcomes.push(outcome)?;
+    Ok(())
+}
+
+/// The different clusters of the waypoints, each once.
+fn outcomes_of<'a, B: Allocator>(
+    alloc: &'a B,
+    waypoints: &[Waypoint<'a, B>],
+) -> Result<Vec<Outcome<'a, B>, &'a B>, Oom>
+    ensures { IfOk result (λ outcomes. Gathers waypoints.now outcomes.items) }
+{
+    let mut outcomes = Vec::new(alloc);
+    for waypoint in waypoints {
+        gather(alloc, &mut outcomes, waypoint)?;
+    }
+    Ok(outcomes)
+}
+
+/// How many lines there are.
+fn count_lines<A: Allocator>(lists: &[Vec<Act<A>, A>]) -> u128
+    requires { length lists.now < 2 ^ 16 }
+    ensures { result ≡ total (end_of (plain_lists lists.now)) }
+{
+    let mut count = 0u128;
+    for lines in lists {
+        count += lines.len() as u128;
+    }
+    count
+}
+
+/// The waypoint before the first line, alone.
+fn begun<'a, B: Allocator>(
+    plan: &Plan<'_, 'a, B>,
+    names: Names<&'a B>,
+    limits: Limits,
+) -> Result<Found<'a, B>, Oom>
+    ensures kept { IfOk result (λ found. found.kept.items ≡ opening_waypoint (plain_lists plan.now.lists.now) (opening_machine names.entry limits) ∷ []) }
+    ensures told { IfOk result (λ found. found.told.items ≡ []) }
+{
+    let start = Waypoint::start(plan.alloc, names, limits, plan.lists)?;
+    let mut kept = Vec::new(plan.alloc);
+    kept.push(start)?;
+    Ok(Found {
+        kept,
+        told: Vec::new(plan.alloc),
+    })
+}
+
+/// What is found once so many lines were asked, and how many states were kept, of which there may be so many.
+fn walked<'a, B: Allocator>(
+    plan: &Plan<'_, 'a, B>,
+    first: Found<'a, B>,
+    lines: u128,
+    most: usize,
+) -> Result<(Found<'a, B>, usize), ExploreFault>
+    requires few { length plan.now.lists.now < 2 ^ 16 }
+    requires steps { plan.now.steps_alone ≡ are_steps (plain_lists plan.now.lists.now) }
+    requires lines { lines ≡ total (end_of (plain_lists plan.now.lists.now)) }
+    requires room { 1 ≤ most }
+    requires one { length first.kept.items ≡ 1 }
+    ensures walked { IfOk result (λ r. (opening : Machine) → IsAt (plain_lists plan.now.lists.now) opening 0 first.entry.kept.items first.entry.told.items →
+        IsAt (plain_lists plan.now.lists.now) opening lines r.0.kept.items r.0.told.items) }
+    ensures most { IfOk result (λ r. r.1 ≤ most) }
+    ensures too_many { IfErr result (λ fault. fault ≡ ExploreFault.TooMany →
+        (opening : Machine) → IsAt (plain_lists plan.now.lists.now) opening 0 first.entry.kept.items first.entry.told.items →
+        AreMore (plain_lists plan.now.lists.now) opening most) }
+{
+    let mut found = first;
+    let mut states = 1;
+    for _ in 0..lines {
+        found = deepened(plan, found, most - states)?;
+        states += found.kept.len();
+    }
+    Ok((found, states))
+}
+
+/// What all orders of these lines lead to, on a bench of these names and limits that was asked nothing: list `i`, from 0, has
+/// the lines of actor `i` in their order. `TooMany` where more different states than `most` would be kept.
+pub fn explore<'a, B: Allocator>(
+    alloc: &'a B,
+    names: Names<&'a B>,
+    limits: Limits,
+    lists: &[Vec<Act<&'a B>, &'a B>],
+    most: usize,
+) -> Result<Explored<'a, B>, ExploreFault>
+    requires { length lists.now < 2 ^ 16 }
+    ensures every_order { IfOk result (λ e. IsEveryOrder (plain_lists lists.now) (opening_machine names.entry limits) e.outcomes.items) }
+    ensures outcomes { IfOk result (λ e. AllByRecursion (IsOutcome (plain_lists lists.now) (opening_machine names.entry limits)) e.outcomes.items) }
+    ensures distinct { IfOk result (λ e. AreDistinct e.outcomes.items) }
+    ensures every_refusal { IfOk result (λ e. IsEveryRefusal (plain_lists lists.now) (opening_machine names.entry limits) e.refusals.items) }
+    ensures refusals { IfOk result (λ e. AllByRecursion (IsRefusal (plain_lists lists.now) (opening_machine names.entry limits)) e.refusals.items) }
+    ensures most { IfOk result (λ e. e.states ≤ most) }
+    ensures too_many { IfErr result (λ fault. fault ≡ ExploreFault.TooMany → AreMore (plain_lists lists.now) (opening_machine names.entry limits) most) }
+{
+    let plan = Plan {
+        alloc,
+        lists,
+        steps_alone: are_steps(lists),
+    };
+    let lines = count_lines(lists);
+    if most == 0 {
+        return Err(ExploreFault::TooMany);
+    }
+    let first = begun(&plan, names, limits)?;
+    let (found, states) = walked(&plan, first, lines, most)?;
+    let Found { kept, told } = found;
+    let outcomes = outcomes_of(alloc, kept.as_slice())?;
+    Ok(Explored {
+        outcomes,
+        refusals: told,
+        states,
+    })
+}

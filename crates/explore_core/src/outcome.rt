@@ -1,0 +1,65 @@
+//! What is told of all orders.
+ghost use Rattle.std.specs.Prelude.{◌≡◌, ◌↔◌, IsTrue};
+
+use bench_core::{Bench, Fault};
+use std::alloc::Allocator;
+use std::marker::Model;
+
+/// What an order leads to: the actors of its calls, each of which asks its next line, and the bench after them.
+#[derive(Drop)]
+pub struct Outcome<'a, B: Allocator> {
+    pub order: Vec<u16, &'a B>,
+    pub bench: Bench<'a, B>,
+}
+
+impl<'a, B: Allocator> Model for Outcome<'a, B> {
+    ghost use Rattle.bench_core.specs.contracts.reply.Reply.{the_row as reply_row};
+    ghost use Rattle.explore_core.specs.Explorations.{Outcome as Ends, outcome_code};
+
+    ghost Value = { Ends };
+
+    ghost coded = { outcome_code reply_row.coded };
+
+    ghost view = { λ o. record { order = o.order.items; machine = o.bench } };
+}
+
+/// A line that is refused: its actor, its place among the actor's lines, from 0, why it is refused, and the actors of the calls
+/// before it in the first order that was met in which it is.
+#[derive(Drop)]
+pub struct Refusal<'a, B: Allocator> {
+    pub actor: u16,
+    pub line: usize,
+    pub fault: Fault,
+    pub order: Vec<u16, &'a B>,
+}
+
+impl<'a, B: Allocator> Model for Refusal<'a, B> {
+    ghost use Rattle.bench_core.specs.contracts.fault.Fault.{the_row as fault_row};
+    ghost use Rattle.explore_core.specs.Explorations.{Told, told_code};
+
+    ghost Value = { Told };
+
+    ghost coded = { told_code fault_row.coded };
+
+    ghost view = { λ r. record { refusal = record { actor = r.actor; line = r.line; fault = r.fault }; order = r.order.items } };
+}
+
+impl<'a, B: Allocator> Refusal<'a, B> {
+    /// Whether both are of the same line and fault.
+    pub(crate) fn same(&self, other: &Self) -> bool
+        ensures { IsTrue result ↔ (self.now.refusal ≡ other.now.refusal) }
+    {
+        self.actor == other.actor && self.line == other.line && self.fault == other.fault
+    }
+}
+
+/// What all orders lead to.
+#[derive(Drop)]
+pub struct Explored<'a, B: Allocator> {
+    /// The different clusters, each once, with an order that leads there.
+    pub outcomes: Vec<Outcome<'a, B>, &'a B>,
+    /// The lines that are refused in some order.
+    pub refusals: Vec<Refusal<'a, B>, &'a B>,
+    /// How many different states the walk kept.
+    pub states: usize,
+}

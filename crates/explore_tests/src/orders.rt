@@ -1,0 +1,250 @@
+//! Small sets of lines whose orders were gone through by hand.
+use crate::lines::Line::{self, Back, Broadcast, Deliver, Join, Undo, Up};
+use crate::lines::{limits_of, lists_of, names_of};
+use bench_core::{Bench, Fault};
+use explore_core::{ExploreFault, Explored, explore};
+use std::alloc::{Allocator, Global};
+use std::process::Abort;
+
+/// The actors of an order, and how many entries the nodes `a` and `b` have after it.
+struct Ends {
+    order: &'static [u16],
+    entries: [usize; 2],
+}
+
+/// An actor, the place of its line, and why it is refused; and the actors of the calls before it.
+struct Refused {
+    actor: u16,
+    line: usize,
+    fault: Fault,
+    order: &'static [u16],
+}
+
+struct Case {
+    acts: u64,
+    lists: &'static [&'static [Line]],
+    outcomes: &'static [Ends],
+    refusals: &'static [Refused],
+    states: usize,
+}
+
+const CASES: [Case; 6] = [
+    // A delivery before the broadcast is refused, in three of six orders.
+    Case {
+        acts: 100,
+        lists: &[&[Join(1), Broadcast], &[Up(0), Deliver(0, 1)]],
+        outcomes: &[
+            Ends {
+                order: &[0, 0, 1, 1],
+                entries: [1, 1],
+            },
+            Ends {
+                order: &[0, 1, 1, 0],
+                entries: [1, 0],
+            },
+        ],
+        refusals: &[Refused {
+            actor: 1,
+            line: 1,
+            fault: Fault::NoSuchMessage,
+            order: &[1],
+        }],
+        states: 10,
+    },
+    // Nodes that read nothing of one another: all orders agree.
+    Case {
+        acts: 100,
+        lists: &[&[Join(1), Broadcast], &[Join(2), Broadcast]],
+        outcomes: &[Ends {
+            order: &[0, 0, 1, 1],
+            entries: [1, 1],
+        }],
+        refusals: &[],
+        states: 9,
+    },
+    // Each hears of the other; or one of them delivers too early.
+    Case {
+        acts: 100,
+        lists: &[
+            &[Up(1), Join(1), Broadcast, Deliver(1, 1)],
+            &[Up(0), Join(2), Broadcast, Deliver(0, 1)],
+        ],
+        outcomes: &[
+            Ends {
+                order: &[0, 0, 0, 0, 1, 1, 1, 1],
+                entries: [1, 2],
+            },
+            Ends {
+                order: &[0, 0, 0, 1, 1, 1, 0, 1],
+                entries: [2, 2],
+            },
+            Ends {
+                order: &[0, 0, 1, 1, 1, 1, 0, 0],
+                entries: [2, 1],
+            },
+        ],
+        refusals: &[
+            Refused {
+                actor: 0,
+                line: 3,
+                fault: Fault::NoSuchMessage,
+                order: &[0, 0, 0],
+            },
+            Refused {
+                actor: 1,
+                line: 3,
+                fault: Fault::NoSuchMessage,
+                order: &[1, 1, 1],
+            },
+        ],
+        states: 29,
+    },
+    // There is room for one step, and the other is refused.
+    Case {
+        acts: 3,
+        lists: &[&[Join(1)], &[Join(2)]],
+        outcomes: &[
+            Ends {
+                order: &[0, 1],
+                entries: [1, 0],
+            },
+            Ends {
+                order: &[1, 0],
+                entries: [0, 1],
+            },
+        ],
+        refusals: &[
+            Refused {
+                actor: 1,
+                line: 0,
+                fault: Fault::HistoryFull,
+                order: &[0],
+            },
+            Refused {
+                actor: 0,
+                line: 0,
+                fault: Fault::HistoryFull,
+                order: &[1],
+            },
+        ],
+        states: 5,
+    },
+    // A console undoes the join before it is there, between, and when the broadcast follows from it.
+    Case {
+        acts: 100,
+        lists: &[&[Join(1), Broadcast], &[], &[Undo(1)]],
+        outcomes: &[
+            Ends {
+                order: &[0, 0, 2],
+                entries: [1, 0],
+            },
+            Ends {
+                order: &[0, 2, 0],
+                entries: [0, 0],
+            },
+        ],
+        refusals: &[
+            Refused {
+                actor: 2,
+                line: 0,
+                fault: Fault::NoSuchStep,
+                order: &[],
+            },
+            Refused {
+                actor: 2,
+                line: 0,
+                fault: Fault::HasConsequence {
+                    step: 1,
+                    held_by: 2,
+                },
+                order: &[0, 0],
+            },
+            Refused {
+                actor: 0,
+                line: 1,
+                fault: Fault::NothingToSend,
+                order: &[0, 2],
+            },
+        ],
+        states: 8,
+    },
+    // No lines: one order, of no calls.
+    Case {
+        acts: 100,
+        lists: &[],
+        outcomes: &[Ends {
+            order: &[],
+            entries: [0, 0],
+        }],
+        refusals: &[],
+        states: 1,
+    },
+];
+
+/// How many entries the node of this number has.
+fn entries_of<'a, B: Allocator>(rt: &impl Abort, bench: &Bench<'a, B>, number: u16) -> usize {
+    let node = bench.node(number).expect(rt, "a node");
+    node.replica().entries().len()
+}
+
+fn check_outcomes<'a, B: Allocator>(
+    rt: &impl Abort,
+    explored: &Explored<'a, B>,
+    outcomes: &[Ends],
+) {
+    assert_eq!(rt; explored.outcomes.len(), outcomes.len());
+    for (told, ends) in explored.outcomes.iter().zip(outcomes) {
+        assert_eq!(rt; told.order.as_slice(), ends.order);
+        let entries = [
+            entries_of(rt, &told.bench, 0),
+            entries_of(rt, &told.bench, 1),
+        ];
+        assert_eq!(rt; entries, ends.entries);
+    }
+}
+
+fn check_refusals<'a, B: Allocator>(
+    rt: &impl Abort,
+    explored: &Explored<'a, B>,
+    refusals: &[Refused],
+) {
+    assert_eq!(rt; explored.refusals.len(), refusals.len());
+    for (told, refused) in explored.refusals.iter().zip(refusals) {
+        assert_eq!(rt; (told.actor, told.line), (refused.actor, refused.line));
+        assert_eq!(rt; told.fault, refused.fault);
+        assert_eq!(rt; told.order.as_slice(), refused.order);
+    }
+}
+
+fn explored_in<'a, B: Allocator>(
+    rt: &impl Abort,
+    heap: &'a B,
+    case: &Case,
+    most: usize,
+) -> Result<Explored<'a, B>, ExploreFault> {
+    let lists = lists_of(rt, heap, case.lists);
+    let names = names_of(rt, heap);
+    explore(heap, names, limits_of(rt, case.acts), &lists, most)
+}
+
+#[test]
+fn each_order_is_told(rt: HostRuntime) {
+    let heap = rt.alloc();
+    for case in &CASES {
+        let explored = explored_in(&rt, &heap, case, case.states);
+        let explored = explored.expect(&rt, "all orders");
+        assert_eq!(rt; explored.states, case.states);
+        check_outcomes(&rt, &explored, case.outcomes);
+        check_refusals(&rt, &explored, case.refusals);
+    }
+}
+
+#[test]
+fn too_many_states_are_refused(rt: HostRuntime) {
+    let heap = rt.alloc();
+    for case in &CASES {
+        let most = case.states.saturating_sub(1);
+        let explored = explored_in(&rt, &heap, case, most);
+        assert!(rt; matches!(explored, Err(ExploreFault::TooMany)));
+    }
+}
