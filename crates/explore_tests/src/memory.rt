@@ -15,6 +15,7 @@ fn want_of_memory_is_told(rt: HostRuntime) {
             &heap,
             &[&[Join(1), Broadcast], &[Up(0), Deliver(0, 1)]],
         );
+        assert!(rt; lists.len() < 65_536);
         let names = names_of(&rt, &heap);
         heap.refuse_only(number);
         let explored = explore(&heap, names, limits_of(&rt, 100), &lists, 100);

@@ -1,6 +1,6 @@
 //! Small sets of lines whose orders were gone through by hand.
 use crate::lines::Line::{self, Back, Broadcast, Deliver, Join, Undo, Up};
-use crate::lines::{limits_of, lists_of, names_of};
+use crate::lines::{Lists, limits_of, lists_of, names_of};
 use bench_core::{Bench, Fault};
 use explore_core::{ExploreFault, Explored, explore};
 use std::alloc::{Allocator, Global};
@@ -219,19 +219,21 @@ fn check_refusals<'a, B: Allocator>(
 fn explored_in<'a, B: Allocator>(
     rt: &impl Abort,
     heap: &'a B,
+    lists: &Lists<'a, B>,
     case: &Case,
     most: usize,
 ) -> Result<Explored<'a, B>, ExploreFault> {
-    let lists = lists_of(rt, heap, case.lists);
+    assert!(rt; lists.len() < 65_536);
     let names = names_of(rt, heap);
-    explore(heap, names, limits_of(rt, case.acts), &lists, most)
+    explore(heap, names, limits_of(rt, case.acts), lists, most)
 }
 
 #[test]
 fn each_order_is_told(rt: HostRuntime) {
     let heap = rt.alloc();
     for case in &CASES {
-        let explored = explored_in(&rt, &heap, case, case.states);
+        let lists = lists_of(&rt, &heap, case.lists);
+        let explored = explored_in(&rt, &heap, &lists, case, case.states);
         let explored = explored.expect(&rt, "all orders");
         assert_eq!(rt; explored.states, case.states);
         check_outcomes(&rt, &explored, case.outcomes);
@@ -244,7 +246,8 @@ fn too_many_states_are_refused(rt: HostRuntime) {
     let heap = rt.alloc();
     for case in &CASES {
         let most = case.states.saturating_sub(1);
-        let explored = explored_in(&rt, &heap, case, most);
+        let lists = lists_of(&rt, &heap, case.lists);
+        let explored = explored_in(&rt, &heap, &lists, case, most);
         assert!(rt; matches!(explored, Err(ExploreFault::TooMany)));
     }
 }
