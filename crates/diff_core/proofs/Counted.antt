@@ -1,5 +1,5 @@
 -- How often a row stands among what is shown, by the entry at its dot, and among what one list has alone.
-use Rattle.std.proofs.Common.{◌≡◌, ◌≢◌, ℕ, ◌+◌, ◌≤◌, ◌&&◌, ◌||◌, not, T, Bool, true, false, cond, List, [], ◌∷◌, ◌++◌, map, filter}
+use Rattle.std.proofs.Common.{◌≡◌, ◌≢◌, ℕ, ◌+◌, ◌-◌, ◌≤◌, ◌&&◌, ◌||◌, not, T, Bool, true, false, cond, List, [], ◌∷◌, ◌++◌, map, filter}
 use Rattle.std.proofs.Common.{Option, Some, None, refl, sym, ap, subst, ◌∙◌, arith, true≢false}
 use Rattle.std.proofs.Math.Facts.{and_yes}
 use Rattle.std.proofs.lemmas.Bool.{false_from_ne_true}
@@ -194,6 +194,14 @@ times_alone x (r ∷ rs) ys = go (is_row x r) refl (is_among ys r) refl (is_amon
     go true is false at true there rest = absurd (true≢false (sym there ∙ ap (is_among ys) (is_row-true x r is) ∙ at))
     go false is false at true there rest = let here = ap one is in omega (arith, also, here, rest)
     go b is false at false there rest = omega (arith, all, also, rest)
+
+-- and so what one list has alone, where no row stands in it twice
+pub times_less : (x : Row) (xs ys : List Row) → times x xs ≤ 1 → times x (alone xs ys) ≡ times x xs - times x ys
+times_less x xs ys once = times_alone x xs ys ∙ go (is_among ys x) refl
+  where
+    go : (c : Bool) → is_among ys x ≡ c → cond c 0 (times x xs) ≡ times x xs - times x ys
+    go true h = let some = among_some x ys h in omega (arith, some, once)
+    go false h = let none = among_none x ys h in omega (arith, none)
 
 is_list : (r : Replica) → IsOnlineList r (online_of r)
 is_list r = (online_holds r (online_of r)).1 refl

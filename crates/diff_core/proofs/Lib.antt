@@ -5,3 +5,4 @@ pub mod Sorting
 pub mod Counted
 pub mod Told
 pub mod Gathered
+pub mod NetChanges

@@ -47,7 +47,10 @@ fn rows_alone<A: Allocator + Copy>(
 }
 
 /// The rows from the first on that is not below this one.
-fn not_below<'x, A: Allocator>(rows: &'x [OnlineRow<A>], row: &OnlineRow<A>) -> &'x [OnlineRow<A>]
+pub(crate) fn not_below<'x, A: Allocator>(
+    rows: &'x [OnlineRow<A>],
+    row: &OnlineRow<A>,
+) -> &'x [OnlineRow<A>]
     ensures { result.now ≡ not_below row.now rows.now }
 {
     let mut rest = rows;
@@ -61,7 +64,7 @@ fn not_below<'x, A: Allocator>(rows: &'x [OnlineRow<A>], row: &OnlineRow<A>) -> 
 }
 
 /// Whether the first of the rows is this one.
-fn begins_with<A: Allocator>(rows: &[OnlineRow<A>], row: &OnlineRow<A>) -> bool
+pub(crate) fn begins_with<A: Allocator>(rows: &[OnlineRow<A>], row: &OnlineRow<A>) -> bool
     ensures { result ≡ begins_with row.now rows.now }
 {
     match rows.first() {

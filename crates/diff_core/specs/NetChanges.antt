@@ -1,0 +1,20 @@
+-- What several changes of an online list, made in turn, come to.
+use Rattle.std.specs.Prelude.{◌≡◌, ℕ, ◌+◌, if◌then◌else◌, List, [], ◌∷◌, count_by, drop}
+use Rattle.std.specs.Ordering.{eq_by_cmp}
+use Rattle.diff_core.specs.Rows.{Row, row_cmp}
+use Rattle.diff_core.specs.Diffs.{not_below, begins_with}
+
+-- how often a row stands among these
+abbrev pub times : Row → List Row → ℕ
+times row rows = count_by (eq_by_cmp row_cmp row) rows
+
+-- between the first of two lists and the second these rows left and those joined, each as often as it did
+abbrev pub ComesTo : List Row → List Row → List Row → List Row → Type 0
+ComesTo before after left joined = (row : Row) → times row before + times row joined ≡ times row after + times row left
+
+-- the rows of a list, of which each of the others takes one that is it; for lists that do not fall
+abbrev pub beyond : List Row → List Row → List Row
+beyond [] others = []
+beyond (row ∷ rows) others =
+    if begins_with row (not_below row others) then beyond rows (drop 1 (not_below row others))
+    else row ∷ beyond rows (not_below row others)
