@@ -5,7 +5,7 @@ pub mod Texts
 pub mod Orders
 pub mod Printed
 pub mod StepDiffs
-pub mod Touched
+pub mod MovedRows
 pub mod Unwound
 pub mod OnePart
 pub mod Bytes

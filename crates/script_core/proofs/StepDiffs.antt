@@ -201,7 +201,7 @@ change_is old new node left joined differ =
     ∙ ap (change_lines old.names left) (sym differ.joined_is)
 
 -- rows are those of the remaining steps
-same_rows : (m : Machine) (s : State) (ks : List Kept) (node : ℕ) → s.remaining ≡ ks →
+pub same_rows : (m : Machine) (s : State) (ks : List Kept) (node : ℕ) → s.remaining ≡ ks →
     rows_at (with_state m s) node ≡ rows_at (with_state m (record { history = m.state.history; remaining = ks })) node
 unfolding rows_at node_of
 same_rows m s ks node same = ap (λ (ks : List Kept). rows_in (node_in (runs (node_limits m.limits) (length m.names) ks) node)) same

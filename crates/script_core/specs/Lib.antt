@@ -9,7 +9,7 @@ pub mod Rows
 pub mod StepText
 pub mod Shown
 pub mod StepDiffs
-pub mod Touched
+pub mod MovedRows
 pub mod Dots
 pub mod Report
 pub mod Play

@@ -1,5 +1,5 @@
 -- The report of a script: the text of each line, as the machine gives it on the state before the line.
-use Rattle.std.specs.Prelude.{ℕ, ◌+◌, List, [], ◌∷◌, ◌++◌, map, length, Bool, true, false, Option, Some, None}
+use Rattle.std.specs.Prelude.{◌≡◌, ℕ, ◌+◌, List, [], ◌∷◌, ◌++◌, map, length, Bool, true, false, Option, Some, None}
 use Rattle.bench_core.specs.declared.reply.Reply.{Reply}
 use Rattle.bench_core.specs.declared.fault.Fault.{Fault}
 use Rattle.bench_core.specs.declared.fault.Fault.TheVariants.{OutOfMemory}
@@ -72,6 +72,12 @@ unfoldable pub unwind_text : Machine → ℕ → ℕ → List ℕ
 unwind_text m actor number =
     unless_gone m.state number (find_number m.state.remaining number)
     (undone_lines (gathered_numbers m.state.remaining number) ++ changes_text m (after_unwind m actor number))
+
+-- the step remains, and these are its number and those of all that follows from it
+pub record IsItsFuture (m : Machine) (n : ℕ) (numbers : List ℕ) : Type 0 where
+  pub step : Kept
+  pub found : find_number m.state.remaining n ≡ Some step
+  pub whole : numbers ≡ gathered_numbers m.state.remaining n
 
 -- a command, and a script
 

@@ -13,7 +13,7 @@ use std::alloc::Allocator;
 
 /// The reply to an act, unless it is want of memory.
 #[tactic(auto, unfolding(crate::specs::Report::reply_of, crate::specs::Report::after_act))]
-fn answer<'a, B: Allocator>(
+pub fn answer<'a, B: Allocator>(
     bench: &mut Bench<'a, B>,
     actor: u16,
     act: &Act<&'a B>,

@@ -3,9 +3,9 @@
 //! It stands on `bench_core` (the machine) and `diff_core` (online lists); it names the plain types of the crates below.
 //!
 //! In the order in which data flows: `streams` takes the input in; `words`, `keyword`, `cast`, `steps`, `command`, `parse`
-//! make a `script` of it, or a `fault`; `run` plays it on a bench, `acting` and `unwinding` being what changes one, and puts the report
-//! together from `step_diff` (what a step changed), `shown` (what a bench shows), `rows`, `step_text` and `dots_text` (what is printed of it); `history` does the
-//! same for recorded acts; `playing`
+//! make a `script` of it, or a `fault`; `run` plays it on a bench, `acting` and `unwinding` being what changes one, and puts
+//! the report together from `step_diff` (what a step changed), `moved` (what undos in turn changed), `shown` (what a bench
+//! shows), `rows`, `step_text` and `dots_text` (what is printed of it); `history` does the same for recorded acts; `playing`
 //! goes from a reader to a writer. `laws` says that what is printed of a step is read as that step. `fakes` are a reader and a
 //! writer that fail, for the tests of this crate and of those above.
 #![tactic(auto)]
@@ -19,6 +19,7 @@ mod fault;
 mod history;
 mod keyword;
 pub mod laws;
+mod moved;
 mod parse;
 mod playing;
 mod rows;

@@ -1,7 +1,12 @@
-use Rattle.std.proofs.Common.{◌≡◌, ◌++◌, take, string_bytes}
-use Rattle.script_core.specs.Touched.{changes_of}
+use Rattle.std.proofs.Common.{◌≡◌, ◌++◌, string_bytes}
+use Rattle.bench_core.specs.Machine.{Machine}
+use Rattle.script_core.specs.MovedRows.{AreMoved}
+use Rattle.script_core.specs.Report.{changes_from}
+use Rattle.script_core.specs.Shown.{rows_to}
 use Rattle.script_core.proofs.unwinding.put_changes.Given as goal
 
--- the changes so far
+-- the changes of the nodes so far
 abbrev pub invariant-loop-node : goal.invariant-loop-node
-invariant-loop-node g l = string_bytes l.text ≡ string_bytes l.fn.text ++ changes_of l.bench (take l.node-index l.lists)
+invariant-loop-node g l =
+    (start : Machine) → AreMoved start l.bench l.moved →
+    string_bytes l.text ≡ string_bytes l.fn.text ++ changes_from l.bench 0 (rows_to start l.node)

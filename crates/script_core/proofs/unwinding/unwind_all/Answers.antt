@@ -1,31 +1,32 @@
-use Rattle.std.proofs.Common.{◌≡◌, ◌++◌, ◌∙◌, sym, ap, subst, List, ℕ, string_bytes}
+use Rattle.std.proofs.Common.{◌++◌, length, ap, refl, sym, ◌∙◌, subst, List, string_bytes}
 use Rattle.std.proofs.lemmas.Result.{on_ok_weaker}
-use Rattle.bench_core.specs.Unwinds.{AreUndone}
-use Rattle.script_core.specs.Rows.{undone_lines}
-use Rattle.script_core.specs.Touched.{changes_of}
+use Rattle.script_core.specs.MovedRows.{Moves, AreMoved}
 use Rattle.script_core.specs.Report.{after_unwind}
-use Rattle.script_core.proofs.Printed.{unwound_bench}
-use Rattle.script_core.proofs.Touched.{touched_text}
+use Rattle.script_core.specs.Shown.{rows_to}
+use Rattle.script_core.proofs.MovedRows.{told_changes}
+use Rattle.script_core.proofs.Printed.{unwound_bench, unwound_text}
 use Rattle.script_core.proofs.unwinding.unwind_all.Goals as goal
+
+pub undo_each-requires : goal.undo_each-requires
+undo_each-requires g c = c.requires.made c.args.actor
 
 pub returns-clause-bench : goal.returns-clause-bench
 returns-clause-bench g c =
     on_ok_weaker c.put_changes.result
-    (λ _. unwound_bench c.args.bench.now c.unwind.new.self c.args.actor c.args.number c.in-Done.undone.items
-    (c.requires.step, c.requires.found) c.in-Done.ensures.whole c.in-Done.ensures.undone.state) c.put_changes.ensures
+    (λ _. unwound_bench c.args.bench.now c.undo_each.new.bench c.args.actor c.args.number c.args.numbers.now
+    (c.requires.future.step, c.requires.future.found) c.requires.future.whole c.in_ok-moved.ensures.bench) c.put_changes.ensures
 
 pub returns-clause-text : goal.returns-clause-text
 returns-clause-text g c =
-    let now : c.unwind.new.self ≡ after_unwind c.args.bench.now c.args.actor c.args.number =
-    unwound_bench c.args.bench.now c.unwind.new.self c.args.actor c.args.number c.in-Done.undone.items
-    (c.requires.step, c.requires.found) c.in-Done.ensures.whole c.in-Done.ensures.undone.state in
-    let same : c.in-Done.undone.items ≡ c.args.numbers.now = c.in-Done.ensures.whole ∙ sym c.requires.whole in
-    let made : AreUndone c.args.bench.now c.args.actor c.args.numbers.now c.unwind.new.self =
-    subst (λ (ns : List ℕ). AreUndone c.args.bench.now c.args.actor ns c.unwind.new.self) same c.in-Done.ensures.undone in
+    let old = c.args.bench.now in
+    let new = c.undo_each.new.bench in
+    let start = string_bytes c.args.text.now in
+    let middle = string_bytes c.put_undone.new.text in
     on_ok_weaker c.put_changes.result
-    (λ told. touched_text c.diff_law.ensures c.unwind_law.ensures.others c.args.bench.now c.unwind.new.self c.args.actor c.args.number
-    c.args.numbers.now c.in_ok-lists.lists.items (string_bytes c.args.text.now) (string_bytes c.put_undone.new.text)
-    (string_bytes c.put_changes.new.text) c.bench_law.ensures c.requires made.replies made.state now c.in_ok-lists.ensures
-    (c.in_ok-put_undone.ensures ∙ ap (λ ns. string_bytes c.args.text.now ++ undone_lines ns) (c.deref.ensures.value ∙ same))
-    (told ∙ ap (λ ls. string_bytes c.put_undone.new.text ++ changes_of c.unwind.new.self ls) c.deref-2.ensures.value))
+    (λ told. unwound_text old new c.args.actor c.args.number c.args.numbers.now (rows_to old (length old.names)) start middle
+    (string_bytes c.put_changes.new.text) (c.requires.future.step, c.requires.future.found) c.requires.future.whole
+    (unwound_bench old new c.args.actor c.args.number c.args.numbers.now (c.requires.future.step, c.requires.future.found)
+    c.requires.future.whole c.in_ok-moved.ensures.bench) refl c.in_ok-put_undone.ensures
+    (told_changes old new middle (string_bytes c.put_changes.new.text)
+    (told old (subst (λ (ms : List Moves). AreMoved old new ms) (sym c.deref.ensures.value) c.in_ok-moved.ensures.moved))))
     c.put_changes.ensures
