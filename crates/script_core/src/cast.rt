@@ -35,6 +35,12 @@ impl<A: Allocator> Cast<A> {
         &self.nodes
     }
 
+    pub fn consoles(&self) -> &TextSet<A>
+        ensures { result.now ≡ self.now.consoles }
+    {
+        &self.consoles
+    }
+
     /// How many nodes and consoles there are.
     pub fn len(&self) -> u16
         ensures { result ≡ length self.now.nodes + length self.now.consoles }

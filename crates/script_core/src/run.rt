@@ -17,8 +17,8 @@ use bench_core::{Bench, Limits};
 use payload_core::Oom;
 use std::alloc::Allocator;
 
-/// The online list of a node.
-fn show<'a, B: Allocator>(
+/// Prints the online list of a node.
+pub fn show<'a, B: Allocator>(
     alloc: &'a B,
     text: &mut String<&'a B>,
     bench: &Bench<'a, B>,

@@ -1,5 +1,5 @@
 //! `Script`: a script that was read.
-ghost use Rattle.std.specs.Prelude.{◌≡◌, ◌+◌, length, []};
+ghost use Rattle.std.specs.Prelude.{◌≡◌, ◌+◌, length, [], option_map, slice_get};
 ghost use Rattle.bench_core.specs.Acts.{plain_act, calls_of};
 ghost use Rattle.script_core.specs.Answers.{GivesScript};
 ghost use Rattle.script_core.specs.Grammar.{call_of, with_calls};
@@ -8,7 +8,7 @@ ghost use Rattle.script_core.specs.Scripts.{plain_line, plain_lines, plain_scrip
 use crate::cast::Cast;
 use crate::command::Command;
 use crate::fault::{FaultKind, ScriptFault};
-use bench_core::{Act, Names};
+use bench_core::{Act, Names, TextSet};
 use std::alloc::Allocator;
 
 /// A command with the number of its line.
@@ -30,6 +30,20 @@ pub fn node_names<A: Allocator>(script: &Script<A>) -> &Names<A>
     ensures { result.now ≡ (plain_script script.now).cast.nodes }
 {
     script.cast.nodes()
+}
+
+/// The names of the consoles.
+pub fn console_names<A: Allocator>(script: &Script<A>) -> &TextSet<A>
+    ensures { result.now ≡ (plain_script script.now).cast.consoles }
+{
+    script.cast.consoles()
+}
+
+/// The number of the line that stands at a place among those which ask something, from 0.
+pub fn line_number<A: Allocator>(script: &Script<A>, place: usize) -> Option<u64>
+    ensures { result ≡ option_map (λ line. line.number) (slice_get (plain_script script.now).lines place) }
+{
+    Some(script.lines.get(place)?.number)
 }
 
 /// How many nodes and consoles there are.
