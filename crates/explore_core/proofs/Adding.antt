@@ -2,20 +2,25 @@
 use Rattle.std.proofs.Common.{◌≡◌, ◌≢◌, inl, inr, ℕ, ◌+◌, ◌<◌, ◌≤◌, Bool, List, [], ◌∷◌, ◌++◌, length, map, take, get_or, slice_get, Option, Some, None, MatchOption, Vec, Result, Ok, Err, OnOk, refl, sym, ap, ◌∙◌, subst, arith}
 use Rattle.std.specs.List.{AllByRecursion}
 use Rattle.std.proofs.lemmas.List.{take_more, take_all, map-append, length-map}
-use Rattle.std.proofs.lemmas.Option.{slice_get_within, get_or_from_slice_get}
+use Rattle.std.proofs.lemmas.Option.{slice_get_within, slice_get_read, get_or_from_slice_get}
 use Rattle.bench_core.specs.declared.reply.Reply.{Reply}
 use Rattle.bench_core.specs.declared.act.Act.{Act}
 use Rattle.bench_core.specs.Acts.{Action, plain_act}
 use Rattle.bench_core.specs.Machine.{config_of, reply_to, cluster_of}
 use Rattle.explore_core.specs.Orders.{Lists, plain_lists, asked_of, next_line, end_of, total}
 use Rattle.explore_core.specs.Explorations.{Told, Outcome}
-use Rattle.explore_core.specs.Waypoints.{Waypoint, after_line, IsAsGood, IsKept, IsOther, IsTold, AddsKept, TellsReply, Advances, AddsOutcome, Gathers}
+use Rattle.explore_core.specs.Waypoints.{Waypoint, after_line, IsAsGood, IsKept, IsKeptAt, IsOther, IsTold, AddsKept, TellsReply, Advances, AddsOutcome, Gathers}
 use Rattle.explore_core.specs.Waypoints.{AreWaypoints, AreMoreDeeper, DeepensFirst}
 use Rattle.explore_core.proofs.Walk.{any_get, all_push, gathers_none, gathers_same, gathers_new}
 
-pub keeps_found : (b : Bool) (kept : List Waypoint) (w v : Waypoint) (i : ℕ) → i < length kept → v ≡ get_or kept i v → IsAsGood b w v →
-    IsKept b kept w
-keeps_found b kept w v i low at good = any_get (λ v. IsAsGood b w v) kept i v low at good
+pub kept_at : (b : Bool) (kept : List Waypoint) (w v : Waypoint) (i : ℕ) → i < length kept → v ≡ get_or kept i v → IsAsGood b w v →
+    IsKeptAt b kept w i
+kept_at b kept w v i low at good = record { other = v; there = slice_get_read kept (length kept) i v refl low at; good = good }
+
+pub keeps_found : (b : Bool) (kept : List Waypoint) (w : Waypoint) (i : ℕ) → IsKeptAt b kept w i → IsKept b kept w
+keeps_found b kept w i at =
+    any_get (λ v. IsAsGood b w v) kept i at.other (slice_get_within kept i at.other at.there)
+    (sym (get_or_from_slice_get kept i at.other at.other at.there)) at.good
 
 -- none of the waypoints so far is as good
 pub other_more : (b : Bool) (kept : List Waypoint) (w v : Waypoint) (i : ℕ) → i < length kept → v ≡ get_or kept i v →
@@ -109,7 +114,7 @@ gathers_more ws os more i w low at g adds =
   where
     go : AddsOutcome os w more → Gathers (take i ws ++ w ∷ []) more
     go (inl was) = subst (Gathers (take i ws ++ w ∷ [])) (sym was.1) (gathers_same (take i ws) os w g was.0)
-    go (inr new) = subst (Gathers (take i ws ++ w ∷ [])) (sym new.1) (gathers_new (take i ws) os w g new.0)
+    go (inr new) = subst (Gathers (take i ws ++ w ∷ [])) (sym new.2) (gathers_new (take i ws) os w new.1 g new.0)
 
 pub gathers_all : (ws : List Waypoint) (os : List Outcome) (i : ℕ) → length ws ≤ i → Gathers (take i ws) os → Gathers ws os
 gathers_all ws os i few g = subst (λ (vs : List Waypoint). Gathers vs os) (take_all i ws few) g
@@ -120,11 +125,12 @@ lists_many lists =
     omega (arith, h)
 
 -- of one call more there are too many
-pub more_deeper : (lists : Lists) (b : Bool) (ws before : List Waypoint) (first room : ℕ) (told : List Told) (kept : List Waypoint)
-    (more_told : List Told) → ws ≡ before → room < length kept → DeepensFirst lists b ws first told kept more_told →
-    AreMoreDeeper lists b before room
-more_deeper lists b ws before first room told kept more_told same more d = record {
+pub more_deeper : (lists : Lists) (b : Bool) (ws before : List Waypoint) (first past most states : ℕ) (told : List Told)
+    (kept : List Waypoint) (more_told : List Told) → ws ≡ before → past + length kept ≡ states → most < states →
+    DeepensFirst lists b ws first told kept more_told → AreMoreDeeper lists b before past most states
+more_deeper lists b ws before first past most states told kept more_told same all more d = record {
   kept = kept;
+  all = all;
   more = more;
   apart = d.apart;
   waypoints = λ opening count known. d.waypoints opening count (subst (AreWaypoints lists opening count) (sym same) known);

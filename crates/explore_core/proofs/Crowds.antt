@@ -1,5 +1,5 @@
 -- More waypoints than may be kept.
-use Rattle.std.proofs.Common.{◌≡◌, ℕ, ◌+◌, ◌-◌, ◌<◌, ◌≤◌, Bool, List, [], ◌∷◌, ◌++◌, length, refl, sym, ap, subst, arith, length-append}
+use Rattle.std.proofs.Common.{◌≡◌, ℕ, ◌+◌, ◌<◌, ◌≤◌, Bool, List, [], ◌∷◌, ◌++◌, length, refl, sym, ap, ◌∙◌, subst, arith, length-append}
 use Rattle.std.specs.List.{AllByRecursion}
 use Rattle.bench_core.specs.Machine.{Machine}
 use Rattle.explore_core.specs.Orders.{Lists, total}
@@ -57,13 +57,11 @@ module _ (lists : Lists) (opening : Machine) where
           (all_map (IsWaypoint lists opening count) (IsEarlier (count + 1)) kept (λ w is. (count, omega arith, is)) are)
 
   pub too_many : (count states most : ℕ) (kept : List Waypoint) → AreSoMany lists opening count states kept →
-      AreWaypoints lists opening count kept → most < states → AreMore lists opening most
+      AreWaypoints lists opening count kept → most < states → AreMore lists opening most states
   too_many count states most kept h are more = record {
     waypoints = h.past ++ kept;
-    more =
-        let size = length-append h.past kept in
-        let all = h.all in
-        omega (arith, size, all);
+    all = length-append h.past kept ∙ h.all;
+    more = more;
     reached =
         all_append (λ w. (count : ℕ) × IsWaypoint lists opening count w) h.past kept
         (all_map (IsEarlier count) (λ w. (count : ℕ) × IsWaypoint lists opening count w) h.past (λ w is. (is.0, is.2)) h.earlier)
@@ -79,9 +77,10 @@ module _ (lists : Lists) (opening : Machine) where
   pub first_one : (kept : List Waypoint) → length kept ≡ 1 → AreSoMany lists opening 0 1 kept
   first_one kept one = record { past = []; all = omega (arith, one); earlier = tt; apart = one_apart (are_steps lists) kept one }
 
-  pub more_than_none : AreMore lists opening 0
+  pub more_than_none : AreMore lists opening 0 1
   more_than_none = record {
     waypoints = opening_waypoint lists opening ∷ [];
+    all = refl;
     more = omega arith;
     reached = ((0, record { calls = []; actors = refl; counted = refl; leads = refl; machine = refl }), tt);
     apart = (tt, tt);
@@ -94,11 +93,11 @@ module _ (lists : Lists) (opening : Machine) where
       subst (λ (k : ℕ). AreSoMany lists opening (count + 1) (states + k) more) (sym size)
       (so_many_more count states kept more h are next (subst (λ (b : Bool). AreApart b more) steps apart))
 
-  pub crowded : (b : Bool) (count states most : ℕ) (kept : List Waypoint) → b ≡ are_steps lists → states ≤ most →
-      AreSoMany lists opening count states kept → AreWaypoints lists opening count kept → AreMoreDeeper lists b kept (most - states) →
-      AreMore lists opening most
-  crowded b count states most kept steps few h are d =
-      let more = d.more in
-      too_many (count + 1) (states + length d.kept) most d.kept
-      (so_many_next b count states (length d.kept) kept d.kept steps refl h are (d.waypoints opening count are) d.apart)
-      (d.waypoints opening count are) (omega (arith, more))
+  pub crowded : (b : Bool) (count states most n : ℕ) (kept : List Waypoint) → b ≡ are_steps lists →
+      AreSoMany lists opening count states kept → AreWaypoints lists opening count kept → AreMoreDeeper lists b kept states most n →
+      AreMore lists opening most n
+  crowded b count states most n kept steps h are d =
+      too_many (count + 1) n most d.kept
+      (subst (λ (n : ℕ). AreSoMany lists opening (count + 1) n d.kept) d.all
+      (so_many_next b count states (length d.kept) kept d.kept steps refl h are (d.waypoints opening count are) d.apart))
+      (d.waypoints opening count are) d.more

@@ -6,3 +6,7 @@ pub mod SameNodes
 pub mod Adding
 pub mod Crowds
 pub mod Tests
+pub mod Numbers
+pub mod Interleavings
+pub mod SameClusters
+pub mod OrderSums

@@ -498,8 +498,8 @@ module _ (lists : Lists) (opening : Machine) where
   at_end : (w : Waypoint) → IsWaypoint lists opening (total (end_of lists)) w → w.position ≡ end_of lists
   at_end w is = from_start_end lists is.calls w.position is.leads is.counted
 
-  outcome_known : (w : Waypoint) → IsWaypoint lists opening (total (end_of lists)) w → IsOutcome lists opening (outcome_of w)
-  outcome_known w is = record {
+  outcome_known : (w : Waypoint) (n : Option ℕ) → IsWaypoint lists opening (total (end_of lists)) w → IsOutcome lists opening (outcome_of w n)
+  outcome_known w n is = record {
     calls = is.calls;
     actors = is.actors;
     order = subst (λ (p : Position). Leads lists (start_of lists) is.calls p) (at_end w is) is.leads;
@@ -509,10 +509,10 @@ module _ (lists : Lists) (opening : Machine) where
   pub outcomes_known : (ws : List Waypoint) (os : List Outcome) → Gathers ws os → AreWaypoints lists opening (total (end_of lists)) ws →
       AllByRecursion (IsOutcome lists opening) os
   outcomes_known ws os g are =
-      all_map (λ o. IsAny (λ w. o ≡ outcome_of w) ws) (IsOutcome lists opening) os
+      all_map (λ o. IsAny (λ w. o ≡ outcome_of w o.orders) ws) (IsOutcome lists opening) os
       (λ o any.
-      any_with (λ w. o ≡ outcome_of w) (IsWaypoint lists opening (total (end_of lists))) ws
-      (λ w is known. subst (IsOutcome lists opening) (sym is) (outcome_known w known)) any are)
+      any_with (λ w. o ≡ outcome_of w o.orders) (IsWaypoint lists opening (total (end_of lists))) ws
+      (λ w is known. subst (IsOutcome lists opening) (sym is) (outcome_known w o.orders known)) any are)
       g.from
 
   pub every_order : (told : List Told) (ws : List Waypoint) (os : List Outcome) → Gathers ws os →
@@ -596,8 +596,8 @@ pub gathers_same : (ws : List Waypoint) (os : List Outcome) (w : Waypoint) → G
 gathers_same ws os w g any = record {
   each = all_push (λ w. IsAny (λ o. cluster_of w.machine ≡ cluster_of o.machine) os) ws w g.each any;
   from =
-      all_map (λ o. IsAny (λ v. o ≡ outcome_of v) ws) (λ o. IsAny (λ v. o ≡ outcome_of v) (ws ++ w ∷ [])) os
-      (λ o any. any_more (λ v. o ≡ outcome_of v) ws (w ∷ []) any) g.from;
+      all_map (λ o. IsAny (λ v. o ≡ outcome_of v o.orders) ws) (λ o. IsAny (λ v. o ≡ outcome_of v o.orders) (ws ++ w ∷ [])) os
+      (λ o any. any_more (λ v. o ≡ outcome_of v o.orders) ws (w ∷ []) any) g.from;
   distinct = g.distinct;
 }
 
@@ -607,19 +607,19 @@ distinct_push [] o distinct other = (tt, tt)
 distinct_push (p ∷ os) o distinct other =
     (all_push (λ q. cluster_of p.machine ≢ cluster_of q.machine) os o distinct.0 (λ e. other.0 (sym e)), distinct_push os o distinct.1 other.1)
 
-pub gathers_new : (ws : List Waypoint) (os : List Outcome) (w : Waypoint) → Gathers ws os →
-    AllByRecursion (λ o. cluster_of w.machine ≢ cluster_of o.machine) os → Gathers (ws ++ w ∷ []) (os ++ outcome_of w ∷ [])
-gathers_new ws os w g other = record {
+pub gathers_new : (ws : List Waypoint) (os : List Outcome) (w : Waypoint) (n : Option ℕ) → Gathers ws os →
+    AllByRecursion (λ o. cluster_of w.machine ≢ cluster_of o.machine) os → Gathers (ws ++ w ∷ []) (os ++ outcome_of w n ∷ [])
+gathers_new ws os w n g other = record {
   each =
-      all_push (λ v. IsAny (λ o. cluster_of v.machine ≡ cluster_of o.machine) (os ++ outcome_of w ∷ [])) ws w
+      all_push (λ v. IsAny (λ o. cluster_of v.machine ≡ cluster_of o.machine) (os ++ outcome_of w n ∷ [])) ws w
       (all_map (λ w. IsAny (λ o. cluster_of w.machine ≡ cluster_of o.machine) os)
-      (λ v. IsAny (λ o. cluster_of v.machine ≡ cluster_of o.machine) (os ++ outcome_of w ∷ [])) ws
-      (λ v any. any_more (λ o. cluster_of v.machine ≡ cluster_of o.machine) os (outcome_of w ∷ []) any) g.each)
-      (any_last (λ o. cluster_of w.machine ≡ cluster_of o.machine) os (outcome_of w) refl);
+      (λ v. IsAny (λ o. cluster_of v.machine ≡ cluster_of o.machine) (os ++ outcome_of w n ∷ [])) ws
+      (λ v any. any_more (λ o. cluster_of v.machine ≡ cluster_of o.machine) os (outcome_of w n ∷ []) any) g.each)
+      (any_last (λ o. cluster_of w.machine ≡ cluster_of o.machine) os (outcome_of w n) refl);
   from =
-      all_push (λ o. IsAny (λ v. o ≡ outcome_of v) (ws ++ w ∷ [])) os (outcome_of w)
-      (all_map (λ o. IsAny (λ v. o ≡ outcome_of v) ws) (λ o. IsAny (λ v. o ≡ outcome_of v) (ws ++ w ∷ [])) os
-      (λ o any. any_more (λ v. o ≡ outcome_of v) ws (w ∷ []) any) g.from)
-      (any_last (λ v. outcome_of w ≡ outcome_of v) ws w refl);
-  distinct = distinct_push os (outcome_of w) g.distinct other;
+      all_push (λ o. IsAny (λ v. o ≡ outcome_of v o.orders) (ws ++ w ∷ [])) os (outcome_of w n)
+      (all_map (λ o. IsAny (λ v. o ≡ outcome_of v o.orders) ws) (λ o. IsAny (λ v. o ≡ outcome_of v o.orders) (ws ++ w ∷ [])) os
+      (λ o any. any_more (λ v. o ≡ outcome_of v o.orders) ws (w ∷ []) any) g.from)
+      (any_last (λ v. outcome_of w n ≡ outcome_of v n) ws w refl);
+  distinct = distinct_push os (outcome_of w n) g.distinct other;
 }

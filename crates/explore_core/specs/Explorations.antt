@@ -1,6 +1,6 @@
 -- What is told of all orders: their outcomes, and the lines that are refused.
-use Rattle.std.specs.Prelude.{◌≡◌, ◌≢◌, ◌⊎◌, ℕ, List, [], ◌∷◌, Some, refl}
-use Rattle.std.specs.Coded.{Coded, code_by, coded×, coded_ℕ, coded_list}
+use Rattle.std.specs.Prelude.{◌≡◌, ◌≢◌, ◌⊎◌, ℕ, List, [], ◌∷◌, Option, Some, refl}
+use Rattle.std.specs.Coded.{Coded, code_by, coded×, coded_ℕ, coded_list, coded_option}
 use Rattle.std.specs.List.{AllByRecursion}
 use Rattle.bench_core.specs.declared.fault.Fault.{Fault}
 use Rattle.bench_core.specs.declared.reply.Reply.{Reply}
@@ -18,15 +18,16 @@ IsAny P (x ∷ xs) = P x ⊎ IsAny P xs
 abbrev pub after_calls : Machine → List Call → Machine
 after_calls opening asked = with_state opening (calls (config_of opening) opening.state asked)
 
--- the actors of an order's calls, and the machine after them
+-- the actors of an order's calls, the machine after them, and how many orders lead to its cluster
 pub record Outcome : Type 0 where
   pub order : List ℕ
   pub machine : Machine
+  pub orders : Option ℕ
 
 abbrev pub outcome_code : Coded Reply → Coded Outcome
 outcome_code reply_code =
-    code_by (List ℕ × Machine) (coded× (coded_list coded_ℕ) (machine_code reply_code)) (λ o. (o.order, o.machine))
-    (λ t. record { order = t.0; machine = t.1 }) (λ _. refl)
+    code_by (List ℕ × (Machine × Option ℕ)) (coded× (coded_list coded_ℕ) (coded× (machine_code reply_code) (coded_option coded_ℕ)))
+    (λ o. (o.order, (o.machine, o.orders))) (λ t. record { order = t.0; machine = t.1.0; orders = t.1.1 }) (λ _. refl)
 
 -- an order of the lines, told by its actors, leads from the opening machine to the outcome
 pub record IsOutcome (lists : Lists) (opening : Machine) (o : Outcome) : Type 0 where

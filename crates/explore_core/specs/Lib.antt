@@ -2,3 +2,5 @@ pub mod Orders
 pub mod Alike
 pub mod Waypoints
 pub mod Explorations
+pub mod Counts
+pub mod Ways

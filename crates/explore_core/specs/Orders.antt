@@ -1,5 +1,5 @@
 -- The orders in which the lines of several actors can come: interleavings, in each of which every actor's lines keep their order.
-use Rattle.std.specs.Prelude.{◌≡◌, ℕ, ◌+◌, List, [], ◌∷◌, length, map, slice_get, slice_set, slice_index_or, Option, Some, Vec}
+use Rattle.std.specs.Prelude.{◌≡◌, ℕ, zero, suc, ◌+◌, List, [], ◌∷◌, ◌++◌, length, map, slice_get, slice_set, slice_index_or, Option, None, Some, Vec}
 use Rattle.bench_core.specs.declared.act.Act.{Act}
 use Rattle.bench_core.specs.Acts.{Action, plain_act}
 
@@ -59,3 +59,23 @@ IsOrder lists order = Leads lists (start_of lists) order (end_of lists)
 -- the actors of these calls
 abbrev pub actors_of : List Call → List ℕ
 actors_of calls = map (λ call. call.0) calls
+
+-- the lists of the numbers below this one, joined in their order
+abbrev pub joined_below : {X : Type 0} → (ℕ → List X) → ℕ → List X
+joined_below f zero = []
+joined_below f (suc n) = joined_below f n ++ f n
+
+-- the calls that begin with the next line of the actor, where it has one, and go on as one of these
+abbrev pub begun_with : ℕ → Option Action → List (List Call) → List (List Call)
+begun_with actor None rests = []
+begun_with actor (Some act) rests = map (λ rest. (actor, act) ∷ rest) rests
+
+-- so many calls from this position on, each its actor's next line, in all orders
+abbrev pub orders_from : Lists → ℕ → Position → List (List Call)
+orders_from lists zero position = [] ∷ []
+orders_from lists (suc n) position =
+    joined_below (λ actor. begun_with actor (next_line lists position actor) (orders_from lists n (one_more position actor))) (length lists)
+
+-- all orders of the lines
+abbrev pub orders_of : Lists → List (List Call)
+orders_of lists = orders_from lists (total (end_of lists)) (start_of lists)

@@ -1,5 +1,5 @@
 -- What a walk over orders keeps: for each position the states in which lines to come can't tell the orders apart that led there.
-use Rattle.std.specs.Prelude.{◌≡◌, ◌≢◌, ◌⊎◌, ℕ, ◌+◌, ◌<◌, ◌++◌, ◌∷◌, Bool, List, [], length, take, Some, MatchOption, refl}
+use Rattle.std.specs.Prelude.{◌≡◌, ◌≢◌, ◌⊎◌, ℕ, ◌+◌, ◌<◌, ◌++◌, ◌∷◌, Bool, List, [], length, take, slice_get, Option, Some, MatchOption, refl}
 use Rattle.std.specs.Coded.{Coded, code_by, coded×, coded_ℕ, coded_list}
 use Rattle.std.specs.List.{AllByRecursion}
 use Rattle.bench_core.specs.declared.fault.Fault.{Fault}
@@ -57,6 +57,12 @@ Extends {X} old new = (more : List X) × (new ≡ old ++ more)
 -- the waypoint stands among these, or one that is as good
 abbrev pub IsKept : Bool → List Waypoint → Waypoint → Type 0
 IsKept steps_alone ws w = IsAny (λ v. IsAsGood steps_alone w v) ws
+
+-- it stands at this place, or one that is as good
+pub record IsKeptAt (steps_alone : Bool) (ws : List Waypoint) (w : Waypoint) (place : ℕ) : Type 0 where
+  pub other : Waypoint
+  pub there : slice_get ws place ≡ Some other
+  pub good : IsAsGood steps_alone w other
 
 -- none that is as good stands among these
 abbrev pub IsOther : Bool → List Waypoint → Waypoint → Type 0
@@ -146,17 +152,20 @@ pub record DeepensFirst (lists : Lists) (steps_alone : Bool) (ws : List Waypoint
 abbrev pub Deepens : Lists → Bool → List Waypoint → List Told → List Waypoint → List Told → Type 0
 Deepens lists steps_alone ws told kept more_told = DeepensFirst lists steps_alone ws (length ws) told kept more_told
 
--- of one call more there are more waypoints than so many, no two of which are as good
-pub record AreMoreDeeper (lists : Lists) (steps_alone : Bool) (ws : List Waypoint) (room : ℕ) : Type 0 where
+-- with so many past ones, there are so many waypoints in all, more than may be, where one call more was asked at these: no two of the
+-- new ones are as good
+pub record AreMoreDeeper (lists : Lists) (steps_alone : Bool) (ws : List Waypoint) (past most states : ℕ) : Type 0 where
   pub kept : List Waypoint
-  pub more : room < length kept
+  pub all : past + length kept ≡ states
+  pub more : most < states
   pub apart : AreApart steps_alone kept
   pub waypoints : (opening : Machine) (count : ℕ) → AreWaypoints lists opening count ws → AreWaypoints lists opening (count + 1) kept
 
--- beginnings of orders lead to more waypoints than so many, no two of which are as good
-pub record AreMore (lists : Lists) (opening : Machine) (most : ℕ) : Type 0 where
+-- beginnings of orders lead to so many waypoints, more than may be, no two of which are as good
+pub record AreMore (lists : Lists) (opening : Machine) (most states : ℕ) : Type 0 where
   pub waypoints : List Waypoint
-  pub more : most < length waypoints
+  pub all : length waypoints ≡ states
+  pub more : most < states
   pub reached : AllByRecursion (λ w. (count : ℕ) × IsWaypoint lists opening count w) waypoints
   pub apart : AreApart (are_steps lists) waypoints
 
@@ -173,17 +182,17 @@ pub record IsAt (lists : Lists) (opening : Machine) (count : ℕ) (kept : List W
   pub each : IsEachCarried lists opening told kept
   pub refusals : AreRefusals lists opening told
 
-abbrev pub outcome_of : Waypoint → Outcome
-outcome_of w = record { order = w.order; machine = w.machine }
+abbrev pub outcome_of : Waypoint → Option ℕ → Outcome
+outcome_of w orders = record { order = w.order; machine = w.machine; orders = orders }
 
 -- the waypoint is told as an outcome; or one has its cluster
 abbrev pub AddsOutcome : List Outcome → Waypoint → List Outcome → Type 0
 AddsOutcome old w new =
     (IsAny (λ o. cluster_of w.machine ≡ cluster_of o.machine) old × (new ≡ old))
-    ⊎ (AllByRecursion (λ o. cluster_of w.machine ≢ cluster_of o.machine) old × (new ≡ old ++ outcome_of w ∷ []))
+    ⊎ (AllByRecursion (λ o. cluster_of w.machine ≢ cluster_of o.machine) old × (orders : Option ℕ) × (new ≡ old ++ outcome_of w orders ∷ []))
 
 -- the outcomes are those of the waypoints, each cluster once
 pub record Gathers (ws : List Waypoint) (os : List Outcome) : Type 0 where
   pub each : AllByRecursion (λ w. IsAny (λ o. cluster_of w.machine ≡ cluster_of o.machine) os) ws
-  pub from : AllByRecursion (λ o. IsAny (λ w. o ≡ outcome_of w) ws) os
+  pub from : AllByRecursion (λ o. IsAny (λ w. o ≡ outcome_of w o.orders) ws) os
   pub distinct : AreDistinct os

@@ -7,9 +7,9 @@ use thiserror::Error;
 /// Why the outcomes of all orders aren't told.
 #[derive(Clone, Copy, Debug, PartialEq, Eq, Error)]
 pub enum ExploreFault {
-    /// More different states would be kept than may be.
-    #[error("TooMany")]
-    TooMany,
+    /// More different states were kept than may be: so many, when the walk ended.
+    #[error("TooMany {states}")]
+    TooMany { states: u128 },
     /// A request for memory was refused.
     #[error("OutOfMemory")]
     OutOfMemory,

@@ -1,13 +1,16 @@
 //! `explore`: what all orders of some lines lead to.
-ghost use Rattle.std.specs.Prelude.{◌≡◌, ◌≢◌, ◌≤◌, ◌<◌, ◌^◌, [], ◌∷◌, IfErr, IfOk, MatchBool, OnOk, length};
+ghost use Rattle.std.specs.Prelude.{◌≡◌, ◌≢◌, ℕ, ◌≤◌, ◌<◌, ◌^◌, [], ◌∷◌, Some, IfErr, IfOk, MatchBool, OnOk, length};
 ghost use Rattle.std.specs.List.{AllByRecursion};
 ghost use Rattle.bench_core.specs.Machine.{Machine, cluster_of, opening_machine};
-ghost use Rattle.explore_core.specs.Orders.{end_of, plain_lists, total};
+ghost use Rattle.explore_core.specs.Counts.{told_number, IsCounted};
+ghost use Rattle.explore_core.specs.Orders.{end_of, orders_of, plain_lists, total};
 ghost use Rattle.explore_core.specs.Alike.{are_steps};
 ghost use Rattle.explore_core.specs.Explorations.{IsAny, IsOutcome, IsEveryOrder, AreDistinct, IsRefusal, IsEveryRefusal};
 ghost use Rattle.explore_core.specs.Waypoints.{opening_waypoint, AddsOutcome, AreMore, Gathers, IsAt};
+ghost use Rattle.explore_core.specs.Ways.{HasNumber, IsCountedAt, IsSumOf};
 
 use crate::alike::{are_steps, same_nodes};
+use crate::counting::{number_at, sum_of, sum_of_all};
 use crate::explore_fault::ExploreFault;
 use crate::outcome::{Explored, Outcome};
 use crate::walking::{Found, Plan, deepened};
@@ -29,18 +32,40 @@ fn is_among<'a, B: Allocator>(outcomes: &[Outcome<'a, B>], waypoint: &Waypoint<'
     false
 }
 
-/// Tells the waypoint as an outcome, unless one has its nodes.
+/// How many orders lead to the nodes of this waypoint, where so many lead to each.
+fn orders_to<'a, B: Allocator>(
+    waypoints: &[Waypoint<'a, B>],
+    counts: &[Option<u128>],
+    waypoint: &Waypoint<'a, B>,
+) -> Option<u128>
+    ensures { IsSumOf waypoints.now counts.now (cluster_of waypoint.now.machine) result }
+{
+    let mut sum = Some(0);
+    for (place, other) in waypoints.iter().enumerate() {
+        if same_nodes(&waypoint.bench, &other.bench) {
+            sum = sum_of(sum, number_at(counts, place));
+        }
+    }
+    sum
+}
+
+/// Tells this one of the waypoints as an outcome, unless one has its nodes.
 fn gather<'a, B: Allocator>(
     alloc: &'a B,
     outcomes: &mut Vec<Outcome<'a, B>, &'a B>,
+    waypoints: &[Waypoint<'a, B>],
+    counts: &[Option<u128>],
     waypoint: &Waypoint<'a, B>,
 ) -> Result<(), Oom>
-    ensures { OnOk result (AddsOutcome outcomes.old.items waypoint.now outcomes.new.items) }
+    ensures outcomes { OnOk result (AddsOutcome outcomes.old.items waypoint.now outcomes.new.items) }
+    ensures orders { OnOk result (AllByRecursion (HasNumber waypoints.now counts.now) outcomes.old.items →
+        AllByRecursion (HasNumber waypoints.now counts.now) outcomes.new.items) }
 {
     if is_among(outcomes.as_slice(), waypoint) {
         return Ok(());
     }
-    let outcome = waypoint.outcome(alloc)?;
+    let orders = orders_to(waypoints, counts, waypoint);
+    let outcome = waypoint.outcome(alloc, orders)?;
     outcomes.push(outcome)?;
     Ok(())
 }
@@ -49,12 +74,14 @@ fn gather<'a, B: Allocator>(
 fn outcomes_of<'a, B: Allocator>(
     alloc: &'a B,
     waypoints: &[Waypoint<'a, B>],
+    counts: &[Option<u128>],
 ) -> Result<Vec<Outcome<'a, B>, &'a B>, Oom>
-    ensures { IfOk result (λ outcomes. Gathers waypoints.now outcomes.items) }
+    ensures outcomes { IfOk result (λ outcomes. Gathers waypoints.now outcomes.items) }
+    ensures orders { IfOk result (λ outcomes. AllByRecursion (HasNumber waypoints.now counts.now) outcomes.items) }
 {
     let mut outcomes = Vec::new(alloc);
     for waypoint in waypoints {
-        gather(alloc, &mut outcomes, waypoint)?;
+        gather(alloc, &mut outcomes, waypoints, counts, waypoint)?;
     }
     Ok(outcomes)
 }
@@ -78,13 +105,17 @@ fn begun<'a, B: Allocator>(
     limits: Limits,
 ) -> Result<Found<'a, B>, Oom>
     ensures kept { IfOk result (λ found. found.kept.items ≡ opening_waypoint (plain_lists plan.now.lists.now) (opening_machine names.entry limits) ∷ []) }
+    ensures counts { IfOk result (λ found. found.counts.items ≡ Some 1 ∷ []) }
     ensures told { IfOk result (λ found. found.told.items ≡ []) }
 {
     let start = Waypoint::start(plan.alloc, names, limits, plan.lists)?;
     let mut kept = Vec::new(plan.alloc);
     kept.push(start)?;
+    let mut counts = Vec::new(plan.alloc);
+    counts.push(Some(1))?;
     Ok(Found {
         kept,
+        counts,
         told: Vec::new(plan.alloc),
     })
 }
@@ -103,22 +134,25 @@ fn walked<'a, B: Allocator>(
     requires one { length first.kept.items ≡ 1 }
     ensures walked { IfOk result (λ r. (opening : Machine) → IsAt (plain_lists plan.now.lists.now) opening 0 first.entry.kept.items first.entry.told.items →
         IsAt (plain_lists plan.now.lists.now) opening lines r.0.kept.items r.0.told.items) }
+    ensures counted { IfOk result (λ r. (opening : Machine) → IsCountedAt (plain_lists plan.now.lists.now) opening 0 first.entry.kept.items first.entry.counts.items →
+        IsCountedAt (plain_lists plan.now.lists.now) opening lines r.0.kept.items r.0.counts.items) }
     ensures most { IfOk result (λ r. r.1 ≤ most) }
-    ensures too_many { IfErr result (λ fault. fault ≡ ExploreFault.TooMany →
+    ensures too_many { IfErr result (λ fault. (states : ℕ) → fault ≡ ExploreFault.TooMany states →
         (opening : Machine) → IsAt (plain_lists plan.now.lists.now) opening 0 first.entry.kept.items first.entry.told.items →
-        AreMore (plain_lists plan.now.lists.now) opening most) }
+        AreMore (plain_lists plan.now.lists.now) opening most states) }
 {
     let mut found = first;
     let mut states = 1;
     for _ in 0..lines {
-        found = deepened(plan, found, most - states)?;
+        found = deepened(plan, found, states, most)?;
         states += found.kept.len();
     }
     Ok((found, states))
 }
 
 /// What all orders of these lines lead to, on a bench of these names and limits that was asked nothing: list `i`, from 0, has
-/// the lines of actor `i` in their order. `TooMany` where more different states than `most` would be kept.
+/// the lines of actor `i` in their order. `TooMany` where more different states
+/// than `most` were kept.
 pub fn explore<'a, B: Allocator>(
     alloc: &'a B,
     names: Names<&'a B>,
@@ -130,10 +164,12 @@ pub fn explore<'a, B: Allocator>(
     ensures every_order { IfOk result (λ e. IsEveryOrder (plain_lists lists.now) (opening_machine names.entry limits) e.outcomes.items) }
     ensures outcomes { IfOk result (λ e. AllByRecursion (IsOutcome (plain_lists lists.now) (opening_machine names.entry limits)) e.outcomes.items) }
     ensures distinct { IfOk result (λ e. AreDistinct e.outcomes.items) }
+    ensures counts { IfOk result (λ e. AllByRecursion (IsCounted (plain_lists lists.now) (opening_machine names.entry limits)) e.outcomes.items) }
+    ensures orders { IfOk result (λ e. e.orders ≡ told_number (length (orders_of (plain_lists lists.now)))) }
     ensures every_refusal { IfOk result (λ e. IsEveryRefusal (plain_lists lists.now) (opening_machine names.entry limits) e.refusals.items) }
     ensures refusals { IfOk result (λ e. AllByRecursion (IsRefusal (plain_lists lists.now) (opening_machine names.entry limits)) e.refusals.items) }
     ensures most { IfOk result (λ e. e.states ≤ most) }
-    ensures too_many { IfErr result (λ fault. fault ≡ ExploreFault.TooMany → AreMore (plain_lists lists.now) (opening_machine names.entry limits) most) }
+    ensures too_many { IfErr result (λ fault. (states : ℕ) → fault ≡ ExploreFault.TooMany states → AreMore (plain_lists lists.now) (opening_machine names.entry limits) most states) }
 {
     let plan = Plan {
         alloc,
@@ -142,14 +178,15 @@ pub fn explore<'a, B: Allocator>(
     };
     let lines = count_lines(lists);
     if most == 0 {
-        return Err(ExploreFault::TooMany);
+        return Err(ExploreFault::TooMany { states: 1 });
     }
     let first = begun(&plan, names, limits)?;
     let (found, states) = walked(&plan, first, lines, most)?;
-    let Found { kept, told } = found;
-    let outcomes = outcomes_of(alloc, kept.as_slice())?;
+    let Found { kept, counts, told } = found;
+    let outcomes = outcomes_of(alloc, kept.as_slice(), counts.as_slice())?;
     Ok(Explored {
         outcomes,
+        orders: sum_of_all(counts.as_slice()),
         refusals: told,
         states,
     })

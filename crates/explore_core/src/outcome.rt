@@ -5,11 +5,14 @@ use bench_core::{Bench, Fault};
 use std::alloc::Allocator;
 use std::marker::Model;
 
-/// What an order leads to: the actors of its calls, each of which asks its next line, and the bench after them.
+/// What an order leads to: the actors of its calls, each of which asks its next line, and the bench after them; and how many
+/// orders lead to this cluster.
 #[derive(Drop)]
 pub struct Outcome<'a, B: Allocator> {
     pub order: Vec<u16, &'a B>,
     pub bench: Bench<'a, B>,
+    /// None where they are 2^128 or more.
+    pub orders: Option<u128>,
 }
 
 impl<'a, B: Allocator> Model for Outcome<'a, B> {
@@ -20,7 +23,7 @@ impl<'a, B: Allocator> Model for Outcome<'a, B> {
 
     ghost coded = { outcome_code reply_row.coded };
 
-    ghost view = { λ o. record { order = o.order.items; machine = o.bench } };
+    ghost view = { λ o. record { order = o.order.items; machine = o.bench; orders = o.orders } };
 }
 
 /// A line that is refused: its actor, its place among the actor's lines, from 0, why it is refused, and the actors of the calls
@@ -58,6 +61,8 @@ impl<'a, B: Allocator> Refusal<'a, B> {
 pub struct Explored<'a, B: Allocator> {
     /// The different clusters, each once, with an order that leads there.
     pub outcomes: Vec<Outcome<'a, B>, &'a B>,
+    /// How many orders there are; none where they are 2^128 or more.
+    pub orders: Option<u128>,
     /// The lines that are refused in some order.
     pub refusals: Vec<Refusal<'a, B>, &'a B>,
     /// How many different states the walk kept.

@@ -1,9 +1,13 @@
 //! One line more: from the waypoints of so many calls to those of one call more.
-ghost use Rattle.std.specs.Prelude.{◌≡◌, ◌≤◌, ◌<◌, ◌^◌, ◌↔◌, OnOk, IfErr, IfOk, IsTrue, MatchBool, length};
+ghost use Rattle.std.specs.Prelude.{◌≡◌, ◌≤◌, ◌<◌, ◌^◌, ◌*◌, ◌+◌, ◌↔◌, ℕ, OnOk, IfErr, IfOk, IsTrue, MatchOption, length};
 ghost use Rattle.explore_core.specs.Orders.{plain_lists};
-ghost use Rattle.explore_core.specs.Waypoints.{IsAsGood, IsKept, IsOther, IsTold, AddsKept, AddsTold, TellsReply, Advances, AdvancesBelow, AreMoreDeeper, Deepens};
+ghost use Rattle.explore_core.specs.Waypoints.{after_line, IsAsGood, IsKeptAt, IsOther, IsTold, AddsKept, AddsTold, TellsReply, Advances, AdvancesBelow, AreMoreDeeper, Deepens};
+ghost use Rattle.explore_core.specs.Counts.{told_number};
+ghost use Rattle.explore_core.specs.Orders.{next_line};
+ghost use Rattle.explore_core.specs.Ways.{next_value, values_below, AddsOrders, DeepensOrders};
 
 use crate::alike::are_alike;
+use crate::counting::{add_number, number_at};
 use crate::explore_fault::ExploreFault;
 use crate::outcome::Refusal;
 use crate::waypoint::Waypoint;
@@ -19,10 +23,12 @@ pub(crate) struct Plan<'l, 'a, B: Allocator> {
     pub(crate) steps_alone: bool,
 }
 
-/// What was found: the waypoints that were kept of one layer, and the refusals of all.
+/// What was found: the waypoints that were kept of one layer, how many beginnings of orders each stands for, and the refusals
+/// of all.
 #[derive(Drop)]
 pub(crate) struct Found<'a, B: Allocator> {
     pub(crate) kept: Vec<Waypoint<'a, B>, &'a B>,
+    pub(crate) counts: Vec<Option<u128>, &'a B>,
     pub(crate) told: Vec<Refusal<'a, B>, &'a B>,
 }
 
@@ -38,34 +44,40 @@ fn is_as_good<'a, B: Allocator>(
         && are_alike(steps_alone, &waypoint.bench, &other.bench)
 }
 
-/// Whether one that is as good is kept.
-fn is_kept<'a, B: Allocator>(
+/// The place of the first that is as good, if one is kept.
+fn place_of<'a, B: Allocator>(
     kept: &[Waypoint<'a, B>],
     steps_alone: bool,
     waypoint: &Waypoint<'a, B>,
-) -> bool
-    ensures { MatchBool result (IsKept steps_alone kept.now waypoint.now) (IsOther steps_alone kept.now waypoint.now) }
+) -> Option<usize>
+    ensures { MatchOption result (IsOther steps_alone kept.now waypoint.now) (λ place. IsKeptAt steps_alone kept.now waypoint.now place) }
 {
-    for other in kept {
+    for (place, other) in kept.iter().enumerate() {
         if is_as_good(steps_alone, waypoint, other) {
-            return true;
+            return Some(place);
         }
     }
-    false
+    None
 }
 
-/// Keeps the waypoint, unless one that is as good is kept.
+/// Keeps the waypoint, which stands for so many beginnings of orders; if one that is as good is kept, that one stands for them.
 fn keep<'a, B: Allocator>(
-    kept: &mut Vec<Waypoint<'a, B>, &'a B>,
+    found: &mut Found<'a, B>,
     steps_alone: bool,
     waypoint: Waypoint<'a, B>,
+    orders: Option<u128>,
 ) -> Result<(), Oom>
-    ensures { OnOk result (AddsKept steps_alone kept.old.items waypoint.entry kept.new.items) }
+    ensures kept { OnOk result (AddsKept steps_alone found.old.kept.items waypoint.entry found.new.kept.items) }
+    ensures told { found.new.told.items ≡ found.old.told.items }
+    ensures orders { (n : ℕ) → orders ≡ told_number n →
+        OnOk result (AddsOrders steps_alone found.old.kept.items found.old.counts.items found.new.kept.items found.new.counts.items (λ f. n * f waypoint.entry)) }
 {
-    if is_kept(kept.as_slice(), steps_alone, &waypoint) {
+    if let Some(place) = place_of(found.kept.as_slice(), steps_alone, &waypoint) {
+        add_number(&mut found.counts, place, orders);
         return Ok(());
     }
-    kept.push(waypoint)?;
+    found.kept.push(waypoint)?;
+    found.counts.push(orders)?;
     Ok(())
 }
 
@@ -125,6 +137,7 @@ fn tell_reply<'a, B: Allocator>(
 fn note<'a, B: Allocator>(
     plan: &Plan<'_, 'a, B>,
     waypoint: &Waypoint<'a, B>,
+    orders: Option<u128>,
     actor: u16,
     line: usize,
     later: (Waypoint<'a, B>, Reply),
@@ -132,70 +145,88 @@ fn note<'a, B: Allocator>(
 ) -> Result<(), Oom>
     ensures told { OnOk result (TellsReply found.old.told.items actor line waypoint.now.order later.entry.1 found.new.told.items) }
     ensures kept { OnOk result (AddsKept plan.now.steps_alone found.old.kept.items later.entry.0 found.new.kept.items) }
+    ensures orders { (n : ℕ) → orders ≡ told_number n →
+        OnOk result (AddsOrders plan.now.steps_alone found.old.kept.items found.old.counts.items found.new.kept.items found.new.counts.items (λ f. n * f later.entry.0)) }
 {
     let (later, reply) = later;
     tell_reply(plan, waypoint, actor, line, reply, &mut found.told)?;
-    keep(&mut found.kept, plan.steps_alone, later)
+    keep(found, plan.steps_alone, later, orders)
 }
 
 /// Asks the next line of the actor at this waypoint, where it has one.
 fn advance<'a, B: Allocator>(
     plan: &Plan<'_, 'a, B>,
     waypoint: &Waypoint<'a, B>,
+    orders: Option<u128>,
     actor: u16,
     found: &mut Found<'a, B>,
 ) -> Result<(), Oom>
-    ensures { OnOk result (Advances (plain_lists plan.now.lists.now) plan.now.steps_alone waypoint.now actor
+    ensures advances { OnOk result (Advances (plain_lists plan.now.lists.now) plan.now.steps_alone waypoint.now actor
         found.old.kept.items found.old.told.items found.new.kept.items found.new.told.items) }
+    ensures orders { (n : ℕ) → orders ≡ told_number n →
+        OnOk result (AddsOrders plan.now.steps_alone found.old.kept.items found.old.counts.items found.new.kept.items found.new.counts.items
+        (λ f. n * next_value (next_line (plain_lists plan.now.lists.now) waypoint.now.position actor) (λ act. f (after_line waypoint.now actor act)))) }
 {
     let Some((act, line)) = waypoint.next(plan.lists, actor) else {
         return Ok(());
     };
     let later = waypoint.after(plan.alloc, actor, act)?;
-    note(plan, waypoint, actor, line, later, found)
+    note(plan, waypoint, orders, actor, line, later, found)
 }
 
 /// Asks the next line of each actor at this waypoint.
 fn advance_all<'a, B: Allocator>(
     plan: &Plan<'_, 'a, B>,
     waypoint: &Waypoint<'a, B>,
+    orders: Option<u128>,
     found: &mut Found<'a, B>,
 ) -> Result<(), Oom>
     requires { length plan.now.lists.now < 2 ^ 16 }
-    ensures { OnOk result (AdvancesBelow (plain_lists plan.now.lists.now) plan.now.steps_alone waypoint.now (length plan.now.lists.now)
+    ensures advances { OnOk result (AdvancesBelow (plain_lists plan.now.lists.now) plan.now.steps_alone waypoint.now (length plan.now.lists.now)
         found.old.kept.items found.old.told.items found.new.kept.items found.new.told.items) }
+    ensures orders { (n : ℕ) → orders ≡ told_number n →
+        OnOk result (AddsOrders plan.now.steps_alone found.old.kept.items found.old.counts.items found.new.kept.items found.new.counts.items
+        (λ f. n * values_below (plain_lists plan.now.lists.now) f waypoint.now (length plan.now.lists.now))) }
 {
     for actor in 0..plan.lists.len() as u16 {
-        advance(plan, waypoint, actor, found)?;
+        advance(plan, waypoint, orders, actor, found)?;
     }
     Ok(())
 }
 
-/// The waypoints of one call more, of which there may be so many.
+/// The waypoints of one call more, where so many past ones are kept, and so many may be in all.
 pub(crate) fn deepened<'a, B: Allocator>(
     plan: &Plan<'_, 'a, B>,
     before: Found<'a, B>,
-    room: usize,
+    past: usize,
+    most: usize,
 ) -> Result<Found<'a, B>, ExploreFault>
-    requires { length plan.now.lists.now < 2 ^ 16 }
+    requires few { length plan.now.lists.now < 2 ^ 16 }
+    requires room { past ≤ most }
     ensures deepens { IfOk result (λ found. Deepens (plain_lists plan.now.lists.now) plan.now.steps_alone
         before.entry.kept.items before.entry.told.items found.kept.items found.told.items) }
-    ensures room { IfOk result (λ found. length found.kept.items ≤ room) }
-    ensures too_many { IfErr result (λ fault. fault ≡ ExploreFault.TooMany →
-        AreMoreDeeper (plain_lists plan.now.lists.now) plan.now.steps_alone before.entry.kept.items room) }
+    ensures orders { IfOk result (λ found. DeepensOrders (plain_lists plan.now.lists.now) plan.now.steps_alone
+        before.entry.kept.items before.entry.counts.items found.kept.items found.counts.items) }
+    ensures room { IfOk result (λ found. past + length found.kept.items ≤ most) }
+    ensures too_many { IfErr result (λ fault. (states : ℕ) → fault ≡ ExploreFault.TooMany states →
+        AreMoreDeeper (plain_lists plan.now.lists.now) plan.now.steps_alone before.entry.kept.items past most states) }
 {
     let Found {
         kept: waypoints,
+        counts,
         told,
     } = before;
     let mut found = Found {
         kept: Vec::new(plan.alloc),
+        counts: Vec::new(plan.alloc),
         told,
     };
-    for waypoint in &waypoints {
-        advance_all(plan, waypoint, &mut found)?;
-        if found.kept.len() > room {
-            return Err(ExploreFault::TooMany);
+    for (place, waypoint) in waypoints.iter().enumerate() {
+        let orders = number_at(counts.as_slice(), place);
+        advance_all(plan, waypoint, orders, &mut found)?;
+        let states = past as u128 + found.kept.len() as u128;
+        if states > most as u128 {
+            return Err(ExploreFault::TooMany { states });
         }
     }
     Ok(found)

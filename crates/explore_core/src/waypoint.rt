@@ -138,13 +138,17 @@ impl<'a, B: Allocator> Waypoint<'a, B> {
         next_line(lists, &self.position, actor)
     }
 
-    /// What it is as an outcome.
-    pub(crate) fn outcome(&self, alloc: &'a B) -> Result<Outcome<'a, B>, Oom>
-        ensures { IfOk result (λ o. o ≡ outcome_of self.now) }
+    /// What it is as an outcome that so many orders lead to.
+    pub(crate) fn outcome(&self, alloc: &'a B, orders: Option<u128>) -> Result<Outcome<'a, B>, Oom>
+        ensures { IfOk result (λ o. o ≡ outcome_of self.now orders) }
     {
         let order = Vec::from_slice(alloc, &self.order)?;
         let bench = copied(alloc, &self.bench)?;
-        Ok(Outcome { order, bench })
+        Ok(Outcome {
+            order,
+            bench,
+            orders,
+        })
     }
 
     /// After this line of the actor, and the reply to it.

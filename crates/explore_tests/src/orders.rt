@@ -1,15 +1,16 @@
 //! Small sets of lines whose orders were gone through by hand.
 use crate::lines::Line::{self, Back, Broadcast, Deliver, Join, Undo, Up};
 use crate::lines::{Lists, limits_of, lists_of, names_of};
-use bench_core::{Bench, Fault};
+use bench_core::{Bench, Fault, Names};
 use explore_core::{ExploreFault, Explored, explore};
 use std::alloc::{Allocator, Global};
 use std::process::Abort;
 
-/// The actors of an order, and how many entries the nodes `a` and `b` have after it.
+/// The actors of an order, how many entries the nodes `a` and `b` have after it, and how many orders lead there.
 struct Ends {
     order: &'static [u16],
     entries: [usize; 2],
+    orders: u128,
 }
 
 /// An actor, the place of its line, and why it is refused; and the actors of the calls before it.
@@ -23,6 +24,7 @@ struct Refused {
 struct Case {
     acts: u64,
     lists: &'static [&'static [Line]],
+    orders: u128,
     outcomes: &'static [Ends],
     refusals: &'static [Refused],
     states: usize,
@@ -33,14 +35,17 @@ const CASES: [Case; 6] = [
     Case {
         acts: 100,
         lists: &[&[Join(1), Broadcast], &[Up(0), Deliver(0, 1)]],
+        orders: 6,
         outcomes: &[
             Ends {
                 order: &[0, 0, 1, 1],
                 entries: [1, 1],
+                orders: 3,
             },
             Ends {
                 order: &[0, 1, 1, 0],
                 entries: [1, 0],
+                orders: 3,
             },
         ],
         refusals: &[Refused {
@@ -55,32 +60,39 @@ const CASES: [Case; 6] = [
     Case {
         acts: 100,
         lists: &[&[Join(1), Broadcast], &[Join(2), Broadcast]],
+        orders: 6,
         outcomes: &[Ends {
             order: &[0, 0, 1, 1],
             entries: [1, 1],
+            orders: 6,
         }],
         refusals: &[],
         states: 9,
     },
-    // Each hears of the other; or one of them delivers too early.
+    // Each hears of the other; or one of them delivers too early: in the orders in which two lines of the other at most come
+    // before its last, 1 + 4 + 10.
     Case {
         acts: 100,
         lists: &[
             &[Up(1), Join(1), Broadcast, Deliver(1, 1)],
             &[Up(0), Join(2), Broadcast, Deliver(0, 1)],
         ],
+        orders: 70,
         outcomes: &[
             Ends {
                 order: &[0, 0, 0, 0, 1, 1, 1, 1],
                 entries: [1, 2],
+                orders: 15,
             },
             Ends {
                 order: &[0, 0, 0, 1, 1, 1, 0, 1],
                 entries: [2, 2],
+                orders: 40,
             },
             Ends {
                 order: &[0, 0, 1, 1, 1, 1, 0, 0],
                 entries: [2, 1],
+                orders: 15,
             },
         ],
         refusals: &[
@@ -103,14 +115,17 @@ const CASES: [Case; 6] = [
     Case {
         acts: 3,
         lists: &[&[Join(1)], &[Join(2)]],
+        orders: 2,
         outcomes: &[
             Ends {
                 order: &[0, 1],
                 entries: [1, 0],
+                orders: 1,
             },
             Ends {
                 order: &[1, 0],
                 entries: [0, 1],
+                orders: 1,
             },
         ],
         refusals: &[
@@ -129,18 +144,21 @@ const CASES: [Case; 6] = [
         ],
         states: 5,
     },
-    // A console undoes the join before it is there, between, and when the broadcast follows from it.
+    // A console undoes the join before it is there, between, and when the broadcast follows from it: refused in two of three.
     Case {
         acts: 100,
         lists: &[&[Join(1), Broadcast], &[], &[Undo(1)]],
+        orders: 3,
         outcomes: &[
             Ends {
                 order: &[0, 0, 2],
                 entries: [1, 0],
+                orders: 2,
             },
             Ends {
                 order: &[0, 2, 0],
                 entries: [0, 0],
+                orders: 1,
             },
         ],
         refusals: &[
@@ -172,9 +190,11 @@ const CASES: [Case; 6] = [
     Case {
         acts: 100,
         lists: &[],
+        orders: 1,
         outcomes: &[Ends {
             order: &[],
             entries: [0, 0],
+            orders: 1,
         }],
         refusals: &[],
         states: 1,
@@ -200,6 +220,7 @@ fn check_outcomes<'a, B: Allocator>(
             entries_of(rt, &told.bench, 1),
         ];
         assert_eq!(rt; entries, ends.entries);
+        assert!(rt; told.orders == Some(ends.orders));
     }
 }
 
@@ -236,6 +257,7 @@ fn each_order_is_told(rt: HostRuntime) {
         let explored = explored_in(&rt, &heap, &lists, case, case.states);
         let explored = explored.expect(&rt, "all orders");
         assert_eq!(rt; explored.states, case.states);
+        assert!(rt; explored.orders == Some(case.orders));
         check_outcomes(&rt, &explored, case.outcomes);
         check_refusals(&rt, &explored, case.refusals);
     }
@@ -248,6 +270,82 @@ fn too_many_states_are_refused(rt: HostRuntime) {
         let most = case.states.saturating_sub(1);
         let lists = lists_of(&rt, &heap, case.lists);
         let explored = explored_in(&rt, &heap, &lists, case, most);
-        assert!(rt; matches!(explored, Err(ExploreFault::TooMany)));
+        let states = case.states as u128;
+        assert!(rt;
+            matches!(explored, Err(ExploreFault::TooMany { states: told }) if told == states)
+        );
     }
+}
+
+/// Broadcasts of two actors, of which there are as many orders as there are ways to choose the first one's places.
+const BROADCASTS: [(&[&[Line]], Option<u128>); 2] = [
+    (
+        &[&[Broadcast; 65], &[Broadcast; 65]],
+        Some(95_067_625_827_960_698_145_584_333_020_095_113_100),
+    ),
+    (&[&[Broadcast; 66], &[Broadcast; 66]], None),
+];
+
+#[test]
+fn orders_are_told_below_2_to_the_128th(rt: HostRuntime) {
+    let heap = rt.alloc();
+    for (lists, orders) in &BROADCASTS {
+        let lists = lists_of(&rt, &heap, *lists);
+        assert!(rt; lists.len() < 65_536);
+        // No step has two free places, and a refusal for this is not recorded.
+        let explored = explore(
+            &heap,
+            names_of(&rt, &heap),
+            limits_of(&rt, 1),
+            &lists,
+            10_000,
+        );
+        let explored = explored.expect(&rt, "all orders");
+        assert!(rt; explored.orders == *orders);
+        assert_eq!(rt; explored.outcomes.len(), 1);
+        for outcome in &explored.outcomes {
+            assert!(rt; outcome.orders == *orders);
+        }
+    }
+}
+
+/// Each of three nodes hears of the two others: 18! / 6!³ orders, which no walk could go through one by one.
+#[test]
+fn orders_of_three_nodes_of_six_lines_are_told(rt: HostRuntime) {
+    let heap = rt.alloc();
+    let lists = lists_of(
+        &rt,
+        &heap,
+        &[
+            &[
+                Up(1),
+                Up(2),
+                Join(1),
+                Broadcast,
+                Deliver(1, 1),
+                Deliver(2, 1),
+            ],
+            &[
+                Up(0),
+                Up(2),
+                Join(2),
+                Broadcast,
+                Deliver(0, 1),
+                Deliver(2, 1),
+            ],
+            &[
+                Up(0),
+                Up(1),
+                Join(3),
+                Broadcast,
+                Deliver(0, 1),
+                Deliver(1, 1),
+            ],
+        ],
+    );
+    assert!(rt; lists.len() < 65_536);
+    let names = Names::new(&heap, &["a", "b", "c"]).expect(&rt, "names");
+    let explored = explore(&heap, names, limits_of(&rt, 100), &lists, 10_000);
+    let explored = explored.expect(&rt, "all orders");
+    assert!(rt; explored.orders == Some(17_153_136));
 }

@@ -2,6 +2,8 @@ use Rattle.std.proofs.Common.{◌≡◌, ◌<◌, ℕ, length, subst, arith, rul
 use Rattle.std.proofs.lemmas.Result.{err_from_is_err_and}
 use Rattle.explore_core.specs.Orders.{plain_lists, end_of, total}
 use Rattle.explore_core.specs.Waypoints.{IsAt}
+use Rattle.explore_core.specs.Ways.{IsCountedAt}
+use Rattle.explore_core.proofs.OrderSums.{counted_next}
 use Rattle.explore_core.proofs.Crowds.{first_one, so_many_next, crowded}
 use Rattle.explore_core.proofs.Walk.{at_next}
 use Rattle.explore_core.proofs.exploring.walked.Goals as goal
@@ -9,6 +11,7 @@ use Rattle.explore_core.proofs.exploring.walked.Goals as goal
 pub loop-init : goal.loop-init
 loop-init g c = record {
   at = λ opening h. h;
+  counted = λ opening h. h;
   most = c.requires.room;
   so_many = λ opening h. first_one (plain_lists c.args.plan.now.lists.now) opening c.args.first.kept.items c.requires.one;
 }
@@ -18,10 +21,10 @@ returns-in_err-found-clause-too_many g c =
     let p = err_from_is_err_and c.from_residual.result c.from_residual.ensures.1 in
     let same : p.0 ≡ c.in_err-found.field-0.0 = cc (p.1, p.2) in
     rw (p.1, same)
-    (λ is opening h.
-    crowded (plain_lists c.args.plan.now.lists.now) opening c.args.plan.now.steps_alone c.loop.counter c.loop.states c.args.most
-    c.loop.found.kept.items c.requires.steps c.loop.invariant.most (c.loop.invariant.so_many opening h)
-    (c.loop.invariant.at opening h).waypoints (c.in_err-found.ensures.too_many is))
+    (λ states is opening h.
+    crowded (plain_lists c.args.plan.now.lists.now) opening c.args.plan.now.steps_alone c.loop.counter c.loop.states c.args.most states
+    c.loop.found.kept.items c.requires.steps (c.loop.invariant.so_many opening h) (c.loop.invariant.at opening h).waypoints
+    (c.in_err-found.ensures.too_many states is))
 
 pub loop-preserved : goal.loop-preserved
 loop-preserved g c =
@@ -35,6 +38,11 @@ loop-preserved g c =
           at_next (plain_lists c.args.plan.now.lists.now) opening c.loop.counter c.args.plan.now.steps_alone c.loop.found.kept.items
           c.loop.found.told.items c.in_ok-found.found.kept.items c.in_ok-found.found.told.items c.requires.steps few
           c.in_ok-found.ensures.deepens (c.loop.invariant.at opening h);
+      counted =
+          λ opening h.
+          counted_next (plain_lists c.args.plan.now.lists.now) opening c.loop.counter c.args.plan.now.steps_alone c.loop.found.kept.items
+          c.loop.found.counts.items c.in_ok-found.found.kept.items c.in_ok-found.found.counts.items c.requires.steps
+          c.in_ok-found.ensures.orders (c.loop.invariant.counted opening h);
       most = omega (arith, size, room, so_far);
       so_many =
           λ opening h.
@@ -51,3 +59,10 @@ returns-clause-walked g c =
     λ opening h.
     subst (λ (n : ℕ). IsAt (plain_lists c.args.plan.now.lists.now) opening n c.loop.found.kept.items c.loop.found.told.items) all
     (c.loop.invariant.at opening h)
+
+pub returns-clause-counted : goal.returns-clause-counted
+returns-clause-counted g c =
+    let all : c.loop.counter ≡ c.args.lines = omega arith in
+    λ opening h.
+    subst (λ (n : ℕ). IsCountedAt (plain_lists c.args.plan.now.lists.now) opening n c.loop.found.kept.items c.loop.found.counts.items) all
+    (c.loop.invariant.counted opening h)

@@ -1,24 +1,47 @@
-use Rattle.std.proofs.Common.{◌≡◌, ℕ, length, subst, arith}
+use Rattle.std.proofs.Common.{◌≡◌, ◌*◌, ℕ, length, subst, arith}
 use Rattle.explore_core.specs.Orders.{plain_lists}
 use Rattle.explore_core.specs.Waypoints.{AdvancesBelow}
+use Rattle.explore_core.specs.Ways.{AddsOrders, values_below}
+use Rattle.explore_core.proofs.OrderSums.{no_orders_below, orders_below}
 use Rattle.explore_core.proofs.Walk.{none_below, one_below}
 use Rattle.explore_core.proofs.walking.advance_all.Goals as goal
 
 pub loop-actor-init : goal.loop-actor-init
-loop-actor-init g c =
-    none_below (plain_lists c.args.plan.now.lists.now) c.args.plan.now.steps_alone c.args.waypoint.now c.args.found.now.kept.items
-    c.args.found.now.told.items
+loop-actor-init g c = record {
+  advances =
+      none_below (plain_lists c.args.plan.now.lists.now) c.args.plan.now.steps_alone c.args.waypoint.now c.args.found.now.kept.items
+      c.args.found.now.told.items;
+  orders =
+      λ n is.
+      no_orders_below (plain_lists c.args.plan.now.lists.now) c.args.plan.now.steps_alone c.args.waypoint.now n
+      c.args.found.now.kept.items c.args.found.now.counts.items;
+}
 
 pub loop-actor-preserved : goal.loop-actor-preserved
-loop-actor-preserved g c =
-    one_below (plain_lists c.args.plan.now.lists.now) c.args.plan.now.steps_alone c.args.waypoint.now c.loop-actor.actor
-    c.args.found.now.kept.items c.args.found.now.told.items c.loop-actor.found.kept.items c.loop-actor.found.told.items
-    c.advance.new.found.kept.items c.advance.new.found.told.items c.loop-actor.invariant c.in_ok-advance.ensures
+loop-actor-preserved g c = record {
+  advances =
+      one_below (plain_lists c.args.plan.now.lists.now) c.args.plan.now.steps_alone c.args.waypoint.now c.loop-actor.actor
+      c.args.found.now.kept.items c.args.found.now.told.items c.loop-actor.found.kept.items c.loop-actor.found.told.items
+      c.advance.new.found.kept.items c.advance.new.found.told.items c.loop-actor.invariant.advances c.in_ok-advance.ensures.advances;
+  orders =
+      λ n is.
+      orders_below (plain_lists c.args.plan.now.lists.now) c.args.plan.now.steps_alone c.args.waypoint.now c.loop-actor.actor n
+      c.args.found.now.kept.items c.args.found.now.counts.items c.loop-actor.found.kept.items c.loop-actor.found.counts.items
+      c.advance.new.found.kept.items c.advance.new.found.counts.items (c.loop-actor.invariant.orders n is) (c.in_ok-advance.ensures.orders n is);
+}
 
-pub returns : goal.returns
-returns g c =
+pub returns-clause-advances : goal.returns-clause-advances
+returns-clause-advances g c =
     let all : c.loop-actor.actor ≡ length c.args.plan.now.lists.now = omega arith in
     subst
     (λ (n : ℕ). AdvancesBelow (plain_lists c.args.plan.now.lists.now) c.args.plan.now.steps_alone c.args.waypoint.now n
     c.args.found.now.kept.items c.args.found.now.told.items c.loop-actor.found.kept.items c.loop-actor.found.told.items) all
-    c.loop-actor.invariant
+    c.loop-actor.invariant.advances
+
+pub returns-clause-orders : goal.returns-clause-orders
+returns-clause-orders g c n is =
+    let all : c.loop-actor.actor ≡ length c.args.plan.now.lists.now = omega arith in
+    subst
+    (λ (actors : ℕ). AddsOrders c.args.plan.now.steps_alone c.args.found.now.kept.items c.args.found.now.counts.items
+    c.loop-actor.found.kept.items c.loop-actor.found.counts.items
+    (λ f. n * values_below (plain_lists c.args.plan.now.lists.now) f c.args.waypoint.now actors)) all (c.loop-actor.invariant.orders n is)

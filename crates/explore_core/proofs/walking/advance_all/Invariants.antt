@@ -1,8 +1,15 @@
+use Rattle.std.proofs.Common.{◌≡◌, ◌*◌, ℕ}
 use Rattle.explore_core.specs.Orders.{plain_lists}
+use Rattle.explore_core.specs.Counts.{told_number}
 use Rattle.explore_core.specs.Waypoints.{AdvancesBelow}
+use Rattle.explore_core.specs.Ways.{AddsOrders, values_below}
 use Rattle.explore_core.proofs.walking.advance_all.Given as goal
 
 abbrev pub invariant-loop-actor : goal.invariant-loop-actor
-invariant-loop-actor g l =
-    AdvancesBelow (plain_lists l.plan.lists.now) l.plan.steps_alone l.waypoint l.actor l.initial.found.kept.items l.initial.found.told.items
-    l.found.kept.items l.found.told.items
+invariant-loop-actor g l = record {
+  advances : AdvancesBelow (plain_lists l.plan.lists.now) l.plan.steps_alone l.waypoint l.actor l.initial.found.kept.items
+      l.initial.found.told.items l.found.kept.items l.found.told.items;
+  orders : (n : ℕ) → l.orders ≡ told_number n →
+      AddsOrders l.plan.steps_alone l.initial.found.kept.items l.initial.found.counts.items l.found.kept.items l.found.counts.items
+      (λ f. n * values_below (plain_lists l.plan.lists.now) f l.waypoint l.actor);
+}

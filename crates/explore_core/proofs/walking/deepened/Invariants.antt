@@ -1,11 +1,15 @@
-use Rattle.std.proofs.Common.{◌≤◌, length}
+use Rattle.std.proofs.Common.{◌+◌, ◌≤◌, ℕ, List, length, take}
 use Rattle.explore_core.specs.Orders.{plain_lists}
 use Rattle.explore_core.specs.Waypoints.{DeepensFirst}
+use Rattle.explore_core.specs.Ways.{AreTold, ComeTo, next_values, weighed}
 use Rattle.explore_core.proofs.walking.deepened.Given as goal
 
-abbrev pub invariant-loop-waypoint : goal.invariant-loop-waypoint
-invariant-loop-waypoint g l = record {
-  deepens : DeepensFirst (plain_lists l.plan.lists.now) l.plan.steps_alone l.waypoint-items l.waypoint-index l.initial.found.told.items
+abbrev pub invariant-loop-place : goal.invariant-loop-place
+invariant-loop-place g l = record {
+  deepens : DeepensFirst (plain_lists l.plan.lists.now) l.plan.steps_alone l.waypoint-items l.place l.initial.found.told.items
       l.found.kept.items l.found.told.items;
-  room : length l.found.kept.items ≤ l.room;
+  orders : (ns : List ℕ) → AreTold l.counts.items l.waypoint-items ns →
+      ComeTo l.plan.steps_alone (λ f. 0) l.found.kept.items l.found.counts.items
+      (λ f. weighed (next_values (plain_lists l.plan.lists.now) f) (take l.place l.waypoint-items) (take l.place ns));
+  room : l.past + length l.found.kept.items ≤ l.most;
 }
