@@ -10,3 +10,4 @@ pub mod Numbers
 pub mod Interleavings
 pub mod SameClusters
 pub mod OrderSums
+pub mod Digesting

@@ -4,3 +4,4 @@ pub mod Waypoints
 pub mod Explorations
 pub mod Counts
 pub mod Ways
+pub mod Digests

@@ -13,6 +13,7 @@ use crate::alike::{are_steps, same_nodes};
 use crate::counting::{number_at, sum_of, sum_of_all};
 use crate::explore_fault::ExploreFault;
 use crate::outcome::{Explored, Outcome};
+use crate::places::Places;
 use crate::walking::{Found, Plan, deepened};
 use crate::waypoint::Waypoint;
 use bench_core::{Act, Limits, Names};
@@ -116,6 +117,7 @@ fn begun<'a, B: Allocator>(
     Ok(Found {
         kept,
         counts,
+        places: Places::new(plan.alloc),
         told: Vec::new(plan.alloc),
     })
 }
@@ -182,7 +184,12 @@ pub fn explore<'a, B: Allocator>(
     }
     let first = begun(&plan, names, limits)?;
     let (found, states) = walked(&plan, first, lines, most)?;
-    let Found { kept, counts, told } = found;
+    let Found {
+        kept,
+        counts,
+        told,
+        ..
+    } = found;
     let outcomes = outcomes_of(alloc, kept.as_slice(), counts.as_slice())?;
     Ok(Explored {
         outcomes,

@@ -1,15 +1,19 @@
 //! One line more: from the waypoints of so many calls to those of one call more.
-ghost use Rattle.std.specs.Prelude.{◌≡◌, ◌≤◌, ◌<◌, ◌^◌, ◌*◌, ◌+◌, ◌↔◌, ℕ, OnOk, IfErr, IfOk, IsTrue, MatchOption, length};
+ghost use Rattle.std.specs.Prelude.{◌≡◌, ◌≤◌, ◌<◌, ◌^◌, ◌*◌, ◌+◌, ◌↔◌, ℕ, OnOk, IfErr, IfOk, IsTrue, MatchOption, length, nat_eq};
 ghost use Rattle.explore_core.specs.Orders.{plain_lists};
 ghost use Rattle.explore_core.specs.Waypoints.{after_line, IsAsGood, IsKeptAt, IsOther, IsTold, AddsKept, AddsTold, TellsReply, Advances, AdvancesBelow, AreMoreDeeper, Deepens};
+ghost use Rattle.indexmap.specs.IndexMap.{get};
 ghost use Rattle.explore_core.specs.Counts.{told_number};
+ghost use Rattle.explore_core.specs.Digests.{digest_of, IsIndexed};
 ghost use Rattle.explore_core.specs.Orders.{next_line};
 ghost use Rattle.explore_core.specs.Ways.{next_value, values_below, AddsOrders, DeepensOrders};
 
 use crate::alike::are_alike;
 use crate::counting::{add_number, number_at};
+use crate::digest::digest;
 use crate::explore_fault::ExploreFault;
 use crate::outcome::Refusal;
+use crate::places::Places;
 use crate::waypoint::Waypoint;
 use bench_core::{Act, Reply};
 use node_core::Oom;
@@ -23,12 +27,13 @@ pub(crate) struct Plan<'l, 'a, B: Allocator> {
     pub(crate) steps_alone: bool,
 }
 
-/// What was found: the waypoints that were kept of one layer, how many beginnings of orders each stands for, and the refusals
-/// of all.
+/// What was found: the waypoints that were kept of one layer, how many beginnings of orders each stands for, where they stand, and
+/// the refusals of all.
 #[derive(Drop)]
 pub(crate) struct Found<'a, B: Allocator> {
     pub(crate) kept: Vec<Waypoint<'a, B>, &'a B>,
     pub(crate) counts: Vec<Option<u128>, &'a B>,
+    pub(crate) places: Places<'a, B>,
     pub(crate) told: Vec<Refusal<'a, B>, &'a B>,
 }
 
@@ -44,18 +49,24 @@ fn is_as_good<'a, B: Allocator>(
         && are_alike(steps_alone, &waypoint.bench, &other.bench)
 }
 
-/// The place of the first that is as good, if one is kept.
+/// The place of one that is as good, if one is kept. It has the same digest.
 fn place_of<'a, B: Allocator>(
     kept: &[Waypoint<'a, B>],
+    places: &Places<'a, B>,
     steps_alone: bool,
     waypoint: &Waypoint<'a, B>,
+    digest: u64,
 ) -> Option<usize>
+    requires indexed { IsIndexed kept.now (get nat_eq places.now.last) places.now.earlier.items }
+    requires digest { digest ≡ digest_of waypoint.now }
     ensures { MatchOption result (IsOther steps_alone kept.now waypoint.now) (λ place. IsKeptAt steps_alone kept.now waypoint.now place) }
 {
-    for (place, other) in kept.iter().enumerate() {
-        if is_as_good(steps_alone, waypoint, other) {
+    let mut next = places.last(digest);
+    while let Some(place) = next {
+        if is_as_good(steps_alone, waypoint, &kept[place]) {
             return Some(place);
         }
+        next = places.before(place);
     }
     None
 }
@@ -67,15 +78,26 @@ fn keep<'a, B: Allocator>(
     waypoint: Waypoint<'a, B>,
     orders: Option<u128>,
 ) -> Result<(), Oom>
+    requires { IsIndexed found.old.kept.items (get nat_eq found.old.places.last) found.old.places.earlier.items }
+    ensures indexed { OnOk result (IsIndexed found.new.kept.items (get nat_eq found.new.places.last) found.new.places.earlier.items) }
     ensures kept { OnOk result (AddsKept steps_alone found.old.kept.items waypoint.entry found.new.kept.items) }
     ensures told { found.new.told.items ≡ found.old.told.items }
     ensures orders { (n : ℕ) → orders ≡ told_number n →
         OnOk result (AddsOrders steps_alone found.old.kept.items found.old.counts.items found.new.kept.items found.new.counts.items (λ f. n * f waypoint.entry)) }
 {
-    if let Some(place) = place_of(found.kept.as_slice(), steps_alone, &waypoint) {
+    let digest = digest(&waypoint);
+    let place = place_of(
+        found.kept.as_slice(),
+        &found.places,
+        steps_alone,
+        &waypoint,
+        digest,
+    );
+    if let Some(place) = place {
         add_number(&mut found.counts, place, orders);
         return Ok(());
     }
+    found.places.add(digest)?;
     found.kept.push(waypoint)?;
     found.counts.push(orders)?;
     Ok(())
@@ -143,6 +165,8 @@ fn note<'a, B: Allocator>(
     later: (Waypoint<'a, B>, Reply),
     found: &mut Found<'a, B>,
 ) -> Result<(), Oom>
+    requires indexed { IsIndexed found.old.kept.items (get nat_eq found.old.places.last) found.old.places.earlier.items }
+    ensures indexed { OnOk result (IsIndexed found.new.kept.items (get nat_eq found.new.places.last) found.new.places.earlier.items) }
     ensures told { OnOk result (TellsReply found.old.told.items actor line waypoint.now.order later.entry.1 found.new.told.items) }
     ensures kept { OnOk result (AddsKept plan.now.steps_alone found.old.kept.items later.entry.0 found.new.kept.items) }
     ensures orders { (n : ℕ) → orders ≡ told_number n →
@@ -161,6 +185,8 @@ fn advance<'a, B: Allocator>(
     actor: u16,
     found: &mut Found<'a, B>,
 ) -> Result<(), Oom>
+    requires indexed { IsIndexed found.old.kept.items (get nat_eq found.old.places.last) found.old.places.earlier.items }
+    ensures indexed { OnOk result (IsIndexed found.new.kept.items (get nat_eq found.new.places.last) found.new.places.earlier.items) }
     ensures advances { OnOk result (Advances (plain_lists plan.now.lists.now) plan.now.steps_alone waypoint.now actor
         found.old.kept.items found.old.told.items found.new.kept.items found.new.told.items) }
     ensures orders { (n : ℕ) → orders ≡ told_number n →
@@ -181,7 +207,9 @@ fn advance_all<'a, B: Allocator>(
     orders: Option<u128>,
     found: &mut Found<'a, B>,
 ) -> Result<(), Oom>
-    requires { length plan.now.lists.now < 2 ^ 16 }
+    requires few { length plan.now.lists.now < 2 ^ 16 }
+    requires indexed { IsIndexed found.old.kept.items (get nat_eq found.old.places.last) found.old.places.earlier.items }
+    ensures indexed { OnOk result (IsIndexed found.new.kept.items (get nat_eq found.new.places.last) found.new.places.earlier.items) }
     ensures advances { OnOk result (AdvancesBelow (plain_lists plan.now.lists.now) plan.now.steps_alone waypoint.now (length plan.now.lists.now)
         found.old.kept.items found.old.told.items found.new.kept.items found.new.told.items) }
     ensures orders { (n : ℕ) → orders ≡ told_number n →
@@ -215,10 +243,12 @@ pub(crate) fn deepened<'a, B: Allocator>(
         kept: waypoints,
         counts,
         told,
+        ..
     } = before;
     let mut found = Found {
         kept: Vec::new(plan.alloc),
         counts: Vec::new(plan.alloc),
+        places: Places::new(plan.alloc),
         told,
     };
     for (place, waypoint) in waypoints.iter().enumerate() {

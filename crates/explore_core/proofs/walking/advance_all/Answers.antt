@@ -8,6 +8,7 @@ use Rattle.explore_core.proofs.walking.advance_all.Goals as goal
 
 pub loop-actor-init : goal.loop-actor-init
 loop-actor-init g c = record {
+  indexed = c.requires.indexed;
   advances =
       none_below (plain_lists c.args.plan.now.lists.now) c.args.plan.now.steps_alone c.args.waypoint.now c.args.found.now.kept.items
       c.args.found.now.told.items;
@@ -19,6 +20,7 @@ loop-actor-init g c = record {
 
 pub loop-actor-preserved : goal.loop-actor-preserved
 loop-actor-preserved g c = record {
+  indexed = c.in_ok-advance.ensures.indexed;
   advances =
       one_below (plain_lists c.args.plan.now.lists.now) c.args.plan.now.steps_alone c.args.waypoint.now c.loop-actor.actor
       c.args.found.now.kept.items c.args.found.now.told.items c.loop-actor.found.kept.items c.loop-actor.found.told.items

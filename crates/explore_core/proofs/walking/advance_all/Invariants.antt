@@ -1,4 +1,6 @@
-use Rattle.std.proofs.Common.{◌≡◌, ◌*◌, ℕ}
+use Rattle.std.proofs.Common.{nat_eq, ◌≡◌, ◌*◌, ℕ}
+use Rattle.indexmap.specs.IndexMap.{get}
+use Rattle.explore_core.specs.Digests.{IsIndexed}
 use Rattle.explore_core.specs.Orders.{plain_lists}
 use Rattle.explore_core.specs.Counts.{told_number}
 use Rattle.explore_core.specs.Waypoints.{AdvancesBelow}
@@ -7,6 +9,7 @@ use Rattle.explore_core.proofs.walking.advance_all.Given as goal
 
 abbrev pub invariant-loop-actor : goal.invariant-loop-actor
 invariant-loop-actor g l = record {
+  indexed : IsIndexed l.found.kept.items (get nat_eq l.found.places.last) l.found.places.earlier.items;
   advances : AdvancesBelow (plain_lists l.plan.lists.now) l.plan.steps_alone l.waypoint l.actor l.initial.found.kept.items
       l.initial.found.told.items l.found.kept.items l.found.told.items;
   orders : (n : ℕ) → l.orders ≡ told_number n →

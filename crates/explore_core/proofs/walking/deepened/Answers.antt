@@ -1,5 +1,7 @@
-use Rattle.std.proofs.Common.{◌≡◌, ◌<◌, ◌∙◌, ℕ, ◌+◌, List, length, slice_index_or, sym, subst, arith, rules}
+use Rattle.std.proofs.Common.{nat_eq, ◌≡◌, ◌<◌, ◌∙◌, ℕ, ◌+◌, List, length, slice_index_or, sym, subst, arith, rules}
 use Rattle.std.proofs.lemmas.Result.{err_from_is_err_and}
+use Rattle.indexmap.specs.IndexMap.{get}
+use Rattle.explore_core.specs.Digests.{IsIndexed}
 use Rattle.explore_core.specs.Orders.{plain_lists}
 use Rattle.explore_core.specs.Waypoints.{Waypoint, DeepensFirst}
 use Rattle.explore_core.specs.Ways.{AreTold}
@@ -13,6 +15,8 @@ loop-place-init g c =
     let none = c.new.ensures.items in
     let count : length c.new.result.items ≡ 0 = search rules in
     record {
+      indexed =
+          subst (λ (k : List Waypoint). IsIndexed k (get nat_eq c.new-3.result.last) c.new-3.result.earlier.items) (sym none) c.new-3.ensures;
       deepens =
           subst
           (λ (k : List Waypoint). DeepensFirst (plain_lists c.args.plan.now.lists.now) c.args.plan.now.steps_alone
@@ -51,6 +55,7 @@ loop-place-preserved g c =
     let size : c.len.result ≡ length c.advance_all.new.found.kept.items = search rules in
     let few = c.if-states-most.false in
     record {
+      indexed = c.in_ok-advance_all.ensures.indexed;
       deepens =
           one_deeper (plain_lists c.args.plan.now.lists.now) c.args.plan.now.steps_alone c.deref-waypoint-items.result.now
           c.loop-place.place c.waypoint-item.result (length c.args.plan.now.lists.now) c.args.before.told.items

@@ -1,4 +1,6 @@
-use Rattle.std.proofs.Common.{◌+◌, ◌≤◌, ℕ, List, length, take}
+use Rattle.std.proofs.Common.{nat_eq, ◌+◌, ◌≤◌, ℕ, List, length, take}
+use Rattle.indexmap.specs.IndexMap.{get}
+use Rattle.explore_core.specs.Digests.{IsIndexed}
 use Rattle.explore_core.specs.Orders.{plain_lists}
 use Rattle.explore_core.specs.Waypoints.{DeepensFirst}
 use Rattle.explore_core.specs.Ways.{AreTold, ComeTo, next_values, weighed}
@@ -6,6 +8,7 @@ use Rattle.explore_core.proofs.walking.deepened.Given as goal
 
 abbrev pub invariant-loop-place : goal.invariant-loop-place
 invariant-loop-place g l = record {
+  indexed : IsIndexed l.found.kept.items (get nat_eq l.found.places.last) l.found.places.earlier.items;
   deepens : DeepensFirst (plain_lists l.plan.lists.now) l.plan.steps_alone l.waypoint-items l.place l.initial.found.told.items
       l.found.kept.items l.found.told.items;
   orders : (ns : List ℕ) → AreTold l.counts.items l.waypoint-items ns →
