@@ -277,38 +277,6 @@ fn too_many_states_are_refused(rt: HostRuntime) {
     }
 }
 
-/// Broadcasts of two actors, of which there are as many orders as there are ways to choose the first one's places.
-const BROADCASTS: [(&[&[Line]], Option<u128>); 2] = [
-    (
-        &[&[Broadcast; 65], &[Broadcast; 65]],
-        Some(95_067_625_827_960_698_145_584_333_020_095_113_100),
-    ),
-    (&[&[Broadcast; 66], &[Broadcast; 66]], None),
-];
-
-#[test]
-fn orders_are_told_below_2_to_the_128th(rt: HostRuntime) {
-    let heap = rt.alloc();
-    for (lists, orders) in &BROADCASTS {
-        let lists = lists_of(&rt, &heap, *lists);
-        assert!(rt; lists.len() < 65_536);
-        // No step has two free places, and a refusal for this is not recorded.
-        let explored = explore(
-            &heap,
-            names_of(&rt, &heap),
-            limits_of(&rt, 1),
-            &lists,
-            10_000,
-        );
-        let explored = explored.expect(&rt, "all orders");
-        assert!(rt; explored.orders == *orders);
-        assert_eq!(rt; explored.outcomes.len(), 1);
-        for outcome in &explored.outcomes {
-            assert!(rt; outcome.orders == *orders);
-        }
-    }
-}
-
 /// Each of three nodes hears of the two others: 18! / 6!³ orders, which no walk could go through one by one.
 #[test]
 fn orders_of_three_nodes_of_six_lines_are_told(rt: HostRuntime) {
