@@ -4,6 +4,7 @@ pub mod EntryMaps
 pub mod LeftTogether
 pub mod Marked
 pub mod MergedCounts
+pub mod Pieces
 pub mod PutBack
 pub mod SeenEntries
 pub mod SeenTogether

@@ -10,6 +10,7 @@ pub mod LeftEntries
 pub mod Marks
 pub mod Messages
 pub mod Outboxes
+pub mod Pieces
 pub mod Presences
 pub mod StoreCodes
 pub mod Stores
