@@ -2,7 +2,7 @@
 use Rattle.std.proofs.Common.{◌≡◌, ℕ, zero, suc, ◌+◌, ◌-◌, ◌*◌, ◌<◌, ◌≤◌, List, [], ◌∷◌, ◌++◌, length, take, drop, slice_get, slice_set, get_or, nat_le, if◌then◌else◌, Bool, true, false, Some, refl, sym, ap, subst, ◌∙◌, arith}
 use Rattle.std.specs.List.{insert, remove, AllByRecursion}
 use Rattle.std.proofs.lemmas.Bool.{leb-true, leb-false}
-use Rattle.std.proofs.lemmas.List.{append_assoc, append-nil, length-append}
+use Rattle.std.proofs.lemmas.List.{append_assoc, append-nil, drop_more, length-append}
 use Rattle.payload_core.specs.Presences.{Entry}
 use Rattle.payload_core.specs.Pieces.{joined, beyond_half, crowd_of, IsFilled, IsHalved, IsOpenBelow, once_halved, place_in}
 use Rattle.payload_core.specs.declared.spot.Spot.{Spot}
@@ -334,3 +334,68 @@ crowd-less ps i p j at within =
     let before = crowd-some ps (omega (arith, here)) in
     let after = crowd-some (slice_set ps i (remove p j)) (omega (arith, long, here)) in
     omega (arith, set, less, before, after)
+
+pub total-next : (ps : List (List Entry)) (i : ℕ) (p : List Entry) → i < length ps → p ≡ get_or ps i p →
+    length (joined (drop i ps)) ≡ length p + length (joined (drop (suc i) ps))
+total-next [] i p within read = absurd (omega arith)
+total-next (q ∷ ps) zero p within read =
+    let same = ap length read in let both = length-append q (joined ps) in omega (arith, same, both)
+total-next (q ∷ ps) (suc i) p within read = total-next ps i p (omega arith) read
+
+pub crowd-most : (ps : List (List Entry)) → crowd_of ps ≤ length (joined ps) + 64
+crowd-most [] = omega arith
+crowd-most (p ∷ ps) = let most = beyond-most (p ∷ ps) in omega (arith, most)
+
+-- the pieces around one
+pub joined-around : (ps : List (List Entry)) (i : ℕ) (p : List Entry) → slice_get ps i ≡ Some p →
+    joined ps ≡ joined (take i ps) ++ (p ++ joined (drop (suc i) ps))
+joined-around [] i p at = absurd (cc)
+joined-around (q ∷ ps) zero p at = let same : q ≡ p = cc in ap (λ x. x ++ joined ps) same
+joined-around (q ∷ ps) (suc i) p at =
+    ap (λ es. q ++ es) (joined-around ps i p at) ∙ sym (append_assoc q (joined (take i ps)) (p ++ joined (drop (suc i) ps)))
+
+pub length-around : (ps : List (List Entry)) (i : ℕ) (p : List Entry) → slice_get ps i ≡ Some p →
+    length (joined ps) ≡ length (joined (take i ps)) + (length p + length (joined (drop (suc i) ps)))
+length-around ps i p at =
+    let whole = ap length (joined-around ps i p at) in
+    let first = length-append (joined (take i ps)) (p ++ joined (drop (suc i) ps)) in
+    let second = length-append p (joined (drop (suc i) ps)) in omega (arith, whole, first, second)
+
+drop-past : (ps : List (List Entry)) (i : ℕ) → length ps ≤ i → drop i ps ≡ []
+drop-past [] zero past = refl
+drop-past [] (suc i) past = refl
+drop-past (p ∷ ps) zero past = absurd (omega arith)
+drop-past (p ∷ ps) (suc i) past = drop-past ps i (omega arith)
+
+pub before-last : (ps : List (List Entry)) (i : ℕ) (p : List Entry) → slice_get ps i ≡ Some p → i + 1 ≡ length ps →
+    length (joined (take i ps)) + length p ≡ length (joined ps)
+before-last ps i p at last =
+    let whole = length-around ps i p at in
+    let none = ap (λ x. length (joined x)) (drop-past ps (suc i) (omega (arith, last))) in omega (arith, whole, none)
+
+pub before-more : (ps : List (List Entry)) (i : ℕ) (p : List Entry) → slice_get ps i ≡ Some p →
+    length (joined (take (i + 1) ps)) ≡ length (joined (take i ps)) + length p
+before-more ps i p at =
+    let next : i + 1 ≡ suc i = omega arith in
+    ap (λ k. length (joined (take k ps))) next ∙ go ps i at
+  where
+    go : (ps : List (List Entry)) (i : ℕ) → slice_get ps i ≡ Some p → length (joined (take (suc i) ps)) ≡ length (joined (take i ps)) + length p
+    go [] i at = absurd (cc)
+    go (q ∷ ps) zero at = let same : q ≡ p = cc in let both = length-append q [] in let long = ap length same in omega (arith, both, long)
+    go (q ∷ ps) (suc i) at =
+        let more = go ps i at in
+        let one = length-append q (joined (take (suc i) ps)) in
+        let two = length-append q (joined (take i ps)) in omega (arith, more, one, two)
+
+-- a place in the pieces from one on: in this piece, or in those behind it
+pub get-here : (ps : List (List Entry)) (i j : ℕ) (p : List Entry) → i < length ps → p ≡ get_or ps i p → j < length p →
+    slice_get (joined (drop i ps)) j ≡ slice_get p j
+get-here ps i j p within read inner =
+    ap (λ x. slice_get (joined x) j) (drop_more ps i p within ∙ ap (λ x. x ∷ drop (i + 1) ps) (sym read))
+    ∙ get_first p (joined (drop (i + 1) ps)) j inner
+
+pub get-behind : (ps : List (List Entry)) (i j : ℕ) (p : List Entry) → i < length ps → p ≡ get_or ps i p → length p ≤ j →
+    slice_get (joined (drop i ps)) j ≡ slice_get (joined (drop (i + 1) ps)) (j - length p)
+get-behind ps i j p within read inner =
+    ap (λ x. slice_get (joined x) j) (drop_more ps i p within ∙ ap (λ x. x ∷ drop (i + 1) ps) (sym read))
+    ∙ get_second p (joined (drop (i + 1) ps)) (j - length p) j (omega (arith, inner))

@@ -6,7 +6,7 @@ ghost use Rattle.payload_core.specs.Pieces.{IsFound, IsHeld, IsOpen, joined, pla
 
 use crate::entry::Entry;
 use crate::piece::{HALF, Piece};
-use crate::piece_edits::{crowd_in, make_spares, put_in, take_out};
+use crate::piece_edits::{crowd_in, make_spares, piece_at, put_in, take_out};
 use crate::spot::Spot;
 use dots_core::{Dot, Oom};
 use std::alloc::Allocator;
@@ -28,7 +28,7 @@ pub struct EntryPieces<A: Allocator> {
 }
 
 impl<A: Allocator> Model for EntryPieces<A> {
-    ghost use Rattle.std.specs.Prelude.{◌≡◌, ◌+◌, ◌^◌, ◌*◌, ◌≤◌, [], length, vec_capacity};
+    ghost use Rattle.std.specs.Prelude.{◌≡◌, ◌+◌, ◌^◌, ◌*◌, ◌<◌, ◌≤◌, [], length, vec_capacity};
     ghost use Rattle.std.specs.List.{AllByRecursion};
     ghost use Rattle.payload_core.specs.Pieces.{Pieces, pieces_code, IsFilled, crowd_of, joined};
 
@@ -43,8 +43,9 @@ impl<A: Allocator> Model for EntryPieces<A> {
       empty : AllByRecursion (λ p. p ≡ []) s.spares.items;
       counted : s.count ≡ length (joined s.pieces.items);
       few : s.count + s.left ≤ 2 ^ 62;
-      enough : s.left + crowd_of s.pieces.items ≤ 64 * length s.spares.items;
-      capacity : length s.pieces.items + length s.spares.items ≤ vec_capacity s.pieces;
+      enough : 0 < s.left → s.left + crowd_of s.pieces.items ≤ 64 * length s.spares.items;
+      pieces_fit : length s.pieces.items + length s.spares.items ≤ vec_capacity s.pieces;
+      spares_fit : length s.pieces.items + length s.spares.items ≤ vec_capacity s.spares;
     } };
 }
 
@@ -99,7 +100,7 @@ impl<A: Allocator> EntryPieces<A> {
         ensures { IsFound dot self.now.pieces result }
     {
         let piece = self.pieces.partition_point(|piece| piece.ends_below(dot));
-        match self.pieces.get(piece) {
+        match piece_at(&self.pieces, piece) {
             Some(entries) => match entries.search(dot) {
                 Ok(inner) => Ok(Spot { piece, inner }),
                 Err(inner) => Err(Spot { piece, inner }),
@@ -125,13 +126,17 @@ impl<A: Allocator> EntryPieces<A> {
     /// How many entries stand before a spot.
     pub fn place(&self, spot: Spot) -> usize
         requires open { 0 < length self.now.pieces → IsOpen self.now.pieces spot }
+        requires first { length self.now.pieces ≡ 0 → spot.inner ≡ 0 }
         ensures { result ≡ place_in self.now.pieces spot }
     {
         let mut before = 0;
-        for piece in self.pieces.iter().take(spot.piece) {
+        for (number, piece) in self.pieces.iter().enumerate() {
+            if number == spot.piece {
+                return before + spot.inner;
+            }
             before += piece.len();
         }
-        before + spot.inner
+        0
     }
 
     /// The entry at a spot.
@@ -139,7 +144,10 @@ impl<A: Allocator> EntryPieces<A> {
         requires { IsHeld self.now.pieces spot }
         ensures { option_copied result ≡ slice_get (joined self.now.pieces) (place_in self.now.pieces spot) }
     {
-        self.pieces.get(spot.piece)?.as_slice().get(spot.inner)
+        match piece_at(&self.pieces, spot.piece) {
+            Some(piece) => piece.at(spot.inner),
+            None => None,
+        }
     }
 
     /// The entry at a place, counted from 0: a walk over the pieces before.
@@ -149,7 +157,7 @@ impl<A: Allocator> EntryPieces<A> {
         let mut left = place;
         for piece in &self.pieces {
             if left < piece.len() {
-                return piece.as_slice().get(left);
+                return piece.at(left);
             }
             left -= piece.len();
         }

@@ -1,11 +1,11 @@
 //! `Piece`: some entries of a longer list, side by side, in memory that was asked for at once.
-ghost use Rattle.std.specs.Prelude.{◌≡◌, ◌<◌, ◌≤◌, ◌++◌, [], IfErr, IfOk, length, slice_get, Some};
+ghost use Rattle.std.specs.Prelude.{◌≡◌, ◌<◌, ◌≤◌, ◌++◌, [], IfErr, IfOk, length, option_copied, slice_get, Some};
 ghost use Rattle.std.specs.List.{insert, remove};
 ghost use Rattle.payload_core.specs.EntryLists.{Rises, spot};
 ghost use Rattle.payload_core.specs.Pieces.{ends_below};
 
 use crate::entry::Entry;
-use crate::entry_list::search;
+use crate::entry_list::{entry_at, search};
 use dots_core::{Dot, Oom};
 use std::alloc::Allocator;
 use std::marker::Model;
@@ -54,6 +54,13 @@ impl<A: Allocator> Piece<A> {
         ensures most { result ≤ 128 }
     {
         self.entries.len()
+    }
+
+    /// The entry at a place, counted from 0.
+    pub fn at(&self, place: usize) -> Option<&Entry<A>>
+        ensures { option_copied result ≡ slice_get self.now place }
+    {
+        entry_at(&self.entries, place)
     }
 
     /// Whether its last entry stands below the dot.

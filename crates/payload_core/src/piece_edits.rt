@@ -1,5 +1,5 @@
 //! Edits of a list of pieces, beside the spare pieces that it takes and gives back.
-ghost use Rattle.std.specs.Prelude.{◌≡◌, ◌+◌, ◌*◌, ◌^◌, ◌<◌, ◌≤◌, [], ◌∷◌, OnOk, Some, length, slice_get, vec_capacity};
+ghost use Rattle.std.specs.Prelude.{◌≡◌, ◌+◌, ◌*◌, ◌^◌, ◌<◌, ◌≤◌, [], ◌∷◌, OnOk, Some, length, option_copied, slice_get, vec_capacity};
 ghost use Rattle.std.specs.List.{AllByRecursion, insert, remove};
 ghost use Rattle.payload_core.specs.Pieces.{IsFilled, IsFullAt, IsHalved, IsHeld, IsOpen, IsOpenBelow, beyond_half, crowd_of, joined, once_halved, place_in};
 
@@ -11,6 +11,13 @@ use std::alloc::Allocator;
 
 /// A list of pieces.
 type Row<A> = Vec<Piece<A>, A>;
+
+/// The piece at a place, counted from 0.
+pub fn piece_at<A: Allocator>(pieces: &[Piece<A>], place: usize) -> Option<&Piece<A>>
+    ensures { option_copied result ≡ slice_get pieces.now place }
+{
+    pieces.get(place)
+}
 
 /// Makes a spare piece the first one, and puts an entry in.
 fn put_first<A: Allocator>(pieces: &mut Row<A>, spares: &mut Row<A>, entry: Entry<A>)
@@ -161,7 +168,8 @@ fn beyond_half<A: Allocator>(pieces: &[Piece<A>]) -> usize
 /// How many inserts spare pieces serve for no more.
 pub fn crowd_in<A: Allocator>(pieces: &[Piece<A>]) -> usize
     requires { length (joined pieces.now) < 2 ^ 63 }
-    ensures { result ≡ crowd_of pieces.now }
+    ensures crowd { result ≡ crowd_of pieces.now }
+    ensures few { result ≤ length (joined pieces.now) + 64 }
 {
     if pieces.is_empty() {
         return HALF;
