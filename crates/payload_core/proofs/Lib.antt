@@ -4,6 +4,7 @@ pub mod EntryMaps
 pub mod LeftTogether
 pub mod Marked
 pub mod MergedCounts
+pub mod PieceSearch
 pub mod Pieces
 pub mod PutBack
 pub mod SeenEntries

@@ -399,3 +399,19 @@ pub get-behind : (ps : List (List Entry)) (i j : ℕ) (p : List Entry) → i < l
 get-behind ps i j p within read inner =
     ap (λ x. slice_get (joined x) j) (drop_more ps i p within ∙ ap (λ x. x ∷ drop (i + 1) ps) (sym read))
     ∙ get_second p (joined (drop (i + 1) ps)) (j - length p) j (omega (arith, inner))
+
+pub read_at : (ps : List (List Entry)) (i : ℕ) (p x : List Entry) → slice_get ps i ≡ Some p → get_or ps i x ≡ p
+read_at [] i p x at = absurd (cc)
+read_at (q ∷ ps) zero p x at = let same : q ≡ p = cc in same
+read_at (q ∷ ps) (suc i) p x at = read_at ps i p x at
+
+pub filled-at : (ps : List (List Entry)) (i : ℕ) (p : List Entry) → AllByRecursion IsFilled ps → slice_get ps i ≡ Some p → 0 < length p
+filled-at [] i p all at = absurd (cc)
+filled-at (q ∷ ps) zero p all at = let same : q ≡ p = cc in subst (λ x. 0 < length x) same all.0
+filled-at (q ∷ ps) (suc i) p all at = filled-at ps i p all.1 at
+
+pub take_past : (ps : List (List Entry)) (i : ℕ) → length ps ≤ i → take i ps ≡ ps
+take_past [] zero past = refl
+take_past [] (suc i) past = refl
+take_past (p ∷ ps) zero past = absurd (omega arith)
+take_past (p ∷ ps) (suc i) past = ap (λ qs. p ∷ qs) (take_past ps i (omega arith))

@@ -1,6 +1,7 @@
 -- A list of entries in pieces that stand side by side.
 use Rattle.std.specs.Prelude.{◌≡◌, ℕ, ◌+◌, ◌-◌, ◌<◌, ◌≤◌, nat_le, if◌then◌else◌, Bool, true, false, List, [], ◌∷◌, ◌++◌, Option, None, Some, Result, Ok, Err, length, take, slice_get, slice_set, refl}
 use Rattle.std.specs.Ordering.{is_lt}
+use Rattle.std.specs.declared.cmp.Ordering.TheVariants.{Greater}
 use Rattle.std.specs.List.{insert}
 use Rattle.std.specs.Coded.{Coded, code_by, coded×, coded_list, coded_ℕ}
 use Rattle.dots_core.specs.declared.dot.Dot.{Dot}
@@ -89,6 +90,10 @@ is_entry_below d (Some e) = is_lt (dot_cmp e.dot d)
 -- whether the piece's last entry stands below a dot
 abbrev pub ends_below : Dot → List Entry → Bool
 ends_below d es = is_entry_below d (slice_get es (length es - 1))
+
+-- the entry stands below a dot
+abbrev pub IsPassed : Dot → Entry → Type 0
+IsPassed d e = dot_cmp d e.dot ≡ Greater
 
 -- it is stored as the pair of its fields
 abbrev pub pieces_code : Coded Pieces

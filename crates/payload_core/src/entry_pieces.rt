@@ -6,7 +6,7 @@ ghost use Rattle.payload_core.specs.Pieces.{IsFound, IsHeld, IsOpen, joined, pla
 
 use crate::entry::Entry;
 use crate::piece::{HALF, Piece};
-use crate::piece_edits::{crowd_in, make_spares, piece_at, put_in, take_out};
+use crate::piece_edits::{crowd_in, first_not_below, make_spares, piece_at, put_in, take_out};
 use crate::spot::Spot;
 use dots_core::{Dot, Oom};
 use std::alloc::Allocator;
@@ -99,7 +99,7 @@ impl<A: Allocator> EntryPieces<A> {
         requires { Rises (joined self.now.pieces) }
         ensures { IsFound dot self.now.pieces result }
     {
-        let piece = self.pieces.partition_point(|piece| piece.ends_below(dot));
+        let piece = first_not_below(&self.pieces, dot);
         match piece_at(&self.pieces, piece) {
             Some(entries) => match entries.search(dot) {
                 Ok(inner) => Ok(Spot { piece, inner }),

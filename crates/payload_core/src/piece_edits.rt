@@ -1,12 +1,13 @@
 //! Edits of a list of pieces, beside the spare pieces that it takes and gives back.
-ghost use Rattle.std.specs.Prelude.{◌≡◌, ◌+◌, ◌*◌, ◌^◌, ◌<◌, ◌≤◌, [], ◌∷◌, OnOk, Some, length, option_copied, slice_get, vec_capacity};
+ghost use Rattle.std.specs.Prelude.{◌≡◌, ◌+◌, ◌*◌, ◌^◌, ◌<◌, ◌≤◌, [], ◌∷◌, false, OnOk, Some, length, option_copied, slice_get, take, vec_capacity};
 ghost use Rattle.std.specs.List.{AllByRecursion, insert, remove};
-ghost use Rattle.payload_core.specs.Pieces.{IsFilled, IsFullAt, IsHalved, IsHeld, IsOpen, IsOpenBelow, beyond_half, crowd_of, joined, once_halved, place_in};
+ghost use Rattle.payload_core.specs.EntryLists.{Rises};
+ghost use Rattle.payload_core.specs.Pieces.{IsFilled, IsFullAt, IsHalved, IsHeld, IsOpen, IsOpenBelow, IsPassed, beyond_half, crowd_of, ends_below, joined, once_halved, place_in};
 
 use crate::entry::Entry;
 use crate::piece::{HALF, MOST, Piece};
 use crate::spot::Spot;
-use dots_core::Oom;
+use dots_core::{Dot, Oom};
 use std::alloc::Allocator;
 
 /// A list of pieces.
@@ -17,6 +18,17 @@ pub fn piece_at<A: Allocator>(pieces: &[Piece<A>], place: usize) -> Option<&Piec
     ensures { option_copied result ≡ slice_get pieces.now place }
 {
     pieces.get(place)
+}
+
+/// The place of the first piece that doesn't end below the dot, or the end.
+pub fn first_not_below<A: Allocator>(pieces: &[Piece<A>], dot: Dot) -> usize
+    requires rises { Rises (joined pieces.now) }
+    requires filled { AllByRecursion IsFilled pieces.now }
+    ensures within { result ≤ length pieces.now }
+    ensures before { AllByRecursion (IsPassed dot) (joined (take result pieces.now)) }
+    ensures at { (p : _) → slice_get pieces.now result ≡ Some p → ends_below dot p ≡ false }
+{
+    pieces.partition_point(|piece| piece.ends_below(dot))
 }
 
 /// Makes a spare piece the first one, and puts an entry in.
