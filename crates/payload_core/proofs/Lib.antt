@@ -7,6 +7,7 @@ pub mod MergedCounts
 pub mod PieceSearch
 pub mod Pieces
 pub mod PutBack
+pub mod RisingEntries
 pub mod SeenEntries
 pub mod SeenTogether
 pub mod Skipped

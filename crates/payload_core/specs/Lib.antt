@@ -11,6 +11,7 @@ pub mod Marks
 pub mod Messages
 pub mod Outboxes
 pub mod Pieces
+pub mod RisingEntries
 pub mod Presences
 pub mod StoreCodes
 pub mod Stores

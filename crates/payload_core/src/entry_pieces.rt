@@ -1,12 +1,14 @@
 //! `EntryPieces`, many entries that rise by dot, in pieces: an entry that comes or goes moves a few others.
-ghost use Rattle.std.specs.Prelude.{◌≡◌, ◌+◌, ◌^◌, ◌<◌, ◌≤◌, [], ◌∷◌, ◌++◌, IfSome, IsOk, OnOk, Some, length, option_copied, slice_get};
+ghost use Rattle.std.specs.Prelude.{◌≡◌, ◌+◌, ◌^◌, ◌<◌, ◌≤◌, [], ◌∷◌, ◌++◌, IsErr, IsOk, OnOk, Some, length, option_copied, slice_get, vec_len};
 ghost use Rattle.std.specs.List.{insert, remove};
-ghost use Rattle.payload_core.specs.EntryLists.{Rises};
+ghost use Rattle.payload_core.specs.EntryLists.{Rises, spot};
+ghost use Rattle.payload_core.specs.RisingEntries.{entry_in, place_of, with, without};
 ghost use Rattle.payload_core.specs.Pieces.{IsFound, IsHeld, IsOpen, joined, place_in};
 
 use crate::entry::Entry;
 use crate::piece::{HALF, Piece};
-use crate::piece_edits::{crowd_in, first_not_below, make_spares, piece_at, put_in, take_out};
+use crate::piece_edits::{crowd_in, first_not_below, make_spares, piece_at};
+use crate::piece_edits as edits;
 use crate::spot::Spot;
 use dots_core::{Dot, Oom};
 use std::alloc::Allocator;
@@ -124,7 +126,7 @@ impl<A: Allocator> EntryPieces<A> {
     }
 
     /// How many entries stand before a spot.
-    pub fn place(&self, spot: Spot) -> usize
+    fn place_of(&self, spot: Spot) -> usize
         requires open { 0 < length self.now.pieces → IsOpen self.now.pieces spot }
         requires first { length self.now.pieces ≡ 0 → spot.inner ≡ 0 }
         ensures { result ≡ place_in self.now.pieces spot }
@@ -140,7 +142,7 @@ impl<A: Allocator> EntryPieces<A> {
     }
 
     /// The entry at a spot.
-    pub fn get(&self, spot: Spot) -> Option<&Entry<A>>
+    fn entry(&self, spot: Spot) -> Option<&Entry<A>>
         requires { IsHeld self.now.pieces spot }
         ensures { option_copied result ≡ slice_get (joined self.now.pieces) (place_in self.now.pieces spot) }
     {
@@ -165,26 +167,26 @@ impl<A: Allocator> EntryPieces<A> {
     }
 
     /// Takes the entry at a spot out. The room stays.
-    pub fn remove(&mut self, spot: Spot) -> Entry<A>
+    fn take_out(&mut self, spot: Spot) -> Entry<A>
         requires { IsHeld self.old.pieces spot }
         ensures entry { Some result ≡ slice_get (joined self.old.pieces) (place_in self.old.pieces spot) }
         ensures rest { joined self.new.pieces ≡ remove (joined self.old.pieces) (place_in self.old.pieces spot) }
         ensures room { self.new.room ≡ self.old.room }
     {
-        let entry = take_out(&mut self.pieces, &mut self.spares, spot);
+        let entry = edits::take_out(&mut self.pieces, &mut self.spares, spot);
         self.count -= 1;
         entry
     }
 
     /// Puts an entry in at a spot.
-    pub fn insert(&mut self, spot: Spot, entry: Entry<A>)
+    fn put_in(&mut self, spot: Spot, entry: Entry<A>)
         requires open { 0 < length self.old.pieces → IsOpen self.old.pieces spot }
         requires first { length self.old.pieces ≡ 0 → spot.inner ≡ 0 }
         requires room { 0 < self.old.room }
         ensures entries { joined self.new.pieces ≡ insert (joined self.old.pieces) (place_in self.old.pieces spot) entry }
         ensures room { self.new.room + 1 ≡ self.old.room }
     {
-        put_in(&mut self.pieces, &mut self.spares, spot, entry);
+        edits::put_in(&mut self.pieces, &mut self.spares, spot, entry);
         self.count += 1;
         self.left -= 1;
     }
@@ -196,7 +198,68 @@ impl<A: Allocator> EntryPieces<A> {
         ensures room { self.new.room + 1 ≡ self.old.room }
     {
         let spot = self.end();
-        self.insert(spot, entry);
+        self.put_in(spot, entry);
+    }
+
+    /// Puts entries behind all others, in their order.
+    pub fn push_all(&mut self, mut entries: Vec<Entry<A>, A>)
+        requires { vec_len entries ≤ self.old.room }
+        ensures entries { joined self.new.pieces ≡ joined self.old.pieces ++ entries.items }
+        ensures room { self.new.room + vec_len entries ≡ self.old.room }
+    {
+        entries.reverse();
+        for _ in 0..entries.len() {
+            self.push(entries.take_last());
+        }
+    }
+
+    /// The place of the dot's entry, or else the one where it would stand.
+    pub fn place(&self, dot: Dot) -> usize
+        requires { Rises (joined self.now.pieces) }
+        ensures { result ≡ place_of (spot dot (joined self.now.pieces)) }
+    {
+        match self.search(dot) {
+            Ok(spot) => self.place_of(spot),
+            Err(spot) => self.place_of(spot),
+        }
+    }
+
+    /// The entry of the dot.
+    pub fn get(&self, dot: Dot) -> Option<&Entry<A>>
+        requires { Rises (joined self.now.pieces) }
+        ensures { option_copied result ≡ entry_in (joined self.now.pieces) dot }
+    {
+        match self.search(dot) {
+            Ok(spot) => self.entry(spot),
+            Err(_) => None,
+        }
+    }
+
+    /// Takes the entry of the dot out. The room stays.
+    pub fn remove(&mut self, dot: Dot) -> Option<Entry<A>>
+        requires { Rises (joined self.old.pieces) }
+        ensures entry { result ≡ entry_in (joined self.old.pieces) dot }
+        ensures rest { joined self.new.pieces ≡ without (joined self.old.pieces) dot }
+        ensures room { self.new.room ≡ self.old.room }
+    {
+        match self.search(dot) {
+            Ok(spot) => Some(self.take_out(spot)),
+            Err(_) => None,
+        }
+    }
+
+    /// Puts a new entry in.
+    pub fn insert(&mut self, entry: Entry<A>)
+        requires rises { Rises (joined self.old.pieces) }
+        requires new { IsErr (spot entry.dot (joined self.old.pieces)) }
+        requires room { 0 < self.old.room }
+        ensures entries { joined self.new.pieces ≡ with (joined self.old.pieces) entry }
+        ensures room { self.new.room + 1 ≡ self.old.room }
+    {
+        match self.search(entry.dot) {
+            Ok(spot) => self.put_in(spot, entry),
+            Err(spot) => self.put_in(spot, entry),
+        }
     }
 }
 

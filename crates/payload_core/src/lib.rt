@@ -27,6 +27,7 @@ mod outbox;
 mod payload;
 mod piece;
 mod piece_edits;
+mod rising_entries;
 mod spot;
 mod store;
 mod store_deliveries;

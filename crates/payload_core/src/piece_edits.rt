@@ -1,13 +1,18 @@
 //! Edits of a list of pieces, beside the spare pieces that it takes and gives back.
-ghost use Rattle.std.specs.Prelude.{◌≡◌, ◌+◌, ◌*◌, ◌^◌, ◌<◌, ◌≤◌, [], ◌∷◌, false, OnOk, Some, length, option_copied, slice_get, take, vec_capacity};
-ghost use Rattle.std.specs.List.{AllByRecursion, insert, remove};
+ghost use Rattle.std.specs.Prelude.{◌≡◌, ◌==◌, ◌&&◌, ◌++◌, ◌+◌, ◌*◌, ◌^◌, ◌<◌, ◌≤◌, [], ◌∷◌, false, filter, OnOk, Some, length, option_copied, slice_get, take, vec_capacity};
+ghost use Rattle.std.specs.FinSet as set;
+ghost use Rattle.std.specs.List.{AllByRecursion, find, insert, remove};
+ghost use Rattle.std.specs.Option.{option_map};
+ghost use Rattle.payload_core.specs.Presences.{is_tracked_as, presence_of};
 ghost use Rattle.payload_core.specs.EntryLists.{Rises};
 ghost use Rattle.payload_core.specs.Pieces.{IsFilled, IsFullAt, IsHalved, IsHeld, IsOpen, IsOpenBelow, IsPassed, beyond_half, crowd_of, ends_below, joined, once_halved, place_in};
 
 use crate::entry::Entry;
 use crate::piece::{HALF, MOST, Piece};
 use crate::spot::Spot;
-use dots_core::{Dot, Oom};
+use crate::entry_list as list;
+use crate::word::Word;
+use dots_core::{Dot, NameSet, Oom};
 use std::alloc::Allocator;
 
 /// A list of pieces.
@@ -29,6 +34,48 @@ pub fn first_not_below<A: Allocator>(pieces: &[Piece<A>], dot: Dot) -> usize
     ensures at { (p : _) → slice_get pieces.now result ≡ Some p → ends_below dot p ≡ false }
 {
     pieces.partition_point(|piece| piece.ends_below(dot))
+}
+
+/// The first dot of a name that is tracked as this process, topic and key.
+pub fn first_tracked<A: Allocator>(
+    pieces: &[Piece<A>],
+    name: u16,
+    pid: u64,
+    topic: &Word<A>,
+    key: &Word<A>,
+) -> Option<Dot>
+    ensures { result ≡ option_map (λ e. e.dot) (find (λ e. (e.dot.name == name) && is_tracked_as pid topic.now key.now (presence_of e)) (joined pieces.now)) }
+{
+    for piece in pieces {
+        if let Some(dot) = list::first_tracked(piece.as_slice(), name, pid, topic, key) {
+            return Some(dot);
+        }
+    }
+    None
+}
+
+/// Puts copies of the entries of these names behind those of a list.
+pub fn push_named<A: Allocator>(
+    list: &mut Vec<Entry<A>, A>,
+    pieces: &[Piece<A>],
+    names: NameSet,
+) -> Result<(), Oom>
+    ensures { OnOk result (list.new.items ≡ list.old.items ++ filter (λ e. set.contains names e.dot.name) (joined pieces.now)) }
+{
+    for piece in pieces {
+        list::push_named(list, piece.as_slice(), names)?;
+    }
+    Ok(())
+}
+
+/// Puts copies of the entries behind those of a list.
+pub fn push_copies<A: Allocator>(list: &mut Vec<Entry<A>, A>, pieces: &[Piece<A>]) -> Result<(), Oom>
+    ensures { OnOk result (list.new.items ≡ list.old.items ++ joined pieces.now) }
+{
+    for piece in pieces {
+        list::push_copies(list, piece.as_slice())?;
+    }
+    Ok(())
 }
 
 /// Makes a spare piece the first one, and puts an entry in.

@@ -1,16 +1,20 @@
 //! `RisingEntries`, entries that rise by dot: a few in one list, many in pieces.
-ghost use Rattle.std.specs.Prelude.{◌≡◌, ◌↔◌, ◌+◌, ◌^◌, ◌<◌, ◌≤◌, [], IsErr, IsOk, IsTrue, OnErr, OnOk, length, slice_get, filter, ◌==◌, ◌&&◌};
+ghost use Rattle.std.specs.Prelude.{◌≡◌, ◌↔◌, ◌==◌, ◌&&◌, ◌+◌, ◌^◌, ◌<◌, ◌≤◌, [], IfOk, IsErr, IsOk, IsTrue, OnErr, OnOk, filter, length, slice_get};
+ghost use Rattle.std.specs.FinSet as set;
 ghost use Rattle.std.specs.List.{find};
 ghost use Rattle.std.specs.Option.{option_copied, option_map};
-ghost use Rattle.payload_core.specs.EntryLists.{Rises, spot};
 ghost use Rattle.payload_core.specs.Presences.{is_tracked_as, presence_of};
+ghost use Rattle.payload_core.specs.EntryLists.{spot};
+ghost use Rattle.payload_core.specs.Pieces.{joined};
 ghost use Rattle.payload_core.specs.RisingEntries.{entry_in, place_of, with, without};
 
 use crate::entry::Entry;
-use crate::entry_list::{entry_at, search};
+use crate::entry_list as list;
 use crate::entry_pieces::EntryPieces;
 use crate::piece::MOST;
-use dots_core::{Dot, Oom};
+use crate::piece_edits as edits;
+use crate::word::Word;
+use dots_core::{Dot, NameSet, Oom};
 use std::alloc::Allocator;
 use std::marker::Model;
 use std::mem;
@@ -75,7 +79,7 @@ impl<A: Allocator> RisingEntries<A> {
     {
         match &self.many {
             Some(many) => many.at(place),
-            None => entry_at(&self.few, place),
+            None => list::entry_at(&self.few, place),
         }
     }
 
@@ -84,10 +88,8 @@ impl<A: Allocator> RisingEntries<A> {
         ensures { result ≡ place_of (spot dot self.now.entries) }
     {
         match &self.many {
-            Some(many) => place_in(many, dot),
-            None => match search(&self.few, dot) {
-                Ok(place) | Err(place) => place,
-            },
+            Some(many) => many.place(dot),
+            None => list::place(&self.few, dot),
         }
     }
 
@@ -96,12 +98,37 @@ impl<A: Allocator> RisingEntries<A> {
         ensures { option_copied result ≡ entry_in self.now.entries dot }
     {
         match &self.many {
-            Some(many) => get_in(many, dot),
-            None => match search(&self.few, dot) {
-                Ok(place) => entry_at(&self.few, place),
-                Err(_) => None,
-            },
+            Some(many) => many.get(dot),
+            None => list::get(&self.few, dot),
         }
+    }
+
+    /// The first dot of a name that is tracked as this process, topic and key: a walk.
+    pub fn first_tracked(&self, name: u16, pid: u64, topic: &Word<A>, key: &Word<A>) -> Option<Dot>
+        ensures { result ≡ option_map (λ e. e.dot) (find (λ e. (e.dot.name == name) && is_tracked_as pid topic.now key.now (presence_of e)) self.now.entries) }
+    {
+        match &self.many {
+            Some(many) => edits::first_tracked(many.pieces(), name, pid, topic, key),
+            None => list::first_tracked(&self.few, name, pid, topic, key),
+        }
+    }
+
+    /// Whether both have the same entries.
+    pub fn same(&self, other: &RisingEntries<A>) -> bool
+        ensures { IsTrue result ↔ (self.now.entries ≡ other.now.entries) }
+    {
+        if self.len() != other.len() {
+            return false;
+        }
+        for place in 0..self.len() {
+            let (Some(one), Some(second)) = (self.at(place), other.at(place)) else {
+                return false;
+            };
+            if !one.same(second) {
+                return false;
+            }
+        }
+        true
     }
 
     /// Takes the entry of the dot out. The room never falls.
@@ -112,11 +139,11 @@ impl<A: Allocator> RisingEntries<A> {
     {
         match self.many.take() {
             Some(mut many) => {
-                let entry = remove_from(&mut many, dot);
+                let entry = many.remove(dot);
                 self.many = Some(many);
                 entry
             }
-            None => remove_in(&mut self.few, dot),
+            None => list::remove(&mut self.few, dot),
         }
     }
 
@@ -129,10 +156,81 @@ impl<A: Allocator> RisingEntries<A> {
     {
         match self.many.take() {
             Some(mut many) => {
-                insert_into(&mut many, entry);
+                many.insert(entry);
                 self.many = Some(many);
             }
-            None => insert_in(&mut self.few, entry),
+            None => list::insert(&mut self.few, entry),
         }
     }
+}
+
+impl<A: Allocator + Copy> RisingEntries<A> {
+    /// After an `Ok` as many inserts succeed. The entries stay, and so does the room that was made before, also where memory
+    /// is refused.
+    pub fn make_room(&mut self, count: usize) -> Result<(), Oom>
+        ensures entries { self.new.entries ≡ self.old.entries }
+        ensures room_stays { self.old.room ≤ self.new.room }
+        ensures ok { OnOk result (count ≤ self.new.room) }
+        ensures succeeds { count ≤ self.old.room → IsOk result }
+    {
+        if let Some(mut many) = self.many.take() {
+            let made = many.make_room(count);
+            self.many = Some(many);
+            return made;
+        }
+        if count <= self.few.capacity() - self.few.len() {
+            return Ok(());
+        }
+        if self.few.len() <= MOST && count <= MOST - self.few.len() {
+            return self.few.reserve(count);
+        }
+        let many = spread(&mut self.few, count)?;
+        self.many = Some(many);
+        Ok(())
+    }
+}
+
+impl<A: Allocator + Copy> RisingEntries<A> {
+    /// The entries of these names, in one list.
+    pub fn only(&self, names: NameSet) -> Result<RisingEntries<A>, Oom>
+        ensures { IfOk result (λ part. part.entries ≡ filter (λ e. set.contains names e.dot.name) self.now.entries) }
+    {
+        let mut few = Vec::new(self.allocator());
+        match &self.many {
+            Some(many) => edits::push_named(&mut few, many.pieces(), names)?,
+            None => list::push_named(&mut few, &self.few, names)?,
+        }
+        Ok(RisingEntries { few, many: None })
+    }
+
+    /// The same entries, in one list.
+    pub fn try_copy(&self) -> Result<RisingEntries<A>, Oom>
+        ensures { IfOk result (λ copy. copy.entries ≡ self.now.entries) }
+    {
+        let mut few = Vec::with_capacity(self.allocator(), self.len())?;
+        match &self.many {
+            Some(many) => edits::push_copies(&mut few, many.pieces())?,
+            None => list::push_copies(&mut few, &self.few)?,
+        }
+        Ok(RisingEntries { few, many: None })
+    }
+}
+
+/// Moves all entries of a list into pieces, with room for as many more.
+fn spread<A: Allocator + Copy>(
+    few: &mut Vec<Entry<A>, A>,
+    count: usize,
+) -> Result<Box<EntryPieces<A>, A>, Oom>
+    ensures entries { IfOk result (λ many. joined many.value.pieces ≡ few.old.items) }
+    ensures room { IfOk result (λ many. count ≤ many.value.room) }
+    ensures err { OnErr result (few.new ≡ few.old) }
+{
+    let Some(room) = few.len().checked_add(count) else {
+        return Err(Oom);
+    };
+    let alloc = *few.allocator();
+    let mut many = Box::new(alloc, EntryPieces::new(alloc))?;
+    many.make_room(room)?;
+    many.push_all(mem::replace(few, Vec::new(alloc)));
+    Ok(many)
 }

@@ -1,6 +1,6 @@
 use Rattle.std.proofs.Common.{◌≡◌, ◌≤◌, length, take}
 use Rattle.payload_core.specs.Pieces.{joined}
-use Rattle.payload_core.proofs.entry_pieces.EntryPieces.place.Given as goal
+use Rattle.payload_core.proofs.entry_pieces.EntryPieces.place_of.Given as goal
 
 abbrev pub invariant-loop-number : goal.invariant-loop-number
 invariant-loop-number g l =

@@ -2,7 +2,7 @@ use Rattle.std.proofs.Common.{◌≡◌, ◌∙◌, ◌+◌, ◌<◌, ◌≤◌,
 use Rattle.payload_core.specs.Presences.{Entry}
 use Rattle.payload_core.specs.Pieces.{joined, place_in, Pieces}
 use Rattle.payload_core.proofs.Pieces.{at_read, before-more, length-around, some_at}
-use Rattle.payload_core.proofs.entry_pieces.EntryPieces.place.Goals as goal
+use Rattle.payload_core.proofs.entry_pieces.EntryPieces.place_of.Goals as goal
 
 pub overflow_add-result : goal.overflow_add-result
 overflow_add-result g c =

@@ -1,7 +1,7 @@
 use Rattle.std.proofs.Common.{◌≡◌, ◌∙◌, length, slice_get, Some, refl, ap, sym, arith}
 use Rattle.payload_core.specs.Pieces.{joined, place_in, Pieces}
 use Rattle.payload_core.proofs.Pieces.{joined-get}
-use Rattle.payload_core.proofs.entry_pieces.EntryPieces.get.Goals as goal
+use Rattle.payload_core.proofs.entry_pieces.EntryPieces.entry.Goals as goal
 
 pub returns-in-Some : goal.returns-in-Some
 returns-in-Some g c =
