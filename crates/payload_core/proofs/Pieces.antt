@@ -1,6 +1,6 @@
 -- A list of entries in pieces: what an edit of a piece is for the whole.
-use Rattle.std.proofs.Common.{◌≡◌, ℕ, zero, suc, ◌+◌, ◌-◌, ◌*◌, ◌<◌, ◌≤◌, List, [], ◌∷◌, ◌++◌, length, take, drop, slice_get, slice_set, get_or, nat_le, if◌then◌else◌, Bool, true, false, Some, refl, sym, ap, subst, ◌∙◌, arith}
-use Rattle.std.specs.List.{insert, remove, AllByRecursion}
+use Rattle.std.proofs.Common.{◌≡◌, ℕ, zero, suc, ◌+◌, ◌-◌, ◌*◌, ◌<◌, ◌≤◌, List, [], ◌∷◌, ◌++◌, length, take, drop, slice_get, slice_set, get_or, nat_le, if◌then◌else◌, Bool, true, false, Option, None, Some, filter, option_map, refl, sym, ap, subst, ◌∙◌, arith}
+use Rattle.std.specs.List.{insert, remove, find, AllByRecursion}
 use Rattle.std.proofs.lemmas.Bool.{leb-true, leb-false}
 use Rattle.std.proofs.lemmas.List.{append_assoc, append-nil, drop_more, length-append}
 use Rattle.payload_core.specs.Presences.{Entry}
@@ -415,3 +415,53 @@ take_past [] zero past = refl
 take_past [] (suc i) past = refl
 take_past (p ∷ ps) zero past = absurd (omega arith)
 take_past (p ∷ ps) (suc i) past = ap (λ qs. p ∷ qs) (take_past ps i (omega arith))
+
+-- what is found in two lists one after the other
+find-first : {X Y : Type 0} (f : X → Y) (p : X → Bool) (xs ys : List X) (y : Y) → option_map f (find p xs) ≡ Some y →
+    option_map f (find p (xs ++ ys)) ≡ Some y
+find-first f p [] ys y found = absurd (cc)
+find-first f p (x ∷ xs) ys y found = go (p x) (find-first f p xs ys y) found
+  where
+    go : (b : Bool) → (option_map f (find p xs) ≡ Some y → option_map f (find p (xs ++ ys)) ≡ Some y) →
+        option_map f (if b then Some x else find p xs) ≡ Some y → option_map f (if b then Some x else find p (xs ++ ys)) ≡ Some y
+    go true again found = found
+    go false again found = again found
+
+find-second : {X Y : Type 0} (f : X → Y) (p : X → Bool) (xs ys : List X) → option_map f (find p xs) ≡ None → find p (xs ++ ys) ≡ find p ys
+find-second f p [] ys none = refl
+find-second f p (x ∷ xs) ys none = go (p x) (find-second f p xs ys) none
+  where
+    go : (b : Bool) → (option_map f (find p xs) ≡ None → find p (xs ++ ys) ≡ find p ys) →
+        option_map f (if b then Some x else find p xs) ≡ None → (if b then Some x else find p (xs ++ ys)) ≡ find p ys
+    go true again none = absurd (cc)
+    go false again none = again none
+
+module _ (p : Entry → Bool) (ps : List (List Entry)) (i : ℕ) (q : List Entry) (within : i < length ps) (read : q ≡ get_or ps i q) where
+  split : joined (drop i ps) ≡ q ++ joined (drop (i + 1) ps)
+  split = ap joined (drop_more ps i q within ∙ ap (λ x. x ∷ drop (i + 1) ps) (sym read))
+
+  pub find-here : {Y : Type 0} (f : Entry → Y) (y : Y) → option_map f (find p q) ≡ Some y → option_map f (find p (joined (drop i ps))) ≡ Some y
+  find-here f y found = ap (λ es. option_map f (find p es)) split ∙ find-first f p q (joined (drop (i + 1) ps)) y found
+
+  pub find-behind : {Y : Type 0} (f : Entry → Y) → option_map f (find p q) ≡ None → find p (joined (drop i ps)) ≡ find p (joined (drop (i + 1) ps))
+  find-behind f none = ap (find p) split ∙ find-second f p q (joined (drop (i + 1) ps)) none
+
+  pub filter-here : filter p (joined (drop i ps)) ≡ filter p q ++ filter p (joined (drop (i + 1) ps))
+  filter-here = ap (filter p) split ∙ filter_both q (joined (drop (i + 1) ps))
+    where
+      filter_both : (xs ys : List Entry) → filter p (xs ++ ys) ≡ filter p xs ++ filter p ys
+      filter_both [] ys = refl
+      filter_both (x ∷ xs) ys =
+          let rest = filter_both xs ys in
+          elim (p x) as (λ b. (if b then x ∷ filter p (xs ++ ys) else filter p (xs ++ ys)) ≡ (if b then x ∷ filter p xs else filter p xs) ++ filter p ys)
+          [ true ↦ ap (λ es. x ∷ es) rest | false ↦ rest ]
+
+pub entry-within : (es : List Entry) (i : ℕ) (e : Entry) → slice_get es i ≡ Some e → i < length es
+entry-within [] i e at = absurd (cc)
+entry-within (x ∷ es) zero e at = omega arith
+entry-within (x ∷ es) (suc i) e at = let more = entry-within es i e at in omega (arith, more)
+
+pub entry-read : (es : List Entry) (i : ℕ) (e d : Entry) → slice_get es i ≡ Some e → get_or es i d ≡ e
+entry-read [] i e d at = absurd (cc)
+entry-read (x ∷ es) zero e d at = let same : x ≡ e = cc in same
+entry-read (x ∷ es) (suc i) e d at = entry-read es i e d at

@@ -20,7 +20,7 @@ pub struct EntriesByDot<A: Allocator> {
 }
 
 impl<A: Allocator> Model for EntriesByDot<A> {
-    ghost use Rattle.payload_core.specs.EntryLists.{entries_of};
+    ghost use Rattle.payload_core.specs.EntryLists.{Rises, entries_of};
     ghost use Rattle.payload_core.specs.EntrySets.{EntrySet, entry_set_code};
 
     ghost Value = { EntrySet };
@@ -28,6 +28,8 @@ impl<A: Allocator> Model for EntriesByDot<A> {
     ghost coded = { entry_set_code };
 
     ghost view = { λ s. record { map = entries_of s.entries.entries; room = s.entries.room } };
+
+    ghost invariant = { λ s. Rises s.entries.entries };
 }
 
 impl<A: Allocator> EntriesByDot<A> {
@@ -129,7 +131,8 @@ impl<A: Allocator> EntriesByDot<A> {
         A: Copy,
         ensures { IfOk result (λ part. part.map ≡ entries_of_names (set.contains names) self.now.map) }
     {
-        let entries = self.entries.only(names)?;
+        let list = self.entries.named(names)?;
+        let entries = RisingEntries::of(list);
         Ok(EntriesByDot { entries })
     }
 
@@ -146,7 +149,8 @@ impl<A: Allocator> EntriesByDot<A> {
         A: Copy,
         ensures { IfOk result (λ copy. copy.map ≡ self.now.map) }
     {
-        let entries = self.entries.try_copy()?;
+        let list = self.entries.copies()?;
+        let entries = RisingEntries::of(list);
         Ok(EntriesByDot { entries })
     }
 }

@@ -47,8 +47,9 @@ pub fn first_tracked<A: Allocator>(
     ensures { result ≡ option_map (λ e. e.dot) (find (λ e. (e.dot.name == name) && is_tracked_as pid topic.now key.now (presence_of e)) (joined pieces.now)) }
 {
     for piece in pieces {
-        if let Some(dot) = list::first_tracked(piece.as_slice(), name, pid, topic, key) {
-            return Some(dot);
+        match list::first_tracked(piece.as_slice(), name, pid, topic, key) {
+            Some(dot) => return Some(dot),
+            None => continue,
         }
     }
     None

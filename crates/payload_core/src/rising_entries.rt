@@ -4,7 +4,7 @@ ghost use Rattle.std.specs.FinSet as set;
 ghost use Rattle.std.specs.List.{find};
 ghost use Rattle.std.specs.Option.{option_copied, option_map};
 ghost use Rattle.payload_core.specs.Presences.{is_tracked_as, presence_of};
-ghost use Rattle.payload_core.specs.EntryLists.{spot};
+ghost use Rattle.payload_core.specs.EntryLists.{Rises, spot};
 ghost use Rattle.payload_core.specs.Pieces.{joined};
 ghost use Rattle.payload_core.specs.RisingEntries.{entry_in, place_of, with, without};
 
@@ -50,6 +50,17 @@ impl<A: Allocator> RisingEntries<A> {
     {
         RisingEntries {
             few: Vec::new(alloc),
+            many: None,
+        }
+    }
+
+    /// The entries of a list.
+    pub fn of(list: Vec<Entry<A>, A>) -> RisingEntries<A>
+        requires { Rises list.items }
+        ensures { result.entries ≡ list.items }
+    {
+        RisingEntries {
+            few: list,
             many: None,
         }
     }
@@ -191,28 +202,28 @@ impl<A: Allocator + Copy> RisingEntries<A> {
 }
 
 impl<A: Allocator + Copy> RisingEntries<A> {
-    /// The entries of these names, in one list.
-    pub fn only(&self, names: NameSet) -> Result<RisingEntries<A>, Oom>
-        ensures { IfOk result (λ part. part.entries ≡ filter (λ e. set.contains names e.dot.name) self.now.entries) }
+    /// Copies of the entries of these names.
+    pub fn named(&self, names: NameSet) -> Result<Vec<Entry<A>, A>, Oom>
+        ensures { IfOk result (λ few. few.items ≡ filter (λ e. set.contains names e.dot.name) self.now.entries) }
     {
         let mut few = Vec::new(self.allocator());
         match &self.many {
             Some(many) => edits::push_named(&mut few, many.pieces(), names)?,
             None => list::push_named(&mut few, &self.few, names)?,
         }
-        Ok(RisingEntries { few, many: None })
+        Ok(few)
     }
 
-    /// The same entries, in one list.
-    pub fn try_copy(&self) -> Result<RisingEntries<A>, Oom>
-        ensures { IfOk result (λ copy. copy.entries ≡ self.now.entries) }
+    /// Copies of all entries.
+    pub fn copies(&self) -> Result<Vec<Entry<A>, A>, Oom>
+        ensures { IfOk result (λ few. few.items ≡ self.now.entries) }
     {
         let mut few = Vec::with_capacity(self.allocator(), self.len())?;
         match &self.many {
             Some(many) => edits::push_copies(&mut few, many.pieces())?,
             None => list::push_copies(&mut few, &self.few)?,
         }
-        Ok(RisingEntries { few, many: None })
+        Ok(few)
     }
 }
 
