@@ -312,7 +312,7 @@ module _ (ps qs : List (List Entry)) (s : Spot) (h : IsHalved s.piece ps qs) whe
           record {
             piece = h.second;
             at = ap (slice_get qs) next ∙ subst (λ x. slice_get x (suc s.piece) ≡ Some h.second) (sym halves)
-            (second-halved ps s.piece h.first h.second h.piece h.at);
+                (second-halved ps s.piece h.first h.second h.piece h.at);
             within = omega (arith, half, long, within, high);
             room = omega (arith, half, long);
           }

@@ -66,7 +66,10 @@ pub fn push_named<A: Allocator>(
 }
 
 /// Puts copies of the entries behind those of a list.
-pub fn push_copies<A: Allocator>(list: &mut Vec<Entry<A>, A>, entries: &[Entry<A>]) -> Result<(), Oom>
+pub fn push_copies<A: Allocator>(
+    list: &mut Vec<Entry<A>, A>,
+    entries: &[Entry<A>],
+) -> Result<(), Oom>
     ensures { OnOk result (list.new.items ≡ list.old.items ++ entries.now) }
 {
     for entry in entries {

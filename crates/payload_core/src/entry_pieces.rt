@@ -7,8 +7,8 @@ ghost use Rattle.payload_core.specs.Pieces.{IsFound, IsHeld, IsOpen, joined, pla
 
 use crate::entry::Entry;
 use crate::piece::{HALF, Piece};
-use crate::piece_edits::{crowd_in, first_not_below, make_spares, piece_at};
 use crate::piece_edits as edits;
+use crate::piece_edits::{crowd_in, first_not_below, make_spares, piece_at};
 use crate::spot::Spot;
 use dots_core::{Dot, Oom};
 use std::alloc::Allocator;

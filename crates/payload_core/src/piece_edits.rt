@@ -8,9 +8,9 @@ ghost use Rattle.payload_core.specs.EntryLists.{Rises};
 ghost use Rattle.payload_core.specs.Pieces.{IsFilled, IsFullAt, IsHalved, IsHeld, IsOpen, IsOpenBelow, IsPassed, beyond_half, crowd_of, ends_below, joined, once_halved, place_in};
 
 use crate::entry::Entry;
+use crate::entry_list as list;
 use crate::piece::{HALF, MOST, Piece};
 use crate::spot::Spot;
-use crate::entry_list as list;
 use crate::word::Word;
 use dots_core::{Dot, NameSet, Oom};
 use std::alloc::Allocator;
@@ -70,7 +70,10 @@ pub fn push_named<A: Allocator>(
 }
 
 /// Puts copies of the entries behind those of a list.
-pub fn push_copies<A: Allocator>(list: &mut Vec<Entry<A>, A>, pieces: &[Piece<A>]) -> Result<(), Oom>
+pub fn push_copies<A: Allocator>(
+    list: &mut Vec<Entry<A>, A>,
+    pieces: &[Piece<A>],
+) -> Result<(), Oom>
     ensures { OnOk result (list.new.items ≡ list.old.items ++ joined pieces.now) }
 {
     for piece in pieces {
@@ -144,12 +147,7 @@ fn put_at<A: Allocator>(pieces: &mut Row<A>, spot: Spot, entry: Entry<A>)
 }
 
 /// Puts an entry in at a spot.
-pub fn put_in<A: Allocator>(
-    pieces: &mut Row<A>,
-    spares: &mut Row<A>,
-    spot: Spot,
-    entry: Entry<A>,
-)
+pub fn put_in<A: Allocator>(pieces: &mut Row<A>, spares: &mut Row<A>, spot: Spot, entry: Entry<A>)
     requires open { 0 < length pieces.old.items → IsOpen pieces.old.items spot }
     requires first { length pieces.old.items ≡ 0 → spot.inner ≡ 0 }
     requires filled { AllByRecursion IsFilled pieces.old.items }

@@ -9,11 +9,10 @@ ghost use Rattle.payload_core.specs.Pieces.{joined};
 ghost use Rattle.payload_core.specs.RisingEntries.{entry_in, place_of, with, without};
 
 use crate::entry::Entry;
-use crate::entry_list as list;
 use crate::entry_pieces::EntryPieces;
 use crate::piece::MOST;
-use crate::piece_edits as edits;
 use crate::word::Word;
+use crate::{entry_list as list, piece_edits as edits};
 use dots_core::{Dot, NameSet, Oom};
 use std::alloc::Allocator;
 use std::marker::Model;

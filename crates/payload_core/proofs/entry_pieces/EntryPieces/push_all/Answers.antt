@@ -17,11 +17,11 @@ pub loop-preserved : goal.loop-preserved
 loop-preserved g c =
     record {
       all =
-        ap (λ es. es ++ reverse c.take_last.new.self.items) c.push.ensures.entries
-        ∙ append_assoc (joined c.loop.self.pieces) (c.take_last.result ∷ []) (reverse c.take_last.new.self.items)
-        ∙ ap (λ es. joined c.loop.self.pieces ++ es) (sym (ap reverse c.take_last.ensures.items
-        ∙ reverse-append c.take_last.new.self.items (c.take_last.result ∷ [])))
-        ∙ c.loop.invariant.all;
+          ap (λ es. es ++ reverse c.take_last.new.self.items) c.push.ensures.entries
+          ∙ append_assoc (joined c.loop.self.pieces) (c.take_last.result ∷ []) (reverse c.take_last.new.self.items)
+          ∙ ap (λ es. joined c.loop.self.pieces ++ es) (sym (ap reverse c.take_last.ensures.items
+          ∙ reverse-append c.take_last.new.self.items (c.take_last.result ∷ [])))
+          ∙ c.loop.invariant.all;
       room = search rules;
       left = search rules;
       end = search rules;
