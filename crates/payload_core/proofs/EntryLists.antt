@@ -72,19 +72,19 @@ below_at d [] k x h within = absurd (omega arith)
 below_at d (e ∷ es) zero x h within = less _ (and_yes _ _ h).0
 below_at d (e ∷ es) (suc k) x h within = below_at d es k x (and_yes _ _ h).1 (omega arith)
 
-turned : (a b : Dot) (o : Ordering) → dot_cmp a b ≡ o → dot_cmp b a ≡ ordering_reverse o
+pub turned : (a b : Dot) (o : Ordering) → dot_cmp a b ≡ o → dot_cmp b a ≡ ordering_reverse o
 turned a b o e = dot_total.antisymm b a ∙ ap ordering_reverse e
 
 -- the place that a search gives
 
 module _ (d : Dot) where
-  at_less : (e : Entry) (es : List Entry) → dot_cmp d e.dot ≡ Less → spot d (e ∷ es) ≡ Err 0
+  pub at_less : (e : Entry) (es : List Entry) → dot_cmp d e.dot ≡ Less → spot d (e ∷ es) ≡ Err 0
   at_less e es l = ap (λ o. by_order o (Err 0) (Ok 0) (one_later (spot d es))) l
 
-  at_equal : (e : Entry) (es : List Entry) → dot_cmp d e.dot ≡ Equal → spot d (e ∷ es) ≡ Ok 0
+  pub at_equal : (e : Entry) (es : List Entry) → dot_cmp d e.dot ≡ Equal → spot d (e ∷ es) ≡ Ok 0
   at_equal e es l = ap (λ o. by_order o (Err 0) (Ok 0) (one_later (spot d es))) l
 
-  at_greater : (e : Entry) (es : List Entry) → dot_cmp d e.dot ≡ Greater → spot d (e ∷ es) ≡ one_later (spot d es)
+  pub at_greater : (e : Entry) (es : List Entry) → dot_cmp d e.dot ≡ Greater → spot d (e ∷ es) ≡ one_later (spot d es)
   at_greater e es l = ap (λ o. by_order o (Err 0) (Ok 0) (one_later (spot d es))) l
 
   found_spot : (es : List Entry) (k : ℕ) → Rises es → k < length es → ((x : Entry) → dot_cmp (get_or es k x).dot d ≡ Equal) →
@@ -127,11 +127,11 @@ searched d es (Err i) h within is =
 
 -- what stands at the place
 
-later_ok : (r : Result ℕ ℕ) (i : ℕ) → one_later r ≡ Ok i → (j : ℕ) × (r ≡ Ok j) × (i ≡ suc j)
+pub later_ok : (r : Result ℕ ℕ) (i : ℕ) → one_later r ≡ Ok i → (j : ℕ) × (r ≡ Ok j) × (i ≡ suc j)
 later_ok (Ok j) i e = let is : suc j ≡ i = cc in (j, refl, sym is)
 later_ok (Err j) i e = absurd (cc)
 
-later_err : (r : Result ℕ ℕ) (i : ℕ) → one_later r ≡ Err i → (j : ℕ) × (r ≡ Err j) × (i ≡ suc j)
+pub later_err : (r : Result ℕ ℕ) (i : ℕ) → one_later r ≡ Err i → (j : ℕ) × (r ≡ Err j) × (i ≡ suc j)
 later_err (Ok j) i e = absurd (cc)
 later_err (Err j) i e = let is : suc j ≡ i = cc in (j, refl, sym is)
 

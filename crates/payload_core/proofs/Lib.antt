@@ -4,7 +4,10 @@ pub mod EntryMaps
 pub mod LeftTogether
 pub mod Marked
 pub mod MergedCounts
+pub mod PieceSearch
+pub mod Pieces
 pub mod PutBack
+pub mod RisingEntries
 pub mod SeenEntries
 pub mod SeenTogether
 pub mod Skipped

@@ -10,6 +10,8 @@ pub mod LeftEntries
 pub mod Marks
 pub mod Messages
 pub mod Outboxes
+pub mod Pieces
+pub mod RisingEntries
 pub mod Presences
 pub mod StoreCodes
 pub mod Stores

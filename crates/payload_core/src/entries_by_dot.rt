@@ -1,4 +1,4 @@
-//! `EntriesByDot`, live entries in a list that rises by dot: what an `EntrySet` keeps.
+//! `EntriesByDot`, live entries as a map by their dots: what an `EntrySet` keeps.
 ghost use Rattle.std.specs.Prelude.{◌≡◌, ◌↔◌, ◌+◌, ◌^◌, ◌<◌, ◌≤◌, IfErr, IfOk, IsOk, IsTrue, OnErr, OnOk, slice_get};
 ghost use Rattle.std.specs.FinMap as fin;
 ghost use Rattle.std.specs.FinSet as set;
@@ -7,20 +7,19 @@ ghost use Rattle.payload_core.specs.EntryLists.{IsPlaceFrom};
 ghost use Rattle.payload_core.specs.Presences.{dots_of, entries_of_names, entry_of, is_tracked_as, presence_of};
 
 use crate::entry::Entry;
-use crate::entry_list::{are_same, entry_at, first_tracked, search};
+use crate::rising_entries::RisingEntries;
 use crate::word::Word;
 use dots_core::{Dot, NameSet, Oom};
 use std::alloc::Allocator;
 use std::marker::Model;
 
-/// Live entries by their dots, with room for more, in a list that rises by dot.
+/// Live entries by their dots, with room for more.
 #[derive(Drop)]
 pub struct EntriesByDot<A: Allocator> {
-    entries: Vec<Entry<A>, A>,
+    entries: RisingEntries<A>,
 }
 
 impl<A: Allocator> Model for EntriesByDot<A> {
-    ghost use Rattle.std.specs.Prelude.{◌-◌, vec_capacity, vec_len};
     ghost use Rattle.payload_core.specs.EntryLists.{Rises, entries_of};
     ghost use Rattle.payload_core.specs.EntrySets.{EntrySet, entry_set_code};
 
@@ -28,9 +27,9 @@ impl<A: Allocator> Model for EntriesByDot<A> {
 
     ghost coded = { entry_set_code };
 
-    ghost view = { λ s. record { map = entries_of s.entries.items; room = vec_capacity s.entries - vec_len s.entries } };
+    ghost view = { λ s. record { map = entries_of s.entries.entries; room = s.entries.room } };
 
-    ghost invariant = { λ s. Rises s.entries.items };
+    ghost invariant = { λ s. Rises s.entries.entries };
 }
 
 impl<A: Allocator> EntriesByDot<A> {
@@ -39,7 +38,7 @@ impl<A: Allocator> EntriesByDot<A> {
         ensures { result.map ≡ fin.empty }
     {
         EntriesByDot {
-            entries: Vec::new(alloc),
+            entries: RisingEntries::new(alloc),
         }
     }
 
@@ -48,7 +47,7 @@ impl<A: Allocator> EntriesByDot<A> {
     where
         A: Copy,
     {
-        *self.entries.allocator()
+        self.entries.allocator()
     }
 
     /// How many entries it has.
@@ -63,41 +62,35 @@ impl<A: Allocator> EntriesByDot<A> {
     pub fn is_empty(&self) -> bool
         ensures { IsTrue result ↔ (self.now.map ≡ fin.empty) }
     {
-        self.entries.is_empty()
+        self.entries.len() == 0
     }
 
     /// The entry of the dot, in a logarithm of comparisons.
     pub fn get(&self, dot: Dot) -> Option<&Entry<A>>
         ensures { option_copied result ≡ option_map (entry_of dot) (fin.get self.now.map dot) }
     {
-        match search(&self.entries, dot) {
-            Ok(place) => Some(&self.entries[place]),
-            Err(_) => None,
-        }
+        self.entries.get(dot)
     }
 
     /// The entry at a place, counted from 0 by rising dot.
     pub fn at(&self, place: usize) -> Option<&Entry<A>>
         ensures { option_copied result ≡ option_map (λ e. entry_of e.0 e.1) (slice_get (fin.entries self.now.map) place) }
     {
-        entry_at(&self.entries, place)
+        self.entries.at(place)
     }
 
     /// The place of the first entry whose dot is not below this one, or the end, in a logarithm of comparisons.
     pub fn first_from(&self, dot: Dot) -> usize
         ensures { IsPlaceFrom dot (fin.entries self.now.map) result }
     {
-        match search(&self.entries, dot) {
-            Ok(place) => place,
-            Err(place) => place,
-        }
+        self.entries.place(dot)
     }
 
     /// The dot of the least clock among those of a name that are tracked as this process, topic and key: a walk.
     pub fn first_tracked(&self, name: u16, pid: u64, topic: &Word<A>, key: &Word<A>) -> Option<Dot>
         ensures { result ≡ slice_get (dots_of name (is_tracked_as pid topic.now key.now) self.now.map) 0 }
     {
-        first_tracked(&self.entries, name, pid, topic, key)
+        self.entries.first_tracked(name, pid, topic, key)
     }
 
     /// Takes the entry of the dot out, in a logarithm of comparisons. The room never falls.
@@ -106,39 +99,30 @@ impl<A: Allocator> EntriesByDot<A> {
         ensures map { self.new.map ≡ fin.remove self.old.map dot }
         ensures room { self.old.room ≤ self.new.room }
     {
-        match search(&self.entries, dot) {
-            Ok(place) => Some(self.entries.remove(place)),
-            Err(_) => None,
-        }
+        self.entries.remove(dot)
     }
 
     /// After an `Ok` as many inserts succeed. The entries stay, and so does the room that was made before, also where
     /// memory is refused.
     pub fn make_room(&mut self, count: usize) -> Result<(), Oom>
+    where
+        A: Copy,
         ensures map { self.new.map ≡ self.old.map }
         ensures room_stays { self.old.room ≤ self.new.room }
         ensures ok { OnOk result (count ≤ self.new.room) }
         ensures succeeds { count ≤ self.old.room → IsOk result }
     {
-        self.entries.reserve(count)
+        self.entries.make_room(count)
     }
 
-    /// Puts a new entry in, in a logarithm of comparisons. Where memory is refused, it comes back.
-    pub fn insert(&mut self, entry: Entry<A>) -> Result<(), (Entry<A>, Oom)>
-        requires { fin.get self.old.map entry.dot ≡ None }
-        ensures ok { OnOk result (self.new.map ≡ fin.insert self.old.map entry.dot (presence_of entry)) }
-        ensures succeeds { 0 < self.old.room → IsOk result }
-        ensures room { OnOk result (self.old.room ≤ self.new.room + 1) }
-        ensures err { OnErr result (self.new.map ≡ self.old.map) }
-        ensures given_back { IfErr result (λ failed. failed.0 ≡ entry) }
+    /// Puts a new entry in, in a logarithm of comparisons.
+    pub fn insert(&mut self, entry: Entry<A>)
+        requires new { fin.get self.old.map entry.dot ≡ None }
+        requires room { 0 < self.old.room }
+        ensures map { self.new.map ≡ fin.insert self.old.map entry.dot (presence_of entry) }
+        ensures room { self.old.room ≤ self.new.room + 1 }
     {
-        let Err(place) = search(&self.entries, entry.dot) else {
-            unreachable!();
-        };
-        if let Err(failed) = self.entries.insert(place, entry) {
-            return Err((failed.value, Oom));
-        }
-        Ok(())
+        self.entries.insert(entry);
     }
 
     /// The entries of these names.
@@ -147,12 +131,8 @@ impl<A: Allocator> EntriesByDot<A> {
         A: Copy,
         ensures { IfOk result (λ part. part.map ≡ entries_of_names (set.contains names) self.now.map) }
     {
-        let mut entries = Vec::new(*self.entries.allocator());
-        for entry in &self.entries {
-            if names.has(entry.dot.name) {
-                entries.push(entry.try_copy()?)?;
-            }
-        }
+        let list = self.entries.named(names)?;
+        let entries = RisingEntries::of(list);
         Ok(EntriesByDot { entries })
     }
 
@@ -160,7 +140,7 @@ impl<A: Allocator> EntriesByDot<A> {
     pub fn same(&self, other: &EntriesByDot<A>) -> bool
         ensures { IsTrue result ↔ (self.now.map ≡ other.now.map) }
     {
-        are_same(&self.entries, &other.entries)
+        self.entries.same(&other.entries)
     }
 
     /// A set with the same entries.
@@ -169,10 +149,8 @@ impl<A: Allocator> EntriesByDot<A> {
         A: Copy,
         ensures { IfOk result (λ copy. copy.map ≡ self.now.map) }
     {
-        let mut entries = Vec::with_capacity(*self.entries.allocator(), self.len())?;
-        for entry in &self.entries {
-            entries.push(entry.try_copy()?)?;
-        }
+        let list = self.entries.copies()?;
+        let entries = RisingEntries::of(list);
         Ok(EntriesByDot { entries })
     }
 }

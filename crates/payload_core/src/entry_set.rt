@@ -171,7 +171,7 @@ impl<A: Allocator + Copy> EntrySet<A> {
             return Err((entry, failed));
         }
         self.by_mark.add(entry.mark(), entry.dot);
-        self.by_dot.insert(entry).unwrap();
+        self.by_dot.insert(entry);
         Ok(())
     }
 

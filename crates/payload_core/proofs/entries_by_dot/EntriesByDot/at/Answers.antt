@@ -8,6 +8,5 @@ use Rattle.payload_core.proofs.entries_by_dot.EntriesByDot.at.Goals as goal
 
 pub returns : goal.returns
 returns g c =
-    c.entry_at.ensures ∙ ap (λ es. slice_get es c.args.place) c.deref.ensures.value
-    ∙ sym (entry_at c.self.inside.entries.items c.args.place c.self.invariant)
+    c.at.ensures ∙ sym (entry_at c.self.inside.entries.entries c.args.place c.self.invariant)
     ∙ ap (λ (s : EntrySet). option_map (λ e. entry_of e.0 e.1) (slice_get (fin.entries s.map) c.args.place)) c.self.view_is

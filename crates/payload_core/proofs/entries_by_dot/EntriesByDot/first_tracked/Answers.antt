@@ -1,17 +1,12 @@
-use Rattle.std.proofs.Common.{◌==◌, ◌&&◌, sym, ap, ◌∙◌, slice_get}
-use Rattle.std.specs.List.{find}
-use Rattle.std.specs.Option.{option_map}
+use Rattle.std.proofs.Common.{sym, ap, ◌∙◌, slice_get}
 use Rattle.payload_core.specs.EntrySets.{EntrySet}
-use Rattle.payload_core.specs.Presences.{Entry, dots_of, is_tracked_as, presence_of}
+use Rattle.payload_core.specs.Presences.{dots_of, is_tracked_as}
 use Rattle.payload_core.proofs.EntryLists.{first_dot}
 use Rattle.payload_core.proofs.entries_by_dot.EntriesByDot.first_tracked.Goals as goal
 
 pub returns : goal.returns
 returns g c =
     c.first_tracked.ensures
-    ∙ ap (λ es. option_map (λ (e : Entry). e.dot)
-    (find (λ (e : Entry). (e.dot.name == c.args.name) && is_tracked_as c.args.pid c.args.topic.now c.args.key.now (presence_of e)) es))
-    c.deref.ensures.value
-    ∙ sym (first_dot c.args.name (is_tracked_as c.args.pid c.args.topic.now c.args.key.now) c.self.inside.entries.items c.self.invariant)
+    ∙ sym (first_dot c.args.name (is_tracked_as c.args.pid c.args.topic.now c.args.key.now) c.self.inside.entries.entries c.self.invariant)
     ∙ ap (λ (s : EntrySet). slice_get (dots_of c.args.name (is_tracked_as c.args.pid c.args.topic.now c.args.key.now) s.map) 0)
     c.self.view_is

@@ -8,9 +8,9 @@ use Rattle.payload_core.proofs.entries_by_dot.EntriesByDot.is_empty.Goals as goa
 
 pub returns : goal.returns
 returns g c =
-    let many : fin.len c.args.self.now.map ≡ length c.self.inside.entries.items =
-    ap (λ (s : EntrySet). fin.len s.map) (sym c.self.view_is) ∙ len-entries_of c.self.inside.entries.items c.self.invariant in
-    let known = c.self.inside.entries.ok.0 in (
-      λ none. fin.empty_of_len c.args.self.now.map (omega (arith, eqb-true _ 0 (sym c.is_empty.ensures ∙ none), known, many)),
-      λ none. c.is_empty.ensures ∙ eq-eqb _ 0 (omega (arith, known, many, ap fin.len none ∙ fin.len-empty dot_cmp Presence)),
+    let many : fin.len c.args.self.now.map ≡ length c.self.inside.entries.entries =
+    ap (λ (s : EntrySet). fin.len s.map) (sym c.self.view_is) ∙ len-entries_of c.self.inside.entries.entries c.self.invariant in
+    let known = c.len.ensures.len in (
+      λ none. fin.empty_of_len c.args.self.now.map (omega (arith, eqb-true _ 0 none, known, many)),
+      λ none. eq-eqb _ 0 (omega (arith, known, many, ap fin.len none ∙ fin.len-empty dot_cmp Presence)),
     )

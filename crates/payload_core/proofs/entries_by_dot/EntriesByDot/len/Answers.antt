@@ -6,6 +6,5 @@ use Rattle.payload_core.proofs.entries_by_dot.EntriesByDot.len.Goals as goal
 
 pub returns-clause-len : goal.returns-clause-len
 returns-clause-len g c =
-    c.len.ensures ∙ c.self.inside.entries.ok.0
-    ∙ sym (len-entries_of c.self.inside.entries.items c.self.invariant)
+    c.len.ensures.len ∙ sym (len-entries_of c.self.inside.entries.entries c.self.invariant)
     ∙ ap (λ (s : EntrySet). fin.len s.map) c.self.view_is

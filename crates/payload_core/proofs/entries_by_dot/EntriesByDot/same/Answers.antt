@@ -8,7 +8,7 @@ pub returns : goal.returns
 returns g c =
     let own = ap (λ (s : EntrySet). s.map) c.self.view_is in
     let others = ap (λ (s : EntrySet). s.map) c.other.view_is in (
-      λ e. sym own ∙ ap entries_of (sym c.deref.ensures.value ∙ c.are_same.ensures.0 e ∙ c.deref-2.ensures.value) ∙ others,
-      λ e. c.are_same.ensures.1 (c.deref.ensures.value ∙ same_lists c.self.inside.entries.items c.other.inside.entries.items
-          c.self.invariant c.other.invariant (own ∙ e ∙ sym others) ∙ sym c.deref-2.ensures.value),
+      λ e. sym own ∙ ap entries_of (c.same.ensures.0 e) ∙ others,
+      λ e. c.same.ensures.1 (same_lists c.self.inside.entries.entries c.other.inside.entries.entries c.self.invariant
+          c.other.invariant (own ∙ e ∙ sym others)),
     )

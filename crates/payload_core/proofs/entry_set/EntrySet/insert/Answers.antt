@@ -1,4 +1,4 @@
-use Rattle.std.proofs.Common.{◌≡◌, OnOk, sym, ap, subst}
+use Rattle.std.proofs.Common.{◌≡◌, sym, ap, subst}
 use Rattle.std.specs.FinMap as fin
 use Rattle.dots_core.specs.declared.dot.Dot.{Dot}
 use Rattle.payload_core.specs.Marks.{mark_of}
@@ -10,8 +10,7 @@ use Rattle.payload_core.proofs.entry_set.EntrySet.insert.Goals as goal
 pub invariant_of-self : goal.invariant_of-self
 invariant_of-self g c =
     let map : c.insert.new.self.map ≡ fin.insert c.self.inside.by_dot.map c.args.entry.dot (presence_of c.args.entry) =
-    subst (λ r. OnOk r (c.insert.new.self.map ≡ fin.insert c.self.inside.by_dot.map c.args.entry.dot (presence_of c.args.entry)))
-    c.unwrap.ensures c.insert.ensures.ok in
+    c.insert.ensures.map in
     let added : Holds (holder_of c.add.new.self c.args.entry.dot.name (mark_of c.args.entry.pid c.args.entry.topic c.args.entry.key)) c.args.entry.dot =
     subst (λ (d : Dot). Holds (holder_of c.add.new.self d.name (mark_of c.args.entry.pid c.args.entry.topic c.args.entry.key)) d)
     (ap (λ (e : Entry). e.dot) c.entry.view_is)
