@@ -1,5 +1,5 @@
 -- That a text tells an exploration of a script's lines.
-use Rattle.std.proofs.Common.{◌≡◌, ◌∙◌, ℕ, List, [], length, Option, Ok, Vec, ap, subst₂}
+use Rattle.std.proofs.Common.{◌≡◌, ◌∙◌, ℕ, List, [], length, Option, Ok, Vec, ap, sym, subst, subst₂, refl}
 use Rattle.std.specs.List.{AllByRecursion}
 use Rattle.bench_core.specs.Limits.{Limits}
 use Rattle.bench_core.specs.Machine.{opening_machine}
@@ -11,7 +11,11 @@ use Rattle.explore_core.specs.Explorations.{Outcome, Told, IsExplored}
 use Rattle.explore_core.specs.Counts.{IsCounted, told_number}
 use Rattle.explore_report.specs.Ranks.{IsRanked}
 use Rattle.explore_report.specs.ReportText.{lists_in, text_of_all}
-use Rattle.explore_report.specs.Reports.{IsReport}
+use Rattle.explore_core.specs.declared.explore_fault.ExploreFault.{ExploreFault}
+use Rattle.explore_core.specs.declared.explore_fault.ExploreFault.TheVariants as explores
+use Rattle.explore_core.specs.Waypoints.{AreMore}
+use Rattle.explore_report.specs.declared.report_fault.ReportFault.{ReportFault}
+use Rattle.explore_report.specs.Reports.{IsReport, RefusesReport, fault_of_explore}
 
 -- the bytes of equal vectors
 pub items_of : {Y : Type 0} (v w : Vec ℕ Y) → v ≡ w → v.items ≡ w.items
@@ -36,3 +40,18 @@ report_told limits s calls lists printed names outcomes ranked told orders state
   states = states;
   text_is = text_is ∙ ap (λ (l : Lists). text_of_all s calls l orders states ranked told) printed_are;
 }
+
+-- why there is none: what was told of the lists is told of the script
+pub refusal_told : (limits : Limits) (most : ℕ) (s : Script) (calls : List Call) (lists : Lists) (names : Texts) (fault : ExploreFault)
+    (given : ReportFault) → with_calls [] s.lines ≡ Ok calls → lists ≡ lists_in s.cast calls → names ≡ s.cast.nodes →
+    ((states : ℕ) → fault ≡ explores.TooMany states → AreMore lists (opening_machine names limits) most states) →
+    given ≡ fault_of_explore fault → RefusesReport limits most s given
+refusal_told limits most s calls lists names (explores.TooMany states) given are_calls lists_are names_are more is =
+    subst (RefusesReport limits most s) (sym is) (record {
+      calls = calls;
+      are_calls = are_calls;
+      states = states;
+      more = subst₂ (λ (l : Lists) (n : Texts). AreMore l (opening_machine n limits) most states) lists_are names_are (more states refl);
+    })
+refusal_told limits most s calls lists names explores.OutOfMemory given are_calls lists_are names_are more is =
+    subst (RefusesReport limits most s) (sym is) tt

@@ -18,8 +18,8 @@ use std::alloc::Allocator;
 pub(crate) struct Page<'l, 'a, B: Allocator> {
     pub(crate) alloc: &'a B,
     pub(crate) script: &'l Script<&'a B>,
-    pub(crate) calls: Vec<(u16, Act<&'a B>), &'a B>,
-    pub(crate) lists: Vec<Vec<Act<&'a B>, &'a B>, &'a B>,
+    pub(crate) calls: &'l [(u16, Act<&'a B>)],
+    pub(crate) lists: &'l [Vec<Act<&'a B>, &'a B>],
 }
 
 /// The online list of each node.
@@ -69,11 +69,11 @@ fn put_outcome<'a, B: Allocator>(
     outcome: &Outcome<'a, B>,
 ) -> Result<(), Oom>
     ensures { OnOk result (string_bytes text.new ≡ string_bytes text.old ++
-        outcome_text (plain_script page.now.script.now).cast (plain_lists page.now.lists.items) number outcome.now) }
+        outcome_text (plain_script page.now.script.now).cast (plain_lists page.now.lists.now) number outcome.now) }
 {
     put_outcome_line(text, number, outcome.orders)?;
     put_online(page.alloc, text, &outcome.bench)?;
-    put_order(page.alloc, text, page.script, &page.lists, &outcome.order)
+    put_order(page.alloc, text, page.script, page.lists, &outcome.order)
 }
 
 /// Each outcome, numbered from 1.
@@ -84,7 +84,7 @@ fn put_outcomes<'a, B: Allocator>(
     outcomes: &[Outcome<'a, B>],
 ) -> Result<(), Oom>
     ensures { OnOk result (string_bytes text.new ≡ string_bytes text.old ++
-        outcomes_text (plain_script page.now.script.now).cast (plain_lists page.now.lists.items) 1 outcomes.now) }
+        outcomes_text (plain_script page.now.script.now).cast (plain_lists page.now.lists.now) 1 outcomes.now) }
 {
     for (place, outcome) in outcomes.iter().enumerate() {
         put_outcome(page, text, place as u64 + 1, outcome)?;
@@ -117,9 +117,9 @@ fn put_refused_line<'a, B: Allocator>(
     refusal: &Refusal<'a, B>,
 ) -> Result<(), Oom>
     ensures { OnOk result (string_bytes text.new ≡ string_bytes text.old ++
-        refused_line (plain_script page.now.script.now).lines (calls_of page.now.calls.items) refusal.now.refusal) }
+        refused_line (plain_script page.now.script.now).lines (calls_of page.now.calls.now) refusal.now.refusal) }
 {
-    let line = number_of(page.script, &page.calls, refusal.actor, refusal.line);
+    let line = number_of(page.script, page.calls, refusal.actor, refusal.line);
     put_refused(text, line, refusal.fault)
 }
 
@@ -131,11 +131,11 @@ fn put_refusal<'a, B: Allocator>(
     refusal: &Refusal<'a, B>,
 ) -> Result<(), Oom>
     ensures { OnOk result (string_bytes text.new ≡ string_bytes text.old ++
-        refusal_text (plain_script page.now.script.now) (calls_of page.now.calls.items) (plain_lists page.now.lists.items) refusal.now) }
+        refusal_text (plain_script page.now.script.now) (calls_of page.now.calls.now) (plain_lists page.now.lists.now) refusal.now) }
 {
     put_refused_line(page, text, refusal)?;
     let order = up_to(page.alloc, refusal)?;
-    put_order(page.alloc, text, page.script, &page.lists, &order)
+    put_order(page.alloc, text, page.script, page.lists, &order)
 }
 
 /// Each refusal.
@@ -146,7 +146,7 @@ fn put_refusals<'a, B: Allocator>(
     refusals: &[Refusal<'a, B>],
 ) -> Result<(), Oom>
     ensures { OnOk result (string_bytes text.new ≡ string_bytes text.old ++
-        refusals_text (plain_script page.now.script.now) (calls_of page.now.calls.items) (plain_lists page.now.lists.items) refusals.now) }
+        refusals_text (plain_script page.now.script.now) (calls_of page.now.calls.now) (plain_lists page.now.lists.now) refusals.now) }
 {
     for refusal in refusals {
         put_refusal(page, text, refusal)?;
@@ -178,8 +178,8 @@ pub(crate) fn text_of<'a, B: Allocator>(
     page: &Page<'_, 'a, B>,
     explored: &Explored<'a, B>,
 ) -> Result<String<&'a B>, Oom>
-    ensures { IfOk result (λ text. string_bytes text ≡ text_of_all (plain_script page.now.script.now) (calls_of page.now.calls.items)
-        (plain_lists page.now.lists.items) explored.now.orders explored.now.states explored.now.outcomes.items explored.now.refusals.items) }
+    ensures { IfOk result (λ text. string_bytes text ≡ text_of_all (plain_script page.now.script.now) (calls_of page.now.calls.now)
+        (plain_lists page.now.lists.now) explored.now.orders explored.now.states explored.now.outcomes.items explored.now.refusals.items) }
 {
     let mut text = String::new(page.alloc);
     put_counts(

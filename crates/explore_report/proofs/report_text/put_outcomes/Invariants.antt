@@ -7,5 +7,5 @@ use Rattle.explore_report.proofs.report_text.put_outcomes.Given as goal
 -- the outcomes so far, and then those that are left
 abbrev pub invariant-loop-place : goal.invariant-loop-place
 invariant-loop-place g l =
-    string_bytes l.text ++ outcomes_text (plain_script l.page.script.now).cast (plain_lists l.page.lists.items) (l.place + 1) (drop l.place l.outcomes) ≡
-    string_bytes l.fn.text ++ outcomes_text (plain_script l.page.script.now).cast (plain_lists l.page.lists.items) 1 l.outcomes
+    string_bytes l.text ++ outcomes_text (plain_script l.page.script.now).cast (plain_lists l.page.lists.now) (l.place + 1) (drop l.place l.outcomes) ≡
+    string_bytes l.fn.text ++ outcomes_text (plain_script l.page.script.now).cast (plain_lists l.page.lists.now) 1 l.outcomes
