@@ -7,9 +7,10 @@
 //!
 //! In the order to read them: `word`, `mark`; `entry`; entries that rise by dot: `entry_list`, a few in a list; `piece`, `spot`,
 //! `piece_edits` and `entry_pieces`, many in pieces; `rising_entries`, either; `entries_by_dot`; `track_index`, which finds those
-//! of one name by process, topic and key; `entry_set`; `payload`, a message; `outbox`. Then `store`, and its edits, each with what takes it back: `store_joins`; `store_leaves`, with `left_entry`, what a leave
-//! destroyed; `leaves_together`; `forgotten_name`, what a store held of a name, with `entry_moves`; `store_deliveries`, with
-//! `store_differences`, what a message changes in a store; and `laws`, of deliveries.
+//! of one name by process, topic and key; `entry_set`; `payload`, a message; `outbox`. Then `store`, and its edits, each with
+//! what takes it back: `store_joins`; `store_leaves`, with `left_entry`, what a leave destroyed; `leaves_together`;
+//! `forgotten_name`, what a store held of a name, with `entry_moves`; `store_deliveries`, with `store_differences`, what a message
+//! changes in a store; and `laws`, of deliveries.
 #![tactic(auto)]
 
 mod entries_by_dot;
