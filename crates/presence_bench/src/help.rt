@@ -20,7 +20,8 @@ pub const DRAW: &str =
 
 pub const WHY: &str = "The number of a step, to paint it and all that follows from it";
 
-pub const FORM: &str = "What to print: report (as without it), or session, which load takes; of explore the report alone";
+pub const FORM: &str =
+    "What to print: report (as without it), or session, which load takes; of explore the report alone";
 
 /// The whole script language, in one screen.
 pub const LANGUAGE: &str = "\

@@ -34,8 +34,8 @@ refused line 4 NoSuchStep\n  nodes a\n  consoles desk\n  desk undo 1\n";
 const UNTRACKED: &str = "nodes a b\n\na join 1 r alice phone\na leave 2 r bob\nb up a\n";
 
 const UNTRACKED_ORDERS: &str = "orders 3 states 6 outcomes 1 refusals 1\n\
-outcome 1 orders 3\nonline a 1\n= r alice a/1 phone\nonline b 0\n\
-  nodes a b\n  a join 1 r alice phone\n  a leave 2 r bob\n  b up a\n\
+outcome 1 orders 3\nonline a 1\n= r alice a/1 phone\n\
+online b 0\n  nodes a b\n  a join 1 r alice phone\n  a leave 2 r bob\n  b up a\n\
 refused line 4 NotTracked\n  nodes a b\n  a join 1 r alice phone\n  a leave 2 r bob\n";
 
 /// The words that choose something, and what they choose.
