@@ -1,5 +1,5 @@
 -- What a text that was written is, for the input that it was made of.
-use Rattle.std.proofs.Common.{◌≡◌, List, ℕ, Option, None, Some, Result, Ok, Err, IfErr, IsOkAnd, OnOk, sym, subst, arith, ◌⊎◌, inl, inr}
+use Rattle.std.proofs.Common.{◌≡◌, List, ℕ, Option, None, Some, Result, Ok, Err, IfErr, IsOkAnd, OnOk, sym, subst, arith, inl, inr}
 use Rattle.std.proofs.lemmas.Bool.Decides.{nat_tests}
 use Rattle.std.specs.Io.KnownBytes.{Keeps}
 use Rattle.bench_core.specs.Limits.{Limits}
@@ -18,7 +18,7 @@ use Rattle.script_core.specs.declared.fault.ScriptFault.{ScriptFault}
 use Rattle.explore_report.specs.Reports.{IsReport}
 use Rattle.presence_bench.specs.Explored.{RefusesReportOf}
 use Rattle.presence_bench.specs.Races.{IsRaceOf, RefusesRaceOf}
-use Rattle.presence_bench.specs.Program.{IsCause, IsCauseOf, IsUnwritten, IsCauseAt, IsScriptAt, IsSessionAt, Prints, drawn, Ends, EndsAt, EndsAsText, KeepsBefore, TellsMemory, shown}
+use Rattle.presence_bench.specs.Program.{IsCauseOf, IsUnwritten, IsCauseAt, IsScriptAt, IsSessionAt, Prints, drawn, Ends, EndsAt, EndsAsText, KeepsBefore, TellsMemory, shown}
 
 -- an input past the limit has that fault
 pub too_long : (known : Option (List ℕ)) → IsLonger known 1048576 → IsCauseAt known (faults.Script (record { line = 0; kind = TooLong }))

@@ -1,10 +1,10 @@
 -- Why a race of a script's lines is refused.
-use Rattle.std.proofs.Common.{◌≡◌, ℕ, List, Option, Some, None, MatchOption, Result, Ok, Err, IfOk, IfErr, ap, refl, sym, subst}
+use Rattle.std.proofs.Common.{◌≡◌, Option, Some, None, MatchOption, Result, Ok, Err, IfOk, IfErr, ap, refl, sym, subst}
 use Rattle.worker_core.specs.Races.{IsLate}
 use Rattle.worker_core.specs.declared.race_fault.RaceFault.{RaceFault}
 use Rattle.worker_core.specs.declared.race_fault.RaceFault.TheVariants as races
 use Rattle.bench_core.specs.Machine.{Machine}
-use Rattle.presence_bench.specs.Program.{TellsMemory, IsUnwritten, fault_of_race}
+use Rattle.presence_bench.specs.Program.{fault_of_race}
 use Rattle.bench_core.specs.Limits.{Limits}
 use Rattle.script_core.specs.Scripts.{Script}
 use Rattle.presence_bench.specs.declared.fault.Fault.{Fault}

@@ -1,5 +1,5 @@
 -- What a race of a script's lines leaves, and why it is refused.
-use Rattle.std.specs.Prelude.{◌≡◌, ℕ, ◌+◌, List, [], length, ⊤, Option, MatchOption, Result, Ok, Err}
+use Rattle.std.specs.Prelude.{◌≡◌, ℕ, ◌+◌, List, [], length, ⊤, MatchOption, Ok, Err}
 use Rattle.bench_core.specs.Acts.{Action}
 use Rattle.bench_core.specs.Benches.{IsMachine}
 use Rattle.bench_core.specs.Limits.{Limits}

@@ -1,8 +1,8 @@
 use Rattle.std.proofs.Common.{◌≡◌, ◌∙◌, ap, sym, subst, List, ℕ, map, Option, Some, true, refl, codes}
-use Rattle.clap.specs.Words.{App, HasMatchesOf, is_simple, subcommand_of, subcommand_rows_of, rows_of, found_of}
+use Rattle.clap.specs.Words.{App, HasMatchesOf, is_simple, subcommand_rows_of, rows_of, found_of}
 use Rattle.clap.proofs.OnLiterals.{clap_on_literals}
 use Rattle.clap.proofs.WalkLemmas.{first_value-rows}
-use Rattle.presence_bench.specs.Line.{app, name_of, IsForm, IsWhy}
+use Rattle.presence_bench.specs.Line.{app, IsForm, IsWhy}
 use Rattle.presence_bench.proofs.Rows.{both_parts}
 use Rattle.presence_bench.proofs.line.choice.Goals as goal
 

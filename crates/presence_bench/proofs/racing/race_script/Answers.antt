@@ -1,4 +1,4 @@
-use Rattle.std.proofs.Common.{◌≡◌, ◌∙◌, ap, sym, subst₂, MatchOption}
+use Rattle.std.proofs.Common.{◌≡◌, ◌∙◌, ap, subst₂, MatchOption}
 use Rattle.bench_core.specs.Acts.{calls_of}
 use Rattle.bench_core.specs.Machine.{opening_machine}
 use Rattle.script_core.specs.Scripts.{Script, plain_script}
