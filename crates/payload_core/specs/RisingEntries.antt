@@ -1,5 +1,5 @@
 -- What a contract sees of a list of entries that rises by dot, and edits of it by dot.
-use Rattle.std.specs.Prelude.{◌≡◌, ℕ, List, [], ◌∷◌, ◌++◌, Option, None, Result, Ok, Err, insert, remove, slice_get, refl}
+use Rattle.std.specs.Prelude.{◌≡◌, ◌==◌, ◌&&◌, ℕ, List, [], ◌∷◌, ◌++◌, Option, None, Result, Ok, Err, filter, insert, map, remove, slice_get, refl}
 use Rattle.std.specs.Coded.{Coded, code_by, coded×, coded_list, coded_ℕ}
 use Rattle.dots_core.specs.declared.dot.Dot.{Dot}
 use Rattle.payload_core.specs.Presences.{Entry}
@@ -41,3 +41,7 @@ without es d = without_where es (spot d es)
 -- the list with an entry whose dot it doesn't have
 abbrev pub with : List Entry → Entry → List Entry
 with es e = insert es (place_of (spot e.dot es)) e
+
+-- the dots of a name's entries that are of this process
+abbrev pub dots_in : ℕ → ℕ → List Entry → List Dot
+dots_in name pid es = map (λ e. e.dot) (filter (λ e. (e.dot.name == name) && (e.pid == pid)) es)

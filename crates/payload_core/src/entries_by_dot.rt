@@ -1,5 +1,5 @@
 //! `EntriesByDot`, live entries as a map by their dots: what an `EntrySet` keeps.
-ghost use Rattle.std.specs.Prelude.{◌≡◌, ◌↔◌, ◌+◌, ◌^◌, ◌<◌, ◌≤◌, IfErr, IfOk, IsOk, IsTrue, OnErr, OnOk, slice_get};
+ghost use Rattle.std.specs.Prelude.{◌≡◌, ◌↔◌, ◌==◌, ◌+◌, ◌^◌, ◌<◌, ◌≤◌, IfErr, IfOk, IsOk, IsTrue, OnErr, OnOk, slice_get};
 ghost use Rattle.std.specs.FinMap as fin;
 ghost use Rattle.std.specs.FinSet as set;
 ghost use Rattle.std.specs.Option.{option_copied, option_map};
@@ -134,6 +134,16 @@ impl<A: Allocator> EntriesByDot<A> {
         let list = self.entries.named(names)?;
         let entries = RisingEntries::of(list);
         Ok(EntriesByDot { entries })
+    }
+
+    /// The dots of a name's entries that are of this process, by rising clock: a walk.
+    pub fn dots_of_process(&self, name: u16, pid: u64) -> Result<Vec<Dot, A>, Oom>
+    where
+        A: Copy,
+        ensures { IfOk result (λ dots. dots.items ≡ dots_of name (λ p. p.pid == pid) self.now.map) }
+    {
+        let dots = self.entries.dots_of_process(name, pid)?;
+        Ok(dots)
     }
 
     /// Whether both have the same entries, whatever their room. It takes no memory.

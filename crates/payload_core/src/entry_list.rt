@@ -5,7 +5,7 @@ ghost use Rattle.std.specs.List.{find};
 ghost use Rattle.std.specs.Option.{option_copied, option_map};
 ghost use Rattle.payload_core.specs.EntryLists.{Rises, spot};
 ghost use Rattle.payload_core.specs.Presences.{is_tracked_as, presence_of};
-ghost use Rattle.payload_core.specs.RisingEntries.{entry_in, place_of, with, without};
+ghost use Rattle.payload_core.specs.RisingEntries.{dots_in, entry_in, place_of, with, without};
 
 use crate::entry::Entry;
 use crate::word::Word;
@@ -74,6 +74,23 @@ pub fn push_copies<A: Allocator>(
 {
     for entry in entries {
         list.push(entry.try_copy()?)?;
+    }
+    Ok(())
+}
+
+/// Puts the dots of a name's entries that are of this process behind those of a list.
+pub fn push_dots<A: Allocator>(
+    dots: &mut Vec<Dot, A>,
+    entries: &[Entry<A>],
+    name: u16,
+    pid: u64,
+) -> Result<(), Oom>
+    ensures { OnOk result (dots.new.items ≡ dots.old.items ++ dots_in name pid entries.now) }
+{
+    for entry in entries {
+        if entry.dot.name == name && entry.pid == pid {
+            dots.push(entry.dot)?;
+        }
     }
     Ok(())
 }

@@ -1,5 +1,5 @@
 //! `EntrySet`, the live entries by their dots.
-ghost use Rattle.std.specs.Prelude.{◌≡◌, ◌↔◌, ◌+◌, ◌^◌, ◌<◌, ◌≤◌, IfErr, IfOk, IsOk, IsTrue, OnErr, OnOk, slice_get};
+ghost use Rattle.std.specs.Prelude.{◌≡◌, ◌↔◌, ◌==◌, ◌+◌, ◌^◌, ◌<◌, ◌≤◌, IfErr, IfOk, IsOk, IsTrue, OnErr, OnOk, slice_get};
 ghost use Rattle.std.specs.FinMap as fin;
 ghost use Rattle.std.specs.FinSet as set;
 ghost use Rattle.std.specs.Option.{option_copied, option_map};
@@ -182,6 +182,13 @@ impl<A: Allocator + Copy> EntrySet<A> {
         let by_dot = self.by_dot.only(names)?;
         let by_mark = TrackIndex::of_none();
         Ok(EntrySet { by_dot, by_mark })
+    }
+
+    /// The dots of a name's entries that are of this process, by rising clock. It goes once over all entries.
+    pub fn dots_of_process(&self, name: u16, pid: u64) -> Result<Vec<Dot, A>, Oom>
+        ensures { IfOk result (λ dots. dots.items ≡ dots_of name (λ p. p.pid == pid) self.now.map) }
+    {
+        self.by_dot.dots_of_process(name, pid)
     }
 
     /// A set with the same entries.

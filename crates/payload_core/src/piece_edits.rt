@@ -5,6 +5,7 @@ ghost use Rattle.std.specs.List.{AllByRecursion, find, insert, remove};
 ghost use Rattle.std.specs.Option.{option_map};
 ghost use Rattle.payload_core.specs.Presences.{is_tracked_as, presence_of};
 ghost use Rattle.payload_core.specs.EntryLists.{Rises};
+ghost use Rattle.payload_core.specs.RisingEntries.{dots_in};
 ghost use Rattle.payload_core.specs.Pieces.{IsFilled, IsFullAt, IsHalved, IsHeld, IsOpen, IsOpenBelow, IsPassed, beyond_half, crowd_of, ends_below, joined, once_halved, place_in};
 
 use crate::entry::Entry;
@@ -78,6 +79,21 @@ pub fn push_copies<A: Allocator>(
 {
     for piece in pieces {
         list::push_copies(list, piece.as_slice())?;
+    }
+    Ok(())
+}
+
+/// Puts the dots of a name's entries that are of this process behind those of a list.
+pub fn push_dots<A: Allocator>(
+    dots: &mut Vec<Dot, A>,
+    pieces: &[Piece<A>],
+    name: u16,
+    pid: u64,
+) -> Result<(), Oom>
+    ensures { OnOk result (dots.new.items ≡ dots.old.items ++ dots_in name pid (joined pieces.now)) }
+{
+    for piece in pieces {
+        list::push_dots(dots, piece.as_slice(), name, pid)?;
     }
     Ok(())
 }

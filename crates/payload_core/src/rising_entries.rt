@@ -6,7 +6,7 @@ ghost use Rattle.std.specs.Option.{option_copied, option_map};
 ghost use Rattle.payload_core.specs.Presences.{is_tracked_as, presence_of};
 ghost use Rattle.payload_core.specs.EntryLists.{Rises, spot};
 ghost use Rattle.payload_core.specs.Pieces.{joined};
-ghost use Rattle.payload_core.specs.RisingEntries.{entry_in, place_of, with, without};
+ghost use Rattle.payload_core.specs.RisingEntries.{dots_in, entry_in, place_of, with, without};
 
 use crate::entry::Entry;
 use crate::entry_pieces::EntryPieces;
@@ -211,6 +211,18 @@ impl<A: Allocator + Copy> RisingEntries<A> {
             None => list::push_named(&mut few, &self.few, names)?,
         }
         Ok(few)
+    }
+
+    /// The dots of a name's entries that are of this process: a walk.
+    pub fn dots_of_process(&self, name: u16, pid: u64) -> Result<Vec<Dot, A>, Oom>
+        ensures { IfOk result (λ dots. dots.items ≡ dots_in name pid self.now.entries) }
+    {
+        let mut dots = Vec::new(self.allocator());
+        match &self.many {
+            Some(many) => edits::push_dots(&mut dots, many.pieces(), name, pid)?,
+            None => list::push_dots(&mut dots, &self.few, name, pid)?,
+        }
+        Ok(dots)
     }
 
     /// Copies of all entries.

@@ -1,5 +1,5 @@
 //! A leave of all entries of a process, and the leave taken back.
-ghost use Rattle.std.specs.Prelude.{◌≡◌, ◌==◌, ◌&&◌, false, IfErr, IfOk, OnErr, OnOk, length};
+ghost use Rattle.std.specs.Prelude.{◌≡◌, false, IfErr, IfOk, OnErr, OnOk, length};
 ghost use Rattle.payload_core.specs.LeavesTogether.{lefts_of};
 ghost use Rattle.replica_core.specs.Changes.{ChangeLeadsBack, plain_change};
 ghost use Rattle.replica_core.specs.Invariant.{IsReplica};
@@ -12,17 +12,10 @@ use crate::change::Change;
 use crate::replica::Replica;
 use crate::replica_fault::ReplicaFault;
 use dots_core::{Dot, Oom};
-use payload_core::{Entry, Left, leave_each, restore_each};
+use payload_core::{Left, leave_each, restore_each};
 use std::alloc::Allocator;
 
 impl<A: Allocator> Replica<A> {
-    /// Whether the entry is an own one of the process.
-    fn is_own_of(&self, entry: &Entry<A>, pid: u64) -> bool
-        ensures { result ≡ ((entry.now.dot.name == self.now.own) && (entry.now.pid == pid)) }
-    {
-        entry.dot.name == self.own && entry.pid == pid
-    }
-
     /// Takes the last own dots out, one for each that left, and puts back what left.
     pub(super) fn restore_each(
         &mut self,
@@ -59,7 +52,7 @@ impl<A: Allocator + Copy> Replica<A> {
         ensures leads_back { IfOk result (λ change. ChangeLeadsBack (plain_change change) self.new self.old) }
         ensures err { OnErr result (self.new ≡ self.old) }
     {
-        let leaving = dots_of_process(self, pid, self.alloc)?;
+        let leaving = dots_of_process(self, pid)?;
         if leaving.is_empty() {
             return Err(ReplicaFault::NotTracked);
         }
@@ -93,23 +86,11 @@ impl<A: Allocator + Copy> Replica<A> {
 }
 
 /// The own dots of the process, by rising clock.
-fn dots_of_process<A: Allocator>(
-    replica: &Replica<A>,
-    pid: u64,
-    alloc: A,
-) -> Result<Vec<Dot, A>, Oom>
+fn dots_of_process<A: Allocator + Copy>(replica: &Replica<A>, pid: u64) -> Result<Vec<Dot, A>, Oom>
     ensures dots { IfOk result (λ leaving. leaving.items ≡ dots_of_process replica.now pid) }
     ensures own { IfOk result (λ leaving. AreOwnSeen leaving.items replica.now) }
 {
     replica.replica_law();
-    let entries = replica.entries();
-    let mut leaving = Vec::new(alloc);
-    for place in 0..entries.len() {
-        if let Some(entry) = entries.at(place) {
-            if replica.is_own_of(entry, pid) {
-                leaving.push(entry.dot)?;
-            }
-        }
-    }
+    let leaving = replica.entries().dots_of_process(replica.own, pid)?;
     Ok(leaving)
 }
