@@ -13,8 +13,8 @@ loop-piece-preserved g c =
     let dots : List Entry → List Dot = dots_in c.args.name c.args.pid in
     let rest = joined (drop (c.loop-piece.piece-index + 1) c.args.pieces.now) in
     let here : dots (joined (drop c.loop-piece.piece-index c.args.pieces.now)) ≡ dots c.piece-item.result ++ dots rest =
-        ap (map (λ (e : Entry). e.dot)) (filter-here p c.args.pieces.now c.loop-piece.piece-index c.piece-item.result c.loop-piece-test.true c.piece-item.is)
-        ∙ map-append (λ (e : Entry). e.dot) (filter p c.piece-item.result) (filter p rest) in
+    ap (map (λ (e : Entry). e.dot)) (filter-here p c.args.pieces.now c.loop-piece.piece-index c.piece-item.result c.loop-piece-test.true c.piece-item.is)
+    ∙ map-append (λ (e : Entry). e.dot) (filter p c.piece-item.result) (filter p rest) in
     ap (λ ds. ds ++ dots rest) (c.in_ok-push_dots.ensures ∙ ap (λ es. c.loop-piece.dots.items ++ dots es) c.as_slice.ensures)
     ∙ append_assoc c.loop-piece.dots.items (dots c.piece-item.result) (dots rest)
     ∙ ap (λ ds. c.loop-piece.dots.items ++ ds) (sym here)

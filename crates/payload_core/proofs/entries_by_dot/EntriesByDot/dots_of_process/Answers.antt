@@ -1,4 +1,4 @@
-use Rattle.std.proofs.Common.{◌≡◌, ◌==◌, IfOk, Result, Ok, Err, sym, ap, ◌∙◌}
+use Rattle.std.proofs.Common.{◌==◌, sym, ap, ◌∙◌}
 use Rattle.payload_core.specs.EntrySets.{EntrySet}
 use Rattle.payload_core.specs.Presences.{Presence, dots_of}
 use Rattle.payload_core.proofs.EntryLists.{dots_found}
