@@ -66,10 +66,6 @@ module _ (test : Dot × Presence → Bool) (ps : List (Dot × Presence)) where
       ∙ sym (map-append (λ (p : Dot × Presence). p.0) (filter test (take i ps)) (pair_of e ∷ []))
       ∙ ap (map (λ (p : Dot × Presence). p.0)) (sym (passed test ps i e at passes))
 
-  pub dot_passed_over : (i : ℕ) (e : Entry) (items : List Dot) → Some e ≡ entry_at ps i → test (pair_of e) ≡ false →
-      items ≡ map (λ (p : Dot × Presence). p.0) (filter test (take i ps)) → items ≡ map (λ (p : Dot × Presence). p.0) (filter test (take (i + 1) ps))
-  dot_passed_over i e items at fails so_far = so_far ∙ ap (map (λ (p : Dot × Presence). p.0)) (sym (failed test ps i e at fails))
-
 -- the test at a dot, as it was answered
 pub answered : (test : Dot → Bool) (d : Dot) (e : Entry) (answer b : Bool) → d ≡ e.dot → answer ≡ test d → answer ≡ b → test e.dot ≡ b
 answered test d e answer b same asked is = ap test (sym same) ∙ sym asked ∙ is

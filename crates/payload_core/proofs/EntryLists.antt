@@ -344,11 +344,6 @@ module _ (d : Dot) (es : List Entry) (h : Rises es) (i : ℕ) where
   pub get_missing : spot d es ≡ Err i → fin.get (entries_of es) d ≡ None
   get_missing e = get-entries_of es d h ∙ (missing_at d es i h e).1
 
-  pub get_found : (x : Entry) → spot d es ≡ Ok i → x ≡ get_or es i x → option_map (entry_of d) (fin.get (entries_of es) d) ≡ Some x
-  get_found x e at =
-      let here = found_at d es i e in
-      ap (option_map (entry_of d)) (get-entries_of es d h) ∙ here.1 ∙ slice_get_read es (length es) i x refl here.0 at
-
   pub present : spot d es ≡ Ok i → fin.get (entries_of es) d ≡ None → ⊥
   present e none =
       let here = found_at d es i e in

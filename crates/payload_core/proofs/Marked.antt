@@ -61,11 +61,6 @@ module _ (name pid : ℕ) (topic key : List ℕ) (m : Entries) (index : TrackInd
 pub covers_empty : (index : TrackIndex) → Covers index fin.empty
 covers_empty index = record { held = λ d p at. absurd (let none = sym (fin.get-empty dot_cmp d) ∙ at in cc) }
 
--- an index that loses nothing covers what it covered
-pub covers_still : (a b : TrackIndex) (m : Entries) → ((n k : ℕ) (d : Dot) → Holds (holder_of a n k) d → Holds (holder_of b n k) d) →
-    Covers a m → Covers b m
-covers_still a b m stays covers = record { held = λ d p at. stays _ _ d (covers.held d p at) }
-
 pub covers_insert : (a b : TrackIndex) (m : Entries) (d : Dot) (p : Presence) →
     ((n k : ℕ) (d : Dot) → Holds (holder_of a n k) d → Holds (holder_of b n k) d) →
     Holds (holder_of b d.name (mark_of p.pid p.topic p.key)) d → Covers a m → Covers b (fin.insert m d p)

@@ -261,12 +261,6 @@ module _ (ps qs : List (List Entry)) (s : Spot) (h : IsHalved s.piece ps qs) whe
   pub halved-joined : joined qs ≡ joined ps
   halved-joined = ap joined halves ∙ joined-halved ps s.piece h.first h.second (h.at ∙ ap Some h.both)
 
-  pub halved-filled : AllByRecursion IsFilled ps → AllByRecursion IsFilled qs
-  halved-filled all =
-      let half = h.half in
-      subst (AllByRecursion IsFilled) (sym halves)
-      (filled-halved ps s.piece h.first h.second h.piece h.at all (omega (arith, half)) (omega (arith, half, long)))
-
   pub halved-crowd : crowd_of qs + 64 ≡ crowd_of ps
   halved-crowd =
       let half = h.half in

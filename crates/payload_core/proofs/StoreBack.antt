@@ -70,7 +70,3 @@ module _ (l : Left) (d : Dot) (store delta : Store) (stood : Stood l d store del
 -- no entry at a dot where one was taken out, after another dot's entry was put in
 pub none_beside : (m : Entries) (d f : Dot) (p : Presence) → d ≢ f → fin.get (fin.insert (fin.remove m d) f p) d ≡ None
 none_beside m d f p other = get_insert_other (fin.remove m d) f d p other ∙ get_removed m d
-
--- a dot that was not seen is not seen after another was
-pub still_unseen : (s : Dots) (d f : Dot) → f ≢ d → set.contains s f ≡ false → set.contains (set.insert s d) f ≡ false
-still_unseen s d f other none = contains_insert_other s d f other ∙ none

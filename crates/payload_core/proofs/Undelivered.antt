@@ -267,9 +267,6 @@ module _ (named : ℕ → Bool) (other s : Dots) where
     pub old : AreOld s ps
     pub names : (n : ℕ) → n < k → IsListed ps n
 
-  pub old_none : (ps : List OldPart) → ps ≡ [] → OldBelow 0 ps
-  old_none ps is = subst (OldBelow 0) (sym is) (record { rise = tt; low = tt; parts = tt; old = tt; names = λ n low. absurd (omega (arith, low)) })
-
   listed_on : (k : ℕ) (ps : List OldPart) → ((n : ℕ) → n < k → IsListed ps n) → IsListed ps k → (n : ℕ) → n < k + 1 → IsListed ps n
   listed_on k ps before at n low = go (cases_lt n k)
     where

@@ -11,8 +11,8 @@ pub mod Marks
 pub mod Messages
 pub mod Outboxes
 pub mod Pieces
-pub mod RisingEntries
 pub mod Presences
+pub mod RisingEntries
 pub mod StoreCodes
 pub mod Stores
 pub mod TrackIndices

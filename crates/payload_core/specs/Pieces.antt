@@ -44,7 +44,7 @@ pub record IsHeld (ps : List (List Entry)) (s : Spot) : Type 0 where
   pub at : slice_get ps s.piece ≡ Some piece
   pub within : s.inner < length piece
 
--- a spot where an entry may be put: in a piece, or before all where there is none
+-- a spot in a piece where an entry may be put
 pub record IsOpen (ps : List (List Entry)) (s : Spot) : Type 0 where
   pub piece : List Entry
   pub at : slice_get ps s.piece ≡ Some piece

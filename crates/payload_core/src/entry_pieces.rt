@@ -14,8 +14,8 @@ use dots_core::{Dot, Oom};
 use std::alloc::Allocator;
 use std::marker::Model;
 
-/// More entries than there can be in memory.
-const NEVER: usize = 1 << 62;
+/// No memory has room for as many entries.
+const TOO_MANY: usize = 1 << 62;
 
 /// Entries that rise by dot, in pieces of which none is empty, with room for more. Each piece that gets full is halved: the
 /// other half moves into a spare one. A piece has to get `HALF` more than a half before that, so that a spare one serves for
@@ -275,13 +275,13 @@ impl<A: Allocator + Copy> EntryPieces<A> {
         if count <= self.left {
             return Ok(());
         }
-        if count > NEVER - self.count {
+        if count > TOO_MANY - self.count {
             return Err(Oom);
         }
         let crowd = crowd_in(self.pieces.as_slice());
         let wanted = (crowd + count) / HALF + 2;
         make_spares(&mut self.pieces, &mut self.spares, wanted)?;
-        self.left = (HALF.saturating_mul(self.spares.len()) - crowd).min(NEVER - self.count);
+        self.left = (HALF.saturating_mul(self.spares.len()) - crowd).min(TOO_MANY - self.count);
         Ok(())
     }
 }
