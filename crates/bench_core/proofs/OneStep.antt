@@ -1,17 +1,17 @@
--- The step of one node in a cluster, taken while another node stands in its place.
+-- The step of one node in a cluster, taken in its place, or while another node stands there.
 use Rattle.std.proofs.Common.{◌≡◌, ◌≢◌, ℕ, zero, suc, ◌<◌, ◌≤◌, ◌==◌, nat_lt, Bool, true, false, if◌then◌else◌, List, [], ◌∷◌, length, set, slice_get}
-use Rattle.std.proofs.Common.{get_or, Option, Some, Result, Ok, Err, OnOk, OnErr, IfOk, IfErr, refl, sym, ap, ◌∙◌, subst, arith}
+use Rattle.std.proofs.Common.{get_or, Option, Some, None, Result, Ok, Err, OnOk, OnErr, IfOk, IfErr, refl, sym, ap, ◌∙◌, subst, arith}
 use Rattle.std.proofs.lemmas.Bool.{eqb-false, ltb-true, and_parts}
 use Rattle.std.specs.List.{list_all}
 use Rattle.payload_core.specs.Messages.{Message, numbered}
 use Rattle.node_core.specs.declared.inverse.Inverse as declared
 use Rattle.node_core.specs.declared.step_fault.StepFault.{StepFault}
 use Rattle.node_core.specs.declared.step_fault.StepFault.TheVariants.{OwnMessage, OutOfMemory}
-use Rattle.node_core.specs.Operations.{Operation, Join, Leave, LeaveAll, Update, Broadcast, Extract, Deliver, Request, Answer, Up, Down, Permdown, named_in, AreNames}
+use Rattle.node_core.specs.Operations.{Operation, Join, Leave, LeaveAll, Update, Broadcast, Extract, Deliver, Request, Answer, Up, Down, Permdown, named_in, delivers, AreNames}
 use Rattle.node_core.specs.Nodes.{Node, deliver, answer, take}
 use Rattle.node_core.specs.Invariant.{IsNode}
 use Rattle.node_core.specs.Inverses.{plain_inverse, LeadsBack}
-use Rattle.bench_core.specs.Clusters.{Cluster, outbox_of, message_for}
+use Rattle.bench_core.specs.Clusters.{Cluster, outbox_of, message_at, message_for}
 use Rattle.bench_core.specs.Benches.{IsNumbered, Steps}
 use Rattle.bench_core.proofs.Clusters.{get-set_other, set-set_same, set-get, step_takes}
 
@@ -88,3 +88,13 @@ module _ (c : Cluster) (n : ℕ) (s : Operation) (x y z other : Node) (m : Optio
     set-set_same c n other y ∙ ap (set c n) (stays ∙ same) ∙ set-get c n x at,
     λ some. step_takes c n s x (Err e) at named (sym alike ∙ fault some),
   )
+
+-- a step that delivers nothing reads nothing of the others
+pub step_in_place : {X : Type 0} (c : Cluster) (n : ℕ) (s : Operation) (x y : Node) → IsNumbered c → slice_get c n ≡ Some x →
+    list_all (λ k. nat_lt k (length c)) (named_in s) ≡ true → delivers s ≡ None → (r : Result (declared.Inverse X) StepFault) →
+    OnOk r (take x s None ≡ Ok y) → IfOk r (λ i. LeadsBack (plain_inverse i) y x) →
+    IfErr r (λ fault. fault ≢ OutOfMemory → take x s None ≡ Err fault) → OnErr r (y ≡ x) → IsNode y → Steps c n s r (set c n y)
+step_in_place c n s x y own at named silent r taken leads fault stays kept =
+    let read : None ≡ message_for (set c n x) s = sym (ap (message_at (set c n x)) silent) in
+    subst (λ (d : Cluster). Steps c n s r d) (set-set_same c n x y)
+    (one_step c n s x y x x None own at named read refl r taken leads fault stays kept)

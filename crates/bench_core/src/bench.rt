@@ -1,9 +1,9 @@
 //! `Bench`: the machine over its nodes, its journal and its history.
-ghost use Rattle.std.specs.Prelude.{◌≡◌, ◌≢◌, ◌↔◌, ◌<◌, ◌≤◌, ◌+◌, Ok, IfErr, IfOk, IfSome, IsSome, OnOk, OnErr, length, take, true, nat_lt, option_map};
+ghost use Rattle.std.specs.Prelude.{◌≡◌, ◌≢◌, ◌↔◌, ◌<◌, ◌≤◌, ◌+◌, None, Ok, IfErr, IfOk, IfSome, IsSome, OnOk, OnErr, length, take, true, nat_lt, option_map};
 ghost use Rattle.std.specs.List.{list_all};
 ghost use Rattle.replica_core.specs.Limits.{AreNodeLimits};
 ghost use Rattle.node_core.specs.Inverses.{plain_inverse};
-ghost use Rattle.node_core.specs.Operations.{named_in, plain};
+ghost use Rattle.node_core.specs.Operations.{delivers, named_in, plain};
 ghost use Rattle.journal_core.specs.Journals.{find_number};
 ghost use Rattle.journal_core.specs.Gathering.{gathered_numbers};
 ghost use Rattle.journal_core.specs.Holdings.{without_held, kepts};
@@ -45,9 +45,32 @@ fn message<'x, 'a, B: Allocator>(
     nodes.get(sender as usize)?.outbox().get(number)
 }
 
-/// A step of one node; a delivery is given the message of the other. While the node takes it, an empty one stands in its
-/// place, so that the message can be lent from among the others: no step reads a message of its own node.
-fn step_node<'a, B: Allocator>(
+/// A step of one node that delivers nothing.
+fn step_in_place<'a, B: Allocator>(
+    nodes: &mut Vec<Node<'a, B>, &'a B>,
+    actor: u16,
+    step: &Step<&'a B>,
+    meter: &mut Meter,
+) -> Result<Inverse<&'a B>, StepFault>
+    requires silent { delivers (plain step.now) ≡ None }
+    requires there { actor < length nodes.old.items }
+    requires few { length nodes.old.items ≤ 32 }
+    requires named { list_all (λ k. nat_lt k (length nodes.old.items)) (named_in (plain step.now)) ≡ true }
+    requires numbered { IsNumbered nodes.old.items }
+    requires meter { meter.old.count < 18446744073709551615 }
+    ensures steps { Steps nodes.old.items actor (plain step.now) result nodes.new.items }
+    ensures ticks { OnOk result (meter.new.count ≡ meter.old.count + 1) }
+    ensures no_tick { OnErr result (meter.new.count ≡ meter.old.count) }
+{
+    let node = &mut nodes[actor as usize];
+    let result = node.take(step, None, meter);
+    node.node_law();
+    result
+}
+
+/// A step of one node, which is given the message of the other that it delivers. While the node takes it, an empty one
+/// stands in its place, so that the message can be lent from among the others: no step reads a message of its own node.
+fn step_with_message<'a, B: Allocator>(
     nodes: &mut Vec<Node<'a, B>, &'a B>,
     actor: u16,
     step: &Step<&'a B>,
@@ -74,6 +97,28 @@ fn step_node<'a, B: Allocator>(
     receiver.node_law();
     nodes[actor as usize] = receiver;
     result
+}
+
+/// A step of one node.
+fn step_node<'a, B: Allocator>(
+    nodes: &mut Vec<Node<'a, B>, &'a B>,
+    actor: u16,
+    step: &Step<&'a B>,
+    meter: &mut Meter,
+) -> Result<Inverse<&'a B>, StepFault>
+    requires there { actor < length nodes.old.items }
+    requires few { length nodes.old.items ≤ 32 }
+    requires named { list_all (λ k. nat_lt k (length nodes.old.items)) (named_in (plain step.now)) ≡ true }
+    requires numbered { IsNumbered nodes.old.items }
+    requires meter { meter.old.count < 18446744073709551615 }
+    ensures steps { Steps nodes.old.items actor (plain step.now) result nodes.new.items }
+    ensures ticks { OnOk result (meter.new.count ≡ meter.old.count + 1) }
+    ensures no_tick { OnErr result (meter.new.count ≡ meter.old.count) }
+{
+    if step.delivers().is_none() {
+        return step_in_place(nodes, actor, step, meter);
+    }
+    step_with_message(nodes, actor, step, meter)
 }
 
 /// Takes step `number`, of this node, back by its inverse.

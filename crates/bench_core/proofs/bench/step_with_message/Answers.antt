@@ -2,7 +2,7 @@ use Rattle.std.proofs.Common.{◌∙◌, ap, option_map, length, arith}
 use Rattle.node_core.specs.Operations.{plain, AreNames}
 use Rattle.bench_core.specs.Clusters.{Cluster, message_for}
 use Rattle.bench_core.proofs.OneStep.{get_at, names_named, one_step}
-use Rattle.bench_core.proofs.bench.step_node.Goals as goal
+use Rattle.bench_core.proofs.bench.step_with_message.Goals as goal
 
 pub take-result-requires : goal.take-result-requires
 take-result-requires g c = let names : AreNames (plain c.args.step.now) =
