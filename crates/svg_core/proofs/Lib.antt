@@ -1,0 +1,4 @@
+pub mod Both
+pub mod Beside
+pub mod Documents
+pub mod Plain

@@ -1,0 +1,4 @@
+pub mod Escapes
+pub mod Trees
+pub mod Values
+pub mod Grammar

@@ -1,0 +1,46 @@
+//! Elements, and their ends.
+ghost use Rattle.std.specs.Prelude.{◌≡◌, ◌++◌, OnOk, string_bytes};
+ghost use Rattle.svg_core.specs.Trees.{end_text, leaf, opening_text, text_of};
+ghost use Rattle.svg_core.specs.Values.{plain_attributes};
+
+use crate::attribute::{Attribute, put_attributes};
+use crate::escape::put_escaped;
+use std::alloc::{AllocError, Allocator};
+
+/// `<TAG NAME="VALUE" ..>`.
+#[tactic(auto, unfolding(crate::specs::Trees::opening_text, crate::specs::Trees::start_text))]
+pub fn put_start<A: Allocator>(
+    text: &mut String<A>,
+    tag: &str,
+    attributes: &[Attribute],
+) -> Result<(), AllocError>
+    ensures { OnOk result (string_bytes text.new ≡ string_bytes text.old ++ opening_text tag.now (plain_attributes attributes.now)) }
+{
+    write!(text, "<{tag}")?;
+    put_attributes(text, attributes)?;
+    text.push_str(">")
+}
+
+/// `</TAG>`.
+#[tactic(auto, unfolding(crate::specs::Trees::end_text))]
+pub fn put_end<A: Allocator>(text: &mut String<A>, tag: &str) -> Result<(), AllocError>
+    ensures { OnOk result (string_bytes text.new ≡ string_bytes text.old ++ end_text tag.now) }
+{
+    write!(text, "</{tag}>")
+}
+
+/// An element that holds a text.
+#[tactic(auto, unfolding(crate::specs::Trees::text_of))]
+pub fn put_leaf<A: Allocator>(
+    text: &mut String<A>,
+    tag: &str,
+    attributes: &[Attribute],
+    words: &str,
+) -> Result<(), AllocError>
+    ensures { OnOk result (string_bytes text.new ≡ string_bytes text.old ++
+        text_of (leaf tag.now (plain_attributes attributes.now) words.now)) }
+{
+    put_start(text, tag, attributes)?;
+    put_escaped(text, words)?;
+    put_end(text, tag)
+}

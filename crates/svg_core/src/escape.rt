@@ -1,0 +1,56 @@
+//! Texts as they stand in XML.
+ghost use Rattle.std.specs.Prelude.{◌≡◌, ◌++◌, OnOk, string_bytes, decimal};
+ghost use Rattle.svg_core.specs.Escapes.{escape, escaped, is_plain, stand_in};
+
+use std::alloc::{AllocError, Allocator};
+
+/// Whether it stands for itself.
+fn is_plain(byte: u8) -> bool
+    ensures { result ≡ is_plain byte }
+{
+    matches!(byte, b'\n' | b' '..=b'~') && !matches!(byte, b'"' | b'&' | b'\'' | b'<' | b'>')
+}
+
+/// What stands for a byte that doesn't stand for itself.
+fn stand_in(byte: u8) -> &'static str
+    ensures { result.now ≡ stand_in byte }
+{
+    match byte {
+        b'"' => "&quot;",
+        b'&' => "&amp;",
+        b'\'' => "&apos;",
+        b'<' => "&lt;",
+        b'>' => "&gt;",
+        _ => "?",
+    }
+}
+
+fn put_byte<A: Allocator>(text: &mut String<A>, byte: u8) -> Result<(), AllocError>
+    ensures { OnOk result (string_bytes text.new ≡ string_bytes text.old ++ escape byte) }
+{
+    if is_plain(byte) {
+        text.push(byte as char)
+    } else {
+        text.push_str(stand_in(byte))
+    }
+}
+
+/// The words as they stand in XML. What is no ASCII, or a control, stands as `?`.
+#[tactic(auto, unfolding(crate::specs::Escapes::escaped))]
+pub fn put_escaped<A: Allocator>(text: &mut String<A>, words: &str) -> Result<(), AllocError>
+    ensures { OnOk result (string_bytes text.new ≡ string_bytes text.old ++ escaped words.now) }
+{
+    let bytes = words.as_bytes();
+    for byte in bytes {
+        put_byte(text, *byte)?;
+    }
+    Ok(())
+}
+
+/// The digits of a number, which stand for themselves.
+#[tactic(auto, using(crate::proofs::Plain::escaped_decimal))]
+pub fn put_number<A: Allocator>(text: &mut String<A>, number: u64) -> Result<(), AllocError>
+    ensures { OnOk result (string_bytes text.new ≡ string_bytes text.old ++ escaped (decimal number)) }
+{
+    write!(text, "{number}")
+}

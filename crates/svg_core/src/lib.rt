@@ -1,0 +1,14 @@
+//! Trees of SVG elements as text, put behind a growing text.
+//!
+//! It uses std alone. In the order to read them: `escape`, texts as they stand in XML; `attribute`, what an element is given;
+//! `element`, whole elements and their ends; `laws`, that the text of an element is a document.
+#![tactic(auto)]
+
+mod attribute;
+mod element;
+mod escape;
+pub mod laws;
+
+pub use attribute::{Attribute, Value};
+pub use element::{put_end, put_leaf, put_start};
+pub use escape::{put_escaped, put_number};
