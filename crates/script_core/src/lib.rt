@@ -33,6 +33,7 @@ mod streams;
 mod unwinding;
 mod words;
 
+pub use acting::act;
 pub use command::Command;
 pub use fakes::{FakeReader, FakeWriter};
 pub use fault::{FaultKind, InputFault, PlayFault, ScriptFault, WriteFault};
@@ -41,4 +42,5 @@ pub use parse::parse_script;
 pub use playing::play;
 pub use run::{Played, run_script};
 pub use script::{Line, Script, actors, acts, node_names};
+pub use step_text::put_act;
 pub use streams::{read_all, write_out};
