@@ -1,0 +1,5 @@
+pub mod Standings
+pub mod Senders
+pub mod Shapes
+pub mod Steps
+pub mod Pictures
