@@ -11,12 +11,12 @@ use Rattle.script_core.specs.Scripts.{Script}
 use Rattle.script_core.specs.declared.fault.FaultKind.TheVariants.{TooLong}
 use Rattle.presence_bench.specs.declared.chosen.Form.{Form}
 use Rattle.presence_bench.specs.declared.chosen.Subcommand.{Subcommand}
-use Rattle.presence_bench.specs.declared.chosen.Subcommand.TheVariants.{Play, Race, Load}
+use Rattle.presence_bench.specs.declared.chosen.Subcommand.TheVariants.{Play, Race, Load, Draw}
 use Rattle.presence_bench.specs.declared.fault.Fault.{Fault}
 use Rattle.presence_bench.specs.declared.fault.Fault.TheVariants as faults
 use Rattle.script_core.specs.declared.fault.ScriptFault.{ScriptFault}
 use Rattle.presence_bench.specs.Races.{IsRaceOf, RefusesRaceOf}
-use Rattle.presence_bench.specs.Program.{IsCause, IsCauseOf, IsUnwritten, IsCauseAt, IsScriptAt, IsSessionAt, Prints, Ends, EndsAt, EndsAsText, KeepsBefore, TellsMemory, shown}
+use Rattle.presence_bench.specs.Program.{IsCause, IsCauseOf, IsUnwritten, IsCauseAt, IsScriptAt, IsSessionAt, Prints, drawn, Ends, EndsAt, EndsAsText, KeepsBefore, TellsMemory, shown}
 
 -- an input past the limit has that fault
 pub too_long : (known : Option (List ℕ)) → IsLonger known 1048576 → IsCauseAt known (faults.Script (record { line = 0; kind = TooLong }))
@@ -51,6 +51,11 @@ module _ (form : Form) (limits : Limits) (text : List ℕ) (old new : Option (Li
       text ≡ shown form (history_text m) m → EndsAsText text r old new → EndsAt Load form limits known r old new
   ends_load None m r k is e = tt
   ends_load (Some input) m r k is e = ends Load input r (m, k, is) e
+
+  pub ends_draw : (why : Option ℕ) (known : Option (List ℕ)) (m : Machine) (r : Result (Unit {0}) Fault) → IsSessionAt known m →
+      text ≡ drawn why m → EndsAsText text r old new → EndsAt (Draw why) form limits known r old new
+  ends_draw why None m r k is e = tt
+  ends_draw why (Some input) m r k is e = ends (Draw why) input r (m, k, is) e
 
   pub ends_race : (known : Option (List ℕ)) (s : Script) (m : Machine) (r : Result (Unit {0}) Fault) → IsScriptAt known s →
       IsRaceOf limits s m → text ≡ shown form (history_text m) m → EndsAsText text r old new → EndsAt Race form limits known r old new

@@ -4,6 +4,8 @@ use Rattle.std.specs.Io.KnownBytes.{Appends, IsAtEnd, Keeps}
 use Rattle.serde_json.specs.Written.{compact_text}
 use Rattle.bench_core.specs.Limits.{Limits}
 use Rattle.bench_core.specs.Machine.{Machine}
+use Rattle.picture_core.specs.Pictures.{picture}
+use Rattle.picture_core.specs.Standings.{painted_of}
 use Rattle.script_core.specs.Grammar.{script_of}
 use Rattle.script_core.specs.Report.{history_text, played, report_of}
 use Rattle.script_core.specs.Scripts.{Script}
@@ -13,6 +15,7 @@ use Rattle.script_core.specs.declared.fault.PlayFault.TheVariants as plays
 use Rattle.session_core.specs.Format.{session}
 use Rattle.session_core.specs.Sessions.{IsSession, Refuses}
 use Rattle.session_core.specs.declared.session_fault.SessionFault.TheVariants as sessions
+use Rattle.svg_core.specs.Trees.{text_of}
 use Rattle.worker_core.specs.declared.race_fault.RaceFault.{RaceFault}
 use Rattle.worker_core.specs.declared.race_fault.RaceFault.TheVariants as races
 use Rattle.presence_bench.specs.Races.{IsRaceOf, RefusesRaceOf}
@@ -20,7 +23,7 @@ use Rattle.presence_bench.specs.declared.chosen.Choice.{Choice}
 use Rattle.presence_bench.specs.declared.chosen.Form.{Form}
 use Rattle.presence_bench.specs.declared.chosen.Form.TheVariants.{Report, Session}
 use Rattle.presence_bench.specs.declared.chosen.Subcommand.{Subcommand}
-use Rattle.presence_bench.specs.declared.chosen.Subcommand.TheVariants.{Play, Race, Load}
+use Rattle.presence_bench.specs.declared.chosen.Subcommand.TheVariants.{Play, Race, Load, Draw}
 use Rattle.presence_bench.specs.declared.fault.Fault.{Fault}
 use Rattle.presence_bench.specs.declared.fault.Fault.TheVariants as faults
 
@@ -79,6 +82,7 @@ abbrev pub IsCauseOf : Subcommand → Limits → List ℕ → Fault → Type 0
 IsCauseOf Race limits input fault = IsCause input fault ⊎ IsOkAnd (script_of input) (λ s. RefusesRaceOf limits s fault)
 IsCauseOf Play limits input fault = IsCause input fault
 IsCauseOf Load limits input fault = IsCause input fault
+IsCauseOf (Draw why) limits input fault = IsCause input fault
 
 abbrev pub IsCauseAt : Option (List ℕ) → Fault → Type 0
 IsCauseAt None fault = ⊤
@@ -89,11 +93,16 @@ abbrev pub shown : Form → List ℕ → Machine → List ℕ
 shown Report report bench = report
 shown Session report bench = session_text bench
 
+-- the text of a bench's picture, with the future of a step painted
+abbrev pub drawn : Option ℕ → Machine → List ℕ
+drawn why bench = text_of (picture bench (painted_of bench.state why))
+
 -- the text is what the subcommand prints of the input: of a script's bench, or of a session's
 abbrev pub Prints : Subcommand → Form → Limits → List ℕ → List ℕ → Type 0
 Prints Play form limits input text = IsOkAnd (script_of input) (λ s. text ≡ shown form (report_of limits s) (played limits s))
 Prints Race form limits input text = IsOkAnd (script_of input) (λ s. (m : Machine) × IsRaceOf limits s m × (text ≡ shown form (history_text m) m))
 Prints Load form limits input text = (m : Machine) × IsSession input m × (text ≡ shown form (history_text m) m)
+Prints (Draw why) form limits input text = (m : Machine) × IsSession input m × (text ≡ drawn why m)
 
 -- all of the text went out, or, where the writing failed, its first `written` bytes
 abbrev pub EndsAsText : List ℕ → Result (Unit {0}) Fault → Option (List ℕ) → Option (List ℕ) → Type 0

@@ -9,6 +9,8 @@ pub enum Subcommand {
     Race,
     /// Plays a saved session again.
     Load,
+    /// Draws a saved session, with the future of the step of this number painted.
+    Draw { why: Option<u64> },
 }
 
 /// What it prints of the bench that was played on.

@@ -2,10 +2,10 @@
 ghost use Rattle.std.specs.Prelude.{◌≡◌, IfOk, IfSome, codes, map, false};
 ghost use Rattle.clap.specs.Words.{app_of, first_value, found_of, new_app, rule_of, with_rule};
 ghost use Rattle.clap.specs.declared.Command.TheViews.{out-Command as fields_of};
-ghost use Rattle.presence_bench.specs.Line.{app, as_rule, name_of, IsForm, Chooses};
+ghost use Rattle.presence_bench.specs.Line.{app, as_rule, draw_app, why_rule, name_of, IsForm, IsWhy, Chooses, Paints};
 
 use crate::chosen::{Choice, Form, Subcommand};
-use crate::help::{FORM, LANGUAGE, LOAD, PLAY, PURPOSE, RACE, VERSION};
+use crate::help::{DRAW, FORM, LANGUAGE, LOAD, PLAY, PURPOSE, RACE, VERSION, WHY};
 use clap::error::ErrorKind;
 use clap::{Arg, ArgMatches, Command, Error};
 use std::alloc::{AllocError, Global};
@@ -22,7 +22,28 @@ fn form_option<'a>(alloc: Global) -> Arg<'a>
         .help(FORM)
 }
 
-/// A subcommand with the option.
+/// The option that names a step.
+fn why_option<'a>(alloc: Global) -> Arg<'a>
+    ensures rule { rule_of result ≡ why_rule }
+    ensures local { result.global ≡ false }
+{
+    Arg::new(alloc, "why")
+        .long("why")
+        .value_name("NUMBER")
+        .help(WHY)
+}
+
+/// The subcommand that draws.
+fn draw_line<'a>(alloc: Global) -> Result<Command<'a>, AllocError>
+    ensures app { IfOk result (λ line. app_of line ≡ draw_app) }
+    ensures local { IfOk result (λ line. (fields_of line).has_globals ≡ false) }
+{
+    Command::new(alloc, "draw")
+        .about(DRAW)
+        .arg(why_option(alloc))
+}
+
+/// A subcommand with the option of a form.
 fn subcommand_line<'a>(
     alloc: Global,
     name: &'a str,
@@ -42,6 +63,7 @@ fn line<'a>(alloc: Global) -> Result<Command<'a>, AllocError>
     let play = subcommand_line(alloc, "play", PLAY)?;
     let race = subcommand_line(alloc, "race", RACE)?;
     let load = subcommand_line(alloc, "load", LOAD)?;
+    let draw = draw_line(alloc)?;
     Command::new(alloc, "presence_bench")
         .about(PURPOSE)
         .version(VERSION)
@@ -50,16 +72,20 @@ fn line<'a>(alloc: Global) -> Result<Command<'a>, AllocError>
         .subcommand_required(true)
         .subcommand(play)?
         .subcommand(race)?
-        .subcommand(load)
+        .subcommand(load)?
+        .subcommand(draw)
 }
 
-fn command_of(name: &str) -> Option<Subcommand>
-    ensures { IfSome result (λ command. name.now ≡ name_of command) }
+/// The subcommand of this name, which paints the future of that step, if it paints one.
+fn command_of(name: &str, why: Option<u64>) -> Option<Subcommand>
+    ensures name { IfSome result (λ command. name.now ≡ name_of command) }
+    ensures why { IfSome result (Paints why) }
 {
     match name {
         "play" => Some(Subcommand::Play),
         "race" => Some(Subcommand::Race),
         "load" => Some(Subcommand::Load),
+        "draw" => Some(Subcommand::Draw { why }),
         _ => None,
     }
 }
@@ -75,6 +101,19 @@ fn form_of<'a>(matches: &ArgMatches<'a>) -> Option<Form>
     }
 }
 
+/// The step that a subcommand's words name, if they name one.
+fn why_of<'a>(matches: &ArgMatches<'a>) -> Option<Option<u64>>
+    ensures { IfSome result (IsWhy (first_value (found_of matches.now) (codes "why"))) }
+{
+    match matches.get_str("why") {
+        None => Some(None),
+        Some(digits) => match digits.parse::<u64>() {
+            Ok(number) => Some(Some(number)),
+            Err(_) => None,
+        },
+    }
+}
+
 /// What the words after the program's name choose.
 pub fn choice<'a, S: AsStr>(alloc: Global, words: &'a [S]) -> Result<Choice, Error>
     ensures { IfOk result (Chooses (map S.text words.entry.now)) }
@@ -84,7 +123,10 @@ pub fn choice<'a, S: AsStr>(alloc: Global, words: &'a [S]) -> Result<Choice, Err
     let Some((name, entered)) = matches.subcommand() else {
         return Err(line.error(ErrorKind::MissingSubcommand, "a subcommand is required")?);
     };
-    let Some(command) = command_of(name) else {
+    let Some(why) = why_of(entered) else {
+        return Err(line.error(ErrorKind::InvalidValue, "--why takes the number of a step")?);
+    };
+    let Some(command) = command_of(name, why) else {
         return Err(line.error(ErrorKind::InvalidSubcommand, "no such subcommand")?);
     };
     let Some(form) = form_of(entered) else {

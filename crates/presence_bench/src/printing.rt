@@ -10,6 +10,7 @@ use crate::fault::Fault;
 use crate::racing::race_script;
 use crate::texts::{read_script, read_session, session_line};
 use bench_core::Limits;
+use picture_core::draw;
 use script_core::{play, report_history, run_script, write_out};
 use std::alloc::{Allocator, Global};
 use std::io::{Read, Write};
@@ -153,6 +154,28 @@ fn load_session<B: Allocator, R: Read, W: Write>(
     print(writer, &text)
 }
 
+/// A picture of a session, once it was played again.
+fn draw_session<B: Allocator, R: Read, W: Write>(
+    heap: Global,
+    alloc: &B,
+    reader: &mut R,
+    writer: &mut W,
+    limits: Limits,
+    form: Form,
+    why: Option<u64>,
+) -> Result<(), Fault>
+    ensures ends { EndsAt (subcommands.Draw why) form limits (R.remaining reader.old) result (W.contents writer.old) (W.contents writer.new) }
+    ensures read { OnOk result (IsAtEnd (R.remaining reader.new)) }
+    ensures unwritten { IfErr result (λ fault. KeepsBefore fault (W.contents writer.old) (W.contents writer.new)) }
+    ensures memory { IfErr result TellsMemory }
+{
+    let bench = read_session(heap, alloc, reader)?;
+    let Ok(text) = draw(alloc, &bench, why) else {
+        return Err(Fault::OutOfMemory);
+    };
+    print(writer, &text)
+}
+
 /// Reads the whole input, plays it as was chosen, and then prints; nothing is written before the whole text stands. Limits
 /// are those of a script's bench; a session has its own. JSON takes its memory from `heap`, and all else from `alloc`.
 pub fn answer<B: Allocator + Sync, T: Threads + Wait + Sync, R: Read, W: Write>(
@@ -176,5 +199,8 @@ pub fn answer<B: Allocator + Sync, T: Threads + Wait + Sync, R: Read, W: Write>(
         (Subcommand::Race, Form::Session) => race_session(rt, heap, alloc, reader, writer, limits),
         (Subcommand::Load, Form::Report) => load_report(heap, alloc, reader, writer, limits),
         (Subcommand::Load, Form::Session) => load_session(heap, alloc, reader, writer, limits),
+        (Subcommand::Draw { why }, form) => draw_session(
+            heap, alloc, reader, writer, limits, form, why,
+        ),
     }
 }

@@ -24,7 +24,7 @@ const SESSION: &str = "{\"acts\":[[0,[\"do\",\"join\",1,\"r\",\"alice\",\"phone\
 [0,[\"undo\",1],[\"undone\",1]]],\"limits\":[100000,10000,1000000,10000],\"nodes\":[\"a\",\"b\"],\"version\":2}\n";
 
 /// The words that choose something, and what they choose.
-const CHOSEN: [(&[&str], Subcommand, Form); 8] = [
+const CHOSEN: [(&[&str], Subcommand, Form); 10] = [
     (&["play"], Subcommand::Play, Form::Report),
     (&["play", "--as", "report"], Subcommand::Play, Form::Report),
     (&["play", "--as=session"], Subcommand::Play, Form::Session),
@@ -41,6 +41,12 @@ const CHOSEN: [(&[&str], Subcommand, Form); 8] = [
         Subcommand::Load,
         Form::Session,
     ),
+    (&["draw"], Subcommand::Draw { why: None }, Form::Report),
+    (
+        &["draw", "--why", "12"],
+        Subcommand::Draw { why: Some(12) },
+        Form::Report,
+    ),
 ];
 
 #[test]
@@ -55,6 +61,11 @@ fn words_choose_a_subcommand_and_a_form(rt: HostRuntime) {
         (["jump"].as_slice(), ErrorKind::InvalidSubcommand),
         (["play", "--as", "x"].as_slice(), ErrorKind::InvalidValue),
         (["load", "--as"].as_slice(), ErrorKind::InvalidValue),
+        (["draw", "--why", "x"].as_slice(), ErrorKind::InvalidValue),
+        (
+            ["draw", "--as", "session"].as_slice(),
+            ErrorKind::UnknownArgument,
+        ),
         (["play", "x"].as_slice(), ErrorKind::UnknownArgument),
         (["--as", "report"].as_slice(), ErrorKind::UnknownArgument),
         (["--help"].as_slice(), ErrorKind::DisplayHelp),
@@ -93,14 +104,35 @@ const LOADED: Case = Case {
     ..PLAYED
 };
 
+/// A node that did nothing, drawn.
+const DRAWN: Case = Case {
+    words: &["draw"],
+    script: "{\"acts\":[],\"limits\":[10,10,10,10],\"nodes\":[\"a\"],\"version\":2}",
+    printed: concat!(
+        r#"<svg xmlns="http://www.w3.org/2000/svg" width="300" height="100">"#,
+        r#"<style>text{font:13px monospace;text-anchor:middle;stroke:white;stroke-width:4px;paint-order:stroke}"#,
+        r#"circle{fill:white;stroke:black;stroke-width:2px}line{stroke:black;stroke-width:1.5px;marker-end:url(#head)}"#,
+        r#".lane{stroke:#888;stroke-width:1px;marker-end:none}.name{text-anchor:end;font-weight:bold}"#,
+        r#".future text{font-weight:bold}.ring{fill:none}line.future{stroke-width:4px}"#,
+        r#".undone{opacity:.45;stroke-dasharray:4 3}.undone path{stroke:black;stroke-width:2px;stroke-dasharray:none}</style>"#,
+        r#"<marker id="head" viewBox="0 0 10 10" refX="16" refY="5" markerWidth="14" markerHeight="14" "#,
+        r#"markerUnits="userSpaceOnUse" orient="auto"><path d="M0 1L10 5L0 9z"></path></marker>"#,
+        r#"<rect width="100%" height="100%" fill="white"></rect><g transform="translate(180 60)">"#,
+        r#"<line class="lane" x1="-20" y1="000" x2="100%" y2="000"></line>"#,
+        r#"<text class="name" x="-30" y="000" dy="5">a</text></g></svg>"#
+    ),
+    ..PLAYED
+};
+
 /// A race of one actor, whose order is given.
 const RACED: Case = Case {
     words: &["race"],
     ..PLAYED
 };
 
-const CASES: [Case; 14] = [
+const CASES: [Case; 15] = [
     PLAYED,
+    DRAWN,
     Case {
         words: &["play", "--as", "session"],
         printed: SESSION,
