@@ -30,7 +30,7 @@ pub fn answer<'a, B: Allocator>(
                 heap,
                 alloc,
                 &mut answer,
-                prompt.bench(),
+                prompt,
                 help,
                 number,
                 line,

@@ -1,10 +1,9 @@
 //! The answers to lines that are none of a script.
-ghost use Rattle.std.specs.Prelude.{◌≡◌, ◌++◌, OnOk, option_copied};
+ghost use Rattle.std.specs.Prelude.{◌≡◌, ◌++◌, OnOk};
 ghost use Rattle.prompt_core.specs.Answers.{fault_line, kind_name, own_answer, saved};
 
-use bench_core::Bench;
 use payload_core::Oom;
-use script_core::FaultKind;
+use script_core::{FaultKind, Prompt};
 use session_core::save;
 use std::alloc::{Allocator, Global};
 
@@ -52,12 +51,12 @@ fn put_saved<'a, B: Allocator>(
     heap: Global,
     alloc: &'a B,
     answer: &mut Vec<u8, &'a B>,
-    bench: Option<&Bench<'a, B>>,
+    prompt: &Prompt<'a, B>,
     number: u64,
 ) -> Result<(), Oom>
-    ensures { OnOk result (answer.new.items ≡ answer.old.items ++ saved number (option_copied bench)) }
+    ensures { OnOk result (answer.new.items ≡ answer.old.items ++ saved number prompt.now.machine) }
 {
-    let Some(bench) = bench else {
+    let Some(bench) = prompt.bench() else {
         return put_fault(alloc, answer, number, FaultKind::NoNodes);
     };
     let session = save(heap, bench)?;
@@ -71,19 +70,19 @@ pub fn put_own<'a, B: Allocator>(
     heap: Global,
     alloc: &'a B,
     answer: &mut Vec<u8, &'a B>,
-    bench: Option<&Bench<'a, B>>,
+    prompt: &Prompt<'a, B>,
     help: &str,
     number: u64,
     line: &[u8],
     kind: FaultKind,
 ) -> Result<(), Oom>
-    ensures { OnOk result (answer.new.items ≡ answer.old.items ++ own_answer help.now (option_copied bench) number line.now kind) }
+    ensures { OnOk result (answer.new.items ≡ answer.old.items ++ own_answer help.now prompt.now.machine number line.now kind) }
 {
-    if line == b":help" {
+    if line == b":help".as_slice() {
         return put_text(answer, help);
     }
-    if line == b":save" {
-        return put_saved(heap, alloc, answer, bench, number);
+    if line == b":save".as_slice() {
+        return put_saved(heap, alloc, answer, prompt, number);
     }
     put_fault(alloc, answer, number, kind)
 }
