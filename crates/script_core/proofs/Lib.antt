@@ -14,3 +14,4 @@ pub mod ReadNumbers
 pub mod ReadNames
 pub mod Visible
 pub mod ReadLines
+pub mod Prompted

@@ -14,3 +14,4 @@ pub mod Dots
 pub mod Report
 pub mod Play
 pub mod ReadSteps
+pub mod Prompts

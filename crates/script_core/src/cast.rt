@@ -1,5 +1,5 @@
 //! `Cast`: who may act.
-ghost use Rattle.std.specs.Prelude.{◌≡◌, ◌+◌, ◌≤◌, [], length, map, IfOk};
+ghost use Rattle.std.specs.Prelude.{◌≡◌, ◌+◌, ◌≤◌, [], length, map, IfErr, IfOk};
 ghost use Rattle.script_core.specs.Answers.{Gives};
 ghost use Rattle.script_core.specs.Casts.{actor_in};
 ghost use Rattle.script_core.specs.Grammar.{unreserved, node_names, opening, with_console, with_each, with_consoles};
@@ -142,13 +142,15 @@ fn add_each<A: Allocator + Copy>(
     Ok(())
 }
 
-/// `consoles NAME ..`
+/// `consoles NAME ..`, of which a fault adds none.
 #[tactic(auto, unfolding(crate::specs::Grammar::with_consoles))]
 pub fn add_consoles<A: Allocator + Copy>(
+    alloc: A,
     cast: &mut Cast<A>,
     names: &[&str],
 ) -> Result<(), FaultKind>
-    ensures { Gives (λ _. cast.new) result (with_consoles cast.old (map (λ name. name.now) names.now)) }
+    ensures gives { Gives (λ _. cast.new) result (with_consoles cast.old (map (λ name. name.now) names.now)) }
+    ensures kept { IfErr result (λ _. cast.new ≡ cast.old) }
 {
     if cast.consoles.len() != 0 {
         return Err(FaultKind::Twice);
@@ -156,5 +158,8 @@ pub fn add_consoles<A: Allocator + Copy>(
     if names.is_empty() || names.len() > 16 {
         return Err(FaultKind::WrongCount);
     }
-    add_each(&cast.nodes, &mut cast.consoles, names)
+    let mut consoles = TextSet::new(alloc);
+    add_each(&cast.nodes, &mut consoles, names)?;
+    cast.consoles = consoles;
+    Ok(())
 }

@@ -6,8 +6,9 @@
 //! make a `script` of it, or a `fault`; `run` plays it on a bench, `acting` and `unwinding` being what changes one, and puts
 //! the report together from `step_diff` (what a step changed), `moved` (what undos in turn changed), `shown` (what a bench
 //! shows), `rows`, `step_text` and `dots_text` (what is printed of it); `history` does the same for recorded acts; `playing`
-//! goes from a reader to a writer. `laws` says that what is printed of a step is read as that step. `fakes` are a reader and a
-//! writer that fail, for the tests of this crate and of those above.
+//! goes from a reader to a writer; `prompt` takes lines one by one. `laws` says that what is printed of a step is read as that
+//! step, and that a prompt prints what a play prints. `fakes` are a reader and a writer that fail, for the tests of this crate
+//! and of those above.
 #![tactic(auto)]
 
 mod acting;
@@ -22,6 +23,7 @@ pub mod laws;
 mod moved;
 mod parse;
 mod playing;
+mod prompt;
 mod rows;
 mod run;
 mod script;
@@ -40,6 +42,7 @@ pub use fault::{FaultKind, InputFault, PlayFault, ScriptFault, WriteFault};
 pub use history::report_history;
 pub use parse::parse_script;
 pub use playing::play;
+pub use prompt::Prompt;
 pub use rows::name_at;
 pub use run::{Played, run_script, show};
 pub use script::{Line, Script, actors, acts, console_names, line_number, node_names};

@@ -1,5 +1,5 @@
 //! A script from its bytes, or its first fault.
-ghost use Rattle.std.specs.Prelude.{◌≡◌, map, IsTrue};
+ghost use Rattle.std.specs.Prelude.{◌≡◌, map, IfErr, IsTrue};
 ghost use Rattle.std.specs.List.{list_all};
 ghost use Rattle.script_core.specs.Answers.{Gives, GivesScript};
 ghost use Rattle.script_core.specs.Grammar.{with_words, with_line, script_of};
@@ -22,9 +22,9 @@ const LONGEST_LINE: usize = 4096;
 
 /// What has been read so far.
 #[derive(Drop)]
-struct Reading<A: Allocator> {
-    cast: Option<Cast<A>>,
-    lines: Vec<Line<A>, A>,
+pub struct Reading<A: Allocator> {
+    pub cast: Option<Cast<A>>,
+    pub lines: Vec<Line<A>, A>,
 }
 
 #[tactic(auto, unfolding(crate::specs::Grammar::with_words, crate::specs::Grammar::with_words_by))]
@@ -35,7 +35,8 @@ fn read_words<A: Allocator + Copy>(
     words: &[&str],
 ) -> Result<(), FaultKind>
     requires { IsTrue (list_all is_visible (map (λ word. word.now) words.now)) }
-    ensures { Gives (λ _. reading_view reading.new) result (with_words (reading_view reading.old) number (map (λ word. word.now) words.now)) }
+    ensures gives { Gives (λ _. reading_view reading.new) result (with_words (reading_view reading.old) number (map (λ word. word.now) words.now)) }
+    ensures kept { IfErr result (λ _. reading_view reading.new ≡ reading_view reading.old) }
 {
     let [first, rest @ ..] = words else {
         return Ok(());
@@ -48,21 +49,23 @@ fn read_words<A: Allocator + Copy>(
         return Ok(());
     };
     if *first == "consoles" {
-        return add_consoles(cast, rest);
+        return add_consoles(alloc, cast, rest);
     }
     let command = command_of(alloc, cast, first, rest)?;
     reading.lines.push(Line { number, command })?;
     Ok(())
 }
 
+/// A line, whose fault changes nothing.
 #[tactic(auto, unfolding(crate::specs::Grammar::with_line))]
-fn read_line<A: Allocator + Copy>(
+pub fn read_line<A: Allocator + Copy>(
     alloc: A,
     reading: &mut Reading<A>,
     number: u64,
     line: &[u8],
 ) -> Result<(), FaultKind>
-    ensures { Gives (λ _. reading_view reading.new) result (with_line (reading_view reading.old) number line.now) }
+    ensures gives { Gives (λ _. reading_view reading.new) result (with_line (reading_view reading.old) number line.now) }
+    ensures kept { IfErr result (λ _. reading_view reading.new ≡ reading_view reading.old) }
 {
     if line.len() > LONGEST_LINE {
         return Err(FaultKind::TooLong);

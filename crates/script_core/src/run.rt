@@ -53,7 +53,7 @@ fn command<'a, B: Allocator>(
 
 /// What the lines do, and print.
 #[tactic(auto, unfolding(crate::specs::Report::commands_text, crate::specs::Report::after_commands))]
-fn lines<'a, B: Allocator>(
+pub fn lines<'a, B: Allocator>(
     alloc: &'a B,
     text: &mut String<&'a B>,
     bench: &mut Bench<'a, B>,

@@ -9,6 +9,8 @@ mod fault_tests;
 #[cfg(test)]
 mod memory_tests;
 #[cfg(test)]
+mod prompt_tests;
+#[cfg(test)]
 mod stream_tests;
 #[cfg(test)]
 mod tests;

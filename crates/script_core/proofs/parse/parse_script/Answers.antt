@@ -11,7 +11,7 @@ pub returns-in-Err : goal.returns-in-Err
 returns-in-Err g c ne =
     let lasting : c.in-Err.kind ≢ OutOfMemory = λ e. ne (c.at.ensures.memory e) in
     let rest = with_lines_fault (reading_view c.loop-index.reading) (c.loop-index.index + 1) c.deref-line-items.result.now
-    c.loop-index.index _ c.in-Err.kind c.loop-index-test.true (c.in-Err.ensures lasting) in
+    c.loop-index.index _ c.in-Err.kind c.loop-index-test.true (c.in-Err.ensures.gives lasting) in
     let whole : with_lines (record { cast = None; lines = [] }) 1 (lines_of c.args.bytes.now) ≡
     Err (record { line = c.loop-index.index + 1; kind = c.in-Err.kind }) = sym c.loop-index.invariant ∙ rest in
     script_of-fault c.args.bytes.now _ c.if-bytes-gt-LONGEST_SCRIPT.false whole ∙ ap Err (sym (c.at.ensures.other lasting))
