@@ -1,9 +1,10 @@
-//! Plays each script of `examples/` and compares what it prints with the report that stands beside it, byte for byte; given a
-//! file, prints the report of the script in it.
+//! Plays each script of `examples/`, or tells what all orders of its lines lead to, and compares that with the report which
+//! stands beside it, byte for byte; given a file, prints the report of the script in it.
 #![tactic(auto)]
 
 use bench_core::Limits;
-use script_core::{FakeReader, FakeWriter, play};
+use explore_report::report_orders;
+use script_core::{FakeReader, FakeWriter, parse_script, play};
 use std::process::ExitCode;
 use std::{env, fs, io};
 
@@ -17,6 +18,9 @@ const EXAMPLES: [&str; 8] = [
     "undo-held",
     "unwind",
 ];
+
+/// Those whose report is of all orders of their lines.
+const EXPLORED: [&str; 1] = ["too-early"];
 
 /// The bytes of an example's file with this ending.
 fn file(rt: &HostRuntime, example: &str, ending: &str) -> io::Result<Vec<u8>> {
@@ -34,15 +38,39 @@ fn is_as_reported(rt: &HostRuntime, example: &str) -> io::Result<bool> {
     Ok(answer.is_ok() && writer.taken() == report.as_slice())
 }
 
+/// Whether the orders of the example's lines are told as in its report.
+fn is_as_explored(rt: &HostRuntime, example: &str) -> io::Result<bool> {
+    let script = file(rt, example, "script")?;
+    let report = file(rt, example, "report")?;
+    let alloc = rt.alloc();
+    let Ok(script) = parse_script(&alloc, &script) else {
+        return Ok(false);
+    };
+    match report_orders(&alloc, &script, Limits::usual(), 100_000) {
+        Ok(text) => Ok(text.as_slice() == report.as_slice()),
+        Err(_) => Ok(false),
+    }
+}
+
+/// Whether it could be told whether the example is as reported.
+fn tells(rt: &HostRuntime, example: &str, as_reported: io::Result<bool>) -> bool {
+    let told = match as_reported {
+        Ok(true) => "as reported",
+        Ok(false) => "not as reported",
+        Err(_) => "not read",
+    };
+    println!(rt; "{example}: {told}").is_ok()
+}
+
 /// Whether each example could be told of.
 fn tells_each(rt: &HostRuntime) -> bool {
     for example in EXAMPLES {
-        let told = match is_as_reported(rt, example) {
-            Ok(true) => "as reported",
-            Ok(false) => "not as reported",
-            Err(_) => "not read",
-        };
-        if println!(rt; "{example}: {told}").is_err() {
+        if !tells(rt, example, is_as_reported(rt, example)) {
+            return false;
+        }
+    }
+    for example in EXPLORED {
+        if !tells(rt, example, is_as_explored(rt, example)) {
             return false;
         }
     }

@@ -11,10 +11,12 @@ use Rattle.script_core.specs.Scripts.{Script}
 use Rattle.script_core.specs.declared.fault.FaultKind.TheVariants.{TooLong}
 use Rattle.presence_bench.specs.declared.chosen.Form.{Form}
 use Rattle.presence_bench.specs.declared.chosen.Subcommand.{Subcommand}
-use Rattle.presence_bench.specs.declared.chosen.Subcommand.TheVariants.{Play, Race, Load, Draw}
+use Rattle.presence_bench.specs.declared.chosen.Subcommand.TheVariants.{Play, Race, Load, Explore, Draw}
 use Rattle.presence_bench.specs.declared.fault.Fault.{Fault}
 use Rattle.presence_bench.specs.declared.fault.Fault.TheVariants as faults
 use Rattle.script_core.specs.declared.fault.ScriptFault.{ScriptFault}
+use Rattle.explore_report.specs.Reports.{IsReport}
+use Rattle.presence_bench.specs.Explored.{RefusesReportOf}
 use Rattle.presence_bench.specs.Races.{IsRaceOf, RefusesRaceOf}
 use Rattle.presence_bench.specs.Program.{IsCause, IsCauseOf, IsUnwritten, IsCauseAt, IsScriptAt, IsSessionAt, Prints, drawn, Ends, EndsAt, EndsAsText, KeepsBefore, TellsMemory, shown}
 
@@ -38,6 +40,7 @@ module _ (form : Form) (limits : Limits) (text : List ℕ) (old new : Option (Li
   ends command input (Err (faults.Session fault)) p e = elim e [ ]
   ends command input (Err faults.LongSession) p e = elim e [ ]
   ends command input (Err (faults.Race fault)) p e = elim e [ ]
+  ends command input (Err (faults.TooManyStates most)) p e = elim e [ ]
   ends command input (Err faults.ReadFault) p e = elim e [ ]
   ends command input (Err faults.OutOfMemory) p e = elim e [ ]
 
@@ -65,6 +68,13 @@ module _ (form : Form) (limits : Limits) (text : List ℕ) (old new : Option (Li
       λ o. IsOkAnd o (λ s. (m : Machine) × IsRaceOf limits s m × (text ≡ shown form (history_text m) m)) in
       ends Race input r (subst P (sym k) (m, raced, is)) e
 
+  pub ends_explore : (known : Option (List ℕ)) (s : Script) (r : Result (Unit {0}) Fault) → IsScriptAt known s → IsReport limits s text →
+      EndsAsText text r old new → EndsAt Explore form limits known r old new
+  ends_explore None s r k told e = tt
+  ends_explore (Some input) s r k told e =
+      let P : Result Script ScriptFault → Type 0 = λ o. IsOkAnd o (λ s. IsReport limits s text) in
+      ends Explore input r (subst P (sym k) told) e
+
   -- a text that goes out meets no fault but that of a write
   pub keeps_before : (r : Result (Unit {0}) Fault) → EndsAsText text r old new → IfErr r (λ fault. KeepsBefore fault old new)
   keeps_before (Ok u) e = tt
@@ -73,6 +83,7 @@ module _ (form : Form) (limits : Limits) (text : List ℕ) (old new : Option (Li
   keeps_before (Err (faults.Session fault)) e = elim e [ ]
   keeps_before (Err faults.LongSession) e = elim e [ ]
   keeps_before (Err (faults.Race fault)) e = elim e [ ]
+  keeps_before (Err (faults.TooManyStates most)) e = elim e [ ]
   keeps_before (Err faults.ReadFault) e = elim e [ ]
   keeps_before (Err faults.OutOfMemory) e = elim e [ ]
 
@@ -83,29 +94,38 @@ module _ (form : Form) (limits : Limits) (text : List ℕ) (old new : Option (Li
   tells_memory (Err (faults.Session fault)) e = elim e [ ]
   tells_memory (Err faults.LongSession) e = elim e [ ]
   tells_memory (Err (faults.Race fault)) e = elim e [ ]
+  tells_memory (Err (faults.TooManyStates most)) e = elim e [ ]
   tells_memory (Err faults.ReadFault) e = elim e [ ]
   tells_memory (Err faults.OutOfMemory) e = elim e [ ]
 
--- a race that is refused before the writing
+-- what is refused before the writing
 module _ (form : Form) (limits : Limits) (old new : Option (List ℕ)) where
-  ends_unwritten : (input : List ℕ) (fault : Fault) → IsCauseOf Race limits input fault → IsUnwritten fault → Keeps old new →
-      Ends Race form limits input (Err fault) old new
-  ends_unwritten input (faults.WriteFault written) c u k = absurd u
-  ends_unwritten input (faults.Script fault) c u k = (c, k)
-  ends_unwritten input (faults.Session fault) c u k = (c, k)
-  ends_unwritten input faults.LongSession c u k = (c, k)
-  ends_unwritten input (faults.Race fault) c u k = (c, k)
-  ends_unwritten input faults.ReadFault c u k = (c, k)
-  ends_unwritten input faults.OutOfMemory c u k = (c, k)
+  ends_unwritten : (command : Subcommand) (input : List ℕ) (fault : Fault) → IsCauseOf command limits input fault → IsUnwritten fault →
+      Keeps old new → Ends command form limits input (Err fault) old new
+  ends_unwritten command input (faults.WriteFault written) c u k = absurd u
+  ends_unwritten command input (faults.Script fault) c u k = (c, k)
+  ends_unwritten command input (faults.Session fault) c u k = (c, k)
+  ends_unwritten command input faults.LongSession c u k = (c, k)
+  ends_unwritten command input (faults.Race fault) c u k = (c, k)
+  ends_unwritten command input (faults.TooManyStates most) c u k = (c, k)
+  ends_unwritten command input faults.ReadFault c u k = (c, k)
+  ends_unwritten command input faults.OutOfMemory c u k = (c, k)
 
   pub ends_unread : (known : Option (List ℕ)) (fault : Fault) → IsCauseAt known fault → IsUnwritten fault → Keeps old new →
       EndsAt Race form limits known (Err fault) old new
   ends_unread None fault c u k = tt
-  ends_unread (Some input) fault c u k = ends_unwritten input fault (inl c) u k
+  ends_unread (Some input) fault c u k = ends_unwritten Race input fault (inl c) u k
 
   pub ends_unraced : (known : Option (List ℕ)) (s : Script) (fault : Fault) → IsScriptAt known s → RefusesRaceOf limits s fault →
       IsUnwritten fault → Keeps old new → EndsAt Race form limits known (Err fault) old new
   ends_unraced None s fault at c u k = tt
   ends_unraced (Some input) s fault at c u k =
       let P : Result Script ScriptFault → Type 0 = λ o. IsOkAnd o (λ s. RefusesRaceOf limits s fault) in
-      ends_unwritten input fault (inr (subst P (sym at) c)) u k
+      ends_unwritten command input fault (inr (subst P (sym at) c)) u k
+
+  pub ends_unexplored : (known : Option (List ℕ)) (s : Script) (fault : Fault) → IsScriptAt known s → RefusesReportOf limits s fault →
+      IsUnwritten fault → Keeps old new → EndsAt Explore form limits known (Err fault) old new
+  ends_unexplored None s fault at c u k = tt
+  ends_unexplored (Some input) s fault at c u k =
+      let P : Result Script ScriptFault → Type 0 = λ o. IsOkAnd o (λ s. RefusesReportOf limits s fault) in
+      ends_unwritten Explore input fault (inr (subst P (sym at) c)) u k

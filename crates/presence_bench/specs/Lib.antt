@@ -1,3 +1,4 @@
 pub mod Line
 pub mod Races
+pub mod Explored
 pub mod Program

@@ -18,12 +18,14 @@ use Rattle.session_core.specs.declared.session_fault.SessionFault.TheVariants as
 use Rattle.svg_core.specs.Trees.{text_of}
 use Rattle.worker_core.specs.declared.race_fault.RaceFault.{RaceFault}
 use Rattle.worker_core.specs.declared.race_fault.RaceFault.TheVariants as races
+use Rattle.explore_report.specs.Reports.{IsReport}
+use Rattle.presence_bench.specs.Explored.{RefusesReportOf}
 use Rattle.presence_bench.specs.Races.{IsRaceOf, RefusesRaceOf}
 use Rattle.presence_bench.specs.declared.chosen.Choice.{Choice}
 use Rattle.presence_bench.specs.declared.chosen.Form.{Form}
 use Rattle.presence_bench.specs.declared.chosen.Form.TheVariants.{Report, Session}
 use Rattle.presence_bench.specs.declared.chosen.Subcommand.{Subcommand}
-use Rattle.presence_bench.specs.declared.chosen.Subcommand.TheVariants.{Play, Race, Load, Draw}
+use Rattle.presence_bench.specs.declared.chosen.Subcommand.TheVariants.{Play, Race, Load, Explore, Draw}
 use Rattle.presence_bench.specs.declared.fault.Fault.{Fault}
 use Rattle.presence_bench.specs.declared.fault.Fault.TheVariants as faults
 
@@ -36,6 +38,7 @@ fault_status (faults.Race races.NoRoom) = 1
 fault_status (faults.Race races.WorkerRefused) = 5
 fault_status (faults.Race races.OutOfMemory) = 4
 fault_status (faults.Race races.LogsDisagree) = 5
+fault_status (faults.TooManyStates most) = 1
 fault_status faults.ReadFault = 3
 fault_status (faults.WriteFault written) = 3
 fault_status faults.OutOfMemory = 4
@@ -75,13 +78,16 @@ IsCause input (faults.Script fault) = script_of input ≡ Err fault
 IsCause input (faults.Session fault) = Refuses input fault
 IsCause input faults.LongSession = 67108864 < length input
 IsCause input (faults.Race fault) = ⊥
+IsCause input (faults.TooManyStates most) = ⊥
 IsCause input _ = ⊤
 
--- what refuses the input of this command: of a race also that a line is no act line, or that the race can't be had
+-- what refuses the input of this command: of a race also that a line is no act line, or that the race can't be had; of all orders
+-- that a line is no act line, or that there are too many states
 abbrev pub IsCauseOf : Subcommand → Limits → List ℕ → Fault → Type 0
 IsCauseOf Race limits input fault = IsCause input fault ⊎ IsOkAnd (script_of input) (λ s. RefusesRaceOf limits s fault)
 IsCauseOf Play limits input fault = IsCause input fault
 IsCauseOf Load limits input fault = IsCause input fault
+IsCauseOf Explore limits input fault = IsCause input fault ⊎ IsOkAnd (script_of input) (λ s. RefusesReportOf limits s fault)
 IsCauseOf (Draw why) limits input fault = IsCause input fault
 
 abbrev pub IsCauseAt : Option (List ℕ) → Fault → Type 0
@@ -97,11 +103,12 @@ shown Session report bench = session_text bench
 abbrev pub drawn : Option ℕ → Machine → List ℕ
 drawn why bench = text_of (picture bench (painted_of bench.state why))
 
--- the text is what the subcommand prints of the input: of a script's bench, or of a session's
+-- the text is what the subcommand prints of the input: of a script's bench, of a session's, or of all orders of a script's lines
 abbrev pub Prints : Subcommand → Form → Limits → List ℕ → List ℕ → Type 0
 Prints Play form limits input text = IsOkAnd (script_of input) (λ s. text ≡ shown form (report_of limits s) (played limits s))
 Prints Race form limits input text = IsOkAnd (script_of input) (λ s. (m : Machine) × IsRaceOf limits s m × (text ≡ shown form (history_text m) m))
 Prints Load form limits input text = (m : Machine) × IsSession input m × (text ≡ shown form (history_text m) m)
+Prints Explore form limits input text = IsOkAnd (script_of input) (λ s. IsReport limits s text)
 Prints (Draw why) form limits input text = (m : Machine) × IsSession input m × (text ≡ drawn why m)
 
 -- all of the text went out, or, where the writing failed, its first `written` bytes

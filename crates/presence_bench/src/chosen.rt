@@ -9,6 +9,8 @@ pub enum Subcommand {
     Race,
     /// Plays a saved session again.
     Load,
+    /// Asks the act lines of a script in every order.
+    Explore,
     /// Draws a saved session, with the future of the step of this number painted.
     Draw { why: Option<u64> },
 }

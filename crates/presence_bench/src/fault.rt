@@ -22,6 +22,9 @@ pub enum Fault {
     /// Why a race can't be vouched for. Want of memory is never in it.
     #[error("race: {0}")]
     Race(RaceFault),
+    /// More different states than so many would be kept of all orders.
+    #[error("explore: TooManyStates, more than {most}")]
+    TooManyStates { most: usize },
     /// A read failed.
     #[error("read fault")]
     ReadFault,
@@ -41,6 +44,7 @@ impl Fault {
         match self {
             Fault::Script(_) | Fault::Session(_) | Fault::LongSession => 1,
             Fault::Race(RaceFault::UnknownActor | RaceFault::NoRoom) => 1,
+            Fault::TooManyStates { .. } => 1,
             Fault::ReadFault | Fault::WriteFault { .. } => 3,
             Fault::Race(RaceFault::OutOfMemory) | Fault::OutOfMemory => 4,
             Fault::Race(RaceFault::WorkerRefused | RaceFault::LogsDisagree) => 5,

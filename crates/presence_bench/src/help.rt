@@ -12,12 +12,15 @@ pub const RACE: &str =
 
 pub const LOAD: &str = "Plays the session on standard input again, and compares every reply";
 
+pub const EXPLORE: &str =
+    "Tells what the act lines of the script on standard input lead to, in every order of its actors";
+
 pub const DRAW: &str =
     "Draws the session on standard input: what each node did, what was sent, and what was undone";
 
 pub const WHY: &str = "The number of a step, to paint it and all that follows from it";
 
-pub const FORM: &str = "What to print: report (as without it), or session, which load takes";
+pub const FORM: &str = "What to print: report (as without it), or session, which load takes; of explore the report alone";
 
 /// The whole script language, in one screen.
 pub const LANGUAGE: &str = "\

@@ -5,7 +5,7 @@ ghost use Rattle.clap.specs.declared.Command.TheViews.{out-Command as fields_of}
 ghost use Rattle.presence_bench.specs.Line.{app, as_rule, draw_app, why_rule, name_of, IsForm, IsWhy, Chooses, Paints};
 
 use crate::chosen::{Choice, Form, Subcommand};
-use crate::help::{DRAW, FORM, LANGUAGE, LOAD, PLAY, PURPOSE, RACE, VERSION, WHY};
+use crate::help::{DRAW, EXPLORE, FORM, LANGUAGE, LOAD, PLAY, PURPOSE, RACE, VERSION, WHY};
 use clap::error::ErrorKind;
 use clap::{Arg, ArgMatches, Command, Error};
 use std::alloc::{AllocError, Global};
@@ -63,6 +63,7 @@ fn line<'a>(alloc: Global) -> Result<Command<'a>, AllocError>
     let play = subcommand_line(alloc, "play", PLAY)?;
     let race = subcommand_line(alloc, "race", RACE)?;
     let load = subcommand_line(alloc, "load", LOAD)?;
+    let explore = subcommand_line(alloc, "explore", EXPLORE)?;
     let draw = draw_line(alloc)?;
     Command::new(alloc, "presence_bench")
         .about(PURPOSE)
@@ -73,6 +74,7 @@ fn line<'a>(alloc: Global) -> Result<Command<'a>, AllocError>
         .subcommand(play)?
         .subcommand(race)?
         .subcommand(load)?
+        .subcommand(explore)?
         .subcommand(draw)
 }
 
@@ -85,6 +87,7 @@ fn command_of(name: &str, why: Option<u64>) -> Option<Subcommand>
         "play" => Some(Subcommand::Play),
         "race" => Some(Subcommand::Race),
         "load" => Some(Subcommand::Load),
+        "explore" => Some(Subcommand::Explore),
         "draw" => Some(Subcommand::Draw { why }),
         _ => None,
     }
@@ -132,5 +135,8 @@ pub fn choice<'a, S: AsStr>(alloc: Global, words: &'a [S]) -> Result<Choice, Err
     let Some(form) = form_of(entered) else {
         return Err(line.error(ErrorKind::InvalidValue, "--as takes report or session")?);
     };
+    if command == Subcommand::Explore && form == Form::Session {
+        return Err(line.error(ErrorKind::InvalidValue, "explore prints a report alone")?);
+    }
     Ok(Choice { command, form })
 }

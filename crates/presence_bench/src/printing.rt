@@ -1,11 +1,13 @@
 //! What each choice of the command line prints of the input.
 ghost use Rattle.std.specs.Prelude.{IfErr, OnOk};
 ghost use Rattle.std.specs.Io.KnownBytes.{Appends, IsAtEnd};
+ghost use Rattle.presence_bench.specs.declared.chosen.Form.{Form};
 ghost use Rattle.presence_bench.specs.declared.chosen.Form.TheVariants as forms;
 ghost use Rattle.presence_bench.specs.declared.chosen.Subcommand.TheVariants as subcommands;
 ghost use Rattle.presence_bench.specs.Program.{EndsAt, EndsAsText, KeepsBefore, TellsMemory};
 
 use crate::chosen::{Choice, Form, Subcommand};
+use crate::exploring::explore_script;
 use crate::fault::Fault;
 use crate::racing::race_script;
 use crate::texts::{read_script, read_session, session_line};
@@ -154,6 +156,23 @@ fn load_session<B: Allocator, R: Read, W: Write>(
     print(writer, &text)
 }
 
+/// What all orders of a script's act lines lead to.
+fn explore_report<B: Allocator, R: Read, W: Write>(
+    alloc: &B,
+    reader: &mut R,
+    writer: &mut W,
+    limits: Limits,
+) -> Result<(), Fault>
+    ensures ends { (form : Form) → EndsAt subcommands.Explore form limits (R.remaining reader.old) result (W.contents writer.old) (W.contents writer.new) }
+    ensures read { OnOk result (IsAtEnd (R.remaining reader.new)) }
+    ensures unwritten { IfErr result (λ fault. KeepsBefore fault (W.contents writer.old) (W.contents writer.new)) }
+    ensures memory { IfErr result TellsMemory }
+{
+    let script = read_script(alloc, reader)?;
+    let text = explore_script(alloc, &script, limits)?;
+    print(writer, &text)
+}
+
 /// A picture of a session, once it was played again.
 fn draw_session<B: Allocator, R: Read, W: Write>(
     heap: Global,
@@ -199,6 +218,7 @@ pub fn answer<B: Allocator + Sync, T: Threads + Wait + Sync, R: Read, W: Write>(
         (Subcommand::Race, Form::Session) => race_session(rt, heap, alloc, reader, writer, limits),
         (Subcommand::Load, Form::Report) => load_report(heap, alloc, reader, writer, limits),
         (Subcommand::Load, Form::Session) => load_session(heap, alloc, reader, writer, limits),
+        (Subcommand::Explore, _) => explore_report(alloc, reader, writer, limits),
         (Subcommand::Draw { why }, form) => draw_session(
             heap, alloc, reader, writer, limits, form, why,
         ),

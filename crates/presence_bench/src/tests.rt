@@ -23,8 +23,23 @@ const REPORT: &str = "1 ok\n+ r alice a/1 phone\nundone 1\n- r alice a/1 phone\n
 const SESSION: &str = "{\"acts\":[[0,[\"do\",\"join\",1,\"r\",\"alice\",\"phone\"],[\"ok\",1]],\
 [0,[\"undo\",1],[\"undone\",1]]],\"limits\":[100000,10000,1000000,10000],\"nodes\":[\"a\",\"b\"],\"version\":2}\n";
 
+/// Orders of a join and its undo, and of a line that is refused whenever it comes, gone through by hand.
+const UNDONE: &str = "nodes a\nconsoles desk\na join 1 r alice phone\ndesk undo 1\n";
+
+const UNDONE_ORDERS: &str = "orders 2 states 5 outcomes 2 refusals 1\n\
+outcome 1 orders 1\nonline a 0\n  nodes a\n  consoles desk\n  a join 1 r alice phone\n  desk undo 1\n\
+outcome 2 orders 1\nonline a 1\n= r alice a/1 phone\n  nodes a\n  consoles desk\n  desk undo 1\n  a join 1 r alice phone\n\
+refused line 4 NoSuchStep\n  nodes a\n  consoles desk\n  desk undo 1\n";
+
+const UNTRACKED: &str = "nodes a b\n\na join 1 r alice phone\na leave 2 r bob\nb up a\n";
+
+const UNTRACKED_ORDERS: &str = "orders 3 states 6 outcomes 1 refusals 1\n\
+outcome 1 orders 3\nonline a 1\n= r alice a/1 phone\nonline b 0\n\
+  nodes a b\n  a join 1 r alice phone\n  a leave 2 r bob\n  b up a\n\
+refused line 4 NotTracked\n  nodes a b\n  a join 1 r alice phone\n  a leave 2 r bob\n";
+
 /// The words that choose something, and what they choose.
-const CHOSEN: [(&[&str], Subcommand, Form); 10] = [
+const CHOSEN: [(&[&str], Subcommand, Form); 12] = [
     (&["play"], Subcommand::Play, Form::Report),
     (&["play", "--as", "report"], Subcommand::Play, Form::Report),
     (&["play", "--as=session"], Subcommand::Play, Form::Session),
@@ -40,6 +55,12 @@ const CHOSEN: [(&[&str], Subcommand, Form); 10] = [
         &["load", "--as", "session"],
         Subcommand::Load,
         Form::Session,
+    ),
+    (&["explore"], Subcommand::Explore, Form::Report),
+    (
+        &["explore", "--as", "report"],
+        Subcommand::Explore,
+        Form::Report,
     ),
     (&["draw"], Subcommand::Draw { why: None }, Form::Report),
     (
@@ -65,6 +86,10 @@ fn words_choose_a_subcommand_and_a_form(rt: HostRuntime) {
         (
             ["draw", "--as", "session"].as_slice(),
             ErrorKind::UnknownArgument,
+        ),
+        (
+            ["explore", "--as", "session"].as_slice(),
+            ErrorKind::InvalidValue,
         ),
         (["play", "x"].as_slice(), ErrorKind::UnknownArgument),
         (["--as", "report"].as_slice(), ErrorKind::UnknownArgument),
@@ -130,7 +155,14 @@ const RACED: Case = Case {
     ..PLAYED
 };
 
-const CASES: [Case; 15] = [
+const EXPLORED: Case = Case {
+    words: &["explore"],
+    script: UNDONE,
+    printed: UNDONE_ORDERS,
+    ..PLAYED
+};
+
+const CASES: [Case; 18] = [
     PLAYED,
     DRAWN,
     Case {
@@ -201,6 +233,19 @@ const CASES: [Case; 15] = [
         printed: "",
         told: "presence_bench: line 2: UnknownWord\n",
         ..RACED
+    },
+    EXPLORED,
+    Case {
+        script: UNTRACKED,
+        printed: UNTRACKED_ORDERS,
+        ..EXPLORED
+    },
+    Case {
+        script: "nodes a\na join 1 r alice phone\nshow a\n",
+        status: 1,
+        printed: "",
+        told: "presence_bench: line 3: NotAllowed\n",
+        ..EXPLORED
     },
     Case {
         words: &["--version"],
@@ -310,13 +355,14 @@ fn refused_words_are_told_and_help_is_printed(rt: HostRuntime) {
 }
 
 /// Words, an input, and what is printed of it.
-const ANSWERED: [(&[&str], &str, &str); 6] = [
+const ANSWERED: [(&[&str], &str, &str); 7] = [
     (&["play"], JOINED, REPORT),
     (&["play", "--as", "session"], JOINED, SESSION),
     (&["race"], JOINED, REPORT),
     (&["race", "--as", "session"], JOINED, SESSION),
     (&["load"], SESSION, REPORT),
     (&["load", "--as", "session"], SESSION, SESSION),
+    (&["explore"], UNDONE, UNDONE_ORDERS),
 ];
 
 /// Runs the program with this request for memory refused: it prints all, or nothing and says so. Gives whether the request was
@@ -395,6 +441,16 @@ fn the_faults_of_a_race_have_their_status(rt: HostRuntime) {
         assert!(rt; write!(text, "{fault}").is_ok());
         assert!(rt; text.as_str() == line);
     }
+}
+
+/// The status and the line of too many states.
+#[test]
+fn too_many_states_have_their_status(rt: HostRuntime) {
+    let fault = Fault::TooManyStates { most: 100_000 };
+    assert_eq!(rt; fault.status(), 1);
+    let mut text = String::new(rt.alloc());
+    assert!(rt; write!(text, "{fault}").is_ok());
+    assert!(rt; text.as_str() == "explore: TooManyStates, more than 100000");
 }
 
 /// The words of the tests' own command line choose nothing.

@@ -1,0 +1,5 @@
+pub mod Calls
+pub mod Pieces
+pub mod Places
+pub mod Printed
+pub mod Reported

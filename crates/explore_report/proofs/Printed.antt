@@ -1,0 +1,74 @@
+-- What was printed so far.
+use Rattle.std.proofs.Common.{◌≡◌, ◌∙◌, ℕ, ◌+◌, ◌<◌, ◌≤◌, List, [], ◌∷◌, ◌++◌, drop, get_or, length, Option, Some, None, sym, ap, subst, refl, append_assoc, append-nil, add-one}
+use Rattle.std.proofs.lemmas.List.{at_drop_more, at_drop_all}
+use Rattle.std.proofs.lemmas.Grind.{flat_map-append}
+use Rattle.bench_core.specs.Acts.{Action}
+use Rattle.bench_core.specs.Machine.{Machine}
+use Rattle.script_core.specs.Casts.{Cast}
+use Rattle.script_core.specs.Rows.{online_text}
+use Rattle.script_core.specs.Shown.{rows_at}
+use Rattle.explore_core.specs.Orders.{Lists, Call, Position, next_line}
+use Rattle.explore_report.specs.Grouped.{call_from, position_after, calls_from}
+use Rattle.explore_report.specs.OrderText.{call_text, calls_text}
+use Rattle.explore_report.specs.ReportText.{online_below}
+
+-- the actor has no line left
+pub no_call : (cast : Cast) (actor : ℕ) (next : Option Action) (text : List ℕ) → None ≡ next → text ≡ text ++ calls_text cast (call_from actor next)
+unfolding calls_text
+no_call cast actor next text is =
+    sym (append-nil text) ∙ ap (λ (o : Option Action). text ++ calls_text cast (call_from actor o)) is
+
+-- it has this one
+pub one_call : (cast : Cast) (actor : ℕ) (act : Action) (next : Option Action) (old new : List ℕ) → Some act ≡ next →
+    new ≡ old ++ call_text cast (actor, act) → new ≡ old ++ calls_text cast (call_from actor next)
+unfolding calls_text
+one_call cast actor act next old new is put =
+    put ∙ ap (λ (t : List ℕ). old ++ t) (sym (append-nil (call_text cast (actor, act))))
+    ∙ ap (λ (o : Option Action). old ++ calls_text cast (call_from actor o)) is
+
+calls_both : (cast : Cast) (xs ys : List Call) → calls_text cast (xs ++ ys) ≡ calls_text cast xs ++ calls_text cast ys
+unfolding calls_text
+calls_both cast xs ys = flat_map-append (call_text cast) xs ys
+
+-- one call more of an order
+pub call_more : (cast : Cast) (lists : Lists) (old new : Position) (order : List ℕ) (i : ℕ) (whole now next : List ℕ) → i < length order →
+    now ++ calls_text cast (calls_from lists old (drop i order)) ≡ whole →
+    next ≡ now ++ calls_text cast (call_from (get_or order i 0) (next_line lists old (get_or order i 0))) →
+    new ≡ position_after old (get_or order i 0) (next_line lists old (get_or order i 0)) →
+    next ++ calls_text cast (calls_from lists new (drop (i + 1) order)) ≡ whole
+unfolding calls_from
+call_more cast lists old new order i whole now next within so_far more moves =
+    let actor = get_or order i 0 in
+    let here = call_from actor (next_line lists old actor) in
+    let later = position_after old actor (next_line lists old actor) in
+    let rest = calls_from lists later (drop (i + 1) order) in
+    let split : calls_from lists old (drop i order) ≡ here ++ rest = at_drop_more (calls_from lists old) order i 0 within in
+    let moved : calls_from lists new (drop (i + 1) order) ≡ rest = ap (λ (p : Position). calls_from lists p (drop (i + 1) order)) moves in
+    ap (λ (cs : List Call). next ++ calls_text cast cs) moved
+    ∙ ap (λ (t : List ℕ). t ++ calls_text cast rest) more
+    ∙ append_assoc now (calls_text cast here) (calls_text cast rest)
+    ∙ ap (λ (t : List ℕ). now ++ t) (sym (ap (calls_text cast) split ∙ calls_both cast here rest))
+    ∙ so_far
+
+-- no call is left
+pub calls_all : (cast : Cast) (lists : Lists) (position : Position) (order : List ℕ) (i : ℕ) (whole now : List ℕ) → length order ≤ i →
+    now ++ calls_text cast (calls_from lists position (drop i order)) ≡ whole → now ≡ whole
+unfolding calls_from calls_text
+calls_all cast lists position order i whole now past so_far =
+    let none : calls_text cast (calls_from lists position (drop i order)) ≡ [] =
+    at_drop_all (λ o. calls_text cast (calls_from lists position o)) order i past in
+    sym (append-nil now) ∙ ap (λ (t : List ℕ). now ++ t) (sym none) ∙ so_far
+
+-- no node's list yet
+pub online_none : (m : Machine) (text : List ℕ) → text ≡ text ++ online_below m 0
+unfolding online_below
+online_none m text = sym (append-nil text)
+
+-- one node's list more
+pub online_more : (m : Machine) (n : ℕ) (old now next : List ℕ) → now ≡ old ++ online_below m n →
+    next ≡ now ++ online_text m.names n (rows_at m n) → next ≡ old ++ online_below m (n + 1)
+unfolding online_below
+online_more m n old now next so_far more =
+    let grown : online_below m (n + 1) ≡ online_below m n ++ online_text m.names n (rows_at m n) = rw add-one refl in
+    more ∙ ap (λ (t : List ℕ). t ++ online_text m.names n (rows_at m n)) so_far
+    ∙ append_assoc old (online_below m n) (online_text m.names n (rows_at m n)) ∙ ap (λ (t : List ℕ). old ++ t) (sym grown)

@@ -1,0 +1,6 @@
+use Rattle.explore_core.specs.Orders.{start_of}
+use Rattle.explore_report.proofs.Calls.{calls_given}
+use Rattle.explore_report.proofs.laws.calls_law.Goals as goal
+
+pub returns : goal.returns
+returns c = λ lists calls to leads. calls_given lists calls (start_of lists) to leads

@@ -1,0 +1,5 @@
+pub mod Grouped
+pub mod OrderText
+pub mod Ranks
+pub mod ReportText
+pub mod Reports

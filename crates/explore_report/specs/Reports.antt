@@ -1,0 +1,50 @@
+-- What all orders of a script's lines lead to, told; and why it isn't.
+use Rattle.std.specs.Prelude.{◌≡◌, ◌≢◌, ℕ, List, [], length, Option, Ok, Err}
+use Rattle.std.specs.List.{AllByRecursion}
+use Rattle.bench_core.specs.Limits.{Limits}
+use Rattle.bench_core.specs.Machine.{opening_machine}
+use Rattle.script_core.specs.Grammar.{with_calls}
+use Rattle.script_core.specs.Scripts.{Script}
+use Rattle.script_core.specs.declared.fault.FaultKind.TheVariants as kinds
+use Rattle.explore_core.specs.Orders.{Call, orders_of}
+use Rattle.explore_core.specs.declared.explore_fault.ExploreFault.{ExploreFault}
+use Rattle.explore_core.specs.declared.explore_fault.ExploreFault.TheVariants as explores
+use Rattle.explore_core.specs.Explorations.{Outcome, Told, IsExplored}
+use Rattle.explore_core.specs.Counts.{IsCounted, told_number}
+use Rattle.explore_core.specs.Waypoints.{AreMore}
+use Rattle.explore_report.specs.Ranks.{IsRanked}
+use Rattle.explore_report.specs.ReportText.{lists_in, report_text}
+use Rattle.explore_report.specs.declared.report_fault.ReportFault.{ReportFault}
+use Rattle.explore_report.specs.declared.report_fault.ReportFault.TheVariants as faults
+
+-- the text tells what all orders of the script's act lines lead to, on a bench with these limits that was asked nothing
+pub record IsReport (limits : Limits) (s : Script) (text : List ℕ) : Type 0 where
+  pub calls : List Call
+  pub are_calls : with_calls [] s.lines ≡ Ok calls
+  pub outcomes : List Outcome
+  pub told : List Told
+  pub explored : IsExplored (lists_in s.cast calls) (opening_machine s.cast.nodes limits) outcomes told
+  pub counted : AllByRecursion (IsCounted (lists_in s.cast calls) (opening_machine s.cast.nodes limits)) outcomes
+  pub orders : Option ℕ
+  pub orders_are : orders ≡ told_number (length (orders_of (lists_in s.cast calls)))
+  pub ranked : List Outcome
+  pub are_ranked : IsRanked outcomes ranked
+  pub states : ℕ
+  pub text_is : text ≡ report_text s calls orders states ranked told
+
+-- more different states than so many can be reached by the script's act lines
+pub record HasMore (limits : Limits) (most : ℕ) (s : Script) : Type 0 where
+  pub calls : List Call
+  pub are_calls : with_calls [] s.lines ≡ Ok calls
+  pub states : ℕ
+  pub more : AreMore (lists_in s.cast calls) (opening_machine s.cast.nodes limits) most states
+
+-- why there is no report: a line is no act line, there are too many states, or memory was refused, which is never told as a fault of a line
+abbrev pub RefusesReport : Limits → ℕ → Script → ReportFault → Type 0
+RefusesReport limits most s (faults.Script fault) = (with_calls [] s.lines ≡ Err fault) × (fault.kind ≢ kinds.OutOfMemory)
+RefusesReport limits most s faults.TooManyStates = HasMore limits most s
+RefusesReport limits most s faults.OutOfMemory = Unit {0}
+
+abbrev pub fault_of_explore : ExploreFault → ReportFault
+fault_of_explore (explores.TooMany states) = faults.TooManyStates
+fault_of_explore explores.OutOfMemory = faults.OutOfMemory
