@@ -1,8 +1,9 @@
 //! A prompt from a reader to a writer.
-ghost use Rattle.std.specs.Prelude.{◌≡◌, IfOk, OnOk, option_map};
+ghost use Rattle.std.specs.Prelude.{◌≡◌, ℕ, IfErr, IfOk, OnErr, OnOk, option_map, take};
 ghost use Rattle.std.specs.Io.BufRead.{strip_last};
 ghost use Rattle.std.specs.Io.KnownBytes.{Appends, IsAtEnd};
-ghost use Rattle.prompt_core.specs.Ends.{Answers, IsNext, Reports};
+ghost use Rattle.prompt_core.specs.Ends.{Answers, EndsEarly, IsNext, Reports, TakesLine};
+ghost use Rattle.prompt_core.specs.declared.prompt_fault.PromptFault.TheVariants.{WriteFault};
 
 use crate::answering::answer;
 use crate::prompt_fault::PromptFault;
@@ -27,7 +28,8 @@ fn next_line<A: Allocator, R: BufRead>(
     alloc: A,
     reader: &mut R,
 ) -> Result<Option<Vec<u8, A>>, PromptFault>
-    ensures { IfOk result (λ line. IsNext (R.remaining reader.old) (R.remaining reader.new) (option_map (λ bytes. strip_last 10 bytes.items) line)) }
+    ensures next { IfOk result (λ line. IsNext (R.remaining reader.old) (R.remaining reader.new) (option_map (λ bytes. strip_last 10 bytes.items) line)) }
+    ensures line { TakesLine (R.remaining reader.old) (R.remaining reader.new) }
 {
     let mut bytes = Vec::new(alloc);
     match reader.read_until(b'\n', &mut bytes) {
@@ -40,7 +42,9 @@ fn next_line<A: Allocator, R: BufRead>(
 
 /// Writes an answer, and flushes it.
 fn put_out<W: Write>(writer: &mut W, answer: &[u8]) -> Result<(), PromptFault>
-    ensures { OnOk result (Appends (W.contents writer.old) (W.contents writer.new) answer.now) }
+    ensures ok { OnOk result (Appends (W.contents writer.old) (W.contents writer.new) answer.now) }
+    ensures err { OnErr result ((count : ℕ) × Appends (W.contents writer.old) (W.contents writer.new) (take count answer.now)) }
+    ensures fault { IfErr result (λ fault. fault ≡ WriteFault) }
 {
     if write_out(writer, answer).is_err() || writer.flush().is_err() {
         return Err(PromptFault::WriteFault);
@@ -61,6 +65,7 @@ pub fn step<B: Allocator, R: BufRead, W: Write>(
     ensures answers { OnOk result (Answers help.now limits (R.remaining reader.old) (W.contents writer.old) (W.contents writer.new)) }
     ensures report { OnOk result (Reports limits (R.remaining reader.old) (W.contents writer.old) (W.contents writer.new)) }
     ensures read { OnOk result (IsAtEnd (R.remaining reader.new)) }
+    ensures early { IfErr result (λ fault. EndsEarly help.now limits fault (R.remaining reader.old) (R.remaining reader.new) (W.contents writer.old) (W.contents writer.new)) }
 {
     prompt_law();
     let mut prompt = Prompt::new(alloc, limits);
