@@ -7,17 +7,17 @@ use Rattle.std.specs.Io.BufRead.{drop_through, first_piece, take_through}
 use Rattle.std.specs.Io.KnownBytes.{Appends, Consumes}
 use Rattle.bench_core.specs.Limits.{Limits}
 use Rattle.script_core.specs.Grammar.{script_of}
-use Rattle.script_core.specs.Prompts.{Prompt, PromptLaw, new_prompt}
+use Rattle.script_core.specs.Prompts.{Prompt, new_prompt}
 use Rattle.script_core.specs.Report.{report_of}
 use Rattle.script_core.specs.Scripts.{Script}
 use Rattle.script_core.specs.declared.fault.ScriptFault.{ScriptFault}
 use Rattle.script_core.specs.Words.{lines_of}
 use Rattle.prompt_core.specs.Answers.{answer, answers}
-use Rattle.prompt_core.specs.Ends.{Answers, EndsEarly, IsCutShort, IsNext, Reports, TakesLine, printed}
+use Rattle.prompt_core.specs.Ends.{Answers, EndsEarly, IsCutShort, IsNext, ReportLaw, Reports, TakesLine, printed}
 use Rattle.prompt_core.specs.declared.prompt_fault.PromptFault.{PromptFault}
 use Rattle.prompt_core.specs.declared.prompt_fault.PromptFault.TheVariants.{WriteFault}
 use Rattle.prompt_core.proofs.Pieces.{first_stays, is_line, rest_stays, taken_whole}
-use Rattle.prompt_core.proofs.Printed.{next_answered, none_left, script_answered}
+use Rattle.prompt_core.proofs.Printed.{next_answered, none_left}
 
 appends_more : (old middle new : Option (List ℕ)) (a b : List ℕ) → Appends old middle a → Appends middle new b → Appends old new (a ++ b)
 appends_more None middle new a b first second = tt
@@ -196,10 +196,10 @@ module _ (help : List ℕ) (limits : Limits) where
       (cut_part input left prompt number old middle new text count come (text_is ∙ ap (λ (l : List ℕ). (answer help prompt number l).1) next.0) out)
 
 -- a script without faults has its report
-pub reports : PromptLaw → (help : List ℕ) (limits : Limits) (input old new : Option (List ℕ)) → Answers help limits input old new →
+pub reports : ReportLaw → (help : List ℕ) (limits : Limits) (input old new : Option (List ℕ)) → Answers help limits input old new →
     Reports limits input old new
 reports law help limits None old new answered = tt
-reports law help limits (Some input) old new answered = go (script_of input) (λ script is. script_answered law help limits input script is)
+reports law help limits (Some input) old new answered = go (script_of input) (law help limits input)
   where
     go : (r : Result Script ScriptFault) → ((script : Script) → r ≡ Ok script → printed help limits input ≡ report_of limits script)
         → IfOk r (λ script. Appends old new (report_of limits script))

@@ -32,7 +32,7 @@ saved number (Some m) = compact_text (session 2 m.names m.limits m.state.history
 -- the answer to a line that is none of a script, which has this fault there: one of the prompt's own, or the fault
 unfoldable pub own_answer : List ℕ → Option Machine → ℕ → List ℕ → FaultKind → List ℕ
 own_answer help machine number line kind =
-    if bytes_eq line (codes ":help") then help
+    if bytes_eq line (codes ":help") then help ++ codes "\n"
     else (if bytes_eq line (codes ":save") then saved number machine
     else fault_line number kind)
 

@@ -1,5 +1,5 @@
 -- What a prompt reads and writes, until its input ends or a fault ends it early.
-use Rattle.std.specs.Prelude.{◌≡◌, ◌≢◌, ℕ, List, [], ◌++◌, ⊤, Option, None, Some, IfOk}
+use Rattle.std.specs.Prelude.{◌≡◌, ◌≢◌, ℕ, List, [], ◌++◌, ⊤, Option, None, Some, Ok, IfOk}
 use Rattle.std.specs.Io.{StartsWith, StopsAt}
 use Rattle.std.specs.Io.KnownBytes.{Appends, Consumes}
 use Rattle.std.specs.Io.BufRead.{drop_through, first_piece}
@@ -7,6 +7,7 @@ use Rattle.bench_core.specs.Limits.{Limits}
 use Rattle.script_core.specs.Grammar.{script_of}
 use Rattle.script_core.specs.Prompts.{new_prompt}
 use Rattle.script_core.specs.Report.{report_of}
+use Rattle.script_core.specs.Scripts.{Script}
 use Rattle.script_core.specs.Words.{lines_of}
 use Rattle.prompt_core.specs.Answers.{answers}
 use Rattle.prompt_core.specs.declared.prompt_fault.PromptFault.{PromptFault}
@@ -30,6 +31,11 @@ printed help limits input = answers help (new_prompt limits) 1 (lines_of input)
 abbrev pub Answers : List ℕ → Limits → Option (List ℕ) → Option (List ℕ) → Option (List ℕ) → Type 0
 Answers help limits None old new = ⊤
 Answers help limits (Some input) old new = Appends old new (printed help limits input)
+
+-- of a script without faults its report is printed, byte for byte
+abbrev pub ReportLaw : Type 0
+ReportLaw =
+    (help : List ℕ) (limits : Limits) (bytes : List ℕ) (script : Script) → script_of bytes ≡ Ok script → printed help limits bytes ≡ report_of limits script
 
 -- of a script without faults its report went out, and nothing else
 abbrev pub Reports : Limits → Option (List ℕ) → Option (List ℕ) → Option (List ℕ) → Type 0

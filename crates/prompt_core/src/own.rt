@@ -79,7 +79,8 @@ pub fn put_own<'a, B: Allocator>(
     ensures { OnOk result (answer.new.items ≡ answer.old.items ++ own_answer help.now prompt.now.machine number line.now kind) }
 {
     if line == b":help".as_slice() {
-        return put_text(answer, help);
+        put_text(answer, help)?;
+        return put_text(answer, "\n");
     }
     if line == b":save".as_slice() {
         return put_saved(heap, alloc, answer, prompt, number);

@@ -6,9 +6,9 @@ ghost use Rattle.prompt_core.specs.Ends.{Answers, EndsEarly, IsNext, Reports, Ta
 ghost use Rattle.prompt_core.specs.declared.prompt_fault.PromptFault.TheVariants.{WriteFault};
 
 use crate::answering::answer;
+use crate::laws::report_law;
 use crate::prompt_fault::PromptFault;
 use bench_core::Limits;
-use script_core::laws::prompt_law;
 use script_core::{Prompt, write_out};
 use std::alloc::{Allocator, Global};
 use std::io::{BufRead, ErrorKind, Write};
@@ -46,10 +46,13 @@ fn put_out<W: Write>(writer: &mut W, answer: &[u8]) -> Result<(), PromptFault>
     ensures err { OnErr result ((count : ℕ) × Appends (W.contents writer.old) (W.contents writer.new) (take count answer.now)) }
     ensures fault { IfErr result (λ fault. fault ≡ WriteFault) }
 {
-    if write_out(writer, answer).is_err() || writer.flush().is_err() {
+    if let Err(_fault) = write_out(writer, answer) {
         return Err(PromptFault::WriteFault);
     }
-    Ok(())
+    match writer.flush() {
+        Ok(()) => Ok(()),
+        Err(_) => Err(PromptFault::WriteFault),
+    }
 }
 
 /// Reads line by line to the end of the input, and answers each before the next is read. What a script has is done as in a
@@ -67,7 +70,7 @@ pub fn step<B: Allocator, R: BufRead, W: Write>(
     ensures read { OnOk result (IsAtEnd (R.remaining reader.new)) }
     ensures early { IfErr result (λ fault. EndsEarly help.now limits fault (R.remaining reader.old) (R.remaining reader.new) (W.contents writer.old) (W.contents writer.new)) }
 {
-    prompt_law();
+    report_law();
     let mut prompt = Prompt::new(alloc, limits);
     for number in 1..u64::MAX {
         let Some(line) = next_line(alloc, reader)? else {
