@@ -41,6 +41,7 @@ module _ (form : Form) (limits : Limits) (text : List ℕ) (old new : Option (Li
   ends command input (Err faults.LongSession) p e = elim e [ ]
   ends command input (Err (faults.Race fault)) p e = elim e [ ]
   ends command input (Err (faults.TooManyStates most)) p e = elim e [ ]
+  ends command input (Err (faults.Prompt fault)) p e = elim e [ ]
   ends command input (Err faults.ReadFault) p e = elim e [ ]
   ends command input (Err faults.OutOfMemory) p e = elim e [ ]
 
@@ -84,6 +85,7 @@ module _ (form : Form) (limits : Limits) (text : List ℕ) (old new : Option (Li
   keeps_before (Err faults.LongSession) e = elim e [ ]
   keeps_before (Err (faults.Race fault)) e = elim e [ ]
   keeps_before (Err (faults.TooManyStates most)) e = elim e [ ]
+  keeps_before (Err (faults.Prompt fault)) e = elim e [ ]
   keeps_before (Err faults.ReadFault) e = elim e [ ]
   keeps_before (Err faults.OutOfMemory) e = elim e [ ]
 
@@ -95,6 +97,7 @@ module _ (form : Form) (limits : Limits) (text : List ℕ) (old new : Option (Li
   tells_memory (Err faults.LongSession) e = elim e [ ]
   tells_memory (Err (faults.Race fault)) e = elim e [ ]
   tells_memory (Err (faults.TooManyStates most)) e = elim e [ ]
+  tells_memory (Err (faults.Prompt fault)) e = elim e [ ]
   tells_memory (Err faults.ReadFault) e = elim e [ ]
   tells_memory (Err faults.OutOfMemory) e = elim e [ ]
 
@@ -108,6 +111,7 @@ module _ (form : Form) (limits : Limits) (old new : Option (List ℕ)) where
   ends_unwritten command input faults.LongSession c u k = (c, k)
   ends_unwritten command input (faults.Race fault) c u k = (c, k)
   ends_unwritten command input (faults.TooManyStates most) c u k = (c, k)
+  ends_unwritten command input (faults.Prompt fault) c u k = absurd u
   ends_unwritten command input faults.ReadFault c u k = (c, k)
   ends_unwritten command input faults.OutOfMemory c u k = (c, k)
 
