@@ -1,5 +1,7 @@
 -- A turn of a prompt: a line is taken in, and its answer goes out.
 use Rattle.std.proofs.Common.{◌≡◌, ℕ, ◌+◌, List, [], ◌∷◌, ◌++◌, length, take, drop, Option, Some, None, Result, Ok, Err, IfOk, ◌≢◌, refl, sym, ap, ap₂, ◌∙◌, subst, append_assoc, append-nil}
+use Rattle.std.proofs.KnownBytes.{Appends-nil, Appends-trans}
+use Rattle.std.proofs.Math.Seq.{take-append_seam}
 use Rattle.std.proofs.lemmas.List.{take-append-drop}
 use Rattle.std.proofs.lemmas.List.Elements.{All-nil}
 use Rattle.std.specs.Io.{StartsWith, StopsAt}
@@ -19,25 +21,11 @@ use Rattle.prompt_core.specs.declared.prompt_fault.PromptFault.TheVariants.{Writ
 use Rattle.prompt_core.proofs.Pieces.{first_stays, is_line, rest_stays, taken_whole}
 use Rattle.prompt_core.proofs.Printed.{next_answered, none_left}
 
-appends_more : (old middle new : Option (List ℕ)) (a b : List ℕ) → Appends old middle a → Appends middle new b → Appends old new (a ++ b)
-appends_more None middle new a b first second = tt
-appends_more (Some xs) None new a b first second = absurd first
-appends_more (Some xs) (Some ys) None a b first second = absurd second
-appends_more (Some xs) (Some ys) (Some zs) a b first second = second ∙ ap (λ t. t ++ b) first ∙ append_assoc xs a b
-
-appends_none : (old : Option (List ℕ)) → Appends old old []
-appends_none None = tt
-appends_none (Some xs) = sym (append-nil xs)
-
 appends_as : (old new : Option (List ℕ)) (a b : List ℕ) → a ≡ b → Appends old new a → Appends old new b
 appends_as old new a b is first = subst (λ (t : List ℕ). Appends old new t) is first
 
-starts : (front behind : List ℕ) → StartsWith (front ++ behind) front
-starts [] behind = refl
-starts (x ∷ front) behind = ap (λ (l : List ℕ). x ∷ l) (starts front behind)
-
 starts_as : (whole front behind : List ℕ) → whole ≡ front ++ behind → StartsWith whole front
-starts_as whole front behind is = subst (λ (l : List ℕ). StartsWith l front) (sym is) (starts front behind)
+starts_as whole front behind is = subst (λ (l : List ℕ). StartsWith l front) (sym is) (take-append_seam front behind)
 
 -- how far a prompt has come: what it answered of the input, and that it answers what is left, or the first lines of it, as the
 -- whole asks
@@ -67,7 +55,7 @@ module _ (help : List ℕ) (limits : Limits) where
   -- before the first line
   pub begins : (input old : Option (List ℕ)) → HasComeSo help limits input input (new_prompt limits) 1 old old
   begins None old = tt
-  begins (Some input) old = record { answered = []; text = []; taken = refl; out = appends_none old; goes_on = λ more behind is. refl }
+  begins (Some input) old = record { answered = []; text = []; taken = refl; out = Appends-nil old; goes_on = λ more behind is. refl }
 
   -- what went out is what is printed of what was answered
   module _ (input left : List ℕ) (prompt : Prompt) (number : ℕ) (old new : Option (List ℕ)) where
@@ -115,7 +103,7 @@ module _ (help : List ℕ) (limits : Limits) where
           taken =
               come.taken ∙ ap (λ (l : List ℕ). come.answered ++ l) (sym (taken_whole left))
               ∙ sym (append_assoc come.answered (take_through 10 left) (drop_through 10 left));
-          out = appends_more old middle new come.text text come.out out;
+          out = Appends-trans old middle new come.text text come.out out;
           goes_on = λ more behind is.
               ap (printed help limits) (append_assoc come.answered (take_through 10 left) more)
               ∙ come.goes_on (take_through 10 left ++ more) behind
@@ -140,7 +128,7 @@ module _ (help : List ℕ) (limits : Limits) where
           one_line = is_line left;
           out =
               appends_as old new (come.text ++ part) (printed help limits come.answered ++ part) (ap (λ (t : List ℕ). t ++ part) so_far)
-              (appends_more old middle new come.text part come.out out);
+              (Appends-trans old middle new come.text part come.out out);
           beginning =
               starts_as (printed help limits (come.answered ++ take_through 10 left)) (printed help limits come.answered ++ part) behind
               (come.goes_on (take_through 10 left) (drop_through 10 left) (sym (taken_whole left))
