@@ -5,11 +5,12 @@
 //! were seen and the map of the live entries among them, and nothing of how they are kept. This crate uses `dots_core`; it
 //! knows nothing of replicas and steps.
 //!
-//! In the order to read them: `word`, `mark`; `entry`; `entry_list` and `entries_by_dot`, in which the entries stand by dot,
-//! `track_index`, which finds those of one name by process, topic and key, and `entry_set`; `payload`, a message; `outbox`.
-//! Then `store`, and its edits, each with what takes it back: `store_joins`; `store_leaves`, with `left_entry`, what a leave
-//! destroyed; `leaves_together`; `forgotten_name`, what a store held of a name, with `entry_moves`; `store_deliveries`, with
-//! `store_differences`, what a message changes in a store; and `laws`, of deliveries.
+//! In the order to read them: `word`, `mark`; `entry`; entries that rise by dot: `entry_list`, a few in a list; `piece`, `spot`,
+//! `piece_edits` and `entry_pieces`, many in pieces; `rising_entries`, either; `entries_by_dot`; `track_index`, which finds those
+//! of one name by process, topic and key; `entry_set`; `payload`, a message; `outbox`. Then `store`, and its edits, each with
+//! what takes it back: `store_joins`; `store_leaves`, with `left_entry`, what a leave destroyed; `leaves_together`;
+//! `forgotten_name`, what a store held of a name, with `entry_moves`; `store_deliveries`, with `store_differences`, what a message
+//! changes in a store; and `laws`, of deliveries.
 #![tactic(auto)]
 
 mod entries_by_dot;
