@@ -1,7 +1,7 @@
 -- What a text that was written is, for the input that it was made of.
-use Rattle.std.proofs.Common.{◌≡◌, List, ℕ, Option, None, Some, Result, Ok, Err, IfErr, IsOkAnd, OnOk, sym, subst, arith, ◌⊎◌, inl, inr}
+use Rattle.std.proofs.Common.{◌≡◌, List, ℕ, Option, None, Some, Result, Ok, Err, IfErr, IfOk, IsOkAnd, OnOk, refl, sym, subst, arith, ◌⊎◌, inl, inr}
 use Rattle.std.proofs.lemmas.Bool.Decides.{nat_tests}
-use Rattle.std.specs.Io.KnownBytes.{Keeps}
+use Rattle.std.specs.Io.KnownBytes.{Appends, Keeps}
 use Rattle.bench_core.specs.Limits.{Limits}
 use Rattle.bench_core.specs.Machine.{Machine}
 use Rattle.script_core.specs.Grammar.{script_of}
@@ -11,14 +11,17 @@ use Rattle.script_core.specs.Scripts.{Script}
 use Rattle.script_core.specs.declared.fault.FaultKind.TheVariants.{TooLong}
 use Rattle.presence_bench.specs.declared.chosen.Form.{Form}
 use Rattle.presence_bench.specs.declared.chosen.Subcommand.{Subcommand}
-use Rattle.presence_bench.specs.declared.chosen.Subcommand.TheVariants.{Play, Race, Load, Explore, Draw}
+use Rattle.presence_bench.specs.declared.chosen.Subcommand.TheVariants.{Play, Race, Load, Explore, Step, Draw}
 use Rattle.presence_bench.specs.declared.fault.Fault.{Fault}
 use Rattle.presence_bench.specs.declared.fault.Fault.TheVariants as faults
 use Rattle.script_core.specs.declared.fault.ScriptFault.{ScriptFault}
 use Rattle.explore_report.specs.Reports.{IsReport}
+use Rattle.prompt_core.specs.Ends.{Answers, EndsEarly, ReportLaw, printed}
+use Rattle.prompt_core.specs.declared.prompt_fault.PromptFault.{PromptFault}
 use Rattle.presence_bench.specs.Explored.{RefusesReportOf}
+use Rattle.presence_bench.specs.Help.{language}
 use Rattle.presence_bench.specs.Races.{IsRaceOf, RefusesRaceOf}
-use Rattle.presence_bench.specs.Program.{IsCause, IsCauseOf, IsUnwritten, IsCauseAt, IsScriptAt, IsSessionAt, Prints, drawn, Ends, EndsAt, EndsAsText, KeepsBefore, TellsMemory, shown}
+use Rattle.presence_bench.specs.Program.{IsCause, IsCauseOf, IsUnwritten, IsCauseAt, IsScriptAt, IsSessionAt, Prints, drawn, Ends, EndsAt, EndsAsText, EndsSoon, KeepsBefore, TellsMemory, shown}
 
 -- an input past the limit has that fault
 pub too_long : (known : Option (List ℕ)) → IsLonger known 1048576 → IsCauseAt known (faults.Script (record { line = 0; kind = TooLong }))
@@ -133,3 +136,29 @@ module _ (form : Form) (limits : Limits) (old new : Option (List ℕ)) where
   ends_unexplored (Some input) s fault at c u k =
       let P : Result Script ScriptFault → Type 0 = λ o. IsOkAnd o (λ s. RefusesReportOf limits s fault) in
       ends_unwritten Explore input fault (inr (subst P (sym at) c)) u k
+
+-- at a prompt
+
+if_ok_each : (r : Result Script ScriptFault) (P : Script → Type 0) → ((s : Script) → r ≡ Ok s → P s) → IfOk r P
+if_ok_each (Ok s) P each = each s refl
+if_ok_each (Err fault) P each = tt
+
+pub ends_step : ReportLaw → (form : Form) (limits : Limits) (help : List ℕ) → help ≡ language → (known old new : Option (List ℕ)) →
+    Answers help limits known old new → EndsAt Step form limits known (Ok tt) old new
+ends_step law form limits help is None old new answered = tt
+ends_step law form limits help is (Some input) old new answered =
+    (
+      printed language limits input,
+      (refl, if_ok_each (script_of input) (λ s. printed language limits input ≡ report_of limits s) (law language limits input)),
+      subst (λ (help : List ℕ). Appends old new (printed help limits input)) is answered,
+    )
+
+pub ends_prompt : (form : Form) (limits : Limits) (fault : PromptFault) (known old new : Option (List ℕ)) →
+    EndsAt Step form limits known (Err (faults.Prompt fault)) old new
+ends_prompt form limits fault None old new = tt
+ends_prompt form limits fault (Some input) old new = tt
+
+pub early_prompt : (limits : Limits) (help : List ℕ) → help ≡ language → (fault : PromptFault) (known left old new : Option (List ℕ)) →
+    EndsEarly help limits fault known left old new → EndsSoon Step limits (Err (faults.Prompt fault)) known left old new
+early_prompt limits help is fault known left old new early =
+    subst (λ (help : List ℕ). EndsEarly help limits fault known left old new) is early

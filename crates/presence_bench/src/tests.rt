@@ -338,7 +338,7 @@ fn each_end_has_its_status_and_its_line(rt: HostRuntime) {
         } else {
             ends_so(&rt, rt.alloc(), case, &mut FakeReader::ending(script))
         };
-        assert!(rt; is_so, "{}", case.told);
+        assert!(rt; is_so, "{:?} {}", case.words, case.told);
     }
 }
 

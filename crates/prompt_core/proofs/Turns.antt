@@ -1,5 +1,5 @@
 -- A turn of a prompt: a line is taken in, and its answer goes out.
-use Rattle.std.proofs.Common.{◌≡◌, ℕ, ◌+◌, List, [], ◌∷◌, ◌++◌, length, take, drop, Option, Some, None, Result, Ok, Err, IfOk, ◌≢◌, refl, sym, ap, ap₂, ◌∙◌, subst, append_assoc, append-nil}
+use Rattle.std.proofs.Common.{◌≡◌, ℕ, ◌+◌, List, [], ◌∷◌, ◌++◌, length, take, drop, Option, Some, None, Result, Ok, Err, IfErr, IfOk, ◌≢◌, refl, sym, ap, ap₂, ◌∙◌, subst, append_assoc, append-nil}
 use Rattle.std.proofs.KnownBytes.{Appends-nil, Appends-trans}
 use Rattle.std.proofs.Math.Seq.{take-append_seam}
 use Rattle.std.proofs.lemmas.List.{take-append-drop}
@@ -15,7 +15,7 @@ use Rattle.script_core.specs.Scripts.{Script}
 use Rattle.script_core.specs.declared.fault.ScriptFault.{ScriptFault}
 use Rattle.script_core.specs.Words.{lines_of}
 use Rattle.prompt_core.specs.Answers.{answer, answers}
-use Rattle.prompt_core.specs.Ends.{Answers, EndsEarly, IsCutShort, IsNext, ReportLaw, Reports, TakesLine, printed}
+use Rattle.prompt_core.specs.Ends.{Answers, EndsEarly, IsCutShort, IsNext, IsReadWhole, ReportLaw, Reports, TakesLine, printed}
 use Rattle.prompt_core.specs.declared.prompt_fault.PromptFault.{PromptFault}
 use Rattle.prompt_core.specs.declared.prompt_fault.PromptFault.TheVariants.{WriteFault}
 use Rattle.prompt_core.proofs.Pieces.{first_stays, is_line, rest_stays, taken_whole}
@@ -158,6 +158,12 @@ module _ (help : List ℕ) (limits : Limits) where
   ended (Some input) None rest prompt number old new come next = absurd come
   ended (Some input) (Some left) rest prompt number old new come next = end input left prompt number old new come next.0
 
+  pub read_whole : (input left rest : Option (List ℕ)) (prompt : Prompt) (number : ℕ) (old new : Option (List ℕ)) →
+      HasComeSo help limits input left prompt number old new → IsNext left rest None → IsReadWhole input rest
+  read_whole None left rest prompt number old new come next = tt
+  read_whole (Some input) None rest prompt number old new come next = absurd come
+  read_whole (Some input) (Some left) rest prompt number old new come next = next.1
+
   pub cut_short : (fault : PromptFault) (input left rest : Option (List ℕ)) (prompt : Prompt) (number : ℕ) (old new : Option (List ℕ)) →
       HasComeSo help limits input left prompt number old new → TakesLine left rest → EndsEarly help limits fault input rest old new
   cut_short fault None left rest prompt number old new come line = tt
@@ -193,3 +199,8 @@ reports law help limits (Some input) old new answered = go (script_of input) (la
         → IfOk r (λ script. Appends old new (report_of limits script))
     go (Err fault) same = tt
     go (Ok script) same = subst (λ (t : List ℕ). Appends old new t) (same script refl) answered
+
+-- what holds of each fault
+pub of_each : (r : Result (Unit {0}) PromptFault) (Q : PromptFault → Type 0) → ((fault : PromptFault) → Q fault) → IfErr r Q
+of_each (Ok u) Q all = tt
+of_each (Err fault) Q all = all fault

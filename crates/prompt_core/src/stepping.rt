@@ -1,8 +1,8 @@
 //! A prompt from a reader to a writer.
 ghost use Rattle.std.specs.Prelude.{◌≡◌, ℕ, IfErr, IfOk, OnErr, OnOk, option_map, take};
 ghost use Rattle.std.specs.Io.BufRead.{strip_last};
-ghost use Rattle.std.specs.Io.KnownBytes.{Appends, IsAtEnd};
-ghost use Rattle.prompt_core.specs.Ends.{Answers, EndsEarly, IsNext, Reports, TakesLine};
+ghost use Rattle.std.specs.Io.KnownBytes.{Appends};
+ghost use Rattle.prompt_core.specs.Ends.{Answers, EndsEarly, IsNext, IsReadWhole, Reports, TakesLine};
 ghost use Rattle.prompt_core.specs.declared.prompt_fault.PromptFault.TheVariants.{WriteFault};
 
 use crate::answering::answer;
@@ -67,7 +67,7 @@ pub fn step<B: Allocator, R: BufRead, W: Write>(
 ) -> Result<(), PromptFault>
     ensures answers { OnOk result (Answers help.now limits (R.remaining reader.old) (W.contents writer.old) (W.contents writer.new)) }
     ensures report { OnOk result (Reports limits (R.remaining reader.old) (W.contents writer.old) (W.contents writer.new)) }
-    ensures read { OnOk result (IsAtEnd (R.remaining reader.new)) }
+    ensures read { OnOk result (IsReadWhole (R.remaining reader.old) (R.remaining reader.new)) }
     ensures early { IfErr result (λ fault. EndsEarly help.now limits fault (R.remaining reader.old) (R.remaining reader.new) (W.contents writer.old) (W.contents writer.new)) }
 {
     report_law();
