@@ -1,10 +1,10 @@
 -- The lines of an input, one after another.
 use Rattle.std.proofs.Common.{◌≡◌, ◌≢◌, ℕ, zero, suc, ◌+◌, ◌-◌, ◌==◌, ◌&&◌, nat_lt, cond, Bool, true, false, if◌then◌else◌, List, [], ◌∷◌, ◌++◌, length, take, slice_index}
 use Rattle.std.proofs.Common.{refl, sym, subst, ap, ap₂, ◌∙◌, arith}
-use Rattle.std.proofs.lemmas.Bool.{eqb-true, eqb-false}
+use Rattle.std.proofs.lemmas.Bool.{eqb-true, eqb-false, ne_eqb}
 use Rattle.std.proofs.lemmas.Bool.Decides.{nat_tests}
 use native.Mathlib.Numerals.{unary_clauses}
-use Rattle.std.proofs.lemmas.List.Elements.{All-cons, All-nil}
+use Rattle.std.proofs.lemmas.List.Elements.{All-cons, All-head, All-nil, All-tail}
 use Rattle.std.specs.List.{All, onto_first, slice_split}
 use Rattle.std.specs.Io.{StopsAt}
 use Rattle.std.specs.Io.BufRead.{drop_through, ends_with_byte, first_piece, strip_last, take_through}
@@ -143,3 +143,28 @@ is_line (x ∷ xs) = go (x == 10) refl (is_line xs)
     go : (b : Bool) → (x == 10) ≡ b → StopsAt (take_through 10 xs) 10 → StopsAt (take_through 10 (x ∷ xs)) 10
     go true is rest = stops_fed x xs is
     go false is rest = subst (λ (l : List ℕ). StopsAt l 10) (sym (through_more x xs is)) (stops_more x (take_through 10 xs) is rest)
+
+-- a line that was read byte by byte, up to its line feed, or to the end
+
+pub piece_fed : (bytes rest : List ℕ) → All (λ b. b ≢ 10) bytes → first_piece 10 (bytes ++ 10 ∷ rest) ≡ bytes
+piece_fed [] rest unfed = refl
+piece_fed (x ∷ bytes) rest unfed =
+    piece_more x (bytes ++ 10 ∷ rest) (ne_eqb x 10 (All-head (λ b. b ≢ 10) x bytes unfed))
+    ∙ ap (λ (l : List ℕ). x ∷ l) (piece_fed bytes rest (All-tail (λ b. b ≢ 10) x bytes unfed))
+
+pub rest_fed : (bytes rest : List ℕ) → All (λ b. b ≢ 10) bytes → drop_through 10 (bytes ++ 10 ∷ rest) ≡ rest
+rest_fed [] rest unfed = refl
+rest_fed (x ∷ bytes) rest unfed =
+    rest_more x (bytes ++ 10 ∷ rest) (ne_eqb x 10 (All-head (λ b. b ≢ 10) x bytes unfed))
+    ∙ rest_fed bytes rest (All-tail (λ b. b ≢ 10) x bytes unfed)
+
+pub piece_whole : (bytes : List ℕ) → All (λ b. b ≢ 10) bytes → first_piece 10 bytes ≡ bytes
+piece_whole [] unfed = refl
+piece_whole (x ∷ bytes) unfed =
+    piece_more x bytes (ne_eqb x 10 (All-head (λ b. b ≢ 10) x bytes unfed))
+    ∙ ap (λ (l : List ℕ). x ∷ l) (piece_whole bytes (All-tail (λ b. b ≢ 10) x bytes unfed))
+
+pub rest_none : (bytes : List ℕ) → All (λ b. b ≢ 10) bytes → drop_through 10 bytes ≡ []
+rest_none [] unfed = refl
+rest_none (x ∷ bytes) unfed =
+    rest_more x bytes (ne_eqb x 10 (All-head (λ b. b ≢ 10) x bytes unfed)) ∙ rest_none bytes (All-tail (λ b. b ≢ 10) x bytes unfed)

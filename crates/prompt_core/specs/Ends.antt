@@ -1,5 +1,5 @@
 -- What a prompt reads and writes, until its input ends or a fault ends it early.
-use Rattle.std.specs.Prelude.{◌≡◌, ◌≢◌, ℕ, List, [], ◌++◌, ⊤, Option, None, Some, Ok, IfOk}
+use Rattle.std.specs.Prelude.{◌≡◌, ◌≢◌, ℕ, List, [], ◌++◌, take, ⊤, Option, None, Some, Ok, IfOk}
 use Rattle.std.specs.Io.{StartsWith, StopsAt}
 use Rattle.std.specs.Io.KnownBytes.{Appends, Consumes}
 use Rattle.std.specs.Io.BufRead.{drop_through, first_piece}
@@ -10,14 +10,19 @@ use Rattle.script_core.specs.Report.{report_of}
 use Rattle.script_core.specs.Scripts.{Script}
 use Rattle.script_core.specs.Words.{lines_of}
 use Rattle.prompt_core.specs.Answers.{answers}
+use Rattle.prompt_core.specs.declared.reading.TheConstants.{KEPT}
 use Rattle.prompt_core.specs.declared.prompt_fault.PromptFault.{PromptFault}
 use Rattle.prompt_core.specs.declared.prompt_fault.PromptFault.TheVariants.{WriteFault}
+
+-- what is kept of a line: all of one that a script may have, and of a longer one a byte more than that
+unfoldable pub kept : List ℕ → List ℕ
+kept line = take KEPT line
 
 -- the next line of what a reader has left, or nothing at its end
 abbrev pub IsNext : Option (List ℕ) → Option (List ℕ) → Option (List ℕ) → Type 0
 IsNext None new line = ⊤
 IsNext (Some left) new None = (left ≡ []) × (new ≡ Some [])
-IsNext (Some left) new (Some line) = (line ≡ first_piece 10 left) × (new ≡ Some (drop_through 10 left))
+IsNext (Some left) new (Some line) = (line ≡ kept (first_piece 10 left)) × (new ≡ Some (drop_through 10 left))
 
 -- known bytes were all read
 abbrev pub IsReadWhole : Option (List ℕ) → Option (List ℕ) → Type 0

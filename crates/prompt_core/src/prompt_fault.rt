@@ -1,5 +1,6 @@
 //! `PromptFault`: why a prompt ends before its input does.
 use payload_core::Oom;
+use std::alloc::AllocFailed;
 use thiserror::Error;
 
 /// Why a prompt ends before its input does.
@@ -11,7 +12,7 @@ pub enum PromptFault {
     /// A write failed, or took nothing.
     #[error("write fault")]
     WriteFault,
-    /// More lines than numbers.
+    /// More lines than numbers, or more bytes in a line.
     #[error("TooLong")]
     TooLong,
     /// A request for memory was refused.
@@ -26,6 +27,17 @@ impl From<Oom> for PromptFault {
     ghost from_gives = { λ _ fault. fault ≡ OutOfMemory };
 
     fn from(_refused: Oom) -> PromptFault {
+        PromptFault::OutOfMemory
+    }
+}
+
+impl<T: Drop> From<AllocFailed<T>> for PromptFault {
+    ghost use Rattle.std.specs.Prelude.{◌≡◌};
+    ghost use Rattle.prompt_core.specs.declared.prompt_fault.PromptFault.TheVariants.{OutOfMemory};
+
+    ghost from_gives = { λ _ fault. fault ≡ OutOfMemory };
+
+    fn from(_refused: AllocFailed<T>) -> PromptFault {
         PromptFault::OutOfMemory
     }
 }

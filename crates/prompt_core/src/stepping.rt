@@ -1,44 +1,17 @@
 //! A prompt from a reader to a writer.
-ghost use Rattle.std.specs.Prelude.{◌≡◌, ℕ, IfErr, IfOk, OnErr, OnOk, option_map, take};
-ghost use Rattle.std.specs.Io.BufRead.{strip_last};
+ghost use Rattle.std.specs.Prelude.{◌≡◌, ℕ, IfErr, OnErr, OnOk, take};
 ghost use Rattle.std.specs.Io.KnownBytes.{Appends};
-ghost use Rattle.prompt_core.specs.Ends.{Answers, EndsEarly, IsNext, IsReadWhole, Reports, TakesLine};
+ghost use Rattle.prompt_core.specs.Ends.{Answers, EndsEarly, IsReadWhole, Reports};
 ghost use Rattle.prompt_core.specs.declared.prompt_fault.PromptFault.TheVariants.{WriteFault};
 
 use crate::answering::answer;
 use crate::laws::report_law;
 use crate::prompt_fault::PromptFault;
+use crate::reading::next_line;
 use bench_core::Limits;
 use script_core::{Prompt, write_out};
 use std::alloc::{Allocator, Global};
-use std::io::{BufRead, ErrorKind, Write};
-
-/// The bytes without a line feed at their end.
-fn without_feed(bytes: &[u8]) -> &[u8]
-    ensures { result.now ≡ strip_last 10 bytes.now }
-{
-    match bytes {
-        [line @ .., b'\n'] => line,
-        _ => bytes,
-    }
-}
-
-/// Takes in the next line with its line feed, or nothing at the end of the input.
-fn next_line<A: Allocator, R: BufRead>(
-    alloc: A,
-    reader: &mut R,
-) -> Result<Option<Vec<u8, A>>, PromptFault>
-    ensures next { IfOk result (λ line. IsNext (R.remaining reader.old) (R.remaining reader.new) (option_map (λ bytes. strip_last 10 bytes.items) line)) }
-    ensures line { TakesLine (R.remaining reader.old) (R.remaining reader.new) }
-{
-    let mut bytes = Vec::new(alloc);
-    match reader.read_until(b'\n', &mut bytes) {
-        Ok(0) => Ok(None),
-        Ok(_) => Ok(Some(bytes)),
-        Err(fault) if fault.kind() == ErrorKind::OutOfMemory => Err(PromptFault::OutOfMemory),
-        Err(_) => Err(PromptFault::ReadFault),
-    }
-}
+use std::io::{BufRead, Write};
 
 /// Writes an answer, and flushes it.
 fn put_out<W: Write>(writer: &mut W, answer: &[u8]) -> Result<(), PromptFault>
@@ -76,7 +49,7 @@ pub fn step<B: Allocator, R: BufRead, W: Write>(
         let Some(line) = next_line(alloc, reader)? else {
             return Ok(());
         };
-        let answer = answer(heap, alloc, &mut prompt, help, number, without_feed(&line))?;
+        let answer = answer(heap, alloc, &mut prompt, help, number, &line)?;
         put_out(writer, &answer)?;
     }
     Err(PromptFault::TooLong)

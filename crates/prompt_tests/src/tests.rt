@@ -36,6 +36,39 @@ fn each_line_has_its_answer(rt: HostRuntime) {
     }
 }
 
+/// A line of 4096 bytes is one of a script. A longer one is told, and the next line is taken as ever.
+#[test]
+fn a_line_may_be_too_long(rt: HostRuntime) {
+    let alloc = rt.alloc();
+    for (count, told) in [
+        (4_096, ""),
+        (4_097, "line 2: TooLong\n"),
+        (20_000, "line 2: TooLong\n"),
+    ] {
+        let mut input = String::new(alloc);
+        input.push_str("nodes a\n").expect(&rt, "memory");
+        for _ in 0..count {
+            input.push('#').expect(&rt, "memory");
+        }
+        input.push_str("\nshow a\n").expect(&rt, "memory");
+        let mut reader = BufReader::new(alloc, FakeReader::ending(input.as_bytes())).expect(
+            &rt, "memory",
+        );
+        let mut writer = FakeWriter::new(alloc, 1_000);
+        let answer = step(
+            alloc,
+            &alloc,
+            &mut reader,
+            &mut writer,
+            Limits::usual(),
+            HELP,
+        );
+        assert_eq!(rt; answer, Ok(()));
+        let printed = format!(in alloc; "{told}online a 0\n").expect(&rt, "memory");
+        assert_eq!(rt; writer.taken(), printed.as_bytes(), "{count}");
+    }
+}
+
 /// Each line that was read is answered, and the answer flushed, before a read fails. Of a line without its end there is none.
 #[test]
 fn lines_are_answered_before_a_read_fault(rt: HostRuntime) {
