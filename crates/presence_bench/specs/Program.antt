@@ -19,7 +19,7 @@ use Rattle.svg_core.specs.Trees.{text_of}
 use Rattle.worker_core.specs.declared.race_fault.RaceFault.{RaceFault}
 use Rattle.worker_core.specs.declared.race_fault.RaceFault.TheVariants as races
 use Rattle.explore_report.specs.Reports.{IsReport}
-use Rattle.prompt_core.specs.Ends.{EndsEarly, IsReadWhole, printed}
+use Rattle.prompt_core.specs.Ends.{EndsEarly, printed}
 use Rattle.prompt_core.specs.declared.prompt_fault.PromptFault.{PromptFault}
 use Rattle.prompt_core.specs.declared.prompt_fault.PromptFault.TheVariants as prompts
 use Rattle.presence_bench.specs.Explored.{RefusesReportOf}
@@ -159,15 +159,6 @@ KeepsBefore (faults.WriteFault written) old new = ⊤
 KeepsBefore (faults.Prompt fault) old new = ⊤
 KeepsBefore _ old new = Keeps old new
 
--- the input was read to its end; at a prompt so, where the reader's bytes are known
-abbrev pub IsReadBy : Subcommand → Option (List ℕ) → Option (List ℕ) → Type 0
-IsReadBy Step input left = IsReadWhole input left
-IsReadBy Play input left = IsAtEnd left
-IsReadBy Race input left = IsAtEnd left
-IsReadBy Load input left = IsAtEnd left
-IsReadBy Explore input left = IsAtEnd left
-IsReadBy (Draw why) input left = IsAtEnd left
-
 -- a prompt that ends early has answered all lines that it took in, but for the last
 abbrev pub EndsSoon : Subcommand → Limits → Result (Unit {0}) Fault → Option (List ℕ) → Option (List ℕ) → Option (List ℕ) → Option (List ℕ) → Type 0
 EndsSoon Step limits (Err (faults.Prompt fault)) input left old new = EndsEarly language limits fault input left old new
@@ -196,7 +187,7 @@ pub record Exits (choice : Choice) (input left : Option (List ℕ)) (limits : Li
   pub answer : Result (Unit {0}) Fault
   pub status_is : status ≡ status_of answer
   pub ends : EndsAt choice.command choice.form limits input answer old new
-  pub read : OnOk answer (IsReadBy choice.command input left)
+  pub read : OnOk answer (IsAtEnd left)
   pub unwritten : IfErr answer (λ fault. KeepsBefore fault old new)
   pub memory : IfErr answer TellsMemory
   pub early : EndsSoon choice.command limits answer input left old new

@@ -4,7 +4,7 @@ ghost use Rattle.std.specs.Io.KnownBytes.{Appends, IsAtEnd};
 ghost use Rattle.presence_bench.specs.declared.chosen.Form.{Form};
 ghost use Rattle.presence_bench.specs.declared.chosen.Form.TheVariants as forms;
 ghost use Rattle.presence_bench.specs.declared.chosen.Subcommand.TheVariants as subcommands;
-ghost use Rattle.presence_bench.specs.Program.{EndsAt, EndsAsText, EndsSoon, IsReadBy, KeepsBefore, TellsMemory};
+ghost use Rattle.presence_bench.specs.Program.{EndsAt, EndsAsText, EndsSoon, KeepsBefore, TellsMemory};
 
 use crate::chosen::{Choice, Form, Subcommand};
 use crate::exploring::explore_script;
@@ -197,7 +197,8 @@ fn draw_session<B: Allocator, R: Read, W: Write>(
 }
 
 /// Reads the whole input, plays it as was chosen, and then prints; nothing is written before the whole text stands, but at a
-/// prompt, where each line is answered before the next is read. Limits are those of a script's bench; a session has its own. JSON takes its memory from `heap`, and all else from `alloc`.
+/// prompt, where each line is answered before the next is read. Limits are those of a script's bench; a session has its own.
+/// JSON takes its memory from `heap`, and all else from `alloc`.
 pub fn answer<B: Allocator + Sync, T: Threads + Wait + Sync, R: BufRead, W: Write>(
     rt: &T,
     heap: Global,
@@ -208,7 +209,7 @@ pub fn answer<B: Allocator + Sync, T: Threads + Wait + Sync, R: BufRead, W: Writ
     limits: Limits,
 ) -> Result<(), Fault>
     ensures ends { EndsAt choice.command choice.form limits (R.remaining reader.old) result (W.contents writer.old) (W.contents writer.new) }
-    ensures read { OnOk result (IsReadBy choice.command (R.remaining reader.old) (R.remaining reader.new)) }
+    ensures read { OnOk result (IsAtEnd (R.remaining reader.new)) }
     ensures unwritten { IfErr result (λ fault. KeepsBefore fault (W.contents writer.old) (W.contents writer.new)) }
     ensures memory { IfErr result TellsMemory }
     ensures early { EndsSoon choice.command limits result (R.remaining reader.old) (R.remaining reader.new) (W.contents writer.old) (W.contents writer.new) }

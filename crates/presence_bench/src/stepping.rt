@@ -1,6 +1,6 @@
 //! A prompt from the program's input to its output.
 ghost use Rattle.std.specs.Prelude.{◌≡◌, IfErr, OnOk};
-ghost use Rattle.prompt_core.specs.Ends.{IsReadWhole};
+ghost use Rattle.std.specs.Io.KnownBytes.{IsAtEnd};
 ghost use Rattle.presence_bench.specs.Help.{language};
 ghost use Rattle.presence_bench.specs.Program.{EndsAt, EndsSoon, KeepsBefore, TellsMemory};
 ghost use Rattle.presence_bench.specs.declared.chosen.Form.{Form};
@@ -31,7 +31,7 @@ pub fn step_script<B: Allocator, R: BufRead, W: Write>(
     limits: Limits,
 ) -> Result<(), Fault>
     ensures ends { (form : Form) → EndsAt subcommands.Step form limits (R.remaining reader.old) result (W.contents writer.old) (W.contents writer.new) }
-    ensures read { OnOk result (IsReadWhole (R.remaining reader.old) (R.remaining reader.new)) }
+    ensures read { OnOk result (IsAtEnd (R.remaining reader.new)) }
     ensures unwritten { IfErr result (λ fault. KeepsBefore fault (W.contents writer.old) (W.contents writer.new)) }
     ensures memory { IfErr result TellsMemory }
     ensures early { EndsSoon subcommands.Step limits result (R.remaining reader.old) (R.remaining reader.new) (W.contents writer.old) (W.contents writer.new) }

@@ -15,7 +15,7 @@ use Rattle.script_core.specs.Scripts.{Script}
 use Rattle.script_core.specs.declared.fault.ScriptFault.{ScriptFault}
 use Rattle.script_core.specs.Words.{lines_of}
 use Rattle.prompt_core.specs.Answers.{answer, answers}
-use Rattle.prompt_core.specs.Ends.{Answers, EndsEarly, IsCutShort, IsNext, IsReadWhole, ReportLaw, Reports, TakesLine, printed}
+use Rattle.prompt_core.specs.Ends.{Answers, EndsEarly, IsCutShort, IsNext, ReportLaw, Reports, TakesLine, printed}
 use Rattle.prompt_core.specs.declared.prompt_fault.PromptFault.{PromptFault}
 use Rattle.prompt_core.specs.declared.prompt_fault.PromptFault.TheVariants.{WriteFault}
 use Rattle.prompt_core.proofs.Pieces.{first_stays, is_line, rest_stays, taken_whole}
@@ -157,12 +157,6 @@ module _ (help : List ℕ) (limits : Limits) where
   ended None left rest prompt number old new come next = tt
   ended (Some input) None rest prompt number old new come next = absurd come
   ended (Some input) (Some left) rest prompt number old new come next = end input left prompt number old new come next.0
-
-  pub read_whole : (input left rest : Option (List ℕ)) (prompt : Prompt) (number : ℕ) (old new : Option (List ℕ)) →
-      HasComeSo help limits input left prompt number old new → IsNext left rest None → IsReadWhole input rest
-  read_whole None left rest prompt number old new come next = tt
-  read_whole (Some input) None rest prompt number old new come next = absurd come
-  read_whole (Some input) (Some left) rest prompt number old new come next = next.1
 
   pub cut_short : (fault : PromptFault) (input left rest : Option (List ℕ)) (prompt : Prompt) (number : ℕ) (old new : Option (List ℕ)) →
       HasComeSo help limits input left prompt number old new → TakesLine left rest → EndsEarly help limits fault input rest old new

@@ -24,11 +24,6 @@ IsNext None new line = ⊤
 IsNext (Some left) new None = (left ≡ []) × (new ≡ Some [])
 IsNext (Some left) new (Some line) = (line ≡ kept (first_piece 10 left)) × (new ≡ Some (drop_through 10 left))
 
--- known bytes were all read
-abbrev pub IsReadWhole : Option (List ℕ) → Option (List ℕ) → Type 0
-IsReadWhole None left = ⊤
-IsReadWhole (Some input) left = left ≡ Some []
-
 -- no more than a line was taken in
 abbrev pub TakesLine : Option (List ℕ) → Option (List ℕ) → Type 0
 TakesLine old new = (bytes : List ℕ) × Consumes old new bytes × StopsAt bytes 10

@@ -31,13 +31,17 @@ pub fn next_line<A: Allocator, R: BufRead>(
     reader: &mut R,
 ) -> Result<Option<Vec<u8, A>>, PromptFault>
     ensures next { IfOk result (λ line. IsNext (R.remaining reader.old) (R.remaining reader.new) (option_map vec_items line)) }
+    ensures end { result ≡ Ok None → IsAtEnd (R.remaining reader.new) }
     ensures line { TakesLine (R.remaining reader.old) (R.remaining reader.new) }
     ensures most { IfOk result (λ line. IfSome line (λ line. vec_len line ≤ KEPT)) }
 {
     let mut line = Vec::new(alloc);
     for _turn in 0..u64::MAX {
         let Some(byte) = next_byte(reader)? else {
-            return Ok(if line.is_empty() { None } else { Some(line) });
+            if line.is_empty() {
+                return Ok(None);
+            }
+            return Ok(Some(line));
         };
         if byte == b'\n' {
             return Ok(Some(line));

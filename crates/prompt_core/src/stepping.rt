@@ -1,7 +1,7 @@
 //! A prompt from a reader to a writer.
 ghost use Rattle.std.specs.Prelude.{◌≡◌, ℕ, IfErr, OnErr, OnOk, take};
-ghost use Rattle.std.specs.Io.KnownBytes.{Appends};
-ghost use Rattle.prompt_core.specs.Ends.{Answers, EndsEarly, IsReadWhole, Reports};
+ghost use Rattle.std.specs.Io.KnownBytes.{Appends, IsAtEnd};
+ghost use Rattle.prompt_core.specs.Ends.{Answers, EndsEarly, Reports};
 ghost use Rattle.prompt_core.specs.declared.prompt_fault.PromptFault.TheVariants.{WriteFault};
 
 use crate::answering::answer;
@@ -40,7 +40,7 @@ pub fn step<B: Allocator, R: BufRead, W: Write>(
 ) -> Result<(), PromptFault>
     ensures answers { OnOk result (Answers help.now limits (R.remaining reader.old) (W.contents writer.old) (W.contents writer.new)) }
     ensures report { OnOk result (Reports limits (R.remaining reader.old) (W.contents writer.old) (W.contents writer.new)) }
-    ensures read { OnOk result (IsReadWhole (R.remaining reader.old) (R.remaining reader.new)) }
+    ensures read { OnOk result (IsAtEnd (R.remaining reader.new)) }
     ensures early { IfErr result (λ fault. EndsEarly help.now limits fault (R.remaining reader.old) (R.remaining reader.new) (W.contents writer.old) (W.contents writer.new)) }
 {
     report_law();
