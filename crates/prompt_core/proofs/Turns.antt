@@ -15,9 +15,10 @@ use Rattle.script_core.specs.Scripts.{Script}
 use Rattle.script_core.specs.declared.fault.ScriptFault.{ScriptFault}
 use Rattle.script_core.specs.Words.{lines_of}
 use Rattle.prompt_core.specs.Answers.{answer, answers}
-use Rattle.prompt_core.specs.Ends.{Answers, EndsEarly, IsCutShort, IsNext, ReportLaw, Reports, TakesLine, printed}
+use Rattle.prompt_core.specs.Ends.{Answers, EndsEarly, IsCutShort, IsNext, ReportLaw, Reports, TakesLine, kept, printed}
 use Rattle.prompt_core.specs.declared.prompt_fault.PromptFault.{PromptFault}
 use Rattle.prompt_core.specs.declared.prompt_fault.PromptFault.TheVariants.{WriteFault}
+use Rattle.prompt_core.proofs.Kept.{kept_answer}
 use Rattle.prompt_core.proofs.Pieces.{first_stays, is_line, rest_stays, taken_whole}
 use Rattle.prompt_core.proofs.Printed.{next_answered, none_left}
 
@@ -142,15 +143,20 @@ module _ (help : List ℕ) (limits : Limits) where
 
   -- the same, where the reader's bytes are known
 
+  answer_is : (prompt : Prompt) (number : ℕ) (left line : List ℕ) → line ≡ kept (first_piece 10 left) →
+      answer help prompt number line ≡ answer help prompt number (first_piece 10 left)
+  answer_is prompt number left line is = ap (answer help prompt number) is ∙ kept_answer help prompt number (first_piece 10 left)
+
   pub turned : (input left rest : Option (List ℕ)) (prompt after : Prompt) (number : ℕ) (old middle new : Option (List ℕ)) (line text : List ℕ) →
       HasComeSo help limits input left prompt number old middle → IsNext left rest (Some line) → text ≡ (answer help prompt number line).1 →
       after ≡ (answer help prompt number line).0 → Appends middle new text → HasComeSo help limits input rest after (number + 1) old new
-  turned None left rest prompt after number old middle new line text come next text_is after_is out = tt
-  turned (Some input) None rest prompt after number old middle new line text come next text_is after_is out = absurd come
-  turned (Some input) (Some left) rest prompt after number old middle new line text come next text_is after_is out =
+  turned None left rest prompt after number old middle new line text come next told moved out = tt
+  turned (Some input) None rest prompt after number old middle new line text come next told moved out = absurd come
+  turned (Some input) (Some left) rest prompt after number old middle new line text come next told moved out =
       subst (λ (r : Option (List ℕ)). HasComeSo help limits (Some input) r after (number + 1) old new) (sym next.1)
-      (turn input left prompt number old middle new text after come (text_is ∙ ap (λ (l : List ℕ). (answer help prompt number l).1) next.0)
-      (after_is ∙ ap (λ (l : List ℕ). (answer help prompt number l).0) next.0) out)
+      (turn input left prompt number old middle new text after come
+      (told ∙ ap (λ (a : Prompt × List ℕ). a.1) (answer_is prompt number left line next.0))
+      (moved ∙ ap (λ (a : Prompt × List ℕ). a.0) (answer_is prompt number left line next.0)) out)
 
   pub ended : (input left rest : Option (List ℕ)) (prompt : Prompt) (number : ℕ) (old new : Option (List ℕ)) →
       HasComeSo help limits input left prompt number old new → IsNext left rest None → Answers help limits input old new
@@ -177,11 +183,12 @@ module _ (help : List ℕ) (limits : Limits) where
   pub cut_writing : (input left rest : Option (List ℕ)) (prompt : Prompt) (number : ℕ) (old middle new : Option (List ℕ)) (line text : List ℕ) (count : ℕ) →
       HasComeSo help limits input left prompt number old middle → IsNext left rest (Some line) → text ≡ (answer help prompt number line).1 →
       Appends middle new (take count text) → EndsEarly help limits WriteFault input rest old new
-  cut_writing None left rest prompt number old middle new line text count come next text_is out = tt
-  cut_writing (Some input) None rest prompt number old middle new line text count come next text_is out = absurd come
-  cut_writing (Some input) (Some left) rest prompt number old middle new line text count come next text_is out =
+  cut_writing None left rest prompt number old middle new line text count come next told out = tt
+  cut_writing (Some input) None rest prompt number old middle new line text count come next told out = absurd come
+  cut_writing (Some input) (Some left) rest prompt number old middle new line text count come next told out =
       subst (λ (r : Option (List ℕ)). EndsEarly help limits WriteFault (Some input) r old new) (sym next.1)
-      (cut_part input left prompt number old middle new text count come (text_is ∙ ap (λ (l : List ℕ). (answer help prompt number l).1) next.0) out)
+      (cut_part input left prompt number old middle new text count come
+      (told ∙ ap (λ (a : Prompt × List ℕ). a.1) (answer_is prompt number left line next.0)) out)
 
 -- a script without faults has its report
 pub reports : ReportLaw → (help : List ℕ) (limits : Limits) (input old new : Option (List ℕ)) → Answers help limits input old new →

@@ -1,5 +1,5 @@
 //! The next line of a reader. Of a line that is longer than a script may have no more is kept than shows that it is.
-ghost use Rattle.std.specs.Prelude.{◌≡◌, ◌∷◌, [], ◌≤◌, IfOk, IfSome, MatchOption, OnErr, option_map, vec_items, vec_len};
+ghost use Rattle.std.specs.Prelude.{◌≡◌, ◌∷◌, [], ◌≤◌, IfOk, IfSome, OnErr, option_map, vec_items, vec_len};
 ghost use Rattle.std.specs.Io.KnownBytes.{Consumes, IsAtEnd, Keeps};
 ghost use Rattle.prompt_core.specs.Ends.{IsNext, TakesLine};
 

@@ -1,5 +1,5 @@
 use Rattle.std.proofs.Common.{◌≡◌, ◌∷◌, [], ◌<◌, ◌≤◌, length, Ok, ap, arith}
-use Rattle.std.specs.Io.KnownBytes.{Consumes, Keeps}
+use Rattle.std.specs.Io.KnownBytes.{Consumes}
 use Rattle.std.proofs.lemmas.Grind.{common_steps}
 use Rattle.prompt_core.specs.declared.reading.TheConstants.{KEPT}
 use Rattle.prompt_core.proofs.Taken.{begins, ends_before, ends_fed, ends_unfed, few_kept, grows, stays, takes, takes_more}

@@ -1,8 +1,7 @@
-use Rattle.std.proofs.Common.{◌≡◌, ◌∙◌, ap, sym, List, ℕ, Option, Some}
+use Rattle.std.proofs.Common.{◌≡◌, ◌∙◌, Ok, ap, sym, List, ℕ}
 use Rattle.std.proofs.lemmas.Result.{err_from_is_err_and}
-use Rattle.std.specs.Io.BufRead.{strip_last}
 use Rattle.prompt_core.specs.Answers.{answer}
-use Rattle.prompt_core.proofs.Turns.{begins, cut_before, cut_short, cut_writing, ended, of_each, read_whole, reports, turned}
+use Rattle.prompt_core.proofs.Turns.{begins, cut_before, cut_short, cut_writing, ended, of_each, reports, turned}
 use Rattle.prompt_core.proofs.stepping.step.Goals as goal
 
 pub loop-number-init : goal.loop-number-init
@@ -14,6 +13,7 @@ returns-in_err-line-clause-early g c =
     (λ fault. cut_short c.args.help.now c.args.limits fault _ _ _ _ _ _ _ c.loop-number.invariant c.next_line.ensures.line)
 
 -- the input is at its end
+
 pub returns-in_default-clause-answers : goal.returns-in_default-clause-answers
 returns-in_default-clause-answers g c =
     ended c.args.help.now c.args.limits _ _ (g.R.Read.remaining c.next_line.new.reader) _ _ _ _ c.loop-number.invariant (rw c.in_default.is at c.in_ok-line.ensures.next)
@@ -24,10 +24,10 @@ returns-in_default-clause-report g c =
     (ended c.args.help.now c.args.limits _ _ (g.R.Read.remaining c.next_line.new.reader) _ _ _ _ c.loop-number.invariant (rw c.in_default.is at c.in_ok-line.ensures.next))
 
 pub returns-in_default-clause-read : goal.returns-in_default-clause-read
-returns-in_default-clause-read g c =
-    read_whole c.args.help.now c.args.limits _ _ _ _ _ _ _ c.loop-number.invariant (rw c.in_default.is at c.in_ok-line.ensures.next)
+returns-in_default-clause-read g c = c.in_ok-line.ensures.end (ap Ok c.in_default.is)
 
 -- a line was taken in
+
 pub returns-in_err-answer-clause-early : goal.returns-in_err-answer-clause-early
 returns-in_err-answer-clause-early g c =
     of_each c.from_residual-in_err-answer.result _
@@ -35,10 +35,10 @@ returns-in_err-answer-clause-early g c =
 
 pub returns-in_err-put_out-clause-early : goal.returns-in_err-put_out-clause-early
 returns-in_err-put_out-clause-early g c =
-    let line : List ℕ = strip_last 10 c.in-Some.line.items in
+    let line = c.in-Some.line.items in
     let text_is : c.deref-in-loop-number.result.now ≡ (answer c.args.help.now c.loop-number.prompt c.loop-number.number line).1 =
     c.deref-in-loop-number.ensures.value ∙ c.in_ok-answer.ensures.text
-    ∙ ap (λ (l : List ℕ). (answer c.args.help.now c.loop-number.prompt c.loop-number.number l).1) (c.without_feed.ensures ∙ ap (strip_last 10) c.deref.ensures.value) in
+    ∙ ap (λ (l : List ℕ). (answer c.args.help.now c.loop-number.prompt c.loop-number.number l).1) c.deref.ensures.value in
     let p = err_from_is_err_and c.from_residual-in_err-put_out.result c.from_residual-in_err-put_out.ensures.1 in
     rw (p.1, p.2, c.in_err-put_out.ensures.fault)
     (cut_writing c.args.help.now c.args.limits _ (g.R.Read.remaining c.loop-number.reader) (g.R.Read.remaining c.next_line.new.reader) c.loop-number.prompt
@@ -47,13 +47,13 @@ returns-in_err-put_out-clause-early g c =
 
 pub loop-number-preserved : goal.loop-number-preserved
 loop-number-preserved g c =
-    let line : List ℕ = strip_last 10 c.in-Some.line.items in
-    let line_is : c.without_feed.result.now ≡ line = c.without_feed.ensures ∙ ap (strip_last 10) c.deref.ensures.value in
+    let line = c.in-Some.line.items in
     turned c.args.help.now c.args.limits _ (g.R.Read.remaining c.loop-number.reader) (g.R.Read.remaining c.next_line.new.reader) c.loop-number.prompt
     c.answer.new.prompt c.loop-number.number _ (g.W.Write.contents c.loop-number.writer) _ line c.deref-in-loop-number.result.now c.loop-number.invariant
     (rw c.in-Some.is at c.in_ok-line.ensures.next)
-    (c.deref-in-loop-number.ensures.value ∙ c.in_ok-answer.ensures.text ∙ ap (λ (l : List ℕ). (answer c.args.help.now c.loop-number.prompt c.loop-number.number l).1) line_is)
-    (c.in_ok-answer.ensures.prompt ∙ ap (λ (l : List ℕ). (answer c.args.help.now c.loop-number.prompt c.loop-number.number l).0) line_is)
+    (c.deref-in-loop-number.ensures.value ∙ c.in_ok-answer.ensures.text
+    ∙ ap (λ (l : List ℕ). (answer c.args.help.now c.loop-number.prompt c.loop-number.number l).1) c.deref.ensures.value)
+    (c.in_ok-answer.ensures.prompt ∙ ap (λ (l : List ℕ). (answer c.args.help.now c.loop-number.prompt c.loop-number.number l).0) c.deref.ensures.value)
     c.in_ok-put_out.ensures.ok
 
 pub returns-clause-early : goal.returns-clause-early
