@@ -1,5 +1,5 @@
 -- The lines of an input, one after another.
-use Rattle.std.proofs.Common.{◌≡◌, ◌≢◌, ℕ, suc, ◌-◌, ◌==◌, ◌&&◌, nat_lt, Bool, true, false, if◌then◌else◌, List, [], ◌∷◌, ◌++◌, length, take, slice_index}
+use Rattle.std.proofs.Common.{◌≡◌, ◌≢◌, ℕ, suc, ◌-◌, ◌<◌, ◌==◌, ◌&&◌, nat_lt, Bool, true, false, if◌then◌else◌, List, [], ◌∷◌, ◌++◌, length, take, slice_index}
 use Rattle.std.proofs.Common.{refl, sym, subst, ap, ap₂, ◌∙◌, arith}
 use Rattle.std.proofs.lemmas.Bool.{eqb-true, eqb-false, ne_eqb}
 use Rattle.std.proofs.lemmas.Bool.Decides.{nat_tests}
@@ -82,6 +82,15 @@ taken_whole (x ∷ xs) = go (x == 10) refl (taken_whole xs)
     go : (b : Bool) → (x == 10) ≡ b → take_through 10 xs ++ drop_through 10 xs ≡ xs → take_through 10 (x ∷ xs) ++ drop_through 10 (x ∷ xs) ≡ x ∷ xs
     go true is rest = through_back x xs is
     go false is rest = ap₂ (λ (a b : List ℕ). a ++ b) (through_more x xs is) (rest_more x xs is) ∙ ap (λ (l : List ℕ). x ∷ l) rest
+
+-- where anything is left, it is something
+pub some_taken : (xs : List ℕ) → xs ≢ [] → 0 < length (take_through 10 xs)
+some_taken [] some = absurd (some refl)
+some_taken (x ∷ xs) some = go (x == 10)
+  where
+    go : (b : Bool) → 0 < length (if b then x ∷ [] else x ∷ take_through 10 xs)
+    go true = omega arith
+    go false = omega arith
 
 -- it is the first line still where not all that is behind it follows
 record IsFirst (xs more : List ℕ) : Type 0 where

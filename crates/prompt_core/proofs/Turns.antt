@@ -1,8 +1,8 @@
 -- A turn of a prompt: a line is taken in, and its answer goes out.
-use Rattle.std.proofs.Common.{◌≡◌, ℕ, ◌+◌, List, [], ◌∷◌, ◌++◌, length, take, drop, Option, Some, None, Result, Ok, Err, IfErr, IfOk, ◌≢◌, refl, sym, ap, ap₂, ◌∙◌, subst, append_assoc, append-nil}
+use Rattle.std.proofs.Common.{◌≡◌, ℕ, ◌+◌, ◌-◌, ◌^◌, ◌<◌, ◌≤◌, List, [], ◌∷◌, ◌++◌, length, take, drop, Option, Some, None, Result, Ok, Err, IfErr, IfOk, ◌≢◌, refl, sym, ap, ap₂, ◌∙◌, subst, append_assoc, append-nil, arith}
 use Rattle.std.proofs.KnownBytes.{Appends-nil, Appends-trans}
 use Rattle.std.proofs.Math.Seq.{take-append_seam}
-use Rattle.std.proofs.lemmas.List.{take-append-drop}
+use Rattle.std.proofs.lemmas.List.{length-append, take-append-drop}
 use Rattle.std.proofs.lemmas.List.Elements.{All-nil}
 use Rattle.std.specs.Io.{StartsWith, StopsAt}
 use Rattle.std.specs.Io.BufRead.{drop_through, first_piece, take_through}
@@ -15,11 +15,11 @@ use Rattle.script_core.specs.Scripts.{Script}
 use Rattle.script_core.specs.declared.fault.ScriptFault.{ScriptFault}
 use Rattle.script_core.specs.Words.{lines_of}
 use Rattle.prompt_core.specs.Answers.{answer, answers}
-use Rattle.prompt_core.specs.Ends.{Answers, EndsEarly, IsCutShort, IsNext, ReportLaw, Reports, TakesLine, kept, printed}
+use Rattle.prompt_core.specs.Ends.{Answers, EndsEarly, IsCutShort, IsEndless, IsNext, ReportLaw, Reports, TakesLine, kept, printed}
 use Rattle.prompt_core.specs.declared.prompt_fault.PromptFault.{PromptFault}
 use Rattle.prompt_core.specs.declared.prompt_fault.PromptFault.TheVariants.{WriteFault}
 use Rattle.prompt_core.proofs.Kept.{kept_answer}
-use Rattle.prompt_core.proofs.Pieces.{first_stays, is_line, rest_stays, taken_whole}
+use Rattle.prompt_core.proofs.Pieces.{first_stays, is_line, rest_stays, some_taken, taken_whole}
 use Rattle.prompt_core.proofs.Printed.{next_answered, none_left}
 
 appends_as : (old new : Option (List ℕ)) (a b : List ℕ) → a ≡ b → Appends old new a → Appends old new b
@@ -35,6 +35,7 @@ pub record HasCome (help : List ℕ) (limits : Limits) (input left : List ℕ) (
   pub text : List ℕ
   pub taken : input ≡ answered ++ left
   pub out : Appends old new text
+  pub counted : number ≤ length answered + 1
   pub goes_on : (more behind : List ℕ) → left ≡ more ++ behind → printed help limits (answered ++ more) ≡ text ++ answers help prompt number (lines_of more)
 
 -- the same, where the reader's bytes are known
@@ -56,7 +57,7 @@ module _ (help : List ℕ) (limits : Limits) where
   -- before the first line
   pub begins : (input old : Option (List ℕ)) → HasComeSo help limits input input (new_prompt limits) 1 old old
   begins None old = tt
-  begins (Some input) old = record { answered = []; text = []; taken = refl; out = Appends-nil old; goes_on = λ more behind is. refl }
+  begins (Some input) old = record { answered = []; text = []; taken = refl; out = Appends-nil old; counted = omega arith; goes_on = λ more behind is. refl }
 
   -- what went out is what is printed of what was answered
   module _ (input left : List ℕ) (prompt : Prompt) (number : ℕ) (old new : Option (List ℕ)) where
@@ -95,9 +96,9 @@ module _ (help : List ℕ) (limits : Limits) where
     here = answer help prompt number (first_piece 10 left)
 
     -- and its answer went out
-    turn : (after : Prompt) → HasCome help limits input left prompt number old middle → text ≡ here.1 → after ≡ here.0 →
+    turn : left ≢ [] → (after : Prompt) → HasCome help limits input left prompt number old middle → text ≡ here.1 → after ≡ here.0 →
         Appends middle new text → HasCome help limits input (drop_through 10 left) after (number + 1) old new
-    turn after come text_is_so after_is out =
+    turn some after come text_is_so after_is out =
         record {
           answered = come.answered ++ take_through 10 left;
           text = come.text ++ text;
@@ -105,6 +106,9 @@ module _ (help : List ℕ) (limits : Limits) where
               come.taken ∙ ap (λ (l : List ℕ). come.answered ++ l) (sym (taken_whole left))
               ∙ sym (append_assoc come.answered (take_through 10 left) (drop_through 10 left));
           out = Appends-trans old middle new come.text text come.out out;
+          counted =
+              let one : 0 < length (take_through 10 left) = some_taken left some in
+              omega (arith, length-append come.answered (take_through 10 left), come.counted);
           goes_on = λ more behind is.
               ap (printed help limits) (append_assoc come.answered (take_through 10 left) more)
               ∙ come.goes_on (take_through 10 left ++ more) behind
@@ -153,10 +157,10 @@ module _ (help : List ℕ) (limits : Limits) where
   turned None left rest prompt after number old middle new line text come next told moved out = tt
   turned (Some input) None rest prompt after number old middle new line text come next told moved out = absurd come
   turned (Some input) (Some left) rest prompt after number old middle new line text come next told moved out =
-      subst (λ (r : Option (List ℕ)). HasComeSo help limits (Some input) r after (number + 1) old new) (sym next.1)
-      (turn input left prompt number old middle new text after come
-      (told ∙ ap (λ (a : Prompt × List ℕ). a.1) (answer_is prompt number left line next.0))
-      (moved ∙ ap (λ (a : Prompt × List ℕ). a.0) (answer_is prompt number left line next.0)) out)
+      subst (λ (r : Option (List ℕ)). HasComeSo help limits (Some input) r after (number + 1) old new) (sym next.2)
+      (turn input left prompt number old middle new text next.0 after come
+      (told ∙ ap (λ (a : Prompt × List ℕ). a.1) (answer_is prompt number left line next.1))
+      (moved ∙ ap (λ (a : Prompt × List ℕ). a.0) (answer_is prompt number left line next.1)) out)
 
   pub ended : (input left rest : Option (List ℕ)) (prompt : Prompt) (number : ℕ) (old new : Option (List ℕ)) →
       HasComeSo help limits input left prompt number old new → IsNext left rest None → Answers help limits input old new
@@ -186,9 +190,27 @@ module _ (help : List ℕ) (limits : Limits) where
   cut_writing None left rest prompt number old middle new line text count come next told out = tt
   cut_writing (Some input) None rest prompt number old middle new line text count come next told out = absurd come
   cut_writing (Some input) (Some left) rest prompt number old middle new line text count come next told out =
-      subst (λ (r : Option (List ℕ)). EndsEarly help limits WriteFault (Some input) r old new) (sym next.1)
+      subst (λ (r : Option (List ℕ)). EndsEarly help limits WriteFault (Some input) r old new) (sym next.2)
       (cut_part input left prompt number old middle new text count come
-      (told ∙ ap (λ (a : Prompt × List ℕ). a.1) (answer_is prompt number left line next.0)) out)
+      (told ∙ ap (λ (a : Prompt × List ℕ). a.1) (answer_is prompt number left line next.1)) out)
+
+  -- there are no numbers left
+  pub many : (input left : Option (List ℕ)) (prompt : Prompt) (number : ℕ) (old new : Option (List ℕ)) →
+      HasComeSo help limits input left prompt number old new → 2 ^ 64 - 1 ≤ number → IsEndless input
+  many None left prompt number old new come last = tt
+  many (Some input) None prompt number old new come last = absurd come
+  many (Some input) (Some left) prompt number old new come last =
+      let whole : length input ≡ length come.answered + length left = ap length come.taken ∙ length-append come.answered left in
+      omega (arith, come.counted)
+
+  -- nor numbers for the bytes of a line
+  pub long_line : (input left : Option (List ℕ)) (prompt : Prompt) (number : ℕ) (old new : Option (List ℕ)) →
+      HasComeSo help limits input left prompt number old new → IsEndless left → IsEndless input
+  long_line None left prompt number old new come more = tt
+  long_line (Some input) None prompt number old new come more = absurd come
+  long_line (Some input) (Some left) prompt number old new come more =
+      let whole : length input ≡ length come.answered + length left = ap length come.taken ∙ length-append come.answered left in
+      omega arith
 
 -- a script without faults has its report
 pub reports : ReportLaw → (help : List ℕ) (limits : Limits) (input old new : Option (List ℕ)) → Answers help limits input old new →

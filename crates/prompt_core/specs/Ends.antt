@@ -1,5 +1,5 @@
 -- What a prompt reads and writes, until its input ends or a fault ends it early.
-use Rattle.std.specs.Prelude.{◌≡◌, ◌≢◌, ℕ, List, [], ◌++◌, take, ⊤, Option, None, Some, Ok, IfOk}
+use Rattle.std.specs.Prelude.{◌≡◌, ◌≢◌, ℕ, ◌-◌, ◌^◌, ◌≤◌, List, [], ◌++◌, length, take, ⊤, Option, None, Some, Ok, IfOk}
 use Rattle.std.specs.Io.{StartsWith, StopsAt}
 use Rattle.std.specs.Io.KnownBytes.{Appends, Consumes}
 use Rattle.std.specs.Io.BufRead.{drop_through, first_piece}
@@ -22,7 +22,12 @@ kept line = take KEPT line
 abbrev pub IsNext : Option (List ℕ) → Option (List ℕ) → Option (List ℕ) → Type 0
 IsNext None new line = ⊤
 IsNext (Some left) new None = (left ≡ []) × (new ≡ Some [])
-IsNext (Some left) new (Some line) = (line ≡ kept (first_piece 10 left)) × (new ≡ Some (drop_through 10 left))
+IsNext (Some left) new (Some line) = (left ≢ []) × (line ≡ kept (first_piece 10 left)) × (new ≡ Some (drop_through 10 left))
+
+-- there are as many bytes as there are numbers for lines
+abbrev pub IsEndless : Option (List ℕ) → Type 0
+IsEndless None = ⊤
+IsEndless (Some input) = 2 ^ 64 - 2 ≤ length input
 
 -- no more than a line was taken in
 abbrev pub TakesLine : Option (List ℕ) → Option (List ℕ) → Type 0

@@ -1,7 +1,8 @@
 //! The next line of a reader. Of a line that is longer than a script may have no more is kept than shows that it is.
-ghost use Rattle.std.specs.Prelude.{◌≡◌, ◌∷◌, [], ◌≤◌, IfOk, IfSome, OnErr, option_map, vec_items, vec_len};
+ghost use Rattle.std.specs.Prelude.{◌≡◌, ◌∷◌, [], ◌≤◌, IfErr, IfOk, IfSome, OnErr, option_map, vec_items, vec_len};
 ghost use Rattle.std.specs.Io.KnownBytes.{Consumes, IsAtEnd, Keeps};
-ghost use Rattle.prompt_core.specs.Ends.{IsNext, TakesLine};
+ghost use Rattle.prompt_core.specs.Ends.{IsEndless, IsNext, TakesLine};
+ghost use Rattle.prompt_core.specs.declared.prompt_fault.PromptFault.TheVariants.{ReadFault, TooLong};
 
 use crate::prompt_fault::PromptFault;
 use std::alloc::Allocator;
@@ -16,6 +17,7 @@ fn next_byte<R: BufRead>(reader: &mut R) -> Result<Option<u8>, PromptFault>
     ensures none { result ≡ Ok None → IsAtEnd (R.remaining reader.new) }
     ensures kept { result ≡ Ok None → Keeps (R.remaining reader.old) (R.remaining reader.new) }
     ensures err { OnErr result (Keeps (R.remaining reader.old) (R.remaining reader.new)) }
+    ensures fault { IfErr result (λ fault. fault ≡ ReadFault) }
 {
     let mut byte = [0u8];
     match reader.read(&mut byte) {
@@ -33,6 +35,7 @@ pub fn next_line<A: Allocator, R: BufRead>(
     ensures next { IfOk result (λ line. IsNext (R.remaining reader.old) (R.remaining reader.new) (option_map vec_items line)) }
     ensures end { result ≡ Ok None → IsAtEnd (R.remaining reader.new) }
     ensures line { TakesLine (R.remaining reader.old) (R.remaining reader.new) }
+    ensures endless { result ≡ Err TooLong → IsEndless (R.remaining reader.old) }
     ensures most { IfOk result (λ line. IfSome line (λ line. vec_len line ≤ KEPT)) }
 {
     let mut line = Vec::new(alloc);

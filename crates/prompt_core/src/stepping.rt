@@ -1,8 +1,8 @@
 //! A prompt from a reader to a writer.
 ghost use Rattle.std.specs.Prelude.{◌≡◌, ℕ, IfErr, OnErr, OnOk, take};
 ghost use Rattle.std.specs.Io.KnownBytes.{Appends, IsAtEnd};
-ghost use Rattle.prompt_core.specs.Ends.{Answers, EndsEarly, Reports};
-ghost use Rattle.prompt_core.specs.declared.prompt_fault.PromptFault.TheVariants.{WriteFault};
+ghost use Rattle.prompt_core.specs.Ends.{Answers, EndsEarly, IsEndless, Reports};
+ghost use Rattle.prompt_core.specs.declared.prompt_fault.PromptFault.TheVariants.{TooLong, WriteFault};
 
 use crate::answering::answer;
 use crate::laws::report_law;
@@ -41,6 +41,7 @@ pub fn step<B: Allocator, R: BufRead, W: Write>(
     ensures answers { OnOk result (Answers help.now limits (R.remaining reader.old) (W.contents writer.old) (W.contents writer.new)) }
     ensures report { OnOk result (Reports limits (R.remaining reader.old) (W.contents writer.old) (W.contents writer.new)) }
     ensures read { OnOk result (IsAtEnd (R.remaining reader.new)) }
+    ensures endless { result ≡ Err TooLong → IsEndless (R.remaining reader.old) }
     ensures early { IfErr result (λ fault. EndsEarly help.now limits fault (R.remaining reader.old) (R.remaining reader.new) (W.contents writer.old) (W.contents writer.new)) }
 {
     report_law();

@@ -1,7 +1,8 @@
-use Rattle.std.proofs.Common.{◌≡◌, ◌∙◌, Ok, ap, sym, List, ℕ}
+use Rattle.std.proofs.Common.{◌≡◌, ◌∙◌, Ok, Err, ap, List, ℕ, arith}
 use Rattle.std.proofs.lemmas.Result.{err_from_is_err_and}
 use Rattle.prompt_core.specs.Answers.{answer}
-use Rattle.prompt_core.proofs.Turns.{begins, cut_before, cut_short, cut_writing, ended, of_each, reports, turned}
+use Rattle.prompt_core.specs.declared.prompt_fault.PromptFault.TheVariants.{TooLong}
+use Rattle.prompt_core.proofs.Turns.{begins, cut_before, cut_short, cut_writing, ended, long_line, many, of_each, reports, turned}
 use Rattle.prompt_core.proofs.stepping.step.Goals as goal
 
 pub loop-number-init : goal.loop-number-init
@@ -11,6 +12,12 @@ pub returns-in_err-line-clause-early : goal.returns-in_err-line-clause-early
 returns-in_err-line-clause-early g c =
     of_each c.from_residual.result _
     (λ fault. cut_short c.args.help.now c.args.limits fault _ _ _ _ _ _ _ c.loop-number.invariant c.next_line.ensures.line)
+
+pub returns-in_err-line-clause-endless : goal.returns-in_err-line-clause-endless
+returns-in_err-line-clause-endless g c = λ is.
+    let p = err_from_is_err_and c.from_residual.result c.from_residual.ensures.1 in
+    let same : c.in_err-line.field-0.0 ≡ TooLong = cc in
+    long_line c.args.help.now c.args.limits _ _ _ _ _ _ c.loop-number.invariant (c.in_err-line.ensures.endless (ap Err same))
 
 -- the input is at its end
 
@@ -55,6 +62,9 @@ loop-number-preserved g c =
     ∙ ap (λ (l : List ℕ). (answer c.args.help.now c.loop-number.prompt c.loop-number.number l).1) c.deref.ensures.value)
     (c.in_ok-answer.ensures.prompt ∙ ap (λ (l : List ℕ). (answer c.args.help.now c.loop-number.prompt c.loop-number.number l).0) c.deref.ensures.value)
     c.in_ok-put_out.ensures.ok
+
+pub returns-clause-endless : goal.returns-clause-endless
+returns-clause-endless g c = λ is. many c.args.help.now c.args.limits _ _ _ _ _ _ c.loop-number.invariant (omega arith)
 
 pub returns-clause-early : goal.returns-clause-early
 returns-clause-early g c = cut_before c.args.help.now c.args.limits _ _ _ _ _ _ _ c.loop-number.invariant
