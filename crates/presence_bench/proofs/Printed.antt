@@ -112,12 +112,11 @@ if_ok_each (Err fault) P each = tt
 pub ends_step : ReportLaw → (form : Form) (limits : Limits) (help : List ℕ) → help ≡ language → (known old new : Option (List ℕ)) →
     Answers help limits known old new → EndsAt Step form limits known (Ok tt) old new
 ends_step law form limits help is None old new answered = tt
-ends_step law form limits help is (Some input) old new answered =
-    (
-      printed language limits input,
-      (refl, if_ok_each (script_of input) (λ s. printed language limits input ≡ report_of limits s) (law language limits input)),
-      subst (λ (help : List ℕ). Appends old new (printed help limits input)) is answered,
-    )
+ends_step law form limits help is (Some input) old new answered = (
+  printed language limits input,
+  (refl, if_ok_each (script_of input) (λ s. printed language limits input ≡ report_of limits s) (law language limits input)),
+  subst (λ (help : List ℕ). Appends old new (printed help limits input)) is answered,
+)
 
 pub ends_prompt : (form : Form) (limits : Limits) (fault : PromptFault) (known old new : Option (List ℕ)) →
     EndsAt Step form limits known (Err (faults.Prompt fault)) old new

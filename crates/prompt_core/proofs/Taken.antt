@@ -65,12 +65,11 @@ module _ (old now new : Option (List ℕ)) (line : List ℕ) (turn : ℕ) where
   -- no more than a line was taken in
 
   pub takes : IsBegun old now line turn → Keeps now new → TakesLine old new
-  takes begun same =
-      (
-        begun.bytes,
-        Consumes-kept old now new begun.bytes begun.taken same,
-        All-take (λ b. b ≢ 10) (length begun.bytes - 1) begun.bytes begun.unfed,
-      )
+  takes begun same = (
+    begun.bytes,
+    Consumes-kept old now new begun.bytes begun.taken same,
+    All-take (λ b. b ≢ 10) (length begun.bytes - 1) begun.bytes begun.unfed,
+  )
 
   stops : (bytes : List ℕ) (byte : ℕ) → All (λ b. b ≢ 10) bytes → StopsAt (bytes ++ byte ∷ []) 10
   stops bytes byte unfed =
@@ -79,12 +78,11 @@ module _ (old now new : Option (List ℕ)) (line : List ℕ) (turn : ℕ) where
       (sym (ap (λ n. take n (bytes ++ byte ∷ [])) last ∙ take_at bytes (byte ∷ []) (length bytes) refl)) unfed
 
   pub takes_more : (byte : ℕ) → IsBegun old now line turn → Consumes now new (byte ∷ []) → TakesLine old new
-  takes_more byte begun took =
-      (
-        begun.bytes ++ byte ∷ [],
-        Consumes-trans old now new begun.bytes (byte ∷ []) begun.taken took,
-        stops begun.bytes byte begun.unfed,
-      )
+  takes_more byte begun took = (
+    begun.bytes ++ byte ∷ [],
+    Consumes-trans old now new begun.bytes (byte ∷ []) begun.taken took,
+    stops begun.bytes byte begun.unfed,
+  )
 
 -- as many bytes as turns were taken in
 pub endless : (old now : Option (List ℕ)) (line : List ℕ) (turn : ℕ) → IsBegun old now line turn → 2 ^ 64 - 2 ≤ turn → IsEndless old
@@ -106,12 +104,11 @@ kept_nil bytes none = rw none refl
 
 module _ (line : List ℕ) (turn : ℕ) where
   fed : (left rest : List ℕ) → IsBegun (Some left) (Some (10 ∷ rest)) line turn → IsNext (Some left) (Some rest) (Some line)
-  fed left rest begun =
-      (
-        λ none. not_none begun.bytes rest 10 (sym begun.taken ∙ none),
-        begun.is_kept ∙ ap kept (sym (piece_fed begun.bytes rest begun.unfed) ∙ ap (first_piece 10) (sym begun.taken)),
-        ap Some (sym (rest_fed begun.bytes rest begun.unfed) ∙ ap (drop_through 10) (sym begun.taken)),
-      )
+  fed left rest begun = (
+    λ none. not_none begun.bytes rest 10 (sym begun.taken ∙ none),
+    begun.is_kept ∙ ap kept (sym (piece_fed begun.bytes rest begun.unfed) ∙ ap (first_piece 10) (sym begun.taken)),
+    ap Some (sym (rest_fed begun.bytes rest begun.unfed) ∙ ap (drop_through 10) (sym begun.taken)),
+  )
 
   pub ends_fed : (old now new : Option (List ℕ)) → IsBegun old now line turn → Consumes now new (10 ∷ []) → IsNext old new (Some line)
   ends_fed None now new begun took = tt
@@ -127,8 +124,7 @@ module _ (line : List ℕ) (turn : ℕ) where
 
   unfed_end : (left rest : List ℕ) → IsBegun (Some left) (Some rest) line turn → line ≢ [] → rest ≡ [] → IsNext (Some left) (Some rest) (Some line)
   unfed_end left rest begun some none =
-      let is = bytes_are left rest begun none in
-      (
+      let is = bytes_are left rest begun none in (
         λ nothing. some (begun.is_kept ∙ kept_nil begun.bytes (sym is ∙ nothing)),
         begun.is_kept ∙ ap kept (sym (piece_whole begun.bytes begun.unfed) ∙ ap (first_piece 10) (sym is)),
         ap Some (none ∙ sym (rest_none begun.bytes begun.unfed) ∙ ap (drop_through 10) (sym is)),

@@ -62,11 +62,11 @@ loop-turn-preserved g c =
     let before = g.R.Read.remaining c.loop-turn.reader in
     let took : Consumes before (g.R.Read.remaining c.next_byte.new.reader) (c.in-Some.byte ∷ []) = rw c.in-Some.is at c.in_ok-byte.ensures.some in
     elim c.if-len-lt-KEPT.branch [
-      then-len-lt-KEPT+in_ok-push w ↦
+      | then-len-lt-KEPT+in_ok-push w ↦
           let room : length c.loop-turn.line.items < KEPT = grind (arith, common_steps) in
           rw (w.line-is, w.in_ok-push.ensures.items)
           (grows _ before _ c.loop-turn.line.items _ c.in-Some.byte c.loop-turn.invariant took c.if-byte-eq10.false room)
-    | else-len-lt-KEPT w ↦
+      | else-len-lt-KEPT w ↦
           let full : KEPT ≤ length c.loop-turn.line.items = grind (arith, common_steps) in
           rw w.line-is (stays _ before _ c.loop-turn.line.items _ c.in-Some.byte c.loop-turn.invariant took c.if-byte-eq10.false full)
     ]
