@@ -1,7 +1,7 @@
 -- What a text that was written is, for the input that it was made of.
-use Rattle.std.proofs.Common.{◌≡◌, List, ℕ, Option, None, Some, Result, Ok, Err, IfErr, IsOkAnd, OnOk, sym, subst, arith, inl, inr}
+use Rattle.std.proofs.Common.{◌≡◌, List, ℕ, Option, None, Some, Result, Ok, Err, IfErr, IfOk, IsOkAnd, OnOk, refl, sym, subst, arith}
 use Rattle.std.proofs.lemmas.Bool.Decides.{nat_tests}
-use Rattle.std.specs.Io.KnownBytes.{Keeps}
+use Rattle.std.specs.Io.KnownBytes.{Appends}
 use Rattle.bench_core.specs.Limits.{Limits}
 use Rattle.bench_core.specs.Machine.{Machine}
 use Rattle.script_core.specs.Grammar.{script_of}
@@ -11,14 +11,16 @@ use Rattle.script_core.specs.Scripts.{Script}
 use Rattle.script_core.specs.declared.fault.FaultKind.TheVariants.{TooLong}
 use Rattle.presence_bench.specs.declared.chosen.Form.{Form}
 use Rattle.presence_bench.specs.declared.chosen.Subcommand.{Subcommand}
-use Rattle.presence_bench.specs.declared.chosen.Subcommand.TheVariants.{Play, Race, Load, Explore, Draw}
+use Rattle.presence_bench.specs.declared.chosen.Subcommand.TheVariants.{Play, Race, Load, Explore, Step, Draw}
 use Rattle.presence_bench.specs.declared.fault.Fault.{Fault}
 use Rattle.presence_bench.specs.declared.fault.Fault.TheVariants as faults
 use Rattle.script_core.specs.declared.fault.ScriptFault.{ScriptFault}
 use Rattle.explore_report.specs.Reports.{IsReport}
-use Rattle.presence_bench.specs.Explored.{RefusesReportOf}
-use Rattle.presence_bench.specs.Races.{IsRaceOf, RefusesRaceOf}
-use Rattle.presence_bench.specs.Program.{IsCauseOf, IsUnwritten, IsCauseAt, IsScriptAt, IsSessionAt, Prints, drawn, Ends, EndsAt, EndsAsText, KeepsBefore, TellsMemory, shown}
+use Rattle.prompt_core.specs.Ends.{Answers, EndsEarly, ReportLaw, printed}
+use Rattle.prompt_core.specs.declared.prompt_fault.PromptFault.{PromptFault}
+use Rattle.presence_bench.specs.Help.{language}
+use Rattle.presence_bench.specs.Races.{IsRaceOf}
+use Rattle.presence_bench.specs.Program.{IsCauseAt, IsScriptAt, IsSessionAt, Prints, drawn, Ends, EndsAt, EndsAsText, EndsSoon, KeepsBefore, TellsMemory, shown}
 
 -- an input past the limit has that fault
 pub too_long : (known : Option (List ℕ)) → IsLonger known 1048576 → IsCauseAt known (faults.Script (record { line = 0; kind = TooLong }))
@@ -41,6 +43,7 @@ module _ (form : Form) (limits : Limits) (text : List ℕ) (old new : Option (Li
   ends command input (Err faults.LongSession) p e = elim e [ ]
   ends command input (Err (faults.Race fault)) p e = elim e [ ]
   ends command input (Err (faults.TooManyStates most)) p e = elim e [ ]
+  ends command input (Err (faults.Prompt fault)) p e = elim e [ ]
   ends command input (Err faults.ReadFault) p e = elim e [ ]
   ends command input (Err faults.OutOfMemory) p e = elim e [ ]
 
@@ -84,6 +87,7 @@ module _ (form : Form) (limits : Limits) (text : List ℕ) (old new : Option (Li
   keeps_before (Err faults.LongSession) e = elim e [ ]
   keeps_before (Err (faults.Race fault)) e = elim e [ ]
   keeps_before (Err (faults.TooManyStates most)) e = elim e [ ]
+  keeps_before (Err (faults.Prompt fault)) e = elim e [ ]
   keeps_before (Err faults.ReadFault) e = elim e [ ]
   keeps_before (Err faults.OutOfMemory) e = elim e [ ]
 
@@ -95,37 +99,31 @@ module _ (form : Form) (limits : Limits) (text : List ℕ) (old new : Option (Li
   tells_memory (Err faults.LongSession) e = elim e [ ]
   tells_memory (Err (faults.Race fault)) e = elim e [ ]
   tells_memory (Err (faults.TooManyStates most)) e = elim e [ ]
+  tells_memory (Err (faults.Prompt fault)) e = elim e [ ]
   tells_memory (Err faults.ReadFault) e = elim e [ ]
   tells_memory (Err faults.OutOfMemory) e = elim e [ ]
 
--- what is refused before the writing
-module _ (form : Form) (limits : Limits) (old new : Option (List ℕ)) where
-  ends_unwritten : (command : Subcommand) (input : List ℕ) (fault : Fault) → IsCauseOf command limits input fault → IsUnwritten fault →
-      Keeps old new → Ends command form limits input (Err fault) old new
-  ends_unwritten command input (faults.WriteFault written) c u k = absurd u
-  ends_unwritten command input (faults.Script fault) c u k = (c, k)
-  ends_unwritten command input (faults.Session fault) c u k = (c, k)
-  ends_unwritten command input faults.LongSession c u k = (c, k)
-  ends_unwritten command input (faults.Race fault) c u k = (c, k)
-  ends_unwritten command input (faults.TooManyStates most) c u k = (c, k)
-  ends_unwritten command input faults.ReadFault c u k = (c, k)
-  ends_unwritten command input faults.OutOfMemory c u k = (c, k)
+-- at a prompt
 
-  pub ends_unread : (known : Option (List ℕ)) (fault : Fault) → IsCauseAt known fault → IsUnwritten fault → Keeps old new →
-      EndsAt Race form limits known (Err fault) old new
-  ends_unread None fault c u k = tt
-  ends_unread (Some input) fault c u k = ends_unwritten Race input fault (inl c) u k
+if_ok_each : (r : Result Script ScriptFault) (P : Script → Type 0) → ((s : Script) → r ≡ Ok s → P s) → IfOk r P
+if_ok_each (Ok s) P each = each s refl
+if_ok_each (Err fault) P each = tt
 
-  pub ends_unraced : (known : Option (List ℕ)) (s : Script) (fault : Fault) → IsScriptAt known s → RefusesRaceOf limits s fault →
-      IsUnwritten fault → Keeps old new → EndsAt Race form limits known (Err fault) old new
-  ends_unraced None s fault at c u k = tt
-  ends_unraced (Some input) s fault at c u k =
-      let P : Result Script ScriptFault → Type 0 = λ o. IsOkAnd o (λ s. RefusesRaceOf limits s fault) in
-      ends_unwritten Race input fault (inr (subst P (sym at) c)) u k
+pub ends_step : ReportLaw → (form : Form) (limits : Limits) (help : List ℕ) → help ≡ language → (known old new : Option (List ℕ)) →
+    Answers help limits known old new → EndsAt Step form limits known (Ok tt) old new
+ends_step law form limits help is None old new answered = tt
+ends_step law form limits help is (Some input) old new answered = (
+  printed language limits input,
+  (refl, if_ok_each (script_of input) (λ s. printed language limits input ≡ report_of limits s) (law language limits input)),
+  subst (λ (help : List ℕ). Appends old new (printed help limits input)) is answered,
+)
 
-  pub ends_unexplored : (known : Option (List ℕ)) (s : Script) (fault : Fault) → IsScriptAt known s → RefusesReportOf limits s fault →
-      IsUnwritten fault → Keeps old new → EndsAt Explore form limits known (Err fault) old new
-  ends_unexplored None s fault at c u k = tt
-  ends_unexplored (Some input) s fault at c u k =
-      let P : Result Script ScriptFault → Type 0 = λ o. IsOkAnd o (λ s. RefusesReportOf limits s fault) in
-      ends_unwritten Explore input fault (inr (subst P (sym at) c)) u k
+pub ends_prompt : (form : Form) (limits : Limits) (fault : PromptFault) (known old new : Option (List ℕ)) →
+    EndsAt Step form limits known (Err (faults.Prompt fault)) old new
+ends_prompt form limits fault None old new = tt
+ends_prompt form limits fault (Some input) old new = tt
+
+pub early_prompt : (limits : Limits) (help : List ℕ) → help ≡ language → (fault : PromptFault) (known left old new : Option (List ℕ)) →
+    EndsEarly help limits fault known left old new → EndsSoon Step limits (Err (faults.Prompt fault)) known left old new
+early_prompt limits help is fault known left old new early =
+    subst (λ (help : List ℕ). EndsEarly help limits fault known left old new) is early

@@ -1,3 +1,4 @@
+pub mod Help
 pub mod Line
 pub mod Races
 pub mod Explored

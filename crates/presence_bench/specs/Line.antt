@@ -5,7 +5,7 @@ use Rattle.clap.specs.Words.{App, Row, Rule, first_of, new_app, new_rule, with_r
 use Rattle.presence_bench.specs.declared.chosen.Form.{Form}
 use Rattle.presence_bench.specs.declared.chosen.Form.TheVariants.{Report, Session}
 use Rattle.presence_bench.specs.declared.chosen.Subcommand.{Subcommand}
-use Rattle.presence_bench.specs.declared.chosen.Subcommand.TheVariants.{Play, Race, Load, Explore, Draw}
+use Rattle.presence_bench.specs.declared.chosen.Subcommand.TheVariants.{Play, Race, Load, Explore, Step, Draw}
 use Rattle.presence_bench.specs.declared.chosen.Choice.{Choice}
 
 -- the option that names a form
@@ -24,6 +24,9 @@ load_app = with_rule (new_app (codes "load")) as_rule
 abbrev pub explore_app : App
 explore_app = with_rule (new_app (codes "explore")) as_rule
 
+abbrev pub step_app : App
+step_app = new_app (codes "step")
+
 -- the option that names a step
 abbrev pub why_rule : Rule
 why_rule = record (new_rule (codes "why")) { long = Some (codes "why"); value_names = 1 }
@@ -35,14 +38,15 @@ abbrev pub app : App
 app =
     let bare = new_app (codes "presence_bench") in
     let top : App = record bare { top = record bare.top { has_version = true; no_binary_name = true; subcommand_required = true } } in
-    with_subcommand (with_subcommand (with_subcommand (with_subcommand (with_subcommand top play_app.top) race_app.top) load_app.top) explore_app.top)
-    draw_app.top
+    let older = with_subcommand (with_subcommand (with_subcommand (with_subcommand top play_app.top) race_app.top) load_app.top) explore_app.top in
+    with_subcommand (with_subcommand older step_app.top) draw_app.top
 
 abbrev pub name_of : Subcommand → List ℕ
 name_of Play = codes "play"
 name_of Race = codes "race"
 name_of Load = codes "load"
 name_of Explore = codes "explore"
+name_of Step = codes "step"
 name_of (Draw why) = codes "draw"
 
 abbrev pub form_name : Form → List ℕ
@@ -67,6 +71,7 @@ Paints why Play = ⊤
 Paints why Race = ⊤
 Paints why Load = ⊤
 Paints why Explore = ⊤
+Paints why Step = ⊤
 
 -- the subcommand is the one that the command line finds in the words, and the form and the step those of its options
 pub record Chooses (words : List (List ℕ)) (choice : Choice) : Type 0 where

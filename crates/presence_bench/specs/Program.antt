@@ -1,5 +1,5 @@
 -- What the program prints, and how it ends.
-use Rattle.std.specs.Prelude.{◌≡◌, ◌≢◌, ◌⊎◌, ℕ, ◌<◌, List, [], ◌∷◌, ◌++◌, length, take, ⊤, Option, None, Some, Result, Ok, Err, OnOk, IfErr, IsOkAnd}
+use Rattle.std.specs.Prelude.{◌≡◌, ◌≢◌, ◌⊎◌, ℕ, ◌<◌, List, [], ◌∷◌, ◌++◌, length, take, ⊤, Option, None, Some, Result, Ok, Err, OnOk, IfErr, IfOk, IsOkAnd}
 use Rattle.std.specs.Io.KnownBytes.{Appends, IsAtEnd, Keeps}
 use Rattle.serde_json.specs.Written.{compact_text}
 use Rattle.bench_core.specs.Limits.{Limits}
@@ -19,13 +19,17 @@ use Rattle.svg_core.specs.Trees.{text_of}
 use Rattle.worker_core.specs.declared.race_fault.RaceFault.{RaceFault}
 use Rattle.worker_core.specs.declared.race_fault.RaceFault.TheVariants as races
 use Rattle.explore_report.specs.Reports.{IsReport}
+use Rattle.prompt_core.specs.Ends.{EndsEarly, printed}
+use Rattle.prompt_core.specs.declared.prompt_fault.PromptFault.{PromptFault}
+use Rattle.prompt_core.specs.declared.prompt_fault.PromptFault.TheVariants as prompts
 use Rattle.presence_bench.specs.Explored.{RefusesReportOf}
+use Rattle.presence_bench.specs.Help.{language}
 use Rattle.presence_bench.specs.Races.{IsRaceOf, RefusesRaceOf}
 use Rattle.presence_bench.specs.declared.chosen.Choice.{Choice}
 use Rattle.presence_bench.specs.declared.chosen.Form.{Form}
 use Rattle.presence_bench.specs.declared.chosen.Form.TheVariants.{Report, Session}
 use Rattle.presence_bench.specs.declared.chosen.Subcommand.{Subcommand}
-use Rattle.presence_bench.specs.declared.chosen.Subcommand.TheVariants.{Play, Race, Load, Explore, Draw}
+use Rattle.presence_bench.specs.declared.chosen.Subcommand.TheVariants.{Play, Race, Load, Explore, Step, Draw}
 use Rattle.presence_bench.specs.declared.fault.Fault.{Fault}
 use Rattle.presence_bench.specs.declared.fault.Fault.TheVariants as faults
 
@@ -39,6 +43,10 @@ fault_status (faults.Race races.WorkerRefused) = 5
 fault_status (faults.Race races.OutOfMemory) = 4
 fault_status (faults.Race races.LogsDisagree) = 5
 fault_status (faults.TooManyStates most) = 1
+fault_status (faults.Prompt prompts.TooLong) = 1
+fault_status (faults.Prompt prompts.ReadFault) = 3
+fault_status (faults.Prompt prompts.WriteFault) = 3
+fault_status (faults.Prompt prompts.OutOfMemory) = 4
 fault_status faults.ReadFault = 3
 fault_status (faults.WriteFault written) = 3
 fault_status faults.OutOfMemory = 4
@@ -79,6 +87,7 @@ IsCause input (faults.Session fault) = Refuses input fault
 IsCause input faults.LongSession = 67108864 < length input
 IsCause input (faults.Race fault) = ⊥
 IsCause input (faults.TooManyStates most) = ⊥
+IsCause input (faults.Prompt fault) = ⊥
 IsCause input _ = ⊤
 
 -- what refuses the input of this command: of a race also that a line is no act line, or that the race can't be had; of all orders
@@ -88,6 +97,7 @@ IsCauseOf Race limits input fault = IsCause input fault ⊎ IsOkAnd (script_of i
 IsCauseOf Play limits input fault = IsCause input fault
 IsCauseOf Load limits input fault = IsCause input fault
 IsCauseOf Explore limits input fault = IsCause input fault ⊎ IsOkAnd (script_of input) (λ s. RefusesReportOf limits s fault)
+IsCauseOf Step limits input fault = ⊥
 IsCauseOf (Draw why) limits input fault = IsCause input fault
 
 abbrev pub IsCauseAt : Option (List ℕ) → Fault → Type 0
@@ -103,12 +113,15 @@ shown Session report bench = session_text bench
 abbrev pub drawn : Option ℕ → Machine → List ℕ
 drawn why bench = text_of (picture bench (painted_of bench.state why))
 
--- the text is what the subcommand prints of the input: of a script's bench, of a session's, or of all orders of a script's lines
+-- the text is what the subcommand prints of the input: of a script's bench, of a session's, of all orders of a script's lines, or at
+-- a prompt; there too it is the report of a script without faults
 abbrev pub Prints : Subcommand → Form → Limits → List ℕ → List ℕ → Type 0
 Prints Play form limits input text = IsOkAnd (script_of input) (λ s. text ≡ shown form (report_of limits s) (played limits s))
 Prints Race form limits input text = IsOkAnd (script_of input) (λ s. (m : Machine) × IsRaceOf limits s m × (text ≡ shown form (history_text m) m))
 Prints Load form limits input text = (m : Machine) × IsSession input m × (text ≡ shown form (history_text m) m)
 Prints Explore form limits input text = IsOkAnd (script_of input) (λ s. IsReport limits s text)
+Prints Step form limits input text =
+    (text ≡ printed language limits input) × IfOk (script_of input) (λ s. text ≡ report_of limits s)
 Prints (Draw why) form limits input text = (m : Machine) × IsSession input m × (text ≡ drawn why m)
 
 -- all of the text went out, or, where the writing failed, its first `written` bytes
@@ -117,12 +130,22 @@ EndsAsText text (Ok _) old new = Appends old new text
 EndsAsText text (Err (faults.WriteFault written)) old new = (written < length text) × Appends old new (take written text)
 EndsAsText text (Err fault) old new = ⊥
 
+-- a prompt's faults come at a prompt alone, where they are all that comes; what went out before is told by `EndsSoon`
+abbrev pub HasPrompt : Subcommand → Type 0
+HasPrompt Play = ⊥
+HasPrompt Race = ⊥
+HasPrompt Load = ⊥
+HasPrompt Explore = ⊥
+HasPrompt Step = ⊤
+HasPrompt (Draw why) = ⊥
+
 -- what went out, by the answer: what is printed of the input; its first bytes, where a write failed; and else nothing, and the
 -- fault is the input's
 abbrev pub Ends : Subcommand → Form → Limits → List ℕ → Result (Unit {0}) Fault → Option (List ℕ) → Option (List ℕ) → Type 0
 Ends command form limits input (Ok u) old new = (text : List ℕ) × Prints command form limits input text × Appends old new text
 Ends command form limits input (Err (faults.WriteFault written)) old new =
     (text : List ℕ) × Prints command form limits input text × (written < length text) × Appends old new (take written text)
+Ends command form limits input (Err (faults.Prompt fault)) old new = HasPrompt command
 Ends command form limits input (Err fault) old new = IsCauseOf command limits input fault × Keeps old new
 
 -- the same, where the reader's bytes are known
@@ -133,11 +156,23 @@ EndsAt command form limits (Some input) result old new = Ends command form limit
 -- nothing went out for a fault that came before the writing
 abbrev pub KeepsBefore : Fault → Option (List ℕ) → Option (List ℕ) → Type 0
 KeepsBefore (faults.WriteFault written) old new = ⊤
+KeepsBefore (faults.Prompt fault) old new = ⊤
 KeepsBefore _ old new = Keeps old new
 
--- it is no fault of a write
+-- a prompt that ends early has answered all lines that it took in, but for the last
+abbrev pub EndsSoon : Subcommand → Limits → Result (Unit {0}) Fault → Option (List ℕ) → Option (List ℕ) → Option (List ℕ) → Option (List ℕ) → Type 0
+EndsSoon Step limits (Err (faults.Prompt fault)) input left old new = EndsEarly language limits fault input left old new
+EndsSoon Step limits result input left old new = ⊤
+EndsSoon Play limits result input left old new = ⊤
+EndsSoon Race limits result input left old new = ⊤
+EndsSoon Load limits result input left old new = ⊤
+EndsSoon Explore limits result input left old new = ⊤
+EndsSoon (Draw why) limits result input left old new = ⊤
+
+-- it is no fault of a write, nor of a prompt
 abbrev pub IsUnwritten : Fault → Type 0
 IsUnwritten (faults.WriteFault written) = ⊥
+IsUnwritten (faults.Prompt fault) = ⊥
 IsUnwritten _ = ⊤
 
 -- want of memory is never told as a fault of the input
@@ -155,3 +190,4 @@ pub record Exits (choice : Choice) (input left : Option (List ℕ)) (limits : Li
   pub read : OnOk answer (IsAtEnd left)
   pub unwritten : IfErr answer (λ fault. KeepsBefore fault old new)
   pub memory : IfErr answer TellsMemory
+  pub early : EndsSoon choice.command limits answer input left old new

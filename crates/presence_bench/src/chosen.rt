@@ -11,6 +11,8 @@ pub enum Subcommand {
     Load,
     /// Asks the act lines of a script in every order.
     Explore,
+    /// Takes a script line by line, and answers each before the next is read.
+    Step,
     /// Draws a saved session, with the future of the step of this number painted.
     Draw { why: Option<u64> },
 }

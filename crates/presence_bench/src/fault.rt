@@ -2,6 +2,7 @@
 ghost use Rattle.std.specs.Prelude.{◌≡◌};
 ghost use Rattle.presence_bench.specs.Program.{fault_status};
 
+use prompt_core::PromptFault;
 use script_core::{PlayFault, ScriptFault};
 use session_core::SessionFault;
 use thiserror::Error;
@@ -25,6 +26,9 @@ pub enum Fault {
     /// More different states than so many would be kept of all orders.
     #[error("explore: TooManyStates, more than {most}")]
     TooManyStates { most: usize },
+    /// A prompt ended early, after what it had answered.
+    #[error("{0}")]
+    Prompt(PromptFault),
     /// A read failed.
     #[error("read fault")]
     ReadFault,
@@ -45,6 +49,9 @@ impl Fault {
             Fault::Script(_) | Fault::Session(_) | Fault::LongSession => 1,
             Fault::Race(RaceFault::UnknownActor | RaceFault::NoRoom) => 1,
             Fault::TooManyStates { .. } => 1,
+            Fault::Prompt(PromptFault::TooLong) => 1,
+            Fault::Prompt(PromptFault::ReadFault | PromptFault::WriteFault) => 3,
+            Fault::Prompt(PromptFault::OutOfMemory) => 4,
             Fault::ReadFault | Fault::WriteFault { .. } => 3,
             Fault::Race(RaceFault::OutOfMemory) | Fault::OutOfMemory => 4,
             Fault::Race(RaceFault::WorkerRefused | RaceFault::LogsDisagree) => 5,

@@ -15,6 +15,9 @@ pub const LOAD: &str = "Plays the session on standard input again, and compares 
 pub const EXPLORE: &str =
     "Tells what the act lines of the script on standard input lead to, in every order of its actors";
 
+pub const STEP: &str =
+    "Takes a script line by line from standard input, and answers each line at once";
+
 pub const DRAW: &str =
     "Draws the session on standard input: what each node did, what was sent, and what was undone";
 
@@ -48,4 +51,6 @@ Script lines (words between spaces; a line that begins with # is a comment):
   why NUMBER                      prints a step and all that follows from it
   journal                         prints the steps that remain
 A step prints NUMBER ok, an undo undone NUMBER, a refusal no and its name; then
-come the rows that left (-) and joined (+) the online list of the step's node.";
+come the rows that left (-) and joined (+) the online list of the step's node.
+With the subcommand step, a line that can't be taken is told and changes nothing;
+:save prints the session so far, and :help this text.";

@@ -2,10 +2,10 @@
 ghost use Rattle.std.specs.Prelude.{◌≡◌, IfOk, IfSome, codes, map, false};
 ghost use Rattle.clap.specs.Words.{app_of, first_value, found_of, new_app, rule_of, with_rule};
 ghost use Rattle.clap.specs.declared.Command.TheViews.{out-Command as fields_of};
-ghost use Rattle.presence_bench.specs.Line.{app, as_rule, draw_app, why_rule, name_of, IsForm, IsWhy, Chooses, Paints};
+ghost use Rattle.presence_bench.specs.Line.{app, as_rule, draw_app, step_app, why_rule, name_of, IsForm, IsWhy, Chooses, Paints};
 
 use crate::chosen::{Choice, Form, Subcommand};
-use crate::help::{DRAW, EXPLORE, FORM, LANGUAGE, LOAD, PLAY, PURPOSE, RACE, VERSION, WHY};
+use crate::help::{DRAW, EXPLORE, FORM, LANGUAGE, LOAD, PLAY, PURPOSE, RACE, STEP, VERSION, WHY};
 use clap::error::ErrorKind;
 use clap::{Arg, ArgMatches, Command, Error};
 use std::alloc::{AllocError, Global};
@@ -43,6 +43,14 @@ fn draw_line<'a>(alloc: Global) -> Result<Command<'a>, AllocError>
         .arg(why_option(alloc))
 }
 
+/// The subcommand that is a prompt.
+fn step_line<'a>(alloc: Global) -> Command<'a>
+    ensures app { app_of result ≡ step_app }
+    ensures local { (fields_of result).has_globals ≡ false }
+{
+    Command::new(alloc, "step").about(STEP)
+}
+
 /// A subcommand with the option of a form.
 fn subcommand_line<'a>(
     alloc: Global,
@@ -64,6 +72,7 @@ fn line<'a>(alloc: Global) -> Result<Command<'a>, AllocError>
     let race = subcommand_line(alloc, "race", RACE)?;
     let load = subcommand_line(alloc, "load", LOAD)?;
     let explore = subcommand_line(alloc, "explore", EXPLORE)?;
+    let step = step_line(alloc);
     let draw = draw_line(alloc)?;
     Command::new(alloc, "presence_bench")
         .about(PURPOSE)
@@ -75,6 +84,7 @@ fn line<'a>(alloc: Global) -> Result<Command<'a>, AllocError>
         .subcommand(race)?
         .subcommand(load)?
         .subcommand(explore)?
+        .subcommand(step)?
         .subcommand(draw)
 }
 
@@ -88,6 +98,7 @@ fn command_of(name: &str, why: Option<u64>) -> Option<Subcommand>
         "race" => Some(Subcommand::Race),
         "load" => Some(Subcommand::Load),
         "explore" => Some(Subcommand::Explore),
+        "step" => Some(Subcommand::Step),
         "draw" => Some(Subcommand::Draw { why }),
         _ => None,
     }

@@ -4,18 +4,19 @@ ghost use Rattle.std.specs.Io.KnownBytes.{Appends, IsAtEnd};
 ghost use Rattle.presence_bench.specs.declared.chosen.Form.{Form};
 ghost use Rattle.presence_bench.specs.declared.chosen.Form.TheVariants as forms;
 ghost use Rattle.presence_bench.specs.declared.chosen.Subcommand.TheVariants as subcommands;
-ghost use Rattle.presence_bench.specs.Program.{EndsAt, EndsAsText, KeepsBefore, TellsMemory};
+ghost use Rattle.presence_bench.specs.Program.{EndsAt, EndsAsText, EndsSoon, KeepsBefore, TellsMemory};
 
 use crate::chosen::{Choice, Form, Subcommand};
 use crate::exploring::explore_script;
 use crate::fault::Fault;
 use crate::racing::race_script;
+use crate::stepping::step_script;
 use crate::texts::{read_script, read_session, session_line};
 use bench_core::Limits;
 use picture_core::draw;
 use script_core::{play, report_history, run_script, write_out};
 use std::alloc::{Allocator, Global};
-use std::io::{Read, Write};
+use std::io::{BufRead, Read, Write};
 use std::sync::Wait;
 use std::thread::Threads;
 
@@ -195,9 +196,10 @@ fn draw_session<B: Allocator, R: Read, W: Write>(
     print(writer, &text)
 }
 
-/// Reads the whole input, plays it as was chosen, and then prints; nothing is written before the whole text stands. Limits
-/// are those of a script's bench; a session has its own. JSON takes its memory from `heap`, and all else from `alloc`.
-pub fn answer<B: Allocator + Sync, T: Threads + Wait + Sync, R: Read, W: Write>(
+/// Reads the whole input, plays it as was chosen, and then prints; nothing is written before the whole text stands, but at a
+/// prompt, where each line is answered before the next is read. Limits are those of a script's bench; a session has its own.
+/// JSON takes its memory from `heap`, and all else from `alloc`.
+pub fn answer<B: Allocator + Sync, T: Threads + Wait + Sync, R: BufRead, W: Write>(
     rt: &T,
     heap: Global,
     alloc: &B,
@@ -210,6 +212,7 @@ pub fn answer<B: Allocator + Sync, T: Threads + Wait + Sync, R: Read, W: Write>(
     ensures read { OnOk result (IsAtEnd (R.remaining reader.new)) }
     ensures unwritten { IfErr result (λ fault. KeepsBefore fault (W.contents writer.old) (W.contents writer.new)) }
     ensures memory { IfErr result TellsMemory }
+    ensures early { EndsSoon choice.command limits result (R.remaining reader.old) (R.remaining reader.new) (W.contents writer.old) (W.contents writer.new) }
 {
     match (choice.command, choice.form) {
         (Subcommand::Play, Form::Report) => play_report(alloc, reader, writer, limits),
@@ -218,6 +221,7 @@ pub fn answer<B: Allocator + Sync, T: Threads + Wait + Sync, R: Read, W: Write>(
         (Subcommand::Race, Form::Session) => race_session(rt, heap, alloc, reader, writer, limits),
         (Subcommand::Load, Form::Report) => load_report(heap, alloc, reader, writer, limits),
         (Subcommand::Load, Form::Session) => load_session(heap, alloc, reader, writer, limits),
+        (Subcommand::Step, _) => step_script(heap, alloc, reader, writer, limits),
         (Subcommand::Explore, _) => explore_report(alloc, reader, writer, limits),
         (Subcommand::Draw { why }, form) => draw_session(
             heap, alloc, reader, writer, limits, form, why,

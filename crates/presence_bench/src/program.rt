@@ -11,7 +11,7 @@ use bench_core::Limits;
 use clap::error::ErrorKind;
 use std::alloc::{Allocator, Global};
 use std::convert::AsStr;
-use std::io::{Read, Write};
+use std::io::{BufRead, Write};
 use std::sync::Wait;
 use std::thread::Threads;
 
@@ -26,7 +26,7 @@ fn status_of(answer: Result<(), Fault>) -> u8
 }
 
 /// Does what was chosen, and gives the status. A fault goes as one line to the errors, where these can be written.
-fn run_choice<B: Allocator + Sync, T: Threads + Wait + Sync, R: Read, W: Write, E: Write>(
+fn run_choice<B: Allocator + Sync, T: Threads + Wait + Sync, R: BufRead, W: Write, E: Write>(
     rt: &T,
     heap: Global,
     alloc: &B,
@@ -78,7 +78,7 @@ pub fn program<
     S: AsStr,
     B: Allocator + Sync,
     T: Threads + Wait + Sync,
-    R: Read,
+    R: BufRead,
     W: Write,
     E: Write,
 >(

@@ -9,6 +9,7 @@ use clap::error::ErrorKind;
 use script_core::{FakeReader, FakeWriter};
 use session_core::load;
 use std::alloc::{Allocator, Global};
+use std::io::BufReader;
 use std::process::{Abort, Termination};
 use std::sync::Wait;
 use std::thread::Threads;
@@ -39,7 +40,7 @@ online b 0\n  nodes a b\n  a join 1 r alice phone\n  a leave 2 r bob\n  b up a\n
 refused line 4 NotTracked\n  nodes a b\n  a join 1 r alice phone\n  a leave 2 r bob\n";
 
 /// The words that choose something, and what they choose.
-const CHOSEN: [(&[&str], Subcommand, Form); 12] = [
+const CHOSEN: [(&[&str], Subcommand, Form); 13] = [
     (&["play"], Subcommand::Play, Form::Report),
     (&["play", "--as", "report"], Subcommand::Play, Form::Report),
     (&["play", "--as=session"], Subcommand::Play, Form::Session),
@@ -62,6 +63,7 @@ const CHOSEN: [(&[&str], Subcommand, Form); 12] = [
         Subcommand::Explore,
         Form::Report,
     ),
+    (&["step"], Subcommand::Step, Form::Report),
     (&["draw"], Subcommand::Draw { why: None }, Form::Report),
     (
         &["draw", "--why", "12"],
@@ -83,6 +85,10 @@ fn words_choose_a_subcommand_and_a_form(rt: HostRuntime) {
         (["play", "--as", "x"].as_slice(), ErrorKind::InvalidValue),
         (["load", "--as"].as_slice(), ErrorKind::InvalidValue),
         (["draw", "--why", "x"].as_slice(), ErrorKind::InvalidValue),
+        (
+            ["step", "--as", "report"].as_slice(),
+            ErrorKind::UnknownArgument,
+        ),
         (
             ["draw", "--as", "session"].as_slice(),
             ErrorKind::UnknownArgument,
@@ -162,7 +168,16 @@ const EXPLORED: Case = Case {
     ..PLAYED
 };
 
-const CASES: [Case; 18] = [
+/// Lines at a prompt, one of them with a fault.
+const STEPPED: Case = Case {
+    words: &["step"],
+    script: "nodes a\na join 1 r\n:save\nshow a",
+    printed: "line 2: WrongCount\n\
+{\"acts\":[],\"limits\":[100000,10000,1000000,10000],\"nodes\":[\"a\"],\"version\":2}\nonline a 0\n",
+    ..PLAYED
+};
+
+const CASES: [Case; 22] = [
     PLAYED,
     DRAWN,
     Case {
@@ -234,6 +249,26 @@ const CASES: [Case; 18] = [
         told: "presence_bench: line 2: UnknownWord\n",
         ..RACED
     },
+    STEPPED,
+    Case {
+        words: &["step"],
+        ..PLAYED
+    },
+    Case {
+        fails: true,
+        status: 3,
+        printed: "line 2: WrongCount\n\
+{\"acts\":[],\"limits\":[100000,10000,1000000,10000],\"nodes\":[\"a\"],\"version\":2}\n",
+        told: "presence_bench: read fault\n",
+        ..STEPPED
+    },
+    Case {
+        room: 7,
+        status: 3,
+        printed: "line 2:",
+        told: "presence_bench: write fault\n",
+        ..STEPPED
+    },
     EXPLORED,
     Case {
         script: UNTRACKED,
@@ -255,7 +290,7 @@ const CASES: [Case; 18] = [
 ];
 
 /// The status with which the program ends, and what it wrote to its output and to its errors, each a writer of so much room.
-fn ended<T: Threads + Wait + Sync, B: Allocator + Sync>(
+fn ended<T: Threads + Wait + Sync + Abort, B: Allocator + Sync>(
     rt: &T,
     heap: Global,
     alloc: &B,
@@ -266,12 +301,13 @@ fn ended<T: Threads + Wait + Sync, B: Allocator + Sync>(
     let [room, errors_room] = rooms;
     let mut writer = FakeWriter::new(heap, room);
     let mut errors = FakeWriter::new(heap, errors_room);
+    let mut reader = BufReader::new(heap, reader).expect(rt, "memory");
     let status = program(
         rt,
         heap,
         alloc,
         words,
-        reader,
+        &mut reader,
         &mut writer,
         &mut errors,
         Limits::usual(),
@@ -280,7 +316,7 @@ fn ended<T: Threads + Wait + Sync, B: Allocator + Sync>(
 }
 
 /// Whether the program ends as the case says.
-fn ends_so<T: Threads + Wait + Sync>(
+fn ends_so<T: Threads + Wait + Sync + Abort>(
     rt: &T,
     heap: Global,
     case: &Case,
@@ -302,7 +338,7 @@ fn each_end_has_its_status_and_its_line(rt: HostRuntime) {
         } else {
             ends_so(&rt, rt.alloc(), case, &mut FakeReader::ending(script))
         };
-        assert!(rt; is_so, "{}", case.told);
+        assert!(rt; is_so, "{:?} {}", case.words, case.told);
     }
 }
 

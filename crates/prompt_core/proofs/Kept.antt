@@ -1,0 +1,59 @@
+-- What is kept of a line has the line's answer.
+use Rattle.std.proofs.Common.{◌≡◌, ℕ, ◌+◌, ◌<◌, ◌≤◌, nat_lt, Bool, true, false, List, [], ◌∷◌, ◌++◌, codes, length, take, Result, Ok, Err, refl, sym, ap, ap₂, ◌∙◌, arith}
+use Rattle.std.proofs.lemmas.Bool.{false_from_ne_true, le-ltb, lt-ltb, ltb-false, ltb-true}
+use Rattle.std.proofs.lemmas.List.{length-take-le, take_all}
+use Rattle.std.proofs.lemmas.Slice.Eq.{bytes_eq-Decides}
+use Rattle.std.specs.Str.{bytes_eq}
+use Rattle.script_core.specs.Grammar.{Reading, with_line}
+use Rattle.script_core.specs.Prompts.{Prompt, answered, taken}
+use Rattle.script_core.specs.declared.fault.FaultKind.{FaultKind}
+use Rattle.script_core.specs.declared.fault.FaultKind.TheVariants.{TooLong}
+use Rattle.prompt_core.specs.declared.reading.TheConstants.{KEPT}
+use Rattle.prompt_core.specs.Answers.{answer, answer_by, fault_line, own_answer}
+use Rattle.prompt_core.specs.Ends.{kept}
+
+-- the answer to a line that is too long
+
+refused : (reading : Reading) (number : ℕ) (line : List ℕ) → 4096 < length line → with_line reading number line ≡ Err TooLong
+unfolding with_line
+refused reading number line long = rw (lt-ltb 4096 (length line) long) refl
+
+not_taken : (prompt : Prompt) (line : List ℕ) → 4096 < length line → taken prompt [] line ≡ Err TooLong
+unfolding taken
+not_taken prompt line long = ap (answered prompt []) (refused (record { cast = prompt.cast; lines = [] }) 0 line long)
+
+other_word : (line word : List ℕ) → length word < length line → bytes_eq line word ≡ false
+other_word line word longer =
+    false_from_ne_true (bytes_eq line word)
+    (λ same. let is : length line ≡ length word = ap length ((bytes_eq-Decides line word).0 same) in omega arith)
+
+told : (help : List ℕ) (prompt : Prompt) (number : ℕ) (line : List ℕ) → 4096 < length line →
+    own_answer help prompt.machine number line TooLong ≡ fault_line number TooLong
+unfolding own_answer
+told help prompt number line long =
+    rw (other_word line (codes ":help") (omega arith), other_word line (codes ":save") (omega arith)) refl
+
+long_answer : (help : List ℕ) (prompt : Prompt) (number : ℕ) (line : List ℕ) → 4096 < length line →
+    answer help prompt number line ≡ (prompt, fault_line number TooLong)
+unfolding answer
+long_answer help prompt number line long =
+    ap (answer_by help prompt number line) (not_taken prompt line long) ∙ ap (λ (text : List ℕ). (prompt, text)) (told help prompt number line long)
+
+-- of a line that is too long enough is kept to tell that it is
+long_kept : (line : List ℕ) → 4096 < length line → 4096 < length (kept line)
+unfolding kept
+long_kept line long = omega (arith, length-take-le KEPT line (omega arith))
+
+short_kept : (line : List ℕ) → length line ≤ 4096 → kept line ≡ line
+unfolding kept
+short_kept line few = take_all KEPT line (omega arith)
+
+pub kept_answer : (help : List ℕ) (prompt : Prompt) (number : ℕ) (line : List ℕ) →
+    answer help prompt number (kept line) ≡ answer help prompt number line
+kept_answer help prompt number line = go (nat_lt 4096 (length line)) refl
+  where
+    go : (b : Bool) → nat_lt 4096 (length line) ≡ b → answer help prompt number (kept line) ≡ answer help prompt number line
+    go true is =
+        let long = ltb-true 4096 (length line) is in
+        long_answer help prompt number (kept line) (long_kept line long) ∙ sym (long_answer help prompt number line long)
+    go false is = ap (answer help prompt number) (short_kept line (ltb-false 4096 (length line) is))

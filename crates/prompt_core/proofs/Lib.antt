@@ -1,0 +1,5 @@
+pub mod Kept
+pub mod Pieces
+pub mod Printed
+pub mod Taken
+pub mod Turns

@@ -1,0 +1,229 @@
+-- A turn of a prompt: a line is taken in, and its answer goes out.
+use Rattle.std.proofs.Common.{◌≡◌, ℕ, ◌+◌, ◌-◌, ◌^◌, ◌<◌, ◌≤◌, List, [], ◌∷◌, ◌++◌, length, take, drop, Option, Some, None, Result, Ok, Err, IfErr, IfOk, ◌≢◌, refl, sym, ap, ap₂, ◌∙◌, subst, append_assoc, append-nil, arith}
+use Rattle.std.proofs.KnownBytes.{Appends-nil, Appends-trans}
+use Rattle.std.proofs.Math.Seq.{take-append_seam}
+use Rattle.std.proofs.lemmas.List.{length-append, take-append-drop}
+use Rattle.std.proofs.lemmas.List.Elements.{All-nil}
+use Rattle.std.specs.Io.{StartsWith, StopsAt}
+use Rattle.std.specs.Io.BufRead.{drop_through, first_piece, take_through}
+use Rattle.std.specs.Io.KnownBytes.{Appends, Consumes}
+use Rattle.bench_core.specs.Limits.{Limits}
+use Rattle.script_core.specs.Grammar.{script_of}
+use Rattle.script_core.specs.Prompts.{Prompt, new_prompt}
+use Rattle.script_core.specs.Report.{report_of}
+use Rattle.script_core.specs.Scripts.{Script}
+use Rattle.script_core.specs.declared.fault.ScriptFault.{ScriptFault}
+use Rattle.script_core.specs.Words.{lines_of}
+use Rattle.prompt_core.specs.Answers.{answer, answers}
+use Rattle.prompt_core.specs.Ends.{Answers, EndsEarly, IsCutShort, IsEndless, IsNext, ReportLaw, Reports, TakesLine, kept, printed}
+use Rattle.prompt_core.specs.declared.prompt_fault.PromptFault.{PromptFault}
+use Rattle.prompt_core.specs.declared.prompt_fault.PromptFault.TheVariants.{WriteFault}
+use Rattle.prompt_core.proofs.Kept.{kept_answer}
+use Rattle.prompt_core.proofs.Pieces.{first_stays, is_line, rest_stays, some_taken, taken_whole}
+use Rattle.prompt_core.proofs.Printed.{next_answered, none_left}
+
+appends_as : (old new : Option (List ℕ)) (a b : List ℕ) → a ≡ b → Appends old new a → Appends old new b
+appends_as old new a b is first = subst (λ (t : List ℕ). Appends old new t) is first
+
+starts_as : (whole front behind : List ℕ) → whole ≡ front ++ behind → StartsWith whole front
+starts_as whole front behind is = subst (λ (l : List ℕ). StartsWith l front) (sym is) (take-append_seam front behind)
+
+-- how far a prompt has come: what it answered of the input, and that it answers what is left, or the first lines of it, as the
+-- whole asks
+pub record HasCome (help : List ℕ) (limits : Limits) (input left : List ℕ) (prompt : Prompt) (number : ℕ) (old new : Option (List ℕ)) : Type 0 where
+  pub answered : List ℕ
+  pub text : List ℕ
+  pub taken : input ≡ answered ++ left
+  pub out : Appends old new text
+  pub counted : number ≤ length answered + 1
+  pub goes_on : (more behind : List ℕ) → left ≡ more ++ behind → printed help limits (answered ++ more) ≡ text ++ answers help prompt number (lines_of more)
+
+-- the same, where the reader's bytes are known
+abbrev pub HasComeSo : List ℕ → Limits → Option (List ℕ) → Option (List ℕ) → Prompt → ℕ → Option (List ℕ) → Option (List ℕ) → Type 0
+HasComeSo help limits None left prompt number old new = Unit {0}
+HasComeSo help limits (Some input) None prompt number old new = ⊥
+HasComeSo help limits (Some input) (Some left) prompt number old new = HasCome help limits input left prompt number old new
+
+-- the lines of an input of which no more than these are left
+next_first : (help : List ℕ) (prompt : Prompt) (number : ℕ) (left more behind : List ℕ) → drop_through 10 left ≡ more ++ behind →
+    answers help prompt number (lines_of (take_through 10 left ++ more))
+    ≡ (answer help prompt number (first_piece 10 left)).1 ++ answers help (answer help prompt number (first_piece 10 left)).0 (number + 1) (lines_of more)
+next_first help prompt number left more behind is =
+    next_answered help prompt number (take_through 10 left ++ more)
+    ∙ ap₂ (λ (l m : List ℕ). (answer help prompt number l).1 ++ answers help (answer help prompt number l).0 (number + 1) (lines_of m))
+    (first_stays left more behind is) (rest_stays left more behind is)
+
+module _ (help : List ℕ) (limits : Limits) where
+  -- before the first line
+  pub begins : (input old : Option (List ℕ)) → HasComeSo help limits input input (new_prompt limits) 1 old old
+  begins None old = tt
+  begins (Some input) old = record { answered = []; text = []; taken = refl; out = Appends-nil old; counted = omega arith; goes_on = λ more behind is. refl }
+
+  -- what went out is what is printed of what was answered
+  module _ (input left : List ℕ) (prompt : Prompt) (number : ℕ) (old new : Option (List ℕ)) where
+    text_is : (come : HasCome help limits input left prompt number old new) → printed help limits come.answered ≡ come.text
+    text_is come =
+        ap (printed help limits) (sym (append-nil come.answered)) ∙ come.goes_on [] left refl
+        ∙ ap (λ (t : List ℕ). come.text ++ t) (none_left help prompt number) ∙ append-nil come.text
+
+    -- an input that is at its end is answered
+    end : HasCome help limits input left prompt number old new → left ≡ [] → Appends old new (printed help limits input)
+    end come none =
+        let all : input ≡ come.answered = come.taken ∙ ap (λ (l : List ℕ). come.answered ++ l) none ∙ append-nil come.answered in
+        appends_as old new come.text (printed help limits input) (sym (ap (printed help limits) all ∙ text_is come)) come.out
+
+    -- no more than a line was taken in
+    cut : (fault : PromptFault) (last rest : List ℕ) → HasCome help limits input left prompt number old new → left ≡ last ++ rest →
+        StopsAt last 10 → IsCutShort help limits fault input rest old new
+    cut fault last rest come is stops =
+        let out_is : come.text ≡ printed help limits come.answered ++ [] = sym (append-nil (printed help limits come.answered) ∙ text_is come) in
+        record {
+          answered = come.answered;
+          last = last;
+          part = [];
+          taken = come.taken ∙ ap (λ (l : List ℕ). come.answered ++ l) is;
+          one_line = stops;
+          out = appends_as old new come.text (printed help limits come.answered ++ []) out_is come.out;
+          beginning =
+              starts_as (printed help limits (come.answered ++ last)) (printed help limits come.answered ++ []) (answers help prompt number (lines_of last))
+              (come.goes_on last rest is ∙ ap (λ (t : List ℕ). t ++ answers help prompt number (lines_of last)) out_is);
+          unwritten = λ other. refl;
+        }
+
+  -- a line was taken in
+  module _ (input left : List ℕ) (prompt : Prompt) (number : ℕ) (old middle new : Option (List ℕ)) (text : List ℕ) where
+    abbrev here : Prompt × List ℕ
+    here = answer help prompt number (first_piece 10 left)
+
+    -- and its answer went out
+    turn : left ≢ [] → (after : Prompt) → HasCome help limits input left prompt number old middle → text ≡ here.1 → after ≡ here.0 →
+        Appends middle new text → HasCome help limits input (drop_through 10 left) after (number + 1) old new
+    turn some after come text_is_so after_is out =
+        record {
+          answered = come.answered ++ take_through 10 left;
+          text = come.text ++ text;
+          taken =
+              come.taken ∙ ap (λ (l : List ℕ). come.answered ++ l) (sym (taken_whole left))
+              ∙ sym (append_assoc come.answered (take_through 10 left) (drop_through 10 left));
+          out = Appends-trans old middle new come.text text come.out out;
+          counted =
+              let one : 0 < length (take_through 10 left) = some_taken left some in
+              omega (arith, length-append come.answered (take_through 10 left), come.counted);
+          goes_on = λ more behind is.
+              ap (printed help limits) (append_assoc come.answered (take_through 10 left) more)
+              ∙ come.goes_on (take_through 10 left ++ more) behind
+              (sym (taken_whole left) ∙ ap (λ (l : List ℕ). take_through 10 left ++ l) is ∙ sym (append_assoc (take_through 10 left) more behind))
+              ∙ ap (λ (t : List ℕ). come.text ++ t) (next_first help prompt number left more behind is)
+              ∙ ap₂ (λ (t : List ℕ) (p : Prompt). come.text ++ (t ++ answers help p (number + 1) (lines_of more))) (sym text_is_so) (sym after_is)
+              ∙ sym (append_assoc come.text text (answers help after (number + 1) (lines_of more)));
+        }
+
+    -- and a beginning of its answer went out
+    cut_part : (count : ℕ) → HasCome help limits input left prompt number old middle → text ≡ here.1 → Appends middle new (take count text) →
+        IsCutShort help limits WriteFault input (drop_through 10 left) old new
+    cut_part count come text_is_so out =
+        let part = take count text in
+        let behind = drop count text ++ answers help here.0 (number + 1) (lines_of []) in
+        let so_far : come.text ≡ printed help limits come.answered = sym (text_is input left prompt number old middle come) in
+        record {
+          answered = come.answered;
+          last = take_through 10 left;
+          part = part;
+          taken = come.taken ∙ ap (λ (l : List ℕ). come.answered ++ l) (sym (taken_whole left));
+          one_line = is_line left;
+          out =
+              appends_as old new (come.text ++ part) (printed help limits come.answered ++ part) (ap (λ (t : List ℕ). t ++ part) so_far)
+              (Appends-trans old middle new come.text part come.out out);
+          beginning =
+              starts_as (printed help limits (come.answered ++ take_through 10 left)) (printed help limits come.answered ++ part) behind
+              (come.goes_on (take_through 10 left) (drop_through 10 left) (sym (taken_whole left))
+              ∙ ap (λ (l : List ℕ). come.text ++ answers help prompt number (lines_of l)) (sym (append-nil (take_through 10 left)))
+              ∙ ap (λ (t : List ℕ). come.text ++ t) (next_first help prompt number left [] (drop_through 10 left) refl)
+              ∙ ap (λ (t : List ℕ). come.text ++ (t ++ answers help here.0 (number + 1) (lines_of []))) (sym text_is_so ∙ sym (take-append-drop count text))
+              ∙ ap (λ (t : List ℕ). come.text ++ t) (append_assoc part (drop count text) (answers help here.0 (number + 1) (lines_of [])))
+              ∙ sym (append_assoc come.text part behind) ∙ ap (λ (t : List ℕ). (t ++ part) ++ behind) so_far);
+          unwritten = λ other. absurd (other refl);
+        }
+
+  -- the same, where the reader's bytes are known
+
+  answer_is : (prompt : Prompt) (number : ℕ) (left line : List ℕ) → line ≡ kept (first_piece 10 left) →
+      answer help prompt number line ≡ answer help prompt number (first_piece 10 left)
+  answer_is prompt number left line is = ap (answer help prompt number) is ∙ kept_answer help prompt number (first_piece 10 left)
+
+  pub turned : (input left rest : Option (List ℕ)) (prompt after : Prompt) (number : ℕ) (old middle new : Option (List ℕ)) (line text : List ℕ) →
+      HasComeSo help limits input left prompt number old middle → IsNext left rest (Some line) → text ≡ (answer help prompt number line).1 →
+      after ≡ (answer help prompt number line).0 → Appends middle new text → HasComeSo help limits input rest after (number + 1) old new
+  turned None left rest prompt after number old middle new line text come next told moved out = tt
+  turned (Some input) None rest prompt after number old middle new line text come next told moved out = absurd come
+  turned (Some input) (Some left) rest prompt after number old middle new line text come next told moved out =
+      subst (λ (r : Option (List ℕ)). HasComeSo help limits (Some input) r after (number + 1) old new) (sym next.2)
+      (turn input left prompt number old middle new text next.0 after come
+      (told ∙ ap (λ (a : Prompt × List ℕ). a.1) (answer_is prompt number left line next.1))
+      (moved ∙ ap (λ (a : Prompt × List ℕ). a.0) (answer_is prompt number left line next.1)) out)
+
+  pub ended : (input left rest : Option (List ℕ)) (prompt : Prompt) (number : ℕ) (old new : Option (List ℕ)) →
+      HasComeSo help limits input left prompt number old new → IsNext left rest None → Answers help limits input old new
+  ended None left rest prompt number old new come next = tt
+  ended (Some input) None rest prompt number old new come next = absurd come
+  ended (Some input) (Some left) rest prompt number old new come next = end input left prompt number old new come next.0
+
+  pub cut_short : (fault : PromptFault) (input left rest : Option (List ℕ)) (prompt : Prompt) (number : ℕ) (old new : Option (List ℕ)) →
+      HasComeSo help limits input left prompt number old new → TakesLine left rest → EndsEarly help limits fault input rest old new
+  cut_short fault None left rest prompt number old new come line = tt
+  cut_short fault (Some input) None rest prompt number old new come line = absurd come
+  cut_short fault (Some input) (Some left) None prompt number old new come line = absurd line.1
+  cut_short fault (Some input) (Some left) (Some rest) prompt number old new come line =
+      cut input left prompt number old new fault line.0 rest come line.1 line.2
+
+  -- before a line is taken in
+  pub cut_before : (fault : PromptFault) (input left : Option (List ℕ)) (prompt : Prompt) (number : ℕ) (old new : Option (List ℕ)) →
+      HasComeSo help limits input left prompt number old new → EndsEarly help limits fault input left old new
+  cut_before fault None left prompt number old new come = tt
+  cut_before fault (Some input) None prompt number old new come = absurd come
+  cut_before fault (Some input) (Some left) prompt number old new come =
+      cut input left prompt number old new fault [] left come refl (All-nil (λ b. b ≢ 10))
+
+  pub cut_writing : (input left rest : Option (List ℕ)) (prompt : Prompt) (number : ℕ) (old middle new : Option (List ℕ)) (line text : List ℕ) (count : ℕ) →
+      HasComeSo help limits input left prompt number old middle → IsNext left rest (Some line) → text ≡ (answer help prompt number line).1 →
+      Appends middle new (take count text) → EndsEarly help limits WriteFault input rest old new
+  cut_writing None left rest prompt number old middle new line text count come next told out = tt
+  cut_writing (Some input) None rest prompt number old middle new line text count come next told out = absurd come
+  cut_writing (Some input) (Some left) rest prompt number old middle new line text count come next told out =
+      subst (λ (r : Option (List ℕ)). EndsEarly help limits WriteFault (Some input) r old new) (sym next.2)
+      (cut_part input left prompt number old middle new text count come
+      (told ∙ ap (λ (a : Prompt × List ℕ). a.1) (answer_is prompt number left line next.1)) out)
+
+  -- there are no numbers left
+  pub many : (input left : Option (List ℕ)) (prompt : Prompt) (number : ℕ) (old new : Option (List ℕ)) →
+      HasComeSo help limits input left prompt number old new → 2 ^ 64 - 1 ≤ number → IsEndless input
+  many None left prompt number old new come last = tt
+  many (Some input) None prompt number old new come last = absurd come
+  many (Some input) (Some left) prompt number old new come last =
+      let whole : length input ≡ length come.answered + length left = ap length come.taken ∙ length-append come.answered left in
+      omega (arith, come.counted)
+
+  -- nor numbers for the bytes of a line
+  pub long_line : (input left : Option (List ℕ)) (prompt : Prompt) (number : ℕ) (old new : Option (List ℕ)) →
+      HasComeSo help limits input left prompt number old new → IsEndless left → IsEndless input
+  long_line None left prompt number old new come more = tt
+  long_line (Some input) None prompt number old new come more = absurd come
+  long_line (Some input) (Some left) prompt number old new come more =
+      let whole : length input ≡ length come.answered + length left = ap length come.taken ∙ length-append come.answered left in
+      omega arith
+
+-- a script without faults has its report
+pub reports : ReportLaw → (help : List ℕ) (limits : Limits) (input old new : Option (List ℕ)) → Answers help limits input old new →
+    Reports limits input old new
+reports law help limits None old new answered = tt
+reports law help limits (Some input) old new answered = go (script_of input) (law help limits input)
+  where
+    go : (r : Result Script ScriptFault) → ((script : Script) → r ≡ Ok script → printed help limits input ≡ report_of limits script)
+        → IfOk r (λ script. Appends old new (report_of limits script))
+    go (Err fault) same = tt
+    go (Ok script) same = subst (λ (t : List ℕ). Appends old new t) (same script refl) answered
+
+-- what holds of each fault
+pub of_each : (r : Result (Unit {0}) PromptFault) (Q : PromptFault → Type 0) → ((fault : PromptFault) → Q fault) → IfErr r Q
+of_each (Ok u) Q all = tt
+of_each (Err fault) Q all = all fault

@@ -1,0 +1,70 @@
+-- What a prompt reads and writes, until its input ends or a fault ends it early.
+use Rattle.std.specs.Prelude.{◌≡◌, ◌≢◌, ℕ, ◌-◌, ◌^◌, ◌≤◌, List, [], ◌++◌, length, take, ⊤, Option, None, Some, Ok, IfOk}
+use Rattle.std.specs.Io.{StartsWith, StopsAt}
+use Rattle.std.specs.Io.KnownBytes.{Appends, Consumes}
+use Rattle.std.specs.Io.BufRead.{drop_through, first_piece}
+use Rattle.bench_core.specs.Limits.{Limits}
+use Rattle.script_core.specs.Grammar.{script_of}
+use Rattle.script_core.specs.Prompts.{new_prompt}
+use Rattle.script_core.specs.Report.{report_of}
+use Rattle.script_core.specs.Scripts.{Script}
+use Rattle.script_core.specs.Words.{lines_of}
+use Rattle.prompt_core.specs.Answers.{answers}
+use Rattle.prompt_core.specs.declared.reading.TheConstants.{KEPT}
+use Rattle.prompt_core.specs.declared.prompt_fault.PromptFault.{PromptFault}
+use Rattle.prompt_core.specs.declared.prompt_fault.PromptFault.TheVariants.{WriteFault}
+
+-- what is kept of a line: all of one that a script may have, and of a longer one a byte more than that
+unfoldable pub kept : List ℕ → List ℕ
+kept line = take KEPT line
+
+-- the next line of what a reader has left, or nothing at its end
+abbrev pub IsNext : Option (List ℕ) → Option (List ℕ) → Option (List ℕ) → Type 0
+IsNext None new line = ⊤
+IsNext (Some left) new None = (left ≡ []) × (new ≡ Some [])
+IsNext (Some left) new (Some line) = (left ≢ []) × (line ≡ kept (first_piece 10 left)) × (new ≡ Some (drop_through 10 left))
+
+-- there are as many bytes as there are numbers for lines
+abbrev pub IsEndless : Option (List ℕ) → Type 0
+IsEndless None = ⊤
+IsEndless (Some input) = 2 ^ 64 - 2 ≤ length input
+
+-- no more than a line was taken in
+abbrev pub TakesLine : Option (List ℕ) → Option (List ℕ) → Type 0
+TakesLine old new = (bytes : List ℕ) × Consumes old new bytes × StopsAt bytes 10
+
+-- all that is printed of an input
+abbrev pub printed : List ℕ → Limits → List ℕ → List ℕ
+printed help limits input = answers help (new_prompt limits) 1 (lines_of input)
+
+-- the answers to all lines of an input went out, and nothing else
+abbrev pub Answers : List ℕ → Limits → Option (List ℕ) → Option (List ℕ) → Option (List ℕ) → Type 0
+Answers help limits None old new = ⊤
+Answers help limits (Some input) old new = Appends old new (printed help limits input)
+
+-- of a script without faults its report is printed, byte for byte
+abbrev pub ReportLaw : Type 0
+ReportLaw =
+    (help : List ℕ) (limits : Limits) (bytes : List ℕ) (script : Script) → script_of bytes ≡ Ok script → printed help limits bytes ≡ report_of limits script
+
+-- of a script without faults its report went out, and nothing else
+abbrev pub Reports : Limits → Option (List ℕ) → Option (List ℕ) → Option (List ℕ) → Type 0
+Reports limits None old new = ⊤
+Reports limits (Some input) old new = IfOk (script_of input) (λ script. Appends old new (report_of limits script))
+
+-- the answers to all lines that were taken in went out, the last one apart, of whose answer a beginning may have, where a write failed
+pub record IsCutShort (help : List ℕ) (limits : Limits) (fault : PromptFault) (input left : List ℕ) (old new : Option (List ℕ)) : Type 0 where
+  pub answered : List ℕ
+  pub last : List ℕ
+  pub part : List ℕ
+  pub taken : input ≡ answered ++ (last ++ left)
+  pub one_line : StopsAt last 10
+  pub out : Appends old new (printed help limits answered ++ part)
+  pub beginning : StartsWith (printed help limits (answered ++ last)) (printed help limits answered ++ part)
+  pub unwritten : fault ≢ WriteFault → part ≡ []
+
+-- the same, where the reader's bytes are known
+abbrev pub EndsEarly : List ℕ → Limits → PromptFault → Option (List ℕ) → Option (List ℕ) → Option (List ℕ) → Option (List ℕ) → Type 0
+EndsEarly help limits fault None left old new = ⊤
+EndsEarly help limits fault (Some input) None old new = ⊥
+EndsEarly help limits fault (Some input) (Some left) old new = IsCutShort help limits fault input left old new

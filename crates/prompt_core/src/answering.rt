@@ -1,0 +1,33 @@
+//! The answer to a line.
+ghost use Rattle.std.specs.Prelude.{◌≡◌, IfOk, OnOk};
+ghost use Rattle.prompt_core.specs.Answers.{answer};
+
+use crate::own::put_own;
+use payload_core::Oom;
+use script_core::{FaultKind, Prompt};
+use std::alloc::{Allocator, Global};
+
+/// Does what a line asks, and gives the answer. A fault changes nothing.
+#[tactic(auto, unfolding(crate::specs::Answers::answer))]
+pub fn answer<'a, B: Allocator>(
+    heap: Global,
+    alloc: &'a B,
+    prompt: &mut Prompt<'a, B>,
+    help: &str,
+    number: u64,
+    line: &[u8],
+) -> Result<Vec<u8, &'a B>, Oom>
+    ensures prompt { OnOk result (prompt.new ≡ (answer help.now prompt.old number line.now).0) }
+    ensures text { IfOk result (λ text. text.items ≡ (answer help.now prompt.old number line.now).1) }
+{
+    let mut text = String::new(alloc);
+    match prompt.take(&mut text, line) {
+        Ok(()) => Ok(text.into_bytes()),
+        Err(FaultKind::OutOfMemory) => Err(Oom),
+        Err(kind) => {
+            let mut answer = Vec::new(alloc);
+            put_own(heap, alloc, &mut answer, prompt, help, number, line, kind)?;
+            Ok(answer)
+        }
+    }
+}

@@ -1,0 +1,17 @@
+//! A bench at a prompt: lines are answered one by one, as they are read.
+//!
+//! Stands on `script_core`, which reads and does a line, and `session_core`, which saves a bench. In the order to read them:
+//! `prompt_fault`, why a prompt ends early; `own`, the answers that a script doesn't have; `answering`, the answer to a line;
+//! `reading`, the next line of a reader; `stepping`, from a reader to a writer. `laws` says that what is printed of a script
+//! without faults is its report.
+#![tactic(auto)]
+
+mod answering;
+pub mod laws;
+mod own;
+mod prompt_fault;
+mod reading;
+mod stepping;
+
+pub use prompt_fault::PromptFault;
+pub use stepping::step;

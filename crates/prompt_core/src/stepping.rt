@@ -1,0 +1,57 @@
+//! A prompt from a reader to a writer.
+ghost use Rattle.std.specs.Prelude.{◌≡◌, ℕ, IfErr, OnErr, OnOk, take};
+ghost use Rattle.std.specs.Io.KnownBytes.{Appends, IsAtEnd};
+ghost use Rattle.prompt_core.specs.Ends.{Answers, EndsEarly, IsEndless, Reports};
+ghost use Rattle.prompt_core.specs.declared.prompt_fault.PromptFault.TheVariants.{TooLong, WriteFault};
+
+use crate::answering::answer;
+use crate::laws::report_law;
+use crate::prompt_fault::PromptFault;
+use crate::reading::next_line;
+use bench_core::Limits;
+use script_core::{Prompt, write_out};
+use std::alloc::{Allocator, Global};
+use std::io::{BufRead, Write};
+
+/// Writes an answer, and flushes it.
+fn put_out<W: Write>(writer: &mut W, answer: &[u8]) -> Result<(), PromptFault>
+    ensures ok { OnOk result (Appends (W.contents writer.old) (W.contents writer.new) answer.now) }
+    ensures err { OnErr result ((count : ℕ) × Appends (W.contents writer.old) (W.contents writer.new) (take count answer.now)) }
+    ensures fault { IfErr result (λ fault. fault ≡ WriteFault) }
+{
+    if let Err(_fault) = write_out(writer, answer) {
+        return Err(PromptFault::WriteFault);
+    }
+    match writer.flush() {
+        Ok(()) => Ok(()),
+        Err(_) => Err(PromptFault::WriteFault),
+    }
+}
+
+/// Reads line by line to the end of the input, and answers each before the next is read. What a script has is done as in a
+/// script; `:help` prints this help, `:save` the session so far, and any other line its fault, which changes nothing.
+pub fn step<B: Allocator, R: BufRead, W: Write>(
+    heap: Global,
+    alloc: &B,
+    reader: &mut R,
+    writer: &mut W,
+    limits: Limits,
+    help: &str,
+) -> Result<(), PromptFault>
+    ensures answers { OnOk result (Answers help.now limits (R.remaining reader.old) (W.contents writer.old) (W.contents writer.new)) }
+    ensures report { OnOk result (Reports limits (R.remaining reader.old) (W.contents writer.old) (W.contents writer.new)) }
+    ensures read { OnOk result (IsAtEnd (R.remaining reader.new)) }
+    ensures endless { result ≡ Err TooLong → IsEndless (R.remaining reader.old) }
+    ensures early { IfErr result (λ fault. EndsEarly help.now limits fault (R.remaining reader.old) (R.remaining reader.new) (W.contents writer.old) (W.contents writer.new)) }
+{
+    report_law();
+    let mut prompt = Prompt::new(alloc, limits);
+    for number in 1..u64::MAX {
+        let Some(line) = next_line(alloc, reader)? else {
+            return Ok(());
+        };
+        let answer = answer(heap, alloc, &mut prompt, help, number, &line)?;
+        put_out(writer, &answer)?;
+    }
+    Err(PromptFault::TooLong)
+}

@@ -1,0 +1,5 @@
+//! Tests of `prompt_core`, from bytes to bytes.
+#![tactic(auto)]
+
+#[cfg(test)]
+mod tests;
