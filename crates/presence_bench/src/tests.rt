@@ -38,10 +38,11 @@ outcome 1 orders 3\nonline a 1\n= r alice a/1 phone\n\
 online b 0\n  nodes a b\n  a join 1 r alice phone\n  a leave 2 r bob\n  b up a\n\
 refused line 4 NotTracked\n  nodes a b\n  a join 1 r alice phone\n  a leave 2 r bob\n";
 
-/// All orders of a script, where no more states than so many are kept.
-const fn exploring(states: usize, outcome: Option<u64>) -> Subcommand {
-    Subcommand::Explore { states, outcome }
-}
+/// All orders with no option.
+const ALL_ORDERS: Subcommand = Subcommand::Explore {
+    states: 100_000,
+    outcome: None,
+};
 
 /// The words that choose something, and what they choose.
 const CHOSEN: [(&[&str], Subcommand, Form); 15] = [
@@ -61,25 +62,30 @@ const CHOSEN: [(&[&str], Subcommand, Form); 15] = [
         Subcommand::Load,
         Form::Session,
     ),
-    (&["explore"], exploring(100_000, None), Form::Report),
-    (
-        &["explore", "--as", "report"],
-        exploring(100_000, None),
-        Form::Report,
-    ),
+    (&["explore"], ALL_ORDERS, Form::Report),
+    (&["explore", "--as", "report"], ALL_ORDERS, Form::Report),
     (
         &["explore", "--states", "7"],
-        exploring(7, None),
+        Subcommand::Explore {
+            states: 7,
+            outcome: None,
+        },
         Form::Report,
     ),
     (
         &["explore", "--script=2"],
-        exploring(100_000, Some(2)),
+        Subcommand::Explore {
+            states: 100_000,
+            outcome: Some(2),
+        },
         Form::Report,
     ),
     (
         &["explore", "--script", "0", "--states", "12"],
-        exploring(12, Some(0)),
+        Subcommand::Explore {
+            states: 12,
+            outcome: Some(0),
+        },
         Form::Report,
     ),
     (&["draw"], Subcommand::Draw { why: None }, Form::Report),
