@@ -124,7 +124,7 @@ module _ (form : Form) (limits : Limits) (old new : Option (List ℕ)) where
   ends_unraced None s fault at c u k = tt
   ends_unraced (Some input) s fault at c u k =
       let P : Result Script ScriptFault → Type 0 = λ o. IsOkAnd o (λ s. RefusesRaceOf limits s fault) in
-      ends_unwritten command input fault (inr (subst P (sym at) c)) u k
+      ends_unwritten Race input fault (inr (subst P (sym at) c)) u k
 
   pub ends_unexplored : (states : ℕ) (outcome : Option ℕ) (known : Option (List ℕ)) (s : Script) (fault : Fault) → IsScriptAt known s →
       RefusesOrders states outcome limits s fault → IsUnwritten fault → Keeps old new →
