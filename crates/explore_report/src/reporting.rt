@@ -9,10 +9,9 @@ ghost use Rattle.explore_report.specs.ReportText.{lists_in};
 ghost use Rattle.explore_report.specs.Reports.{IsExplorationOf, IsReport, IsOrderOf, outcome_at, RefusesReport, RefusesOrder};
 
 use crate::grouping::lists_of;
-use crate::order_text::put_order;
 use crate::ranking::rank_outcomes;
 use crate::report_fault::ReportFault;
-use crate::report_text::{Page, text_of};
+use crate::report_text::{Page, script_of, text_of};
 use bench_core::{Act, Limits};
 use explore_core::{Explored, Outcome, explore};
 use script_core::{FaultKind, Script, actors, acts, node_names};
@@ -74,6 +73,7 @@ fn report_page<'a, B: Allocator>(
 }
 
 /// The outcome of this number, from 1.
+#[tactic(auto, using(crate::proofs::Reported::outcome_at_place))]
 fn outcome_at<'l, 'a, B: Allocator>(
     outcomes: &'l [Outcome<'a, B>],
     number: u64,
@@ -103,8 +103,7 @@ fn order_page<'a, B: Allocator>(
             outcomes: explored.outcomes.len(),
         });
     };
-    let mut text = String::new(page.alloc);
-    put_order(page.alloc, &mut text, page.script, page.lists, &outcome.order)?;
+    let text = script_of(page, outcome)?;
     Ok(text.into_bytes())
 }
 
