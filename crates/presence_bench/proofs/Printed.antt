@@ -15,8 +15,7 @@ use Rattle.presence_bench.specs.declared.chosen.Subcommand.TheVariants.{Play, Ra
 use Rattle.presence_bench.specs.declared.fault.Fault.{Fault}
 use Rattle.presence_bench.specs.declared.fault.Fault.TheVariants as faults
 use Rattle.script_core.specs.declared.fault.ScriptFault.{ScriptFault}
-use Rattle.explore_report.specs.Reports.{IsReport}
-use Rattle.presence_bench.specs.Explored.{RefusesReportOf}
+use Rattle.presence_bench.specs.Explored.{TellsOrders, RefusesOrders}
 use Rattle.presence_bench.specs.Races.{IsRaceOf, RefusesRaceOf}
 use Rattle.presence_bench.specs.Program.{IsCauseOf, IsUnwritten, IsCauseAt, IsScriptAt, IsSessionAt, Prints, drawn, Ends, EndsAt, EndsAsText, KeepsBefore, TellsMemory, shown}
 
@@ -41,6 +40,7 @@ module _ (form : Form) (limits : Limits) (text : List ℕ) (old new : Option (Li
   ends command input (Err faults.LongSession) p e = elim e [ ]
   ends command input (Err (faults.Race fault)) p e = elim e [ ]
   ends command input (Err (faults.TooManyStates most)) p e = elim e [ ]
+  ends command input (Err (faults.NoSuchOutcome outcomes)) p e = elim e [ ]
   ends command input (Err faults.ReadFault) p e = elim e [ ]
   ends command input (Err faults.OutOfMemory) p e = elim e [ ]
 
@@ -68,12 +68,12 @@ module _ (form : Form) (limits : Limits) (text : List ℕ) (old new : Option (Li
       λ o. IsOkAnd o (λ s. (m : Machine) × IsRaceOf limits s m × (text ≡ shown form (history_text m) m)) in
       ends Race input r (subst P (sym k) (m, raced, is)) e
 
-  pub ends_explore : (known : Option (List ℕ)) (s : Script) (r : Result (Unit {0}) Fault) → IsScriptAt known s → IsReport limits s text →
-      EndsAsText text r old new → EndsAt Explore form limits known r old new
-  ends_explore None s r k told e = tt
-  ends_explore (Some input) s r k told e =
-      let P : Result Script ScriptFault → Type 0 = λ o. IsOkAnd o (λ s. IsReport limits s text) in
-      ends Explore input r (subst P (sym k) told) e
+  pub ends_explore : (states : ℕ) (outcome : Option ℕ) (known : Option (List ℕ)) (s : Script) (r : Result (Unit {0}) Fault) → IsScriptAt known s →
+      TellsOrders outcome limits s text → EndsAsText text r old new → EndsAt (Explore states outcome) form limits known r old new
+  ends_explore states outcome None s r k told e = tt
+  ends_explore states outcome (Some input) s r k told e =
+      let P : Result Script ScriptFault → Type 0 = λ o. IsOkAnd o (λ s. TellsOrders outcome limits s text) in
+      ends (Explore states outcome) input r (subst P (sym k) told) e
 
   -- a text that goes out meets no fault but that of a write
   pub keeps_before : (r : Result (Unit {0}) Fault) → EndsAsText text r old new → IfErr r (λ fault. KeepsBefore fault old new)
@@ -84,6 +84,7 @@ module _ (form : Form) (limits : Limits) (text : List ℕ) (old new : Option (Li
   keeps_before (Err faults.LongSession) e = elim e [ ]
   keeps_before (Err (faults.Race fault)) e = elim e [ ]
   keeps_before (Err (faults.TooManyStates most)) e = elim e [ ]
+  keeps_before (Err (faults.NoSuchOutcome outcomes)) e = elim e [ ]
   keeps_before (Err faults.ReadFault) e = elim e [ ]
   keeps_before (Err faults.OutOfMemory) e = elim e [ ]
 
@@ -95,6 +96,7 @@ module _ (form : Form) (limits : Limits) (text : List ℕ) (old new : Option (Li
   tells_memory (Err faults.LongSession) e = elim e [ ]
   tells_memory (Err (faults.Race fault)) e = elim e [ ]
   tells_memory (Err (faults.TooManyStates most)) e = elim e [ ]
+  tells_memory (Err (faults.NoSuchOutcome outcomes)) e = elim e [ ]
   tells_memory (Err faults.ReadFault) e = elim e [ ]
   tells_memory (Err faults.OutOfMemory) e = elim e [ ]
 
@@ -108,6 +110,7 @@ module _ (form : Form) (limits : Limits) (old new : Option (List ℕ)) where
   ends_unwritten command input faults.LongSession c u k = (c, k)
   ends_unwritten command input (faults.Race fault) c u k = (c, k)
   ends_unwritten command input (faults.TooManyStates most) c u k = (c, k)
+  ends_unwritten command input (faults.NoSuchOutcome outcomes) c u k = (c, k)
   ends_unwritten command input faults.ReadFault c u k = (c, k)
   ends_unwritten command input faults.OutOfMemory c u k = (c, k)
 
@@ -123,9 +126,10 @@ module _ (form : Form) (limits : Limits) (old new : Option (List ℕ)) where
       let P : Result Script ScriptFault → Type 0 = λ o. IsOkAnd o (λ s. RefusesRaceOf limits s fault) in
       ends_unwritten Race input fault (inr (subst P (sym at) c)) u k
 
-  pub ends_unexplored : (known : Option (List ℕ)) (s : Script) (fault : Fault) → IsScriptAt known s → RefusesReportOf limits s fault →
-      IsUnwritten fault → Keeps old new → EndsAt Explore form limits known (Err fault) old new
-  ends_unexplored None s fault at c u k = tt
-  ends_unexplored (Some input) s fault at c u k =
-      let P : Result Script ScriptFault → Type 0 = λ o. IsOkAnd o (λ s. RefusesReportOf limits s fault) in
-      ends_unwritten Explore input fault (inr (subst P (sym at) c)) u k
+  pub ends_unexplored : (states : ℕ) (outcome : Option ℕ) (known : Option (List ℕ)) (s : Script) (fault : Fault) → IsScriptAt known s →
+      RefusesOrders states outcome limits s fault → IsUnwritten fault → Keeps old new →
+      EndsAt (Explore states outcome) form limits known (Err fault) old new
+  ends_unexplored states outcome None s fault at c u k = tt
+  ends_unexplored states outcome (Some input) s fault at c u k =
+      let P : Result Script ScriptFault → Type 0 = λ o. IsOkAnd o (λ s. RefusesOrders states outcome limits s fault) in
+      ends_unwritten (Explore states outcome) input fault (inr (subst P (sym at) c)) u k

@@ -18,8 +18,7 @@ use Rattle.session_core.specs.declared.session_fault.SessionFault.TheVariants as
 use Rattle.svg_core.specs.Trees.{text_of}
 use Rattle.worker_core.specs.declared.race_fault.RaceFault.{RaceFault}
 use Rattle.worker_core.specs.declared.race_fault.RaceFault.TheVariants as races
-use Rattle.explore_report.specs.Reports.{IsReport}
-use Rattle.presence_bench.specs.Explored.{RefusesReportOf}
+use Rattle.presence_bench.specs.Explored.{TellsOrders, RefusesOrders}
 use Rattle.presence_bench.specs.Races.{IsRaceOf, RefusesRaceOf}
 use Rattle.presence_bench.specs.declared.chosen.Choice.{Choice}
 use Rattle.presence_bench.specs.declared.chosen.Form.{Form}
@@ -39,6 +38,7 @@ fault_status (faults.Race races.WorkerRefused) = 5
 fault_status (faults.Race races.OutOfMemory) = 4
 fault_status (faults.Race races.LogsDisagree) = 5
 fault_status (faults.TooManyStates most) = 1
+fault_status (faults.NoSuchOutcome outcomes) = 1
 fault_status faults.ReadFault = 3
 fault_status (faults.WriteFault written) = 3
 fault_status faults.OutOfMemory = 4
@@ -79,15 +79,16 @@ IsCause input (faults.Session fault) = Refuses input fault
 IsCause input faults.LongSession = 67108864 < length input
 IsCause input (faults.Race fault) = ⊥
 IsCause input (faults.TooManyStates most) = ⊥
+IsCause input (faults.NoSuchOutcome outcomes) = ⊥
 IsCause input _ = ⊤
 
 -- what refuses the input of this command: of a race also that a line is no act line, or that the race can't be had; of all orders
--- that a line is no act line, or that there are too many states
+-- that a line is no act line, that there are too many states, or that there is no such outcome
 abbrev pub IsCauseOf : Subcommand → Limits → List ℕ → Fault → Type 0
 IsCauseOf Race limits input fault = IsCause input fault ⊎ IsOkAnd (script_of input) (λ s. RefusesRaceOf limits s fault)
 IsCauseOf Play limits input fault = IsCause input fault
 IsCauseOf Load limits input fault = IsCause input fault
-IsCauseOf Explore limits input fault = IsCause input fault ⊎ IsOkAnd (script_of input) (λ s. RefusesReportOf limits s fault)
+IsCauseOf (Explore states outcome) limits input fault = IsCause input fault ⊎ IsOkAnd (script_of input) (λ s. RefusesOrders states outcome limits s fault)
 IsCauseOf (Draw why) limits input fault = IsCause input fault
 
 abbrev pub IsCauseAt : Option (List ℕ) → Fault → Type 0
@@ -108,7 +109,7 @@ abbrev pub Prints : Subcommand → Form → Limits → List ℕ → List ℕ →
 Prints Play form limits input text = IsOkAnd (script_of input) (λ s. text ≡ shown form (report_of limits s) (played limits s))
 Prints Race form limits input text = IsOkAnd (script_of input) (λ s. (m : Machine) × IsRaceOf limits s m × (text ≡ shown form (history_text m) m))
 Prints Load form limits input text = (m : Machine) × IsSession input m × (text ≡ shown form (history_text m) m)
-Prints Explore form limits input text = IsOkAnd (script_of input) (λ s. IsReport limits s text)
+Prints (Explore states outcome) form limits input text = IsOkAnd (script_of input) (λ s. TellsOrders outcome limits s text)
 Prints (Draw why) form limits input text = (m : Machine) × IsSession input m × (text ≡ drawn why m)
 
 -- all of the text went out, or, where the writing failed, its first `written` bytes

@@ -25,6 +25,9 @@ pub enum Fault {
     /// More different states than so many would be kept of all orders.
     #[error("explore: TooManyStates, more than {most}")]
     TooManyStates { most: usize },
+    /// All orders lead to so many outcomes, and none has the number that was asked for.
+    #[error("explore: NoSuchOutcome, there are {outcomes}")]
+    NoSuchOutcome { outcomes: usize },
     /// A read failed.
     #[error("read fault")]
     ReadFault,
@@ -44,7 +47,7 @@ impl Fault {
         match self {
             Fault::Script(_) | Fault::Session(_) | Fault::LongSession => 1,
             Fault::Race(RaceFault::UnknownActor | RaceFault::NoRoom) => 1,
-            Fault::TooManyStates { .. } => 1,
+            Fault::TooManyStates { .. } | Fault::NoSuchOutcome { .. } => 1,
             Fault::ReadFault | Fault::WriteFault { .. } => 3,
             Fault::Race(RaceFault::OutOfMemory) | Fault::OutOfMemory => 4,
             Fault::Race(RaceFault::WorkerRefused | RaceFault::LogsDisagree) => 5,

@@ -38,8 +38,14 @@ outcome 1 orders 3\nonline a 1\n= r alice a/1 phone\n\
 online b 0\n  nodes a b\n  a join 1 r alice phone\n  a leave 2 r bob\n  b up a\n\
 refused line 4 NotTracked\n  nodes a b\n  a join 1 r alice phone\n  a leave 2 r bob\n";
 
+/// All orders with no option.
+const ALL_ORDERS: Subcommand = Subcommand::Explore {
+    states: 100_000,
+    outcome: None,
+};
+
 /// The words that choose something, and what they choose.
-const CHOSEN: [(&[&str], Subcommand, Form); 12] = [
+const CHOSEN: [(&[&str], Subcommand, Form); 15] = [
     (&["play"], Subcommand::Play, Form::Report),
     (&["play", "--as", "report"], Subcommand::Play, Form::Report),
     (&["play", "--as=session"], Subcommand::Play, Form::Session),
@@ -56,10 +62,30 @@ const CHOSEN: [(&[&str], Subcommand, Form); 12] = [
         Subcommand::Load,
         Form::Session,
     ),
-    (&["explore"], Subcommand::Explore, Form::Report),
+    (&["explore"], ALL_ORDERS, Form::Report),
+    (&["explore", "--as", "report"], ALL_ORDERS, Form::Report),
     (
-        &["explore", "--as", "report"],
-        Subcommand::Explore,
+        &["explore", "--states", "7"],
+        Subcommand::Explore {
+            states: 7,
+            outcome: None,
+        },
+        Form::Report,
+    ),
+    (
+        &["explore", "--script=2"],
+        Subcommand::Explore {
+            states: 100_000,
+            outcome: Some(2),
+        },
+        Form::Report,
+    ),
+    (
+        &["explore", "--script", "0", "--states", "12"],
+        Subcommand::Explore {
+            states: 12,
+            outcome: Some(0),
+        },
         Form::Report,
     ),
     (&["draw"], Subcommand::Draw { why: None }, Form::Report),
@@ -83,6 +109,23 @@ fn words_choose_a_subcommand_and_a_form(rt: HostRuntime) {
         (["play", "--as", "x"].as_slice(), ErrorKind::InvalidValue),
         (["load", "--as"].as_slice(), ErrorKind::InvalidValue),
         (["draw", "--why", "x"].as_slice(), ErrorKind::InvalidValue),
+        (
+            ["explore", "--states", "x"].as_slice(),
+            ErrorKind::InvalidValue,
+        ),
+        (
+            ["explore", "--script", "-1"].as_slice(),
+            ErrorKind::UnknownArgument,
+        ),
+        (["explore", "--script="].as_slice(), ErrorKind::InvalidValue),
+        (
+            ["play", "--states", "7"].as_slice(),
+            ErrorKind::UnknownArgument,
+        ),
+        (
+            ["draw", "--script", "1"].as_slice(),
+            ErrorKind::UnknownArgument,
+        ),
         (
             ["draw", "--as", "session"].as_slice(),
             ErrorKind::UnknownArgument,
@@ -162,7 +205,7 @@ const EXPLORED: Case = Case {
     ..PLAYED
 };
 
-const CASES: [Case; 18] = [
+const CASES: [Case; 23] = [
     PLAYED,
     DRAWN,
     Case {
@@ -245,6 +288,36 @@ const CASES: [Case; 18] = [
         status: 1,
         printed: "",
         told: "presence_bench: line 3: NotAllowed\n",
+        ..EXPLORED
+    },
+    Case {
+        words: &["explore", "--script", "2"],
+        printed: "  nodes a\n  consoles desk\n  desk undo 1\n  a join 1 r alice phone\n",
+        ..EXPLORED
+    },
+    Case {
+        words: &["explore", "--script", "3"],
+        status: 1,
+        printed: "",
+        told: "presence_bench: explore: NoSuchOutcome, there are 2\n",
+        ..EXPLORED
+    },
+    Case {
+        words: &["explore", "--script", "0"],
+        status: 1,
+        printed: "",
+        told: "presence_bench: explore: NoSuchOutcome, there are 2\n",
+        ..EXPLORED
+    },
+    Case {
+        words: &["explore", "--states", "5"],
+        ..EXPLORED
+    },
+    Case {
+        words: &["explore", "--states", "4"],
+        status: 1,
+        printed: "",
+        told: "presence_bench: explore: TooManyStates, more than 4\n",
         ..EXPLORED
     },
     Case {
@@ -355,7 +428,7 @@ fn refused_words_are_told_and_help_is_printed(rt: HostRuntime) {
 }
 
 /// Words, an input, and what is printed of it.
-const ANSWERED: [(&[&str], &str, &str); 7] = [
+const ANSWERED: [(&[&str], &str, &str); 8] = [
     (&["play"], JOINED, REPORT),
     (&["play", "--as", "session"], JOINED, SESSION),
     (&["race"], JOINED, REPORT),
@@ -363,6 +436,11 @@ const ANSWERED: [(&[&str], &str, &str); 7] = [
     (&["load"], SESSION, REPORT),
     (&["load", "--as", "session"], SESSION, SESSION),
     (&["explore"], UNDONE, UNDONE_ORDERS),
+    (
+        &["explore", "--script", "1"],
+        UNDONE,
+        "  nodes a\n  consoles desk\n  a join 1 r alice phone\n  desk undo 1\n",
+    ),
 ];
 
 /// Runs the program with this request for memory refused: it prints all, or nothing and says so. Gives whether the request was
@@ -441,16 +519,6 @@ fn the_faults_of_a_race_have_their_status(rt: HostRuntime) {
         assert!(rt; write!(text, "{fault}").is_ok());
         assert!(rt; text.as_str() == line);
     }
-}
-
-/// The status and the line of too many states.
-#[test]
-fn too_many_states_have_their_status(rt: HostRuntime) {
-    let fault = Fault::TooManyStates { most: 100_000 };
-    assert_eq!(rt; fault.status(), 1);
-    let mut text = String::new(rt.alloc());
-    assert!(rt; write!(text, "{fault}").is_ok());
-    assert!(rt; text.as_str() == "explore: TooManyStates, more than 100000");
 }
 
 /// The words of the tests' own command line choose nothing.
