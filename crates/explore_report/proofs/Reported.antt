@@ -1,5 +1,5 @@
--- That a text tells an exploration of a script's lines.
-use Rattle.std.proofs.Common.{◌≡◌, ◌∙◌, ℕ, List, [], length, Option, Ok, Vec, ap, sym, subst, subst₂, refl}
+-- That an exploration is of a script's lines, and why one isn't told.
+use Rattle.std.proofs.Common.{◌≡◌, ◌∙◌, ℕ, ◌+◌, add-one, List, [], length, slice_get, Option, Ok, Vec, ap, sym, subst, subst₂, refl}
 use Rattle.std.specs.List.{AllByRecursion}
 use Rattle.bench_core.specs.Limits.{Limits}
 use Rattle.bench_core.specs.Machine.{opening_machine}
@@ -10,38 +10,45 @@ use Rattle.explore_core.specs.Orders.{Lists, Call, orders_of}
 use Rattle.explore_core.specs.Explorations.{Outcome, Told, IsExplored}
 use Rattle.explore_core.specs.Counts.{IsCounted, told_number}
 use Rattle.explore_report.specs.Ranks.{IsRanked}
-use Rattle.explore_report.specs.ReportText.{lists_in, text_of_all}
+use Rattle.explore_report.specs.ReportText.{lists_in}
 use Rattle.explore_core.specs.declared.explore_fault.ExploreFault.{ExploreFault}
 use Rattle.explore_core.specs.declared.explore_fault.ExploreFault.TheVariants as explores
 use Rattle.explore_core.specs.Waypoints.{AreMore}
 use Rattle.explore_report.specs.declared.report_fault.ReportFault.{ReportFault}
-use Rattle.explore_report.specs.Reports.{IsReport, RefusesReport, fault_of_explore}
+use Rattle.explore_report.specs.declared.report_fault.ReportFault.TheVariants as faults
+use Rattle.explore_report.specs.Reports.{IsExplorationOf, RefusesReport, RefusesOrder, fault_of_explore, outcome_at}
 
 -- the bytes of equal vectors
 pub items_of : {Y : Type 0} (v w : Vec ℕ Y) → v ≡ w → v.items ≡ w.items
 items_of {Y} v w e = ap (λ (x : Vec ℕ Y). x.items) e
 
-pub report_told : (limits : Limits) (s : Script) (calls : List Call) (lists printed : Lists) (names : Texts) (outcomes ranked : List Outcome)
-    (told : List Told) (orders : Option ℕ) (states : ℕ) (text : List ℕ) → with_calls [] s.lines ≡ Ok calls → lists ≡ lists_in s.cast calls →
-    printed ≡ lists_in s.cast calls → names ≡ s.cast.nodes → IsExplored lists (opening_machine names limits) outcomes told →
-    AllByRecursion (IsCounted lists (opening_machine names limits)) outcomes → orders ≡ told_number (length (orders_of lists)) →
-    IsRanked outcomes ranked → text ≡ text_of_all s calls printed orders states ranked told → IsReport limits s text
-report_told limits s calls lists printed names outcomes ranked told orders states text are_calls lists_are printed_are names_are explored counted number falling text_is = record {
-  calls = calls;
+-- what was told of the lists is told of the script
+pub exploration_told : (limits : Limits) (s : Script) (calls : List Call) (lists : Lists) (names : Texts) (outcomes ranked : List Outcome)
+    (told : List Told) (orders : Option ℕ) → with_calls [] s.lines ≡ Ok calls → lists ≡ lists_in s.cast calls → names ≡ s.cast.nodes →
+    IsExplored lists (opening_machine names limits) outcomes told → AllByRecursion (IsCounted lists (opening_machine names limits)) outcomes →
+    orders ≡ told_number (length (orders_of lists)) → IsRanked outcomes ranked → IsExplorationOf limits s calls orders ranked told
+exploration_told limits s calls lists names outcomes ranked told orders are_calls lists_are names_are explored counted number falling = record {
   are_calls = are_calls;
   outcomes = outcomes;
-  told = told;
   explored = subst₂ (λ (l : Lists) (n : Texts). IsExplored l (opening_machine n limits) outcomes told) lists_are names_are explored;
   counted = subst₂ (λ (l : Lists) (n : Texts). AllByRecursion (IsCounted l (opening_machine n limits)) outcomes) lists_are names_are counted;
-  orders = orders;
   orders_are = number ∙ ap (λ (l : Lists). told_number (length (orders_of l))) lists_are;
-  ranked = ranked;
   are_ranked = falling;
-  states = states;
-  text_is = text_is ∙ ap (λ (l : Lists). text_of_all s calls l orders states ranked told) printed_are;
 }
 
--- why there is none: what was told of the lists is told of the script
+-- an outcome's place is one less than its number
+pub outcome_at_place : (os : List Outcome) (number place : ℕ) → number ≡ place + 1 → outcome_at os number ≡ slice_get os place
+outcome_at_place os number place is = rw (is, add-one) refl
+
+-- what refuses a report refuses the order of each outcome
+pub refuses_order : (limits : Limits) (most : ℕ) (s : Script) (number : ℕ) (fault : ReportFault) → RefusesReport limits most s fault →
+    RefusesOrder limits most s number fault
+refuses_order limits most s number (faults.Script fault) h = h
+refuses_order limits most s number faults.TooManyStates h = h
+refuses_order limits most s number (faults.NoSuchOutcome outcomes) h = absurd h
+refuses_order limits most s number faults.OutOfMemory h = h
+
+-- why there is no report: what was told of the lists is told of the script
 pub refusal_told : (limits : Limits) (most : ℕ) (s : Script) (calls : List Call) (lists : Lists) (names : Texts) (fault : ExploreFault)
     (given : ReportFault) → with_calls [] s.lines ≡ Ok calls → lists ≡ lists_in s.cast calls → names ≡ s.cast.nodes →
     ((states : ℕ) → fault ≡ explores.TooMany states → AreMore lists (opening_machine names limits) most states) →

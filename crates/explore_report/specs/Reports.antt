@@ -1,5 +1,5 @@
--- What all orders of a script's lines lead to, told; and why it isn't.
-use Rattle.std.specs.Prelude.{◌≡◌, ◌≢◌, ℕ, List, [], length, Option, Ok, Err}
+-- What all orders of a script's lines lead to, told, or the order of one outcome; and why it isn't.
+use Rattle.std.specs.Prelude.{◌≡◌, ◌≢◌, ℕ, zero, suc, List, [], length, slice_get, Option, None, Some, Ok, Err}
 use Rattle.std.specs.List.{AllByRecursion}
 use Rattle.bench_core.specs.Limits.{Limits}
 use Rattle.bench_core.specs.Machine.{opening_machine}
@@ -12,25 +12,57 @@ use Rattle.explore_core.specs.declared.explore_fault.ExploreFault.TheVariants as
 use Rattle.explore_core.specs.Explorations.{Outcome, Told, IsExplored}
 use Rattle.explore_core.specs.Counts.{IsCounted, told_number}
 use Rattle.explore_core.specs.Waypoints.{AreMore}
+use Rattle.explore_report.specs.OrderText.{order_text}
 use Rattle.explore_report.specs.Ranks.{IsRanked}
 use Rattle.explore_report.specs.ReportText.{lists_in, report_text}
 use Rattle.explore_report.specs.declared.report_fault.ReportFault.{ReportFault}
 use Rattle.explore_report.specs.declared.report_fault.ReportFault.TheVariants as faults
 
--- the text tells what all orders of the script's act lines lead to, on a bench with these limits that was asked nothing
-pub record IsReport (limits : Limits) (s : Script) (text : List ℕ) : Type 0 where
-  pub calls : List Call
+-- what all orders of the script's act lines lead to, on a bench with these limits that was asked nothing: how many there are, the
+-- outcomes, those of most orders first, and the refusals
+pub record IsExplorationOf (limits : Limits) (s : Script) (calls : List Call) (orders : Option ℕ) (ranked : List Outcome) (told : List Told) : Type 0 where
   pub are_calls : with_calls [] s.lines ≡ Ok calls
   pub outcomes : List Outcome
-  pub told : List Told
   pub explored : IsExplored (lists_in s.cast calls) (opening_machine s.cast.nodes limits) outcomes told
   pub counted : AllByRecursion (IsCounted (lists_in s.cast calls) (opening_machine s.cast.nodes limits)) outcomes
-  pub orders : Option ℕ
   pub orders_are : orders ≡ told_number (length (orders_of (lists_in s.cast calls)))
-  pub ranked : List Outcome
   pub are_ranked : IsRanked outcomes ranked
+
+-- the text tells such an exploration
+pub record IsReport (limits : Limits) (s : Script) (text : List ℕ) : Type 0 where
+  pub calls : List Call
+  pub orders : Option ℕ
+  pub ranked : List Outcome
+  pub told : List Told
+  pub exploration : IsExplorationOf limits s calls orders ranked told
   pub states : ℕ
   pub text_is : text ≡ report_text s calls orders states ranked told
+
+-- the outcome that a report tells by this number
+abbrev pub outcome_at : List Outcome → ℕ → Option Outcome
+outcome_at os zero = None
+outcome_at os (suc place) = slice_get os place
+
+-- the text is the script that a report of such an exploration tells beside the outcome of this number
+pub record IsOrderOf (limits : Limits) (s : Script) (number : ℕ) (text : List ℕ) : Type 0 where
+  pub calls : List Call
+  pub orders : Option ℕ
+  pub ranked : List Outcome
+  pub told : List Told
+  pub exploration : IsExplorationOf limits s calls orders ranked told
+  pub outcome : Outcome
+  pub has_number : outcome_at ranked number ≡ Some outcome
+  pub text_is : text ≡ order_text s.cast (lists_in s.cast calls) outcome.order
+
+-- the script's act lines have so many outcomes, and none of this number
+pub record HasNoOutcome (limits : Limits) (s : Script) (number outcomes : ℕ) : Type 0 where
+  pub calls : List Call
+  pub orders : Option ℕ
+  pub ranked : List Outcome
+  pub told : List Told
+  pub exploration : IsExplorationOf limits s calls orders ranked told
+  pub all : length ranked ≡ outcomes
+  pub none : outcome_at ranked number ≡ None
 
 -- more different states than so many can be reached by the script's act lines
 pub record HasMore (limits : Limits) (most : ℕ) (s : Script) : Type 0 where
@@ -43,7 +75,13 @@ pub record HasMore (limits : Limits) (most : ℕ) (s : Script) : Type 0 where
 abbrev pub RefusesReport : Limits → ℕ → Script → ReportFault → Type 0
 RefusesReport limits most s (faults.Script fault) = (with_calls [] s.lines ≡ Err fault) × (fault.kind ≢ kinds.OutOfMemory)
 RefusesReport limits most s faults.TooManyStates = HasMore limits most s
+RefusesReport limits most s (faults.NoSuchOutcome outcomes) = ⊥
 RefusesReport limits most s faults.OutOfMemory = Unit {0}
+
+-- why there is no order of the outcome of this number: there is no such outcome, or no report
+abbrev pub RefusesOrder : Limits → ℕ → Script → ℕ → ReportFault → Type 0
+RefusesOrder limits most s number (faults.NoSuchOutcome outcomes) = HasNoOutcome limits s number outcomes
+RefusesOrder limits most s number fault = RefusesReport limits most s fault
 
 abbrev pub fault_of_explore : ExploreFault → ReportFault
 fault_of_explore (explores.TooMany states) = faults.TooManyStates

@@ -1,4 +1,4 @@
-//! What all orders of a script's act lines lead to, as a text.
+//! What all orders of a script's act lines lead to, as a text, and the order of each outcome as a script.
 //!
 //! It stands on `explore_core` (all orders) and `script_core` (scripts, and what is printed of them); it names the plain types of
 //! `bench_core`. In the order to read them: `grouping`, the lines of each actor; `order_text`, an order as a script that plays it;
@@ -14,4 +14,4 @@ mod report_text;
 mod reporting;
 
 pub use report_fault::ReportFault;
-pub use reporting::report_orders;
+pub use reporting::{order_of_outcome, report_orders};

@@ -15,6 +15,9 @@ pub enum ReportFault {
     /// More different states would be kept than may be.
     #[error("TooManyStates")]
     TooManyStates,
+    /// There are so many outcomes, and none has the number that was asked for.
+    #[error("NoSuchOutcome, there are {outcomes}")]
+    NoSuchOutcome { outcomes: usize },
     /// A request for memory was refused.
     #[error("out of memory")]
     OutOfMemory,

@@ -3,6 +3,7 @@ ghost use Rattle.std.specs.Prelude.{◌≡◌, ◌++◌, ◌∷◌, [], IfOk, On
 ghost use Rattle.bench_core.specs.Acts.{calls_of};
 ghost use Rattle.script_core.specs.Scripts.{plain_script};
 ghost use Rattle.explore_core.specs.Orders.{plain_lists};
+ghost use Rattle.explore_report.specs.OrderText.{order_text};
 ghost use Rattle.explore_report.specs.ReportText.{number_text, online_below, outcome_line, outcome_text, outcomes_text, fault_line, refused_line, refusal_text, refusals_text, counts_line, text_of_all};
 
 use crate::grouping::number_of;
@@ -191,5 +192,23 @@ pub(crate) fn text_of<'a, B: Allocator>(
     )?;
     put_outcomes(page, &mut text, &explored.outcomes)?;
     put_refusals(page, &mut text, &explored.refusals)?;
+    Ok(text)
+}
+
+/// The order of an outcome as a script.
+pub(crate) fn script_of<'a, B: Allocator>(
+    page: &Page<'_, 'a, B>,
+    outcome: &Outcome<'a, B>,
+) -> Result<String<&'a B>, Oom>
+    ensures { IfOk result (λ text. string_bytes text ≡ order_text (plain_script page.now.script.now).cast (plain_lists page.now.lists.now) outcome.now.order) }
+{
+    let mut text = String::new(page.alloc);
+    put_order(
+        page.alloc,
+        &mut text,
+        page.script,
+        page.lists,
+        &outcome.order,
+    )?;
     Ok(text)
 }

@@ -1,24 +1,58 @@
-//! From a script to the text of what all orders of its act lines lead to.
-ghost use Rattle.std.specs.Prelude.{◌≡◌, ◌<◌, ◌^◌, [], Ok, IfOk, IfErr, length};
+//! From a script to the text of what all orders of its act lines lead to, or of the order of one outcome.
+ghost use Rattle.std.specs.Prelude.{◌≡◌, ℕ, ◌<◌, ◌^◌, [], Ok, IfOk, IfErr, length, option_map};
 ghost use Rattle.bench_core.specs.Acts.{calls_of};
+ghost use Rattle.bench_core.specs.Limits.{Limits as Four};
 ghost use Rattle.script_core.specs.Grammar.{with_calls};
 ghost use Rattle.script_core.specs.Scripts.{plain_script};
 ghost use Rattle.explore_core.specs.Orders.{plain_lists};
 ghost use Rattle.explore_report.specs.ReportText.{lists_in};
-ghost use Rattle.explore_report.specs.Reports.{IsReport, RefusesReport};
+ghost use Rattle.explore_report.specs.Reports.{IsExplorationOf, IsReport, IsOrderOf, outcome_at, RefusesReport, RefusesOrder};
 
 use crate::grouping::lists_of;
 use crate::ranking::rank_outcomes;
 use crate::report_fault::ReportFault;
-use crate::report_text::{Page, text_of};
+use crate::report_text::{Page, script_of, text_of};
 use bench_core::{Act, Limits};
-use explore_core::explore;
+use explore_core::{Explored, Outcome, explore};
 use script_core::{FaultKind, Script, actors, acts, node_names};
 use std::alloc::Allocator;
+
+/// The calls of the script's act lines.
+fn calls_in<'a, B: Allocator>(
+    alloc: &'a B,
+    script: &Script<&'a B>,
+) -> Result<Vec<(u16, Act<&'a B>), &'a B>, ReportFault>
+    ensures calls { IfOk result (λ calls. with_calls [] (plain_script script.now).lines ≡ Ok (calls_of calls.items)) }
+    ensures cause { IfErr result (λ fault. (limits : Four) (most : ℕ) → RefusesReport limits most (plain_script script.now) fault) }
+{
+    match acts(alloc, script) {
+        Ok(calls) => Ok(calls),
+        Err(fault) if fault.kind == FaultKind::OutOfMemory => Err(ReportFault::OutOfMemory),
+        Err(fault) => Err(ReportFault::Script(fault)),
+    }
+}
 
 /// Lets go of the lines of each actor.
 fn discard<A: Allocator>(lists: Vec<Vec<Act<A>, A>, A>) {
     drop(lists);
+}
+
+/// What all orders of the page's lists lead to, the outcomes of most orders first.
+fn explore_page<'a, B: Allocator>(
+    page: &Page<'_, 'a, B>,
+    limits: Limits,
+    most: usize,
+) -> Result<Explored<'a, B>, ReportFault>
+    requires few { length page.now.lists.now < 2 ^ 16 }
+    requires calls { with_calls [] (plain_script page.now.script.now).lines ≡ Ok (calls_of page.now.calls.now) }
+    requires lists { plain_lists page.now.lists.now ≡ lists_in (plain_script page.now.script.now).cast (calls_of page.now.calls.now) }
+    ensures exploration { IfOk result (λ e. IsExplorationOf limits (plain_script page.now.script.now) (calls_of page.now.calls.now) e.orders e.outcomes.items e.refusals.items) }
+    ensures cause { IfErr result (RefusesReport limits most (plain_script page.now.script.now)) }
+{
+    let names = node_names(page.script).try_copy()?;
+    let mut explored = explore(page.alloc, names, limits, page.lists, most)?;
+    rank_outcomes(&mut explored.outcomes)?;
+    Ok(explored)
 }
 
 /// The text of what all orders of the page's lists lead to.
@@ -33,10 +67,43 @@ fn report_page<'a, B: Allocator>(
     ensures report { IfOk result (λ text. IsReport limits (plain_script page.now.script.now) text.items) }
     ensures cause { IfErr result (RefusesReport limits most (plain_script page.now.script.now)) }
 {
-    let names = node_names(page.script).try_copy()?;
-    let mut explored = explore(page.alloc, names, limits, page.lists, most)?;
-    rank_outcomes(&mut explored.outcomes)?;
+    let explored = explore_page(page, limits, most)?;
     let text = text_of(page, &explored)?;
+    Ok(text.into_bytes())
+}
+
+/// The outcome of this number, from 1.
+#[tactic(auto, using(crate::proofs::Reported::outcome_at_place))]
+fn outcome_at<'l, 'a, B: Allocator>(
+    outcomes: &'l [Outcome<'a, B>],
+    number: u64,
+) -> Option<&'l Outcome<'a, B>>
+    ensures { option_map (λ outcome. outcome.now) result ≡ outcome_at outcomes.now number }
+{
+    let place = number.checked_sub(1)?;
+    outcomes.get(place as usize)
+}
+
+/// The order of the outcome of this number as a script.
+fn order_page<'a, B: Allocator>(
+    page: &Page<'_, 'a, B>,
+    limits: Limits,
+    most: usize,
+    number: u64,
+) -> Result<Vec<u8, &'a B>, ReportFault>
+    requires few { length page.now.lists.now < 2 ^ 16 }
+    requires calls { with_calls [] (plain_script page.now.script.now).lines ≡ Ok (calls_of page.now.calls.now) }
+    requires lists { plain_lists page.now.lists.now ≡ lists_in (plain_script page.now.script.now).cast (calls_of page.now.calls.now) }
+    ensures order { IfOk result (λ text. IsOrderOf limits (plain_script page.now.script.now) number text.items) }
+    ensures cause { IfErr result (RefusesOrder limits most (plain_script page.now.script.now) number) }
+{
+    let explored = explore_page(page, limits, most)?;
+    let Some(outcome) = outcome_at(&explored.outcomes, number) else {
+        return Err(ReportFault::NoSuchOutcome {
+            outcomes: explored.outcomes.len(),
+        });
+    };
+    let text = script_of(page, outcome)?;
     Ok(text.into_bytes())
 }
 
@@ -51,13 +118,7 @@ pub fn report_orders<'a, B: Allocator>(
     ensures report { IfOk result (λ text. IsReport limits (plain_script script.now) text.items) }
     ensures cause { IfErr result (RefusesReport limits most (plain_script script.now)) }
 {
-    let calls = match acts(alloc, script) {
-        Ok(calls) => calls,
-        Err(fault) if fault.kind == FaultKind::OutOfMemory => {
-            return Err(ReportFault::OutOfMemory);
-        }
-        Err(fault) => return Err(ReportFault::Script(fault)),
-    };
+    let calls = calls_in(alloc, script)?;
     let lists = lists_of(alloc, &calls, actors(script))?;
     let page = Page {
         alloc,
@@ -66,6 +127,30 @@ pub fn report_orders<'a, B: Allocator>(
         lists: lists.as_slice(),
     };
     let told = report_page(&page, limits, most);
+    discard(lists);
+    told
+}
+
+/// The order that such a text tells beside the outcome of this number, as a script that plays it; or why there is none.
+pub fn order_of_outcome<'a, B: Allocator>(
+    alloc: &'a B,
+    script: &Script<&'a B>,
+    limits: Limits,
+    most: usize,
+    number: u64,
+) -> Result<Vec<u8, &'a B>, ReportFault>
+    ensures order { IfOk result (λ text. IsOrderOf limits (plain_script script.now) number text.items) }
+    ensures cause { IfErr result (RefusesOrder limits most (plain_script script.now) number) }
+{
+    let calls = calls_in(alloc, script)?;
+    let lists = lists_of(alloc, &calls, actors(script))?;
+    let page = Page {
+        alloc,
+        script,
+        calls: calls.as_slice(),
+        lists: lists.as_slice(),
+    };
+    let told = order_page(&page, limits, most, number);
     discard(lists);
     told
 }

@@ -15,7 +15,6 @@ use Rattle.presence_bench.specs.declared.chosen.Subcommand.TheVariants.{Play, Ra
 use Rattle.presence_bench.specs.declared.fault.Fault.{Fault}
 use Rattle.presence_bench.specs.declared.fault.Fault.TheVariants as faults
 use Rattle.script_core.specs.declared.fault.ScriptFault.{ScriptFault}
-use Rattle.explore_report.specs.Reports.{IsReport}
 use Rattle.prompt_core.specs.Ends.{Answers, EndsEarly, ReportLaw, printed}
 use Rattle.prompt_core.specs.declared.prompt_fault.PromptFault.{PromptFault}
 use Rattle.presence_bench.specs.Help.{language}
@@ -44,6 +43,7 @@ module _ (form : Form) (limits : Limits) (text : List ℕ) (old new : Option (Li
   ends command input (Err (faults.Race fault)) p e = elim e [ ]
   ends command input (Err (faults.TooManyStates most)) p e = elim e [ ]
   ends command input (Err (faults.Prompt fault)) p e = elim e [ ]
+  ends command input (Err (faults.NoSuchOutcome outcomes)) p e = elim e [ ]
   ends command input (Err faults.ReadFault) p e = elim e [ ]
   ends command input (Err faults.OutOfMemory) p e = elim e [ ]
 
@@ -71,12 +71,12 @@ module _ (form : Form) (limits : Limits) (text : List ℕ) (old new : Option (Li
       λ o. IsOkAnd o (λ s. (m : Machine) × IsRaceOf limits s m × (text ≡ shown form (history_text m) m)) in
       ends Race input r (subst P (sym k) (m, raced, is)) e
 
-  pub ends_explore : (known : Option (List ℕ)) (s : Script) (r : Result (Unit {0}) Fault) → IsScriptAt known s → IsReport limits s text →
-      EndsAsText text r old new → EndsAt Explore form limits known r old new
-  ends_explore None s r k told e = tt
-  ends_explore (Some input) s r k told e =
-      let P : Result Script ScriptFault → Type 0 = λ o. IsOkAnd o (λ s. IsReport limits s text) in
-      ends Explore input r (subst P (sym k) told) e
+  pub ends_explore : (states : ℕ) (outcome : Option ℕ) (known : Option (List ℕ)) (s : Script) (r : Result (Unit {0}) Fault) → IsScriptAt known s →
+      TellsOrders outcome limits s text → EndsAsText text r old new → EndsAt (Explore states outcome) form limits known r old new
+  ends_explore states outcome None s r k told e = tt
+  ends_explore states outcome (Some input) s r k told e =
+      let P : Result Script ScriptFault → Type 0 = λ o. IsOkAnd o (λ s. TellsOrders outcome limits s text) in
+      ends (Explore states outcome) input r (subst P (sym k) told) e
 
   -- a text that goes out meets no fault but that of a write
   pub keeps_before : (r : Result (Unit {0}) Fault) → EndsAsText text r old new → IfErr r (λ fault. KeepsBefore fault old new)
@@ -88,6 +88,7 @@ module _ (form : Form) (limits : Limits) (text : List ℕ) (old new : Option (Li
   keeps_before (Err (faults.Race fault)) e = elim e [ ]
   keeps_before (Err (faults.TooManyStates most)) e = elim e [ ]
   keeps_before (Err (faults.Prompt fault)) e = elim e [ ]
+  keeps_before (Err (faults.NoSuchOutcome outcomes)) e = elim e [ ]
   keeps_before (Err faults.ReadFault) e = elim e [ ]
   keeps_before (Err faults.OutOfMemory) e = elim e [ ]
 
@@ -100,6 +101,7 @@ module _ (form : Form) (limits : Limits) (text : List ℕ) (old new : Option (Li
   tells_memory (Err (faults.Race fault)) e = elim e [ ]
   tells_memory (Err (faults.TooManyStates most)) e = elim e [ ]
   tells_memory (Err (faults.Prompt fault)) e = elim e [ ]
+  tells_memory (Err (faults.NoSuchOutcome outcomes)) e = elim e [ ]
   tells_memory (Err faults.ReadFault) e = elim e [ ]
   tells_memory (Err faults.OutOfMemory) e = elim e [ ]
 

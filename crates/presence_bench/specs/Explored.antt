@@ -1,9 +1,9 @@
--- Why what all orders of a script's lines lead to isn't told.
-use Rattle.std.specs.Prelude.{◌≡◌, ℕ, [], ⊤, Err}
+-- What is told of all orders of a script's lines, and why it isn't.
+use Rattle.std.specs.Prelude.{◌≡◌, ℕ, [], List, ⊤, Option, None, Some, Err}
 use Rattle.bench_core.specs.Limits.{Limits}
 use Rattle.script_core.specs.Grammar.{with_calls}
 use Rattle.script_core.specs.Scripts.{Script}
-use Rattle.explore_report.specs.Reports.{HasMore}
+use Rattle.explore_report.specs.Reports.{HasMore, HasNoOutcome, IsOrderOf, IsReport}
 use Rattle.explore_report.specs.declared.report_fault.ReportFault.{ReportFault}
 use Rattle.explore_report.specs.declared.report_fault.ReportFault.TheVariants as reports
 use Rattle.presence_bench.specs.declared.fault.Fault.{Fault}
@@ -12,10 +12,22 @@ use Rattle.presence_bench.specs.declared.fault.Fault.TheVariants as faults
 abbrev pub fault_of_report : ℕ → ReportFault → Fault
 fault_of_report most (reports.Script fault) = faults.Script fault
 fault_of_report most reports.TooManyStates = faults.TooManyStates most
+fault_of_report most (reports.NoSuchOutcome outcomes) = faults.NoSuchOutcome outcomes
 fault_of_report most reports.OutOfMemory = faults.OutOfMemory
 
--- a report of all orders is refused so: a line is no act line, or its lines lead to more different states than are kept
-abbrev pub RefusesReportOf : Limits → Script → Fault → Type 0
-RefusesReportOf limits s (faults.Script fault) = with_calls [] s.lines ≡ Err fault
-RefusesReportOf limits s (faults.TooManyStates most) = (most ≡ 100000) × HasMore limits most s
-RefusesReportOf limits s fault = ⊤
+-- the text tells what all orders lead to, or the order of the outcome of this number
+abbrev pub TellsOrders : Option ℕ → Limits → Script → List ℕ → Type 0
+TellsOrders None limits s text = IsReport limits s text
+TellsOrders (Some number) limits s text = IsOrderOf limits s number text
+
+-- there is no outcome of this number, where one was asked for, and so many there are
+abbrev pub LacksOutcome : Option ℕ → Limits → Script → ℕ → Type 0
+LacksOutcome None limits s outcomes = ⊥
+LacksOutcome (Some number) limits s outcomes = HasNoOutcome limits s number outcomes
+
+-- all orders aren't told: a line is no act line, the lines lead to more different states than are kept, or there is no such outcome
+abbrev pub RefusesOrders : ℕ → Option ℕ → Limits → Script → Fault → Type 0
+RefusesOrders states outcome limits s (faults.Script fault) = with_calls [] s.lines ≡ Err fault
+RefusesOrders states outcome limits s (faults.TooManyStates most) = (most ≡ states) × HasMore limits most s
+RefusesOrders states outcome limits s (faults.NoSuchOutcome outcomes) = LacksOutcome outcome limits s outcomes
+RefusesOrders states outcome limits s fault = ⊤

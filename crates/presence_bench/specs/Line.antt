@@ -1,5 +1,5 @@
 -- What the command line takes, and what words choose.
-use Rattle.std.specs.Prelude.{◌≡◌, ℕ, List, codes, true, ⊤, Option, Some, None}
+use Rattle.std.specs.Prelude.{◌≡◌, ℕ, List, codes, true, ⊤, Option, Some, None, unwrap_or}
 use Rattle.std.specs.Str.Parse.{IsNumeral, digits_value, without_leading_plus}
 use Rattle.clap.specs.Words.{App, Row, Rule, first_of, new_app, new_rule, with_rule, with_subcommand, subcommand_of}
 use Rattle.presence_bench.specs.declared.chosen.Form.{Form}
@@ -7,6 +7,7 @@ use Rattle.presence_bench.specs.declared.chosen.Form.TheVariants.{Report, Sessio
 use Rattle.presence_bench.specs.declared.chosen.Subcommand.{Subcommand}
 use Rattle.presence_bench.specs.declared.chosen.Subcommand.TheVariants.{Play, Race, Load, Explore, Step, Draw}
 use Rattle.presence_bench.specs.declared.chosen.Choice.{Choice}
+use Rattle.presence_bench.specs.declared.chosen.Numbers.{Numbers}
 
 -- the option that names a form
 abbrev pub as_rule : Rule
@@ -21,18 +22,18 @@ race_app = with_rule (new_app (codes "race")) as_rule
 abbrev pub load_app : App
 load_app = with_rule (new_app (codes "load")) as_rule
 
-abbrev pub explore_app : App
-explore_app = with_rule (new_app (codes "explore")) as_rule
+-- an option that takes a number
+abbrev pub number_rule : List ℕ → Rule
+number_rule name = record (new_rule name) { long = Some name; value_names = 1 }
 
 abbrev pub step_app : App
 step_app = new_app (codes "step")
 
--- the option that names a step
-abbrev pub why_rule : Rule
-why_rule = record (new_rule (codes "why")) { long = Some (codes "why"); value_names = 1 }
+abbrev pub explore_app : App
+explore_app = with_rule (with_rule (with_rule (new_app (codes "explore")) as_rule) (number_rule (codes "states"))) (number_rule (codes "script"))
 
 abbrev pub draw_app : App
-draw_app = with_rule (new_app (codes "draw")) why_rule
+draw_app = with_rule (new_app (codes "draw")) (number_rule (codes "why"))
 
 abbrev pub app : App
 app =
@@ -45,7 +46,7 @@ abbrev pub name_of : Subcommand → List ℕ
 name_of Play = codes "play"
 name_of Race = codes "race"
 name_of Load = codes "load"
-name_of Explore = codes "explore"
+name_of (Explore states outcome) = codes "explore"
 name_of Step = codes "step"
 name_of (Draw why) = codes "draw"
 
@@ -58,26 +59,38 @@ abbrev pub IsForm : Option (List ℕ) → Form → Type 0
 IsForm None form = form ≡ Report
 IsForm (Some name) form = name ≡ form_name form
 
--- the step whose number a value spells; without a value there is none
-abbrev pub IsWhy : Option (List ℕ) → Option ℕ → Type 0
-IsWhy None why = why ≡ None
-IsWhy (Some digits) why =
-    IsNumeral 10 (without_leading_plus digits) × (why ≡ Some (digits_value 10 (without_leading_plus digits)))
+-- the number that a value spells; without a value there is none
+abbrev pub IsNumber : Option (List ℕ) → Option ℕ → Type 0
+IsNumber None number = number ≡ None
+IsNumber (Some digits) number =
+    IsNumeral 10 (without_leading_plus digits) × (number ≡ Some (digits_value 10 (without_leading_plus digits)))
 
--- the subcommand paints the future of this step, if it draws
-abbrev pub Paints : Option ℕ → Subcommand → Type 0
-Paints why (Draw painted) = painted ≡ why
-Paints why Play = ⊤
-Paints why Race = ⊤
-Paints why Load = ⊤
-Paints why Explore = ⊤
-Paints why Step = ⊤
+-- the numbers that options give
+pub record AreNumbers (values : List ℕ → Option (List ℕ)) (numbers : Numbers) : Type 0 where
+  pub why : IsNumber (values (codes "why")) numbers.why
+  pub states : IsNumber (values (codes "states")) numbers.states
+  pub outcome : IsNumber (values (codes "script")) numbers.outcome
 
--- the subcommand is the one that the command line finds in the words, and the form and the step those of its options
+-- the subcommand has these of the numbers that it takes; of states 100,000 are kept where it is not told how many
+abbrev pub Takes : Numbers → Subcommand → Type 0
+Takes numbers (Draw why) = why ≡ numbers.why
+Takes numbers (Explore states outcome) = (states ≡ unwrap_or numbers.states 100000) × (outcome ≡ numbers.outcome)
+Takes numbers Play = ⊤
+Takes numbers Race = ⊤
+Takes numbers Load = ⊤
+Takes numbers Step = ⊤
+
+-- the subcommand has this name, and the form and the numbers those that its options give
+pub record IsChoiceOf (name : List ℕ) (values : List ℕ → Option (List ℕ)) (choice : Choice) : Type 0 where
+  pub name_is : name ≡ name_of choice.command
+  pub form : IsForm (values (codes "as")) choice.form
+  pub numbers : Numbers
+  pub numbers_are : AreNumbers values numbers
+  pub takes : Takes numbers choice.command
+
+-- the choice is that of the subcommand which the command line finds in the words, with its options
 pub record Chooses (words : List (List ℕ)) (choice : Choice) : Type 0 where
+  pub name : List ℕ
   pub rows : List Row
-  pub command : subcommand_of app words ≡ Some (name_of choice.command, rows)
-  pub form : IsForm (first_of (codes "as") rows) choice.form
-  pub why : Option ℕ
-  pub why_is : IsWhy (first_of (codes "why") rows) why
-  pub paints : Paints why choice.command
+  pub command : subcommand_of app words ≡ Some (name, rows)
+  pub chosen : IsChoiceOf name (λ option. first_of option rows) choice

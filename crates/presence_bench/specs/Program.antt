@@ -18,11 +18,10 @@ use Rattle.session_core.specs.declared.session_fault.SessionFault.TheVariants as
 use Rattle.svg_core.specs.Trees.{text_of}
 use Rattle.worker_core.specs.declared.race_fault.RaceFault.{RaceFault}
 use Rattle.worker_core.specs.declared.race_fault.RaceFault.TheVariants as races
-use Rattle.explore_report.specs.Reports.{IsReport}
+use Rattle.presence_bench.specs.Explored.{TellsOrders, RefusesOrders}
 use Rattle.prompt_core.specs.Ends.{EndsEarly, printed}
 use Rattle.prompt_core.specs.declared.prompt_fault.PromptFault.{PromptFault}
 use Rattle.prompt_core.specs.declared.prompt_fault.PromptFault.TheVariants as prompts
-use Rattle.presence_bench.specs.Explored.{RefusesReportOf}
 use Rattle.presence_bench.specs.Help.{language}
 use Rattle.presence_bench.specs.Races.{IsRaceOf, RefusesRaceOf}
 use Rattle.presence_bench.specs.declared.chosen.Choice.{Choice}
@@ -43,6 +42,7 @@ fault_status (faults.Race races.WorkerRefused) = 5
 fault_status (faults.Race races.OutOfMemory) = 4
 fault_status (faults.Race races.LogsDisagree) = 5
 fault_status (faults.TooManyStates most) = 1
+fault_status (faults.NoSuchOutcome outcomes) = 1
 fault_status (faults.Prompt prompts.TooLong) = 1
 fault_status (faults.Prompt prompts.ReadFault) = 3
 fault_status (faults.Prompt prompts.WriteFault) = 3
@@ -88,15 +88,16 @@ IsCause input faults.LongSession = 67108864 < length input
 IsCause input (faults.Race fault) = ⊥
 IsCause input (faults.TooManyStates most) = ⊥
 IsCause input (faults.Prompt fault) = ⊥
+IsCause input (faults.NoSuchOutcome outcomes) = ⊥
 IsCause input _ = ⊤
 
 -- what refuses the input of this command: of a race also that a line is no act line, or that the race can't be had; of all orders
--- that a line is no act line, or that there are too many states
+-- that a line is no act line, that there are too many states, or that there is no such outcome
 abbrev pub IsCauseOf : Subcommand → Limits → List ℕ → Fault → Type 0
 IsCauseOf Race limits input fault = IsCause input fault ⊎ IsOkAnd (script_of input) (λ s. RefusesRaceOf limits s fault)
 IsCauseOf Play limits input fault = IsCause input fault
 IsCauseOf Load limits input fault = IsCause input fault
-IsCauseOf Explore limits input fault = IsCause input fault ⊎ IsOkAnd (script_of input) (λ s. RefusesReportOf limits s fault)
+IsCauseOf (Explore states outcome) limits input fault = IsCause input fault ⊎ IsOkAnd (script_of input) (λ s. RefusesOrders states outcome limits s fault)
 IsCauseOf Step limits input fault = ⊥
 IsCauseOf (Draw why) limits input fault = IsCause input fault
 
@@ -119,7 +120,7 @@ abbrev pub Prints : Subcommand → Form → Limits → List ℕ → List ℕ →
 Prints Play form limits input text = IsOkAnd (script_of input) (λ s. text ≡ shown form (report_of limits s) (played limits s))
 Prints Race form limits input text = IsOkAnd (script_of input) (λ s. (m : Machine) × IsRaceOf limits s m × (text ≡ shown form (history_text m) m))
 Prints Load form limits input text = (m : Machine) × IsSession input m × (text ≡ shown form (history_text m) m)
-Prints Explore form limits input text = IsOkAnd (script_of input) (λ s. IsReport limits s text)
+Prints (Explore states outcome) form limits input text = IsOkAnd (script_of input) (λ s. TellsOrders outcome limits s text)
 Prints Step form limits input text =
     (text ≡ printed language limits input) × IfOk (script_of input) (λ s. text ≡ report_of limits s)
 Prints (Draw why) form limits input text = (m : Machine) × IsSession input m × (text ≡ drawn why m)
@@ -135,7 +136,7 @@ abbrev pub HasPrompt : Subcommand → Type 0
 HasPrompt Play = ⊥
 HasPrompt Race = ⊥
 HasPrompt Load = ⊥
-HasPrompt Explore = ⊥
+HasPrompt (Explore states outcome) = ⊥
 HasPrompt Step = ⊤
 HasPrompt (Draw why) = ⊥
 
@@ -166,7 +167,7 @@ EndsSoon Step limits result input left old new = ⊤
 EndsSoon Play limits result input left old new = ⊤
 EndsSoon Race limits result input left old new = ⊤
 EndsSoon Load limits result input left old new = ⊤
-EndsSoon Explore limits result input left old new = ⊤
+EndsSoon (Explore states outcome) limits result input left old new = ⊤
 EndsSoon (Draw why) limits result input left old new = ⊤
 
 -- it is no fault of a write, nor of a prompt

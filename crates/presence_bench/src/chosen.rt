@@ -9,8 +9,9 @@ pub enum Subcommand {
     Race,
     /// Plays a saved session again.
     Load,
-    /// Asks the act lines of a script in every order.
-    Explore,
+    /// Asks the act lines of a script in every order, keeping no more different states than so many; prints what they lead to, or
+    /// the order of the outcome of this number alone.
+    Explore { states: usize, outcome: Option<u64> },
     /// Takes a script line by line, and answers each before the next is read.
     Step,
     /// Draws a saved session, with the future of the step of this number painted.
@@ -31,4 +32,15 @@ pub enum Form {
 pub struct Choice {
     pub command: Subcommand,
     pub form: Form,
+}
+
+/// The numbers that options give.
+#[derive(Clone, Copy, Debug, PartialEq, Eq)]
+pub struct Numbers {
+    /// The step of `--why`.
+    pub why: Option<u64>,
+    /// How many states `--states` allows.
+    pub states: Option<u64>,
+    /// The outcome of `--script`.
+    pub outcome: Option<u64>,
 }

@@ -1,18 +1,14 @@
 //! What all orders of a script's act lines lead to.
 ghost use Rattle.std.specs.Prelude.{◌≡◌, IfOk, IfErr};
-ghost use Rattle.explore_report.specs.Reports.{IsReport};
 ghost use Rattle.script_core.specs.Scripts.{plain_script};
 ghost use Rattle.presence_bench.specs.Program.{TellsMemory, IsUnwritten};
-ghost use Rattle.presence_bench.specs.Explored.{fault_of_report, RefusesReportOf};
+ghost use Rattle.presence_bench.specs.Explored.{fault_of_report, TellsOrders, RefusesOrders};
 
 use crate::fault::Fault;
 use bench_core::Limits;
-use explore_report::{ReportFault, report_orders};
+use explore_report::{ReportFault, order_of_outcome, report_orders};
 use script_core::Script;
 use std::alloc::Allocator;
-
-/// The most different states that are kept.
-const MOST_STATES: usize = 100_000;
 
 /// The fault of a report of at most so many states as the program's.
 fn fault_of(fault: ReportFault, most: usize) -> Fault
@@ -21,23 +17,31 @@ fn fault_of(fault: ReportFault, most: usize) -> Fault
     match fault {
         ReportFault::Script(fault) => Fault::Script(fault),
         ReportFault::TooManyStates => Fault::TooManyStates { most },
+        ReportFault::NoSuchOutcome { outcomes } => Fault::NoSuchOutcome { outcomes },
         ReportFault::OutOfMemory => Fault::OutOfMemory,
     }
 }
 
-/// The text of what all orders of the script's act lines lead to.
+/// The text of what all orders of the script's act lines lead to, of which no more different states than `states` are kept; where
+/// there is the number of an outcome, the order that it tells beside that outcome, as a script.
 pub fn explore_script<'a, B: Allocator>(
     alloc: &'a B,
     script: &Script<&'a B>,
     limits: Limits,
+    states: usize,
+    outcome: Option<u64>,
 ) -> Result<Vec<u8, &'a B>, Fault>
-    ensures report { IfOk result (λ text. IsReport limits (plain_script script.now) text.items) }
-    ensures cause { IfErr result (RefusesReportOf limits (plain_script script.now)) }
+    ensures told { IfOk result (λ text. TellsOrders outcome limits (plain_script script.now) text.items) }
+    ensures cause { IfErr result (RefusesOrders states outcome limits (plain_script script.now)) }
     ensures memory { IfErr result TellsMemory }
     ensures unwritten { IfErr result IsUnwritten }
 {
-    match report_orders(alloc, script, limits, MOST_STATES) {
+    let told = match outcome {
+        None => report_orders(alloc, script, limits, states),
+        Some(number) => order_of_outcome(alloc, script, limits, states, number),
+    };
+    match told {
         Ok(text) => Ok(text),
-        Err(fault) => Err(fault_of(fault, MOST_STATES)),
+        Err(fault) => Err(fault_of(fault, states)),
     }
 }

@@ -26,6 +26,9 @@ pub enum Fault {
     /// More different states than so many would be kept of all orders.
     #[error("explore: TooManyStates, more than {most}")]
     TooManyStates { most: usize },
+    /// All orders lead to so many outcomes, and none has the number that was asked for.
+    #[error("explore: NoSuchOutcome, there are {outcomes}")]
+    NoSuchOutcome { outcomes: usize },
     /// A prompt ended early, after what it had answered.
     #[error("{0}")]
     Prompt(PromptFault),
@@ -48,7 +51,7 @@ impl Fault {
         match self {
             Fault::Script(_) | Fault::Session(_) | Fault::LongSession => 1,
             Fault::Race(RaceFault::UnknownActor | RaceFault::NoRoom) => 1,
-            Fault::TooManyStates { .. } => 1,
+            Fault::TooManyStates { .. } | Fault::NoSuchOutcome { .. } => 1,
             Fault::Prompt(PromptFault::TooLong) => 1,
             Fault::Prompt(PromptFault::ReadFault | PromptFault::WriteFault) => 3,
             Fault::Prompt(PromptFault::OutOfMemory) => 4,

@@ -23,6 +23,12 @@ pub const DRAW: &str =
 
 pub const WHY: &str = "The number of a step, to paint it and all that follows from it";
 
+pub const STATES: &str =
+    "The most different states to keep, 100000 as without it; where there are more, that is told";
+
+pub const ORDER: &str =
+    "The number of an outcome, to print its order alone, as a script that play takes";
+
 pub const FORM: &str =
     "What to print: report (as without it), or session, which load takes; of explore the report alone";
 

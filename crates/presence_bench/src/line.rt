@@ -2,14 +2,19 @@
 ghost use Rattle.std.specs.Prelude.{◌≡◌, IfOk, IfSome, codes, map, false};
 ghost use Rattle.clap.specs.Words.{app_of, first_value, found_of, new_app, rule_of, with_rule};
 ghost use Rattle.clap.specs.declared.Command.TheViews.{out-Command as fields_of};
-ghost use Rattle.presence_bench.specs.Line.{app, as_rule, draw_app, step_app, why_rule, name_of, IsForm, IsWhy, Chooses, Paints};
+ghost use Rattle.presence_bench.specs.Line.{app, as_rule, draw_app, explore_app, number_rule, step_app, AreNumbers, Chooses, IsChoiceOf, IsForm, IsNumber, Takes, name_of};
 
-use crate::chosen::{Choice, Form, Subcommand};
-use crate::help::{DRAW, EXPLORE, FORM, LANGUAGE, LOAD, PLAY, PURPOSE, RACE, STEP, VERSION, WHY};
+use crate::chosen::{Choice, Form, Numbers, Subcommand};
+use crate::help::{
+    DRAW, EXPLORE, FORM, LANGUAGE, LOAD, ORDER, PLAY, PURPOSE, RACE, STATES, STEP, VERSION, WHY,
+};
 use clap::error::ErrorKind;
 use clap::{Arg, ArgMatches, Command, Error};
 use std::alloc::{AllocError, Global};
 use std::convert::AsStr;
+
+/// The most different states that are kept of all orders, where it is not told how many.
+const MOST_STATES: u64 = 100_000;
 
 /// The option that names a form.
 fn form_option<'a>(alloc: Global) -> Arg<'a>
@@ -22,15 +27,15 @@ fn form_option<'a>(alloc: Global) -> Arg<'a>
         .help(FORM)
 }
 
-/// The option that names a step.
-fn why_option<'a>(alloc: Global) -> Arg<'a>
-    ensures rule { rule_of result ≡ why_rule }
+/// An option that takes a number.
+fn number_option<'a>(alloc: Global, name: &'a str, about: &'a str) -> Arg<'a>
+    ensures rule { rule_of result ≡ number_rule name.entry.now }
     ensures local { result.global ≡ false }
 {
-    Arg::new(alloc, "why")
-        .long("why")
+    Arg::new(alloc, name)
+        .long(name)
         .value_name("NUMBER")
-        .help(WHY)
+        .help(about)
 }
 
 /// The subcommand that draws.
@@ -40,7 +45,17 @@ fn draw_line<'a>(alloc: Global) -> Result<Command<'a>, AllocError>
 {
     Command::new(alloc, "draw")
         .about(DRAW)
-        .arg(why_option(alloc))
+        .arg(number_option(alloc, "why", WHY))
+}
+
+/// The subcommand that tries all orders.
+fn explore_line<'a>(alloc: Global) -> Result<Command<'a>, AllocError>
+    ensures app { IfOk result (λ line. app_of line ≡ explore_app) }
+    ensures local { IfOk result (λ line. (fields_of line).has_globals ≡ false) }
+{
+    subcommand_line(alloc, "explore", EXPLORE)?
+        .arg(number_option(alloc, "states", STATES))?
+        .arg(number_option(alloc, "script", ORDER))
 }
 
 /// The subcommand that is a prompt.
@@ -71,7 +86,7 @@ fn line<'a>(alloc: Global) -> Result<Command<'a>, AllocError>
     let play = subcommand_line(alloc, "play", PLAY)?;
     let race = subcommand_line(alloc, "race", RACE)?;
     let load = subcommand_line(alloc, "load", LOAD)?;
-    let explore = subcommand_line(alloc, "explore", EXPLORE)?;
+    let explore = explore_line(alloc)?;
     let step = step_line(alloc);
     let draw = draw_line(alloc)?;
     Command::new(alloc, "presence_bench")
@@ -88,18 +103,21 @@ fn line<'a>(alloc: Global) -> Result<Command<'a>, AllocError>
         .subcommand(draw)
 }
 
-/// The subcommand of this name, which paints the future of that step, if it paints one.
-fn command_of(name: &str, why: Option<u64>) -> Option<Subcommand>
+/// The subcommand of this name, with those of the numbers that it takes.
+fn command_of(name: &str, numbers: Numbers) -> Option<Subcommand>
     ensures name { IfSome result (λ command. name.now ≡ name_of command) }
-    ensures why { IfSome result (Paints why) }
+    ensures takes { IfSome result (Takes numbers) }
 {
     match name {
         "play" => Some(Subcommand::Play),
         "race" => Some(Subcommand::Race),
         "load" => Some(Subcommand::Load),
-        "explore" => Some(Subcommand::Explore),
+        "explore" => Some(Subcommand::Explore {
+            states: numbers.states.unwrap_or(MOST_STATES) as usize,
+            outcome: numbers.outcome,
+        }),
         "step" => Some(Subcommand::Step),
-        "draw" => Some(Subcommand::Draw { why }),
+        "draw" => Some(Subcommand::Draw { why: numbers.why }),
         _ => None,
     }
 }
@@ -115,17 +133,57 @@ fn form_of<'a>(matches: &ArgMatches<'a>) -> Option<Form>
     }
 }
 
-/// The step that a subcommand's words name, if they name one.
-fn why_of<'a>(matches: &ArgMatches<'a>) -> Option<Option<u64>>
-    ensures { IfSome result (IsWhy (first_value (found_of matches.now) (codes "why"))) }
+/// The number that an option of a subcommand's words gives, if they have it.
+fn number_of<'a>(matches: &ArgMatches<'a>, option: &str) -> Option<Option<u64>>
+    ensures { IfSome result (IsNumber (first_value (found_of matches.now) option.now)) }
 {
-    match matches.get_str("why") {
+    match matches.get_str(option) {
         None => Some(None),
         Some(digits) => match digits.parse::<u64>() {
             Ok(number) => Some(Some(number)),
             Err(_) => None,
         },
     }
+}
+
+/// The numbers that the options of a subcommand's words give; or what to tell of one that is none.
+fn numbers_of<'a>(matches: &ArgMatches<'a>) -> Result<Numbers, &'static str>
+    ensures { IfOk result (AreNumbers (λ option. first_value (found_of matches.now) option)) }
+{
+    let Some(why) = number_of(matches, "why") else {
+        return Err("--why takes the number of a step");
+    };
+    let Some(states) = number_of(matches, "states") else {
+        return Err("--states takes a number of states");
+    };
+    let Some(outcome) = number_of(matches, "script") else {
+        return Err("--script takes the number of an outcome");
+    };
+    Ok(Numbers {
+        why,
+        states,
+        outcome,
+    })
+}
+
+/// What a subcommand's name and words choose; or what to tell where they choose nothing.
+fn chosen<'a>(name: &str, matches: &ArgMatches<'a>) -> Result<Choice, &'static str>
+    ensures { IfOk result (IsChoiceOf name.now (λ option. first_value (found_of matches.now) option)) }
+{
+    let numbers = match numbers_of(matches) {
+        Ok(numbers) => numbers,
+        Err(told) => return Err(told),
+    };
+    let Some(command) = command_of(name, numbers) else {
+        return Err("no such subcommand");
+    };
+    let Some(form) = form_of(matches) else {
+        return Err("--as takes report or session");
+    };
+    if form == Form::Session && matches!(command, Subcommand::Explore { .. }) {
+        return Err("explore prints a report alone");
+    }
+    Ok(Choice { command, form })
 }
 
 /// What the words after the program's name choose.
@@ -137,17 +195,8 @@ pub fn choice<'a, S: AsStr>(alloc: Global, words: &'a [S]) -> Result<Choice, Err
     let Some((name, entered)) = matches.subcommand() else {
         return Err(line.error(ErrorKind::MissingSubcommand, "a subcommand is required")?);
     };
-    let Some(why) = why_of(entered) else {
-        return Err(line.error(ErrorKind::InvalidValue, "--why takes the number of a step")?);
-    };
-    let Some(command) = command_of(name, why) else {
-        return Err(line.error(ErrorKind::InvalidSubcommand, "no such subcommand")?);
-    };
-    let Some(form) = form_of(entered) else {
-        return Err(line.error(ErrorKind::InvalidValue, "--as takes report or session")?);
-    };
-    if command == Subcommand::Explore && form == Form::Session {
-        return Err(line.error(ErrorKind::InvalidValue, "explore prints a report alone")?);
+    match chosen(name, entered) {
+        Ok(choice) => Ok(choice),
+        Err(told) => Err(line.error(ErrorKind::InvalidValue, told)?),
     }
-    Ok(Choice { command, form })
 }

@@ -157,20 +157,22 @@ fn load_session<B: Allocator, R: Read, W: Write>(
     print(writer, &text)
 }
 
-/// What all orders of a script's act lines lead to.
-fn explore_report<B: Allocator, R: Read, W: Write>(
+/// What all orders of a script's act lines lead to, or the order of an outcome.
+fn explore_orders<B: Allocator, R: Read, W: Write>(
     alloc: &B,
     reader: &mut R,
     writer: &mut W,
     limits: Limits,
+    states: usize,
+    outcome: Option<u64>,
 ) -> Result<(), Fault>
-    ensures ends { (form : Form) → EndsAt subcommands.Explore form limits (R.remaining reader.old) result (W.contents writer.old) (W.contents writer.new) }
+    ensures ends { (form : Form) → EndsAt (subcommands.Explore states outcome) form limits (R.remaining reader.old) result (W.contents writer.old) (W.contents writer.new) }
     ensures read { OnOk result (IsAtEnd (R.remaining reader.new)) }
     ensures unwritten { IfErr result (λ fault. KeepsBefore fault (W.contents writer.old) (W.contents writer.new)) }
     ensures memory { IfErr result TellsMemory }
 {
     let script = read_script(alloc, reader)?;
-    let text = explore_script(alloc, &script, limits)?;
+    let text = explore_script(alloc, &script, limits, states, outcome)?;
     print(writer, &text)
 }
 
@@ -222,7 +224,9 @@ pub fn answer<B: Allocator + Sync, T: Threads + Wait + Sync, R: BufRead, W: Writ
         (Subcommand::Load, Form::Report) => load_report(heap, alloc, reader, writer, limits),
         (Subcommand::Load, Form::Session) => load_session(heap, alloc, reader, writer, limits),
         (Subcommand::Step, _) => step_script(heap, alloc, reader, writer, limits),
-        (Subcommand::Explore, _) => explore_report(alloc, reader, writer, limits),
+        (Subcommand::Explore { states, outcome }, _) => {
+            explore_orders(alloc, reader, writer, limits, states, outcome)
+        }
         (Subcommand::Draw { why }, form) => draw_session(
             heap, alloc, reader, writer, limits, form, why,
         ),

@@ -39,8 +39,14 @@ outcome 1 orders 3\nonline a 1\n= r alice a/1 phone\n\
 online b 0\n  nodes a b\n  a join 1 r alice phone\n  a leave 2 r bob\n  b up a\n\
 refused line 4 NotTracked\n  nodes a b\n  a join 1 r alice phone\n  a leave 2 r bob\n";
 
+/// All orders with no option.
+const ALL_ORDERS: Subcommand = Subcommand::Explore {
+    states: 100_000,
+    outcome: None,
+};
+
 /// The words that choose something, and what they choose.
-const CHOSEN: [(&[&str], Subcommand, Form); 13] = [
+const CHOSEN: [(&[&str], Subcommand, Form); 16] = [
     (&["play"], Subcommand::Play, Form::Report),
     (&["play", "--as", "report"], Subcommand::Play, Form::Report),
     (&["play", "--as=session"], Subcommand::Play, Form::Session),
@@ -57,10 +63,30 @@ const CHOSEN: [(&[&str], Subcommand, Form); 13] = [
         Subcommand::Load,
         Form::Session,
     ),
-    (&["explore"], Subcommand::Explore, Form::Report),
+    (&["explore"], ALL_ORDERS, Form::Report),
+    (&["explore", "--as", "report"], ALL_ORDERS, Form::Report),
     (
-        &["explore", "--as", "report"],
-        Subcommand::Explore,
+        &["explore", "--states", "7"],
+        Subcommand::Explore {
+            states: 7,
+            outcome: None,
+        },
+        Form::Report,
+    ),
+    (
+        &["explore", "--script=2"],
+        Subcommand::Explore {
+            states: 100_000,
+            outcome: Some(2),
+        },
+        Form::Report,
+    ),
+    (
+        &["explore", "--script", "0", "--states", "12"],
+        Subcommand::Explore {
+            states: 12,
+            outcome: Some(0),
+        },
         Form::Report,
     ),
     (&["step"], Subcommand::Step, Form::Report),
@@ -87,6 +113,23 @@ fn words_choose_a_subcommand_and_a_form(rt: HostRuntime) {
         (["draw", "--why", "x"].as_slice(), ErrorKind::InvalidValue),
         (
             ["step", "--as", "report"].as_slice(),
+            ErrorKind::UnknownArgument,
+        ),
+        (
+            ["explore", "--states", "x"].as_slice(),
+            ErrorKind::InvalidValue,
+        ),
+        (
+            ["explore", "--script", "-1"].as_slice(),
+            ErrorKind::UnknownArgument,
+        ),
+        (["explore", "--script="].as_slice(), ErrorKind::InvalidValue),
+        (
+            ["play", "--states", "7"].as_slice(),
+            ErrorKind::UnknownArgument,
+        ),
+        (
+            ["draw", "--script", "1"].as_slice(),
             ErrorKind::UnknownArgument,
         ),
         (
@@ -177,7 +220,7 @@ const STEPPED: Case = Case {
     ..PLAYED
 };
 
-const CASES: [Case; 22] = [
+const CASES: [Case; 27] = [
     PLAYED,
     DRAWN,
     Case {
@@ -280,6 +323,36 @@ const CASES: [Case; 22] = [
         status: 1,
         printed: "",
         told: "presence_bench: line 3: NotAllowed\n",
+        ..EXPLORED
+    },
+    Case {
+        words: &["explore", "--script", "2"],
+        printed: "  nodes a\n  consoles desk\n  desk undo 1\n  a join 1 r alice phone\n",
+        ..EXPLORED
+    },
+    Case {
+        words: &["explore", "--script", "3"],
+        status: 1,
+        printed: "",
+        told: "presence_bench: explore: NoSuchOutcome, there are 2\n",
+        ..EXPLORED
+    },
+    Case {
+        words: &["explore", "--script", "0"],
+        status: 1,
+        printed: "",
+        told: "presence_bench: explore: NoSuchOutcome, there are 2\n",
+        ..EXPLORED
+    },
+    Case {
+        words: &["explore", "--states", "5"],
+        ..EXPLORED
+    },
+    Case {
+        words: &["explore", "--states", "4"],
+        status: 1,
+        printed: "",
+        told: "presence_bench: explore: TooManyStates, more than 4\n",
         ..EXPLORED
     },
     Case {
@@ -391,7 +464,7 @@ fn refused_words_are_told_and_help_is_printed(rt: HostRuntime) {
 }
 
 /// Words, an input, and what is printed of it.
-const ANSWERED: [(&[&str], &str, &str); 7] = [
+const ANSWERED: [(&[&str], &str, &str); 8] = [
     (&["play"], JOINED, REPORT),
     (&["play", "--as", "session"], JOINED, SESSION),
     (&["race"], JOINED, REPORT),
@@ -399,6 +472,11 @@ const ANSWERED: [(&[&str], &str, &str); 7] = [
     (&["load"], SESSION, REPORT),
     (&["load", "--as", "session"], SESSION, SESSION),
     (&["explore"], UNDONE, UNDONE_ORDERS),
+    (
+        &["explore", "--script", "1"],
+        UNDONE,
+        "  nodes a\n  consoles desk\n  a join 1 r alice phone\n  desk undo 1\n",
+    ),
 ];
 
 /// Runs the program with this request for memory refused: it prints all, or nothing and says so. Gives whether the request was
@@ -477,16 +555,6 @@ fn the_faults_of_a_race_have_their_status(rt: HostRuntime) {
         assert!(rt; write!(text, "{fault}").is_ok());
         assert!(rt; text.as_str() == line);
     }
-}
-
-/// The status and the line of too many states.
-#[test]
-fn too_many_states_have_their_status(rt: HostRuntime) {
-    let fault = Fault::TooManyStates { most: 100_000 };
-    assert_eq!(rt; fault.status(), 1);
-    let mut text = String::new(rt.alloc());
-    assert!(rt; write!(text, "{fault}").is_ok());
-    assert!(rt; text.as_str() == "explore: TooManyStates, more than 100000");
 }
 
 /// The words of the tests' own command line choose nothing.

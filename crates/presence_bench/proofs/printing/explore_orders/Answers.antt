@@ -1,15 +1,15 @@
 use Rattle.std.proofs.Common.{ℕ, List, subst, sym}
 use Rattle.presence_bench.specs.declared.chosen.Form.TheVariants as forms
 use Rattle.script_core.specs.Scripts.{Script, plain_script}
-use Rattle.explore_report.specs.Reports.{IsReport}
+use Rattle.presence_bench.specs.Explored.{TellsOrders}
 use Rattle.presence_bench.proofs.Printed.{always, ends_explore, keeps_before, tells_memory}
-use Rattle.presence_bench.proofs.printing.explore_report.Goals as goal
+use Rattle.presence_bench.proofs.printing.explore_orders.Goals as goal
 
 pub returns-clause-ends : goal.returns-clause-ends
 returns-clause-ends g c = λ form.
     let s : Script = plain_script c.in_ok-script.script in
-    ends_explore form c.args.limits c.deref.result.now _ _ _ s c.print.result c.in_ok-script.ensures.script
-    (subst (λ (text : List ℕ). IsReport c.args.limits s text) (sym c.deref.ensures.value) c.in_ok-text.ensures.report) c.print.ensures
+    ends_explore form c.args.limits c.deref.result.now _ _ c.args.states c.args.outcome _ s c.print.result c.in_ok-script.ensures.script
+    (subst (λ (text : List ℕ). TellsOrders c.args.outcome c.args.limits s text) (sym c.deref.ensures.value) c.in_ok-text.ensures.told) c.print.ensures
 
 pub returns-clause-read : goal.returns-clause-read
 returns-clause-read g c = always c.print.result _ c.in_ok-script.ensures.read
