@@ -20,7 +20,6 @@ use Rattle.worker_core.specs.declared.race_fault.RaceFault.{RaceFault}
 use Rattle.worker_core.specs.declared.race_fault.RaceFault.TheVariants as races
 use Rattle.presence_bench.specs.Explored.{TellsOrders, RefusesOrders}
 use Rattle.prompt_core.specs.Ends.{EndsEarly, printed}
-use Rattle.prompt_core.specs.declared.prompt_fault.PromptFault.{PromptFault}
 use Rattle.prompt_core.specs.declared.prompt_fault.PromptFault.TheVariants as prompts
 use Rattle.presence_bench.specs.Help.{language}
 use Rattle.presence_bench.specs.Races.{IsRaceOf, RefusesRaceOf}

@@ -1,12 +1,11 @@
 -- What is kept of a line has the line's answer.
-use Rattle.std.proofs.Common.{◌≡◌, ℕ, ◌+◌, ◌<◌, ◌≤◌, nat_lt, Bool, true, false, List, [], ◌∷◌, ◌++◌, codes, length, take, Result, Ok, Err, refl, sym, ap, ap₂, ◌∙◌, arith}
-use Rattle.std.proofs.lemmas.Bool.{false_from_ne_true, le-ltb, lt-ltb, ltb-false, ltb-true}
+use Rattle.std.proofs.Common.{◌≡◌, ℕ, ◌<◌, ◌≤◌, nat_lt, Bool, true, false, List, [], codes, length, Err, refl, sym, ap, ◌∙◌, arith}
+use Rattle.std.proofs.lemmas.Bool.{false_from_ne_true, lt-ltb, ltb-false, ltb-true}
 use Rattle.std.proofs.lemmas.List.{length-take-le, take_all}
 use Rattle.std.proofs.lemmas.Slice.Eq.{bytes_eq-Decides}
 use Rattle.std.specs.Str.{bytes_eq}
 use Rattle.script_core.specs.Grammar.{Reading, with_line}
 use Rattle.script_core.specs.Prompts.{Prompt, answered, taken}
-use Rattle.script_core.specs.declared.fault.FaultKind.{FaultKind}
 use Rattle.script_core.specs.declared.fault.FaultKind.TheVariants.{TooLong}
 use Rattle.prompt_core.specs.declared.reading.TheConstants.{KEPT}
 use Rattle.prompt_core.specs.Answers.{answer, answer_by, fault_line, own_answer}

@@ -1,7 +1,6 @@
-use Rattle.std.proofs.Common.{length, sym, subst, List, ℕ}
+use Rattle.std.proofs.Common.{length}
 use Rattle.std.proofs.KnownBytes.{Appends-kept}
 use Rattle.std.proofs.Math.Seq.{take-length}
-use Rattle.std.specs.Io.KnownBytes.{Appends}
 use Rattle.prompt_core.proofs.stepping.put_out.Goals as goal
 
 -- the whole answer went out, and wasn't flushed
