@@ -1,6 +1,6 @@
 -- Calls that are told by their actors.
-use Rattle.std.proofs.Common.{◌≡◌, ◌∙◌, ◌++◌, ℕ, List, [], ◌∷◌, ap, refl, Some}
-use Rattle.explore_core.specs.Orders.{Lists, Call, Position, Leads, one_more, next_line, actors_of}
+use Rattle.std.proofs.Common.{◌≡◌, ◌∙◌, ◌++◌, List, [], ◌∷◌, ap, refl}
+use Rattle.explore_core.specs.Orders.{Lists, Call, Position, Leads, one_more, actors_of}
 use Rattle.explore_report.specs.Grouped.{call_from, position_after, calls_from}
 
 -- they are those that their actors give

@@ -1,4 +1,4 @@
-use Rattle.std.proofs.Common.{◌∙◌, ◌≡◌, ◌++◌, [], List, ℕ, codes, ap, refl, arith, get_or}
+use Rattle.std.proofs.Common.{◌∙◌, ◌≡◌, ◌++◌, [], codes, refl, arith, get_or}
 use Rattle.std.proofs.lemmas.Option.{unwrap_or-slice_get}
 use Rattle.explore_report.specs.OrderText.{spaced_names}
 use Rattle.explore_report.proofs.Pieces.{piece_more, pieces_all}

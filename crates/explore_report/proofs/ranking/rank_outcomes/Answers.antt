@@ -1,4 +1,4 @@
-use Rattle.std.proofs.Common.{ℕ, nat_lt, rules}
+use Rattle.std.proofs.Common.{nat_lt, rules}
 use Rattle.std.proofs.lemmas.List.Sorted.{answers_always, IsStrictWeakOrder-by_number, IsStrictWeakOrder-flip}
 use Rattle.std.specs.Cmp.{IsStrictWeakOrder}
 use Rattle.explore_core.specs.Explorations.{Outcome}

@@ -1,4 +1,4 @@
-use Rattle.std.proofs.Common.{◌≡◌, ◌∙◌, ap, sym, List}
+use Rattle.std.proofs.Common.{◌∙◌, ap, sym, List}
 use Rattle.bench_core.specs.Acts.{calls_of}
 use Rattle.script_core.specs.Scripts.{plain_script}
 use Rattle.explore_core.specs.Explorations.{Outcome}
