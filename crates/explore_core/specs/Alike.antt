@@ -1,4 +1,4 @@
--- States of the machine that lines to come can't tell apart.
+-- States of the machine that calls to come can't tell apart.
 use Rattle.std.specs.Prelude.{◌≡◌, ℕ, ◌+◌, Bool, true, false, length}
 use Rattle.std.specs.List.{list_all}
 use Rattle.bench_core.specs.declared.reply.Reply.{Reply}
@@ -13,9 +13,9 @@ is_step (Do operation) = true
 is_step (Undo number) = false
 is_step (Back node) = false
 
--- no line is an undo
+-- no call is an undo
 abbrev pub are_steps : Lists → Bool
-are_steps lists = list_all (λ lines. list_all is_step lines) lists
+are_steps lists = list_all (λ calls. list_all (λ call. is_step call.1) calls) lists.each
 
 -- the reply without the number of a step that was taken
 abbrev pub unnumbered : Reply → Reply
@@ -23,7 +23,7 @@ unnumbered (Taken number) = Taken 0
 unnumbered (Undone number) = Undone number
 unnumbered (Refused fault) = Refused fault
 
--- equal nodes, and as many places taken by recorded calls and remaining steps; and unless all lines are steps, the same remaining
+-- equal nodes, and as many places taken by recorded calls and remaining steps; and unless all calls are steps, the same remaining
 -- steps, as many of which were ever taken
 pub record AreAlike (steps_alone : Bool) (c : Config) (s t : State) : Type 0 where
   pub cluster : now c s ≡ now c t

@@ -2,23 +2,23 @@
 use crate::lines::Line::{self, Back, Broadcast, Deliver, Join, Undo, Up};
 use crate::lines::{Lists, limits_of, lists_of, names_of};
 use bench_core::{Bench, Fault, Names};
-use explore_core::{ExploreFault, Explored, explore};
+use explore_core::{ExploreFault, Explored, Reading, explore};
 use std::alloc::{Allocator, Global};
 use std::process::Abort;
 
-/// The actors of an order, how many entries the nodes `a` and `b` have after it, and how many orders lead there.
+/// The lists of an order, how many entries the nodes `a` and `b` have after it, and how many orders lead there.
 struct Ends {
-    order: &'static [u16],
+    order: &'static [usize],
     entries: [usize; 2],
     orders: u128,
 }
 
-/// An actor, the place of its line, and why it is refused; and the actors of the calls before it.
+/// A list, the place of its call, and why it is refused; and the lists of the calls before it.
 struct Refused {
-    actor: u16,
-    line: usize,
+    list: usize,
+    place: usize,
     fault: Fault,
-    order: &'static [u16],
+    order: &'static [usize],
 }
 
 struct Case {
@@ -49,8 +49,8 @@ const CASES: [Case; 6] = [
             },
         ],
         refusals: &[Refused {
-            actor: 1,
-            line: 1,
+            list: 1,
+            place: 1,
             fault: Fault::NoSuchMessage,
             order: &[1],
         }],
@@ -97,14 +97,14 @@ const CASES: [Case; 6] = [
         ],
         refusals: &[
             Refused {
-                actor: 0,
-                line: 3,
+                list: 0,
+                place: 3,
                 fault: Fault::NoSuchMessage,
                 order: &[0, 0, 0],
             },
             Refused {
-                actor: 1,
-                line: 3,
+                list: 1,
+                place: 3,
                 fault: Fault::NoSuchMessage,
                 order: &[1, 1, 1],
             },
@@ -130,14 +130,14 @@ const CASES: [Case; 6] = [
         ],
         refusals: &[
             Refused {
-                actor: 1,
-                line: 0,
+                list: 1,
+                place: 0,
                 fault: Fault::HistoryFull,
                 order: &[0],
             },
             Refused {
-                actor: 0,
-                line: 0,
+                list: 0,
+                place: 0,
                 fault: Fault::HistoryFull,
                 order: &[1],
             },
@@ -163,14 +163,14 @@ const CASES: [Case; 6] = [
         ],
         refusals: &[
             Refused {
-                actor: 2,
-                line: 0,
+                list: 2,
+                place: 0,
                 fault: Fault::NoSuchStep,
                 order: &[],
             },
             Refused {
-                actor: 2,
-                line: 0,
+                list: 2,
+                place: 0,
                 fault: Fault::HasConsequence {
                     step: 1,
                     held_by: 2,
@@ -178,8 +178,8 @@ const CASES: [Case; 6] = [
                 order: &[0, 0],
             },
             Refused {
-                actor: 0,
-                line: 1,
+                list: 0,
+                place: 1,
                 fault: Fault::NothingToSend,
                 order: &[0, 2],
             },
@@ -231,7 +231,7 @@ fn check_refusals<'a, B: Allocator>(
 ) {
     assert_eq!(rt; explored.refusals.len(), refusals.len());
     for (told, refused) in explored.refusals.iter().zip(refusals) {
-        assert_eq!(rt; (told.actor, told.line), (refused.actor, refused.line));
+        assert_eq!(rt; (told.list, told.place), (refused.list, refused.place));
         assert_eq!(rt; told.fault, refused.fault);
         assert_eq!(rt; told.order.as_slice(), refused.order);
     }
@@ -244,9 +244,8 @@ fn explored_in<'a, B: Allocator>(
     case: &Case,
     most: usize,
 ) -> Result<Explored<'a, B>, ExploreFault> {
-    assert!(rt; lists.len() < 65_536);
     let names = names_of(rt, heap);
-    explore(heap, names, limits_of(rt, case.acts), lists, most)
+    explore(heap, names, limits_of(rt, case.acts), Reading::EveryOrder, lists, most)
 }
 
 #[test]
@@ -311,9 +310,8 @@ fn orders_of_three_nodes_of_six_lines_are_told(rt: HostRuntime) {
             ],
         ],
     );
-    assert!(rt; lists.len() < 65_536);
     let names = Names::new(&heap, &["a", "b", "c"]).expect(&rt, "names");
-    let explored = explore(&heap, names, limits_of(&rt, 100), &lists, 10_000);
+    let explored = explore(&heap, names, limits_of(&rt, 100), Reading::EveryOrder, &lists, 10_000);
     let explored = explored.expect(&rt, "all orders");
     assert!(rt; explored.orders == Some(17_153_136));
 }
