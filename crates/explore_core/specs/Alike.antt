@@ -1,11 +1,11 @@
 -- States of the machine that calls to come can't tell apart.
-use Rattle.std.specs.Prelude.{◌≡◌, ℕ, ◌+◌, Bool, true, false, length}
+use Rattle.std.specs.Prelude.{◌≡◌, ℕ, ◌+◌, Bool, true, false, List, length}
 use Rattle.std.specs.List.{list_all}
 use Rattle.bench_core.specs.declared.reply.Reply.{Reply}
 use Rattle.bench_core.specs.declared.reply.Reply.TheVariants.{Taken, Undone, Refused}
 use Rattle.bench_core.specs.Acts.{Action, Do, Undo, Back}
 use Rattle.bench_core.specs.Machine.{Config, State, Machine, config_of, given, now, reply_to, call}
-use Rattle.explore_core.specs.Orders.{Lists}
+use Rattle.explore_core.specs.Orders.{Lists, Call}
 
 -- a step, and not the undo of one
 abbrev pub is_step : Action → Bool
@@ -13,9 +13,12 @@ is_step (Do operation) = true
 is_step (Undo number) = false
 is_step (Back node) = false
 
--- no call is an undo
+-- none of these calls is an undo
+abbrev pub all_steps : List Call → Bool
+all_steps calls = list_all (λ call. is_step call.1) calls
+
 abbrev pub are_steps : Lists → Bool
-are_steps lists = list_all (λ calls. list_all (λ call. is_step call.1) calls) lists.each
+are_steps lists = list_all all_steps lists.each
 
 -- the reply without the number of a step that was taken
 abbrev pub unnumbered : Reply → Reply

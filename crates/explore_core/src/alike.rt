@@ -4,9 +4,8 @@ ghost use Rattle.std.specs.List.{list_all};
 ghost use Rattle.journal_core.specs.Holdings.{kepts};
 ghost use Rattle.bench_core.specs.Acts.{plain_act, calls_of};
 ghost use Rattle.bench_core.specs.Machine.{cluster_of};
-ghost use Rattle.explore_core.specs.Alike.{are_steps, is_step, AreBenchesAlike};
-ghost use Rattle.explore_core.specs.Orders.{plain_lists};
-ghost use Rattle.explore_core.specs.declared.reading.Reading.{Reading};
+ghost use Rattle.explore_core.specs.Alike.{all_steps, is_step, AreBenchesAlike};
+ghost use Rattle.explore_core.specs.Orders.{plain_each};
 
 use bench_core::{Act, Bench, Journal};
 use std::alloc::Allocator;
@@ -19,7 +18,7 @@ fn is_step<A: Allocator>(act: &Act<A>) -> bool
 
 /// Whether each of these calls is a step.
 fn all_steps<A: Allocator>(calls: &[(u16, Act<A>)]) -> bool
-    ensures { result ≡ list_all (λ call. is_step call.1) (calls_of calls.now) }
+    ensures { result ≡ all_steps (calls_of calls.now) }
 {
     for call in calls {
         if !is_step(&call.1) {
@@ -31,7 +30,7 @@ fn all_steps<A: Allocator>(calls: &[(u16, Act<A>)]) -> bool
 
 /// Whether no call is an undo.
 pub(crate) fn are_steps<A: Allocator>(lists: &[Vec<(u16, Act<A>), A>]) -> bool
-    ensures { (reading : Reading) → result ≡ are_steps (plain_lists reading lists.now) }
+    ensures { result ≡ list_all all_steps (plain_each lists.now) }
 {
     for calls in lists {
         if !all_steps(calls.as_slice()) {

@@ -1,11 +1,10 @@
 //! `explore`: what all orders of some calls lead to.
-ghost use Rattle.std.specs.Prelude.{◌≡◌, ◌≢◌, ℕ, ◌≤◌, ◌<◌, ◌^◌, [], ◌∷◌, Some, IfErr, IfOk, MatchBool, OnOk, length};
+ghost use Rattle.std.specs.Prelude.{◌≡◌, ◌≢◌, ℕ, ◌≤◌, ◌<◌, ◌^◌, [], ◌∷◌, Some, IfErr, IfOk, MatchBool, OnOk, length, map};
 ghost use Rattle.std.specs.List.{AllByRecursion};
 ghost use Rattle.bench_core.specs.Machine.{Machine, cluster_of, opening_machine};
 ghost use Rattle.explore_core.specs.Counts.{told_number, IsCounted};
-ghost use Rattle.explore_core.specs.Orders.{end_of, orders_of, plain_lists, total};
+ghost use Rattle.explore_core.specs.Orders.{end_of, orders_of, plain_each, plain_lists, total};
 ghost use Rattle.explore_core.specs.Alike.{are_steps};
-ghost use Rattle.explore_core.specs.declared.reading.Reading.{Reading};
 ghost use Rattle.explore_core.specs.Explorations.{IsAny, IsOutcome, IsEveryOrder, AreDistinct, IsRefusal, IsEveryRefusal};
 ghost use Rattle.explore_core.specs.Waypoints.{opening_waypoint, AddsOutcome, AreMore, Gathers, IsAt};
 ghost use Rattle.explore_core.specs.Ways.{HasNumber, IsCountedAt, IsSumOf};
@@ -91,7 +90,7 @@ fn outcomes_of<'a, B: Allocator>(
 
 /// How many calls there are.
 fn count_calls<A: Allocator>(lists: &[Vec<(u16, Act<A>), A>]) -> u128
-    ensures { (reading : Reading) → result ≡ total (end_of (plain_lists reading lists.now)) }
+    ensures { result ≡ total (map length (plain_each lists.now)) }
 {
     let mut count = 0u128;
     for calls in lists {

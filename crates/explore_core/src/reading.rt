@@ -34,11 +34,7 @@ pub(crate) fn call_at<'l, A: Allocator>(
 }
 
 /// Whether both lists begin with a delivery at one node.
-fn deliver_alike<A: Allocator>(
-    lists: &[Vec<(u16, Act<A>), A>],
-    one: usize,
-    other: usize,
-) -> bool
+fn deliver_alike<A: Allocator>(lists: &[Vec<(u16, Act<A>), A>], one: usize, other: usize) -> bool
     ensures { result ≡ deliver_alike (call_at (plain_each lists.now) one 0) (call_at (plain_each lists.now) other 0) }
 {
     match (call_at(lists, one, 0), call_at(lists, other, 0)) {

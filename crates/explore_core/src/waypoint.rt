@@ -2,8 +2,8 @@
 ghost use Rattle.std.specs.Prelude.{◌≡◌, ◌<◌, ◌^◌, ◌-◌, ◌++◌, ◌∷◌, [], IfOk, IfSome, map, option_map, replicate};
 ghost use Rattle.bench_core.specs.Acts.{plain_act};
 ghost use Rattle.bench_core.specs.Machine.{config_of, reply_to, opening_machine};
-ghost use Rattle.explore_core.specs.Orders.{plain_lists, asked_of, next_call, start_of, one_more, total};
-ghost use Rattle.explore_core.specs.declared.reading.Reading.{Reading};
+ghost use Rattle.explore_core.specs.Orders.{plain_each, plain_lists, asked_of, next_call, one_more, total};
+ghost use Rattle.explore_core.specs.declared.reading.Reading.{Reading as Read};
 ghost use Rattle.explore_core.specs.Waypoints.{after_call, asked_more, opening_waypoint, outcome_of};
 
 use crate::copying::copied;
@@ -66,7 +66,7 @@ fn nowhere<'a, B: Allocator>(
     alloc: &'a B,
     lists: &[Vec<(u16, Act<&'a B>), &'a B>],
 ) -> Result<Vec<usize, &'a B>, Oom>
-    ensures { (reading : Reading) → IfOk result (λ v. v.items ≡ start_of (plain_lists reading lists.now)) }
+    ensures { IfOk result (λ v. v.items ≡ map (λ _. 0) (plain_each lists.now)) }
 {
     zeros(alloc, lists.len())
 }
@@ -121,7 +121,7 @@ impl<'a, B: Allocator> Waypoint<'a, B> {
         limits: Limits,
         lists: &[Vec<(u16, Act<&'a B>), &'a B>],
     ) -> Result<Self, Oom>
-        ensures { (reading : Reading) → IfOk result (λ w. w ≡ opening_waypoint (plain_lists reading lists.now) (opening_machine names.entry limits)) }
+        ensures { IfOk result (λ w. (reading : Read) → w ≡ opening_waypoint (plain_lists reading lists.now) (opening_machine names.entry limits)) }
     {
         let position = nowhere(alloc, lists)?;
         let bench = Bench::new(alloc, names, limits)?;

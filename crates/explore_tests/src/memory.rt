@@ -17,7 +17,14 @@ fn want_of_memory_is_told(rt: HostRuntime) {
         );
         let names = names_of(&rt, &heap);
         heap.refuse_only(number);
-        let explored = explore(&heap, names, limits_of(&rt, 100), Reading::EveryOrder, &lists, 100);
+        let explored = explore(
+            &heap,
+            names,
+            limits_of(&rt, 100),
+            Reading::EveryOrder,
+            &lists,
+            100,
+        );
         if heap.requests() < number {
             assert!(rt; explored.is_ok());
             break;
