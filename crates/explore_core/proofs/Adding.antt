@@ -50,6 +50,15 @@ pub others_all : (w : Waypoint) (os : List Outcome) (i : ℕ) → length os ≤ 
     AllByRecursion (λ o. cluster_of w.machine ≢ cluster_of o.machine) os
 others_all w os i few so_far = subst (AllByRecursion (λ o. cluster_of w.machine ≢ cluster_of o.machine)) (take_all i os few) so_far
 
+-- one number more
+total_last : (position : List ℕ) (n : ℕ) → total (position ++ n ∷ []) ≡ total position + n
+total_last [] n = omega arith
+total_last (m ∷ position) n = let h = total_last position n in omega (arith, h)
+
+pub total_more : (position : List ℕ) (i : ℕ) → i < length position →
+    total (take (i + 1) position) ≡ total (take i position) + get_or position i 0
+total_more position i low = ap total (take_more position i 0 low) ∙ total_last (take i position) (get_or position i 0)
+
 -- the calls of one list more
 total_push : (each : List (List Call)) (l : List Call) → total (map length (each ++ l ∷ [])) ≡ total (map length each) + length l
 total_push [] l = omega arith

@@ -1,5 +1,5 @@
 //! `Reading`: which orders of calls there are, and which list may have a turn.
-ghost use Rattle.std.specs.Prelude.{◌≡◌, option_map};
+ghost use Rattle.std.specs.Prelude.{◌≡◌, ◌<◌, ◌-◌, ◌^◌, IfSome, option_map};
 ghost use Rattle.bench_core.specs.Acts.{plain_act};
 ghost use Rattle.explore_core.specs.Orders.{call_at, deliver_alike, is_delivery, may_come, plain_each, total};
 
@@ -28,7 +28,8 @@ pub(crate) fn call_at<'l, A: Allocator>(
     list: usize,
     place: usize,
 ) -> Option<&'l (u16, Act<A>)>
-    ensures { option_map (λ call. (call.now.0, plain_act call.now.1)) result ≡ call_at (plain_each lists.now) list place }
+    ensures call { option_map (λ call. (call.now.0, plain_act call.now.1)) result ≡ call_at (plain_each lists.now) list place }
+    ensures few { IfSome result (λ _. place < 2 ^ 64 - 1) }
 {
     lists.get(list)?.get(place)
 }

@@ -88,7 +88,7 @@ abbrev pub IsCauseOf : Subcommand → Limits → List ℕ → Fault → Type 0
 IsCauseOf Race limits input fault = IsCause input fault ⊎ IsOkAnd (script_of input) (λ s. RefusesRaceOf limits s fault)
 IsCauseOf Play limits input fault = IsCause input fault
 IsCauseOf Load limits input fault = IsCause input fault
-IsCauseOf (Explore states outcome) limits input fault = IsCause input fault ⊎ IsOkAnd (script_of input) (λ s. RefusesOrders states outcome limits s fault)
+IsCauseOf (Explore reading states outcome) limits input fault = IsCause input fault ⊎ IsOkAnd (script_of input) (λ s. RefusesOrders reading states outcome limits s fault)
 IsCauseOf (Draw why) limits input fault = IsCause input fault
 
 abbrev pub IsCauseAt : Option (List ℕ) → Fault → Type 0
@@ -109,7 +109,7 @@ abbrev pub Prints : Subcommand → Form → Limits → List ℕ → List ℕ →
 Prints Play form limits input text = IsOkAnd (script_of input) (λ s. text ≡ shown form (report_of limits s) (played limits s))
 Prints Race form limits input text = IsOkAnd (script_of input) (λ s. (m : Machine) × IsRaceOf limits s m × (text ≡ shown form (history_text m) m))
 Prints Load form limits input text = (m : Machine) × IsSession input m × (text ≡ shown form (history_text m) m)
-Prints (Explore states outcome) form limits input text = IsOkAnd (script_of input) (λ s. TellsOrders outcome limits s text)
+Prints (Explore reading states outcome) form limits input text = IsOkAnd (script_of input) (λ s. TellsOrders reading outcome limits s text)
 Prints (Draw why) form limits input text = (m : Machine) × IsSession input m × (text ≡ drawn why m)
 
 -- all of the text went out, or, where the writing failed, its first `written` bytes
