@@ -104,11 +104,11 @@ within_end (l ∷ each) (n ∷ position) within all =
     let rest : position ≡ map length each = within_end each position within.1 (omega (arith, h, w)) in
     ap (λ (k : ℕ). k ∷ position) first ∙ ap (λ (p : Position). length l ∷ p) rest
 
-start_length : (each : List (List Call)) → length (map (λ _. 0) each) ≡ length each
+start_length : (each : List (List Call)) → length {A = ℕ} (map (λ _. 0) each) ≡ length each
 start_length [] = refl
 start_length (l ∷ each) = ap suc (start_length each)
 
-pub start_replicated : {X Y : Type 0} (lists : List (Vec (ℕ × Act X) Y)) → replicate (length lists) 0 ≡ map (λ _. 0) (plain_each lists)
+pub start_replicated : {X Y : Type 0} (lists : List (Vec (ℕ × Act X) Y)) → replicate {A = ℕ} (length lists) 0 ≡ map (λ _. 0) (plain_each lists)
 start_replicated [] = refl
 start_replicated (l ∷ lists) = ap (λ (p : Position). 0 ∷ p) (start_replicated lists)
 
