@@ -54,15 +54,15 @@ refusal_text s calls lists t =
 unfoldable pub refusals_text : Script → List Call → Lists → List Told → List ℕ
 refusals_text s calls lists told = flat_map (refusal_text s calls lists) told
 
--- what is counted
-abbrev pub orders_text : Reading → List ℕ
-orders_text EveryOrder = codes "orders "
-orders_text Deliveries = codes "orders of deliveries "
+-- how many orders there are
+unfoldable pub orders_text : Reading → Option ℕ → List ℕ
+orders_text EveryOrder orders = codes "orders " ++ number_text orders
+orders_text Deliveries orders = codes "orders of deliveries " ++ number_text orders
 
 -- `orders O states S outcomes K refusals R`, or `orders of deliveries O ..`
 unfoldable pub counts_line : Reading → Option ℕ → ℕ → ℕ → ℕ → List ℕ
 counts_line reading orders states outcomes refusals =
-    orders_text reading ++ number_text orders ++ codes " states " ++ decimal states ++ codes " outcomes " ++ decimal outcomes ++
+    orders_text reading orders ++ codes " states " ++ decimal states ++ codes " outcomes " ++ decimal outcomes ++
     codes " refusals " ++ decimal refusals ++ codes "\n"
 
 -- that the order of deliveries makes no difference to what comes of it, where all lead to one outcome

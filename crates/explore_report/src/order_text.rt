@@ -3,7 +3,7 @@ ghost use Rattle.std.specs.Prelude.{◌≡◌, ◌++◌, ◌<◌, ◌^◌, ◌-�
 ghost use Rattle.bench_core.specs.Acts.{plain_act};
 ghost use Rattle.script_core.specs.Rows.{name_at};
 ghost use Rattle.script_core.specs.Scripts.{plain_script};
-ghost use Rattle.explore_core.specs.Orders.{plain_each, asked_of, one_more};
+ghost use Rattle.explore_core.specs.Orders.{plain_each, asked_of, call_at, one_more};
 ghost use Rattle.explore_report.specs.Grouped.{call_from, next_of, position_after, calls_of_order};
 ghost use Rattle.explore_report.specs.OrderText.{actor_name, call_line, call_text, calls_text, spaced_names, consoles_text, cast_text, order_text};
 
@@ -118,6 +118,18 @@ fn put_cast<A: Allocator>(text: &mut String<A>, script: &Script<A>) -> Result<()
     put_consoles(text, console_names(script))
 }
 
+/// The call of this place in a list.
+fn call_at<'l, A: Allocator>(
+    lists: &'l [Vec<(u16, Act<A>), A>],
+    list: usize,
+    place: usize,
+) -> Option<&'l (u16, Act<A>)>
+    ensures call { option_map (λ call. (call.now.0, plain_act call.now.1)) result ≡ call_at (plain_each lists.now) list place }
+    ensures few { IfSome result (λ _. place < 2 ^ 64 - 1) }
+{
+    lists.get(list)?.get(place)
+}
+
 /// The next call of the list, where it has one.
 fn next_of<'l, A: Allocator>(
     lists: &'l [Vec<(u16, Act<A>), A>],
@@ -128,7 +140,7 @@ fn next_of<'l, A: Allocator>(
     ensures few { IfSome result (λ _. asked_of position.now list < 2 ^ 64 - 1) }
 {
     let asked = position.get(list).copied().unwrap_or(0);
-    lists.get(list)?.get(asked)
+    call_at(lists, list, asked)
 }
 
 /// The next call of the list was asked.

@@ -156,13 +156,24 @@ fn put_refusals<'a, B: Allocator>(
     Ok(())
 }
 
-/// What is counted.
-fn put_kind<A: Allocator>(text: &mut String<A>, reading: Reading) -> Result<(), Oom>
-    ensures { OnOk result (string_bytes text.new ≡ string_bytes text.old ++ orders_text reading) }
+/// How many orders there are.
+#[tactic(auto, unfolding(crate::specs::ReportText::orders_text))]
+fn put_orders<A: Allocator>(
+    text: &mut String<A>,
+    reading: Reading,
+    orders: Option<u128>,
+) -> Result<(), Oom>
+    ensures { OnOk result (string_bytes text.new ≡ string_bytes text.old ++ orders_text reading orders) }
 {
     match reading {
-        Reading::EveryOrder => Ok(text.push_str("orders ")?),
-        Reading::Deliveries => Ok(text.push_str("orders of deliveries ")?),
+        Reading::EveryOrder => {
+            text.push_str("orders ")?;
+            put_number(text, orders)
+        }
+        Reading::Deliveries => {
+            text.push_str("orders of deliveries ")?;
+            put_number(text, orders)
+        }
     }
 }
 
@@ -178,8 +189,7 @@ fn put_counts<A: Allocator>(
 ) -> Result<(), Oom>
     ensures { OnOk result (string_bytes text.new ≡ string_bytes text.old ++ counts_line reading orders states outcomes refusals) }
 {
-    put_kind(text, reading)?;
-    put_number(text, orders)?;
+    put_orders(text, reading, orders)?;
     Ok(writeln!(
         text,
         " states {states} outcomes {outcomes} refusals {refusals}"
