@@ -34,7 +34,10 @@ fn the_first_version_is_carried_over(rt: HostRuntime) {
 fn give_one_bench(rt: &impl Abort, heap: Global, text: &str, other: &str) -> bool {
     let one = load(heap, &heap, text.as_bytes()).expect(rt, "a session");
     let other = load(heap, &heap, other.as_bytes()).expect(rt, "a session");
-    comes_to(&one, &other)
+    let is_one = comes_to(&one, &other);
+    drop(one);
+    drop(other);
+    is_one
 }
 
 #[test]

@@ -19,6 +19,7 @@ fn fault_without(
     match loaded {
         Ok(bench) => {
             assert!(rt; is_saved_as(rt, json, &bench, EVERY_ACT_SAVED));
+            drop(bench);
             (None, requests)
         }
         Err(fault) => (Some(fault), requests),

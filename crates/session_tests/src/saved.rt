@@ -201,45 +201,49 @@ fn played<'a, B: Allocator>(
     limits: Limits,
 ) -> Played<'a, B> {
     let script = parse_script(alloc, script.as_bytes()).expect(rt, "a script");
-    run_script(alloc, &script, limits).expect(rt, "memory")
+    let played = run_script(alloc, &script, limits).expect(rt, "memory");
+    drop(script);
+    played
 }
 
 /// Whether both have the same recorded calls.
 fn same_calls<'a, B: Allocator>(one: &Bench<'a, B>, other: &Bench<'a, B>) -> bool {
-    let mut same = one.history().len() == other.history().len();
     for place in 0..one.history().len() {
-        if let (Some(event), Some(again)) = (one.history().at(place), other.history().at(place)) {
-            let alike = event.actor == again.actor && event.reply == again.reply;
-            same = same && alike && event.act.same(&again.act);
+        let (Some(event), Some(again)) = (one.history().at(place), other.history().at(place)) else {
+            return false;
+        };
+        if event.actor != again.actor || event.reply != again.reply || !event.act.same(&again.act) {
+            return false;
         }
     }
-    same
+    one.history().len() == other.history().len()
 }
 
 /// Whether both have the same steps that remain.
 fn same_steps<'a, B: Allocator>(one: &Bench<'a, B>, other: &Bench<'a, B>) -> bool {
-    let mut same = one.remaining().len() == other.remaining().len();
     for place in 0..one.remaining().len() {
-        if let (Some(kept), Some(again)) = (
-            one.remaining().at(place),
-            other.remaining().at(place),
-        ) {
-            let alike = kept.number == again.number && kept.node == again.node;
-            same = same && alike && kept.step.same(&again.step);
+        let (Some(kept), Some(again)) = (one.remaining().at(place), other.remaining().at(place))
+        else {
+            return false;
+        };
+        if kept.number != again.number || kept.node != again.node || !kept.step.same(&again.step) {
+            return false;
         }
     }
-    same
+    one.remaining().len() == other.remaining().len()
 }
 
 /// Whether both have the same nodes.
 fn same_nodes<'a, B: Allocator>(one: &Bench<'a, B>, other: &Bench<'a, B>) -> bool {
-    let mut same = one.names().same(other.names());
     for number in 0..one.names().len() as u16 {
-        if let (Some(node), Some(again)) = (one.node(number), other.node(number)) {
-            same = same && node.same(again);
+        let (Some(node), Some(again)) = (one.node(number), other.node(number)) else {
+            return false;
+        };
+        if !node.same(again) {
+            return false;
         }
     }
-    same
+    one.names().same(other.names())
 }
 
 /// Whether both have the same calls, steps and nodes.
@@ -267,7 +271,9 @@ fn comes_back<'a, B: Allocator>(
 ) -> bool {
     let text = save(heap, bench).expect(rt, "a text");
     let again = load(heap, alloc, &text).expect(rt, "a bench");
-    comes_to(bench, &again)
+    let is_same = comes_to(bench, &again);
+    drop(again);
+    is_same
 }
 
 /// Whether what the script leaves comes back, and is saved as the text, where there is one.
@@ -280,7 +286,9 @@ fn is_kept(
 ) -> bool {
     let played = played(rt, &heap, script, limits);
     let is_saved = saved.is_none_or(|saved| is_saved_as(rt, heap, &played.bench, saved));
-    is_saved && comes_back(rt, heap, &heap, &played.bench)
+    let is_kept = is_saved && comes_back(rt, heap, &heap, &played.bench);
+    drop(played);
+    is_kept
 }
 
 #[test]
@@ -311,6 +319,7 @@ fn benches_come_back(rt: HostRuntime) {
 fn prints(rt: &impl Abort, heap: Global, saved: &[u8], report: &[u8]) -> bool {
     let bench = load(heap, &heap, saved).expect(rt, "a session");
     let printed = report_history(&heap, &bench).expect(rt, "memory");
+    drop(bench);
     printed.as_slice() == report
 }
 
@@ -332,7 +341,9 @@ fn a_loaded_session_prints_its_calls(rt: HostRuntime) {
 fn is_printed_again(rt: &impl Abort, heap: Global, script: &str) -> bool {
     let played = played(rt, &heap, script, Limits::usual());
     let text = save(heap, &played.bench).expect(rt, "a text");
-    prints(rt, heap, &text, &played.report)
+    let is_printed = prints(rt, heap, &text, &played.report);
+    drop(played);
+    is_printed
 }
 
 /// What was played of acts alone, each recorded, is printed again by the bench that was loaded.
@@ -368,4 +379,5 @@ fn calls_that_name_no_node_come_back(rt: HostRuntime) {
     let mut bench = opening(&rt, &heap);
     assert!(rt; asks_nobody(&rt, &mut bench) == 5);
     assert!(rt; comes_back(&rt, rt.alloc(), &heap, &bench));
+    drop(bench);
 }
