@@ -99,5 +99,6 @@ fn a_history_whose_report_is_refused_memory_is_told_later(rt: HostRuntime) {
             break;
         }
     }
+    drop(played);
     assert!(rt; 0 < requests && requests < 9_999);
 }

@@ -45,4 +45,5 @@ fn each_line_is_answered_at_once(rt: HostRuntime) {
         holds(&rt, is_answered(&alloc, &mut prompt, line, answer), line);
     }
     assert!(rt; prompt.bench().is_some());
+    drop(prompt);
 }

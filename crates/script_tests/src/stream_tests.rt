@@ -6,9 +6,17 @@ use script_core::{
     FakeReader, FakeWriter, InputFault, PlayFault, WriteFault, play, read_all, write_out,
 };
 use std::alloc::Global;
+use std::process::Abort;
 
 /// Whether so much of `abc` is read at most: it all is, or this is the fault; and no more calls than these are made.
-fn is_read(heap: Global, limit: usize, calls: usize, fault: Option<InputFault>) -> bool {
+fn is_read(
+    rt: &impl Abort,
+    heap: Global,
+    limit: usize,
+    calls: usize,
+    fault: Option<InputFault>,
+) -> bool {
+    assert!(rt; limit < 100);
     let mut reader = FakeReader::ending(b"abc");
     let is_so = match read_all(heap, &mut reader, limit) {
         Ok(bytes) => bytes.as_slice() == b"abc".as_slice() && fault.is_none(),
@@ -28,7 +36,7 @@ const READS: [(usize, usize, Option<InputFault>); 4] = [
 #[test]
 fn input_is_read_whole_or_refused(rt: HostRuntime) {
     for (limit, calls, fault) in READS {
-        let is_so = is_read(rt.alloc(), limit, calls, fault);
+        let is_so = is_read(&rt, rt.alloc(), limit, calls, fault);
         holds_at(&rt, is_so, limit as u64);
     }
 }

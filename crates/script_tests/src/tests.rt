@@ -60,7 +60,10 @@ pub(crate) fn played_on<'a, B: Allocator>(
     alloc: &'a B,
     script: &str,
 ) -> Played<'a, B> {
-    run_script(alloc, &parsed(rt, alloc, script), Limits::usual()).expect(rt, "memory")
+    let script = parsed(rt, alloc, script);
+    let played = run_script(alloc, &script, Limits::usual()).expect(rt, "memory");
+    drop(script);
+    played
 }
 
 /// Scripts, each with the end of its report that tells of no act.
@@ -70,20 +73,19 @@ const UNRECORDED: [(Case, &str); 3] = [
     (REFUSED, ""),
 ];
 
-/// Whether the history of the script is reported as the script is, but for this end.
-fn is_reported_but_for(rt: &impl Abort, heap: Global, case: &Case, unrecorded: &str) -> bool {
-    let played = played_on(rt, &heap, case.script);
+/// Whether the history of the script is reported so.
+fn is_reported_as(rt: &impl Abort, heap: Global, script: &str, recorded: &[u8]) -> bool {
+    let played = played_on(rt, &heap, script);
     let again = report_history(&heap, &played.bench).expect(rt, "memory");
-    match case.report.strip_suffix(unrecorded) {
-        Some(recorded) => again.as_slice() == recorded.as_bytes(),
-        None => false,
-    }
+    drop(played);
+    again.as_slice() == recorded
 }
 
 #[test]
 fn a_history_is_reported_as_its_acts_were(rt: HostRuntime) {
-    for (case, unrecorded) in &UNRECORDED {
-        let is_reported = is_reported_but_for(&rt, rt.alloc(), case, unrecorded);
+    for (case, unrecorded) in UNRECORDED {
+        let recorded = case.report.strip_suffix(unrecorded).expect(&rt, "an end");
+        let is_reported = is_reported_as(&rt, rt.alloc(), case.script, recorded.as_bytes());
         holds(&rt, is_reported, case.name);
     }
 }
@@ -91,14 +93,12 @@ fn a_history_is_reported_as_its_acts_were(rt: HostRuntime) {
 /// Whether the acts of the script are these: an up of the first node, an undo, and a back.
 fn are_acts<'a, B: Allocator>(rt: &impl Abort, alloc: &'a B, script: &Script<&'a B>) -> bool {
     let calls = acts(alloc, script).expect(rt, "acts");
-    matches!(
-        calls.as_slice(),
-        [
-            (1, Act::Do(Step::Up { name: 0 })),
-            (3, Act::Undo(1)),
-            (1, Act::Back(1))
-        ]
-    )
+    let [first, second, third] = calls.as_slice() else {
+        return false;
+    };
+    matches!(first, (1, Act::Do(Step::Up { name: 0 })))
+        && matches!(second, (3, Act::Undo(1)))
+        && matches!(third, (1, Act::Back(1)))
 }
 
 #[test]
@@ -109,6 +109,7 @@ fn the_acts_of_a_script_are_told_with_their_actors(rt: HostRuntime) {
     assert!(rt; node_names(&script).len() == 2);
     assert!(rt; actors(&script) == 4);
     assert!(rt; are_acts(&rt, &heap, &script));
+    drop(script);
 }
 
 /// Scripts with a line that is no act, and the number of that line.
@@ -123,7 +124,9 @@ const NO_ACTS: [(&str, u64); 5] = [
 /// The fault of the script's acts, if they have one.
 fn fault_of_acts(rt: &impl Abort, heap: Global, script: &str) -> Option<ScriptFault> {
     let script = parsed(rt, &heap, script);
-    acts(&heap, &script).err()
+    let fault = acts(&heap, &script).err();
+    drop(script);
+    fault
 }
 
 #[test]
