@@ -11,6 +11,8 @@ mod memory_tests;
 #[cfg(test)]
 mod prompt_tests;
 #[cfg(test)]
+mod rows;
+#[cfg(test)]
 mod stream_tests;
 #[cfg(test)]
 mod tests;

@@ -1,6 +1,8 @@
 //! Lines at a prompt, one by one, with faults between.
+use crate::rows::holds;
 use bench_core::Limits;
 use script_core::{FaultKind, Prompt};
+use std::alloc::Allocator;
 
 /// A line, and what is printed of it, or its fault. Of a refused `consoles` line no name stays.
 const LINES: [(&str, Result<&str, FaultKind>); 14] = [
@@ -20,18 +22,28 @@ const LINES: [(&str, Result<&str, FaultKind>); 14] = [
     ("show a", Ok("online a 0\n")),
 ];
 
+/// Whether the line is answered so: with what is printed, or its fault.
+fn is_answered<'a, B: Allocator>(
+    alloc: &'a B,
+    prompt: &mut Prompt<'a, B>,
+    line: &str,
+    answer: Result<&str, FaultKind>,
+) -> bool {
+    let mut text = String::new(alloc);
+    match prompt.take(&mut text, line.as_bytes()) {
+        Ok(()) => answer == Ok(text.as_str()),
+        Err(kind) => answer == Err(kind),
+    }
+}
+
 #[test]
 fn each_line_is_answered_at_once(rt: HostRuntime) {
     let alloc = rt.alloc();
     let mut prompt = Prompt::new(&alloc, Limits::usual());
     assert!(rt; prompt.bench().is_none());
     for (line, answer) in LINES {
-        let mut text = String::new(&alloc);
-        match (prompt.take(&mut text, line.as_bytes()), answer) {
-            (Ok(()), Ok(printed)) => assert_eq!(rt; text.as_str(), printed, "{line}"),
-            (Err(kind), Err(fault)) => assert_eq!(rt; kind, fault, "{line}"),
-            (Ok(()), Err(_)) | (Err(_), Ok(_)) => assert!(rt; false, "{line}"),
-        }
+        holds(&rt, is_answered(&alloc, &mut prompt, line, answer), line);
     }
     assert!(rt; prompt.bench().is_some());
+    drop(prompt);
 }

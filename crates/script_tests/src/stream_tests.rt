@@ -1,43 +1,64 @@
 //! How input is read and reports are written.
 use crate::cases::JOINED_AND_UNDONE;
+use crate::rows::{holds, holds_at};
 use bench_core::Limits;
 use script_core::{
     FakeReader, FakeWriter, InputFault, PlayFault, WriteFault, play, read_all, write_out,
 };
+use std::alloc::Global;
+use std::process::Abort;
+
+/// Whether so much of `abc` is read at most: it all is, or this is the fault; and no more calls than these are made.
+fn is_read(
+    rt: &impl Abort,
+    heap: Global,
+    limit: usize,
+    calls: usize,
+    fault: Option<InputFault>,
+) -> bool {
+    assert!(rt; limit < 100);
+    let mut reader = FakeReader::ending(b"abc");
+    let is_so = match read_all(heap, &mut reader, limit) {
+        Ok(bytes) => bytes.as_slice() == b"abc".as_slice() && fault.is_none(),
+        Err(other) => Some(other) == fault,
+    };
+    is_so && reader.calls() <= calls
+}
+
+/// How much is read at most, in how many calls, and the fault, if there is one.
+const READS: [(usize, usize, Option<InputFault>); 4] = [
+    (4, 6, None),
+    (3, 5, None),
+    (2, 4, Some(InputFault::TooLong)),
+    (0, 2, Some(InputFault::TooLong)),
+];
 
 #[test]
 fn input_is_read_whole_or_refused(rt: HostRuntime) {
-    for (limit, calls, fault) in [
-        (4, 6, None),
-        (3, 5, None),
-        (2, 4, Some(InputFault::TooLong)),
-        (0, 2, Some(InputFault::TooLong)),
-    ] {
-        let mut reader = FakeReader::ending(b"abc");
-        match read_all(rt.alloc(), &mut reader, limit) {
-            Ok(bytes) => {
-                assert_eq!(rt; bytes.as_slice(), b"abc".as_slice());
-                assert_eq!(rt; None, fault, "limit {limit}");
-            }
-            Err(other) => assert_eq!(rt; Some(other), fault, "limit {limit}"),
-        }
-        assert!(rt; reader.calls() <= calls, "limit {limit}");
+    for (limit, calls, fault) in READS {
+        let is_so = is_read(&rt, rt.alloc(), limit, calls, fault);
+        holds_at(&rt, is_so, limit as u64);
     }
+}
+
+/// Whether a play of what this reader gives is told as a failed read, after so many calls, and nothing is written.
+fn fails_to_read(heap: Global, mut reader: FakeReader, calls: Option<usize>) -> bool {
+    let mut writer = FakeWriter::new(heap, 1000);
+    let answer = play(&heap, &mut reader, &mut writer, Limits::usual());
+    answer == Err(PlayFault::ReadFault)
+        && writer.taken().is_empty()
+        && calls.is_none_or(|calls| reader.calls() == calls)
 }
 
 #[test]
 fn a_failed_read_is_not_tried_again(rt: HostRuntime) {
     let script = JOINED_AND_UNDONE.script.as_bytes();
-    for (mut reader, calls) in [
-        (FakeReader::failing(b""), 1),
-        (FakeReader::failing(script), 2),
-        (FakeReader::failing_once(script), 1),
+    for (reader, calls, row) in [
+        (FakeReader::failing(b""), 1, "at once"),
+        (FakeReader::failing(script), 2, "at the end"),
+        (FakeReader::failing_once(script), 1, "once"),
     ] {
-        let mut writer = FakeWriter::new(rt.alloc(), 1000);
-        let answer = play(&rt.alloc(), &mut reader, &mut writer, Limits::usual());
-        assert_eq!(rt; answer, Err(PlayFault::ReadFault));
-        assert_eq!(rt; reader.calls(), calls);
-        assert!(rt; writer.taken().is_empty());
+        holds(&rt, fails_to_read(rt.alloc(), reader, Some(calls)), row);
     }
 }
 
@@ -46,58 +67,58 @@ fn a_failed_read_is_not_tried_again(rt: HostRuntime) {
 fn a_read_that_fails_at_any_byte_is_told(rt: HostRuntime) {
     let script = JOINED_AND_UNDONE.script.as_bytes();
     for count in 0..script.len() + 1 {
-        let mut reader = FakeReader::failing(&script[..count]);
-        let mut writer = FakeWriter::new(rt.alloc(), 1000);
-        let answer = play(&rt.alloc(), &mut reader, &mut writer, Limits::usual());
-        assert_eq!(rt; answer, Err(PlayFault::ReadFault), "{count} bytes");
-        assert!(rt; writer.taken().is_empty(), "{count} bytes");
+        let reader = FakeReader::failing(&script[..count]);
+        holds_at(&rt, fails_to_read(rt.alloc(), reader, None), count as u64);
     }
+}
+
+/// Whether the report goes out where the writer takes at most so many bytes at once.
+fn goes_out_in_parts(heap: Global, most: usize) -> bool {
+    let mut reader = FakeReader::ending(JOINED_AND_UNDONE.script.as_bytes());
+    let mut writer = FakeWriter::taking(heap, most);
+    let answer = play(&heap, &mut reader, &mut writer, Limits::usual());
+    answer == Ok(()) && writer.taken() == JOINED_AND_UNDONE.report.as_bytes()
 }
 
 #[test]
 fn a_report_goes_out_in_parts(rt: HostRuntime) {
-    for most in [1, 3] {
-        let mut reader = FakeReader::ending(JOINED_AND_UNDONE.script.as_bytes());
-        let mut writer = FakeWriter::taking(rt.alloc(), most);
-        let answer = play(&rt.alloc(), &mut reader, &mut writer, Limits::usual());
-        assert_eq!(rt; answer, Ok(()));
-        assert_eq!(rt; writer.taken(), JOINED_AND_UNDONE.report.as_bytes());
-    }
+    assert!(rt; goes_out_in_parts(rt.alloc(), 1));
+    assert!(rt; goes_out_in_parts(rt.alloc(), 3));
 }
 
-/// The answer of a play whose report is written so, beside what was written of it.
-fn is_written_up_to(rt: &HostRuntime, mut writer: FakeWriter, most: usize) -> bool {
+/// Whether a play whose writer fails after so many bytes tells of these, and they are the beginning of the report.
+fn is_written_up_to(heap: Global, mut writer: FakeWriter, most: usize) -> bool {
     let report = JOINED_AND_UNDONE.report.as_bytes();
     let mut reader = FakeReader::ending(JOINED_AND_UNDONE.script.as_bytes());
-    let answer = play(&rt.alloc(), &mut reader, &mut writer, Limits::usual());
+    let answer = play(&heap, &mut reader, &mut writer, Limits::usual());
     let expected = if most < report.len() {
         Err(PlayFault::WriteFault { written: most })
     } else {
         Ok(())
     };
-    let Some(front) = report.get(..most) else {
-        return false;
-    };
-    answer == expected && writer.taken() == front
+    answer == expected && report.get(..most) == Some(writer.taken())
 }
 
 #[test]
 fn a_write_that_fails_at_any_byte_tells_what_went_out(rt: HostRuntime) {
-    assert_eq!(rt; JOINED_AND_UNDONE.report.len(), 65);
-    for count in 0..66 {
+    assert!(rt; JOINED_AND_UNDONE.report.len() == 65);
+    for count in 0..66usize {
         let writer = FakeWriter::new(rt.alloc(), count);
-        assert!(rt; is_written_up_to(&rt, writer, count), "{count} bytes");
+        let is_told = is_written_up_to(rt.alloc(), writer, count);
+        holds_at(&rt, is_told, count as u64);
     }
     let writer = FakeWriter::failing_once(rt.alloc(), 7);
-    assert!(rt; is_written_up_to(&rt, writer, 7));
+    assert!(rt; is_written_up_to(rt.alloc(), writer, 7));
+}
+
+/// Whether of `abc`, where there is room for two bytes, these are told as written; and nothing is refused.
+fn is_written_in_part(heap: Global) -> bool {
+    let mut writer = FakeWriter::new(heap, 2);
+    write_out(&mut writer, b"abc") == Err(WriteFault { written: 2 })
+        && write_out(&mut writer, b"") == Ok(())
 }
 
 #[test]
 fn what_is_written_is_told_of_any_bytes(rt: HostRuntime) {
-    let mut writer = FakeWriter::new(rt.alloc(), 2);
-    assert_eq!(rt;
-        write_out(&mut writer, b"abc"),
-        Err(WriteFault { written: 2 })
-    );
-    assert_eq!(rt; write_out(&mut writer, b""), Ok(()));
+    assert!(rt; is_written_in_part(rt.alloc()));
 }

@@ -1,14 +1,9 @@
 //! Texts that are no sessions, each with its fault, and some that still are.
 use crate::saved::JOINED_AND_UNDONE;
-use session_core::{SessionFault, load};
+use crate::texts::{altered, fault_of, holds, nested};
+use session_core::SessionFault;
 use std::alloc::Global;
 use std::process::Abort;
-
-/// The fault of a text, if it has one.
-fn fault_of(rt: &HostRuntime, text: &[u8]) -> Option<SessionFault> {
-    let heap = rt.alloc();
-    load(rt.alloc(), &heap, text).err()
-}
 
 const NO_JSON: Option<SessionFault> = Some(SessionFault::NotJson);
 
@@ -155,21 +150,41 @@ const ALTERED: &[(&str, &str, Option<SessionFault>)] = &[
     ),
 ];
 
-/// Altered so, texts of both versions have the same fault, but for a refusal that the first version hasn't.
+/// The end of a session of the second version.
+const SECOND_VERSION: &str = r#""version":2}"#;
+
+/// Whether the text as one of the first version, where it is one of the second, has this fault.
+fn has_fault_in_the_first_version(
+    rt: &impl Abort,
+    heap: Global,
+    text: &str,
+    fault: Option<SessionFault>,
+) -> bool {
+    if !text.contains(SECOND_VERSION) {
+        return true;
+    }
+    let older = altered(rt, heap, text, SECOND_VERSION, r#""version":1}"#);
+    fault_of(heap, older.as_bytes()) == fault
+}
+
+/// Whether the session altered so has this fault, in both versions, but for a refusal that the first version hasn't.
+fn has_fault(
+    rt: &impl Abort,
+    heap: Global,
+    part: &str,
+    by: &str,
+    fault: Option<SessionFault>,
+) -> bool {
+    let text = altered(rt, heap, JOINED_AND_UNDONE, part, by);
+    fault_of(heap, text.as_bytes()) == fault
+        && (by.contains(r#"["no",18]"#)
+            || has_fault_in_the_first_version(rt, heap, text.as_str(), fault))
+}
+
 #[test]
 fn each_altered_session_has_its_fault(rt: HostRuntime) {
     for (part, by, fault) in ALTERED {
-        let (before, after) = JOINED_AND_UNDONE.split_once(*part).expect(&rt, "the part");
-        let mut text = String::new(rt.alloc());
-        assert!(rt; write!(text, "{before}{by}{after}").is_ok());
-        assert_eq!(rt; fault_of(&rt, text.as_bytes()), *fault, "{by}");
-        if let Some((before, after)) = text.as_str().split_once(r#""version":2}"#) {
-            let mut older = String::new(rt.alloc());
-            assert!(rt; write!(older, "{before}\"version\":1}}{after}").is_ok());
-            if !by.contains(r#"["no",18]"#) {
-                assert_eq!(rt; fault_of(&rt, older.as_bytes()), *fault, "{by}");
-            }
-        }
+        holds(&rt, has_fault(&rt, rt.alloc(), part, by, *fault), by);
     }
 }
 
@@ -179,47 +194,53 @@ const UNDONE_AGAIN: &str = concat!(
     r#"[0,["undo",1],["no",14]]],"limits":[LIMITS],"nodes":["a"],"version":2}"#
 );
 
+/// Whether the undo of an undone step has this fault in a session with these limits.
+fn has_fault_within(
+    rt: &impl Abort,
+    heap: Global,
+    limits: &str,
+    fault: Option<SessionFault>,
+) -> bool {
+    let text = altered(rt, heap, UNDONE_AGAIN, "LIMITS", limits);
+    fault_of(heap, text.as_bytes()) == fault
+}
+
 /// With two places a bench gives the third reply, too, and doesn't record it.
 #[test]
 fn a_reply_that_is_not_recorded_disagrees(rt: HostRuntime) {
     for (limits, fault) in [("2,9,9,9", THIRD_DISAGREES), ("3,9,9,9", None)] {
-        let (before, after) = UNDONE_AGAIN.split_once("LIMITS").expect(&rt, "the limits");
-        let mut text = String::new(rt.alloc());
-        assert!(rt; write!(text, "{before}{limits}{after}").is_ok());
-        assert_eq!(rt; fault_of(&rt, text.as_bytes()), fault);
+        holds(
+            &rt,
+            has_fault_within(&rt, rt.alloc(), limits, fault),
+            limits,
+        );
     }
 }
 
-/// An act that is so many lists, one in another, in the place of all acts.
-fn nested(rt: &impl Abort, heap: Global, lists: usize) -> String {
-    let (before, after) = r#"{"acts":[ACT],"limits":[9,9,9,9],"nodes":["a"],"version":2}"#
-        .split_once("ACT")
-        .expect(rt, "the act");
-    let mut text = String::from_str(heap, before).expect(rt, "memory");
-    for bracket in ["[", "]"] {
-        for _ in 0..lists {
-            text.push_str(bracket).expect(rt, "memory");
-        }
-    }
-    text.push_str(after).expect(rt, "memory");
-    text
+/// Whether a session whose act is so many lists, one in another, has this fault.
+fn has_fault_nested(
+    rt: &impl Abort,
+    heap: Global,
+    lists: usize,
+    fault: Option<SessionFault>,
+) -> bool {
+    let text = nested(rt, heap, lists);
+    fault_of(heap, text.as_bytes()) == fault
 }
 
 /// A text is read 127 levels deep, of which the object is one, and its list of acts another.
 #[test]
 fn what_nests_too_deep_is_no_json(rt: HostRuntime) {
-    for (lists, fault) in [(125, FIRST), (126, NO_JSON)] {
-        let text = nested(&rt, rt.alloc(), lists);
-        assert_eq!(rt; fault_of(&rt, text.as_bytes()), fault);
-    }
-    assert_eq!(rt; fault_of(&rt, &[b'['; 200]), NO_JSON);
+    assert!(rt; has_fault_nested(&rt, rt.alloc(), 125, FIRST));
+    assert!(rt; has_fault_nested(&rt, rt.alloc(), 126, NO_JSON));
+    assert!(rt; fault_of(rt.alloc(), &[b'['; 200]) == NO_JSON);
 }
 
 #[test]
 fn what_is_cut_or_no_text_is_no_json(rt: HostRuntime) {
     let saved = JOINED_AND_UNDONE.as_bytes();
     for end in 0..saved.len() {
-        assert_eq!(rt; fault_of(&rt, &saved[..end]), NO_JSON, "{end}");
+        assert!(rt; fault_of(rt.alloc(), &saved[..end]) == NO_JSON);
     }
-    assert_eq!(rt; fault_of(&rt, &[34, 0xff, 34]), NO_JSON);
+    assert!(rt; fault_of(rt.alloc(), &[34, 0xff, 34]) == NO_JSON);
 }

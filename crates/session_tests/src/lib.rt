@@ -13,3 +13,5 @@ mod memory;
 mod saved;
 #[cfg(test)]
 mod spelled;
+#[cfg(test)]
+mod texts;

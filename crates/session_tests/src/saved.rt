@@ -1,4 +1,5 @@
 //! Benches that are saved and come back.
+use crate::texts::holds;
 use bench_core::{Act, Bench, Limits, Names, Step};
 use dots_core::NameSet;
 use script_core::{Played, parse_script, report_history, run_script};
@@ -200,50 +201,65 @@ fn played<'a, B: Allocator>(
     limits: Limits,
 ) -> Played<'a, B> {
     let script = parse_script(alloc, script.as_bytes()).expect(rt, "a script");
-    run_script(alloc, &script, limits).expect(rt, "memory")
+    let played = run_script(alloc, &script, limits).expect(rt, "memory");
+    drop(script);
+    played
 }
 
 /// Whether both have the same recorded calls.
 fn same_calls<'a, B: Allocator>(one: &Bench<'a, B>, other: &Bench<'a, B>) -> bool {
-    let mut same = one.history().len() == other.history().len();
     for place in 0..one.history().len() {
-        if let (Some(event), Some(again)) = (one.history().at(place), other.history().at(place)) {
-            let alike = event.actor == again.actor && event.reply == again.reply;
-            same = same && alike && event.act.same(&again.act);
+        let (Some(event), Some(again)) = (one.history().at(place), other.history().at(place)) else {
+            return false;
+        };
+        if event.actor != again.actor || event.reply != again.reply || !event.act.same(&again.act) {
+            return false;
         }
     }
-    same
+    one.history().len() == other.history().len()
 }
 
 /// Whether both have the same steps that remain.
 fn same_steps<'a, B: Allocator>(one: &Bench<'a, B>, other: &Bench<'a, B>) -> bool {
-    let mut same = one.remaining().len() == other.remaining().len();
     for place in 0..one.remaining().len() {
-        if let (Some(kept), Some(again)) = (
-            one.remaining().at(place),
-            other.remaining().at(place),
-        ) {
-            let alike = kept.number == again.number && kept.node == again.node;
-            same = same && alike && kept.step.same(&again.step);
+        let (Some(kept), Some(again)) = (one.remaining().at(place), other.remaining().at(place))
+        else {
+            return false;
+        };
+        if kept.number != again.number || kept.node != again.node || !kept.step.same(&again.step) {
+            return false;
         }
     }
-    same
+    one.remaining().len() == other.remaining().len()
 }
 
 /// Whether both have the same nodes.
 fn same_nodes<'a, B: Allocator>(one: &Bench<'a, B>, other: &Bench<'a, B>) -> bool {
-    let mut same = one.names().same(other.names());
     for number in 0..one.names().len() as u16 {
-        if let (Some(node), Some(again)) = (one.node(number), other.node(number)) {
-            same = same && node.same(again);
+        let (Some(node), Some(again)) = (one.node(number), other.node(number)) else {
+            return false;
+        };
+        if !node.same(again) {
+            return false;
         }
     }
-    same
+    one.names().same(other.names())
 }
 
 /// Whether both have the same calls, steps and nodes.
 pub(crate) fn comes_to<'a, B: Allocator>(one: &Bench<'a, B>, other: &Bench<'a, B>) -> bool {
     same_calls(one, other) && same_steps(one, other) && same_nodes(one, other)
+}
+
+/// Whether this is the text of the bench.
+pub(crate) fn is_saved_as<'a, B: Allocator>(
+    rt: &impl Abort,
+    heap: Global,
+    bench: &Bench<'a, B>,
+    saved: &str,
+) -> bool {
+    let text = save(heap, bench).expect(rt, "a text");
+    text.as_slice() == saved.as_bytes()
 }
 
 /// Whether the bench comes back from its text as it was.
@@ -255,7 +271,24 @@ fn comes_back<'a, B: Allocator>(
 ) -> bool {
     let text = save(heap, bench).expect(rt, "a text");
     let again = load(heap, alloc, &text).expect(rt, "a bench");
-    comes_to(bench, &again)
+    let is_same = comes_to(bench, &again);
+    drop(again);
+    is_same
+}
+
+/// Whether what the script leaves comes back, and is saved as the text, where there is one.
+fn is_kept(
+    rt: &impl Abort,
+    heap: Global,
+    script: &str,
+    limits: Limits,
+    saved: Option<&str>,
+) -> bool {
+    let played = played(rt, &heap, script, limits);
+    let is_saved = saved.is_none_or(|saved| is_saved_as(rt, heap, &played.bench, saved));
+    let is_kept = is_saved && comes_back(rt, heap, &heap, &played.bench);
+    drop(played);
+    is_kept
 }
 
 #[test]
@@ -266,21 +299,28 @@ fn a_bench_is_saved_as_its_text_and_comes_back(rt: HostRuntime) {
         (UNWOUND, UNWOUND_SAVED),
         (ANSWERED, ANSWERED_SAVED),
     ] {
-        let heap = rt.alloc();
-        let bench = played(&rt, &heap, script, Limits::usual()).bench;
-        let text = save(rt.alloc(), &bench).expect(&rt, "a text");
-        assert!(rt; text.as_slice() == saved.as_bytes(), "{script}");
-        assert!(rt; comes_back(&rt, rt.alloc(), &heap, &bench), "{script}");
+        holds(
+            &rt,
+            is_kept(&rt, rt.alloc(), script, Limits::usual(), Some(saved)),
+            script,
+        );
     }
 }
 
 #[test]
 fn benches_come_back(rt: HostRuntime) {
     for (script, limits) in KEPT {
-        let heap = rt.alloc();
-        let bench = played(&rt, &heap, script, limits_of(&rt, limits)).bench;
-        assert!(rt; comes_back(&rt, rt.alloc(), &heap, &bench), "{script}");
+        let limits = limits_of(&rt, limits);
+        holds(&rt, is_kept(&rt, rt.alloc(), script, limits, None), script);
     }
+}
+
+/// Whether the session prints this report of its calls.
+fn prints(rt: &impl Abort, heap: Global, saved: &[u8], report: &[u8]) -> bool {
+    let bench = load(heap, &heap, saved).expect(rt, "a session");
+    let printed = report_history(&heap, &bench).expect(rt, "memory");
+    drop(bench);
+    printed.as_slice() == report
 }
 
 #[test]
@@ -289,45 +329,55 @@ fn a_loaded_session_prints_its_calls(rt: HostRuntime) {
         (JOINED_AND_UNDONE, JOINED_REPORT),
         (UNWOUND_SAVED, UNWOUND_REPORT),
     ] {
-        let heap = rt.alloc();
-        let bench = load(rt.alloc(), &heap, saved.as_bytes()).expect(&rt, "a session");
-        let printed = report_history(&heap, &bench).expect(&rt, "memory");
-        assert!(rt; printed.as_slice() == report.as_bytes(), "{saved}");
+        holds(
+            &rt,
+            prints(&rt, rt.alloc(), saved.as_bytes(), report.as_bytes()),
+            saved,
+        );
     }
+}
+
+/// Whether the session of what the script leaves prints the script's report.
+fn is_printed_again(rt: &impl Abort, heap: Global, script: &str) -> bool {
+    let played = played(rt, &heap, script, Limits::usual());
+    let text = save(heap, &played.bench).expect(rt, "a text");
+    let is_printed = prints(rt, heap, &text, &played.report);
+    drop(played);
+    is_printed
 }
 
 /// What was played of acts alone, each recorded, is printed again by the bench that was loaded.
 #[test]
 fn what_was_played_is_printed_again(rt: HostRuntime) {
     for script in [TAKEN_BACK, REFUSED, FORGOTTEN, EVERY_ACT] {
-        let heap = rt.alloc();
-        let played = played(&rt, &heap, script, Limits::usual());
-        let text = save(rt.alloc(), &played.bench).expect(&rt, "a text");
-        let again = load(rt.alloc(), &heap, &text).expect(&rt, "a session");
-        let printed = report_history(&heap, &again).expect(&rt, "memory");
-        assert!(rt; printed.as_slice() == played.report.as_slice(), "{script}");
+        holds(&rt, is_printed_again(&rt, rt.alloc(), script), script);
     }
 }
 
-/// Calls of actors and of nodes that there are none of.
-#[test]
-fn calls_that_name_no_node_come_back(rt: HostRuntime) {
-    let heap = rt.alloc();
-    let names = Names::new(&heap, &["a", "b"]).expect(&rt, "names");
-    let mut bench = Bench::new(&heap, names, Limits::usual()).expect(&rt, "memory");
+/// A bench of the nodes `a` and `b`.
+fn opening<'a, B: Allocator>(rt: &impl Abort, alloc: &'a B) -> Bench<'a, B> {
+    let names = Names::new(alloc, &["a", "b"]).expect(rt, "names");
+    Bench::new(alloc, names, Limits::usual()).expect(rt, "memory")
+}
+
+/// Makes calls of actors and of nodes that there are none of. Gives how many replies come.
+fn asks_nobody<'a, B: Allocator>(rt: &impl Abort, bench: &mut Bench<'a, B>) -> usize {
+    let names = NameSet::empty().with(5);
     let calls = [
         (7, Act::Do(Step::Broadcast)),
         (0, Act::Do(Step::Up { name: 5 })),
-        (
-            0,
-            Act::Do(Step::Extract {
-                names: NameSet::empty().with(5),
-            }),
-        ),
+        (0, Act::Do(Step::Extract { names })),
         (0, Act::Back(2)),
         (40, Act::Undo(1)),
     ];
-    let replies = bench.run(&calls).expect(&rt, "memory");
-    assert_eq!(rt; replies.len(), 5);
+    bench.run(&calls).expect(rt, "memory").len()
+}
+
+#[test]
+fn calls_that_name_no_node_come_back(rt: HostRuntime) {
+    let heap = rt.alloc();
+    let mut bench = opening(&rt, &heap);
+    assert!(rt; asks_nobody(&rt, &mut bench) == 5);
     assert!(rt; comes_back(&rt, rt.alloc(), &heap, &bench));
+    drop(bench);
 }

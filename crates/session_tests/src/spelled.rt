@@ -1,6 +1,9 @@
 //! Other spellings of one session.
-use crate::saved::JOINED_AND_UNDONE;
-use session_core::{load, save};
+use crate::saved::{JOINED_AND_UNDONE, is_saved_as};
+use crate::texts::holds;
+use session_core::load;
+use std::alloc::Global;
+use std::process::Abort;
 
 const SPELLED: [&str; 5] = [
     // other keys first
@@ -32,15 +35,17 @@ const SPELLED: [&str; 5] = [
     ),
 ];
 
+/// Whether the text gives the session of a join and its undo.
+fn gives_the_session(rt: &impl Abort, heap: Global, spelled: &str) -> bool {
+    let bench = load(heap, &heap, spelled.as_bytes()).expect(rt, "a session");
+    let is_saved = is_saved_as(rt, heap, &bench, JOINED_AND_UNDONE);
+    drop(bench);
+    is_saved
+}
+
 #[test]
 fn each_spelling_gives_the_session(rt: HostRuntime) {
     for spelled in SPELLED {
-        let heap = rt.alloc();
-        let bench = load(rt.alloc(), &heap, spelled.as_bytes()).expect(&rt, "a session");
-        let text = save(rt.alloc(), &bench).expect(&rt, "memory");
-        assert!(rt;
-            text.as_slice() == JOINED_AND_UNDONE.as_bytes(),
-            "{spelled}"
-        );
+        holds(&rt, gives_the_session(&rt, rt.alloc(), spelled), spelled);
     }
 }

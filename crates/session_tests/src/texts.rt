@@ -1,0 +1,35 @@
+//! Texts made from texts of sessions, the faults of texts, and an assertion in loops over tables, which names its row. They
+//! stand here, and not in the loops, since an assertion with a message is dear to prove where much is live.
+use session_core::{SessionFault, load};
+use std::alloc::Global;
+use std::process::Abort;
+
+/// Stops where it is not so, and names the row.
+pub(crate) fn holds(rt: &impl Abort, is_so: bool, row: &str) {
+    assert!(rt; is_so, "{row}");
+}
+
+/// The fault of a text, if it has one.
+pub(crate) fn fault_of(heap: Global, text: &[u8]) -> Option<SessionFault> {
+    load(heap, &heap, text).err()
+}
+
+/// The text with another in the place of a part that it has.
+pub(crate) fn altered(rt: &impl Abort, heap: Global, text: &str, part: &str, by: &str) -> String {
+    assert!(rt; text.contains(part));
+    text.replacen(heap, part, by, 1).expect(rt, "memory")
+}
+
+/// A session whose act is so many lists, one in another.
+pub(crate) fn nested(rt: &impl Abort, heap: Global, lists: usize) -> String {
+    let opened = "[".repeat(heap, lists).expect(rt, "memory");
+    let closed = "]".repeat(heap, lists).expect(rt, "memory");
+    [
+        r#"{"acts":["#,
+        opened.as_str(),
+        closed.as_str(),
+        r#"],"limits":[9,9,9,9],"nodes":["a"],"version":2}"#,
+    ]
+    .concat(heap)
+    .expect(rt, "memory")
+}
