@@ -1,0 +1,5 @@
+pub mod Standings
+pub mod Tracks
+pub mod Makings
+pub mod Findings
+pub mod Explanations
