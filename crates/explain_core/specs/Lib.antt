@@ -3,3 +3,5 @@ pub mod Tracks
 pub mod Makings
 pub mod Findings
 pub mod Explanations
+pub mod Questions
+pub mod Laws

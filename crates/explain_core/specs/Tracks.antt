@@ -1,6 +1,6 @@
 -- How a dot came to stand as it does at each node: the remaining steps, asked again of a bench that was asked nothing.
 use Rattle.std.specs.Prelude.{ℕ, ◌==◌, ◌&&◌, Bool, true, false, if◌then◌else◌, List, [], ◌∷◌, ◌++◌, find, length, replicate, slice_get, slice_set}
-use Rattle.std.specs.Prelude.{unwrap_or, Option, Some, None, option_map, refl}
+use Rattle.std.specs.Prelude.{unwrap_or, Option, Some, None, option_map}
 use Rattle.dots_core.specs.declared.dot.Dot.{Dot}
 use Rattle.node_core.specs.Operations.{delivers, sends}
 use Rattle.journal_core.specs.Journals.{Kept}

@@ -180,6 +180,7 @@ fn put_removal<'a, A: Allocator, B: Allocator>(
 }
 
 /// What is told of a presence with this track.
+#[tactic(auto, unfolding(crate::specs::Explanations::tracked_text))]
 fn put_tracked<'a, A: Allocator, B: Allocator>(
     alloc: &'a B,
     text: &mut String<A>,

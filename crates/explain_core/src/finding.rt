@@ -83,6 +83,7 @@ impl Hop {
 }
 
 /// The sends and deliveries that brought the dot to a step, in their order.
+#[tactic(auto, unfolding(crate::specs::Findings::backwards))]
 fn chain<A: Allocator>(alloc: A, hops: &[Hop], by: Option<u64>) -> Result<Vec<u64, A>, Oom>
     ensures { IfOk result (λ numbers. numbers.items ≡ chain hops.now by) }
 {
@@ -241,11 +242,8 @@ fn is_status_of<A: Allocator>(step: &Step<A>, name: u16) -> bool
 }
 
 /// The last status step of the node about the name, if any remains.
-pub fn last_status<'a, B: Allocator>(
-    journal: &Journal<'a, B>,
-    node: u16,
-    name: u16,
-) -> Option<u64>
+#[tactic(auto, unfolding(crate::specs::Findings::last_status))]
+pub fn last_status<'a, B: Allocator>(journal: &Journal<'a, B>, node: u16, name: u16) -> Option<u64>
     ensures { result ≡ last_status Nothing (kepts journal.now.steps) node name }
 {
     let mut last = None;

@@ -80,6 +80,8 @@ fn put_made<A: Allocator>(
     Ok(())
 }
 
+/// Puts what the steps made behind what those before them made.
+#[tactic(auto, unfolding(crate::specs::Makings::makings_from))]
 fn put_makings<'a, B: Allocator>(
     makings: &mut Vec<Making, &'a B>,
     asked: &mut Bench<'a, B>,

@@ -30,13 +30,10 @@ impl<A: Allocator> Model for Track<A> {
 pub fn stand_at(stands: &[Stand], node: u16) -> Stand
     ensures { result ≡ stand_at stands.now node }
 {
-    stands
-        .get(node as usize)
-        .copied()
-        .unwrap_or(Stand {
-            standing: Standing::Unseen,
-            by: None,
-        })
+    stands.get(node as usize).copied().unwrap_or(Stand {
+        standing: Standing::Unseen,
+        by: None,
+    })
 }
 
 /// The step that sent this message, if the dot is in it.

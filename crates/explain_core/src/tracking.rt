@@ -30,6 +30,7 @@ pub fn ask<'a, B: Allocator>(asked: &mut Bench<'a, B>, kept: &Kept<&'a B>) -> Re
 }
 
 /// Follows the dot over the remaining steps.
+#[tactic(auto, unfolding(crate::specs::Tracks::track_from))]
 fn follow_each<'a, B: Allocator>(
     dot: Dot,
     asked: &mut Bench<'a, B>,

@@ -1,6 +1,6 @@
 //! Explanations of small runs.
 use bench_core::Limits;
-use explain_core::explain;
+use explain_core::{AskFault, Question, explain, explain_asked};
 use payload_core::Word;
 use script_core::{Played, parse_script, run_script};
 use std::alloc::{AllocError, Allocator};
@@ -305,4 +305,26 @@ fn explains_each(rt: HostRuntime) {
         let text = told(&rt, &alloc, &played, case.node).expect(&rt, "there is memory");
         assert_eq!(rt; text.as_str(), case.text);
     }
+}
+
+#[test]
+fn refuses_what_is_no_node_and_no_word(rt: HostRuntime) {
+    let alloc = rt.alloc();
+    let played = played(&rt, &alloc, OWN.script);
+    for (node, topic, key, fault) in [
+        ("c", "lobby", "alice", AskFault::NoSuchNode),
+        ("a", "", "alice", AskFault::NoWord),
+        ("a", "lobby", "al ice", AskFault::NoWord),
+    ] {
+        let question = Question { node, topic, key };
+        let refused = explain_asked(&alloc, &played.bench, question).err();
+        assert_eq!(rt; refused, Some(fault));
+    }
+    let question = Question {
+        node: "a",
+        topic: "lobby",
+        key: "alice",
+    };
+    let text = explain_asked(&alloc, &played.bench, question).expect(&rt, "there is memory");
+    assert_eq!(rt; text.as_str(), OWN.text);
 }
