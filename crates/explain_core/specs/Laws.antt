@@ -1,0 +1,79 @@
+-- What holds of explanations, told by the remaining steps and the cluster that they give.
+use Rattle.std.specs.Prelude.{◌≡◌, ◌≢◌, ℕ, ◌||◌, true, List, [], ◌∷◌, reverse, Option, Some, None, IsSome}
+use Rattle.std.specs.List.{Contains}
+use Rattle.dots_core.specs.declared.dot.Dot.{Dot}
+use Rattle.node_core.specs.Operations.{delivers, sends}
+use Rattle.journal_core.specs.Journals.{Kept, find_number, sender_of, source_of}
+use Rattle.bench_core.specs.Headline.{IsReached}
+use Rattle.bench_core.specs.Machine.{Machine, config_of}
+use Rattle.explain_core.specs.Standings.{standing_at, standing_sent}
+use Rattle.explain_core.specs.Tracks.{is_sent, stand_at, track_of}
+use Rattle.explain_core.specs.Findings.{chain, is_came, missing}
+use Rattle.explain_core.specs.declared.finding.Verdict.TheVariants.{Unsent}
+use Rattle.explain_core.specs.declared.hop.Hop.{Hop}
+use Rattle.explain_core.specs.declared.hop.Kind.{Kind}
+use Rattle.explain_core.specs.declared.hop.Kind.TheVariants.{Sent, Came, Missed, Forgot}
+use Rattle.explain_core.specs.declared.standing.Standing.{Standing}
+use Rattle.explain_core.specs.declared.standing.Standing.TheVariants.{Unseen}
+
+-- the step of this number sent or delivered the dot
+pub record Moves (hops : List Hop) (number : ℕ) (h : Hop) : Type 0 where
+  pub among : Contains hops h
+  pub is : h.number ≡ number
+  pub moved : (is_sent h.kind || is_came h.kind) ≡ true
+
+-- from the newest back: the first of these is step `by`, and each read what the next one made; what the last of them read, no step sent
+-- or delivered
+abbrev pub LeadsBack : List Hop → Option ℕ → List ℕ → Type 0
+LeadsBack hops by [] = (number : ℕ) (h : Hop) → by ≡ Some number → Moves hops number h → ⊥
+LeadsBack hops by (number ∷ numbers) = (by ≡ Some number) × ((h : Hop) × Moves hops number h × LeadsBack hops h.reads numbers)
+
+-- the steps, in order, that brought the dot to step `by`: each sent or delivered it, and read what the one before it made
+abbrev pub IsChain : List Hop → Option ℕ → List ℕ → Type 0
+IsChain hops by numbers = LeadsBack hops by (reverse numbers)
+
+-- of each node the chain to the step since which the dot stands there as it does
+abbrev pub ChainLaw : Type 0
+ChainLaw = (m : Machine) (d : Dot) (by : Option ℕ) → IsReached (config_of m) m.state → IsChain (track_of m d).hops by (chain (track_of m d).hops by)
+
+-- the node has had the dot stand so since this step, which remains and is the node's own
+pub record IsSince (m : Machine) (node number : ℕ) : Type 0 where
+  pub step : Kept
+  pub remains : find_number m.state.remaining number ≡ Some step
+  pub own : step.node ≡ node
+
+-- the dot stands at each node as the track says, and since a step of the node
+abbrev pub StandingLaw : Type 0
+StandingLaw =
+    (m : Machine) (d : Dot) (node : ℕ) → IsReached (config_of m) m.state →
+    record {
+      stands : (stand_at (track_of m d).stands node).standing ≡ standing_at m node d;
+      since : (number : ℕ) → (stand_at (track_of m d).stands node).by ≡ Some number → IsSince m node number;
+    }
+
+-- what a step of a track did: it sent this message, with the dot standing so in it; it delivered a message, and what it read is the step
+-- which sent that; or it forgot the dot, and delivered nothing
+abbrev pub Did : Machine → Dot → Hop → Kept → Kind → Type 0
+Did m d h k Sent =
+    (sends k.step ≡ true) × (sender_of m.state.remaining h.node h.message ≡ Some h.number) × (standing_sent m h.node h.message d ≡ h.standing)
+Did m d h k Came = IsSome (delivers k.step) × ((number : ℕ) → h.reads ≡ Some number → source_of m.state.remaining k.step ≡ Some number)
+Did m d h k Missed =
+    (p : ℕ × ℕ) × (delivers k.step ≡ Some p) × ((number : ℕ) → h.reads ≡ Some number → source_of m.state.remaining k.step ≡ Some number)
+    × (standing_sent m p.0 p.1 d ≡ h.standing)
+Did m d h k Forgot = delivers k.step ≡ None
+
+-- a remaining step, and what it did
+pub record IsOfStep (m : Machine) (d : Dot) (h : Hop) : Type 0 where
+  pub step : Kept
+  pub remains : find_number m.state.remaining h.number ≡ Some step
+  pub own : step.node ≡ h.node
+  pub did : Did m d h step h.kind
+
+abbrev pub StepLaw : Type 0
+StepLaw = (m : Machine) (d : Dot) (h : Hop) → IsReached (config_of m) m.state → Contains (track_of m d).hops h → IsOfStep m d h
+
+-- where it says that the dot was never sent live, or gone, it stands so in no message
+abbrev pub UnsentLaw : Type 0
+UnsentLaw =
+    (m : Machine) (d : Dot) (node : ℕ) (wanted : Standing) → IsReached (config_of m) m.state → wanted ≢ Unseen →
+    (missing (track_of m d).hops node wanted).verdict ≡ Unsent → (sender number : ℕ) → standing_sent m sender number d ≡ wanted → ⊥

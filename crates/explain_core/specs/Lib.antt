@@ -1,0 +1,7 @@
+pub mod Standings
+pub mod Tracks
+pub mod Makings
+pub mod Findings
+pub mod Explanations
+pub mod Questions
+pub mod Laws

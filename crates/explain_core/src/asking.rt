@@ -1,0 +1,34 @@
+//! An explanation that is asked for by words.
+ghost use Rattle.std.specs.Prelude.{◌≡◌, IfErr, IfOk, string_bytes};
+ghost use Rattle.explain_core.specs.Questions.{IsAnswer, Refuses};
+
+use crate::ask_fault::AskFault;
+use crate::explaining::explain;
+use bench_core::Bench;
+use payload_core::Word;
+use std::alloc::Allocator;
+
+/// Why the presences of this topic and key are online at the node of this name, and why not.
+#[derive(Clone, Copy, Debug, PartialEq, Eq)]
+pub struct Question<'q> {
+    pub node: &'q str,
+    pub topic: &'q str,
+    pub key: &'q str,
+}
+
+/// The explanation that is asked for.
+pub fn explain_asked<'a, B: Allocator>(
+    alloc: &'a B,
+    bench: &Bench<'a, B>,
+    question: Question<'_>,
+) -> Result<String<&'a B>, AskFault>
+    ensures answer { IfOk result (λ text. IsAnswer bench.now question.entry (string_bytes text)) }
+    ensures refused { IfErr result (Refuses bench.now question.entry) }
+{
+    let Some(node) = bench.names().number_of(question.node) else {
+        return Err(AskFault::NoSuchNode);
+    };
+    let topic = Word::new(alloc, question.topic)?;
+    let key = Word::new(alloc, question.key)?;
+    Ok(explain(alloc, bench, node, &topic, &key)?)
+}

@@ -1,0 +1,271 @@
+//! The text of an explanation.
+ghost use Rattle.std.specs.Prelude.{◌≡◌, ◌++◌, IfOk, OnOk, codes, string_bytes};
+ghost use Rattle.explain_core.specs.Explanations.{explanation, finding_text, head_line, labelled, left_text, making_text, making_texts, node_text, removal_text, status_text, step_line, step_line_if, step_lines, tracked_text, verdict_text};
+
+use crate::finding::{Finding, Verdict, finding_of, has_left, last_status, missing};
+use crate::making::{Making, makings_of};
+use crate::standing::{Standing, standing_at};
+use crate::track::{Track, stand_at};
+use crate::tracking::track_of;
+use bench_core::{Bench, Kept, Names};
+use dots_core::Dot;
+use payload_core::{Oom, Word};
+use script_core::{name_at, put_act};
+use std::alloc::Allocator;
+
+impl Verdict {
+    /// As it is printed.
+    fn text(self) -> &'static str
+        ensures { result.now ≡ verdict_text self }
+    {
+        match self {
+            Verdict::Online => "online",
+            Verdict::Down => "down",
+            Verdict::Removed => "removed",
+            Verdict::Left => "left",
+            Verdict::Forgotten => "forgotten",
+            Verdict::Missed => "missed",
+            Verdict::Undelivered => "undelivered",
+            Verdict::Unsent => "unsent",
+        }
+    }
+}
+
+/// `LABEL NUMBER NODE VERB ..`.
+#[tactic(auto, unfolding(crate::specs::Explanations::labelled))]
+fn put_labelled<A: Allocator, N: Allocator, W: Allocator>(
+    text: &mut String<A>,
+    names: &Names<N>,
+    label: &str,
+    kept: &Kept<W>,
+) -> Result<(), Oom>
+    ensures { OnOk result (string_bytes text.new ≡ string_bytes text.old ++ labelled names.now label.now kept.now) }
+{
+    let number = kept.number;
+    write!(text, "{label} {number} ")?;
+    put_act(text, names, kept.node, &kept.step)?;
+    Ok(text.push_str("\n")?)
+}
+
+/// The line of a step that remains.
+#[tactic(auto, unfolding(crate::specs::Explanations::step_line))]
+fn put_step<'a, A: Allocator, B: Allocator>(
+    text: &mut String<A>,
+    bench: &Bench<'a, B>,
+    label: &str,
+    number: u64,
+) -> Result<(), Oom>
+    ensures { OnOk result (string_bytes text.new ≡ string_bytes text.old ++ step_line bench.now label.now number) }
+{
+    match bench.remaining().find(number) {
+        Some(kept) => put_labelled(text, bench.names(), label, kept),
+        None => Ok(()),
+    }
+}
+
+fn put_step_if<'a, A: Allocator, B: Allocator>(
+    text: &mut String<A>,
+    bench: &Bench<'a, B>,
+    label: &str,
+    number: Option<u64>,
+) -> Result<(), Oom>
+    ensures { OnOk result (string_bytes text.new ≡ string_bytes text.old ++ step_line_if bench.now label.now number) }
+{
+    match number {
+        Some(number) => put_step(text, bench, label, number),
+        None => Ok(()),
+    }
+}
+
+/// A line for each of these steps.
+#[tactic(auto, unfolding(crate::specs::Explanations::step_lines))]
+fn put_steps<'a, A: Allocator, B: Allocator>(
+    text: &mut String<A>,
+    bench: &Bench<'a, B>,
+    label: &str,
+    numbers: &[u64],
+) -> Result<(), Oom>
+    ensures { OnOk result (string_bytes text.new ≡ string_bytes text.old ++ step_lines bench.now label.now numbers.now) }
+{
+    for number in numbers {
+        put_step(text, bench, label, *number)?;
+    }
+    Ok(())
+}
+
+/// A verdict, and the steps that it rests on.
+#[tactic(auto, unfolding(crate::specs::Explanations::finding_text))]
+fn put_finding<'a, A: Allocator, B: Allocator, F: Allocator>(
+    text: &mut String<A>,
+    bench: &Bench<'a, B>,
+    what: &str,
+    finding: &Finding<F>,
+) -> Result<(), Oom>
+    ensures { OnOk result (string_bytes text.new ≡ string_bytes text.old ++ finding_text bench.now what.now finding.now) }
+{
+    let verdict = finding.verdict.text();
+    writeln!(text, "{what} {verdict}")?;
+    put_steps(text, bench, "by", &finding.steps)
+}
+
+/// The step by which it left at its own node.
+#[tactic(auto, unfolding(crate::specs::Explanations::left_text))]
+fn put_left<'a, A: Allocator, B: Allocator>(
+    text: &mut String<A>,
+    bench: &Bench<'a, B>,
+    dot: Dot,
+    track: &Track<&'a B>,
+) -> Result<(), Oom>
+    ensures { OnOk result (string_bytes text.new ≡ string_bytes text.old ++ left_text bench.now dot track.now) }
+{
+    if has_left(bench, dot) {
+        let by = stand_at(&track.stands, dot.name).by;
+        put_step_if(text, bench, "left", by)
+    } else {
+        Ok(())
+    }
+}
+
+/// How it stands at the node, and why.
+#[tactic(auto, unfolding(crate::specs::Explanations::node_text, crate::specs::Explanations::finding_text))]
+fn put_node<'a, A: Allocator, B: Allocator>(
+    alloc: &'a B,
+    text: &mut String<A>,
+    bench: &Bench<'a, B>,
+    node: u16,
+    dot: Dot,
+    track: &Track<&'a B>,
+) -> Result<(), Oom>
+    ensures { OnOk result (string_bytes text.new ≡ string_bytes text.old ++ node_text bench.now node dot track.now) }
+{
+    let finding = finding_of(alloc, bench, node, dot, track)?;
+    let name = name_at(bench.names(), node);
+    let verdict = finding.verdict.text();
+    writeln!(text, "at {name} {verdict}")?;
+    put_steps(text, bench, "by", &finding.steps)
+}
+
+/// The last status step of the node about the presence's name.
+#[tactic(auto, unfolding(crate::specs::Explanations::status_text))]
+fn put_status<'a, A: Allocator, B: Allocator>(
+    text: &mut String<A>,
+    bench: &Bench<'a, B>,
+    node: u16,
+    dot: Dot,
+) -> Result<(), Oom>
+    ensures { OnOk result (string_bytes text.new ≡ string_bytes text.old ++ status_text bench.now node dot) }
+{
+    let status = last_status(bench.remaining(), node, dot.name);
+    put_step_if(text, bench, "status", status)
+}
+
+/// Why the removal didn't come, where it should have.
+#[tactic(auto, unfolding(crate::specs::Explanations::removal_text))]
+fn put_removal<'a, A: Allocator, B: Allocator>(
+    alloc: &'a B,
+    text: &mut String<A>,
+    bench: &Bench<'a, B>,
+    node: u16,
+    dot: Dot,
+    track: &Track<&'a B>,
+) -> Result<(), Oom>
+    ensures { OnOk result (string_bytes text.new ≡ string_bytes text.old ++ removal_text bench.now node dot track.now) }
+{
+    if standing_at(bench, node, dot).is_same(Standing::Live) && has_left(bench, dot) {
+        let finding = missing(alloc, &track.hops, node, Standing::Gone)?;
+        put_finding(text, bench, "removal", &finding)
+    } else {
+        Ok(())
+    }
+}
+
+/// What is told of a presence with this track.
+#[tactic(auto, unfolding(crate::specs::Explanations::tracked_text))]
+fn put_tracked<'a, A: Allocator, B: Allocator>(
+    alloc: &'a B,
+    text: &mut String<A>,
+    bench: &Bench<'a, B>,
+    node: u16,
+    making: Making,
+    track: &Track<&'a B>,
+) -> Result<(), Oom>
+    ensures { OnOk result (string_bytes text.new ≡ string_bytes text.old ++ tracked_text bench.now node making track.now) }
+{
+    put_step(text, bench, "made", making.number)?;
+    put_left(text, bench, making.dot, track)?;
+    put_node(alloc, text, bench, node, making.dot, track)?;
+    put_status(text, bench, node, making.dot)?;
+    put_removal(alloc, text, bench, node, making.dot, track)
+}
+
+/// What is told of a presence.
+#[tactic(auto, unfolding(crate::specs::Explanations::making_text))]
+fn put_making<'a, A: Allocator, B: Allocator>(
+    alloc: &'a B,
+    text: &mut String<A>,
+    bench: &Bench<'a, B>,
+    node: u16,
+    making: Making,
+) -> Result<(), Oom>
+    ensures { OnOk result (string_bytes text.new ≡ string_bytes text.old ++ making_text bench.now node making) }
+{
+    let track = track_of(alloc, bench, making.dot)?;
+    put_tracked(alloc, text, bench, node, making, &track)
+}
+
+/// What is told of each presence.
+#[tactic(auto, unfolding(crate::specs::Explanations::making_texts))]
+fn put_makings<'a, A: Allocator, B: Allocator>(
+    alloc: &'a B,
+    text: &mut String<A>,
+    bench: &Bench<'a, B>,
+    node: u16,
+    makings: &[Making],
+) -> Result<(), Oom>
+    ensures { OnOk result (string_bytes text.new ≡ string_bytes text.old ++ making_texts bench.now node makings.now) }
+{
+    for making in makings {
+        put_making(alloc, text, bench, node, *making)?;
+    }
+    Ok(())
+}
+
+/// `explain NODE TOPIC KEY COUNT`.
+#[tactic(auto, unfolding(crate::specs::Explanations::head_line))]
+fn put_head<'a, A: Allocator, B: Allocator>(
+    text: &mut String<A>,
+    bench: &Bench<'a, B>,
+    node: u16,
+    topic: &Word<&'a B>,
+    key: &Word<&'a B>,
+    count: usize,
+) -> Result<(), Oom>
+    ensures { OnOk result (string_bytes text.new ≡ string_bytes text.old ++ head_line bench.now node topic.now key.now count) }
+{
+    let node = name_at(bench.names(), node);
+    let topic = topic.as_str();
+    let key = key.as_str();
+    write!(text, "explain {node} {topic}")?;
+    Ok(writeln!(text, " {key} {count}")?)
+}
+
+/// Why the presences of a topic and key are online at a node, and why not: of each that a remaining step made, in the order of
+/// these steps, the step; the one by which it left at its own node, if it did; how it stands at the node, with the steps that
+/// brought it there or by which it was lost; the last status step of the node about its name; and, where it left and is still
+/// there, why the removal didn't come.
+#[tactic(auto, unfolding(crate::specs::Explanations::explanation))]
+pub fn explain<'a, B: Allocator>(
+    alloc: &'a B,
+    bench: &Bench<'a, B>,
+    node: u16,
+    topic: &Word<&'a B>,
+    key: &Word<&'a B>,
+) -> Result<String<&'a B>, Oom>
+    ensures { IfOk result (λ text. string_bytes text ≡ explanation bench.now node topic.now key.now) }
+{
+    let makings = makings_of(alloc, bench, topic, key)?;
+    let mut text = String::new(alloc);
+    put_head(&mut text, bench, node, topic, key, makings.len())?;
+    put_makings(alloc, &mut text, bench, node, &makings)?;
+    Ok(text)
+}

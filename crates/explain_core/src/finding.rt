@@ -1,0 +1,257 @@
+//! Why a presence is online at a node, or why not.
+ghost use Rattle.std.specs.Prelude.{◌≡◌, IfOk};
+ghost use Rattle.journal_core.specs.Holdings.{kepts};
+ghost use Rattle.node_core.specs.Operations.{plain};
+ghost use Rattle.std.specs.Prelude.{None as Nothing};
+ghost use Rattle.explain_core.specs.Findings.{chain, finding_of, forgotten_or, is_forgotten_at, is_link, is_missed_at, is_sent_as, is_status_of, is_up_at, last_status, missing, numbers_of, has_left};
+
+use crate::hop::{Hop, Kind};
+use crate::standing::{Standing, standing_at};
+use crate::track::{Track, stand_at};
+use bench_core::{Bench, Journal, Step};
+use dots_core::Dot;
+use payload_core::Oom;
+use std::alloc::Allocator;
+use std::marker::Model;
+
+/// How a presence stands at a node, and why.
+#[derive(Clone, Copy, Debug, PartialEq, Eq)]
+pub enum Verdict {
+    /// It is in the node's online list.
+    Online,
+    /// The node has it, and its name is down there.
+    Down,
+    /// A delivery took it out, or a step of the node itself.
+    Removed,
+    /// It left at its own node, and the node has nothing of it.
+    Left,
+    /// The node had it, and forgot all of its name.
+    Forgotten,
+    /// It was delivered while the node didn't know its name, so nothing was kept.
+    Missed,
+    /// It was sent, and no step of the node delivered it.
+    Undelivered,
+    /// No step sent it.
+    Unsent,
+}
+
+/// A verdict with the steps that it rests on, by their numbers.
+#[derive(Drop)]
+pub struct Finding<A: Allocator> {
+    pub verdict: Verdict,
+    pub steps: Vec<u64, A>,
+}
+
+impl<A: Allocator> Model for Finding<A> {
+    ghost use Rattle.explain_core.specs.Findings.{Finding};
+
+    ghost Value = { Finding };
+
+    ghost view = { λ f. record { verdict = f.verdict; steps = f.steps.items } };
+}
+
+impl Hop {
+    /// Whether it sent or delivered the dot, and is this step.
+    fn is_link(&self, target: Option<u64>) -> bool
+        ensures { result ≡ is_link target self.now }
+    {
+        match target {
+            Some(number) => {
+                matches!(self.kind, Kind::Sent | Kind::Came) && number == self.number
+            }
+            None => false,
+        }
+    }
+
+    fn is_forgotten_at(&self, node: u16, wanted: Standing) -> bool
+        ensures { result ≡ is_forgotten_at node wanted self.now }
+    {
+        matches!(self.kind, Kind::Forgot) && self.node == node && self.standing.is_same(wanted)
+    }
+
+    fn is_missed_at(&self, node: u16, wanted: Standing) -> bool
+        ensures { result ≡ is_missed_at node wanted self.now }
+    {
+        matches!(self.kind, Kind::Missed) && self.node == node && self.standing.is_same(wanted)
+    }
+
+    fn is_sent_as(&self, wanted: Standing) -> bool
+        ensures { result ≡ is_sent_as wanted self.now }
+    {
+        matches!(self.kind, Kind::Sent) && self.standing.is_same(wanted)
+    }
+}
+
+/// The sends and deliveries that brought the dot to a step, in their order.
+#[tactic(auto, unfolding(crate::specs::Findings::backwards))]
+fn chain<A: Allocator>(alloc: A, hops: &[Hop], by: Option<u64>) -> Result<Vec<u64, A>, Oom>
+    ensures { IfOk result (λ numbers. numbers.items ≡ chain hops.now by) }
+{
+    let mut numbers = Vec::new(alloc);
+    let mut target = by;
+    let mut left = hops.len();
+    while left > 0 {
+        left -= 1;
+        let hop = hops[left];
+        if hop.is_link(target) {
+            numbers.push(hop.number)?;
+            target = hop.reads;
+        }
+    }
+    numbers.reverse();
+    Ok(numbers)
+}
+
+fn forgotten_at<A: Allocator>(
+    alloc: A,
+    hops: &[Hop],
+    node: u16,
+    wanted: Standing,
+) -> Result<Vec<u64, A>, Oom>
+    ensures { IfOk result (λ numbers. numbers.items ≡ numbers_of (is_forgotten_at node wanted) hops.now) }
+{
+    hops.iter()
+        .filter(|hop| hop.is_forgotten_at(node, wanted))
+        .map(|hop| hop.number)
+        .collect(alloc)
+}
+
+fn missed_at<A: Allocator>(
+    alloc: A,
+    hops: &[Hop],
+    node: u16,
+    wanted: Standing,
+) -> Result<Vec<u64, A>, Oom>
+    ensures { IfOk result (λ numbers. numbers.items ≡ numbers_of (is_missed_at node wanted) hops.now) }
+{
+    hops.iter()
+        .filter(|hop| hop.is_missed_at(node, wanted))
+        .map(|hop| hop.number)
+        .collect(alloc)
+}
+
+fn sent_as<A: Allocator>(alloc: A, hops: &[Hop], wanted: Standing) -> Result<Vec<u64, A>, Oom>
+    ensures { IfOk result (λ numbers. numbers.items ≡ numbers_of (is_sent_as wanted) hops.now) }
+{
+    hops.iter()
+        .filter(|hop| hop.is_sent_as(wanted))
+        .map(|hop| hop.number)
+        .collect(alloc)
+}
+
+/// Why the dot doesn't stand so at the node.
+#[tactic(auto, unfolding(crate::specs::Findings::missing))]
+pub fn missing<A: Allocator + Copy>(
+    alloc: A,
+    hops: &[Hop],
+    node: u16,
+    wanted: Standing,
+) -> Result<Finding<A>, Oom>
+    ensures { IfOk result (λ finding. finding ≡ missing hops.now node wanted) }
+{
+    let forgotten = forgotten_at(alloc, hops, node, wanted)?;
+    if !forgotten.is_empty() {
+        return Ok(Finding {
+            verdict: Verdict::Forgotten,
+            steps: forgotten,
+        });
+    }
+    let missed = missed_at(alloc, hops, node, wanted)?;
+    if !missed.is_empty() {
+        return Ok(Finding {
+            verdict: Verdict::Missed,
+            steps: missed,
+        });
+    }
+    let steps = sent_as(alloc, hops, wanted)?;
+    let verdict = if steps.is_empty() {
+        Verdict::Unsent
+    } else {
+        Verdict::Undelivered
+    };
+    Ok(Finding { verdict, steps })
+}
+
+/// Whether the node knows the name, and has it up.
+#[tactic(auto, unfolding(crate::specs::Findings::is_up_at, script_core::specs::Shown::node_of))]
+fn is_up_at<'a, B: Allocator>(bench: &Bench<'a, B>, node: u16, name: u16) -> bool
+    ensures { result ≡ is_up_at bench.now node name }
+{
+    match bench.node(node) {
+        Some(node) => node.replica().online(name),
+        None => false,
+    }
+}
+
+/// Whether it has left at its own node.
+pub fn has_left<'a, B: Allocator>(bench: &Bench<'a, B>, dot: Dot) -> bool
+    ensures { result ≡ has_left bench.now dot }
+{
+    standing_at(bench, dot.name, dot).is_same(Standing::Gone)
+}
+
+/// How the presence of a dot stands at a node, and why.
+#[tactic(auto, unfolding(crate::specs::Findings::finding_of))]
+pub fn finding_of<'a, B: Allocator>(
+    alloc: &'a B,
+    bench: &Bench<'a, B>,
+    node: u16,
+    dot: Dot,
+    track: &Track<&'a B>,
+) -> Result<Finding<&'a B>, Oom>
+    ensures { IfOk result (λ finding. finding ≡ finding_of bench.now node dot track.now) }
+{
+    match standing_at(bench, node, dot) {
+        Standing::Live => {
+            let verdict = if is_up_at(bench, node, dot.name) {
+                Verdict::Online
+            } else {
+                Verdict::Down
+            };
+            let steps = chain(alloc, &track.hops, stand_at(&track.stands, node).by)?;
+            Ok(Finding { verdict, steps })
+        }
+        Standing::Gone => {
+            let steps = chain(alloc, &track.hops, stand_at(&track.stands, node).by)?;
+            Ok(Finding {
+                verdict: Verdict::Removed,
+                steps,
+            })
+        }
+        Standing::Unseen => {
+            if has_left(bench, dot) {
+                return Ok(Finding {
+                    verdict: Verdict::Left,
+                    steps: Vec::new(alloc),
+                });
+            }
+            missing(alloc, &track.hops, node, Standing::Live)
+        }
+    }
+}
+
+fn is_status_of<A: Allocator>(step: &Step<A>, name: u16) -> bool
+    ensures { result ≡ is_status_of name (plain step.now) }
+{
+    match step {
+        Step::Up { name: other } | Step::Down { name: other } | Step::Permdown { name: other } => {
+            *other == name
+        }
+        _ => false,
+    }
+}
+
+/// The last status step of the node about the name, if any remains.
+#[tactic(auto, unfolding(crate::specs::Findings::last_status))]
+pub fn last_status<'a, B: Allocator>(journal: &Journal<'a, B>, node: u16, name: u16) -> Option<u64>
+    ensures { result ≡ last_status Nothing (kepts journal.now.steps) node name }
+{
+    let mut last = None;
+    let mut steps = journal.steps();
+    while let Some(kept) = steps.next() {
+        if kept.node == node && is_status_of(&kept.step, name) {
+            last = Some(kept.number);
+        }
+    }
+    last
+}

@@ -1,0 +1,116 @@
+//! The steps that made presences of a topic and key.
+ghost use Rattle.std.specs.Prelude.{◌≡◌, ◌++◌, IfOk, OnOk};
+ghost use Rattle.journal_core.specs.Holdings.{kepts};
+ghost use Rattle.explain_core.specs.Makings.{made_by, making_of, makings_from, makings_of, tracked_dot};
+
+use crate::tracking::{ask, opened};
+use bench_core::{Bench, Journal, Kept, Step};
+use dots_core::Dot;
+use payload_core::{Oom, Word};
+use std::alloc::Allocator;
+
+/// A step that made a presence, and the presence's dot.
+#[derive(Clone, Copy, Debug, PartialEq, Eq)]
+pub struct Making {
+    pub number: u64,
+    pub dot: Dot,
+}
+
+/// The dot under which the node tracks the process, topic and key.
+#[tactic(auto, unfolding(crate::specs::Makings::tracked_dot, script_core::specs::Shown::node_of))]
+fn tracked_dot<'a, B: Allocator>(
+    bench: &Bench<'a, B>,
+    node: u16,
+    pid: u64,
+    topic: &Word<&'a B>,
+    key: &Word<&'a B>,
+    metadata: &Word<&'a B>,
+) -> Option<Dot>
+    ensures { result ≡ tracked_dot bench.now node (record { pid = pid; topic = topic.now; key = key.now; metadata = metadata.now }) }
+{
+    let _ = metadata;
+    let found = bench.node(node)?;
+    found.replica().entries().find(node, pid, topic, key)
+}
+
+/// Puts what a step made behind what those before it made, on the bench after it.
+#[tactic(auto, unfolding(crate::specs::Makings::making_of))]
+fn put_making<'a, B: Allocator>(
+    makings: &mut Vec<Making, &'a B>,
+    asked: &Bench<'a, B>,
+    topic: &Word<&'a B>,
+    key: &Word<&'a B>,
+    kept: &Kept<&'a B>,
+) -> Result<(), Oom>
+    ensures { OnOk result (makings.new.items ≡ makings.old.items ++ making_of asked.now topic.now key.now kept.now) }
+{
+    match &kept.step {
+        Step::Join {
+            pid,
+            topic: made_topic,
+            key: made_key,
+            metadata,
+        }
+        | Step::Update {
+            pid,
+            topic: made_topic,
+            key: made_key,
+            metadata,
+        } => {
+            if *made_topic == *topic && *made_key == *key {
+                let dot = tracked_dot(asked, kept.node, *pid, made_topic, made_key, metadata);
+                return put_made(makings, kept.number, dot);
+            }
+            Ok(())
+        }
+        _ => Ok(()),
+    }
+}
+
+fn put_made<A: Allocator>(
+    makings: &mut Vec<Making, A>,
+    number: u64,
+    dot: Option<Dot>,
+) -> Result<(), Oom>
+    ensures { OnOk result (makings.new.items ≡ makings.old.items ++ made_by number dot) }
+{
+    if let Some(dot) = dot {
+        makings.push(Making { number, dot })?;
+    }
+    Ok(())
+}
+
+/// Puts what the steps made behind what those before them made.
+#[tactic(auto, unfolding(crate::specs::Makings::makings_from))]
+fn put_makings<'a, B: Allocator>(
+    makings: &mut Vec<Making, &'a B>,
+    asked: &mut Bench<'a, B>,
+    topic: &Word<&'a B>,
+    key: &Word<&'a B>,
+    journal: &Journal<'a, B>,
+) -> Result<(), Oom>
+    ensures { OnOk result (makings.new.items ≡ makings.old.items ++ makings_from topic.now key.now asked.old (kepts journal.now.steps)) }
+{
+    let mut steps = journal.steps();
+    while let Some(kept) = steps.next() {
+        ask(asked, kept)?;
+        put_making(makings, asked, topic, key, kept)?;
+    }
+    Ok(())
+}
+
+/// The steps that made presences of this topic and key, in their order, each with the presence's dot.
+#[tactic(auto, unfolding(crate::specs::Makings::makings_of))]
+pub fn makings_of<'a, B: Allocator>(
+    alloc: &'a B,
+    bench: &Bench<'a, B>,
+    topic: &Word<&'a B>,
+    key: &Word<&'a B>,
+) -> Result<Vec<Making, &'a B>, Oom>
+    ensures { IfOk result (λ makings. makings.items ≡ makings_of bench.now topic.now key.now) }
+{
+    let mut asked = opened(alloc, bench)?;
+    let mut makings = Vec::new(alloc);
+    put_makings(&mut makings, &mut asked, topic, key, bench.remaining())?;
+    Ok(makings)
+}

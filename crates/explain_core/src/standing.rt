@@ -1,0 +1,101 @@
+//! How a dot stands: at a node, and in a message.
+ghost use Rattle.std.specs.Prelude.{◌≡◌};
+ghost use Rattle.explain_core.specs.Standings.{is_above, is_same, last_message, standing_at, standing_in, standing_sent};
+
+use bench_core::Bench;
+use dots_core::{Dot, DotSet};
+use payload_core::EntrySet;
+use std::alloc::Allocator;
+
+/// How a dot stands.
+#[derive(Clone, Copy, Debug, PartialEq, Eq)]
+pub enum Standing {
+    /// It was not seen, or is forgotten.
+    Unseen,
+    /// It has its entry.
+    Live,
+    /// It was seen, and its entry went.
+    Gone,
+}
+
+impl Standing {
+    /// Whether a delivery of a message where the dot stands so would change how it stands there.
+    pub fn is_above(self, other: Standing) -> bool
+        ensures { result ≡ is_above self other }
+    {
+        match (self, other) {
+            (Standing::Live | Standing::Gone, Standing::Unseen) => true,
+            (Standing::Gone, Standing::Live) => true,
+            _ => false,
+        }
+    }
+
+    pub fn is_same(self, other: Standing) -> bool
+        ensures { result ≡ is_same self other }
+    {
+        match (self, other) {
+            (Standing::Unseen, Standing::Unseen) => true,
+            (Standing::Live, Standing::Live) => true,
+            (Standing::Gone, Standing::Gone) => true,
+            _ => false,
+        }
+    }
+}
+
+/// Among these dots and entries.
+fn standing_in<A: Allocator>(seen: &DotSet<A>, entries: &EntrySet<A>, dot: Dot) -> Standing
+    ensures { result ≡ standing_in seen.now entries.now.map dot }
+{
+    match entries.get(dot) {
+        Some(_) => Standing::Live,
+        None => {
+            if seen.contains(dot) {
+                Standing::Gone
+            } else {
+                Standing::Unseen
+            }
+        }
+    }
+}
+
+/// At a node, as the remaining steps give it.
+#[tactic(auto, unfolding(crate::specs::Standings::standing_at, script_core::specs::Shown::node_of))]
+pub fn standing_at<'a, B: Allocator>(bench: &Bench<'a, B>, node: u16, dot: Dot) -> Standing
+    ensures { result ≡ standing_at bench.now node dot }
+{
+    let Some(node) = bench.node(node) else {
+        return Standing::Unseen;
+    };
+    let replica = node.replica();
+    standing_in(replica.seen(), replica.entries(), dot)
+}
+
+/// In a message of a node.
+#[tactic(auto, unfolding(crate::specs::Standings::standing_sent, script_core::specs::Shown::node_of))]
+pub fn standing_sent<'a, B: Allocator>(
+    bench: &Bench<'a, B>,
+    node: u16,
+    number: u64,
+    dot: Dot,
+) -> Standing
+    ensures { result ≡ standing_sent bench.now node number dot }
+{
+    let Some(node) = bench.node(node) else {
+        return Standing::Unseen;
+    };
+    let Some(message) = node.outbox().get(number) else {
+        return Standing::Unseen;
+    };
+    standing_in(message.seen(), message.entries(), dot)
+}
+
+/// The number of the last message of a node, 0 where it has none.
+#[tactic(auto, unfolding(crate::specs::Standings::last_message, script_core::specs::Shown::node_of))]
+pub fn last_message<'a, B: Allocator>(bench: &Bench<'a, B>, node: u16) -> u64
+    ensures { result ≡ last_message bench.now node }
+{
+    match bench.node(node) {
+        Some(node) => node.outbox().len() as u64,
+        None => 0,
+    }
+}

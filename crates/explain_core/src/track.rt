@@ -1,0 +1,199 @@
+//! `Track`: how a dot came to stand as it does at each node.
+ghost use Rattle.std.specs.Prelude.{◌≡◌, IfOk, OnOk};
+ghost use Rattle.explain_core.specs.Tracks.{delivered_hop, followed, hop_at, no_track, other_hop, sender_among, sent_hop, stand_at, with_hop, with_stand};
+
+use crate::hop::{Hop, Kind, Stand};
+use crate::standing::{Standing, last_message, standing_at, standing_sent};
+use bench_core::{Bench, Kept};
+use dots_core::Dot;
+use payload_core::Oom;
+use std::alloc::Allocator;
+use std::marker::Model;
+
+/// Of each node how a dot stands there, and since which of its steps; and the steps that sent, delivered, missed or forgot it,
+/// in their order.
+#[derive(Drop)]
+pub struct Track<A: Allocator> {
+    pub stands: Vec<Stand, A>,
+    pub hops: Vec<Hop, A>,
+}
+
+impl<A: Allocator> Model for Track<A> {
+    ghost use Rattle.explain_core.specs.Tracks.{Track};
+
+    ghost Value = { Track };
+
+    ghost view = { λ t. record { stands = t.stands.items; hops = t.hops.items } };
+}
+
+/// How the dot stands at a node.
+pub fn stand_at(stands: &[Stand], node: u16) -> Stand
+    ensures { result ≡ stand_at stands.now node }
+{
+    stands.get(node as usize).copied().unwrap_or(Stand {
+        standing: Standing::Unseen,
+        by: None,
+    })
+}
+
+/// The step that sent this message, if the dot is in it.
+fn sender_among(hops: &[Hop], node: u16, message: u64) -> Option<u64>
+    ensures { result ≡ sender_among hops.now node message }
+{
+    hops.iter()
+        .find(|hop| hop.is_sender(node, message))
+        .map(|hop| hop.number)
+}
+
+fn hop_of<A: Allocator>(
+    kept: &Kept<A>,
+    kind: Kind,
+    standing: Standing,
+    message: u64,
+    reads: Option<u64>,
+) -> Hop
+    ensures { result ≡ record { kind = kind; number = kept.now.number; node = kept.now.node; standing = standing; message = message; reads = reads } }
+{
+    Hop {
+        kind,
+        number: kept.number,
+        node: kept.node,
+        standing,
+        message,
+        reads,
+    }
+}
+
+/// What a send did.
+fn sent_hop<A: Allocator>(
+    kept: &Kept<A>,
+    before: Stand,
+    message: u64,
+    told: Standing,
+) -> Option<Hop>
+    ensures { result ≡ sent_hop kept.now before message told }
+{
+    match told {
+        Standing::Unseen => None,
+        Standing::Live => Some(hop_of(kept, Kind::Sent, Standing::Live, message, before.by)),
+        Standing::Gone => Some(hop_of(kept, Kind::Sent, Standing::Gone, message, before.by)),
+    }
+}
+
+/// What a delivery did.
+fn delivered_hop<A: Allocator>(
+    kept: &Kept<A>,
+    before: Stand,
+    told: Standing,
+    now: Standing,
+    reads: Option<u64>,
+) -> Option<Hop>
+    ensures { result ≡ delivered_hop kept.now before told now reads }
+{
+    if !before.standing.is_same(now) {
+        return Some(hop_of(kept, Kind::Came, now, 0, reads));
+    }
+    if told.is_above(now) {
+        Some(hop_of(kept, Kind::Missed, told, 0, reads))
+    } else {
+        None
+    }
+}
+
+/// What a step did that neither sends nor delivers.
+fn other_hop<A: Allocator>(kept: &Kept<A>, before: Stand, now: Standing) -> Option<Hop>
+    ensures { result ≡ other_hop kept.now before now }
+{
+    if now.is_same(Standing::Unseen) && before.standing.is_above(Standing::Unseen) {
+        Some(hop_of(kept, Kind::Forgot, before.standing, 0, before.by))
+    } else {
+        None
+    }
+}
+
+/// What a step did to the dot, on the bench after it.
+#[tactic(auto, unfolding(crate::specs::Tracks::hop_at))]
+fn hop_at<'a, B: Allocator>(
+    dot: Dot,
+    asked: &Bench<'a, B>,
+    kept: &Kept<&'a B>,
+    hops: &[Hop],
+    before: Stand,
+) -> Option<Hop>
+    ensures { result ≡ hop_at dot asked.now kept.now hops.now before }
+{
+    if kept.step.sends() {
+        let message = last_message(asked, kept.node);
+        let told = standing_sent(asked, kept.node, message, dot);
+        return sent_hop(kept, before, message, told);
+    }
+    let now = standing_at(asked, kept.node, dot);
+    match kept.step.delivers() {
+        None => other_hop(kept, before, now),
+        Some((sender, message)) => {
+            let told = standing_sent(asked, sender, message, dot);
+            let reads = sender_among(hops, sender, message);
+            delivered_hop(kept, before, told, now, reads)
+        }
+    }
+}
+
+fn put_hop<A: Allocator>(hops: &mut Vec<Hop, A>, hop: Option<Hop>) -> Result<(), Oom>
+    ensures { OnOk result (hops.new.items ≡ with_hop hops.old.items hop) }
+{
+    if let Some(hop) = hop {
+        hops.push(hop)?;
+    }
+    Ok(())
+}
+
+fn put_stand<A: Allocator, W: Allocator>(
+    stands: &mut Vec<Stand, A>,
+    kept: &Kept<W>,
+    standing: Standing,
+)
+    ensures { stands.new.items ≡ with_stand stands.old.items kept.now standing }
+{
+    if stand_at(stands, kept.node).standing.is_same(standing) {
+        return;
+    }
+    let by = Some(kept.number);
+    if let Some(stand) = stands.get_mut(kept.node as usize) {
+        *stand = Stand { standing, by };
+    }
+}
+
+impl<A: Allocator> Track<A> {
+    /// That of a dot which no step has seen.
+    pub fn new(alloc: A, nodes: usize) -> Result<Track<A>, Oom>
+    where
+        A: Copy,
+        ensures { IfOk result (λ track. track ≡ no_track nodes) }
+    {
+        let unseen = Stand {
+            standing: Standing::Unseen,
+            by: None,
+        };
+        Ok(Track {
+            stands: vec![in alloc; unseen; nodes]?,
+            hops: Vec::new(alloc),
+        })
+    }
+
+    /// After a step, on the bench after it.
+    #[tactic(auto, unfolding(crate::specs::Tracks::followed))]
+    pub fn follow<'a, B: Allocator>(
+        &mut self,
+        dot: Dot,
+        asked: &Bench<'a, B>,
+        kept: &Kept<&'a B>,
+    ) -> Result<(), Oom>
+        ensures { OnOk result (self.new ≡ followed dot asked.now kept.now self.old) }
+    {
+        let before = stand_at(&self.stands, kept.node);
+        let hop = hop_at(dot, asked, kept, &self.hops, before);
+        put_hop(&mut self.hops, hop)?;
+        put_stand(&mut self.stands, kept, standing_at(asked, kept.node, dot));
+        Ok(())
+    }
+}

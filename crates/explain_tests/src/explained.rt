@@ -1,0 +1,330 @@
+//! Explanations of small runs.
+use bench_core::Limits;
+use explain_core::{AskFault, Question, explain, explain_asked};
+use payload_core::Word;
+use script_core::{Played, parse_script, run_script};
+use std::alloc::{AllocError, Allocator};
+use std::process::Abort;
+use test_alloc::Refusing;
+
+/// A script, the node that is asked about, and why alice is online there under the lobby, or why not.
+#[derive(Clone, Copy)]
+struct Case {
+    script: &'static str,
+    node: u16,
+    text: &'static str,
+}
+
+/// At its own node, before anybody else has it.
+const OWN: Case = Case {
+    script: "nodes a b\na join 1 lobby alice phone\n",
+    node: 0,
+    text: "\
+explain a lobby alice 1
+made 1 a join 1 lobby alice phone
+at a online
+",
+};
+
+const UNSENT: Case = Case {
+    script: "nodes a b\nb up a\na join 1 lobby alice phone\n",
+    node: 1,
+    text: "\
+explain b lobby alice 1
+made 2 a join 1 lobby alice phone
+at b unsent
+status 1 b up a
+",
+};
+
+/// What an update makes is another presence.
+const UPDATED: Case = Case {
+    script: "nodes a\na join 1 lobby alice phone\na join 2 lobby bob desk\na update 1 lobby alice away\n",
+    node: 0,
+    text: "\
+explain a lobby alice 2
+made 1 a join 1 lobby alice phone
+left 3 a update 1 lobby alice away
+at a removed
+made 3 a update 1 lobby alice away
+at a online
+",
+};
+
+/// A late up: the message came twice before the node knew its sender.
+const LATE_UP: Case = Case {
+    script: "\
+nodes a b
+consoles desk
+a join 1 lobby alice phone
+a broadcast
+b deliver a 1
+b up a
+b deliver a 1
+desk back b
+desk back b
+b deliver a 1
+",
+    node: 1,
+    text: "\
+explain b lobby alice 1
+made 1 a join 1 lobby alice phone
+at b missed
+by 3 b deliver a 1
+by 6 b deliver a 1
+",
+};
+
+/// A lost removal, before an extract takes alice out.
+const LOST_REMOVAL: Case = Case {
+    script: "\
+nodes a b
+b up a
+a join 1 lobby alice phone
+a broadcast
+b deliver a 1
+a leave 1 lobby alice
+a broadcast
+a join 2 lobby bob desk
+a broadcast
+b deliver a 3
+",
+    node: 1,
+    text: "\
+explain b lobby alice 1
+made 2 a join 1 lobby alice phone
+left 5 a leave 1 lobby alice
+at b online
+by 3 a broadcast
+by 4 b deliver a 1
+status 1 b up a
+removal undelivered
+by 6 a broadcast
+",
+};
+
+/// And after the extract.
+const REMOVED: Case = Case {
+    script: "\
+nodes a b
+b up a
+a join 1 lobby alice phone
+a broadcast
+b deliver a 1
+a leave 1 lobby alice
+a broadcast
+a extract a
+b deliver a 3
+",
+    node: 1,
+    text: "\
+explain b lobby alice 1
+made 2 a join 1 lobby alice phone
+left 5 a leave 1 lobby alice
+at b removed
+by 7 a extract a
+by 8 b deliver a 3
+status 1 b up a
+",
+};
+
+/// Messages out of order: what waits in the cloud doesn't bring her.
+const OUT_OF_ORDER: Case = Case {
+    script: "\
+nodes a b
+b up a
+a join 1 lobby alice phone
+a broadcast
+a join 2 lobby bob desk
+a broadcast
+b deliver a 2
+",
+    node: 1,
+    text: "\
+explain b lobby alice 1
+made 2 a join 1 lobby alice phone
+at b undelivered
+by 3 a broadcast
+status 1 b up a
+",
+};
+
+/// A node that forgot another takes its old message in again.
+const PERMDOWN: Case = Case {
+    script: "\
+nodes a b
+b up a
+a join 1 lobby alice phone
+a broadcast
+b deliver a 1
+a leave 1 lobby alice
+a broadcast
+b deliver a 2
+b down a
+b permdown a
+b up a
+b deliver a 1
+",
+    node: 1,
+    text: "\
+explain b lobby alice 1
+made 2 a join 1 lobby alice phone
+left 5 a leave 1 lobby alice
+at b online
+by 3 a broadcast
+by 11 b deliver a 1
+status 10 b up a
+removal forgotten
+by 9 b permdown a
+",
+};
+
+/// A removal that came before the node knew the name.
+const TOO_SOON: Case = Case {
+    script: "\
+nodes a b c
+b up a
+a join 1 lobby alice phone
+a broadcast
+b deliver a 1
+a leave 1 lobby alice
+a broadcast
+b deliver a 2
+c deliver a 2
+c up a
+c deliver a 1
+",
+    node: 2,
+    text: "\
+explain c lobby alice 1
+made 2 a join 1 lobby alice phone
+left 5 a leave 1 lobby alice
+at c online
+by 3 a broadcast
+by 10 c deliver a 1
+status 9 c up a
+removal missed
+by 8 c deliver a 2
+",
+};
+
+/// By way of another node.
+const BY_ANOTHER: Case = Case {
+    script: "\
+nodes a b c
+b up a
+c up a
+c up b
+c join 3 lobby carl tablet
+a join 1 lobby alice phone
+a broadcast
+b deliver a 1
+b join 2 lobby bob desk
+b extract a b
+c deliver b 1
+",
+    node: 2,
+    text: "\
+explain c lobby alice 1
+made 5 a join 1 lobby alice phone
+at c online
+by 6 a broadcast
+by 7 b deliver a 1
+by 9 b extract a b
+by 10 c deliver b 1
+status 2 c up a
+",
+};
+
+/// A node that asks for what it lost, and then takes the other down.
+const ASKED: Case = Case {
+    script: "\
+nodes a b
+b up a
+a join 1 lobby alice phone
+b request
+a answer b 1
+b deliver a 1
+b down a
+",
+    node: 1,
+    text: "\
+explain b lobby alice 1
+made 2 a join 1 lobby alice phone
+at b down
+by 4 a answer b 1
+by 5 b deliver a 1
+status 6 b down a
+",
+};
+
+const NONE: Case = Case {
+    script: "nodes a\na join 1 lobby bob phone\n",
+    node: 0,
+    text: "explain a lobby alice 0\n",
+};
+
+const CASES: [Case; 12] = [
+    OWN,
+    UNSENT,
+    UPDATED,
+    LATE_UP,
+    LOST_REMOVAL,
+    REMOVED,
+    OUT_OF_ORDER,
+    PERMDOWN,
+    TOO_SOON,
+    BY_ANOTHER,
+    ASKED,
+    NONE,
+];
+
+fn played<'a, B: Allocator, R: Abort>(rt: &R, alloc: &'a B, script: &str) -> Played<'a, B> {
+    let script = parse_script(alloc, script.as_bytes()).ok();
+    let script = script.expect(rt, "the script is one");
+    let played = run_script(alloc, &script, Limits::usual()).ok();
+    played.expect(rt, "it was played")
+}
+
+fn told<'a, B: Allocator, R: Abort>(
+    rt: &R,
+    alloc: &'a B,
+    played: &Played<'a, B>,
+    node: u16,
+) -> Result<String<&'a B>, AllocError> {
+    let topic = Word::new(alloc, "lobby").ok().expect(rt, "a word");
+    let key = Word::new(alloc, "alice").ok().expect(rt, "a word");
+    explain(alloc, &played.bench, node, &topic, &key)
+}
+
+#[test]
+fn explains_each(rt: HostRuntime) {
+    let alloc = rt.alloc();
+    for case in CASES {
+        let played = played(&rt, &alloc, case.script);
+        let text = told(&rt, &alloc, &played, case.node).expect(&rt, "there is memory");
+        assert_eq!(rt; text.as_str(), case.text);
+    }
+}
+
+#[test]
+fn refuses_what_is_no_node_and_no_word(rt: HostRuntime) {
+    let alloc = rt.alloc();
+    let played = played(&rt, &alloc, OWN.script);
+    for (node, topic, key, fault) in [
+        ("c", "lobby", "alice", AskFault::NoSuchNode),
+        ("a", "", "alice", AskFault::NoWord),
+        ("a", "lobby", "al ice", AskFault::NoWord),
+    ] {
+        let question = Question { node, topic, key };
+        let refused = explain_asked(&alloc, &played.bench, question).err();
+        assert_eq!(rt; refused, Some(fault));
+    }
+    let question = Question {
+        node: "a",
+        topic: "lobby",
+        key: "alice",
+    };
+    let text = explain_asked(&alloc, &played.bench, question).expect(&rt, "there is memory");
+    assert_eq!(rt; text.as_str(), OWN.text);
+}
