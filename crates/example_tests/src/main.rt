@@ -3,6 +3,7 @@
 #![tactic(auto)]
 
 use bench_core::Limits;
+use explore_core::Reading;
 use explore_report::report_orders;
 use script_core::{FakeReader, FakeWriter, parse_script, play};
 use std::process::ExitCode;
@@ -46,7 +47,7 @@ fn is_as_explored(rt: &HostRuntime, example: &str) -> io::Result<bool> {
     let Ok(script) = parse_script(&alloc, &script) else {
         return Ok(false);
     };
-    match report_orders(&alloc, &script, Limits::usual(), 100_000) {
+    match report_orders(&alloc, &script, Limits::usual(), Reading::EveryOrder, 100_000) {
         Ok(text) => Ok(text.as_slice() == report.as_slice()),
         Err(_) => Ok(false),
     }

@@ -5,11 +5,11 @@ use Rattle.std.proofs.lemmas.List.{take_more, take_all, map-append, length-map}
 use Rattle.std.proofs.lemmas.Option.{slice_get_within, slice_get_read, get_or_from_slice_get}
 use Rattle.bench_core.specs.declared.reply.Reply.{Reply}
 use Rattle.bench_core.specs.declared.act.Act.{Act}
-use Rattle.bench_core.specs.Acts.{Action, plain_act}
+use Rattle.bench_core.specs.Acts.{calls_of, plain_act}
 use Rattle.bench_core.specs.Machine.{config_of, reply_to, cluster_of}
-use Rattle.explore_core.specs.Orders.{Lists, plain_lists, asked_of, next_line, end_of, total}
+use Rattle.explore_core.specs.Orders.{Lists, Call, plain_each, asked_of, next_call, total}
 use Rattle.explore_core.specs.Explorations.{Told, Outcome}
-use Rattle.explore_core.specs.Waypoints.{Waypoint, after_line, IsAsGood, IsKept, IsKeptAt, IsOther, IsTold, AddsKept, TellsReply, Advances, AddsOutcome, Gathers}
+use Rattle.explore_core.specs.Waypoints.{Waypoint, after_call, IsAsGood, IsKept, IsKeptAt, IsOther, IsTold, AddsKept, TellsReply, Advances, AddsOutcome, Gathers}
 use Rattle.explore_core.specs.Waypoints.{AreWaypoints, AreMoreDeeper, DeepensFirst}
 use Rattle.explore_core.proofs.Walk.{any_get, all_push, gathers_none, gathers_same, gathers_new}
 
@@ -50,19 +50,28 @@ pub others_all : (w : Waypoint) (os : List Outcome) (i : ℕ) → length os ≤ 
     AllByRecursion (λ o. cluster_of w.machine ≢ cluster_of o.machine) os
 others_all w os i few so_far = subst (AllByRecursion (λ o. cluster_of w.machine ≢ cluster_of o.machine)) (take_all i os few) so_far
 
--- the lines of one list more
-pub total_push : (lists : Lists) (l : List Action) → total (end_of (lists ++ l ∷ [])) ≡ total (end_of lists) + length l
-total_push [] l = omega arith
-total_push (k ∷ lists) l = let h = total_push lists l in omega (arith, h)
+-- one number more
+total_last : (position : List ℕ) (n : ℕ) → total (position ++ n ∷ []) ≡ total position + n
+total_last [] n = omega arith
+total_last (m ∷ position) n = let h = total_last position n in omega (arith, h)
 
-pub lines_more : {X Y : Type 0} (lists : List (Vec (Act X) Y)) (i : ℕ) (v : Vec (Act X) Y) → i < length lists → v ≡ get_or lists i v →
-    total (end_of (plain_lists (take (i + 1) lists))) ≡ total (end_of (plain_lists (take i lists))) + length v.items
-lines_more lists i v low at =
-    ap (λ (l : List (Vec (Act _) _)). total (end_of (plain_lists l)))
-    (take_more lists i v low ∙ ap (λ (w : Vec (Act _) _). take i lists ++ w ∷ []) (sym at))
-    ∙ ap (λ (l : Lists). total (end_of l)) (map-append (λ lines. map (λ act. plain_act act) lines.items) (take i lists) (v ∷ []))
-    ∙ total_push (plain_lists (take i lists)) (map (λ act. plain_act act) v.items)
-    ∙ ap (λ (n : ℕ). total (end_of (plain_lists (take i lists))) + n) (length-map v.items (λ act. plain_act act))
+pub total_more : (position : List ℕ) (i : ℕ) → i < length position →
+    total (take (i + 1) position) ≡ total (take i position) + get_or position i 0
+total_more position i low = ap total (take_more position i 0 low) ∙ total_last (take i position) (get_or position i 0)
+
+-- the calls of one list more
+total_push : (each : List (List Call)) (l : List Call) → total (map length (each ++ l ∷ [])) ≡ total (map length each) + length l
+total_push [] l = omega arith
+total_push (k ∷ each) l = let h = total_push each l in omega (arith, h)
+
+pub calls_more : {X Y : Type 0} (lists : List (Vec (ℕ × Act X) Y)) (i : ℕ) (v : Vec (ℕ × Act X) Y) → i < length lists → v ≡ get_or lists i v →
+    total (map length (plain_each (take (i + 1) lists))) ≡ total (map length (plain_each (take i lists))) + length v.items
+calls_more lists i v low at =
+    ap (λ (l : List (Vec (ℕ × Act _) _)). total (map length (plain_each l)))
+    (take_more lists i v low ∙ ap (λ (w : Vec (ℕ × Act _) _). take i lists ++ w ∷ []) (sym at))
+    ∙ ap (λ (each : List (List Call)). total (map length each)) (map-append (λ calls. calls_of calls.items) (take i lists) (v ∷ []))
+    ∙ total_push (plain_each (take i lists)) (calls_of v.items)
+    ∙ ap (λ (n : ℕ). total (map length (plain_each (take i lists))) + n) (length-map v.items (λ call. (call.0, plain_act call.1)))
 
 -- lists that agree so far agree at one place more
 pub same_more : {X : Type 0} (xs ys : List X) (i : ℕ) (x y : X) → slice_get xs i ≡ Some x → slice_get ys i ≡ Some y → x ≡ y →
@@ -74,30 +83,30 @@ same_more xs ys i x y at there same so_far =
     ∙ ap (λ (l : List _). l ++ x ∷ []) so_far ∙ ap (λ (z : _). take i ys ++ z ∷ []) same
     ∙ sym (take_more ys i y also ∙ ap (λ (z : _). take i ys ++ z ∷ []) (get_or_from_slice_get ys i y y there))
 
--- one line of one actor
+-- one call of one list
 
-pub advances_none : (lists : Lists) (b : Bool) (w : Waypoint) (actor : ℕ) (kept : List Waypoint) (told : List Told) →
-    next_line lists w.position actor ≡ None → Advances lists b w actor kept told kept told
-advances_none lists b w actor kept told none =
+pub advances_none : (lists : Lists) (b : Bool) (w : Waypoint) (list : ℕ) (kept : List Waypoint) (told : List Told) →
+    next_call lists w.position list ≡ None → Advances lists b w list kept told kept told
+advances_none lists b w list kept told none =
     subst
-    (λ (o : Option Action). MatchOption o ((kept ≡ kept) × (told ≡ told))
-    (λ act. AddsKept b kept (after_line w actor act) kept ×
-    TellsReply told actor (asked_of w.position actor) w.order (reply_to (config_of w.machine) w.machine.state actor act) told)) (sym none)
+    (λ (o : Option Call). MatchOption o ((kept ≡ kept) × (told ≡ told))
+    (λ ask. AddsKept b kept (after_call w list ask) kept ×
+    TellsReply told list (asked_of w.position list) w.order (reply_to (config_of w.machine) w.machine.state ask.0 ask.1) told)) (sym none)
     (refl, refl)
 
-pub advances_some : (lists : Lists) (b : Bool) (w : Waypoint) (actor : ℕ) (kept : List Waypoint) (told : List Told) (act : Action)
-    (later : Waypoint) (reply : Reply) (line : ℕ) (more_kept : List Waypoint) (more_told : List Told) →
-    next_line lists w.position actor ≡ Some act → line ≡ asked_of w.position actor → later ≡ after_line w actor act →
-    reply ≡ reply_to (config_of w.machine) w.machine.state actor act → AddsKept b kept later more_kept →
-    TellsReply told actor line w.order reply more_told → Advances lists b w actor kept told more_kept more_told
-advances_some lists b w actor kept told act later reply line more_kept more_told next at leads is adds tells =
+pub advances_some : (lists : Lists) (b : Bool) (w : Waypoint) (list : ℕ) (kept : List Waypoint) (told : List Told) (ask : Call)
+    (later : Waypoint) (reply : Reply) (place : ℕ) (more_kept : List Waypoint) (more_told : List Told) →
+    next_call lists w.position list ≡ Some ask → place ≡ asked_of w.position list → later ≡ after_call w list ask →
+    reply ≡ reply_to (config_of w.machine) w.machine.state ask.0 ask.1 → AddsKept b kept later more_kept →
+    TellsReply told list place w.order reply more_told → Advances lists b w list kept told more_kept more_told
+advances_some lists b w list kept told ask later reply place more_kept more_told next at leads is adds tells =
     subst
-    (λ (o : Option Action). MatchOption o ((more_kept ≡ kept) × (more_told ≡ told))
-    (λ act. AddsKept b kept (after_line w actor act) more_kept ×
-    TellsReply told actor (asked_of w.position actor) w.order (reply_to (config_of w.machine) w.machine.state actor act) more_told)) (sym next) (
+    (λ (o : Option Call). MatchOption o ((more_kept ≡ kept) × (more_told ≡ told))
+    (λ ask. AddsKept b kept (after_call w list ask) more_kept ×
+    TellsReply told list (asked_of w.position list) w.order (reply_to (config_of w.machine) w.machine.state ask.0 ask.1) more_told)) (sym next) (
       subst (λ (v : Waypoint). AddsKept b kept v more_kept) leads adds,
-      subst (λ (n : ℕ). TellsReply told actor n w.order (reply_to (config_of w.machine) w.machine.state actor act) more_told) at
-          (subst (λ (r : Reply). TellsReply told actor line w.order r more_told) is tells),
+      subst (λ (n : ℕ). TellsReply told list n w.order (reply_to (config_of w.machine) w.machine.state ask.0 ask.1) more_told) at
+          (subst (λ (r : Reply). TellsReply told list place w.order r more_told) is tells),
     )
 
 -- the outcomes of one waypoint more
@@ -119,9 +128,9 @@ gathers_more ws os more i w low at g adds =
 pub gathers_all : (ws : List Waypoint) (os : List Outcome) (i : ℕ) → length ws ≤ i → Gathers (take i ws) os → Gathers ws os
 gathers_all ws os i few g = subst (λ (vs : List Waypoint). Gathers vs os) (take_all i ws few) g
 
-pub lists_many : {X Y : Type 0} (lists : List (Vec (Act X) Y)) → length (plain_lists lists) ≤ length lists
+pub lists_many : {X Y : Type 0} (lists : List (Vec (ℕ × Act X) Y)) → length (plain_each lists) ≤ length lists
 lists_many lists =
-    let h = length-map lists (λ lines. map (λ act. plain_act act) lines.items) in
+    let h = length-map lists (λ calls. calls_of calls.items) in
     omega (arith, h)
 
 -- of one call more there are too many

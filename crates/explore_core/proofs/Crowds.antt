@@ -19,8 +19,8 @@ module _ (lists : Lists) (opening : Machine) where
   not_as_good : (b : Bool) (w v : Waypoint) (n count : ℕ) → n < count → IsWaypoint lists opening n w → IsWaypoint lists opening count v →
       IsAsGood b v w → ⊥
   not_as_good b w v n count fewer one two good =
-      let first = from_start_sum lists one.calls w.position one.leads in
-      let second = from_start_sum lists two.calls v.position two.leads in
+      let first = from_start_sum lists one.picks w.position one.leads in
+      let second = from_start_sum lists two.picks v.position two.leads in
       let same : total w.position ≡ total v.position = ap total good.position in
       let counted = one.counted in
       let also = two.counted in
@@ -82,7 +82,7 @@ module _ (lists : Lists) (opening : Machine) where
     waypoints = opening_waypoint lists opening ∷ [];
     all = refl;
     more = omega arith;
-    reached = ((0, record { calls = []; actors = refl; counted = refl; leads = refl; machine = refl }), tt);
+    reached = ((0, record { picks = []; from = refl; counted = refl; leads = refl; machine = refl }), tt);
     apart = (tt, tt);
   }
 

@@ -1,9 +1,8 @@
--- The orders that are counted are the orders of the lines, each once.
+-- The orders that are counted are the orders of the calls, each once.
 use Rattle.std.proofs.Common.{◌≡◌, ◌≢◌, ◌⊎◌, inl, inr, ℕ, zero, suc, ◌<◌, List, [], ◌∷◌, ◌++◌, length, map, Option, Some, None, refl, sym, ap, ◌∙◌, subst, arith}
 use Rattle.std.proofs.lemmas.Bool.{cases_eq}
 use Rattle.std.specs.List.{AllByRecursion}
-use Rattle.bench_core.specs.Acts.{Action}
-use Rattle.explore_core.specs.Orders.{Lists, Call, Position, start_of, end_of, next_line, one_more, total, Leads, IsOrder, joined_below, begun_with, orders_from, orders_of}
+use Rattle.explore_core.specs.Orders.{Lists, Call, Pick, Position, start_of, end_of, next_call, one_more, total, Leads, IsOrder, joined_below, begun_with, orders_from, orders_of}
 use Rattle.explore_core.specs.Explorations.{IsAny}
 use Rattle.explore_core.specs.Counts.{AreDifferent, OrdersLaw}
 use Rattle.explore_core.proofs.Orders.{next_known, from_start_sum, from_start_end}
@@ -44,13 +43,13 @@ any_in_map P f [] any = any
 any_in_map P f (x ∷ xs) (inl here) = inl here
 any_in_map P f (x ∷ xs) (inr there) = inr (any_in_map P f xs there)
 
--- calls that go on from a call
+-- picks that go on from one
 
-rest_of : List Call → List Call
+rest_of : List Pick → List Pick
 rest_of [] = []
 rest_of (a ∷ rest) = rest
 
-different_begun : (a : Call) (rests : List (List Call)) → AreDifferent rests → AreDifferent (map (λ rest. a ∷ rest) rests)
+different_begun : (a : Pick) (rests : List (List Pick)) → AreDifferent rests → AreDifferent (map (λ rest. a ∷ rest) rests)
 different_begun a [] once = tt
 different_begun a (rest ∷ rests) once = (
   all_in_map (λ y. (a ∷ rest) ≢ y) (λ rest. a ∷ rest) rests
@@ -58,30 +57,30 @@ different_begun a (rest ∷ rests) once = (
   different_begun a rests once.1,
 )
 
-abbrev Begins : ℕ → List Call → Type 0
+abbrev Begins : ℕ → List Pick → Type 0
 Begins k [] = ⊥
 Begins k (a ∷ rest) = a.0 ≡ k
 
-begun_begins : (actor : ℕ) (next : Option Action) (rests : List (List Call)) → AllByRecursion (Begins actor) (begun_with actor next rests)
-begun_begins actor None rests = tt
-begun_begins actor (Some act) rests = go rests
+begun_begins : (list : ℕ) (next : Option Call) (rests : List (List Pick)) → AllByRecursion (Begins list) (begun_with list next rests)
+begun_begins list None rests = tt
+begun_begins list (Some ask) rests = go rests
   where
-    go : (rests : List (List Call)) → AllByRecursion (Begins actor) (map (λ rest. (actor, act) ∷ rest) rests)
+    go : (rests : List (List Pick)) → AllByRecursion (Begins list) (map (λ rest. (list, ask) ∷ rest) rests)
     go [] = tt
     go (rest ∷ rests) = (refl, go rests)
 
-begin_apart : (k n : ℕ) (one other : List Call) → k < n → Begins k one → Begins n other → one ≢ other
+begin_apart : (k n : ℕ) (one other : List Pick) → k < n → Begins k one → Begins n other → one ≢ other
 begin_apart k n [] other low first second same = absurd first
 begin_apart k n (a ∷ rest) [] low first second same = absurd second
 begin_apart k n (a ∷ rest) (b ∷ more) low first second same =
-    let actor : a.0 ≡ b.0 = ap (first_of_calls a.0) same in
-    absurd (omega (arith, actor, first, second, low))
+    let list : a.0 ≡ b.0 = ap (first_list a.0) same in
+    absurd (omega (arith, list, first, second, low))
   where
-    first_of_calls : ℕ → List Call → ℕ
-    first_of_calls n [] = n
-    first_of_calls n (a ∷ rest) = a.0
+    first_list : ℕ → List Pick → ℕ
+    first_list n [] = n
+    first_list n (a ∷ rest) = a.0
 
-different_joined : (f : ℕ → List (List Call)) (n : ℕ) → ((k : ℕ) → AreDifferent (f k)) → ((k : ℕ) → AllByRecursion (Begins k) (f k)) →
+different_joined : (f : ℕ → List (List Pick)) (n : ℕ) → ((k : ℕ) → AreDifferent (f k)) → ((k : ℕ) → AllByRecursion (Begins k) (f k)) →
     AreDifferent (joined_below f n)
 different_joined f zero once begins = tt
 different_joined f (suc n) once begins =
@@ -92,58 +91,58 @@ different_joined f (suc n) once begins =
     (λ x first. all_map (Begins n) (λ y. x ≢ y) (f n) (λ y second. begin_apart k n x y low first second) (begins n)) (begins k)))
 
 module _ (lists : Lists) where
-  abbrev OfLines : ℕ → Position → List Call → Type 0
+  abbrev OfLines : ℕ → Position → List Pick → Type 0
   OfLines n position rest = (length rest ≡ n) × (to : Position) × Leads lists position rest to
 
-  begun_lines : (n actor : ℕ) (position : Position) (next : Option Action) (rests : List (List Call)) → next_line lists position actor ≡ next →
-      AllByRecursion (OfLines n (one_more position actor)) rests → AllByRecursion (OfLines (suc n) position) (begun_with actor next rests)
-  begun_lines n actor position None rests is all = tt
-  begun_lines n actor position (Some act) rests is all =
-      all_in_map (OfLines (suc n) position) (λ rest. (actor, act) ∷ rest) rests
-      (all_map (OfLines n (one_more position actor)) (λ rest. OfLines (suc n) position ((actor, act) ∷ rest)) rests
+  begun_lines : (n list : ℕ) (position : Position) (next : Option Call) (rests : List (List Pick)) → next_call lists position list ≡ next →
+      AllByRecursion (OfLines n (one_more position list)) rests → AllByRecursion (OfLines (suc n) position) (begun_with list next rests)
+  begun_lines n list position None rests is all = tt
+  begun_lines n list position (Some ask) rests is all =
+      all_in_map (OfLines (suc n) position) (λ rest. (list, ask) ∷ rest) rests
+      (all_map (OfLines n (one_more position list)) (λ rest. OfLines (suc n) position ((list, ask) ∷ rest)) rests
       (λ rest of. (ap suc of.0, of.1, (is, of.2))) all)
 
   lines_from : (n : ℕ) (position : Position) → AllByRecursion (OfLines n position) (orders_from lists n position)
   lines_from zero position = ((refl, position, refl), tt)
   lines_from (suc n) position =
       all_joined (OfLines (suc n) position)
-      (λ actor. begun_with actor (next_line lists position actor) (orders_from lists n (one_more position actor))) (length lists)
-      (λ actor low.
-      begun_lines n actor position (next_line lists position actor) (orders_from lists n (one_more position actor)) refl
-      (lines_from n (one_more position actor)))
+      (λ list. begun_with list (next_call lists position list) (orders_from lists n (one_more position list))) (length lists.each)
+      (λ list low.
+      begun_lines n list position (next_call lists position list) (orders_from lists n (one_more position list)) refl
+      (lines_from n (one_more position list)))
 
-  begun_any : (position : Position) (a : Call) (rest : List Call) (next : Option Action) (rests : List (List Call)) → next ≡ Some a.1 →
+  begun_any : (position : Position) (a : Pick) (rest : List Pick) (next : Option Call) (rests : List (List Pick)) → next ≡ Some a.1 →
       IsAny (λ o. o ≡ rest) rests → IsAny (λ o. o ≡ a ∷ rest) (begun_with a.0 next rests)
   begun_any position a rest None rests is any = absurd (cc)
-  begun_any position a rest (Some act) rests is any =
-      let same : act ≡ a.1 = cc in
-      any_in_map (λ o. o ≡ a ∷ rest) (λ rest. (a.0, act) ∷ rest) rests
-      (any_map (λ o. o ≡ rest) (λ o. ((a.0, act) ∷ o) ≡ a ∷ rest) rests
-      (λ o is. ap (λ (x : Action). (a.0, x) ∷ o) same ∙ ap (λ (l : List Call). a ∷ l) is) any)
+  begun_any position a rest (Some ask) rests is any =
+      let same : ask ≡ a.1 = cc in
+      any_in_map (λ o. o ≡ a ∷ rest) (λ rest. (a.0, ask) ∷ rest) rests
+      (any_map (λ o. o ≡ rest) (λ o. ((a.0, ask) ∷ o) ≡ a ∷ rest) rests
+      (λ o is. ap (λ (x : Call). (a.0, x) ∷ o) same ∙ ap (λ (l : List Pick). a ∷ l) is) any)
 
-  each_from : (n : ℕ) (position to : Position) (rest : List Call) → length rest ≡ n → Leads lists position rest to →
+  each_from : (n : ℕ) (position to : Position) (rest : List Pick) → length rest ≡ n → Leads lists position rest to →
       IsAny (λ o. o ≡ rest) (orders_from lists n position)
   each_from zero position to [] size leads = inl refl
   each_from zero position to (a ∷ rest) size leads = absurd (omega arith)
   each_from (suc n) position to [] size leads = absurd (omega arith)
   each_from (suc n) position to (a ∷ rest) size leads =
       any_joined (λ o. o ≡ a ∷ rest)
-      (λ actor. begun_with actor (next_line lists position actor) (orders_from lists n (one_more position actor))) (length lists) a.0
+      (λ list. begun_with list (next_call lists position list) (orders_from lists n (one_more position list))) (length lists.each) a.0
       (next_known lists position a.0 a.1 leads.0)
-      (begun_any position a rest (next_line lists position a.0) (orders_from lists n (one_more position a.0)) leads.0
+      (begun_any position a rest (next_call lists position a.0) (orders_from lists n (one_more position a.0)) leads.0
       (each_from n (one_more position a.0) to rest (omega arith) leads.1))
 
-  begun_once : (actor : ℕ) (next : Option Action) (rests : List (List Call)) → AreDifferent rests → AreDifferent (begun_with actor next rests)
-  begun_once actor None rests once = tt
-  begun_once actor (Some act) rests once = different_begun (actor, act) rests once
+  begun_once : (list : ℕ) (next : Option Call) (rests : List (List Pick)) → AreDifferent rests → AreDifferent (begun_with list next rests)
+  begun_once list None rests once = tt
+  begun_once list (Some ask) rests once = different_begun (list, ask) rests once
 
   once_from : (n : ℕ) (position : Position) → AreDifferent (orders_from lists n position)
   once_from zero position = (tt, tt)
   once_from (suc n) position =
-      different_joined (λ actor. begun_with actor (next_line lists position actor) (orders_from lists n (one_more position actor)))
-      (length lists)
-      (λ actor. begun_once actor (next_line lists position actor) (orders_from lists n (one_more position actor)) (once_from n (one_more position actor)))
-      (λ actor. begun_begins actor (next_line lists position actor) (orders_from lists n (one_more position actor)))
+      different_joined (λ list. begun_with list (next_call lists position list) (orders_from lists n (one_more position list)))
+      (length lists.each)
+      (λ list. begun_once list (next_call lists position list) (orders_from lists n (one_more position list)) (once_from n (one_more position list)))
+      (λ list. begun_begins list (next_call lists position list) (orders_from lists n (one_more position list)))
 
 pub orders_hold : OrdersLaw
 orders_hold lists = record {

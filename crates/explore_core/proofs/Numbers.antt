@@ -2,8 +2,7 @@
 use Rattle.std.proofs.Common.{◌≡◌, ℕ, zero, suc, ◌+◌, ◌*◌, ◌<◌, ◌≤◌, take, get_or, slice_get, slice_set, slice_index_or, add_assoc, List, [], ◌∷◌, ◌++◌, Bool, true, false, cond, length, map, Option, Some, None, sum_by, count_by, refl, sym, ap, ◌∙◌, subst, arith, inl, inr}
 use Rattle.std.proofs.lemmas.List.{take_all}
 use Rattle.std.proofs.lemmas.List.Sums.{sum_by-append, sum_by-cons}
-use Rattle.bench_core.specs.Acts.{Action}
-use Rattle.explore_core.specs.Orders.{joined_below}
+use Rattle.explore_core.specs.Orders.{Call, joined_below}
 use Rattle.explore_core.specs.Counts.{told_number, HowMany}
 use Rattle.explore_core.specs.Ways.{sum_below, next_value, weighed}
 
@@ -21,9 +20,9 @@ pub sum_below_same : (f g : ℕ → ℕ) (n : ℕ) → ((k : ℕ) → f k ≡ g 
 sum_below_same f g zero same = refl
 sum_below_same f g (suc n) same = ap (λ (m : ℕ). m + f n) (sum_below_same f g n same) ∙ ap (λ (m : ℕ). sum_below g n + m) (same n)
 
-pub next_same : (o : Option Action) (f g : Action → ℕ) → ((act : Action) → o ≡ Some act → f act ≡ g act) → next_value o f ≡ next_value o g
+pub next_same : (o : Option Call) (f g : Call → ℕ) → ((ask : Call) → o ≡ Some ask → f ask ≡ g ask) → next_value o f ≡ next_value o g
 next_same None f g same = refl
-next_same (Some act) f g same = same act refl
+next_same (Some ask) f g same = same ask refl
 
 -- a list and its numbers
 

@@ -6,13 +6,13 @@ use Rattle.std.proofs.lemmas.List.Sums.{sum_by-cons}
 use Rattle.std.specs.List.{AllByRecursion}
 use Rattle.bench_core.specs.declared.fault.Fault.{Fault}
 use Rattle.bench_core.specs.declared.act.Act.{Act}
-use Rattle.bench_core.specs.Acts.{Action, plain_act}
+use Rattle.bench_core.specs.Acts.{calls_of}
 use Rattle.bench_core.specs.Clusters.{Cluster}
 use Rattle.bench_core.specs.Machine.{Config, Machine, config_of, now, cluster_of, call}
-use Rattle.explore_core.specs.Orders.{Lists, Call, Position, plain_lists, end_of, next_line, one_more, total, begun_with, orders_from, orders_of}
+use Rattle.explore_core.specs.Orders.{Lists, Call, Pick, Position, plain_each, end_of, next_call, one_more, total, begun_with, orders_from, orders_of}
 use Rattle.explore_core.specs.Alike.{are_steps, AreAlike}
-use Rattle.explore_core.specs.Explorations.{after_calls, Outcome}
-use Rattle.explore_core.specs.Waypoints.{Waypoint, after_line, opening_waypoint, IsAsGood, IsKeptAt}
+use Rattle.explore_core.specs.Explorations.{after_picks, Outcome}
+use Rattle.explore_core.specs.Waypoints.{Waypoint, after_call, opening_waypoint, IsAsGood, IsKeptAt}
 use Rattle.explore_core.specs.Counts.{told_number, IsCounted}
 use Rattle.explore_core.specs.Ways.{next_value, weighed, IsFair, ComeTo, AddsOrders, values_below, next_values, DeepensOrders, ways}
 use Rattle.explore_core.specs.Ways.{IsCountedAt, Tests, HasNumber}
@@ -87,28 +87,28 @@ adds_new b kept more_kept w n number counts more_counts pushed beside is ns told
       λ f fair. ap (λ (ws : List Waypoint). weighed f ws (ns ++ n ∷ [])) pushed ∙ weighed_push f kept ns w n told.each;
 }
 
--- the next lines at a waypoint
+-- the next calls at a waypoint
 
-pub adds_no_line : (lists : Lists) (b : Bool) (w : Waypoint) (actor n : ℕ) (kept : List Waypoint) (counts : List (Option ℕ)) →
-    next_line lists w.position actor ≡ None →
-    AddsOrders b kept counts kept counts (λ f. n * next_value (next_line lists w.position actor) (λ act. f (after_line w actor act)))
-adds_no_line lists b w actor n kept counts none =
-    adds_none b kept counts (λ f. n * next_value (next_line lists w.position actor) (λ act. f (after_line w actor act)))
+pub adds_no_line : (lists : Lists) (b : Bool) (w : Waypoint) (list n : ℕ) (kept : List Waypoint) (counts : List (Option ℕ)) →
+    next_call lists w.position list ≡ None →
+    AddsOrders b kept counts kept counts (λ f. n * next_value (next_call lists w.position list) (λ ask. f (after_call w list ask)))
+adds_no_line lists b w list n kept counts none =
+    adds_none b kept counts (λ f. n * next_value (next_call lists w.position list) (λ ask. f (after_call w list ask)))
     (λ f.
-    ap (λ (o : Option Action). n * next_value o (λ act. f (after_line w actor act))) none ∙ nothing n)
+    ap (λ (o : Option Call). n * next_value o (λ ask. f (after_call w list ask))) none ∙ nothing n)
   where
     nothing : (n : ℕ) → n * 0 ≡ 0
     nothing n = omega arith
 
-pub adds_line : (lists : Lists) (b : Bool) (w : Waypoint) (actor n : ℕ) (act : Action) (later : Waypoint) (kept : List Waypoint)
-    (counts : List (Option ℕ)) (more_kept : List Waypoint) (more_counts : List (Option ℕ)) → next_line lists w.position actor ≡ Some act →
-    later ≡ after_line w actor act → AddsOrders b kept counts more_kept more_counts (λ f. n * f later) →
-    AddsOrders b kept counts more_kept more_counts (λ f. n * next_value (next_line lists w.position actor) (λ act. f (after_line w actor act)))
-adds_line lists b w actor n act later kept counts more_kept more_counts next is adds =
+pub adds_line : (lists : Lists) (b : Bool) (w : Waypoint) (list n : ℕ) (ask : Call) (later : Waypoint) (kept : List Waypoint)
+    (counts : List (Option ℕ)) (more_kept : List Waypoint) (more_counts : List (Option ℕ)) → next_call lists w.position list ≡ Some ask →
+    later ≡ after_call w list ask → AddsOrders b kept counts more_kept more_counts (λ f. n * f later) →
+    AddsOrders b kept counts more_kept more_counts (λ f. n * next_value (next_call lists w.position list) (λ ask. f (after_call w list ask)))
+adds_line lists b w list n ask later kept counts more_kept more_counts next is adds =
     adds_same b kept counts more_kept more_counts (λ f. n * f later)
-    (λ f. n * next_value (next_line lists w.position actor) (λ act. f (after_line w actor act)))
+    (λ f. n * next_value (next_call lists w.position list) (λ ask. f (after_call w list ask)))
     (λ f.
-    ap (λ (v : Waypoint). n * f v) is ∙ ap (λ (o : Option Action). n * next_value o (λ act. f (after_line w actor act))) (sym next)) adds
+    ap (λ (v : Waypoint). n * f v) is ∙ ap (λ (o : Option Call). n * next_value o (λ ask. f (after_call w list ask))) (sym next)) adds
 
 pub no_orders_below : (lists : Lists) (b : Bool) (w : Waypoint) (n : ℕ) (kept : List Waypoint) (counts : List (Option ℕ)) →
     AddsOrders b kept counts kept counts (λ f. n * values_below lists f w 0)
@@ -117,21 +117,21 @@ no_orders_below lists b w n kept counts = adds_none b kept counts (λ f. n * val
     nothing : (n : ℕ) → n * 0 ≡ 0
     nothing n = omega arith
 
-pub orders_below : (lists : Lists) (b : Bool) (w : Waypoint) (actor n : ℕ) (kept : List Waypoint) (counts : List (Option ℕ))
+pub orders_below : (lists : Lists) (b : Bool) (w : Waypoint) (list n : ℕ) (kept : List Waypoint) (counts : List (Option ℕ))
     (mid_kept : List Waypoint) (mid_counts : List (Option ℕ)) (more_kept : List Waypoint) (more_counts : List (Option ℕ)) →
-    AddsOrders b kept counts mid_kept mid_counts (λ f. n * values_below lists f w actor) →
+    AddsOrders b kept counts mid_kept mid_counts (λ f. n * values_below lists f w list) →
     AddsOrders b mid_kept mid_counts more_kept more_counts
-    (λ f. n * next_value (next_line lists w.position actor) (λ act. f (after_line w actor act))) →
-    AddsOrders b kept counts more_kept more_counts (λ f. n * values_below lists f w (actor + 1))
-orders_below lists b w actor n kept counts mid_kept mid_counts more_kept more_counts one two =
+    (λ f. n * next_value (next_call lists w.position list) (λ ask. f (after_call w list ask))) →
+    AddsOrders b kept counts more_kept more_counts (λ f. n * values_below lists f w (list + 1))
+orders_below lists b w list n kept counts mid_kept mid_counts more_kept more_counts one two =
     adds_same b kept counts more_kept more_counts
-    (λ f. n * values_below lists f w actor + n * next_value (next_line lists w.position actor) (λ act. f (after_line w actor act)))
-    (λ f. n * values_below lists f w (actor + 1))
+    (λ f. n * values_below lists f w list + n * next_value (next_call lists w.position list) (λ ask. f (after_call w list ask)))
+    (λ f. n * values_below lists f w (list + 1))
     (λ f.
-    both n (values_below lists f w actor) (next_value (next_line lists w.position actor) (λ act. f (after_line w actor act)))
-    ∙ ap (λ (k : ℕ). n * values_below lists f w k) (next actor))
-    (adds_then b kept counts mid_kept mid_counts more_kept more_counts (λ f. n * values_below lists f w actor)
-    (λ f. n * next_value (next_line lists w.position actor) (λ act. f (after_line w actor act))) one two)
+    both n (values_below lists f w list) (next_value (next_call lists w.position list) (λ ask. f (after_call w list ask)))
+    ∙ ap (λ (k : ℕ). n * values_below lists f w k) (next list))
+    (adds_then b kept counts mid_kept mid_counts more_kept more_counts (λ f. n * values_below lists f w list)
+    (λ f. n * next_value (next_call lists w.position list) (λ ask. f (after_call w list ask))) one two)
   where
     both : (n x y : ℕ) → n * x + n * y ≡ n * (x + y)
     both n x y = omega arith
@@ -153,13 +153,13 @@ no_orders_deeper lists b ws ns kept counts none nothing = record {
       omega (arith, at_first, empty);
 }
 
-pub orders_deeper : (lists : Lists) (b : Bool) (ws : List Waypoint) (ns : List ℕ) (i : ℕ) (w : Waypoint) (actors : ℕ) (kept : List Waypoint)
+pub orders_deeper : (lists : Lists) (b : Bool) (ws : List Waypoint) (ns : List ℕ) (i : ℕ) (w : Waypoint) (below : ℕ) (kept : List Waypoint)
     (counts : List (Option ℕ)) (more_kept : List Waypoint) (more_counts : List (Option ℕ)) → i < length ws → w ≡ get_or ws i w →
-    length ns ≡ length ws → actors ≡ length lists →
+    length ns ≡ length ws → below ≡ length lists.each →
     ComeTo b (λ f. 0) kept counts (λ f. weighed (next_values lists f) (take i ws) (take i ns)) →
-    AddsOrders b kept counts more_kept more_counts (λ f. slice_index_or ns i 0 * values_below lists f w actors) →
+    AddsOrders b kept counts more_kept more_counts (λ f. slice_index_or ns i 0 * values_below lists f w below) →
     ComeTo b (λ f. 0) more_kept more_counts (λ f. weighed (next_values lists f) (take (i + 1) ws) (take (i + 1) ns))
-orders_deeper lists b ws ns i w actors kept counts more_kept more_counts low at each all here adds =
+orders_deeper lists b ws ns i w below kept counts more_kept more_counts low at each all here adds =
     let to = adds here.numbers here.told in
     record {
       numbers = to.numbers;
@@ -188,28 +188,28 @@ all_orders_deeper lists b ws before ns i kept counts same few each here = record
       ∙ ap (λ (l : List Waypoint). weighed (next_values lists f) l ns) same);
 }
 
-pub lines_many : {X Y : Type 0} (lists : List (Vec (Act X) Y)) → length lists ≡ length (plain_lists lists)
-lines_many lists = sym (length-map lists (λ lines. map (λ act. plain_act act) lines.items))
+pub lists_mapped : {X Y : Type 0} (lists : List (Vec (ℕ × Act X) Y)) → length lists ≡ length (plain_each lists)
+lists_mapped lists = sym (length-map lists (λ calls. calls_of calls.items))
 
 -- as many orders pass from waypoints that are as good
 
 module _ (lists : Lists) (p : Result Cluster Fault → Bool) where
-  abbrev passes : Waypoint → List Call → ℕ
-  passes w rest = cond (p (cluster_of (after_calls w.machine rest))) 1 0
+  abbrev passes : Waypoint → List Pick → ℕ
+  passes w rest = cond (p (cluster_of (after_picks w.machine rest))) 1 0
 
-  begun_ways : (w : Waypoint) (actor : ℕ) (next : Option Action) (rests : List (List Call)) →
-      sum_by (passes w) (begun_with actor next rests) ≡ next_value next (λ act. sum_by (passes (after_line w actor act)) rests)
-  begun_ways w actor None rests = refl
-  begun_ways w actor (Some act) rests = sum_map (passes w) (λ rest. (actor, act) ∷ rest) rests
+  begun_ways : (w : Waypoint) (list : ℕ) (next : Option Call) (rests : List (List Pick)) →
+      sum_by (passes w) (begun_with list next rests) ≡ next_value next (λ ask. sum_by (passes (after_call w list ask)) rests)
+  begun_ways w list None rests = refl
+  begun_ways w list (Some ask) rests = sum_map (passes w) (λ rest. (list, ask) ∷ rest) rests
 
   pub ways_more : (left : ℕ) (w : Waypoint) → ways lists p (suc left) w ≡ next_values lists (ways lists p left) w
   ways_more left w =
-      sum_joined (passes w) (λ actor. begun_with actor (next_line lists w.position actor) (orders_from lists left (one_more w.position actor)))
-      (length lists)
+      sum_joined (passes w) (λ list. begun_with list (next_call lists w.position list) (orders_from lists left (one_more w.position list)))
+      (length lists.each)
       ∙ sum_below_same
-      (λ actor. sum_by (passes w) (begun_with actor (next_line lists w.position actor) (orders_from lists left (one_more w.position actor))))
-      (λ actor. next_value (next_line lists w.position actor) (λ act. ways lists p left (after_line w actor act))) (length lists)
-      (λ actor. begun_ways w actor (next_line lists w.position actor) (orders_from lists left (one_more w.position actor)))
+      (λ list. sum_by (passes w) (begun_with list (next_call lists w.position list) (orders_from lists left (one_more w.position list))))
+      (λ list. next_value (next_call lists w.position list) (λ ask. ways lists p left (after_call w list ask))) (length lists.each)
+      (λ list. begun_ways w list (next_call lists w.position list) (orders_from lists left (one_more w.position list)))
 
   pub ways_none : (w : Waypoint) → ways lists p 0 w ≡ cond (p (cluster_of w.machine)) 1 0
   ways_none w = sum_none (cond (p (cluster_of w.machine)) 1 0)
@@ -217,20 +217,20 @@ module _ (lists : Lists) (p : Result Cluster Fault → Bool) where
       sum_none : (k : ℕ) → 0 + k ≡ k
       sum_none k = omega arith
 
-  good_after : (w v : Waypoint) (actor : ℕ) (act : Action) → next_line lists w.position actor ≡ Some act → IsAsGood (are_steps lists) w v →
-      IsAsGood (are_steps lists) (after_line w actor act) (after_line v actor act)
-  good_after w v actor act next good =
+  good_after : (w v : Waypoint) (list : ℕ) (ask : Call) → next_call lists w.position list ≡ Some ask → IsAsGood (are_steps lists) w v →
+      IsAsGood (are_steps lists) (after_call w list ask) (after_call v list ask)
+  good_after w v list ask next good =
       let law =
-      alike_holds (are_steps lists) (config_of w.machine) w.machine.state v.machine.state actor act
-      (λ e. next_step lists w.position actor act e next) good.alike.alike in
+      alike_holds (are_steps lists) (config_of w.machine) w.machine.state v.machine.state ask.0 ask.1
+      (λ e. next_step lists w.position list ask e next) good.alike.alike in
       record {
-        position = ap (λ (p : Position). one_more p actor) good.position;
+        position = ap (λ (p : Position). one_more p list) good.position;
         alike = record {
           config = good.alike.config;
           alike =
               subst
-              (λ (c : Config). AreAlike (are_steps lists) (config_of w.machine) (call (config_of w.machine) w.machine.state actor act)
-              (call c v.machine.state actor act)) (sym good.alike.config) law.later;
+              (λ (c : Config). AreAlike (are_steps lists) (config_of w.machine) (call (config_of w.machine) w.machine.state ask.0 ask.1)
+              (call c v.machine.state ask.0 ask.1)) (sym good.alike.config) law.later;
         };
       }
 
@@ -241,13 +241,13 @@ module _ (lists : Lists) (p : Result Cluster Fault → Bool) where
       ways_none w ∙ ap (λ (x : Result Cluster Fault). cond (p x) 1 0) same ∙ sym (ways_none v)
   ways_fair (suc left) w v good =
       ways_more left w
-      ∙ sum_below_same (λ actor. next_value (next_line lists w.position actor) (λ act. ways lists p left (after_line w actor act)))
-      (λ actor. next_value (next_line lists v.position actor) (λ act. ways lists p left (after_line v actor act))) (length lists)
-      (λ actor.
-      next_same (next_line lists w.position actor) (λ act. ways lists p left (after_line w actor act))
-      (λ act. ways lists p left (after_line v actor act))
-      (λ act next. ways_fair left (after_line w actor act) (after_line v actor act) (good_after w v actor act next good))
-      ∙ ap (λ (position : Position). next_value (next_line lists position actor) (λ act. ways lists p left (after_line v actor act)))
+      ∙ sum_below_same (λ list. next_value (next_call lists w.position list) (λ ask. ways lists p left (after_call w list ask)))
+      (λ list. next_value (next_call lists v.position list) (λ ask. ways lists p left (after_call v list ask))) (length lists.each)
+      (λ list.
+      next_same (next_call lists w.position list) (λ ask. ways lists p left (after_call w list ask))
+      (λ ask. ways lists p left (after_call v list ask))
+      (λ ask next. ways_fair left (after_call w list ask) (after_call v list ask) (good_after w v list ask next good))
+      ∙ ap (λ (position : Position). next_value (next_call lists position list) (λ ask. ways lists p left (after_call v list ask)))
       (sym good.position))
       ∙ sym (ways_more left v)
 
@@ -321,10 +321,10 @@ module _ (lists : Lists) (opening : Machine) (kept : List Waypoint) (counts : Li
       record {
         count = ways lists p (total (end_of lists)) (opening_waypoint lists opening);
         counted =
-            how_many (λ order. cluster_of (after_calls opening order) ≡ cluster_of o.machine)
-            (λ order. p (cluster_of (after_calls opening order)))
-            (λ order passes. sym (same_is (cluster_of o.machine) (cluster_of (after_calls opening order)) passes))
-            (λ order fails is. true_and_false (is_same (cluster_of o.machine) (cluster_of (after_calls opening order)) (sym is)) fails)
+            how_many (λ order. cluster_of (after_picks opening order) ≡ cluster_of o.machine)
+            (λ order. p (cluster_of (after_picks opening order)))
+            (λ order passes. sym (same_is (cluster_of o.machine) (cluster_of (after_picks opening order)) passes))
+            (λ order fails is. true_and_false (is_same (cluster_of o.machine) (cluster_of (after_picks opening order)) (sym is)) fails)
             (orders_of lists);
         told =
             has p here.numbers (λ other. (same_is (cluster_of o.machine) other, is_same (cluster_of o.machine) other)) here.told

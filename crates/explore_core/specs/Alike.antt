@@ -1,11 +1,11 @@
--- States of the machine that lines to come can't tell apart.
-use Rattle.std.specs.Prelude.{◌≡◌, ℕ, ◌+◌, Bool, true, false, length}
+-- States of the machine that calls to come can't tell apart.
+use Rattle.std.specs.Prelude.{◌≡◌, ℕ, ◌+◌, Bool, true, false, List, length}
 use Rattle.std.specs.List.{list_all}
 use Rattle.bench_core.specs.declared.reply.Reply.{Reply}
 use Rattle.bench_core.specs.declared.reply.Reply.TheVariants.{Taken, Undone, Refused}
 use Rattle.bench_core.specs.Acts.{Action, Do, Undo, Back}
 use Rattle.bench_core.specs.Machine.{Config, State, Machine, config_of, given, now, reply_to, call}
-use Rattle.explore_core.specs.Orders.{Lists}
+use Rattle.explore_core.specs.Orders.{Lists, Call}
 
 -- a step, and not the undo of one
 abbrev pub is_step : Action → Bool
@@ -13,9 +13,12 @@ is_step (Do operation) = true
 is_step (Undo number) = false
 is_step (Back node) = false
 
--- no line is an undo
+-- none of these calls is an undo
+abbrev pub all_steps : List Call → Bool
+all_steps calls = list_all (λ call. is_step call.1) calls
+
 abbrev pub are_steps : Lists → Bool
-are_steps lists = list_all (λ lines. list_all is_step lines) lists
+are_steps lists = list_all all_steps lists.each
 
 -- the reply without the number of a step that was taken
 abbrev pub unnumbered : Reply → Reply
@@ -23,7 +26,7 @@ unnumbered (Taken number) = Taken 0
 unnumbered (Undone number) = Undone number
 unnumbered (Refused fault) = Refused fault
 
--- equal nodes, and as many places taken by recorded calls and remaining steps; and unless all lines are steps, the same remaining
+-- equal nodes, and as many places taken by recorded calls and remaining steps; and unless all calls are steps, the same remaining
 -- steps, as many of which were ever taken
 pub record AreAlike (steps_alone : Bool) (c : Config) (s t : State) : Type 0 where
   pub cluster : now c s ≡ now c t

@@ -2,20 +2,20 @@
 use Rattle.std.specs.Prelude.{◌≡◌, ◌≢◌, ◌⊎◌, ℕ, ◌+◌, ◌^◌, nat_lt, if◌then◌else◌, List, [], ◌∷◌, Option, None, Some}
 use Rattle.std.specs.List.{AllByRecursion}
 use Rattle.bench_core.specs.Machine.{Machine, cluster_of}
-use Rattle.explore_core.specs.Orders.{Lists, Call, IsOrder, orders_of}
-use Rattle.explore_core.specs.Explorations.{IsAny, after_calls, Outcome}
+use Rattle.explore_core.specs.Orders.{Lists, Pick, IsOrder, orders_of}
+use Rattle.explore_core.specs.Explorations.{IsAny, after_picks, Outcome}
 
 -- none stands twice
 abbrev pub AreDifferent : {X : Type 0} → List X → Type 0
 AreDifferent [] = Unit {0}
 AreDifferent (x ∷ xs) = AllByRecursion (λ y. x ≢ y) xs × AreDifferent xs
 
--- each order of the lines is among these, each of these is one, and none stands twice
+-- each order of the calls is among these, each of these is one, and none stands twice
 abbrev pub OrdersLaw : Type 0
 OrdersLaw =
     (lists : Lists) →
     record {
-      every : (order : List Call) → IsOrder lists order → IsAny (λ o. o ≡ order) (orders_of lists);
+      every : (order : List Pick) → IsOrder lists order → IsAny (λ o. o ≡ order) (orders_of lists);
       orders : AllByRecursion (IsOrder lists) (orders_of lists);
       once : AreDifferent (orders_of lists);
     }
@@ -32,5 +32,5 @@ told_number n = if nat_lt n (2 ^ 128) then Some n else None
 -- the outcome tells how many of all orders lead to its cluster
 pub record IsCounted (lists : Lists) (opening : Machine) (o : Outcome) : Type 0 where
   pub count : ℕ
-  pub counted : HowMany (λ order. cluster_of (after_calls opening order) ≡ cluster_of o.machine) (orders_of lists) count
+  pub counted : HowMany (λ order. cluster_of (after_picks opening order) ≡ cluster_of o.machine) (orders_of lists) count
   pub told : o.orders ≡ told_number count

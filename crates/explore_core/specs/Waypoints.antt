@@ -1,17 +1,16 @@
--- What a walk over orders keeps: for each position the states in which lines to come can't tell the orders apart that led there.
+-- What a walk over orders keeps: for each position the states in which calls to come can't tell the orders apart that led there.
 use Rattle.std.specs.Prelude.{◌≡◌, ◌≢◌, ◌⊎◌, ℕ, ◌+◌, ◌<◌, ◌++◌, ◌∷◌, Bool, List, [], length, take, slice_get, Option, Some, MatchOption, refl}
 use Rattle.std.specs.Coded.{Coded, code_by, coded×, coded_ℕ, coded_list}
 use Rattle.std.specs.List.{AllByRecursion}
 use Rattle.bench_core.specs.declared.fault.Fault.{Fault}
 use Rattle.bench_core.specs.declared.reply.Reply.{Reply}
 use Rattle.bench_core.specs.declared.reply.Reply.TheVariants.{Taken, Undone, Refused}
-use Rattle.bench_core.specs.Acts.{Action}
-use Rattle.bench_core.specs.Machine.{Machine, machine_code, config_of, with_state, cluster_of, reply_to, call, calls}
-use Rattle.explore_core.specs.Orders.{Lists, Call, Position, start_of, end_of, asked_of, next_line, one_more, Leads, IsOrder, actors_of}
+use Rattle.bench_core.specs.Machine.{Machine, machine_code, config_of, with_state, cluster_of, reply_to, call}
+use Rattle.explore_core.specs.Orders.{Lists, Call, Pick, Position, start_of, end_of, asked_of, next_call, one_more, Leads, IsOrder, lists_of}
 use Rattle.explore_core.specs.Alike.{AreAlike, AreBenchesAlike, are_steps}
-use Rattle.explore_core.specs.Explorations.{IsAny, after_calls, Outcome, AreDistinct, Refusal, Refuses, Told, IsRefusal}
+use Rattle.explore_core.specs.Explorations.{IsAny, asked_all, after_picks, Outcome, AreDistinct, Refusal, Refuses, Told, IsRefusal}
 
--- a position, the actors of the calls that led there, and the machine after them
+-- a position, the lists that the calls are taken from that led there, and the machine after them
 pub record Waypoint : Type 0 where
   pub position : Position
   pub order : List ℕ
@@ -23,29 +22,29 @@ waypoint_code reply_code =
     (λ w. (w.position, (w.order, w.machine))) (λ t. record { position = t.0; order = t.1.0; machine = t.1.1 }) (λ _. refl)
 
 -- the machine after one call more
-abbrev pub asked_more : Machine → ℕ → Action → Machine
-asked_more m actor act = with_state m (call (config_of m) m.state actor act)
+abbrev pub asked_more : Machine → Call → Machine
+asked_more m ask = with_state m (call (config_of m) m.state ask.0 ask.1)
 
--- the waypoint after this line of the actor
-abbrev pub after_line : Waypoint → ℕ → Action → Waypoint
-after_line w actor act = record { position = one_more w.position actor; order = w.order ++ actor ∷ []; machine = asked_more w.machine actor act }
+-- the waypoint after this call of the list
+abbrev pub after_call : Waypoint → ℕ → Call → Waypoint
+after_call w list ask = record { position = one_more w.position list; order = w.order ++ list ∷ []; machine = asked_more w.machine ask }
 
--- before the first line
+-- before the first call
 abbrev pub opening_waypoint : Lists → Machine → Waypoint
 opening_waypoint lists opening = record { position = start_of lists; order = []; machine = opening }
 
--- lines to come can't tell the first from the second
+-- calls to come can't tell the first from the second
 pub record IsAsGood (steps_alone : Bool) (w v : Waypoint) : Type 0 where
   pub position : v.position ≡ w.position
   pub alike : AreBenchesAlike steps_alone w.machine v.machine
 
 -- so many calls of an order lead to the waypoint
 pub record IsWaypoint (lists : Lists) (opening : Machine) (count : ℕ) (w : Waypoint) : Type 0 where
-  pub calls : List Call
-  pub actors : actors_of calls ≡ w.order
-  pub counted : length calls ≡ count
-  pub leads : Leads lists (start_of lists) calls w.position
-  pub machine : w.machine ≡ after_calls opening calls
+  pub picks : List Pick
+  pub from : lists_of picks ≡ w.order
+  pub counted : length picks ≡ count
+  pub leads : Leads lists (start_of lists) picks w.position
+  pub machine : w.machine ≡ after_picks opening picks
 
 abbrev pub AreWaypoints : Lists → Machine → ℕ → List Waypoint → Type 0
 AreWaypoints lists opening count ws = AllByRecursion (IsWaypoint lists opening count) ws
@@ -76,29 +75,29 @@ AreApart steps_alone (w ∷ ws) = AllByRecursion (λ v. IsAsGood steps_alone v w
 abbrev pub IsTold : List Told → Refusal → Type 0
 IsTold told r = IsAny (λ t. t.refusal ≡ r) told
 
--- the next line of the actor, if it has one, was tried here: where it leads is kept, and its refusal is told
-pub record IsTried (lists : Lists) (steps_alone : Bool) (kept : List Waypoint) (told : List Told) (w : Waypoint) (actor : ℕ) : Type 0 where
-  pub keeps : (act : Action) → next_line lists w.position actor ≡ Some act → IsKept steps_alone kept (after_line w actor act)
-  pub tells : (act : Action) (fault : Fault) → next_line lists w.position actor ≡ Some act →
-      reply_to (config_of w.machine) w.machine.state actor act ≡ Refused fault →
-      IsTold told (record { actor = actor; line = asked_of w.position actor; fault = fault })
+-- the next call of the list, if it has one, was tried here: where it leads is kept, and its refusal is told
+pub record IsTried (lists : Lists) (steps_alone : Bool) (kept : List Waypoint) (told : List Told) (w : Waypoint) (list : ℕ) : Type 0 where
+  pub keeps : (ask : Call) → next_call lists w.position list ≡ Some ask → IsKept steps_alone kept (after_call w list ask)
+  pub tells : (ask : Call) (fault : Fault) → next_call lists w.position list ≡ Some ask →
+      reply_to (config_of w.machine) w.machine.state ask.0 ask.1 ≡ Refused fault →
+      IsTold told (record { list = list; place = asked_of w.position list; fault = fault })
 
--- the next line of each actor was tried here
+-- the next call of each list was tried here
 pub record IsLeft (lists : Lists) (steps_alone : Bool) (kept : List Waypoint) (told : List Told) (w : Waypoint) : Type 0 where
-  pub each : (actor : ℕ) → IsTried lists steps_alone kept told w actor
+  pub each : (list : ℕ) → IsTried lists steps_alone kept told w list
 
 -- the rest of an order, asked from this waypoint, ends as the order does, and the order's refusals are told or come in the rest
-pub record Carries (lists : Lists) (opening : Machine) (told : List Told) (order : List Call) (w : Waypoint) : Type 0 where
-  pub rest : List Call
+pub record Carries (lists : Lists) (opening : Machine) (told : List Told) (order : List Pick) (w : Waypoint) : Type 0 where
+  pub rest : List Pick
   pub leads : Leads lists w.position rest (end_of lists)
-  pub alike : AreAlike (are_steps lists) (config_of opening) (calls (config_of opening) opening.state order)
-      (calls (config_of opening) w.machine.state rest)
+  pub alike : AreAlike (are_steps lists) (config_of opening) (asked_all (config_of opening) opening.state order)
+      (asked_all (config_of opening) w.machine.state rest)
   pub refusals : (r : Refusal) → Refuses (config_of opening) opening.state (start_of lists) order r →
       IsTold told r ⊎ Refuses (config_of opening) w.machine.state w.position rest r
 
 -- each order goes on from one of the waypoints
 abbrev pub IsEachCarried : Lists → Machine → List Told → List Waypoint → Type 0
-IsEachCarried lists opening told ws = (order : List Call) → IsOrder lists order → IsAny (λ w. Carries lists opening told order w) ws
+IsEachCarried lists opening told ws = (order : List Pick) → IsOrder lists order → IsAny (λ w. Carries lists opening told order w) ws
 
 -- each refusal that is told comes in an order
 abbrev pub AreRefusals : Lists → Machine → List Told → Type 0
@@ -112,33 +111,33 @@ AddsKept steps_alone old w new = (IsKept steps_alone old w × (new ≡ old)) ⊎
 abbrev pub AddsTold : List Told → Told → List Told → Type 0
 AddsTold old t new = (IsTold old t.refusal × (new ≡ old)) ⊎ (new ≡ old ++ t ∷ [])
 
--- the reply is told, if it is a refusal of this line of the actor
+-- the reply is told, if it is a refusal of this call of the list
 abbrev pub TellsReply : List Told → ℕ → ℕ → List ℕ → Reply → List Told → Type 0
-TellsReply old actor line order (Taken number) new = new ≡ old
-TellsReply old actor line order (Undone number) new = new ≡ old
-TellsReply old actor line order (Refused fault) new =
-    AddsTold old (record { refusal = record { actor = actor; line = line; fault = fault }; order = order }) new
+TellsReply old list place order (Taken number) new = new ≡ old
+TellsReply old list place order (Undone number) new = new ≡ old
+TellsReply old list place order (Refused fault) new =
+    AddsTold old (record { refusal = record { list = list; place = place; fault = fault }; order = order }) new
 
--- what was found before, and what is found once the next line of the actor, if it has one, was asked at this waypoint
+-- what was found before, and what is found once the next call of the list, if it has one, was asked at this waypoint
 abbrev pub Advances : Lists → Bool → Waypoint → ℕ → List Waypoint → List Told → List Waypoint → List Told → Type 0
-Advances lists steps_alone w actor kept told more_kept more_told =
-    MatchOption (next_line lists w.position actor) ((more_kept ≡ kept) × (more_told ≡ told))
-    (λ act. AddsKept steps_alone kept (after_line w actor act) more_kept ×
-    TellsReply told actor (asked_of w.position actor) w.order (reply_to (config_of w.machine) w.machine.state actor act) more_told)
+Advances lists steps_alone w list kept told more_kept more_told =
+    MatchOption (next_call lists w.position list) ((more_kept ≡ kept) × (more_told ≡ told))
+    (λ ask. AddsKept steps_alone kept (after_call w list ask) more_kept ×
+    TellsReply told list (asked_of w.position list) w.order (reply_to (config_of w.machine) w.machine.state ask.0 ask.1) more_told)
 
--- what was found before, and what is found once the next lines of the actors below a number were asked at this waypoint
-pub record AdvancesBelow (lists : Lists) (steps_alone : Bool) (w : Waypoint) (actors : ℕ) (kept : List Waypoint) (told : List Told)
+-- what was found before, and what is found once the next calls of the lists below a number were asked at this waypoint
+pub record AdvancesBelow (lists : Lists) (steps_alone : Bool) (w : Waypoint) (below : ℕ) (kept : List Waypoint) (told : List Told)
     (more_kept : List Waypoint) (more_told : List Told) : Type 0 where
   pub kept_grows : Extends kept more_kept
   pub told_grows : Extends told more_told
-  pub tried : (actor : ℕ) → actor < actors → IsTried lists steps_alone more_kept more_told w actor
+  pub tried : (list : ℕ) → list < below → IsTried lists steps_alone more_kept more_told w list
   pub apart : AreApart steps_alone kept → AreApart steps_alone more_kept
   pub waypoints : (opening : Machine) (count : ℕ) → IsWaypoint lists opening count w → AreWaypoints lists opening (count + 1) kept →
       AreWaypoints lists opening (count + 1) more_kept
   pub refusals : (opening : Machine) (count : ℕ) → IsWaypoint lists opening count w → AreRefusals lists opening told →
       AreRefusals lists opening more_told
 
--- what was told before, and what is found once the next lines were asked at the first so many of these waypoints
+-- what was told before, and what is found once the next calls were asked at the first so many of these waypoints
 pub record DeepensFirst (lists : Lists) (steps_alone : Bool) (ws : List Waypoint) (first : ℕ) (told : List Told) (kept : List Waypoint)
     (more_told : List Told) : Type 0 where
   pub told_grows : Extends told more_told

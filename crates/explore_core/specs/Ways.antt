@@ -1,23 +1,22 @@
 -- How a walk counts: a number for each waypoint that it keeps, of the orders that go on from there.
 use Rattle.std.specs.Prelude.{◌≡◌, ◌↔◌, ℕ, zero, suc, ◌+◌, ◌*◌, Bool, IsTrue, cond, List, [], ◌∷◌, length, map, count_by, Option, None, Some, Result}
 use Rattle.bench_core.specs.declared.fault.Fault.{Fault}
-use Rattle.bench_core.specs.Acts.{Action}
 use Rattle.bench_core.specs.Clusters.{Cluster}
 use Rattle.bench_core.specs.Machine.{Machine, cluster_of}
-use Rattle.explore_core.specs.Orders.{Lists, end_of, next_line, total, orders_from}
-use Rattle.explore_core.specs.Explorations.{after_calls, Outcome}
+use Rattle.explore_core.specs.Orders.{Lists, Call, end_of, next_call, total, orders_from}
+use Rattle.explore_core.specs.Explorations.{after_picks, Outcome}
 use Rattle.explore_core.specs.Counts.{told_number}
-use Rattle.explore_core.specs.Waypoints.{Waypoint, after_line, opening_waypoint, IsAsGood}
+use Rattle.explore_core.specs.Waypoints.{Waypoint, after_call, opening_waypoint, IsAsGood}
 
 -- the sum over the numbers below this one
 abbrev pub sum_below : (ℕ → ℕ) → ℕ → ℕ
 sum_below f zero = 0
 sum_below f (suc n) = sum_below f n + f n
 
--- the value of the next line, if there is one
-abbrev pub next_value : Option Action → (Action → ℕ) → ℕ
+-- the value of the next call, if there is one
+abbrev pub next_value : Option Call → (Call → ℕ) → ℕ
 next_value None f = 0
-next_value (Some act) f = f act
+next_value (Some ask) f = f ask
 
 -- the sum of the values of these, each as often as its number says
 abbrev pub weighed : {W : Type 0} → (W → ℕ) → List W → List ℕ → ℕ
@@ -46,22 +45,22 @@ abbrev pub AddsOrders : Bool → List Waypoint → List (Option ℕ) → List Wa
 AddsOrders steps_alone kept counts more_kept more_counts added =
     (ns : List ℕ) → AreTold counts kept ns → ComeTo steps_alone (λ f. weighed f kept ns) more_kept more_counts added
 
--- the values that the next lines of the actors below a number lead to
+-- the values that the next calls of the lists below a number lead to
 abbrev pub values_below : Lists → (Waypoint → ℕ) → Waypoint → ℕ → ℕ
-values_below lists f w actors = sum_below (λ actor. next_value (next_line lists w.position actor) (λ act. f (after_line w actor act))) actors
+values_below lists f w below = sum_below (λ list. next_value (next_call lists w.position list) (λ ask. f (after_call w list ask))) below
 
--- those of the next lines of all actors
+-- those of the next calls of all lists
 abbrev pub next_values : Lists → (Waypoint → ℕ) → Waypoint → ℕ
-next_values lists f w = values_below lists f w (length lists)
+next_values lists f w = values_below lists f w (length lists.each)
 
 -- the orders that go on from the waypoints of one layer go on from those of the next
 abbrev pub DeepensOrders : Lists → Bool → List Waypoint → List (Option ℕ) → List Waypoint → List (Option ℕ) → Type 0
 DeepensOrders lists steps_alone ws counts kept more_counts =
     (ns : List ℕ) → AreTold counts ws ns → ComeTo steps_alone (λ f. 0) kept more_counts (λ f. weighed (next_values lists f) ws ns)
 
--- how many of the orders of so many lines more, from this waypoint on, lead to a cluster that passes
+-- how many of the orders of so many calls more, from this waypoint on, lead to a cluster that passes
 abbrev pub ways : Lists → (Result Cluster Fault → Bool) → ℕ → Waypoint → ℕ
-ways lists p left w = count_by (λ rest. p (cluster_of (after_calls w.machine rest))) (orders_from lists left w.position)
+ways lists p left w = count_by (λ rest. p (cluster_of (after_picks w.machine rest))) (orders_from lists left w.position)
 
 -- all orders go on from these waypoints, as many from each as its number says
 pub record IsCountedAt (lists : Lists) (opening : Machine) (count : ℕ) (kept : List Waypoint) (counts : List (Option ℕ)) : Type 0 where

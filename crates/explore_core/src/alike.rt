@@ -1,11 +1,11 @@
-//! `are_alike`: which states lines to come can't tell apart.
-ghost use Rattle.std.specs.Prelude.{◌≡◌, ◌+◌, ◌↔◌, IsTrue, length, map};
+//! `are_alike`: which states calls to come can't tell apart.
+ghost use Rattle.std.specs.Prelude.{◌≡◌, ◌+◌, ◌↔◌, IsTrue, length};
 ghost use Rattle.std.specs.List.{list_all};
 ghost use Rattle.journal_core.specs.Holdings.{kepts};
-ghost use Rattle.bench_core.specs.Acts.{plain_act};
+ghost use Rattle.bench_core.specs.Acts.{plain_act, calls_of};
 ghost use Rattle.bench_core.specs.Machine.{cluster_of};
-ghost use Rattle.explore_core.specs.Alike.{are_steps, is_step, AreBenchesAlike};
-ghost use Rattle.explore_core.specs.Orders.{plain_lists};
+ghost use Rattle.explore_core.specs.Alike.{all_steps, is_step, AreBenchesAlike};
+ghost use Rattle.explore_core.specs.Orders.{plain_each};
 
 use bench_core::{Act, Bench, Journal};
 use std::alloc::Allocator;
@@ -16,24 +16,24 @@ fn is_step<A: Allocator>(act: &Act<A>) -> bool
     matches!(act, Act::Do(_))
 }
 
-/// Whether each of these lines of one actor is a step.
-fn all_steps<A: Allocator>(lines: &[Act<A>]) -> bool
-    ensures { result ≡ list_all is_step (map (λ act. plain_act act) lines.now) }
+/// Whether each of these calls is a step.
+fn all_steps<A: Allocator>(calls: &[(u16, Act<A>)]) -> bool
+    ensures { result ≡ all_steps (calls_of calls.now) }
 {
-    for act in lines {
-        if !is_step(act) {
+    for call in calls {
+        if !is_step(&call.1) {
             return false;
         }
     }
     true
 }
 
-/// Whether no line is an undo.
-pub(crate) fn are_steps<A: Allocator>(lists: &[Vec<Act<A>, A>]) -> bool
-    ensures { result ≡ are_steps (plain_lists lists.now) }
+/// Whether no call is an undo.
+pub(crate) fn are_steps<A: Allocator>(lists: &[Vec<(u16, Act<A>), A>]) -> bool
+    ensures { result ≡ list_all all_steps (plain_each lists.now) }
 {
-    for lines in lists {
-        if !all_steps(lines.as_slice()) {
+    for calls in lists {
+        if !all_steps(calls.as_slice()) {
             return false;
         }
     }
@@ -89,7 +89,7 @@ pub(crate) fn same_nodes<'a, B: Allocator>(one: &Bench<'a, B>, other: &Bench<'a,
     true
 }
 
-/// Whether lines to come can't tell the benches apart. Where each is a step, they see nodes and free places alone; an undo
+/// Whether calls to come can't tell the benches apart. Where each is a step, they see nodes and free places alone; an undo
 /// sees the remaining steps with their numbers, which give the nodes.
 pub(crate) fn are_alike<'a, B: Allocator>(
     steps_alone: bool,

@@ -1,9 +1,9 @@
-//! `explore`: what all orders of some lines lead to.
-ghost use Rattle.std.specs.Prelude.{◌≡◌, ◌≢◌, ℕ, ◌≤◌, ◌<◌, ◌^◌, [], ◌∷◌, Some, IfErr, IfOk, MatchBool, OnOk, length};
+//! `explore`: what all orders of some calls lead to.
+ghost use Rattle.std.specs.Prelude.{◌≡◌, ◌≢◌, ℕ, ◌≤◌, ◌<◌, ◌^◌, [], ◌∷◌, Some, IfErr, IfOk, MatchBool, OnOk, length, map};
 ghost use Rattle.std.specs.List.{AllByRecursion};
 ghost use Rattle.bench_core.specs.Machine.{Machine, cluster_of, opening_machine};
 ghost use Rattle.explore_core.specs.Counts.{told_number, IsCounted};
-ghost use Rattle.explore_core.specs.Orders.{end_of, orders_of, plain_lists, total};
+ghost use Rattle.explore_core.specs.Orders.{end_of, orders_of, plain_each, plain_lists, total};
 ghost use Rattle.explore_core.specs.Alike.{are_steps};
 ghost use Rattle.explore_core.specs.Explorations.{IsAny, IsOutcome, IsEveryOrder, AreDistinct, IsRefusal, IsEveryRefusal};
 ghost use Rattle.explore_core.specs.Waypoints.{opening_waypoint, AddsOutcome, AreMore, Gathers, IsAt};
@@ -14,6 +14,7 @@ use crate::counting::{number_at, sum_of, sum_of_all};
 use crate::explore_fault::ExploreFault;
 use crate::outcome::{Explored, Outcome};
 use crate::places::Places;
+use crate::reading::Reading;
 use crate::walking::{Found, Plan, deepened};
 use crate::waypoint::Waypoint;
 use bench_core::{Act, Limits, Names};
@@ -87,25 +88,24 @@ fn outcomes_of<'a, B: Allocator>(
     Ok(outcomes)
 }
 
-/// How many lines there are.
-fn count_lines<A: Allocator>(lists: &[Vec<Act<A>, A>]) -> u128
-    requires { length lists.now < 2 ^ 16 }
-    ensures { result ≡ total (end_of (plain_lists lists.now)) }
+/// How many calls there are.
+fn count_calls<A: Allocator>(lists: &[Vec<(u16, Act<A>), A>]) -> u128
+    ensures { result ≡ total (map length (plain_each lists.now)) }
 {
     let mut count = 0u128;
-    for lines in lists {
-        count += lines.len() as u128;
+    for calls in lists {
+        count += calls.len() as u128;
     }
     count
 }
 
-/// The waypoint before the first line, alone.
+/// The waypoint before the first call, alone.
 fn begun<'a, B: Allocator>(
     plan: &Plan<'_, 'a, B>,
     names: Names<&'a B>,
     limits: Limits,
 ) -> Result<Found<'a, B>, Oom>
-    ensures kept { IfOk result (λ found. found.kept.items ≡ opening_waypoint (plain_lists plan.now.lists.now) (opening_machine names.entry limits) ∷ []) }
+    ensures kept { IfOk result (λ found. found.kept.items ≡ opening_waypoint (plain_lists plan.now.reading plan.now.lists.now) (opening_machine names.entry limits) ∷ []) }
     ensures counts { IfOk result (λ found. found.counts.items ≡ Some 1 ∷ []) }
     ensures told { IfOk result (λ found. found.told.items ≡ []) }
 {
@@ -122,68 +122,67 @@ fn begun<'a, B: Allocator>(
     })
 }
 
-/// What is found once so many lines were asked, and how many states were kept, of which there may be so many.
+/// What is found once so many calls were asked, and how many states were kept, of which there may be so many.
 fn walked<'a, B: Allocator>(
     plan: &Plan<'_, 'a, B>,
     first: Found<'a, B>,
-    lines: u128,
+    calls: u128,
     most: usize,
 ) -> Result<(Found<'a, B>, usize), ExploreFault>
-    requires few { length plan.now.lists.now < 2 ^ 16 }
-    requires steps { plan.now.steps_alone ≡ are_steps (plain_lists plan.now.lists.now) }
-    requires lines { lines ≡ total (end_of (plain_lists plan.now.lists.now)) }
+    requires steps { plan.now.steps_alone ≡ are_steps (plain_lists plan.now.reading plan.now.lists.now) }
+    requires calls { calls ≡ total (end_of (plain_lists plan.now.reading plan.now.lists.now)) }
     requires room { 1 ≤ most }
     requires one { length first.kept.items ≡ 1 }
-    ensures walked { IfOk result (λ r. (opening : Machine) → IsAt (plain_lists plan.now.lists.now) opening 0 first.entry.kept.items first.entry.told.items →
-        IsAt (plain_lists plan.now.lists.now) opening lines r.0.kept.items r.0.told.items) }
-    ensures counted { IfOk result (λ r. (opening : Machine) → IsCountedAt (plain_lists plan.now.lists.now) opening 0 first.entry.kept.items first.entry.counts.items →
-        IsCountedAt (plain_lists plan.now.lists.now) opening lines r.0.kept.items r.0.counts.items) }
+    ensures walked { IfOk result (λ r. (opening : Machine) → IsAt (plain_lists plan.now.reading plan.now.lists.now) opening 0 first.entry.kept.items first.entry.told.items →
+        IsAt (plain_lists plan.now.reading plan.now.lists.now) opening calls r.0.kept.items r.0.told.items) }
+    ensures counted { IfOk result (λ r. (opening : Machine) → IsCountedAt (plain_lists plan.now.reading plan.now.lists.now) opening 0 first.entry.kept.items first.entry.counts.items →
+        IsCountedAt (plain_lists plan.now.reading plan.now.lists.now) opening calls r.0.kept.items r.0.counts.items) }
     ensures most { IfOk result (λ r. r.1 ≤ most) }
     ensures too_many { IfErr result (λ fault. (states : ℕ) → fault ≡ ExploreFault.TooMany states →
-        (opening : Machine) → IsAt (plain_lists plan.now.lists.now) opening 0 first.entry.kept.items first.entry.told.items →
-        AreMore (plain_lists plan.now.lists.now) opening most states) }
+        (opening : Machine) → IsAt (plain_lists plan.now.reading plan.now.lists.now) opening 0 first.entry.kept.items first.entry.told.items →
+        AreMore (plain_lists plan.now.reading plan.now.lists.now) opening most states) }
 {
     let mut found = first;
     let mut states = 1;
-    for _ in 0..lines {
+    for _ in 0..calls {
         found = deepened(plan, found, states, most)?;
         states += found.kept.len();
     }
     Ok((found, states))
 }
 
-/// What all orders of these lines lead to, on a bench of these names and limits that was asked nothing: list `i`, from 0, has
-/// the lines of actor `i` in their order. `TooMany` where more different states
-/// than `most` were kept.
+/// What all orders of these calls lead to, by this reading, on a bench of these names and limits that was asked nothing. `TooMany`
+/// where more different states than `most` were kept.
 pub fn explore<'a, B: Allocator>(
     alloc: &'a B,
     names: Names<&'a B>,
     limits: Limits,
-    lists: &[Vec<Act<&'a B>, &'a B>],
+    reading: Reading,
+    lists: &[Vec<(u16, Act<&'a B>), &'a B>],
     most: usize,
 ) -> Result<Explored<'a, B>, ExploreFault>
-    requires { length lists.now < 2 ^ 16 }
-    ensures every_order { IfOk result (λ e. IsEveryOrder (plain_lists lists.now) (opening_machine names.entry limits) e.outcomes.items) }
-    ensures outcomes { IfOk result (λ e. AllByRecursion (IsOutcome (plain_lists lists.now) (opening_machine names.entry limits)) e.outcomes.items) }
+    ensures every_order { IfOk result (λ e. IsEveryOrder (plain_lists reading lists.now) (opening_machine names.entry limits) e.outcomes.items) }
+    ensures outcomes { IfOk result (λ e. AllByRecursion (IsOutcome (plain_lists reading lists.now) (opening_machine names.entry limits)) e.outcomes.items) }
     ensures distinct { IfOk result (λ e. AreDistinct e.outcomes.items) }
-    ensures counts { IfOk result (λ e. AllByRecursion (IsCounted (plain_lists lists.now) (opening_machine names.entry limits)) e.outcomes.items) }
-    ensures orders { IfOk result (λ e. e.orders ≡ told_number (length (orders_of (plain_lists lists.now)))) }
-    ensures every_refusal { IfOk result (λ e. IsEveryRefusal (plain_lists lists.now) (opening_machine names.entry limits) e.refusals.items) }
-    ensures refusals { IfOk result (λ e. AllByRecursion (IsRefusal (plain_lists lists.now) (opening_machine names.entry limits)) e.refusals.items) }
+    ensures counts { IfOk result (λ e. AllByRecursion (IsCounted (plain_lists reading lists.now) (opening_machine names.entry limits)) e.outcomes.items) }
+    ensures orders { IfOk result (λ e. e.orders ≡ told_number (length (orders_of (plain_lists reading lists.now)))) }
+    ensures every_refusal { IfOk result (λ e. IsEveryRefusal (plain_lists reading lists.now) (opening_machine names.entry limits) e.refusals.items) }
+    ensures refusals { IfOk result (λ e. AllByRecursion (IsRefusal (plain_lists reading lists.now) (opening_machine names.entry limits)) e.refusals.items) }
     ensures most { IfOk result (λ e. e.states ≤ most) }
-    ensures too_many { IfErr result (λ fault. (states : ℕ) → fault ≡ ExploreFault.TooMany states → AreMore (plain_lists lists.now) (opening_machine names.entry limits) most states) }
+    ensures too_many { IfErr result (λ fault. (states : ℕ) → fault ≡ ExploreFault.TooMany states → AreMore (plain_lists reading lists.now) (opening_machine names.entry limits) most states) }
 {
     let plan = Plan {
         alloc,
+        reading,
         lists,
         steps_alone: are_steps(lists),
     };
-    let lines = count_lines(lists);
+    let calls = count_calls(lists);
     if most == 0 {
         return Err(ExploreFault::TooMany { states: 1 });
     }
     let first = begun(&plan, names, limits)?;
-    let (found, states) = walked(&plan, first, lines, most)?;
+    let (found, states) = walked(&plan, first, calls, most)?;
     let Found {
         kept,
         counts,

@@ -5,11 +5,11 @@ use bench_core::{Bench, Fault};
 use std::alloc::Allocator;
 use std::marker::Model;
 
-/// What an order leads to: the actors of its calls, each of which asks its next line, and the bench after them; and how many
+/// What an order leads to: the lists that its calls are taken from, of each its next, and the bench after them; and how many
 /// orders lead to this cluster.
 #[derive(Drop)]
 pub struct Outcome<'a, B: Allocator> {
-    pub order: Vec<u16, &'a B>,
+    pub order: Vec<usize, &'a B>,
     pub bench: Bench<'a, B>,
     /// None where they are 2^128 or more.
     pub orders: Option<u128>,
@@ -26,14 +26,14 @@ impl<'a, B: Allocator> Model for Outcome<'a, B> {
     ghost view = { λ o. record { order = o.order.items; machine = o.bench; orders = o.orders } };
 }
 
-/// A line that is refused: its actor, its place among the actor's lines, from 0, why it is refused, and the actors of the calls
-/// before it in the first order that was met in which it is.
+/// A call that is refused: its list, its place there, from 0, why it is refused, and the lists that the calls before it are taken
+/// from in the first order that was met in which it is.
 #[derive(Drop)]
 pub struct Refusal<'a, B: Allocator> {
-    pub actor: u16,
-    pub line: usize,
+    pub list: usize,
+    pub place: usize,
     pub fault: Fault,
-    pub order: Vec<u16, &'a B>,
+    pub order: Vec<usize, &'a B>,
 }
 
 impl<'a, B: Allocator> Model for Refusal<'a, B> {
@@ -44,15 +44,15 @@ impl<'a, B: Allocator> Model for Refusal<'a, B> {
 
     ghost coded = { told_code fault_row.coded };
 
-    ghost view = { λ r. record { refusal = record { actor = r.actor; line = r.line; fault = r.fault }; order = r.order.items } };
+    ghost view = { λ r. record { refusal = record { list = r.list; place = r.place; fault = r.fault }; order = r.order.items } };
 }
 
 impl<'a, B: Allocator> Refusal<'a, B> {
-    /// Whether both are of the same line and fault.
+    /// Whether both are of the same call and fault.
     pub(crate) fn same(&self, other: &Self) -> bool
         ensures { IsTrue result ↔ (self.now.refusal ≡ other.now.refusal) }
     {
-        self.actor == other.actor && self.line == other.line && self.fault == other.fault
+        self.list == other.list && self.place == other.place && self.fault == other.fault
     }
 }
 
@@ -63,7 +63,7 @@ pub struct Explored<'a, B: Allocator> {
     pub outcomes: Vec<Outcome<'a, B>, &'a B>,
     /// How many orders there are; none where they are 2^128 or more.
     pub orders: Option<u128>,
-    /// The lines that are refused in some order.
+    /// The calls that are refused in some order.
     pub refusals: Vec<Refusal<'a, B>, &'a B>,
     /// How many different states the walk kept.
     pub states: usize,

@@ -1,11 +1,11 @@
-//! One line more: from the waypoints of so many calls to those of one call more.
+//! One call more: from the waypoints of so many calls to those of one call more.
 ghost use Rattle.std.specs.Prelude.{◌≡◌, ◌≤◌, ◌<◌, ◌^◌, ◌*◌, ◌+◌, ◌↔◌, ℕ, OnOk, IfErr, IfOk, IsTrue, MatchOption, length, nat_eq};
 ghost use Rattle.explore_core.specs.Orders.{plain_lists};
-ghost use Rattle.explore_core.specs.Waypoints.{after_line, IsAsGood, IsKeptAt, IsOther, IsTold, AddsKept, AddsTold, TellsReply, Advances, AdvancesBelow, AreMoreDeeper, Deepens};
+ghost use Rattle.explore_core.specs.Waypoints.{after_call, IsAsGood, IsKeptAt, IsOther, IsTold, AddsKept, AddsTold, TellsReply, Advances, AdvancesBelow, AreMoreDeeper, Deepens};
 ghost use Rattle.indexmap.specs.IndexMap.{get};
 ghost use Rattle.explore_core.specs.Counts.{told_number};
 ghost use Rattle.explore_core.specs.Digests.{digest_of, IsIndexed};
-ghost use Rattle.explore_core.specs.Orders.{next_line};
+ghost use Rattle.explore_core.specs.Orders.{next_call, total};
 ghost use Rattle.explore_core.specs.Ways.{next_value, values_below, AddsOrders, DeepensOrders};
 
 use crate::alike::are_alike;
@@ -14,16 +14,18 @@ use crate::digest::digest;
 use crate::explore_fault::ExploreFault;
 use crate::outcome::Refusal;
 use crate::places::Places;
+use crate::reading::Reading;
 use crate::waypoint::Waypoint;
 use bench_core::{Act, Reply};
 use node_core::Oom;
 use std::alloc::Allocator;
 
-/// What is walked: the lines of each actor, and whether each of them is a step.
+/// What is walked: the calls of each list, how their orders are read, and whether each call is a step.
 #[derive(Drop)]
 pub(crate) struct Plan<'l, 'a, B: Allocator> {
     pub(crate) alloc: &'a B,
-    pub(crate) lists: &'l [Vec<Act<&'a B>, &'a B>],
+    pub(crate) reading: Reading,
+    pub(crate) lists: &'l [Vec<(u16, Act<&'a B>), &'a B>],
     pub(crate) steps_alone: bool,
 }
 
@@ -37,7 +39,7 @@ pub(crate) struct Found<'a, B: Allocator> {
     pub(crate) told: Vec<Refusal<'a, B>, &'a B>,
 }
 
-/// Whether lines to come can't tell the first waypoint from the second.
+/// Whether calls to come can't tell the first waypoint from the second.
 fn is_as_good<'a, B: Allocator>(
     steps_alone: bool,
     waypoint: &Waypoint<'a, B>,
@@ -129,16 +131,16 @@ fn tell<'a, B: Allocator>(
     Ok(())
 }
 
-/// Tells that the next line of the actor is refused here, if the reply to it is a refusal.
+/// Tells that the call of this place in the list is refused here, if the reply to it is a refusal.
 fn tell_reply<'a, B: Allocator>(
     plan: &Plan<'_, 'a, B>,
     waypoint: &Waypoint<'a, B>,
-    actor: u16,
-    line: usize,
+    list: usize,
+    place: usize,
     reply: Reply,
     told: &mut Vec<Refusal<'a, B>, &'a B>,
 ) -> Result<(), Oom>
-    ensures { OnOk result (TellsReply told.old.items actor line waypoint.now.order reply told.new.items) }
+    ensures { OnOk result (TellsReply told.old.items list place waypoint.now.order reply told.new.items) }
 {
     let Reply::Refused(fault) = reply else {
         return Ok(());
@@ -147,77 +149,79 @@ fn tell_reply<'a, B: Allocator>(
     tell(
         told,
         Refusal {
-            actor,
-            line,
+            list,
+            place,
             fault,
             order,
         },
     )
 }
 
-/// Keeps what the next line of the actor leads to, and tells its reply, if it is a refusal.
+/// Keeps what the call of this place in the list leads to, and tells its reply, if it is a refusal.
 fn note<'a, B: Allocator>(
     plan: &Plan<'_, 'a, B>,
     waypoint: &Waypoint<'a, B>,
     orders: Option<u128>,
-    actor: u16,
-    line: usize,
+    list: usize,
+    place: usize,
     later: (Waypoint<'a, B>, Reply),
     found: &mut Found<'a, B>,
 ) -> Result<(), Oom>
     requires indexed { IsIndexed found.old.kept.items (get nat_eq found.old.places.last) found.old.places.earlier.items }
     ensures indexed { OnOk result (IsIndexed found.new.kept.items (get nat_eq found.new.places.last) found.new.places.earlier.items) }
-    ensures told { OnOk result (TellsReply found.old.told.items actor line waypoint.now.order later.entry.1 found.new.told.items) }
+    ensures told { OnOk result (TellsReply found.old.told.items list place waypoint.now.order later.entry.1 found.new.told.items) }
     ensures kept { OnOk result (AddsKept plan.now.steps_alone found.old.kept.items later.entry.0 found.new.kept.items) }
     ensures orders { (n : ℕ) → orders ≡ told_number n →
         OnOk result (AddsOrders plan.now.steps_alone found.old.kept.items found.old.counts.items found.new.kept.items found.new.counts.items (λ f. n * f later.entry.0)) }
 {
     let (later, reply) = later;
-    tell_reply(plan, waypoint, actor, line, reply, &mut found.told)?;
+    tell_reply(plan, waypoint, list, place, reply, &mut found.told)?;
     keep(found, plan.steps_alone, later, orders)
 }
 
-/// Asks the next line of the actor at this waypoint, where it has one.
+/// Asks the next call of the list at this waypoint, where it has one and may have this turn.
 fn advance<'a, B: Allocator>(
     plan: &Plan<'_, 'a, B>,
     waypoint: &Waypoint<'a, B>,
+    turn: u128,
     orders: Option<u128>,
-    actor: u16,
+    list: usize,
     found: &mut Found<'a, B>,
 ) -> Result<(), Oom>
+    requires turn { turn ≡ total waypoint.now.position }
     requires indexed { IsIndexed found.old.kept.items (get nat_eq found.old.places.last) found.old.places.earlier.items }
     ensures indexed { OnOk result (IsIndexed found.new.kept.items (get nat_eq found.new.places.last) found.new.places.earlier.items) }
-    ensures advances { OnOk result (Advances (plain_lists plan.now.lists.now) plan.now.steps_alone waypoint.now actor
+    ensures advances { OnOk result (Advances (plain_lists plan.now.reading plan.now.lists.now) plan.now.steps_alone waypoint.now list
         found.old.kept.items found.old.told.items found.new.kept.items found.new.told.items) }
     ensures orders { (n : ℕ) → orders ≡ told_number n →
         OnOk result (AddsOrders plan.now.steps_alone found.old.kept.items found.old.counts.items found.new.kept.items found.new.counts.items
-        (λ f. n * next_value (next_line (plain_lists plan.now.lists.now) waypoint.now.position actor) (λ act. f (after_line waypoint.now actor act)))) }
+        (λ f. n * next_value (next_call (plain_lists plan.now.reading plan.now.lists.now) waypoint.now.position list) (λ ask. f (after_call waypoint.now list ask)))) }
 {
-    let Some((act, line)) = waypoint.next(plan.lists, actor) else {
+    let Some((call, place)) = waypoint.next(plan.reading, plan.lists, turn, list) else {
         return Ok(());
     };
-    let later = waypoint.after(plan.alloc, actor, act)?;
-    note(plan, waypoint, orders, actor, line, later, found)
+    let later = waypoint.after(plan.alloc, list, call)?;
+    note(plan, waypoint, orders, list, place, later, found)
 }
 
-/// Asks the next line of each actor at this waypoint.
+/// Asks the next call of each list at this waypoint.
 fn advance_all<'a, B: Allocator>(
     plan: &Plan<'_, 'a, B>,
     waypoint: &Waypoint<'a, B>,
     orders: Option<u128>,
     found: &mut Found<'a, B>,
 ) -> Result<(), Oom>
-    requires few { length plan.now.lists.now < 2 ^ 16 }
     requires indexed { IsIndexed found.old.kept.items (get nat_eq found.old.places.last) found.old.places.earlier.items }
     ensures indexed { OnOk result (IsIndexed found.new.kept.items (get nat_eq found.new.places.last) found.new.places.earlier.items) }
-    ensures advances { OnOk result (AdvancesBelow (plain_lists plan.now.lists.now) plan.now.steps_alone waypoint.now (length plan.now.lists.now)
+    ensures advances { OnOk result (AdvancesBelow (plain_lists plan.now.reading plan.now.lists.now) plan.now.steps_alone waypoint.now (length plan.now.lists.now)
         found.old.kept.items found.old.told.items found.new.kept.items found.new.told.items) }
     ensures orders { (n : ℕ) → orders ≡ told_number n →
         OnOk result (AddsOrders plan.now.steps_alone found.old.kept.items found.old.counts.items found.new.kept.items found.new.counts.items
-        (λ f. n * values_below (plain_lists plan.now.lists.now) f waypoint.now (length plan.now.lists.now))) }
+        (λ f. n * values_below (plain_lists plan.now.reading plan.now.lists.now) f waypoint.now (length plan.now.lists.now))) }
 {
-    for actor in 0..plan.lists.len() as u16 {
-        advance(plan, waypoint, orders, actor, found)?;
+    let turn = waypoint.turn();
+    for list in 0..plan.lists.len() {
+        advance(plan, waypoint, turn, orders, list, found)?;
     }
     Ok(())
 }
@@ -229,15 +233,14 @@ pub(crate) fn deepened<'a, B: Allocator>(
     past: usize,
     most: usize,
 ) -> Result<Found<'a, B>, ExploreFault>
-    requires few { length plan.now.lists.now < 2 ^ 16 }
     requires room { past ≤ most }
-    ensures deepens { IfOk result (λ found. Deepens (plain_lists plan.now.lists.now) plan.now.steps_alone
+    ensures deepens { IfOk result (λ found. Deepens (plain_lists plan.now.reading plan.now.lists.now) plan.now.steps_alone
         before.entry.kept.items before.entry.told.items found.kept.items found.told.items) }
-    ensures orders { IfOk result (λ found. DeepensOrders (plain_lists plan.now.lists.now) plan.now.steps_alone
+    ensures orders { IfOk result (λ found. DeepensOrders (plain_lists plan.now.reading plan.now.lists.now) plan.now.steps_alone
         before.entry.kept.items before.entry.counts.items found.kept.items found.counts.items) }
     ensures room { IfOk result (λ found. past + length found.kept.items ≤ most) }
     ensures too_many { IfErr result (λ fault. (states : ℕ) → fault ≡ ExploreFault.TooMany states →
-        AreMoreDeeper (plain_lists plan.now.lists.now) plan.now.steps_alone before.entry.kept.items past most states) }
+        AreMoreDeeper (plain_lists plan.now.reading plan.now.lists.now) plan.now.steps_alone before.entry.kept.items past most states) }
 {
     let Found {
         kept: waypoints,

@@ -2,21 +2,23 @@
 ghost use Rattle.std.specs.Prelude.{◌≡◌, ◌<◌, ◌^◌, ◌-◌, ◌++◌, ◌∷◌, [], IfOk, IfSome, map, option_map, replicate};
 ghost use Rattle.bench_core.specs.Acts.{plain_act};
 ghost use Rattle.bench_core.specs.Machine.{config_of, reply_to, opening_machine};
-ghost use Rattle.explore_core.specs.Orders.{plain_lists, asked_of, next_line, start_of, one_more};
-ghost use Rattle.explore_core.specs.Waypoints.{after_line, asked_more, opening_waypoint, outcome_of};
+ghost use Rattle.explore_core.specs.Orders.{plain_each, plain_lists, asked_of, next_call, one_more, total};
+ghost use Rattle.explore_core.specs.declared.reading.Reading.{Reading as Read};
+ghost use Rattle.explore_core.specs.Waypoints.{after_call, asked_more, opening_waypoint, outcome_of};
 
 use crate::copying::copied;
 use crate::outcome::Outcome;
+use crate::reading::{Reading, call_at, count_asked, may_come};
 use bench_core::{Act, Bench, Fault, Limits, Names, Reply};
 use node_core::Oom;
 use std::alloc::Allocator;
 use std::marker::Model;
 
-/// How many lines of each actor were asked, by whom in which order, and the bench after them.
+/// How many calls of each list were asked, of which lists in turn, and the bench after them.
 #[derive(Drop)]
 pub(crate) struct Waypoint<'a, B: Allocator> {
     pub(crate) position: Vec<usize, &'a B>,
-    pub(crate) order: Vec<u16, &'a B>,
+    pub(crate) order: Vec<usize, &'a B>,
     pub(crate) bench: Bench<'a, B>,
 }
 
@@ -31,19 +33,25 @@ impl<'a, B: Allocator> Model for Waypoint<'a, B> {
     ghost view = { λ w. record { position = w.position.items; order = w.order.items; machine = w.bench } };
 }
 
-/// The next line of the actor, where it has one, and its place among the actor's lines.
-fn next_line<'l, A: Allocator>(
-    lists: &'l [Vec<Act<A>, A>],
+/// The next call of the list, where it has one and may have this turn, and its place there.
+fn next_call<'l, A: Allocator>(
+    reading: Reading,
+    lists: &'l [Vec<(u16, Act<A>), A>],
     position: &[usize],
-    actor: u16,
-) -> Option<(&'l Act<A>, usize)>
-    ensures act { option_map (λ next. plain_act next.0.now) result ≡ next_line (plain_lists lists.now) position.now actor }
-    ensures line { IfSome result (λ next. next.1 ≡ asked_of position.now actor) }
+    turn: u128,
+    list: usize,
+) -> Option<(&'l (u16, Act<A>), usize)>
+    requires turn { turn ≡ total position.now }
+    ensures call { option_map (λ next. (next.0.now.0, plain_act next.0.now.1)) result ≡ next_call (plain_lists reading lists.now) position.now list }
+    ensures place { IfSome result (λ next. next.1 ≡ asked_of position.now list) }
     ensures few { IfSome result (λ next. next.1 < 2 ^ 64 - 1) }
 {
-    let asked = position.get(actor as usize).copied().unwrap_or(0);
-    let act = lists.get(actor as usize)?.get(asked)?;
-    Some((act, asked))
+    if !may_come(reading, lists, turn, list) {
+        return None;
+    }
+    let asked = position.get(list).copied().unwrap_or(0);
+    let call = call_at(lists, list, asked)?;
+    Some((call, asked))
 }
 
 /// So many zeros.
@@ -53,68 +61,67 @@ fn zeros<'a, B: Allocator>(alloc: &'a B, count: usize) -> Result<Vec<usize, &'a 
     vec![in alloc; 0usize; count]
 }
 
-/// None of the lines of each actor.
+/// None of the calls of each list.
 fn nowhere<'a, B: Allocator>(
     alloc: &'a B,
-    lists: &[Vec<Act<&'a B>, &'a B>],
+    lists: &[Vec<(u16, Act<&'a B>), &'a B>],
 ) -> Result<Vec<usize, &'a B>, Oom>
-    ensures { IfOk result (λ v. v.items ≡ start_of (plain_lists lists.now)) }
+    ensures { IfOk result (λ v. v.items ≡ map (λ _. 0) (plain_each lists.now)) }
 {
     zeros(alloc, lists.len())
 }
 
-/// The actor's line is asked; where memory is refused, the bench is as it was.
+/// The call is asked; where memory is refused, the bench is as it was.
 fn ask<'a, B: Allocator>(
     mut bench: Bench<'a, B>,
-    actor: u16,
-    act: &Act<&'a B>,
+    call: &(u16, Act<&'a B>),
 ) -> Result<(Bench<'a, B>, Reply), Oom>
-    ensures bench { IfOk result (λ r. r.0 ≡ asked_more bench.entry actor (plain_act act.now)) }
-    ensures reply { IfOk result (λ r. r.1 ≡ reply_to (config_of bench.entry) bench.entry.state actor (plain_act act.now)) }
+    ensures bench { IfOk result (λ r. r.0 ≡ asked_more bench.entry (call.now.0, plain_act call.now.1)) }
+    ensures reply { IfOk result (λ r. r.1 ≡ reply_to (config_of bench.entry) bench.entry.state call.now.0 (plain_act call.now.1)) }
 {
-    let reply = bench.act(actor, act);
+    let reply = bench.act(call.0, &call.1);
     if reply == Reply::Refused(Fault::OutOfMemory) {
         return Err(Oom);
     }
     Ok((bench, reply))
 }
 
-fn with_actor<'a, B: Allocator>(
+fn with_list<'a, B: Allocator>(
     alloc: &'a B,
-    order: &[u16],
-    actor: u16,
-) -> Result<Vec<u16, &'a B>, Oom>
-    ensures { IfOk result (λ v. v.items ≡ order.now ++ actor ∷ []) }
+    order: &[usize],
+    list: usize,
+) -> Result<Vec<usize, &'a B>, Oom>
+    ensures { IfOk result (λ v. v.items ≡ order.now ++ list ∷ []) }
 {
     let mut longer = Vec::from_slice(alloc, order)?;
-    longer.push(actor)?;
+    longer.push(list)?;
     Ok(longer)
 }
 
 fn moved<'a, B: Allocator>(
     alloc: &'a B,
     position: &[usize],
-    actor: u16,
+    list: usize,
 ) -> Result<Vec<usize, &'a B>, Oom>
-    requires { asked_of position.now actor < 2 ^ 64 - 1 }
-    ensures { IfOk result (λ v. v.items ≡ one_more position.now actor) }
+    requires { asked_of position.now list < 2 ^ 64 - 1 }
+    ensures { IfOk result (λ v. v.items ≡ one_more position.now list) }
 {
     let mut next = Vec::from_slice(alloc, position)?;
-    if let Some(asked) = next.get_mut(actor as usize) {
+    if let Some(asked) = next.get_mut(list) {
         *asked += 1;
     }
     Ok(next)
 }
 
 impl<'a, B: Allocator> Waypoint<'a, B> {
-    /// Before the first line.
+    /// Before the first call.
     pub(crate) fn start(
         alloc: &'a B,
         names: Names<&'a B>,
         limits: Limits,
-        lists: &[Vec<Act<&'a B>, &'a B>],
+        lists: &[Vec<(u16, Act<&'a B>), &'a B>],
     ) -> Result<Self, Oom>
-        ensures { IfOk result (λ w. w ≡ opening_waypoint (plain_lists lists.now) (opening_machine names.entry limits)) }
+        ensures { IfOk result (λ w. (reading : Read) → w ≡ opening_waypoint (plain_lists reading lists.now) (opening_machine names.entry limits)) }
     {
         let position = nowhere(alloc, lists)?;
         let bench = Bench::new(alloc, names, limits)?;
@@ -125,17 +132,27 @@ impl<'a, B: Allocator> Waypoint<'a, B> {
         })
     }
 
-    /// The next line of the actor, where it has one, and its place among the actor's lines.
+    /// How many calls were asked, which is the number of the turn to come.
+    pub(crate) fn turn(&self) -> u128
+        ensures { result ≡ total self.now.position }
+    {
+        count_asked(&self.position)
+    }
+
+    /// The next call of the list, where it has one and may have the turn to come, and its place there.
     pub(crate) fn next<'l>(
         &self,
-        lists: &'l [Vec<Act<&'a B>, &'a B>],
-        actor: u16,
-    ) -> Option<(&'l Act<&'a B>, usize)>
-        ensures act { option_map (λ next. plain_act next.0.now) result ≡ next_line (plain_lists lists.now) self.now.position actor }
-        ensures line { IfSome result (λ next. next.1 ≡ asked_of self.now.position actor) }
+        reading: Reading,
+        lists: &'l [Vec<(u16, Act<&'a B>), &'a B>],
+        turn: u128,
+        list: usize,
+    ) -> Option<(&'l (u16, Act<&'a B>), usize)>
+        requires turn { turn ≡ total self.now.position }
+        ensures call { option_map (λ next. (next.0.now.0, plain_act next.0.now.1)) result ≡ next_call (plain_lists reading lists.now) self.now.position list }
+        ensures place { IfSome result (λ next. next.1 ≡ asked_of self.now.position list) }
         ensures few { IfSome result (λ next. next.1 < 2 ^ 64 - 1) }
     {
-        next_line(lists, &self.position, actor)
+        next_call(reading, lists, &self.position, turn, list)
     }
 
     /// What it is as an outcome that so many orders lead to.
@@ -151,20 +168,20 @@ impl<'a, B: Allocator> Waypoint<'a, B> {
         })
     }
 
-    /// After this line of the actor, and the reply to it.
+    /// After this call of the list, and the reply to it.
     pub(crate) fn after(
         &self,
         alloc: &'a B,
-        actor: u16,
-        act: &Act<&'a B>,
+        list: usize,
+        call: &(u16, Act<&'a B>),
     ) -> Result<(Self, Reply), Oom>
-        requires { asked_of self.now.position actor < 2 ^ 64 - 1 }
-        ensures waypoint { IfOk result (λ r. r.0 ≡ after_line self.now actor (plain_act act.now)) }
-        ensures reply { IfOk result (λ r. r.1 ≡ reply_to (config_of self.now.machine) self.now.machine.state actor (plain_act act.now)) }
+        requires { asked_of self.now.position list < 2 ^ 64 - 1 }
+        ensures waypoint { IfOk result (λ r. r.0 ≡ after_call self.now list (call.now.0, plain_act call.now.1)) }
+        ensures reply { IfOk result (λ r. r.1 ≡ reply_to (config_of self.now.machine) self.now.machine.state call.now.0 (plain_act call.now.1)) }
     {
-        let position = moved(alloc, &self.position, actor)?;
-        let order = with_actor(alloc, &self.order, actor)?;
-        let (bench, reply) = ask(copied(alloc, &self.bench)?, actor, act)?;
+        let position = moved(alloc, &self.position, list)?;
+        let order = with_list(alloc, &self.order, list)?;
+        let (bench, reply) = ask(copied(alloc, &self.bench)?, call)?;
         Ok((
             Waypoint {
                 position,

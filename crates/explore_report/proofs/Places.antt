@@ -5,7 +5,7 @@ use Rattle.std.proofs.lemmas.Bool.Decides.{nat_tests}
 use Rattle.bench_core.specs.declared.act.Act.{Act}
 use Rattle.bench_core.specs.Acts.{plain_act, calls_of}
 use Rattle.explore_core.specs.Orders.{Call}
-use Rattle.explore_report.specs.Grouped.{acts_of, lists_below, place_of}
+use Rattle.explore_report.specs.Grouped.{calls_by, lists_below, place_of}
 
 place_found : (call : Call) (calls : List Call) (actor left : ℕ) → call.0 ≡ actor → left ≡ 0 → place_of (call ∷ calls) actor left ≡ 0
 unfolding place_of
@@ -58,6 +58,6 @@ found_nowhere calls i actor left whole past within so_far =
     omega (arith, so_far, none)
 
 -- one list more
-pub lists_more : (n : ℕ) (calls : List Call) → lists_below (n + 1) calls ≡ lists_below n calls ++ acts_of n calls ∷ []
+pub lists_more : (n : ℕ) (calls : List Call) → lists_below (n + 1) calls ≡ lists_below n calls ++ calls_by n calls ∷ []
 unfolding lists_below
 lists_more n calls = rw add-one refl

@@ -2,48 +2,46 @@
 use Rattle.std.proofs.Common.{◌≡◌, ◌∙◌, ℕ, ◌+◌, ◌<◌, ◌≤◌, List, [], ◌++◌, drop, get_or, length, Option, Some, None, sym, ap, refl, append_assoc, append-nil, add-one}
 use Rattle.std.proofs.lemmas.List.{at_drop_more, at_drop_all}
 use Rattle.std.proofs.lemmas.Grind.{flat_map-append}
-use Rattle.bench_core.specs.Acts.{Action}
 use Rattle.bench_core.specs.Machine.{Machine}
 use Rattle.script_core.specs.Casts.{Cast}
 use Rattle.script_core.specs.Rows.{online_text}
 use Rattle.script_core.specs.Shown.{rows_at}
-use Rattle.explore_core.specs.Orders.{Lists, Call, Position, next_line}
-use Rattle.explore_report.specs.Grouped.{call_from, position_after, calls_from}
+use Rattle.explore_core.specs.Orders.{Call, Position}
+use Rattle.explore_report.specs.Grouped.{call_from, next_of, position_after, calls_from}
 use Rattle.explore_report.specs.OrderText.{call_text, calls_text}
 use Rattle.explore_report.specs.ReportText.{online_below}
 
--- the actor has no line left
-pub no_call : (cast : Cast) (actor : ℕ) (next : Option Action) (text : List ℕ) → None ≡ next → text ≡ text ++ calls_text cast (call_from actor next)
+-- the list has no call left
+pub no_call : (cast : Cast) (next : Option Call) (text : List ℕ) → None ≡ next → text ≡ text ++ calls_text cast (call_from next)
 unfolding calls_text
-no_call cast actor next text is =
-    sym (append-nil text) ∙ ap (λ (o : Option Action). text ++ calls_text cast (call_from actor o)) is
+no_call cast next text is = sym (append-nil text) ∙ ap (λ (o : Option Call). text ++ calls_text cast (call_from o)) is
 
 -- it has this one
-pub one_call : (cast : Cast) (actor : ℕ) (act : Action) (next : Option Action) (old new : List ℕ) → Some act ≡ next →
-    new ≡ old ++ call_text cast (actor, act) → new ≡ old ++ calls_text cast (call_from actor next)
+pub one_call : (cast : Cast) (call : Call) (next : Option Call) (old new : List ℕ) → Some call ≡ next → new ≡ old ++ call_text cast call →
+    new ≡ old ++ calls_text cast (call_from next)
 unfolding calls_text
-one_call cast actor act next old new is put =
-    put ∙ ap (λ (t : List ℕ). old ++ t) (sym (append-nil (call_text cast (actor, act))))
-    ∙ ap (λ (o : Option Action). old ++ calls_text cast (call_from actor o)) is
+one_call cast call next old new is put =
+    put ∙ ap (λ (t : List ℕ). old ++ t) (sym (append-nil (call_text cast call)))
+    ∙ ap (λ (o : Option Call). old ++ calls_text cast (call_from o)) is
 
 calls_both : (cast : Cast) (xs ys : List Call) → calls_text cast (xs ++ ys) ≡ calls_text cast xs ++ calls_text cast ys
 unfolding calls_text
 calls_both cast xs ys = flat_map-append (call_text cast) xs ys
 
 -- one call more of an order
-pub call_more : (cast : Cast) (lists : Lists) (old new : Position) (order : List ℕ) (i : ℕ) (whole now next : List ℕ) → i < length order →
-    now ++ calls_text cast (calls_from lists old (drop i order)) ≡ whole →
-    next ≡ now ++ calls_text cast (call_from (get_or order i 0) (next_line lists old (get_or order i 0))) →
-    new ≡ position_after old (get_or order i 0) (next_line lists old (get_or order i 0)) →
-    next ++ calls_text cast (calls_from lists new (drop (i + 1) order)) ≡ whole
+pub call_more : (cast : Cast) (each : List (List Call)) (old new : Position) (order : List ℕ) (i : ℕ) (whole now next : List ℕ) → i < length order →
+    now ++ calls_text cast (calls_from each old (drop i order)) ≡ whole →
+    next ≡ now ++ calls_text cast (call_from (next_of each old (get_or order i 0))) →
+    new ≡ position_after old (get_or order i 0) (next_of each old (get_or order i 0)) →
+    next ++ calls_text cast (calls_from each new (drop (i + 1) order)) ≡ whole
 unfolding calls_from
-call_more cast lists old new order i whole now next within so_far more moves =
-    let actor = get_or order i 0 in
-    let here = call_from actor (next_line lists old actor) in
-    let later = position_after old actor (next_line lists old actor) in
-    let rest = calls_from lists later (drop (i + 1) order) in
-    let split : calls_from lists old (drop i order) ≡ here ++ rest = at_drop_more (calls_from lists old) order i 0 within in
-    let moved : calls_from lists new (drop (i + 1) order) ≡ rest = ap (λ (p : Position). calls_from lists p (drop (i + 1) order)) moves in
+call_more cast each old new order i whole now next within so_far more moves =
+    let list = get_or order i 0 in
+    let here = call_from (next_of each old list) in
+    let later = position_after old list (next_of each old list) in
+    let rest = calls_from each later (drop (i + 1) order) in
+    let split : calls_from each old (drop i order) ≡ here ++ rest = at_drop_more (calls_from each old) order i 0 within in
+    let moved : calls_from each new (drop (i + 1) order) ≡ rest = ap (λ (p : Position). calls_from each p (drop (i + 1) order)) moves in
     ap (λ (cs : List Call). next ++ calls_text cast cs) moved
     ∙ ap (λ (t : List ℕ). t ++ calls_text cast rest) more
     ∙ append_assoc now (calls_text cast here) (calls_text cast rest)
@@ -51,12 +49,12 @@ call_more cast lists old new order i whole now next within so_far more moves =
     ∙ so_far
 
 -- no call is left
-pub calls_all : (cast : Cast) (lists : Lists) (position : Position) (order : List ℕ) (i : ℕ) (whole now : List ℕ) → length order ≤ i →
-    now ++ calls_text cast (calls_from lists position (drop i order)) ≡ whole → now ≡ whole
+pub calls_all : (cast : Cast) (each : List (List Call)) (position : Position) (order : List ℕ) (i : ℕ) (whole now : List ℕ) → length order ≤ i →
+    now ++ calls_text cast (calls_from each position (drop i order)) ≡ whole → now ≡ whole
 unfolding calls_from calls_text
-calls_all cast lists position order i whole now past so_far =
-    let none : calls_text cast (calls_from lists position (drop i order)) ≡ [] =
-    at_drop_all (λ o. calls_text cast (calls_from lists position o)) order i past in
+calls_all cast each position order i whole now past so_far =
+    let none : calls_text cast (calls_from each position (drop i order)) ≡ [] =
+    at_drop_all (λ o. calls_text cast (calls_from each position o)) order i past in
     sym (append-nil now) ∙ ap (λ (t : List ℕ). now ++ t) (sym none) ∙ so_far
 
 -- no node's list yet

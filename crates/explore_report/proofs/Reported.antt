@@ -10,7 +10,8 @@ use Rattle.explore_core.specs.Orders.{Lists, Call, orders_of}
 use Rattle.explore_core.specs.Explorations.{Outcome, Told, IsExplored}
 use Rattle.explore_core.specs.Counts.{IsCounted, told_number}
 use Rattle.explore_report.specs.Ranks.{IsRanked}
-use Rattle.explore_report.specs.ReportText.{lists_in}
+use Rattle.explore_report.specs.Grouped.{lists_in}
+use Rattle.explore_core.specs.declared.reading.Reading.{Reading}
 use Rattle.explore_core.specs.declared.explore_fault.ExploreFault.{ExploreFault}
 use Rattle.explore_core.specs.declared.explore_fault.ExploreFault.TheVariants as explores
 use Rattle.explore_core.specs.Waypoints.{AreMore}
@@ -23,11 +24,11 @@ pub items_of : {Y : Type 0} (v w : Vec ℕ Y) → v ≡ w → v.items ≡ w.item
 items_of {Y} v w e = ap (λ (x : Vec ℕ Y). x.items) e
 
 -- what was told of the lists is told of the script
-pub exploration_told : (limits : Limits) (s : Script) (calls : List Call) (lists : Lists) (names : Texts) (outcomes ranked : List Outcome)
-    (told : List Told) (orders : Option ℕ) → with_calls [] s.lines ≡ Ok calls → lists ≡ lists_in s.cast calls → names ≡ s.cast.nodes →
+pub exploration_told : (reading : Reading) (limits : Limits) (s : Script) (calls : List Call) (lists : Lists) (names : Texts) (outcomes ranked : List Outcome)
+    (told : List Told) (orders : Option ℕ) → with_calls [] s.lines ≡ Ok calls → lists ≡ lists_in reading s.cast calls → names ≡ s.cast.nodes →
     IsExplored lists (opening_machine names limits) outcomes told → AllByRecursion (IsCounted lists (opening_machine names limits)) outcomes →
-    orders ≡ told_number (length (orders_of lists)) → IsRanked outcomes ranked → IsExplorationOf limits s calls orders ranked told
-exploration_told limits s calls lists names outcomes ranked told orders are_calls lists_are names_are explored counted number falling = record {
+    orders ≡ told_number (length (orders_of lists)) → IsRanked outcomes ranked → IsExplorationOf reading limits s calls orders ranked told
+exploration_told reading limits s calls lists names outcomes ranked told orders are_calls lists_are names_are explored counted number falling = record {
   are_calls = are_calls;
   outcomes = outcomes;
   explored = subst₂ (λ (l : Lists) (n : Texts). IsExplored l (opening_machine n limits) outcomes told) lists_are names_are explored;
@@ -41,24 +42,24 @@ pub outcome_at_place : (os : List Outcome) (number place : ℕ) → number ≡ p
 outcome_at_place os number place is = rw (is, add-one) refl
 
 -- what refuses a report refuses the order of each outcome
-pub refuses_order : (limits : Limits) (most : ℕ) (s : Script) (number : ℕ) (fault : ReportFault) → RefusesReport limits most s fault →
-    RefusesOrder limits most s number fault
-refuses_order limits most s number (faults.Script fault) h = h
-refuses_order limits most s number faults.TooManyStates h = h
-refuses_order limits most s number (faults.NoSuchOutcome outcomes) h = absurd h
-refuses_order limits most s number faults.OutOfMemory h = h
+pub refuses_order : (reading : Reading) (limits : Limits) (most : ℕ) (s : Script) (number : ℕ) (fault : ReportFault) → RefusesReport reading limits most s fault →
+    RefusesOrder reading limits most s number fault
+refuses_order reading limits most s number (faults.Script fault) h = h
+refuses_order reading limits most s number faults.TooManyStates h = h
+refuses_order reading limits most s number (faults.NoSuchOutcome outcomes) h = absurd h
+refuses_order reading limits most s number faults.OutOfMemory h = h
 
 -- why there is no report: what was told of the lists is told of the script
-pub refusal_told : (limits : Limits) (most : ℕ) (s : Script) (calls : List Call) (lists : Lists) (names : Texts) (fault : ExploreFault)
-    (given : ReportFault) → with_calls [] s.lines ≡ Ok calls → lists ≡ lists_in s.cast calls → names ≡ s.cast.nodes →
+pub refusal_told : (reading : Reading) (limits : Limits) (most : ℕ) (s : Script) (calls : List Call) (lists : Lists) (names : Texts) (fault : ExploreFault)
+    (given : ReportFault) → with_calls [] s.lines ≡ Ok calls → lists ≡ lists_in reading s.cast calls → names ≡ s.cast.nodes →
     ((states : ℕ) → fault ≡ explores.TooMany states → AreMore lists (opening_machine names limits) most states) →
-    given ≡ fault_of_explore fault → RefusesReport limits most s given
-refusal_told limits most s calls lists names (explores.TooMany states) given are_calls lists_are names_are more is =
-    subst (RefusesReport limits most s) (sym is) (record {
+    given ≡ fault_of_explore fault → RefusesReport reading limits most s given
+refusal_told reading limits most s calls lists names (explores.TooMany states) given are_calls lists_are names_are more is =
+    subst (RefusesReport reading limits most s) (sym is) (record {
       calls = calls;
       are_calls = are_calls;
       states = states;
       more = subst₂ (λ (l : Lists) (n : Texts). AreMore l (opening_machine n limits) most states) lists_are names_are (more states refl);
     })
-refusal_told limits most s calls lists names explores.OutOfMemory given are_calls lists_are names_are more is =
-    subst (RefusesReport limits most s) (sym is) tt
+refusal_told reading limits most s calls lists names explores.OutOfMemory given are_calls lists_are names_are more is =
+    subst (RefusesReport reading limits most s) (sym is) tt

@@ -6,7 +6,7 @@ use Rattle.bench_core.specs.NameList.{Texts}
 use Rattle.script_core.specs.Casts.{Cast}
 use Rattle.script_core.specs.Rows.{name_at}
 use Rattle.script_core.specs.StepText.{act_line}
-use Rattle.explore_core.specs.Orders.{Lists, Call}
+use Rattle.explore_core.specs.Orders.{Call}
 use Rattle.explore_report.specs.Grouped.{calls_of_order}
 
 -- the name of a node or a console
@@ -40,6 +40,6 @@ consoles_text (name ∷ names) = codes "  consoles" ++ spaced_names (name ∷ na
 unfoldable pub cast_text : Cast → List ℕ
 cast_text cast = codes "  nodes" ++ spaced_names cast.nodes ++ codes "\n" ++ consoles_text cast.consoles
 
--- the calls of these actors, each its actor's next, as a script
-unfoldable pub order_text : Cast → Lists → List ℕ → List ℕ
-order_text cast lists order = cast_text cast ++ calls_text cast (calls_of_order lists order)
+-- the calls that are taken from these lists, each its list's next, as a script
+unfoldable pub order_text : Cast → List (List Call) → List ℕ → List ℕ
+order_text cast each order = cast_text cast ++ calls_text cast (calls_of_order each order)

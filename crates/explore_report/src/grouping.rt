@@ -1,68 +1,108 @@
-//! The lines of each actor, and where they stand in the script.
-ghost use Rattle.std.specs.Prelude.{◌≡◌, ◌++◌, IfOk, OnOk, length, map};
+//! The calls of a script in lists, and where they stand in the script.
+ghost use Rattle.std.specs.Prelude.{◌≡◌, ◌++◌, ◌∷◌, [], IfOk, OnOk};
 ghost use Rattle.bench_core.specs.Acts.{plain_act, calls_of};
 ghost use Rattle.script_core.specs.Scripts.{plain_script};
-ghost use Rattle.explore_core.specs.Orders.{plain_lists};
-ghost use Rattle.explore_report.specs.Grouped.{act_in, acts_of, lists_below, place_of, number_of};
+ghost use Rattle.explore_core.specs.Orders.{plain_each, plain_lists};
+ghost use Rattle.explore_report.specs.Grouped.{call_by, calls_alone, calls_by, lists_below, lists_in, place_in, place_of, number_of};
 
 use bench_core::Act;
+use explore_core::Reading;
 use payload_core::Oom;
-use script_core::{Script, line_number};
+use script_core::{Script, actors, line_number};
 use std::alloc::Allocator;
 
-/// Puts the act behind these, where the call is this actor's.
-fn add_act<A: Allocator + Copy>(
-    acts: &mut Vec<Act<A>, A>,
+/// Puts the call behind these, where it is this actor's.
+fn add_call<A: Allocator + Copy>(
+    own: &mut Vec<(u16, Act<A>), A>,
     call: &(u16, Act<A>),
     actor: u16,
 ) -> Result<(), Oom>
-    ensures { OnOk result (map (λ act. plain_act act) acts.new.items ≡
-        map (λ act. plain_act act) acts.old.items ++ act_in actor (call.now.0, plain_act call.now.1)) }
+    ensures { OnOk result (calls_of own.new.items ≡ calls_of own.old.items ++ call_by actor (call.now.0, plain_act call.now.1)) }
 {
     if call.0 == actor {
-        acts.push(call.1.try_copy()?)?;
+        own.push((call.0, call.1.try_copy()?))?;
     }
     Ok(())
 }
 
-/// The acts of this actor, in order.
-fn acts_of<A: Allocator + Copy>(
+/// The calls of this actor, in order.
+fn calls_by<A: Allocator + Copy>(
     alloc: A,
     calls: &[(u16, Act<A>)],
     actor: u16,
-) -> Result<Vec<Act<A>, A>, Oom>
-    ensures { IfOk result (λ acts. map (λ act. plain_act act) acts.items ≡ acts_of actor (calls_of calls.now)) }
+) -> Result<Vec<(u16, Act<A>), A>, Oom>
+    ensures { IfOk result (λ own. calls_of own.items ≡ calls_by actor (calls_of calls.now)) }
 {
-    let mut acts = Vec::new(alloc);
+    let mut own = Vec::new(alloc);
     for call in calls {
-        add_act(&mut acts, call, actor)?;
+        add_call(&mut own, call, actor)?;
     }
-    Ok(acts)
+    Ok(own)
 }
 
-/// The acts of each actor.
-pub(crate) fn lists_of<A: Allocator + Copy>(
+/// The calls of each actor.
+fn lists_below<A: Allocator + Copy>(
     alloc: A,
     calls: &[(u16, Act<A>)],
     actors: u16,
-) -> Result<Vec<Vec<Act<A>, A>, A>, Oom>
-    ensures lists { IfOk result (λ lists. plain_lists lists.items ≡ lists_below actors (calls_of calls.now)) }
-    ensures count { IfOk result (λ lists. length lists.items ≡ actors) }
+) -> Result<Vec<Vec<(u16, Act<A>), A>, A>, Oom>
+    ensures { IfOk result (λ lists. plain_each lists.items ≡ lists_below actors (calls_of calls.now)) }
 {
     let mut lists = Vec::new(alloc);
     for actor in 0..actors {
-        lists.push(acts_of(alloc, calls, actor)?)?;
+        lists.push(calls_by(alloc, calls, actor)?)?;
     }
     Ok(lists)
 }
 
+/// A list of this call.
+fn alone<A: Allocator + Copy>(
+    alloc: A,
+    call: &(u16, Act<A>),
+) -> Result<Vec<(u16, Act<A>), A>, Oom>
+    ensures { IfOk result (λ list. calls_of list.items ≡ (call.now.0, plain_act call.now.1) ∷ []) }
+{
+    let mut list = Vec::new(alloc);
+    list.push((call.0, call.1.try_copy()?))?;
+    Ok(list)
+}
+
+/// Each call in a list of its own.
+fn calls_alone<A: Allocator + Copy>(
+    alloc: A,
+    calls: &[(u16, Act<A>)],
+) -> Result<Vec<Vec<(u16, Act<A>), A>, A>, Oom>
+    ensures { IfOk result (λ lists. plain_each lists.items ≡ calls_alone (calls_of calls.now)) }
+{
+    let mut lists = Vec::new(alloc);
+    for call in calls {
+        lists.push(alone(alloc, call)?)?;
+    }
+    Ok(lists)
+}
+
+/// The lists by which orders are read so.
+pub(crate) fn lists_in<A: Allocator + Copy>(
+    alloc: A,
+    reading: Reading,
+    script: &Script<A>,
+    calls: &[(u16, Act<A>)],
+) -> Result<Vec<Vec<(u16, Act<A>), A>, A>, Oom>
+    ensures { IfOk result (λ lists. plain_lists reading lists.items ≡ lists_in reading (plain_script script.now).cast (calls_of calls.now)) }
+{
+    match reading {
+        Reading::EveryOrder => lists_below(alloc, calls, actors(script)),
+        Reading::Deliveries => calls_alone(alloc, calls),
+    }
+}
+
 /// The place among all calls of this actor's call with so many of its own before it; behind the last, if there is none.
-fn place_of<A: Allocator>(calls: &[(u16, Act<A>)], actor: u16, before: usize) -> usize
+fn place_of<A: Allocator>(calls: &[(u16, Act<A>)], actor: usize, before: usize) -> usize
     ensures { result ≡ place_of (calls_of calls.now) actor before }
 {
     let mut left = before;
     for (place, call) in calls.iter().enumerate() {
-        if call.0 == actor {
+        if call.0 as usize == actor {
             if left == 0 {
                 return place;
             }
@@ -72,15 +112,31 @@ fn place_of<A: Allocator>(calls: &[(u16, Act<A>)], actor: u16, before: usize) ->
     calls.len()
 }
 
+/// The place among all calls of the call of this place in a list.
+fn place_in<A: Allocator>(
+    reading: Reading,
+    calls: &[(u16, Act<A>)],
+    list: usize,
+    place: usize,
+) -> usize
+    ensures { result ≡ place_in reading (calls_of calls.now) list place }
+{
+    match reading {
+        Reading::EveryOrder => place_of(calls, list, place),
+        Reading::Deliveries => list,
+    }
+}
+
 /// The number of that call's line in the script.
 #[tactic(auto, unfolding(crate::specs::Grouped::number_of))]
 pub(crate) fn number_of<A: Allocator>(
+    reading: Reading,
     script: &Script<A>,
     calls: &[(u16, Act<A>)],
-    actor: u16,
-    before: usize,
+    list: usize,
+    place: usize,
 ) -> u64
-    ensures { result ≡ number_of (plain_script script.now).lines (calls_of calls.now) actor before }
+    ensures { result ≡ number_of reading (plain_script script.now).lines (calls_of calls.now) list place }
 {
-    line_number(script, place_of(calls, actor, before)).unwrap_or(0)
+    line_number(script, place_in(reading, calls, list, place)).unwrap_or(0)
 }

@@ -1,7 +1,7 @@
 //! The law by which the lines that are printed of an order are its calls.
 ghost use Rattle.explore_report.specs.Grouped.{CallsLaw};
 
-/// Calls, each of which is its actor's next line, are those that their actors give.
+/// Picks, each of which may come next, have the calls that their lists give.
 pub fn calls_law()
     ensures { CallsLaw }
 {}

@@ -1,10 +1,10 @@
 //! An order as a script that plays it, each line behind two spaces.
-ghost use Rattle.std.specs.Prelude.{◌≡◌, ◌++◌, ◌<◌, ◌^◌, ◌-◌, OnOk, IfOk, IfSome, option_map, replicate, string_bytes};
+ghost use Rattle.std.specs.Prelude.{◌≡◌, ◌++◌, ◌<◌, ◌^◌, ◌-◌, OnOk, IfOk, IfSome, map, option_map, replicate, string_bytes};
 ghost use Rattle.bench_core.specs.Acts.{plain_act};
 ghost use Rattle.script_core.specs.Rows.{name_at};
 ghost use Rattle.script_core.specs.Scripts.{plain_script};
-ghost use Rattle.explore_core.specs.Orders.{plain_lists, asked_of, next_line, one_more, start_of};
-ghost use Rattle.explore_report.specs.Grouped.{call_from, position_after, calls_of_order};
+ghost use Rattle.explore_core.specs.Orders.{plain_each, asked_of, call_at, one_more};
+ghost use Rattle.explore_report.specs.Grouped.{call_from, next_of, position_after, calls_of_order};
 ghost use Rattle.explore_report.specs.OrderText.{actor_name, call_line, call_text, calls_text, spaced_names, consoles_text, cast_text, order_text};
 
 use bench_core::{Act, Names, TextSet};
@@ -118,46 +118,58 @@ fn put_cast<A: Allocator>(text: &mut String<A>, script: &Script<A>) -> Result<()
     put_consoles(text, console_names(script))
 }
 
-/// The next line of the actor, where it has one.
-fn next_line<'l, A: Allocator>(
-    lists: &'l [Vec<Act<A>, A>],
-    position: &[usize],
-    actor: u16,
-) -> Option<&'l Act<A>>
-    ensures act { option_map (λ act. plain_act act.now) result ≡ next_line (plain_lists lists.now) position.now actor }
-    ensures few { IfSome result (λ _. asked_of position.now actor < 2 ^ 64 - 1) }
+/// The call of this place in a list.
+fn call_at<'l, A: Allocator>(
+    lists: &'l [Vec<(u16, Act<A>), A>],
+    list: usize,
+    place: usize,
+) -> Option<&'l (u16, Act<A>)>
+    ensures call { option_map (λ call. (call.now.0, plain_act call.now.1)) result ≡ call_at (plain_each lists.now) list place }
+    ensures few { IfSome result (λ _. place < 2 ^ 64 - 1) }
 {
-    let asked = position.get(actor as usize).copied().unwrap_or(0);
-    lists.get(actor as usize)?.get(asked)
+    lists.get(list)?.get(place)
 }
 
-/// The next line of the actor was asked.
-fn advance<A: Allocator>(position: &mut Vec<usize, A>, actor: u16)
-    requires { asked_of position.old.items actor < 2 ^ 64 - 1 }
-    ensures { position.new.items ≡ one_more position.old.items actor }
+/// The next call of the list, where it has one.
+fn next_of<'l, A: Allocator>(
+    lists: &'l [Vec<(u16, Act<A>), A>],
+    position: &[usize],
+    list: usize,
+) -> Option<&'l (u16, Act<A>)>
+    ensures call { option_map (λ call. (call.now.0, plain_act call.now.1)) result ≡ next_of (plain_each lists.now) position.now list }
+    ensures few { IfSome result (λ _. asked_of position.now list < 2 ^ 64 - 1) }
 {
-    if let Some(asked) = position.get_mut(actor as usize) {
+    let asked = position.get(list).copied().unwrap_or(0);
+    call_at(lists, list, asked)
+}
+
+/// The next call of the list was asked.
+fn advance<A: Allocator>(position: &mut Vec<usize, A>, list: usize)
+    requires { asked_of position.old.items list < 2 ^ 64 - 1 }
+    ensures { position.new.items ≡ one_more position.old.items list }
+{
+    if let Some(asked) = position.get_mut(list) {
         *asked += 1;
     }
 }
 
-/// The line of the actor's next call, if it has one.
+/// The line of the list's next call, if it has one.
 fn put_next<A: Allocator>(
     text: &mut String<A>,
     script: &Script<A>,
-    lists: &[Vec<Act<A>, A>],
+    lists: &[Vec<(u16, Act<A>), A>],
     position: &mut Vec<usize, A>,
-    actor: u16,
+    list: usize,
 ) -> Result<(), Oom>
     ensures text { OnOk result (string_bytes text.new ≡ string_bytes text.old ++
-        calls_text (plain_script script.now).cast (call_from actor (next_line (plain_lists lists.now) position.old.items actor))) }
-    ensures position { OnOk result (position.new.items ≡ position_after position.old.items actor (next_line (plain_lists lists.now) position.old.items actor)) }
+        calls_text (plain_script script.now).cast (call_from (next_of (plain_each lists.now) position.old.items list))) }
+    ensures position { OnOk result (position.new.items ≡ position_after position.old.items list (next_of (plain_each lists.now) position.old.items list)) }
 {
-    let Some(act) = next_line(lists, position.as_slice(), actor) else {
+    let Some(call) = next_of(lists, position.as_slice(), list) else {
         return Ok(());
     };
-    put_call(text, script, actor, act)?;
-    advance(position, actor);
+    put_call(text, script, call.0, &call.1)?;
+    advance(position, list);
     Ok(())
 }
 
@@ -168,42 +180,42 @@ fn zeros<A: Allocator>(alloc: A, count: usize) -> Result<Vec<usize, A>, Oom>
     vec![in alloc; 0usize; count]
 }
 
-/// None of the lines of each actor.
-fn nowhere<A: Allocator>(alloc: A, lists: &[Vec<Act<A>, A>]) -> Result<Vec<usize, A>, Oom>
-    ensures { IfOk result (λ v. v.items ≡ start_of (plain_lists lists.now)) }
+/// None of the calls of each list.
+fn nowhere<A: Allocator>(alloc: A, lists: &[Vec<(u16, Act<A>), A>]) -> Result<Vec<usize, A>, Oom>
+    ensures { IfOk result (λ v. v.items ≡ map (λ _. 0) (plain_each lists.now)) }
 {
     zeros(alloc, lists.len())
 }
 
-/// The calls of these actors, each its actor's next.
+/// The calls that are taken from these lists, each its list's next.
 fn put_calls<A: Allocator + Copy>(
     alloc: A,
     text: &mut String<A>,
     script: &Script<A>,
-    lists: &[Vec<Act<A>, A>],
-    order: &[u16],
+    lists: &[Vec<(u16, Act<A>), A>],
+    order: &[usize],
 ) -> Result<(), Oom>
     ensures { OnOk result (string_bytes text.new ≡ string_bytes text.old ++
-        calls_text (plain_script script.now).cast (calls_of_order (plain_lists lists.now) order.now)) }
+        calls_text (plain_script script.now).cast (calls_of_order (plain_each lists.now) order.now)) }
 {
     let mut position = nowhere(alloc, lists)?;
-    for actor in order {
-        put_next(text, script, lists, &mut position, *actor)?;
+    for list in order {
+        put_next(text, script, lists, &mut position, *list)?;
     }
     Ok(())
 }
 
-/// The calls of these actors as a script.
+/// The same as a script.
 #[tactic(auto, unfolding(crate::specs::OrderText::order_text))]
 pub(crate) fn put_order<A: Allocator + Copy>(
     alloc: A,
     text: &mut String<A>,
     script: &Script<A>,
-    lists: &[Vec<Act<A>, A>],
-    order: &[u16],
+    lists: &[Vec<(u16, Act<A>), A>],
+    order: &[usize],
 ) -> Result<(), Oom>
     ensures { OnOk result (string_bytes text.new ≡ string_bytes text.old ++
-        order_text (plain_script script.now).cast (plain_lists lists.now) order.now) }
+        order_text (plain_script script.now).cast (plain_each lists.now) order.now) }
 {
     put_cast(text, script)?;
     put_calls(alloc, text, script, lists, order)

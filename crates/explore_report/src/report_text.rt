@@ -2,25 +2,26 @@
 ghost use Rattle.std.specs.Prelude.{◌≡◌, ◌++◌, ◌∷◌, [], IfOk, OnOk, length, string_bytes};
 ghost use Rattle.bench_core.specs.Acts.{calls_of};
 ghost use Rattle.script_core.specs.Scripts.{plain_script};
-ghost use Rattle.explore_core.specs.Orders.{plain_lists};
+ghost use Rattle.explore_core.specs.Orders.{plain_each, plain_lists};
 ghost use Rattle.explore_report.specs.OrderText.{order_text};
-ghost use Rattle.explore_report.specs.ReportText.{number_text, online_below, outcome_line, outcome_text, outcomes_text, fault_line, refused_line, refusal_text, refusals_text, counts_line, text_of_all};
+ghost use Rattle.explore_report.specs.ReportText.{number_text, online_below, outcome_line, outcome_text, outcomes_text, fault_line, refused_line, refusal_text, refusals_text, orders_text, counts_line, agreed_text, text_of_all};
 
 use crate::grouping::number_of;
 use crate::order_text::put_order;
 use bench_core::{Act, Bench, Fault};
-use explore_core::{Explored, Outcome, Refusal};
+use explore_core::{Explored, Outcome, Reading, Refusal};
 use payload_core::Oom;
 use script_core::{Script, show};
 use std::alloc::Allocator;
 
-/// The script whose orders are told: its calls, and those of each actor.
+/// The script whose orders are told: its calls, how their orders are read, and the lists for that.
 #[derive(Drop)]
 pub(crate) struct Page<'l, 'a, B: Allocator> {
     pub(crate) alloc: &'a B,
     pub(crate) script: &'l Script<&'a B>,
     pub(crate) calls: &'l [(u16, Act<&'a B>)],
-    pub(crate) lists: &'l [Vec<Act<&'a B>, &'a B>],
+    pub(crate) reading: Reading,
+    pub(crate) lists: &'l [Vec<(u16, Act<&'a B>), &'a B>],
 }
 
 /// The online list of each node.
@@ -70,7 +71,7 @@ fn put_outcome<'a, B: Allocator>(
     outcome: &Outcome<'a, B>,
 ) -> Result<(), Oom>
     ensures { OnOk result (string_bytes text.new ≡ string_bytes text.old ++
-        outcome_text (plain_script page.now.script.now).cast (plain_lists page.now.lists.now) number outcome.now) }
+        outcome_text (plain_script page.now.script.now).cast (plain_each page.now.lists.now) number outcome.now) }
 {
     put_outcome_line(text, number, outcome.orders)?;
     put_online(page.alloc, text, &outcome.bench)?;
@@ -85,7 +86,7 @@ fn put_outcomes<'a, B: Allocator>(
     outcomes: &[Outcome<'a, B>],
 ) -> Result<(), Oom>
     ensures { OnOk result (string_bytes text.new ≡ string_bytes text.old ++
-        outcomes_text (plain_script page.now.script.now).cast (plain_lists page.now.lists.now) 1 outcomes.now) }
+        outcomes_text (plain_script page.now.script.now).cast (plain_each page.now.lists.now) 1 outcomes.now) }
 {
     for (place, outcome) in outcomes.iter().enumerate() {
         put_outcome(page, text, place as u64 + 1, outcome)?;
@@ -93,12 +94,12 @@ fn put_outcomes<'a, B: Allocator>(
     Ok(())
 }
 
-/// The actors of the calls up to the line that is refused.
-fn up_to<'a, B: Allocator>(alloc: &'a B, refusal: &Refusal<'a, B>) -> Result<Vec<u16, &'a B>, Oom>
-    ensures { IfOk result (λ order. order.items ≡ refusal.now.order ++ refusal.now.refusal.actor ∷ []) }
+/// The lists of the calls up to the one that is refused.
+fn up_to<'a, B: Allocator>(alloc: &'a B, refusal: &Refusal<'a, B>) -> Result<Vec<usize, &'a B>, Oom>
+    ensures { IfOk result (λ order. order.items ≡ refusal.now.order ++ refusal.now.refusal.list ∷ []) }
 {
     let mut order = Vec::from_slice(alloc, &refusal.order)?;
-    order.push(refusal.actor)?;
+    order.push(refusal.list)?;
     Ok(order)
 }
 
@@ -118,9 +119,9 @@ fn put_refused_line<'a, B: Allocator>(
     refusal: &Refusal<'a, B>,
 ) -> Result<(), Oom>
     ensures { OnOk result (string_bytes text.new ≡ string_bytes text.old ++
-        refused_line (plain_script page.now.script.now).lines (calls_of page.now.calls.now) refusal.now.refusal) }
+        refused_line page.now.reading (plain_script page.now.script.now).lines (calls_of page.now.calls.now) refusal.now.refusal) }
 {
-    let line = number_of(page.script, page.calls, refusal.actor, refusal.line);
+    let line = number_of(page.reading, page.script, page.calls, refusal.list, refusal.place);
     put_refused(text, line, refusal.fault)
 }
 
@@ -132,7 +133,7 @@ fn put_refusal<'a, B: Allocator>(
     refusal: &Refusal<'a, B>,
 ) -> Result<(), Oom>
     ensures { OnOk result (string_bytes text.new ≡ string_bytes text.old ++
-        refusal_text (plain_script page.now.script.now) (calls_of page.now.calls.now) (plain_lists page.now.lists.now) refusal.now) }
+        refusal_text (plain_script page.now.script.now) (calls_of page.now.calls.now) (plain_lists page.now.reading page.now.lists.now) refusal.now) }
 {
     put_refused_line(page, text, refusal)?;
     let order = up_to(page.alloc, refusal)?;
@@ -147,7 +148,7 @@ fn put_refusals<'a, B: Allocator>(
     refusals: &[Refusal<'a, B>],
 ) -> Result<(), Oom>
     ensures { OnOk result (string_bytes text.new ≡ string_bytes text.old ++
-        refusals_text (plain_script page.now.script.now) (calls_of page.now.calls.now) (plain_lists page.now.lists.now) refusals.now) }
+        refusals_text (plain_script page.now.script.now) (calls_of page.now.calls.now) (plain_lists page.now.reading page.now.lists.now) refusals.now) }
 {
     for refusal in refusals {
         put_refusal(page, text, refusal)?;
@@ -155,23 +156,58 @@ fn put_refusals<'a, B: Allocator>(
     Ok(())
 }
 
-/// `orders O states S outcomes K refusals R`.
+/// How many orders there are.
+#[tactic(auto, unfolding(crate::specs::ReportText::orders_text))]
+fn put_orders<A: Allocator>(
+    text: &mut String<A>,
+    reading: Reading,
+    orders: Option<u128>,
+) -> Result<(), Oom>
+    ensures { OnOk result (string_bytes text.new ≡ string_bytes text.old ++ orders_text reading orders) }
+{
+    match reading {
+        Reading::EveryOrder => {
+            text.push_str("orders ")?;
+            put_number(text, orders)
+        }
+        Reading::Deliveries => {
+            text.push_str("orders of deliveries ")?;
+            put_number(text, orders)
+        }
+    }
+}
+
+/// `orders O states S outcomes K refusals R`, or `orders of deliveries O ..`.
 #[tactic(auto, unfolding(crate::specs::ReportText::counts_line))]
 fn put_counts<A: Allocator>(
     text: &mut String<A>,
+    reading: Reading,
     orders: Option<u128>,
     states: usize,
     outcomes: usize,
     refusals: usize,
 ) -> Result<(), Oom>
-    ensures { OnOk result (string_bytes text.new ≡ string_bytes text.old ++ counts_line orders states outcomes refusals) }
+    ensures { OnOk result (string_bytes text.new ≡ string_bytes text.old ++ counts_line reading orders states outcomes refusals) }
 {
-    text.push_str("orders ")?;
-    put_number(text, orders)?;
+    put_orders(text, reading, orders)?;
     Ok(writeln!(
         text,
         " states {states} outcomes {outcomes} refusals {refusals}"
     )?)
+}
+
+/// That all orders of deliveries lead to the same nodes, where they do.
+fn put_agreed<A: Allocator>(
+    text: &mut String<A>,
+    reading: Reading,
+    outcomes: usize,
+) -> Result<(), Oom>
+    ensures { OnOk result (string_bytes text.new ≡ string_bytes text.old ++ agreed_text reading outcomes) }
+{
+    if reading == Reading::Deliveries && outcomes == 1 {
+        text.push_str("all orders of deliveries lead to the same nodes\n")?;
+    }
+    Ok(())
 }
 
 /// The counts, the outcomes and the refusals.
@@ -180,16 +216,18 @@ pub(crate) fn text_of<'a, B: Allocator>(
     explored: &Explored<'a, B>,
 ) -> Result<String<&'a B>, Oom>
     ensures { IfOk result (λ text. string_bytes text ≡ text_of_all (plain_script page.now.script.now) (calls_of page.now.calls.now)
-        (plain_lists page.now.lists.now) explored.now.orders explored.now.states explored.now.outcomes.items explored.now.refusals.items) }
+        (plain_lists page.now.reading page.now.lists.now) explored.now.orders explored.now.states explored.now.outcomes.items explored.now.refusals.items) }
 {
     let mut text = String::new(page.alloc);
     put_counts(
         &mut text,
+        page.reading,
         explored.orders,
         explored.states,
         explored.outcomes.len(),
         explored.refusals.len(),
     )?;
+    put_agreed(&mut text, page.reading, explored.outcomes.len())?;
     put_outcomes(page, &mut text, &explored.outcomes)?;
     put_refusals(page, &mut text, &explored.refusals)?;
     Ok(text)
@@ -200,7 +238,7 @@ pub(crate) fn script_of<'a, B: Allocator>(
     page: &Page<'_, 'a, B>,
     outcome: &Outcome<'a, B>,
 ) -> Result<String<&'a B>, Oom>
-    ensures { IfOk result (λ text. string_bytes text ≡ order_text (plain_script page.now.script.now).cast (plain_lists page.now.lists.now) outcome.now.order) }
+    ensures { IfOk result (λ text. string_bytes text ≡ order_text (plain_script page.now.script.now).cast (plain_each page.now.lists.now) outcome.now.order) }
 {
     let mut text = String::new(page.alloc);
     put_order(

@@ -5,16 +5,17 @@ ghost use Rattle.bench_core.specs.Limits.{Limits as Four};
 ghost use Rattle.script_core.specs.Grammar.{with_calls};
 ghost use Rattle.script_core.specs.Scripts.{plain_script};
 ghost use Rattle.explore_core.specs.Orders.{plain_lists};
-ghost use Rattle.explore_report.specs.ReportText.{lists_in};
+ghost use Rattle.explore_report.specs.Grouped.{lists_in};
+ghost use Rattle.explore_core.specs.declared.reading.Reading.{Reading as Read};
 ghost use Rattle.explore_report.specs.Reports.{IsExplorationOf, IsReport, IsOrderOf, outcome_at, RefusesReport, RefusesOrder};
 
-use crate::grouping::lists_of;
+use crate::grouping::lists_in;
 use crate::ranking::rank_outcomes;
 use crate::report_fault::ReportFault;
 use crate::report_text::{Page, script_of, text_of};
 use bench_core::{Act, Limits};
-use explore_core::{Explored, Outcome, explore};
-use script_core::{FaultKind, Script, actors, acts, node_names};
+use explore_core::{Explored, Outcome, Reading, explore};
+use script_core::{FaultKind, Script, acts, node_names};
 use std::alloc::Allocator;
 
 /// The calls of the script's act lines.
@@ -23,7 +24,7 @@ fn calls_in<'a, B: Allocator>(
     script: &Script<&'a B>,
 ) -> Result<Vec<(u16, Act<&'a B>), &'a B>, ReportFault>
     ensures calls { IfOk result (λ calls. with_calls [] (plain_script script.now).lines ≡ Ok (calls_of calls.items)) }
-    ensures cause { IfErr result (λ fault. (limits : Four) (most : ℕ) → RefusesReport limits most (plain_script script.now) fault) }
+    ensures cause { IfErr result (λ fault. (reading : Read) (limits : Four) (most : ℕ) → RefusesReport reading limits most (plain_script script.now) fault) }
 {
     match acts(alloc, script) {
         Ok(calls) => Ok(calls),
@@ -32,8 +33,8 @@ fn calls_in<'a, B: Allocator>(
     }
 }
 
-/// Lets go of the lines of each actor.
-fn discard<A: Allocator>(lists: Vec<Vec<Act<A>, A>, A>) {
+/// Lets go of the lists.
+fn discard<A: Allocator>(lists: Vec<Vec<(u16, Act<A>), A>, A>) {
     drop(lists);
 }
 
@@ -43,14 +44,13 @@ fn explore_page<'a, B: Allocator>(
     limits: Limits,
     most: usize,
 ) -> Result<Explored<'a, B>, ReportFault>
-    requires few { length page.now.lists.now < 2 ^ 16 }
     requires calls { with_calls [] (plain_script page.now.script.now).lines ≡ Ok (calls_of page.now.calls.now) }
-    requires lists { plain_lists page.now.lists.now ≡ lists_in (plain_script page.now.script.now).cast (calls_of page.now.calls.now) }
-    ensures exploration { IfOk result (λ e. IsExplorationOf limits (plain_script page.now.script.now) (calls_of page.now.calls.now) e.orders e.outcomes.items e.refusals.items) }
-    ensures cause { IfErr result (RefusesReport limits most (plain_script page.now.script.now)) }
+    requires lists { plain_lists page.now.reading page.now.lists.now ≡ lists_in page.now.reading (plain_script page.now.script.now).cast (calls_of page.now.calls.now) }
+    ensures exploration { IfOk result (λ e. IsExplorationOf page.now.reading limits (plain_script page.now.script.now) (calls_of page.now.calls.now) e.orders e.outcomes.items e.refusals.items) }
+    ensures cause { IfErr result (RefusesReport page.now.reading limits most (plain_script page.now.script.now)) }
 {
     let names = node_names(page.script).try_copy()?;
-    let mut explored = explore(page.alloc, names, limits, page.lists, most)?;
+    let mut explored = explore(page.alloc, names, limits, page.reading, page.lists, most)?;
     rank_outcomes(&mut explored.outcomes)?;
     Ok(explored)
 }
@@ -61,11 +61,10 @@ fn report_page<'a, B: Allocator>(
     limits: Limits,
     most: usize,
 ) -> Result<Vec<u8, &'a B>, ReportFault>
-    requires few { length page.now.lists.now < 2 ^ 16 }
     requires calls { with_calls [] (plain_script page.now.script.now).lines ≡ Ok (calls_of page.now.calls.now) }
-    requires lists { plain_lists page.now.lists.now ≡ lists_in (plain_script page.now.script.now).cast (calls_of page.now.calls.now) }
-    ensures report { IfOk result (λ text. IsReport limits (plain_script page.now.script.now) text.items) }
-    ensures cause { IfErr result (RefusesReport limits most (plain_script page.now.script.now)) }
+    requires lists { plain_lists page.now.reading page.now.lists.now ≡ lists_in page.now.reading (plain_script page.now.script.now).cast (calls_of page.now.calls.now) }
+    ensures report { IfOk result (λ text. IsReport page.now.reading limits (plain_script page.now.script.now) text.items) }
+    ensures cause { IfErr result (RefusesReport page.now.reading limits most (plain_script page.now.script.now)) }
 {
     let explored = explore_page(page, limits, most)?;
     let text = text_of(page, &explored)?;
@@ -91,11 +90,10 @@ fn order_page<'a, B: Allocator>(
     most: usize,
     number: u64,
 ) -> Result<Vec<u8, &'a B>, ReportFault>
-    requires few { length page.now.lists.now < 2 ^ 16 }
     requires calls { with_calls [] (plain_script page.now.script.now).lines ≡ Ok (calls_of page.now.calls.now) }
-    requires lists { plain_lists page.now.lists.now ≡ lists_in (plain_script page.now.script.now).cast (calls_of page.now.calls.now) }
-    ensures order { IfOk result (λ text. IsOrderOf limits (plain_script page.now.script.now) number text.items) }
-    ensures cause { IfErr result (RefusesOrder limits most (plain_script page.now.script.now) number) }
+    requires lists { plain_lists page.now.reading page.now.lists.now ≡ lists_in page.now.reading (plain_script page.now.script.now).cast (calls_of page.now.calls.now) }
+    ensures order { IfOk result (λ text. IsOrderOf page.now.reading limits (plain_script page.now.script.now) number text.items) }
+    ensures cause { IfErr result (RefusesOrder page.now.reading limits most (plain_script page.now.script.now) number) }
 {
     let explored = explore_page(page, limits, most)?;
     let Some(outcome) = outcome_at(&explored.outcomes, number) else {
@@ -107,23 +105,25 @@ fn order_page<'a, B: Allocator>(
     Ok(text.into_bytes())
 }
 
-/// The text of what all orders of the script's act lines lead to, in which those of each actor keep their order, on a bench with
-/// these limits; or why there is none. No more different states than `most` are kept.
+/// The text of what all orders of the script's act lines lead to, by this reading, on a bench with these limits; or why there is
+/// none. No more different states than `most` are kept.
 pub fn report_orders<'a, B: Allocator>(
     alloc: &'a B,
     script: &Script<&'a B>,
     limits: Limits,
+    reading: Reading,
     most: usize,
 ) -> Result<Vec<u8, &'a B>, ReportFault>
-    ensures report { IfOk result (λ text. IsReport limits (plain_script script.now) text.items) }
-    ensures cause { IfErr result (RefusesReport limits most (plain_script script.now)) }
+    ensures report { IfOk result (λ text. IsReport reading limits (plain_script script.now) text.items) }
+    ensures cause { IfErr result (RefusesReport reading limits most (plain_script script.now)) }
 {
     let calls = calls_in(alloc, script)?;
-    let lists = lists_of(alloc, &calls, actors(script))?;
+    let lists = lists_in(alloc, reading, script, &calls)?;
     let page = Page {
         alloc,
         script,
         calls: calls.as_slice(),
+        reading,
         lists: lists.as_slice(),
     };
     let told = report_page(&page, limits, most);
@@ -136,18 +136,20 @@ pub fn order_of_outcome<'a, B: Allocator>(
     alloc: &'a B,
     script: &Script<&'a B>,
     limits: Limits,
+    reading: Reading,
     most: usize,
     number: u64,
 ) -> Result<Vec<u8, &'a B>, ReportFault>
-    ensures order { IfOk result (λ text. IsOrderOf limits (plain_script script.now) number text.items) }
-    ensures cause { IfErr result (RefusesOrder limits most (plain_script script.now) number) }
+    ensures order { IfOk result (λ text. IsOrderOf reading limits (plain_script script.now) number text.items) }
+    ensures cause { IfErr result (RefusesOrder reading limits most (plain_script script.now) number) }
 {
     let calls = calls_in(alloc, script)?;
-    let lists = lists_of(alloc, &calls, actors(script))?;
+    let lists = lists_in(alloc, reading, script, &calls)?;
     let page = Page {
         alloc,
         script,
         calls: calls.as_slice(),
+        reading,
         lists: lists.as_slice(),
     };
     let told = order_page(&page, limits, most, number);

@@ -37,22 +37,45 @@ fn act_of<'a, B: Allocator>(rt: &impl Abort, alloc: &'a B, line: Line) -> Act<&'
     }
 }
 
-/// The lines of each actor.
-pub type Lists<'a, B> = Vec<Vec<Act<&'a B>, &'a B>, &'a B>;
+/// The calls of each list.
+pub type Lists<'a, B> = Vec<Vec<(u16, Act<&'a B>), &'a B>, &'a B>;
 
+/// For each actor a list of its lines.
 pub fn lists_of<'a, B: Allocator>(
     rt: &impl Abort,
     alloc: &'a B,
     lists: &[&[Line]],
 ) -> Lists<'a, B> {
     let mut all = Vec::new(alloc);
-    for lines in lists {
-        let mut acts = Vec::new(alloc);
+    for (actor, lines) in lists.iter().enumerate() {
+        let mut calls = Vec::new(alloc);
         for line in *lines {
-            acts.push(act_of(rt, alloc, *line))
+            calls
+                .push((number_of(rt, actor), act_of(rt, alloc, *line)))
                 .expect(rt, "room for a line");
         }
-        all.push(acts).expect(rt, "room for an actor");
+        all.push(calls).expect(rt, "room for an actor");
+    }
+    all
+}
+
+fn number_of(rt: &impl Abort, actor: usize) -> u16 {
+    u16::try_from(actor).expect(rt, "few actors")
+}
+
+/// For each line, with its actor, a list of its own.
+pub fn lines_alone<'a, B: Allocator>(
+    rt: &impl Abort,
+    alloc: &'a B,
+    lines: &[(u16, Line)],
+) -> Lists<'a, B> {
+    let mut all = Vec::new(alloc);
+    for (actor, line) in lines {
+        let mut calls = Vec::new(alloc);
+        calls
+            .push((*actor, act_of(rt, alloc, *line)))
+            .expect(rt, "room for a line");
+        all.push(calls).expect(rt, "room for a list");
     }
     all
 }

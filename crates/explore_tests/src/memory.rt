@@ -1,7 +1,7 @@
 //! Want of memory at each request in turn.
 use crate::lines::Line::{Broadcast, Deliver, Join, Up};
 use crate::lines::{limits_of, lists_of, names_of};
-use explore_core::{ExploreFault, explore};
+use explore_core::{ExploreFault, Reading, explore};
 use test_alloc::Refusing;
 
 #[test]
@@ -15,10 +15,16 @@ fn want_of_memory_is_told(rt: HostRuntime) {
             &heap,
             &[&[Join(1), Broadcast], &[Up(0), Deliver(0, 1)]],
         );
-        assert!(rt; lists.len() < 65_536);
         let names = names_of(&rt, &heap);
         heap.refuse_only(number);
-        let explored = explore(&heap, names, limits_of(&rt, 100), &lists, 100);
+        let explored = explore(
+            &heap,
+            names,
+            limits_of(&rt, 100),
+            Reading::EveryOrder,
+            &lists,
+            100,
+        );
         if heap.requests() < number {
             assert!(rt; explored.is_ok());
             break;

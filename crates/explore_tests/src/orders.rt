@@ -1,40 +1,46 @@
 //! Small sets of lines whose orders were gone through by hand.
 use crate::lines::Line::{self, Back, Broadcast, Deliver, Join, Undo, Up};
-use crate::lines::{Lists, limits_of, lists_of, names_of};
+use crate::lines::{Lists, limits_of, lines_alone, lists_of, names_of};
 use bench_core::{Bench, Fault, Names};
-use explore_core::{ExploreFault, Explored, explore};
+use explore_core::{ExploreFault, Explored, Reading, explore};
 use std::alloc::{Allocator, Global};
 use std::process::Abort;
 
-/// The actors of an order, how many entries the nodes `a` and `b` have after it, and how many orders lead there.
+/// The lists of an order, how many entries the nodes `a` and `b` have after it, and how many orders lead there.
 struct Ends {
-    order: &'static [u16],
+    order: &'static [usize],
     entries: [usize; 2],
     orders: u128,
 }
 
-/// An actor, the place of its line, and why it is refused; and the actors of the calls before it.
+/// A list, the place of its call, and why it is refused; and the lists of the calls before it.
 struct Refused {
-    actor: u16,
-    line: usize,
+    list: usize,
+    place: usize,
     fault: Fault,
-    order: &'static [u16],
+    order: &'static [usize],
+}
+
+/// For each actor its lines, of which every order is tried; or lines with their actors, of which deliveries alone move.
+enum Lines {
+    OfActors(&'static [&'static [Line]]),
+    InTurn(&'static [(u16, Line)]),
 }
 
 struct Case {
     acts: u64,
-    lists: &'static [&'static [Line]],
+    lines: Lines,
     orders: u128,
     outcomes: &'static [Ends],
     refusals: &'static [Refused],
     states: usize,
 }
 
-const CASES: [Case; 6] = [
+const CASES: [Case; 9] = [
     // A delivery before the broadcast is refused, in three of six orders.
     Case {
         acts: 100,
-        lists: &[&[Join(1), Broadcast], &[Up(0), Deliver(0, 1)]],
+        lines: Lines::OfActors(&[&[Join(1), Broadcast], &[Up(0), Deliver(0, 1)]]),
         orders: 6,
         outcomes: &[
             Ends {
@@ -49,8 +55,8 @@ const CASES: [Case; 6] = [
             },
         ],
         refusals: &[Refused {
-            actor: 1,
-            line: 1,
+            list: 1,
+            place: 1,
             fault: Fault::NoSuchMessage,
             order: &[1],
         }],
@@ -59,7 +65,7 @@ const CASES: [Case; 6] = [
     // Nodes that read nothing of one another: all orders agree.
     Case {
         acts: 100,
-        lists: &[&[Join(1), Broadcast], &[Join(2), Broadcast]],
+        lines: Lines::OfActors(&[&[Join(1), Broadcast], &[Join(2), Broadcast]]),
         orders: 6,
         outcomes: &[Ends {
             order: &[0, 0, 1, 1],
@@ -73,10 +79,10 @@ const CASES: [Case; 6] = [
     // before its last, 1 + 4 + 10.
     Case {
         acts: 100,
-        lists: &[
+        lines: Lines::OfActors(&[
             &[Up(1), Join(1), Broadcast, Deliver(1, 1)],
             &[Up(0), Join(2), Broadcast, Deliver(0, 1)],
-        ],
+        ]),
         orders: 70,
         outcomes: &[
             Ends {
@@ -97,14 +103,14 @@ const CASES: [Case; 6] = [
         ],
         refusals: &[
             Refused {
-                actor: 0,
-                line: 3,
+                list: 0,
+                place: 3,
                 fault: Fault::NoSuchMessage,
                 order: &[0, 0, 0],
             },
             Refused {
-                actor: 1,
-                line: 3,
+                list: 1,
+                place: 3,
                 fault: Fault::NoSuchMessage,
                 order: &[1, 1, 1],
             },
@@ -114,7 +120,7 @@ const CASES: [Case; 6] = [
     // There is room for one step, and the other is refused.
     Case {
         acts: 3,
-        lists: &[&[Join(1)], &[Join(2)]],
+        lines: Lines::OfActors(&[&[Join(1)], &[Join(2)]]),
         orders: 2,
         outcomes: &[
             Ends {
@@ -130,14 +136,14 @@ const CASES: [Case; 6] = [
         ],
         refusals: &[
             Refused {
-                actor: 1,
-                line: 0,
+                list: 1,
+                place: 0,
                 fault: Fault::HistoryFull,
                 order: &[0],
             },
             Refused {
-                actor: 0,
-                line: 0,
+                list: 0,
+                place: 0,
                 fault: Fault::HistoryFull,
                 order: &[1],
             },
@@ -147,7 +153,7 @@ const CASES: [Case; 6] = [
     // A console undoes the join before it is there, between, and when the broadcast follows from it: refused in two of three.
     Case {
         acts: 100,
-        lists: &[&[Join(1), Broadcast], &[], &[Undo(1)]],
+        lines: Lines::OfActors(&[&[Join(1), Broadcast], &[], &[Undo(1)]]),
         orders: 3,
         outcomes: &[
             Ends {
@@ -163,14 +169,14 @@ const CASES: [Case; 6] = [
         ],
         refusals: &[
             Refused {
-                actor: 2,
-                line: 0,
+                list: 2,
+                place: 0,
                 fault: Fault::NoSuchStep,
                 order: &[],
             },
             Refused {
-                actor: 2,
-                line: 0,
+                list: 2,
+                place: 0,
                 fault: Fault::HasConsequence {
                     step: 1,
                     held_by: 2,
@@ -178,8 +184,8 @@ const CASES: [Case; 6] = [
                 order: &[0, 0],
             },
             Refused {
-                actor: 0,
-                line: 1,
+                list: 0,
+                place: 1,
                 fault: Fault::NothingToSend,
                 order: &[0, 2],
             },
@@ -189,7 +195,7 @@ const CASES: [Case; 6] = [
     // No lines: one order, of no calls.
     Case {
         acts: 100,
-        lists: &[],
+        lines: Lines::OfActors(&[]),
         orders: 1,
         outcomes: &[Ends {
             order: &[],
@@ -198,6 +204,82 @@ const CASES: [Case; 6] = [
         }],
         refusals: &[],
         states: 1,
+    },
+    // A node hears of two joins, in either order of its deliveries: they agree.
+    Case {
+        acts: 100,
+        lines: Lines::InTurn(&[
+            (0, Join(1)),
+            (0, Broadcast),
+            (1, Up(0)),
+            (0, Join(2)),
+            (0, Broadcast),
+            (1, Deliver(0, 1)),
+            (1, Deliver(0, 2)),
+        ]),
+        orders: 2,
+        outcomes: &[Ends {
+            order: &[0, 1, 2, 3, 4, 5, 6],
+            entries: [2, 2],
+            orders: 2,
+        }],
+        refusals: &[],
+        states: 9,
+    },
+    // The same, but one delivery stands before the second broadcast: where the second message is to come there, it isn't sent yet.
+    Case {
+        acts: 100,
+        lines: Lines::InTurn(&[
+            (0, Join(1)),
+            (0, Broadcast),
+            (1, Up(0)),
+            (1, Deliver(0, 1)),
+            (0, Join(2)),
+            (0, Broadcast),
+            (1, Deliver(0, 2)),
+        ]),
+        orders: 2,
+        outcomes: &[
+            Ends {
+                order: &[0, 1, 2, 3, 4, 5, 6],
+                entries: [2, 2],
+                orders: 1,
+            },
+            Ends {
+                order: &[0, 1, 2, 6, 4, 5, 3],
+                entries: [2, 1],
+                orders: 1,
+            },
+        ],
+        refusals: &[Refused {
+            list: 6,
+            place: 0,
+            fault: Fault::NoSuchMessage,
+            order: &[0, 1, 2],
+        }],
+        states: 12,
+    },
+    // Each node has one delivery, which moves within the lines of that node alone.
+    Case {
+        acts: 100,
+        lines: Lines::InTurn(&[
+            (0, Up(1)),
+            (1, Up(0)),
+            (0, Join(1)),
+            (0, Broadcast),
+            (1, Join(2)),
+            (1, Broadcast),
+            (1, Deliver(0, 1)),
+            (0, Deliver(1, 1)),
+        ]),
+        orders: 1,
+        outcomes: &[Ends {
+            order: &[0, 1, 2, 3, 4, 5, 6, 7],
+            entries: [2, 2],
+            orders: 1,
+        }],
+        refusals: &[],
+        states: 9,
     },
 ];
 
@@ -231,30 +313,40 @@ fn check_refusals<'a, B: Allocator>(
 ) {
     assert_eq!(rt; explored.refusals.len(), refusals.len());
     for (told, refused) in explored.refusals.iter().zip(refusals) {
-        assert_eq!(rt; (told.actor, told.line), (refused.actor, refused.line));
+        assert_eq!(rt; (told.list, told.place), (refused.list, refused.place));
         assert_eq!(rt; told.fault, refused.fault);
         assert_eq!(rt; told.order.as_slice(), refused.order);
+    }
+}
+
+/// The calls of these lines in lists, and how their orders are read.
+fn lists_in<'a, B: Allocator>(
+    rt: &impl Abort,
+    heap: &'a B,
+    lines: &Lines,
+) -> (Reading, Lists<'a, B>) {
+    match lines {
+        Lines::OfActors(lists) => (Reading::EveryOrder, lists_of(rt, heap, lists)),
+        Lines::InTurn(lines) => (Reading::Deliveries, lines_alone(rt, heap, lines)),
     }
 }
 
 fn explored_in<'a, B: Allocator>(
     rt: &impl Abort,
     heap: &'a B,
-    lists: &Lists<'a, B>,
     case: &Case,
     most: usize,
 ) -> Result<Explored<'a, B>, ExploreFault> {
-    assert!(rt; lists.len() < 65_536);
-    let names = names_of(rt, heap);
-    explore(heap, names, limits_of(rt, case.acts), lists, most)
+    let (reading, lists) = lists_in(rt, heap, &case.lines);
+    let limits = limits_of(rt, case.acts);
+    explore(heap, names_of(rt, heap), limits, reading, &lists, most)
 }
 
 #[test]
 fn each_order_is_told(rt: HostRuntime) {
     let heap = rt.alloc();
     for case in &CASES {
-        let lists = lists_of(&rt, &heap, case.lists);
-        let explored = explored_in(&rt, &heap, &lists, case, case.states);
+        let explored = explored_in(&rt, &heap, case, case.states);
         let explored = explored.expect(&rt, "all orders");
         assert_eq!(rt; explored.states, case.states);
         assert!(rt; explored.orders == Some(case.orders));
@@ -268,8 +360,7 @@ fn too_many_states_are_refused(rt: HostRuntime) {
     let heap = rt.alloc();
     for case in &CASES {
         let most = case.states.saturating_sub(1);
-        let lists = lists_of(&rt, &heap, case.lists);
-        let explored = explored_in(&rt, &heap, &lists, case, most);
+        let explored = explored_in(&rt, &heap, case, most);
         let states = case.states as u128;
         assert!(rt;
             matches!(explored, Err(ExploreFault::TooMany { states: told }) if told == states)
@@ -311,9 +402,15 @@ fn orders_of_three_nodes_of_six_lines_are_told(rt: HostRuntime) {
             ],
         ],
     );
-    assert!(rt; lists.len() < 65_536);
     let names = Names::new(&heap, &["a", "b", "c"]).expect(&rt, "names");
-    let explored = explore(&heap, names, limits_of(&rt, 100), &lists, 10_000);
+    let explored = explore(
+        &heap,
+        names,
+        limits_of(&rt, 100),
+        Reading::EveryOrder,
+        &lists,
+        10_000,
+    );
     let explored = explored.expect(&rt, "all orders");
     assert!(rt; explored.orders == Some(17_153_136));
 }

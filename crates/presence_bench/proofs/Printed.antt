@@ -15,6 +15,8 @@ use Rattle.presence_bench.specs.declared.chosen.Subcommand.TheVariants.{Play, Ra
 use Rattle.presence_bench.specs.declared.fault.Fault.{Fault}
 use Rattle.presence_bench.specs.declared.fault.Fault.TheVariants as faults
 use Rattle.script_core.specs.declared.fault.ScriptFault.{ScriptFault}
+use Rattle.explore_core.specs.declared.reading.Reading.{Reading}
+use Rattle.presence_bench.specs.Explored.{TellsOrders}
 use Rattle.prompt_core.specs.Ends.{Answers, EndsEarly, ReportLaw, printed}
 use Rattle.prompt_core.specs.declared.prompt_fault.PromptFault.{PromptFault}
 use Rattle.presence_bench.specs.Help.{language}
@@ -71,12 +73,12 @@ module _ (form : Form) (limits : Limits) (text : List ℕ) (old new : Option (Li
       λ o. IsOkAnd o (λ s. (m : Machine) × IsRaceOf limits s m × (text ≡ shown form (history_text m) m)) in
       ends Race input r (subst P (sym k) (m, raced, is)) e
 
-  pub ends_explore : (states : ℕ) (outcome : Option ℕ) (known : Option (List ℕ)) (s : Script) (r : Result (Unit {0}) Fault) → IsScriptAt known s →
-      TellsOrders outcome limits s text → EndsAsText text r old new → EndsAt (Explore states outcome) form limits known r old new
-  ends_explore states outcome None s r k told e = tt
-  ends_explore states outcome (Some input) s r k told e =
-      let P : Result Script ScriptFault → Type 0 = λ o. IsOkAnd o (λ s. TellsOrders outcome limits s text) in
-      ends (Explore states outcome) input r (subst P (sym k) told) e
+  pub ends_explore : (reading : Reading) (states : ℕ) (outcome : Option ℕ) (known : Option (List ℕ)) (s : Script) (r : Result (Unit {0}) Fault) → IsScriptAt known s →
+      TellsOrders reading outcome limits s text → EndsAsText text r old new → EndsAt (Explore reading states outcome) form limits known r old new
+  ends_explore reading states outcome None s r k told e = tt
+  ends_explore reading states outcome (Some input) s r k told e =
+      let P : Result Script ScriptFault → Type 0 = λ o. IsOkAnd o (λ s. TellsOrders reading outcome limits s text) in
+      ends (Explore reading states outcome) input r (subst P (sym k) told) e
 
   -- a text that goes out meets no fault but that of a write
   pub keeps_before : (r : Result (Unit {0}) Fault) → EndsAsText text r old new → IfErr r (λ fault. KeepsBefore fault old new)

@@ -3,6 +3,7 @@ use Rattle.std.specs.Prelude.{◌≡◌, ℕ, [], List, ⊤, Option, None, Some,
 use Rattle.bench_core.specs.Limits.{Limits}
 use Rattle.script_core.specs.Grammar.{with_calls}
 use Rattle.script_core.specs.Scripts.{Script}
+use Rattle.explore_core.specs.declared.reading.Reading.{Reading}
 use Rattle.explore_report.specs.Reports.{HasMore, HasNoOutcome, IsOrderOf, IsReport}
 use Rattle.explore_report.specs.declared.report_fault.ReportFault.{ReportFault}
 use Rattle.explore_report.specs.declared.report_fault.ReportFault.TheVariants as reports
@@ -16,18 +17,18 @@ fault_of_report most (reports.NoSuchOutcome outcomes) = faults.NoSuchOutcome out
 fault_of_report most reports.OutOfMemory = faults.OutOfMemory
 
 -- the text tells what all orders lead to, or the order of the outcome of this number
-abbrev pub TellsOrders : Option ℕ → Limits → Script → List ℕ → Type 0
-TellsOrders None limits s text = IsReport limits s text
-TellsOrders (Some number) limits s text = IsOrderOf limits s number text
+abbrev pub TellsOrders : Reading → Option ℕ → Limits → Script → List ℕ → Type 0
+TellsOrders reading None limits s text = IsReport reading limits s text
+TellsOrders reading (Some number) limits s text = IsOrderOf reading limits s number text
 
 -- there is no outcome of this number, where one was asked for, and so many there are
-abbrev pub LacksOutcome : Option ℕ → Limits → Script → ℕ → Type 0
-LacksOutcome None limits s outcomes = ⊥
-LacksOutcome (Some number) limits s outcomes = HasNoOutcome limits s number outcomes
+abbrev pub LacksOutcome : Reading → Option ℕ → Limits → Script → ℕ → Type 0
+LacksOutcome reading None limits s outcomes = ⊥
+LacksOutcome reading (Some number) limits s outcomes = HasNoOutcome reading limits s number outcomes
 
 -- all orders aren't told: a line is no act line, the lines lead to more different states than are kept, or there is no such outcome
-abbrev pub RefusesOrders : ℕ → Option ℕ → Limits → Script → Fault → Type 0
-RefusesOrders states outcome limits s (faults.Script fault) = with_calls [] s.lines ≡ Err fault
-RefusesOrders states outcome limits s (faults.TooManyStates most) = (most ≡ states) × HasMore limits most s
-RefusesOrders states outcome limits s (faults.NoSuchOutcome outcomes) = LacksOutcome outcome limits s outcomes
-RefusesOrders states outcome limits s fault = ⊤
+abbrev pub RefusesOrders : Reading → ℕ → Option ℕ → Limits → Script → Fault → Type 0
+RefusesOrders reading states outcome limits s (faults.Script fault) = with_calls [] s.lines ≡ Err fault
+RefusesOrders reading states outcome limits s (faults.TooManyStates most) = (most ≡ states) × HasMore reading limits most s
+RefusesOrders reading states outcome limits s (faults.NoSuchOutcome outcomes) = LacksOutcome reading outcome limits s outcomes
+RefusesOrders reading states outcome limits s fault = ⊤

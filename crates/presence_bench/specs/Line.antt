@@ -1,5 +1,5 @@
 -- What the command line takes, and what words choose.
-use Rattle.std.specs.Prelude.{◌≡◌, ℕ, List, codes, true, ⊤, Option, Some, None, unwrap_or}
+use Rattle.std.specs.Prelude.{◌≡◌, ◌≢◌, ℕ, List, codes, true, ⊤, Option, Some, None, unwrap_or}
 use Rattle.std.specs.Str.Parse.{IsNumeral, digits_value, without_leading_plus}
 use Rattle.clap.specs.Words.{App, Row, Rule, first_of, new_app, new_rule, with_rule, with_subcommand, subcommand_of}
 use Rattle.presence_bench.specs.declared.chosen.Form.{Form}
@@ -7,7 +7,10 @@ use Rattle.presence_bench.specs.declared.chosen.Form.TheVariants.{Report, Sessio
 use Rattle.presence_bench.specs.declared.chosen.Subcommand.{Subcommand}
 use Rattle.presence_bench.specs.declared.chosen.Subcommand.TheVariants.{Play, Race, Load, Explore, Step, Draw}
 use Rattle.presence_bench.specs.declared.chosen.Choice.{Choice}
-use Rattle.presence_bench.specs.declared.chosen.Numbers.{Numbers}
+use Rattle.presence_bench.specs.declared.chosen.Options.{Options}
+use Rattle.explore_core.specs.declared.reading.Reading.{Reading}
+use Rattle.explore_core.specs.declared.reading.Reading.TheVariants.{EveryOrder, Deliveries}
+use Rattle.clap.specs.declared.builder.action.ArgAction.TheVariants.{SetTrue}
 
 -- the option that names a form
 abbrev pub as_rule : Rule
@@ -29,8 +32,14 @@ number_rule name = record (new_rule name) { long = Some name; value_names = 1 }
 abbrev pub step_app : App
 step_app = new_app (codes "step")
 
+-- the option that moves deliveries alone
+abbrev pub deliveries_rule : Rule
+deliveries_rule = record (new_rule (codes "deliveries")) { long = Some (codes "deliveries"); action = Some SetTrue }
+
 abbrev pub explore_app : App
-explore_app = with_rule (with_rule (with_rule (new_app (codes "explore")) as_rule) (number_rule (codes "states"))) (number_rule (codes "script"))
+explore_app =
+    with_rule (with_rule (with_rule (with_rule (new_app (codes "explore")) as_rule) deliveries_rule) (number_rule (codes "states")))
+    (number_rule (codes "script"))
 
 abbrev pub draw_app : App
 draw_app = with_rule (new_app (codes "draw")) (number_rule (codes "why"))
@@ -46,7 +55,7 @@ abbrev pub name_of : Subcommand → List ℕ
 name_of Play = codes "play"
 name_of Race = codes "race"
 name_of Load = codes "load"
-name_of (Explore states outcome) = codes "explore"
+name_of (Explore reading states outcome) = codes "explore"
 name_of Step = codes "step"
 name_of (Draw why) = codes "draw"
 
@@ -65,28 +74,35 @@ IsNumber None number = number ≡ None
 IsNumber (Some digits) number =
     IsNumeral 10 (without_leading_plus digits) × (number ≡ Some (digits_value 10 (without_leading_plus digits)))
 
--- the numbers that options give
-pub record AreNumbers (values : List ℕ → Option (List ℕ)) (numbers : Numbers) : Type 0 where
-  pub why : IsNumber (values (codes "why")) numbers.why
-  pub states : IsNumber (values (codes "states")) numbers.states
-  pub outcome : IsNumber (values (codes "script")) numbers.outcome
+-- deliveries alone move where the value is `true`
+abbrev pub IsReading : Option (List ℕ) → Reading → Type 0
+IsReading value EveryOrder = value ≢ Some (codes "true")
+IsReading value Deliveries = value ≡ Some (codes "true")
 
--- the subcommand has these of the numbers that it takes; of states 100,000 are kept where it is not told how many
-abbrev pub Takes : Numbers → Subcommand → Type 0
-Takes numbers (Draw why) = why ≡ numbers.why
-Takes numbers (Explore states outcome) = (states ≡ unwrap_or numbers.states 100000) × (outcome ≡ numbers.outcome)
-Takes numbers Play = ⊤
-Takes numbers Race = ⊤
-Takes numbers Load = ⊤
-Takes numbers Step = ⊤
+-- what options give
+pub record AreOptions (values : List ℕ → Option (List ℕ)) (options : Options) : Type 0 where
+  pub reading : IsReading (values (codes "deliveries")) options.reading
+  pub why : IsNumber (values (codes "why")) options.why
+  pub states : IsNumber (values (codes "states")) options.states
+  pub outcome : IsNumber (values (codes "script")) options.outcome
 
--- the subcommand has this name, and the form and the numbers those that its options give
+-- the subcommand has these of the options that it takes; of states 100,000 are kept where it is not told how many
+abbrev pub Takes : Options → Subcommand → Type 0
+Takes options (Draw why) = why ≡ options.why
+Takes options (Explore reading states outcome) =
+    (reading ≡ options.reading) × (states ≡ unwrap_or options.states 100000) × (outcome ≡ options.outcome)
+Takes options Play = ⊤
+Takes options Race = ⊤
+Takes options Load = ⊤
+Takes options Step = ⊤
+
+-- the subcommand has this name, and the form and the rest those that its options give
 pub record IsChoiceOf (name : List ℕ) (values : List ℕ → Option (List ℕ)) (choice : Choice) : Type 0 where
   pub name_is : name ≡ name_of choice.command
   pub form : IsForm (values (codes "as")) choice.form
-  pub numbers : Numbers
-  pub numbers_are : AreNumbers values numbers
-  pub takes : Takes numbers choice.command
+  pub options : Options
+  pub options_are : AreOptions values options
+  pub takes : Takes options choice.command
 
 -- the choice is that of the subcommand which the command line finds in the words, with its options
 pub record Chooses (words : List (List ℕ)) (choice : Choice) : Type 0 where

@@ -96,7 +96,7 @@ abbrev pub IsCauseOf : Subcommand → Limits → List ℕ → Fault → Type 0
 IsCauseOf Race limits input fault = IsCause input fault ⊎ IsOkAnd (script_of input) (λ s. RefusesRaceOf limits s fault)
 IsCauseOf Play limits input fault = IsCause input fault
 IsCauseOf Load limits input fault = IsCause input fault
-IsCauseOf (Explore states outcome) limits input fault = IsCause input fault ⊎ IsOkAnd (script_of input) (λ s. RefusesOrders states outcome limits s fault)
+IsCauseOf (Explore reading states outcome) limits input fault = IsCause input fault ⊎ IsOkAnd (script_of input) (λ s. RefusesOrders reading states outcome limits s fault)
 IsCauseOf Step limits input fault = ⊥
 IsCauseOf (Draw why) limits input fault = IsCause input fault
 
@@ -119,7 +119,7 @@ abbrev pub Prints : Subcommand → Form → Limits → List ℕ → List ℕ →
 Prints Play form limits input text = IsOkAnd (script_of input) (λ s. text ≡ shown form (report_of limits s) (played limits s))
 Prints Race form limits input text = IsOkAnd (script_of input) (λ s. (m : Machine) × IsRaceOf limits s m × (text ≡ shown form (history_text m) m))
 Prints Load form limits input text = (m : Machine) × IsSession input m × (text ≡ shown form (history_text m) m)
-Prints (Explore states outcome) form limits input text = IsOkAnd (script_of input) (λ s. TellsOrders outcome limits s text)
+Prints (Explore reading states outcome) form limits input text = IsOkAnd (script_of input) (λ s. TellsOrders reading outcome limits s text)
 Prints Step form limits input text =
     (text ≡ printed language limits input) × IfOk (script_of input) (λ s. text ≡ report_of limits s)
 Prints (Draw why) form limits input text = (m : Machine) × IsSession input m × (text ≡ drawn why m)
@@ -135,7 +135,7 @@ abbrev pub HasPrompt : Subcommand → Type 0
 HasPrompt Play = ⊥
 HasPrompt Race = ⊥
 HasPrompt Load = ⊥
-HasPrompt (Explore states outcome) = ⊥
+HasPrompt (Explore reading states outcome) = ⊥
 HasPrompt Step = ⊤
 HasPrompt (Draw why) = ⊥
 
@@ -166,7 +166,7 @@ EndsSoon Step limits result input left old new = ⊤
 EndsSoon Play limits result input left old new = ⊤
 EndsSoon Race limits result input left old new = ⊤
 EndsSoon Load limits result input left old new = ⊤
-EndsSoon (Explore states outcome) limits result input left old new = ⊤
+EndsSoon (Explore reading states outcome) limits result input left old new = ⊤
 EndsSoon (Draw why) limits result input left old new = ⊤
 
 -- it is no fault of a write, nor of a prompt

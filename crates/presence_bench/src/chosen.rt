@@ -1,4 +1,5 @@
 //! What a command line chooses.
+use explore_core::Reading;
 
 /// What the program does.
 #[derive(Clone, Copy, Debug, PartialEq, Eq)]
@@ -9,9 +10,13 @@ pub enum Subcommand {
     Race,
     /// Plays a saved session again.
     Load,
-    /// Asks the act lines of a script in every order, keeping no more different states than so many; prints what they lead to, or
-    /// the order of the outcome of this number alone.
-    Explore { states: usize, outcome: Option<u64> },
+    /// Asks the act lines of a script in every order by a reading, keeping no more different states than so many; prints what they
+    /// lead to, or the order of the outcome of this number alone.
+    Explore {
+        reading: Reading,
+        states: usize,
+        outcome: Option<u64>,
+    },
     /// Takes a script line by line, and answers each before the next is read.
     Step,
     /// Draws a saved session, with the future of the step of this number painted.
@@ -34,9 +39,11 @@ pub struct Choice {
     pub form: Form,
 }
 
-/// The numbers that options give.
+/// What options give, but for a form.
 #[derive(Clone, Copy, Debug, PartialEq, Eq)]
-pub struct Numbers {
+pub struct Options {
+    /// How orders are read, by `--deliveries`.
+    pub reading: Reading,
     /// The step of `--why`.
     pub why: Option<u64>,
     /// How many states `--states` allows.

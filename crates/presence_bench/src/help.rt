@@ -23,6 +23,9 @@ pub const DRAW: &str =
 
 pub const WHY: &str = "The number of a step, to paint it and all that follows from it";
 
+pub const DELIVERIES: &str =
+    "Move the deliveries of each node alone, and leave all other lines where they are";
+
 pub const STATES: &str =
     "The most different states to keep, 100000 as without it; where there are more, that is told";
 

@@ -2,14 +2,15 @@
 ghost use Rattle.std.specs.Prelude.{◌≡◌, IfOk, IfSome, codes, map, false};
 ghost use Rattle.clap.specs.Words.{app_of, first_value, found_of, new_app, rule_of, with_rule};
 ghost use Rattle.clap.specs.declared.Command.TheViews.{out-Command as fields_of};
-ghost use Rattle.presence_bench.specs.Line.{app, as_rule, draw_app, explore_app, number_rule, step_app, AreNumbers, Chooses, IsChoiceOf, IsForm, IsNumber, Takes, name_of};
+ghost use Rattle.presence_bench.specs.Line.{app, as_rule, draw_app, explore_app, number_rule, deliveries_rule, step_app, AreOptions, Chooses, IsChoiceOf, IsForm, IsNumber, IsReading, Takes, name_of};
 
-use crate::chosen::{Choice, Form, Numbers, Subcommand};
+use crate::chosen::{Choice, Form, Options, Subcommand};
 use crate::help::{
-    DRAW, EXPLORE, FORM, LANGUAGE, LOAD, ORDER, PLAY, PURPOSE, RACE, STATES, STEP, VERSION, WHY,
+    DELIVERIES, DRAW, EXPLORE, FORM, LANGUAGE, LOAD, ORDER, PLAY, PURPOSE, RACE, STATES, STEP, VERSION, WHY,
 };
 use clap::error::ErrorKind;
-use clap::{Arg, ArgMatches, Command, Error};
+use clap::{Arg, ArgAction, ArgMatches, Command, Error};
+use explore_core::Reading;
 use std::alloc::{AllocError, Global};
 use std::convert::AsStr;
 
@@ -38,6 +39,17 @@ fn number_option<'a>(alloc: Global, name: &'a str, about: &'a str) -> Arg<'a>
         .help(about)
 }
 
+/// The option that moves deliveries alone.
+fn deliveries_option<'a>(alloc: Global) -> Arg<'a>
+    ensures rule { rule_of result ≡ deliveries_rule }
+    ensures local { result.global ≡ false }
+{
+    Arg::new(alloc, "deliveries")
+        .long("deliveries")
+        .action(ArgAction::SetTrue)
+        .help(DELIVERIES)
+}
+
 /// The subcommand that draws.
 fn draw_line<'a>(alloc: Global) -> Result<Command<'a>, AllocError>
     ensures app { IfOk result (λ line. app_of line ≡ draw_app) }
@@ -54,6 +66,7 @@ fn explore_line<'a>(alloc: Global) -> Result<Command<'a>, AllocError>
     ensures local { IfOk result (λ line. (fields_of line).has_globals ≡ false) }
 {
     subcommand_line(alloc, "explore", EXPLORE)?
+        .arg(deliveries_option(alloc))?
         .arg(number_option(alloc, "states", STATES))?
         .arg(number_option(alloc, "script", ORDER))
 }
@@ -103,21 +116,22 @@ fn line<'a>(alloc: Global) -> Result<Command<'a>, AllocError>
         .subcommand(draw)
 }
 
-/// The subcommand of this name, with those of the numbers that it takes.
-fn command_of(name: &str, numbers: Numbers) -> Option<Subcommand>
+/// The subcommand of this name, with those of the options that it takes.
+fn command_of(name: &str, options: Options) -> Option<Subcommand>
     ensures name { IfSome result (λ command. name.now ≡ name_of command) }
-    ensures takes { IfSome result (Takes numbers) }
+    ensures takes { IfSome result (Takes options) }
 {
     match name {
         "play" => Some(Subcommand::Play),
         "race" => Some(Subcommand::Race),
         "load" => Some(Subcommand::Load),
         "explore" => Some(Subcommand::Explore {
-            states: numbers.states.unwrap_or(MOST_STATES) as usize,
-            outcome: numbers.outcome,
+            reading: options.reading,
+            states: options.states.unwrap_or(MOST_STATES) as usize,
+            outcome: options.outcome,
         }),
         "step" => Some(Subcommand::Step),
-        "draw" => Some(Subcommand::Draw { why: numbers.why }),
+        "draw" => Some(Subcommand::Draw { why: options.why }),
         _ => None,
     }
 }
@@ -146,9 +160,19 @@ fn number_of<'a>(matches: &ArgMatches<'a>, option: &str) -> Option<Option<u64>>
     }
 }
 
-/// The numbers that the options of a subcommand's words give; or what to tell of one that is none.
-fn numbers_of<'a>(matches: &ArgMatches<'a>) -> Result<Numbers, &'static str>
-    ensures { IfOk result (AreNumbers (λ option. first_value (found_of matches.now) option)) }
+/// How a subcommand's words have orders read.
+fn reading_of<'a>(matches: &ArgMatches<'a>) -> Reading
+    ensures { IsReading (first_value (found_of matches.now) (codes "deliveries")) result }
+{
+    match matches.get_str("deliveries") {
+        Some("true") => Reading::Deliveries,
+        _ => Reading::EveryOrder,
+    }
+}
+
+/// What the options of a subcommand's words give; or what to tell of a number that is none.
+fn options_of<'a>(matches: &ArgMatches<'a>) -> Result<Options, &'static str>
+    ensures { IfOk result (AreOptions (λ option. first_value (found_of matches.now) option)) }
 {
     let Some(why) = number_of(matches, "why") else {
         return Err("--why takes the number of a step");
@@ -159,7 +183,8 @@ fn numbers_of<'a>(matches: &ArgMatches<'a>) -> Result<Numbers, &'static str>
     let Some(outcome) = number_of(matches, "script") else {
         return Err("--script takes the number of an outcome");
     };
-    Ok(Numbers {
+    Ok(Options {
+        reading: reading_of(matches),
         why,
         states,
         outcome,
@@ -170,11 +195,11 @@ fn numbers_of<'a>(matches: &ArgMatches<'a>) -> Result<Numbers, &'static str>
 fn chosen<'a>(name: &str, matches: &ArgMatches<'a>) -> Result<Choice, &'static str>
     ensures { IfOk result (IsChoiceOf name.now (λ option. first_value (found_of matches.now) option)) }
 {
-    let numbers = match numbers_of(matches) {
-        Ok(numbers) => numbers,
+    let options = match options_of(matches) {
+        Ok(options) => options,
         Err(told) => return Err(told),
     };
-    let Some(command) = command_of(name, numbers) else {
+    let Some(command) = command_of(name, options) else {
         return Err("no such subcommand");
     };
     let Some(form) = form_of(matches) else {

@@ -13,6 +13,7 @@ use crate::racing::race_script;
 use crate::stepping::step_script;
 use crate::texts::{read_script, read_session, session_line};
 use bench_core::Limits;
+use explore_core::Reading;
 use picture_core::draw;
 use script_core::{play, report_history, run_script, write_out};
 use std::alloc::{Allocator, Global};
@@ -163,16 +164,17 @@ fn explore_orders<B: Allocator, R: Read, W: Write>(
     reader: &mut R,
     writer: &mut W,
     limits: Limits,
+    reading: Reading,
     states: usize,
     outcome: Option<u64>,
 ) -> Result<(), Fault>
-    ensures ends { (form : Form) → EndsAt (subcommands.Explore states outcome) form limits (R.remaining reader.old) result (W.contents writer.old) (W.contents writer.new) }
+    ensures ends { (form : Form) → EndsAt (subcommands.Explore reading states outcome) form limits (R.remaining reader.old) result (W.contents writer.old) (W.contents writer.new) }
     ensures read { OnOk result (IsAtEnd (R.remaining reader.new)) }
     ensures unwritten { IfErr result (λ fault. KeepsBefore fault (W.contents writer.old) (W.contents writer.new)) }
     ensures memory { IfErr result TellsMemory }
 {
     let script = read_script(alloc, reader)?;
-    let text = explore_script(alloc, &script, limits, states, outcome)?;
+    let text = explore_script(alloc, &script, limits, reading, states, outcome)?;
     print(writer, &text)
 }
 
@@ -224,9 +226,14 @@ pub fn answer<B: Allocator + Sync, T: Threads + Wait + Sync, R: BufRead, W: Writ
         (Subcommand::Load, Form::Report) => load_report(heap, alloc, reader, writer, limits),
         (Subcommand::Load, Form::Session) => load_session(heap, alloc, reader, writer, limits),
         (Subcommand::Step, _) => step_script(heap, alloc, reader, writer, limits),
-        (Subcommand::Explore { states, outcome }, _) => {
-            explore_orders(alloc, reader, writer, limits, states, outcome)
-        }
+        (
+            Subcommand::Explore {
+                reading,
+                states,
+                outcome,
+            },
+            _,
+        ) => explore_orders(alloc, reader, writer, limits, reading, states, outcome),
         (Subcommand::Draw { why }, form) => draw_session(
             heap, alloc, reader, writer, limits, form, why,
         ),

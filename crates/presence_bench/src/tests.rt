@@ -6,6 +6,7 @@ use crate::program::program;
 use crate::run::run;
 use bench_core::Limits;
 use clap::error::ErrorKind;
+use explore_core::Reading;
 use script_core::{FakeReader, FakeWriter};
 use session_core::load;
 use std::alloc::{Allocator, Global};
@@ -39,8 +40,29 @@ outcome 1 orders 3\nonline a 1\n= r alice a/1 phone\n\
 online b 0\n  nodes a b\n  a join 1 r alice phone\n  a leave 2 r bob\n  b up a\n\
 refused line 4 NotTracked\n  nodes a b\n  a join 1 r alice phone\n  a leave 2 r bob\n";
 
+/// A node hears of a join and of its end, in either order: two orders of deliveries, gone through by hand.
+const HEARD: &str = "nodes a b\na join 1 r alice phone\na broadcast\na leave 1 r alice\na broadcast\nb up a\n\
+b deliver a 1\nb deliver a 2\n";
+
+const HEARD_ORDERS: &str = "orders of deliveries 2 states 9 outcomes 1 refusals 0\n\
+all orders of deliveries lead to the same nodes\n\
+outcome 1 orders 2\nonline a 0\nonline b 0\n  nodes a b\n  a join 1 r alice phone\n  a broadcast\n  \
+a leave 1 r alice\n  a broadcast\n  b up a\n  b deliver a 1\n  b deliver a 2\n";
+
+/// Now the first delivery stands before the second message: where they change places, one comes too early.
+const TOO_EARLY: &str = "nodes a b\na join 1 r alice phone\na broadcast\nb up a\nb deliver a 1\n\
+a leave 1 r alice\na broadcast\nb deliver a 2\n";
+
+const TOO_EARLY_ORDERS: &str = "orders of deliveries 2 states 12 outcomes 2 refusals 1\n\
+outcome 1 orders 1\nonline a 0\nonline b 0\n  nodes a b\n  a join 1 r alice phone\n  a broadcast\n  b up a\n  \
+b deliver a 1\n  a leave 1 r alice\n  a broadcast\n  b deliver a 2\n\
+outcome 2 orders 1\nonline a 0\nonline b 1\n= r alice a/1 phone\n  nodes a b\n  a join 1 r alice phone\n  a broadcast\n  b up a\n  \
+b deliver a 2\n  a leave 1 r alice\n  a broadcast\n  b deliver a 1\n\
+refused line 8 NoSuchMessage\n  nodes a b\n  a join 1 r alice phone\n  a broadcast\n  b up a\n  b deliver a 2\n";
+
 /// All orders with no option.
 const ALL_ORDERS: Subcommand = Subcommand::Explore {
+    reading: Reading::EveryOrder,
     states: 100_000,
     outcome: None,
 };
@@ -68,6 +90,7 @@ const CHOSEN: [(&[&str], Subcommand, Form); 16] = [
     (
         &["explore", "--states", "7"],
         Subcommand::Explore {
+            reading: Reading::EveryOrder,
             states: 7,
             outcome: None,
         },
@@ -76,14 +99,16 @@ const CHOSEN: [(&[&str], Subcommand, Form); 16] = [
     (
         &["explore", "--script=2"],
         Subcommand::Explore {
+            reading: Reading::EveryOrder,
             states: 100_000,
             outcome: Some(2),
         },
         Form::Report,
     ),
     (
-        &["explore", "--script", "0", "--states", "12"],
+        &["explore", "--script", "0", "--deliveries", "--states", "12"],
         Subcommand::Explore {
+            reading: Reading::Deliveries,
             states: 12,
             outcome: Some(0),
         },
@@ -220,7 +245,7 @@ const STEPPED: Case = Case {
     ..PLAYED
 };
 
-const CASES: [Case; 27] = [
+const CASES: [Case; 29] = [
     PLAYED,
     DRAWN,
     Case {
@@ -346,6 +371,18 @@ const CASES: [Case; 27] = [
     },
     Case {
         words: &["explore", "--states", "5"],
+        ..EXPLORED
+    },
+    Case {
+        words: &["explore", "--deliveries"],
+        script: HEARD,
+        printed: HEARD_ORDERS,
+        ..EXPLORED
+    },
+    Case {
+        words: &["explore", "--deliveries"],
+        script: TOO_EARLY,
+        printed: TOO_EARLY_ORDERS,
         ..EXPLORED
     },
     Case {

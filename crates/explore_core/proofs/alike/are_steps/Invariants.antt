@@ -1,8 +1,9 @@
 use Rattle.std.proofs.Common.{◌≡◌, drop}
-use Rattle.explore_core.specs.Alike.{are_steps}
-use Rattle.explore_core.specs.Orders.{plain_lists}
+use Rattle.std.specs.List.{list_all}
+use Rattle.explore_core.specs.Alike.{all_steps}
+use Rattle.explore_core.specs.Orders.{plain_each}
 use Rattle.explore_core.proofs.alike.are_steps.Given as goal
 
 -- the test of the rest is that of all
-abbrev pub invariant-loop-lines : goal.invariant-loop-lines
-invariant-loop-lines g l = are_steps (plain_lists (drop l.lines-index l.lists)) ≡ are_steps (plain_lists l.lists)
+abbrev pub invariant-loop-calls : goal.invariant-loop-calls
+invariant-loop-calls g l = list_all all_steps (plain_each (drop l.calls-index l.lists)) ≡ list_all all_steps (plain_each l.lists)

@@ -15,8 +15,8 @@ returns-then-most-eq0-clause-too_many g c =
     let opening = opening_machine c.args.names c.args.limits in
     λ states is.
     let one : 1 ≡ states = cc in
-    subst (λ (n : ℕ). AreMore (plain_lists c.args.lists.now) opening n states) (sym c.if-most-eq0.true)
-    (subst (λ (n : ℕ). AreMore (plain_lists c.args.lists.now) opening 0 n) one (more_than_none (plain_lists c.args.lists.now) opening))
+    subst (λ (n : ℕ). AreMore (plain_lists c.args.reading c.args.lists.now) opening n states) (sym c.if-most-eq0.true)
+    (subst (λ (n : ℕ). AreMore (plain_lists c.args.reading c.args.lists.now) opening 0 n) one (more_than_none (plain_lists c.args.reading c.args.lists.now) opening))
 
 pub returns-in_err-first-clause-too_many : goal.returns-in_err-first-clause-too_many
 returns-in_err-first-clause-too_many g c =
@@ -30,7 +30,7 @@ returns-in_err-found-clause-too_many g c =
     rw (p.1, same)
     (λ states is.
     c.in_err-found.ensures.too_many states is opening
-    (at_start (plain_lists c.args.lists.now) opening c.in_ok-first.first.kept.items c.in_ok-first.first.told.items
+    (at_start (plain_lists c.args.reading c.args.lists.now) opening c.in_ok-first.first.kept.items c.in_ok-first.first.told.items
     c.in_ok-first.ensures.kept c.in_ok-first.ensures.told))
 
 pub returns : goal.returns
@@ -38,19 +38,19 @@ returns g c =
     let opening = opening_machine c.args.names c.args.limits in
     let here =
     c.in_ok-found.ensures.walked opening
-    (at_start (plain_lists c.args.lists.now) opening c.in_ok-first.first.kept.items c.in_ok-first.first.told.items
+    (at_start (plain_lists c.args.reading c.args.lists.now) opening c.in_ok-first.first.kept.items c.in_ok-first.first.told.items
     c.in_ok-first.ensures.kept c.in_ok-first.ensures.told) in
     let told =
-    all_told (plain_lists c.args.lists.now) opening c.in_ok-found.found.kept.items c.in_ok-found.found.told.items
+    all_told (plain_lists c.args.reading c.args.lists.now) opening c.in_ok-found.found.kept.items c.in_ok-found.found.told.items
     c.in_ok-outcomes.outcomes.items
-    (subst (λ (n : ℕ). IsAt (plain_lists c.args.lists.now) opening n c.in_ok-found.found.kept.items c.in_ok-found.found.told.items)
-    c.count_lines-lines.ensures here)
+    (subst (λ (n : ℕ). IsAt (plain_lists c.args.reading c.args.lists.now) opening n c.in_ok-found.found.kept.items c.in_ok-found.found.told.items)
+    c.count_calls-calls.ensures here)
     (subst (λ (ws : List Waypoint). Gathers ws c.in_ok-outcomes.outcomes.items) c.as_slice.ensures.value c.in_ok-outcomes.ensures.outcomes) in
     let counted =
-    subst (λ (n : ℕ). IsCountedAt (plain_lists c.args.lists.now) opening n c.in_ok-found.found.kept.items c.in_ok-found.found.counts.items)
-    c.count_lines-lines.ensures
+    subst (λ (n : ℕ). IsCountedAt (plain_lists c.args.reading c.args.lists.now) opening n c.in_ok-found.found.kept.items c.in_ok-found.found.counts.items)
+    c.count_calls-calls.ensures
     (c.in_ok-found.ensures.counted opening
-    (counted_start (plain_lists c.args.lists.now) opening c.in_ok-first.first.kept.items c.in_ok-first.first.counts.items
+    (counted_start (plain_lists c.args.reading c.args.lists.now) opening c.in_ok-first.first.kept.items c.in_ok-first.first.counts.items
     c.in_ok-first.ensures.kept c.in_ok-first.ensures.counts)) in
     let numbers : AllByRecursion (HasNumber c.in_ok-found.found.kept.items c.in_ok-found.found.counts.items) c.in_ok-outcomes.outcomes.items =
     subst
@@ -60,10 +60,10 @@ returns g c =
     c.as_slice-2.ensures.value c.in_ok-outcomes.ensures.orders) in
     record {
       counts =
-          all_counted (plain_lists c.args.lists.now) opening c.in_ok-found.found.kept.items c.in_ok-found.found.counts.items counted
+          all_counted (plain_lists c.args.reading c.args.lists.now) opening c.in_ok-found.found.kept.items c.in_ok-found.found.counts.items counted
           c.in_ok-outcomes.outcomes.items numbers;
       orders =
-          orders_counted (plain_lists c.args.lists.now) opening c.in_ok-found.found.kept.items c.in_ok-found.found.counts.items counted
+          orders_counted (plain_lists c.args.reading c.args.lists.now) opening c.in_ok-found.found.kept.items c.in_ok-found.found.counts.items counted
           c.sum_of_all.result (λ ns told. c.sum_of_all.ensures ns (c.as_slice-3.ensures.value ∙ told));
       every_order = told.every_order;
       outcomes = told.outcomes;

@@ -5,7 +5,7 @@ use Rattle.explore_core.specs.Digests.{IsIndexed}
 use Rattle.explore_core.specs.Orders.{plain_lists}
 use Rattle.explore_core.specs.Waypoints.{Waypoint, DeepensFirst}
 use Rattle.explore_core.specs.Ways.{AreTold}
-use Rattle.explore_core.proofs.OrderSums.{no_orders_deeper, orders_deeper, all_orders_deeper, lines_many}
+use Rattle.explore_core.proofs.OrderSums.{no_orders_deeper, orders_deeper, all_orders_deeper, lists_mapped}
 use Rattle.explore_core.proofs.Adding.{lists_many, more_deeper}
 use Rattle.explore_core.proofs.Walk.{none_deeper, one_deeper}
 use Rattle.explore_core.proofs.walking.deepened.Goals as goal
@@ -19,13 +19,13 @@ loop-place-init g c =
           subst (λ (k : List Waypoint). IsIndexed k (get nat_eq c.new-3.result.last) c.new-3.result.earlier.items) (sym none) c.new-3.ensures;
       deepens =
           subst
-          (λ (k : List Waypoint). DeepensFirst (plain_lists c.args.plan.now.lists.now) c.args.plan.now.steps_alone
+          (λ (k : List Waypoint). DeepensFirst (plain_lists c.args.plan.now.reading c.args.plan.now.lists.now) c.args.plan.now.steps_alone
           c.deref-waypoint-items.result.now 0 c.args.before.told.items k c.args.before.told.items) (sym none)
-          (none_deeper (plain_lists c.args.plan.now.lists.now) c.args.plan.now.steps_alone c.deref-waypoint-items.result.now
+          (none_deeper (plain_lists c.args.plan.now.reading c.args.plan.now.lists.now) c.args.plan.now.steps_alone c.deref-waypoint-items.result.now
           c.args.before.told.items);
       orders =
           λ ns told.
-          no_orders_deeper (plain_lists c.args.plan.now.lists.now) c.args.plan.now.steps_alone c.deref-waypoint-items.result.now ns
+          no_orders_deeper (plain_lists c.args.plan.now.reading c.args.plan.now.lists.now) c.args.plan.now.steps_alone c.deref-waypoint-items.result.now ns
           c.new.result.items c.new-2.result.items none c.new-2.ensures.items;
       room = omega (arith, count);
     }
@@ -40,11 +40,11 @@ returns-then-states-most-clause-too_many g c =
     let more = c.if-states-most.true in
     λ states is.
     let told : c.args.past + c.len.result ≡ states = cc in
-    more_deeper (plain_lists c.args.plan.now.lists.now) c.args.plan.now.steps_alone c.deref-waypoint-items.result.now
+    more_deeper (plain_lists c.args.plan.now.reading c.args.plan.now.lists.now) c.args.plan.now.steps_alone c.deref-waypoint-items.result.now
     c.args.before.kept.items (c.loop-place.place + 1) c.args.past c.args.most states c.args.before.told.items
     c.advance_all.new.found.kept.items c.advance_all.new.found.told.items c.deref-waypoint-items.ensures.value
     (omega (arith, size, told)) (omega (arith, more, told))
-    (one_deeper (plain_lists c.args.plan.now.lists.now) c.args.plan.now.steps_alone c.deref-waypoint-items.result.now
+    (one_deeper (plain_lists c.args.plan.now.reading c.args.plan.now.lists.now) c.args.plan.now.steps_alone c.deref-waypoint-items.result.now
     c.loop-place.place c.waypoint-item.result (length c.args.plan.now.lists.now) c.args.before.told.items
     c.loop-place.found.kept.items c.loop-place.found.told.items c.advance_all.new.found.kept.items
     c.advance_all.new.found.told.items (omega arith) c.waypoint-item.is (lists_many c.args.plan.now.lists.now)
@@ -57,7 +57,7 @@ loop-place-preserved g c =
     record {
       indexed = c.in_ok-advance_all.ensures.indexed;
       deepens =
-          one_deeper (plain_lists c.args.plan.now.lists.now) c.args.plan.now.steps_alone c.deref-waypoint-items.result.now
+          one_deeper (plain_lists c.args.plan.now.reading c.args.plan.now.lists.now) c.args.plan.now.steps_alone c.deref-waypoint-items.result.now
           c.loop-place.place c.waypoint-item.result (length c.args.plan.now.lists.now) c.args.before.told.items
           c.loop-place.found.kept.items c.loop-place.found.told.items c.advance_all.new.found.kept.items
           c.advance_all.new.found.told.items (omega arith) c.waypoint-item.is (lists_many c.args.plan.now.lists.now)
@@ -65,10 +65,10 @@ loop-place-preserved g c =
       orders =
           λ ns told.
           let low : c.loop-place.place < length c.deref-waypoint-items.result.now = omega arith in
-          orders_deeper (plain_lists c.args.plan.now.lists.now) c.args.plan.now.steps_alone c.deref-waypoint-items.result.now ns
+          orders_deeper (plain_lists c.args.plan.now.reading c.args.plan.now.lists.now) c.args.plan.now.steps_alone c.deref-waypoint-items.result.now ns
           c.loop-place.place c.waypoint-item.result (length c.args.plan.now.lists.now) c.loop-place.found.kept.items
           c.loop-place.found.counts.items c.advance_all.new.found.kept.items c.advance_all.new.found.counts.items low c.waypoint-item.is
-          told.each (lines_many c.args.plan.now.lists.now) (c.loop-place.invariant.orders ns told)
+          told.each (lists_mapped c.args.plan.now.lists.now) (c.loop-place.invariant.orders ns told)
           (c.in_ok-advance_all.ensures.orders (slice_index_or ns c.loop-place.place 0)
           (c.number_at-orders.ensures ns (c.as_slice.ensures.value ∙ told.told) (subst (λ (n : ℕ). c.loop-place.place < n) (sym told.each) low)));
       room = omega (arith, size, few);
@@ -78,15 +78,15 @@ pub returns-clause-deepens : goal.returns-clause-deepens
 returns-clause-deepens g c =
     let all : c.loop-place.place ≡ length c.deref-waypoint-items.result.now = omega arith in
     subst
-    (λ (ws : List Waypoint). DeepensFirst (plain_lists c.args.plan.now.lists.now) c.args.plan.now.steps_alone ws (length ws)
+    (λ (ws : List Waypoint). DeepensFirst (plain_lists c.args.plan.now.reading c.args.plan.now.lists.now) c.args.plan.now.steps_alone ws (length ws)
     c.args.before.told.items c.loop-place.found.kept.items c.loop-place.found.told.items) c.deref-waypoint-items.ensures.value
     (subst
-    (λ (n : ℕ). DeepensFirst (plain_lists c.args.plan.now.lists.now) c.args.plan.now.steps_alone c.deref-waypoint-items.result.now n
+    (λ (n : ℕ). DeepensFirst (plain_lists c.args.plan.now.reading c.args.plan.now.lists.now) c.args.plan.now.steps_alone c.deref-waypoint-items.result.now n
     c.args.before.told.items c.loop-place.found.kept.items c.loop-place.found.told.items) all c.loop-place.invariant.deepens)
 
 pub returns-clause-orders : goal.returns-clause-orders
 returns-clause-orders g c ns told =
     let value = c.deref-waypoint-items.ensures.value in
-    all_orders_deeper (plain_lists c.args.plan.now.lists.now) c.args.plan.now.steps_alone c.deref-waypoint-items.result.now
+    all_orders_deeper (plain_lists c.args.plan.now.reading c.args.plan.now.lists.now) c.args.plan.now.steps_alone c.deref-waypoint-items.result.now
     c.args.before.kept.items ns c.loop-place.place c.loop-place.found.kept.items c.loop-place.found.counts.items value (omega arith) told.each
     (c.loop-place.invariant.orders ns (subst (λ (ws : List Waypoint). AreTold c.args.before.counts.items ws ns) (sym value) told))

@@ -3,4 +3,4 @@ use Rattle.explore_report.proofs.Calls.{calls_given}
 use Rattle.explore_report.proofs.laws.calls_law.Goals as goal
 
 pub returns : goal.returns
-returns c = λ lists calls to leads. calls_given lists calls (start_of lists) to leads
+returns c = λ lists picks to leads. calls_given lists picks (start_of lists) to leads

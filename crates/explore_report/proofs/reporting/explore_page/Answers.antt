@@ -10,14 +10,14 @@ pub returns-in_err-explored-clause-cause : goal.returns-in_err-explored-clause-c
 returns-in_err-explored-clause-cause g c =
     let p = err_from_is_err_and c.from_residual-in_err-explored.result c.from_residual-in_err-explored.ensures.1 in
     rw p.1
-    (refusal_told c.args.limits c.args.most (plain_script c.args.page.now.script.now) (calls_of c.args.page.now.calls.now)
-    (plain_lists c.args.page.now.lists.now) c.in_ok-names.names c.in_err-explored.field-0.0 p.0 c.requires.calls c.requires.lists
+    (refusal_told c.args.page.now.reading c.args.limits c.args.most (plain_script c.args.page.now.script.now) (calls_of c.args.page.now.calls.now)
+    (plain_lists c.args.page.now.reading c.args.page.now.lists.now) c.in_ok-names.names c.in_err-explored.field-0.0 p.0 c.requires.calls c.requires.lists
     (c.in_ok-names.ensures ∙ c.node_names.ensures) c.in_err-explored.ensures.too_many p.2)
 
 pub returns-clause-exploration : goal.returns-clause-exploration
 returns-clause-exploration g c =
-    exploration_told c.args.limits (plain_script c.args.page.now.script.now) (calls_of c.args.page.now.calls.now)
-    (plain_lists c.args.page.now.lists.now) c.in_ok-names.names c.in_ok-explored.explored.outcomes.items _ _ _ c.requires.calls c.requires.lists
+    exploration_told c.args.page.now.reading c.args.limits (plain_script c.args.page.now.script.now) (calls_of c.args.page.now.calls.now)
+    (plain_lists c.args.page.now.reading c.args.page.now.lists.now) c.in_ok-names.names c.in_ok-explored.explored.outcomes.items _ _ _ c.requires.calls c.requires.lists
     (c.in_ok-names.ensures ∙ c.node_names.ensures)
     (record {
       every_order = c.in_ok-explored.ensures.every_order;

@@ -9,5 +9,5 @@ returns-in_err-calls-clause-cause g c =
     let p = err_from_is_err_and c.from_residual.result c.from_residual.ensures.1 in
     let same : p.0 ≡ c.in_err-calls.field-0.0 = cc (p.1, p.2) in
     rw (p.1, same)
-    (refuses_order c.args.limits c.args.most (plain_script c.args.script.now) c.args.number c.in_err-calls.field-0.0
-    (c.in_err-calls.ensures.cause c.args.limits c.args.most))
+    (refuses_order c.args.reading c.args.limits c.args.most (plain_script c.args.script.now) c.args.number c.in_err-calls.field-0.0
+    (c.in_err-calls.ensures.cause c.args.reading c.args.limits c.args.most))

@@ -22,5 +22,5 @@ returns-clause-order g c =
       has_number = ap (λ (os : List Outcome). outcome_at os c.args.number) (sym c.deref.ensures.value) ∙ sym c.in-Some.ensures;
       text_is =
           items_of _ _ c.into_bytes.ensures.value ∙ c.in_ok-text.ensures
-          ∙ ap (λ (l : Lists). order_text s.cast l c.in-Some.outcome.now.order) c.requires.lists;
+          ∙ ap (λ (l : Lists). order_text s.cast l.each c.in-Some.outcome.now.order) c.requires.lists;
     }

@@ -6,4 +6,4 @@ pub returns-in_err-calls-clause-cause : goal.returns-in_err-calls-clause-cause
 returns-in_err-calls-clause-cause g c =
     let p = err_from_is_err_and c.from_residual.result c.from_residual.ensures.1 in
     let same : p.0 ≡ c.in_err-calls.field-0.0 = cc (p.1, p.2) in
-    rw (p.1, same) (c.in_err-calls.ensures.cause c.args.limits c.args.most)
+    rw (p.1, same) (c.in_err-calls.ensures.cause c.args.reading c.args.limits c.args.most)

@@ -8,8 +8,8 @@ use Rattle.presence_bench.proofs.printing.explore_orders.Goals as goal
 pub returns-clause-ends : goal.returns-clause-ends
 returns-clause-ends g c = λ form.
     let s : Script = plain_script c.in_ok-script.script in
-    ends_explore form c.args.limits c.deref.result.now _ _ c.args.states c.args.outcome _ s c.print.result c.in_ok-script.ensures.script
-    (subst (λ (text : List ℕ). TellsOrders c.args.outcome c.args.limits s text) (sym c.deref.ensures.value) c.in_ok-text.ensures.told) c.print.ensures
+    ends_explore form c.args.limits c.deref.result.now _ _ c.args.reading c.args.states c.args.outcome _ s c.print.result c.in_ok-script.ensures.script
+    (subst (λ (text : List ℕ). TellsOrders c.args.reading c.args.outcome c.args.limits s text) (sym c.deref.ensures.value) c.in_ok-text.ensures.told) c.print.ensures
 
 pub returns-clause-read : goal.returns-clause-read
 returns-clause-read g c = always c.print.result _ c.in_ok-script.ensures.read
