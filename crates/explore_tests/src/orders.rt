@@ -339,9 +339,7 @@ fn explored_in<'a, B: Allocator>(
 ) -> Result<Explored<'a, B>, ExploreFault> {
     let (reading, lists) = lists_in(rt, heap, &case.lines);
     let limits = limits_of(rt, case.acts);
-    let explored = explore(heap, names_of(rt, heap), limits, reading, &lists, most);
-    drop(lists);
-    explored
+    explore(heap, names_of(rt, heap), limits, reading, &lists, most)
 }
 
 #[test]
@@ -350,11 +348,10 @@ fn each_order_is_told(rt: HostRuntime) {
     for case in &CASES {
         let explored = explored_in(&rt, &heap, case, case.states);
         let explored = explored.expect(&rt, "all orders");
-        assert!(rt; explored.states == case.states);
+        assert_eq!(rt; explored.states, case.states);
         assert!(rt; explored.orders == Some(case.orders));
         check_outcomes(&rt, &explored, case.outcomes);
         check_refusals(&rt, &explored, case.refusals);
-        drop(explored);
     }
 }
 
@@ -363,47 +360,48 @@ fn too_many_states_are_refused(rt: HostRuntime) {
     let heap = rt.alloc();
     for case in &CASES {
         let most = case.states.saturating_sub(1);
-        let fault = explored_in(&rt, &heap, case, most).err();
+        let explored = explored_in(&rt, &heap, case, most);
         let states = case.states as u128;
-        let is_told =
-            matches!(fault, Some(ExploreFault::TooMany { states: told }) if told == states);
-        assert!(rt; is_told);
+        assert!(rt;
+            matches!(explored, Err(ExploreFault::TooMany { states: told }) if told == states)
+        );
     }
 }
-
-/// Six lines of each of three nodes.
-const SIX_LINES: [&[Line]; 3] = [
-    &[
-        Up(1),
-        Up(2),
-        Join(1),
-        Broadcast,
-        Deliver(1, 1),
-        Deliver(2, 1),
-    ],
-    &[
-        Up(0),
-        Up(2),
-        Join(2),
-        Broadcast,
-        Deliver(0, 1),
-        Deliver(2, 1),
-    ],
-    &[
-        Up(0),
-        Up(1),
-        Join(3),
-        Broadcast,
-        Deliver(0, 1),
-        Deliver(1, 1),
-    ],
-];
 
 /// Each of three nodes hears of the two others: 18! / 6!³ orders, which no walk could go through one by one.
 #[test]
 fn orders_of_three_nodes_of_six_lines_are_told(rt: HostRuntime) {
     let heap = rt.alloc();
-    let lists = lists_of(&rt, &heap, &SIX_LINES);
+    let lists = lists_of(
+        &rt,
+        &heap,
+        &[
+            &[
+                Up(1),
+                Up(2),
+                Join(1),
+                Broadcast,
+                Deliver(1, 1),
+                Deliver(2, 1),
+            ],
+            &[
+                Up(0),
+                Up(2),
+                Join(2),
+                Broadcast,
+                Deliver(0, 1),
+                Deliver(2, 1),
+            ],
+            &[
+                Up(0),
+                Up(1),
+                Join(3),
+                Broadcast,
+                Deliver(0, 1),
+                Deliver(1, 1),
+            ],
+        ],
+    );
     let names = Names::new(&heap, &["a", "b", "c"]).expect(&rt, "names");
     let explored = explore(
         &heap,
@@ -415,6 +413,4 @@ fn orders_of_three_nodes_of_six_lines_are_told(rt: HostRuntime) {
     );
     let explored = explored.expect(&rt, "all orders");
     assert!(rt; explored.orders == Some(17_153_136));
-    drop(explored);
-    drop(lists);
 }

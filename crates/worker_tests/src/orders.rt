@@ -117,14 +117,11 @@ fn consoles_undo_beside_running_nodes(rt: HostRuntime) {
         let bench = open(&rt, &heap, 100);
         let lines = lines_of(&rt, &heap, UNDONE_BESIDE);
         let raced = race(&rt, &heap, bench, 3, lines, &gate).map_err(fault_of);
-        let (bench, receipts) = raced.expect(&rt, "a race");
-        drop(receipts);
+        let (bench, _receipts) = raced.expect(&rt, "a race");
         assert!(rt; gate.has_passed_each_once());
         let kept = lines_of(&rt, &heap, UNDONE_BESIDE);
         assert!(rt; is_told(&bench, order, &kept));
-        assert!(rt; entries_of(&rt, &bench, 1) == order.entries);
-        drop(kept);
-        drop(bench);
+        assert_eq!(rt; entries_of(&rt, &bench, 1), order.entries);
     }
 }
 
@@ -239,10 +236,6 @@ fn agrees_altered<R: Threads + Wait + Clock + Abort + Sync + Copy>(
     alter(rt, alteration, &mut receipts);
     let lines: Lines<'_, Global> = lines_of(rt, heap, UNDONE_BESIDE);
     let agrees = agree(heap, opening.history(), bench.history(), &lines, &receipts);
-    drop(opening);
-    drop(bench);
-    drop(receipts);
-    drop(lines);
     agrees.expect(rt, "memory")
 }
 

@@ -28,9 +28,7 @@ consoles c1
 c1 undo 1
 ";
 
-pub fn fault_of<'a, B: Allocator>(refused: (RaceFault, Bench<'a, B>)) -> RaceFault {
-    let (fault, bench) = refused;
-    drop(bench);
+pub fn fault_of<'a, B: Allocator>((fault, _bench): (RaceFault, Bench<'a, B>)) -> RaceFault {
     fault
 }
 
@@ -52,7 +50,6 @@ fn is_what_its_history_gives<'a, B: Allocator>(
             same = same && node.same(given);
         }
     }
-    drop(again);
     same
 }
 
@@ -77,9 +74,6 @@ fn a_race_is_vouched_for(rt: HostRuntime) {
     assert!(rt; are_so_many(&receipts, &[2, 2, 0]));
     assert!(rt; is_what_its_history_gives(&rt, &heap, &bench));
     let agrees = agree(&heap, &before, bench.history(), &kept, &receipts);
-    drop(bench);
-    drop(before);
-    drop(receipts);
     assert!(rt; agrees.expect(&rt, "memory"));
 }
 
@@ -94,11 +88,9 @@ fn a_gate_turns_the_order(rt: HostRuntime) {
         let gate = InOrder::new(rt, order);
         let bench = open(&rt, &heap, 100);
         let raced = race(&rt, &heap, bench, 2, lines, &gate).map_err(fault_of);
-        let (bench, receipts) = raced.expect(&rt, "a race");
-        drop(receipts);
+        let (bench, _receipts) = raced.expect(&rt, "a race");
         let last = bench.history().at(1).expect(&rt, "two events");
         assert!(rt; last.actor == later && last.reply == Reply::Taken(2));
-        drop(bench);
         assert!(rt; gate.has_passed_each_once());
     }
 }
@@ -120,7 +112,6 @@ fn a_race_is_refused_before_it_begins(rt: HostRuntime) {
         let (refused, bench) = raced.err().expect(&rt, "a refusal");
         assert!(rt; refused == fault);
         assert!(rt; bench.history().len() == 0 && bench.limits().acts() == acts);
-        drop(bench);
     }
 }
 
@@ -138,16 +129,10 @@ fn a_call_is_told_with_its_place(rt: HostRuntime) {
     let (_, first) = lines.pop().expect(&rt, "a line");
     let receipt = ask(&mut bench, 0, 1, first);
     assert!(rt; tells(&receipt, Reply::Taken(1), Some(1)));
-    drop(receipt);
     let receipt = ask(&mut bench, 1, 2, second);
     assert!(rt; tells(&receipt, Reply::Refused(Fault::HistoryFull), None));
-    drop(receipt);
     let receipt = ask(&mut bench, 7, 3, Act::Undo(9));
     assert!(rt; tells(&receipt, Reply::Refused(Fault::NoSuchStep), Some(2)));
-    drop(receipt);
     let receipt = ask(&mut bench, 7, 4, Act::Undo(9));
     assert!(rt; tells(&receipt, Reply::Refused(Fault::NoSuchStep), None));
-    drop(receipt);
-    drop(lines);
-    drop(bench);
 }

@@ -15,9 +15,7 @@ type Heap = Refusing<Global>;
 
 /// Whether the bench that comes back from a race still answers.
 fn still_answers<'a>(mut bench: Bench<'a, Heap>) -> bool {
-    let answer = bench.act(0, &Act::Undo(0));
-    drop(bench);
-    answer == Reply::Refused(Fault::NoSuchStep)
+    bench.act(0, &Act::Undo(0)) == Reply::Refused(Fault::NoSuchStep)
 }
 
 /// Whether a race meets this request for memory, which is refused. Then it says so, and the bench comes back; else it is vouched for.
@@ -29,9 +27,7 @@ fn refused<R: Threads + Wait + Abort + Sync>(rt: &R, heap: &Heap, number: u64) -
     let is_met = number <= heap.requests();
     heap.refuse_none();
     match raced {
-        Ok((bench, receipts)) => {
-            drop(bench);
-            drop(receipts);
+        Ok((_bench, _receipts)) => {
             assert!(rt; !is_met, "request {number}");
             false
         }
@@ -177,15 +173,14 @@ fn two_threads_share_a_bench(rt: HostRuntime) {
     let (bench, receipts) = shared_by_two(&rt, &heap, script.as_str());
     for node in 0..2u16 {
         let list = receipts.get(usize::from(node)).expect(&rt, "a list");
-        assert!(rt; taken_of(list) == 1_000);
-        assert!(rt; clock_of(&rt, &bench, node) == 1_000);
+        assert_eq!(rt; taken_of(list), 1_000);
+        assert_eq!(rt; clock_of(&rt, &bench, node), 1_000);
     }
-    assert!(rt; bench.history().len() == 2_000 && bench.remaining().len() == 2_000);
+    assert_eq!(rt;
+        (bench.history().len(), bench.remaining().len()),
+        (2_000, 2_000)
+    );
     let lines = lines_of(&rt, &heap, script.as_str());
     let agrees = agree(&heap, opening.history(), bench.history(), &lines, &receipts);
-    drop(opening);
-    drop(bench);
-    drop(receipts);
-    drop(lines);
     assert!(rt; agrees.expect(&rt, "memory"));
 }
