@@ -287,6 +287,8 @@ fn shows<'a, B: Allocator>(
     holds(rt, has_way_back(bench, row.2), name);
     holds(rt, changes(rt, alloc, bench, 0, &a, *at_a), name);
     holds(rt, changes(rt, alloc, bench, 1, &b, *at_b), name);
+    drop(a);
+    drop(b);
 }
 
 /// A bench that was asked these calls, each of which changed the lists so.
@@ -349,4 +351,5 @@ fn an_unwind_changes_the_list_of_each_node(rt: HostRuntime) {
     let heap = rt.alloc();
     let mut bench = shown(&rt, &heap, Limits::usual(), &FIVE_STEPS, "five steps");
     assert!(rt; is_unwound(&rt, &heap, &mut bench));
+    drop(bench);
 }

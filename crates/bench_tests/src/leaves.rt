@@ -290,6 +290,7 @@ fn plays<'a, B: Allocator>(rt: &impl Abort, alloc: &'a B, case: &Case) {
     let rows = case.rows.get(..case.asked).expect(rt, case.name);
     let bench = played(rt, alloc, limits, rows, case.name);
     holds(rt, has(rt, &bench, case), case.name);
+    drop(bench);
 }
 
 #[test]
@@ -307,4 +308,5 @@ fn an_updated_entry_has_the_new_metadata(rt: HostRuntime) {
     let replica = bench.node(1).expect(&rt, "a node").replica();
     let entry = replica.entries().at(0).expect(&rt, "an entry");
     assert!(rt; entry.dot.name == 0 && entry.dot.clock == 2 && entry.metadata.as_str() == "away");
+    drop(bench);
 }

@@ -76,7 +76,9 @@ pub fn differ<'a, B: Allocator>(
 {
     let (left, joined) = rows;
     let diff = diff(alloc, before, after).expect(rt, "a difference");
-    are(&diff.left, left) && are(&diff.joined, joined)
+    let are_these = are(&diff.left, left) && are(&diff.joined, joined);
+    drop(diff);
+    are_these
 }
 
 /// A call of a replica in a table: of process 1, of a message by its place, or of name 0.
@@ -195,7 +197,9 @@ fn tells<'a, B: Allocator>(
 {
     let (left, joined) = rows;
     let diff = changed(alloc, change, replica).expect(rt, "a difference");
-    are(&diff.left, left) && are(&diff.joined, joined)
+    let are_these = are(&diff.left, left) && are(&diff.joined, joined);
+    drop(diff);
+    are_these
 }
 
 fn opening<'a, B: Allocator>(alloc: &'a B, own: u16) -> Replica<&'a B>
@@ -222,9 +226,13 @@ fn shows<'a, B: Allocator>(
     let change = made(rt, alloc, replica, messages, call);
     let after = list_of(rt, alloc, replica);
     let (left, joined) = rows;
-    tells(rt, alloc, &change, replica, rows)
-        && differ(rt, alloc, &before, &after, rows)
-        && differ(rt, alloc, &after, &before, (joined, left))
+    let is_told = tells(rt, alloc, &change, replica, rows);
+    drop(change);
+    let there = differ(rt, alloc, &before, &after, rows);
+    let back = differ(rt, alloc, &after, &before, (joined, left));
+    drop(before);
+    drop(after);
+    is_told && there && back
 }
 
 /// Calls of a new replica of this name, each of which changes its list so.
@@ -280,7 +288,7 @@ fn told<'a, B: Allocator>(
     replica: &mut Replica<&'a B>,
     call: Call,
 ) -> Payload<&'a B> {
-    made(rt, alloc, replica, &[], call);
+    drop(made(rt, alloc, replica, &[], call));
     replica.take_delta().expect(rt, "a message")
 }
 
@@ -291,7 +299,7 @@ fn told_in_all<'a, B: Allocator>(
     replica: &mut Replica<&'a B>,
     call: Call,
 ) -> Payload<&'a B> {
-    made(rt, alloc, replica, &[], call);
+    drop(made(rt, alloc, replica, &[], call));
     replica
         .extract(NameSet::empty().with(0))
         .expect(rt, "a message")
@@ -303,6 +311,7 @@ fn messages<'a, B: Allocator>(rt: &impl Abort, alloc: &'a B) -> [Payload<&'a B>;
     let joined = told(rt, alloc, &mut replica, Call::Join(Shown::Alice));
     let updated = told(rt, alloc, &mut replica, Call::Update(Shown::Away));
     let left = told_in_all(rt, alloc, &mut replica, Call::Leave(Shown::Away));
+    drop(replica);
     [joined, updated, left]
 }
 
@@ -317,6 +326,7 @@ fn plays<'a, B: Allocator>(
     for row in case.rows {
         holds(rt, shows(rt, alloc, &mut replica, messages, row), case.name);
     }
+    drop(replica);
 }
 
 #[test]
@@ -326,6 +336,7 @@ fn calls_are_shown(rt: HostRuntime) {
     for case in &CASES {
         plays(&rt, &heap, &messages, case);
     }
+    drop(messages);
 }
 
 /// Whether two rows that follow one another do so in order, and a copy of the first is the same.
@@ -341,25 +352,36 @@ fn rows_stand_in_order(rt: HostRuntime) {
     let heap = rt.alloc();
     let mut replica = opening(&heap, 0);
     for shown in [Shown::AliceUnderS, Shown::Bob, Shown::Alice] {
-        assert!(rt; joins(&rt, &heap, &mut replica, shown).is_ok());
+        assert!(rt; joins(&rt, &heap, &mut replica, shown).err().is_none());
     }
     let rows = list_of(&rt, &heap, &replica);
     assert!(rt; are(&rows, &[ALICE, (0, 1, Shown::Bob), ALICE_UNDER_S]));
     assert!(rt; are_in_order(&rt, &rows));
+    drop(rows);
+    drop(replica);
 }
 
-/// Whether a list and its difference from none, with this request for memory refused, are had where none met the refusal.
-fn fails_where_refused<'a>(heap: &'a Heap, replica: &Replica<&'a Heap>, number: u64) -> bool {
+/// Whether a list and its difference from another, with this request for memory refused, are had where none met the refusal.
+fn fails_where_refused<'a>(
+    heap: &'a Heap,
+    replica: &Replica<&'a Heap>,
+    other: &Replica<&'a Heap>,
+    number: u64,
+) -> bool {
     heap.refuse_only(number);
-    let is_had = is_compared(heap, replica).is_ok();
+    let is_had = is_compared(heap, replica, other).is_ok();
     let requests = heap.requests();
     is_had == (requests < number)
 }
 
-fn is_compared<'a, B: Allocator>(alloc: &'a B, replica: &Replica<&'a B>) -> Result<(), Oom> {
+fn is_compared<'a, B: Allocator>(
+    alloc: &'a B,
+    replica: &Replica<&'a B>,
+    other: &Replica<&'a B>,
+) -> Result<(), Oom> {
     let rows = online_list(alloc, replica)?;
-    let none = online_list(alloc, &opening(alloc, 1))?;
-    diff(alloc, &rows, &none)?;
+    let others = online_list(alloc, other)?;
+    drop(diff(alloc, &rows, &others)?);
     Ok(())
 }
 
@@ -367,8 +389,15 @@ fn is_compared<'a, B: Allocator>(alloc: &'a B, replica: &Replica<&'a B>) -> Resu
 fn refused_memory_is_told(rt: HostRuntime) {
     let heap = Refusing::new(rt.alloc());
     let mut replica = opening(&heap, 0);
-    assert!(rt; joins(&rt, &heap, &mut replica, Shown::Alice).is_ok());
+    assert!(rt;
+        joins(&rt, &heap, &mut replica, Shown::Alice)
+            .err()
+            .is_none()
+    );
+    let other = opening(&heap, 1);
     for number in 1..16 {
-        assert!(rt; fails_where_refused(&heap, &replica, number));
+        assert!(rt; fails_where_refused(&heap, &replica, &other, number));
     }
+    drop(other);
+    drop(replica);
 }

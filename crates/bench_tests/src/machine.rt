@@ -23,17 +23,24 @@ fn a_run_of_calls_gives_their_replies(rt: HostRuntime) {
     let mut bench = open(&rt, &heap, Limits::usual());
     let replies = bench.run(&calls).expect(&rt, "replies");
     assert!(rt; replies.as_slice() == expected.as_slice());
+    drop(replies);
+    drop(calls);
+    drop(bench);
 }
 
 /// Whether a copy of the act asks the same.
 fn has_copy<A: Allocator + Copy>(rt: &impl Abort, act: &Act<A>) -> bool {
-    act.try_copy().expect(rt, "a copy").same(act)
+    let copy = act.try_copy().expect(rt, "a copy");
+    let is_same = copy.same(act);
+    drop(copy);
+    is_same
 }
 
 #[test]
 fn an_act_is_the_same_as_its_copy(rt: HostRuntime) {
     let act = Call::Join(1, Shown::Alice).act(&rt, rt.alloc());
     assert!(rt; has_copy(&rt, &act));
+    drop(act);
 }
 
 #[test]
@@ -42,6 +49,7 @@ fn a_bench_has_its_names_and_limits(rt: HostRuntime) {
     let bench = open(&rt, &heap, Limits::usual());
     assert!(rt; bench.names().number_of("b") == Some(1) && bench.limits().acts() == 100_000);
     assert!(rt; bench.node(1).is_some() && bench.node(2).is_none());
+    drop(bench);
 }
 
 #[test]
@@ -53,6 +61,7 @@ fn a_step_is_recorded_and_kept(rt: HostRuntime) {
     assert!(rt; kept.number == 1 && kept.node == 1);
     let event = bench.history().at(0).expect(&rt, "a call");
     assert!(rt; event.actor == 1 && event.reply == Reply::Taken(1));
+    drop(bench);
 }
 
 /// Whether each of these steps has this least consequence.
@@ -83,6 +92,7 @@ fn a_step_is_held_by_its_least_consequence(rt: HostRuntime) {
     let held = [(1, Some(3)), (2, Some(4)), (3, Some(4)), (4, None)];
     assert!(rt; are_held(bench.remaining(), &held));
     assert!(rt; last_of(&bench, 0) == Some(3) && last_of(&bench, 1) == Some(4));
+    drop(bench);
 }
 
 /// A message that is delivered, the delivery undone, and the message delivered again.
@@ -104,6 +114,7 @@ fn a_send_is_held_by_the_delivery_that_remains(rt: HostRuntime) {
     let undo = (2, Call::Undo(5), Reply::Undone(5));
     answers(&rt, &heap, &mut bench, &undo, name);
     assert!(rt; bench.remaining().first_consequence(3).is_none());
+    drop(bench);
 }
 
 /// Whether the first step that remains is number 2, an up of name 0 by node 1.
@@ -121,6 +132,7 @@ fn the_step_that_remains_is_as_it_was_asked(rt: HostRuntime) {
     let heap = rt.alloc();
     let bench = played(&rt, &heap, Limits::usual(), &DELIVERED_AND_UNDONE, "undone");
     assert!(rt; has_up_alone(&bench));
+    drop(bench);
 }
 
 #[test]
@@ -130,4 +142,5 @@ fn an_entry_of_a_later_join_has_the_dot_of_the_undone(rt: HostRuntime) {
     let replica = bench.node(1).expect(&rt, "a node").replica();
     let entry = replica.entries().at(0).expect(&rt, "an entry");
     assert!(rt; entry.dot.name == 0 && entry.dot.clock == 1 && entry.pid == 2);
+    drop(bench);
 }

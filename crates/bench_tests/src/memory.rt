@@ -77,8 +77,28 @@ fn answer_refused<'a>(
     answer
 }
 
-/// Makes the call with its first, second, .. request for memory refused, until it meets none. Each refused call leaves all as
-/// it was. Gives the number of refused calls.
+/// Makes the call with its first, second, .. request for memory refused, until it meets none and gives this reply. Each
+/// refused call leaves all as it was. Gives the number of refused calls.
+fn refused_until<'a>(
+    rt: &impl Abort,
+    heap: &'a Heap,
+    bench: &mut Bench<'a, Heap>,
+    call: (u16, &Act<&'a Heap>, Reply),
+    held: &Held<'a>,
+) -> u64 {
+    let (actor, act, reply) = call;
+    for number in 1..100 {
+        let answer = answer_refused(heap, bench, actor, act, number);
+        if answer == reply {
+            return number - 1;
+        }
+        assert!(rt; answer == Reply::Refused(Fault::OutOfMemory));
+        assert!(rt; is_as_before(bench, held));
+    }
+    100
+}
+
+/// Makes the call of a row so.
 fn refused_in_turn<'a>(
     rt: &impl Abort,
     heap: &'a Heap,
@@ -88,15 +108,10 @@ fn refused_in_turn<'a>(
     let (actor, call, reply) = *row;
     let act = call.act(rt, heap);
     let held = copied(rt, bench);
-    for number in 1..100 {
-        let answer = answer_refused(heap, bench, actor, &act, number);
-        if answer == reply {
-            return number - 1;
-        }
-        assert!(rt; answer == Reply::Refused(Fault::OutOfMemory));
-        assert!(rt; is_as_before(bench, &held));
-    }
-    100
+    let refused = refused_until(rt, heap, bench, (actor, &act, reply), &held);
+    drop(held);
+    drop(act);
+    refused
 }
 
 const MESSAGES: [Row; 13] = [
@@ -178,6 +193,7 @@ fn all_refused_in_turn<'a>(rt: &impl Abort, heap: &'a Heap, rows: &[Row]) -> u64
         let refused = refused_in_turn(rt, heap, &mut bench, row);
         most = most.max(refused);
     }
+    drop(bench);
     most
 }
 
@@ -192,7 +208,7 @@ fn a_call_that_is_refused_memory_changes_nothing(rt: HostRuntime) {
 
 /// Whether a run of one call has its list of replies.
 fn runs<'a>(bench: &mut Bench<'a, Heap>) -> bool {
-    bench.run(&[(0, Act::Undo(1))]).is_ok()
+    bench.run(&[(0, Act::Undo(1))]).err().is_none()
 }
 
 // A body that always answers want of memory would keep every contract.
@@ -206,6 +222,7 @@ fn gives_up_for_memory(rt: HostRuntime) {
     let mut bench = played(&rt, &heap, Limits::usual(), &rows, "a join undone");
     heap.refuse_from(1);
     assert!(rt; !runs(&mut bench));
+    drop(bench);
 }
 
 /// The limits of a bench, calls after which no step can be taken, or nothing be recorded, and calls that are refused then.
@@ -295,6 +312,7 @@ fn is_free<'a>(rt: &impl Abort, heap: &'a Heap, bench: &mut Bench<'a, Heap>, row
     heap.refuse_from(1);
     let answer = bench.act(actor, &act);
     let requests = heap.requests();
+    drop(act);
     heap.refuse_none();
     answer == reply && requests == 0
 }
@@ -308,6 +326,7 @@ fn refuses_all<'a>(rt: &impl Abort, heap: &'a Heap, full: &Full) {
         holds(rt, is_free(rt, heap, &mut bench, row), full.name);
         holds(rt, counts_of(&bench) == counts, full.name);
     }
+    drop(bench);
 }
 
 #[test]
@@ -341,4 +360,5 @@ fn a_join_and_its_undo_ask_for_memory_a_few_times(rt: HostRuntime) {
     let undone = answer_refused(&heap, &mut bench, 0, &undo, 65);
     drop(undo);
     assert!(rt; undone == Reply::Undone(1_001));
+    drop(bench);
 }

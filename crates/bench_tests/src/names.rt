@@ -49,6 +49,7 @@ fn names_are_numbered_in_their_order(rt: HostRuntime) {
     assert!(rt; names.len() == 3);
     assert!(rt; names.text(1).expect(&rt, "a name") == "a");
     assert!(rt; names.text(3).is_none());
+    drop(names);
 }
 
 #[test]
@@ -58,6 +59,9 @@ fn names_are_the_same_in_one_order_alone(rt: HostRuntime) {
     let turned = named(&rt, rt.alloc(), &["a", "b_1", "abcdefghijklmnop"]);
     assert!(rt; names.same(&copy));
     assert!(rt; !names.same(&turned));
+    drop(names);
+    drop(copy);
+    drop(turned);
 }
 
 /// Makes names with the first, second, .. request for memory refused, until none is met. Gives how many were refused.
@@ -77,7 +81,7 @@ fn refused_names(rt: &impl Abort, heap: &Refusing<Global>) -> u64 {
 fn refused_copies<'a>(heap: &'a Refusing<Global>, names: &Names<&'a Refusing<Global>>) -> u64 {
     for number in 1..100 {
         heap.refuse_only(number);
-        if names.try_copy().is_ok() {
+        if names.try_copy().err().is_none() {
             return number - 1;
         }
     }
@@ -93,6 +97,7 @@ fn a_refused_request_is_out_of_memory(rt: HostRuntime) {
     let names = named(&rt, &heap, &["a", "b"]);
     let unmade = refused_copies(&heap, &names);
     assert!(rt; 2 <= unmade && unmade < 99);
+    drop(names);
 }
 
 #[test]
@@ -105,6 +110,7 @@ fn reads_of_names_take_no_memory(rt: HostRuntime) {
     assert!(rt; names.text(0).expect(&rt, "a name") == "a");
     assert!(rt; names.same(&names));
     assert!(rt; heap.requests() == 0);
+    drop(names);
 }
 
 /// Limits, and whether each is in its range.

@@ -492,6 +492,7 @@ fn plays<'a, B: Allocator>(rt: &impl Abort, alloc: &'a B, case: &Case) {
     let rows = case.rows.get(..case.asked).expect(rt, case.name);
     let bench = played(rt, alloc, limits, rows, case.name);
     holds(rt, has(rt, &bench, case), case.name);
+    drop(bench);
 }
 
 #[test]
@@ -511,4 +512,5 @@ fn the_meter_counts_the_steps_that_were_taken(rt: HostRuntime) {
         answers(&rt, &heap, &mut bench, row, "steps and undos");
         assert!(rt; bench.meter() == (place + 1).min(4) as u64);
     }
+    drop(bench);
 }

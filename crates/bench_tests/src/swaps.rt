@@ -96,6 +96,8 @@ fn answers<'a, B: Allocator>(rt: &impl Abort, alloc: &'a B, swaps: &Swaps) {
     let one = played(rt, alloc, Limits::usual(), swaps.one, swaps.name);
     let other = played(rt, alloc, Limits::usual(), swaps.other, swaps.name);
     let answer = same_cluster(&one, &other, swaps.places);
+    drop(one);
+    drop(other);
     holds(rt, answer == swaps.answer, swaps.name);
 }
 
@@ -113,7 +115,10 @@ fn a_bench_with_another_limit_is_another(rt: HostRuntime) {
     let one = played(&rt, &heap, Limits::usual(), &ALICE_FIRST, "usual limits");
     let limits = limits_of(&rt, [100_000, 10_000, 9, 10_000], "a clock of 9");
     let other = played(&rt, &heap, limits, &ALICE_FIRST, "a clock of 9");
-    assert!(rt; same_cluster(&one, &other, &[9]) == Err(SwapFault::OtherBench));
+    let answer = same_cluster(&one, &other, &[9]);
+    drop(one);
+    drop(other);
+    assert!(rt; answer == Err(SwapFault::OtherBench));
 }
 
 /// Answers with this request for memory refused alone.
@@ -143,6 +148,8 @@ fn swaps_are_told_from_want_of_memory(rt: HostRuntime) {
         refused = number;
     }
     assert!(rt; 0 < refused && refused < 9);
+    drop(one);
+    drop(other);
 }
 
 const FIRST_MESSAGE_FIRST: [Row; 9] = [
@@ -198,4 +205,6 @@ fn two_messages_come_in_either_order_and_twice(rt: HostRuntime) {
         "the second first",
     );
     assert!(rt; has_same_node(&rt, &one, &other, 1));
+    drop(one);
+    drop(other);
 }

@@ -46,6 +46,7 @@ fn a_step_is_undone_with_all_that_follows(rt: HostRuntime) {
     unwinds(&rt, &mut bench, 1, &[5, 4, 3, 1], (9, 1));
     let kept = bench.remaining().at(0).expect(&rt, "a step");
     assert!(rt; kept.number == 2);
+    drop(bench);
 }
 
 #[test]
@@ -53,6 +54,7 @@ fn other_steps_stay(rt: HostRuntime) {
     let heap = rt.alloc();
     let mut bench = played(&rt, &heap, Limits::usual(), &DELIVERED, "a delivery");
     unwinds(&rt, &mut bench, 2, &[4, 2], (6, 2));
+    drop(bench);
 }
 
 /// The fault of the future and of the unwind of a step.
@@ -84,6 +86,7 @@ fn no_step_that_is_gone_has_a_future(rt: HostRuntime) {
         assert!(rt; faults(&mut bench, number) == (Some(fault), Some(fault)));
     }
     assert!(rt; bench.history().len() == 2);
+    drop(bench);
 }
 
 type Heap = Refusing<Global>;
@@ -132,6 +135,7 @@ fn goes_on<'a>(rt: &impl Abort, heap: &'a Heap, number: u64) -> Option<usize> {
         let rest = rest.get(undone..).expect(rt, "a rest");
         unwinds(rt, &mut bench, 1, rest, (9, 1));
     }
+    drop(bench);
     if is_met { Some(undone) } else { None }
 }
 

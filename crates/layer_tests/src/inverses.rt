@@ -283,7 +283,10 @@ fn left_message<'a>(rt: &impl Abort, heap: &'a Heap) -> Payload<&'a Heap> {
     let mut replica = Replica::opening(heap, Side::There.name(), USUAL);
     drop(replica.join(1, &word, &word, &word).expect(rt, "a join"));
     drop(replica.leave(1, &word, &word).expect(rt, "a leave"));
-    replica.take_delta().expect(rt, "a message")
+    let message = replica.take_delta().expect(rt, "a message");
+    drop(replica);
+    drop(word);
+    message
 }
 
 /// Takes a step, and says whether its inverse has what is told.
@@ -300,7 +303,10 @@ fn keeps<'a>(
     let inverse = node
         .take(&step, Some(message), &mut meter)
         .expect(rt, "an inverse");
-    is_inverse(&inverse, told)
+    let is_told = is_inverse(&inverse, told);
+    drop(inverse);
+    drop(step);
+    is_told
 }
 
 fn each_keeps<'a>(
@@ -320,10 +326,15 @@ fn each_inverse_keeps_what_its_step_destroyed(rt: HostRuntime) {
     let heap = Refusing::new(rt.alloc());
     let first = message(&rt, &heap);
     let second = left_message(&rt, &heap);
+    let request = request(&heap);
     let mut node = Node::new(&heap, 0, USUAL);
     each_keeps(&rt, &heap, &mut node, &first, &OWN);
     each_keeps(&rt, &heap, &mut node, &first, &FIRST);
     each_keeps(&rt, &heap, &mut node, &second, &SECOND);
     each_keeps(&rt, &heap, &mut node, &first, &AGAIN);
-    each_keeps(&rt, &heap, &mut node, &request(&heap), &ASKED);
+    each_keeps(&rt, &heap, &mut node, &request, &ASKED);
+    drop(first);
+    drop(second);
+    drop(request);
+    drop(node);
 }

@@ -48,7 +48,10 @@ fn inverse<'a, B: Allocator>(rt: &impl Abort, alloc: &'a B) -> Inverse<&'a B> {
     let mut node = Node::new(alloc, 0, limits);
     let step = Step::Up { name: 1 };
     let taken = node.take(&step, None, &mut Meter::new());
-    taken.expect(rt, "an inverse")
+    let inverse = taken.expect(rt, "an inverse");
+    drop(step);
+    drop(node);
+    inverse
 }
 
 fn keeps<'a, B: Allocator>(
@@ -107,6 +110,7 @@ fn a_delivery_follows_from_its_send(rt: HostRuntime) {
     let heap = rt.alloc();
     let journal = four_steps(&rt, &heap);
     assert!(rt; follow(&journal));
+    drop(journal);
 }
 
 const FUTURES: [(u64, &[u64]); 3] = [(1, &[4, 3, 1]), (2, &[4, 2]), (5, &[])];
@@ -126,6 +130,7 @@ fn a_future_goes_all_the_way(rt: HostRuntime) {
     for (number, expected) in FUTURES {
         holds_at(&rt, has_future(&journal, number, expected), number);
     }
+    drop(journal);
 }
 
 /// Whether the future of step 1, with this request for memory refused, is had where it met no refusal.
@@ -145,6 +150,7 @@ fn a_future_that_is_refused_memory_is_an_error(rt: HostRuntime) {
         holds_at(&rt, is_told(&heap, &journal, number), number);
     }
     assert!(rt; has_future(&journal, 1, &[4, 3, 1]));
+    drop(journal);
 }
 
 fn lends_and_puts_back<'a, B: Allocator>(rt: &impl Abort, journal: &mut Journal<'a, B>, number: u64)
@@ -213,6 +219,7 @@ fn an_undone_send_frees_its_number(rt: HostRuntime) {
     let journal = a_second_send(&rt, &heap);
     assert!(rt; journal.first_consequence(1) == None);
     assert!(rt; journal.first_consequence(2) == Some(4));
+    drop(journal);
 }
 
 /// Whether step 1, of node 0, is the first.
@@ -226,9 +233,12 @@ fn has_first<'a, B: Allocator>(journal: &Journal<'a, B>) -> bool {
 #[test]
 fn a_loan_ends_in_two_ways(rt: HostRuntime) {
     let heap = rt.alloc();
-    assert!(rt; has_first(&one_send(&rt, &heap)));
+    let journal = one_send(&rt, &heap);
+    assert!(rt; has_first(&journal));
+    drop(journal);
     let journal = an_undone_send(&rt, &heap);
     assert!(rt; journal.len() == 0 && journal.find(1).is_none());
+    drop(journal);
 }
 
 /// Two steps, of which the first is taken out.
@@ -262,8 +272,12 @@ fn are_numbers<'a, B: Allocator>(journal: &Journal<'a, B>, expected: &[u64]) -> 
 #[test]
 fn a_walk_meets_the_steps_that_remain(rt: HostRuntime) {
     let heap = rt.alloc();
-    assert!(rt; are_numbers(&four_steps(&rt, &heap), &[1, 2, 3, 4]));
-    assert!(rt; are_numbers(&a_step_taken_out_before_another(&rt, &heap), &[2]));
+    let journal = four_steps(&rt, &heap);
+    assert!(rt; are_numbers(&journal, &[1, 2, 3, 4]));
+    drop(journal);
+    let journal = a_step_taken_out_before_another(&rt, &heap);
+    assert!(rt; are_numbers(&journal, &[2]));
+    drop(journal);
 }
 
 /// A step of the last of 32 nodes is its last one.
@@ -280,6 +294,7 @@ fn each_of_32_nodes_has_its_steps(rt: HostRuntime) {
         inverse(&rt, &heap),
     );
     assert!(rt; journal.last_of(31) == Some(1));
+    drop(journal);
 }
 
 #[test]
@@ -288,10 +303,11 @@ fn a_step_that_is_refused_memory_is_not_kept(rt: HostRuntime) {
     let mut journal = opened(&rt, &heap, 2);
     let inverse = inverse(&rt, &heap);
     heap.refuse_from(1);
-    assert!(rt; Journal::new(&heap, 2).is_err() == (heap.requests() > 0));
+    assert!(rt; Journal::new(&heap, 2).err().is_some() == (heap.requests() > 0));
     assert!(rt; journal.make_room(0, &Step::Broadcast).is_err());
-    assert!(rt; journal.keep(1, 0, Step::Broadcast, inverse).is_err());
+    assert!(rt; journal.keep(1, 0, Step::Broadcast, inverse).ok().is_none());
     assert!(rt; journal.len() == 0);
+    drop(journal);
 }
 
 /// Room that was made for a step stays while room is made for another.
@@ -303,6 +319,7 @@ fn a_step_with_room_needs_no_memory(rt: HostRuntime) {
     assert!(rt; journal.make_room(0, &Step::Broadcast).is_ok());
     assert!(rt; journal.make_room(1, &Step::Up { name: 0 }).is_ok());
     heap.refuse_from(1);
-    assert!(rt; journal.keep(1, 0, Step::Broadcast, inverse).is_ok());
+    assert!(rt; journal.keep(1, 0, Step::Broadcast, inverse).ok().is_some());
     assert!(rt; heap.requests() == 0 && journal.len() == 1);
+    drop(journal);
 }

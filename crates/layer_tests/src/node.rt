@@ -252,7 +252,11 @@ fn is_copied<'a>(heap: &'a Heap, step: &Step<&'a Heap>) -> bool {
     let requests = heap.requests();
     heap.refuse_none();
     match copy {
-        Ok(copy) => copy.same(step) && requests == 0,
+        Ok(copy) => {
+            let is_same = copy.same(step);
+            drop(copy);
+            is_same && requests == 0
+        }
         Err(_) => false,
     }
 }
@@ -264,6 +268,7 @@ fn a_step_is_copied_without_memory(rt: HostRuntime) {
     for ask in KINDS {
         let step = ask.step(&rt, &heap);
         assert!(rt; is_copied(&heap, &step));
+        drop(step);
     }
 }
 
@@ -297,6 +302,7 @@ fn has_faults<'a, B: Allocator>(rt: &impl Abort, alloc: &'a B, case: &Case) {
         let fault = fault_of(rt, alloc, &mut node, *ask);
         holds(rt, fault == *expected, case.name);
     }
+    drop(node);
 }
 
 #[test]
@@ -311,18 +317,24 @@ fn joins<'a, B: Allocator>(rt: &impl Abort, alloc: &'a B, replica: &mut Replica<
     let word = word(rt, alloc, "r");
     let change = replica.join(1, &word, &word, &word).expect(rt, "a join");
     drop(change);
+    drop(word);
 }
 
 /// The message of the node there that tells of its process 1.
 pub fn message<'a, B: Allocator>(rt: &impl Abort, alloc: &'a B) -> Payload<&'a B> {
     let mut replica = Replica::opening(alloc, Side::There.name(), USUAL);
     joins(rt, alloc, &mut replica);
-    replica.take_delta().expect(rt, "a message")
+    let message = replica.take_delta().expect(rt, "a message");
+    drop(replica);
+    message
 }
 
 /// A request of the node there.
 pub fn request<'a, B: Allocator>(alloc: &'a B) -> Payload<&'a B> {
-    Replica::opening(alloc, Side::There.name(), USUAL).request()
+    let replica = Replica::opening(alloc, Side::There.name(), USUAL);
+    let request = replica.request();
+    drop(replica);
+    request
 }
 
 /// The fault of a step that is given this message.
@@ -334,7 +346,10 @@ fn fault_given<'a, B: Allocator>(
 ) -> Option<StepFault> {
     let step = ask.step(rt, alloc);
     let mut node = Node::new(alloc, 0, USUAL);
-    node.take(&step, Some(message), &mut Meter::new()).err()
+    let fault = node.take(&step, Some(message), &mut Meter::new()).err();
+    drop(node);
+    drop(step);
+    fault
 }
 
 /// A request is answered and not delivered, and another message is delivered and not answered.
@@ -347,6 +362,8 @@ fn a_request_alone_is_answered(rt: HostRuntime) {
     assert!(rt; fault_given(&rt, &heap, answer, &message) == Some(StepFault::NotRequest));
     assert!(rt; fault_given(&rt, &heap, deliver, &request) == Some(StepFault::IsRequest));
     assert!(rt; fault_given(&rt, &heap, answer, &request).is_none());
+    drop(message);
+    drop(request);
 }
 
 /// Takes a step for which memory and the message are there.
@@ -359,8 +376,9 @@ fn takes<'a>(
 ) {
     let step = ask.step(rt, heap);
     let mut meter = Meter::new();
-    let inverse = node.take(&step, Some(message), &mut meter);
-    assert!(rt; inverse.is_ok());
+    let fault = node.take(&step, Some(message), &mut meter).err();
+    drop(step);
+    assert!(rt; fault.is_none());
 }
 
 /// Takes the step, and takes it back, with this request for memory and all later ones refused first: the node is as it was.
@@ -380,6 +398,8 @@ fn taken_back<'a>(
     assert!(rt; !node.same(&before));
     gives_back(rt, heap, node, inverse, number);
     assert!(rt; node.same(&before));
+    drop(before);
+    drop(step);
 }
 
 /// Takes a step back with this request for memory and all later ones refused; where that is refused, with memory.
@@ -398,6 +418,7 @@ fn gives_back<'a>(
     if let Some(inverse) = refused {
         let left = given_back(node, inverse);
         assert!(rt; left.is_none());
+        drop(left);
     }
 }
 
@@ -475,11 +496,15 @@ fn are_taken_back<'a>(
             Turn::Back(ask) => taken_back(rt, heap, &mut node, *ask, message, number),
         }
     }
+    drop(node);
 }
 
 fn each_is_taken_back<'a>(rt: &impl Abort, heap: &'a Heap, number: u64) {
-    are_taken_back(rt, heap, &message(rt, heap), &TURNS, number);
-    are_taken_back(rt, heap, &request(heap), &ANSWERS, number);
+    let (message, request) = (message(rt, heap), request(heap));
+    are_taken_back(rt, heap, &message, &TURNS, number);
+    are_taken_back(rt, heap, &request, &ANSWERS, number);
+    drop(message);
+    drop(request);
 }
 
 #[test]
@@ -519,16 +544,16 @@ fn is_refused_in_turn<'a>(
     node: &mut Node<'a, Heap>,
     step: &Step<&'a Heap>,
     message: &Payload<&'a Heap>,
+    before: &Node<'a, Heap>,
 ) -> bool
     requires { AreNames (plain step.now) }
 {
-    let before = node.try_copy().expect(rt, "a copy");
     for number in 1..100 {
         match fault_without(heap, node, step, message, number) {
             Some(fault) => assert!(rt; fault == StepFault::OutOfMemory),
             None => return true,
         }
-        assert!(rt; node.same(&before));
+        assert!(rt; node.same(before));
     }
     false
 }
@@ -557,7 +582,11 @@ fn refuses<'a>(
     ask: Ask,
 ) -> bool {
     let step = ask.step(rt, heap);
-    is_refused_in_turn(rt, heap, node, &step, message)
+    let before = node.try_copy().expect(rt, "a copy");
+    let is_refused = is_refused_in_turn(rt, heap, node, &step, message, &before);
+    drop(before);
+    drop(step);
+    is_refused
 }
 
 #[test]
@@ -571,4 +600,7 @@ fn a_step_that_is_refused_memory_changes_nothing(rt: HostRuntime) {
     let request = request(&heap);
     assert!(rt; refuses(&rt, &heap, &mut node, &request, Ask::Answer(Side::There)));
     assert!(rt; node.outbox().len() == 4);
+    drop(message);
+    drop(request);
+    drop(node);
 }

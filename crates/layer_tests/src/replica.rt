@@ -118,6 +118,7 @@ fn inputs_of<'a, B: Allocator>(rt: &impl Abort, alloc: &'a B, pair: Pair) -> Inp
     let mut replica = opening(alloc, sender);
     let first = sent(rt, &mut replica, &words, 1);
     let second = sent(rt, &mut replica, &words, 2);
+    drop(replica);
     Inputs {
         pair,
         words,
@@ -169,6 +170,18 @@ impl Call {
         }
     }
 
+    /// Whether the call is made, and undone at once.
+    fn is_taken_back<'a, B: Allocator>(
+        self,
+        replica: &mut Replica<&'a B>,
+        inputs: &Inputs<&'a B>,
+    ) -> bool {
+        let Ok(change) = self.act(replica, inputs) else {
+            return false;
+        };
+        replica.undo(change).ok().is_some()
+    }
+
     /// Whether the call is made, for good or to be undone at once.
     fn is_made<'a, B: Allocator>(
         self,
@@ -176,10 +189,10 @@ impl Call {
         inputs: &Inputs<&'a B>,
         is_undone: bool,
     ) -> bool {
-        let Ok(change) = self.act(replica, inputs) else {
-            return false;
-        };
-        !is_undone || replica.undo(change).is_ok()
+        if is_undone {
+            return self.is_taken_back(replica, inputs);
+        }
+        self.act(replica, inputs).err().is_none()
     }
 }
 
@@ -211,6 +224,7 @@ fn plays<'a, B: Allocator>(rt: &impl Abort, alloc: &'a B, inputs: &Inputs<&'a B>
         assert!(rt; is_seen(replica.seen(), sender, *clock, cloud));
         assert!(rt; are_live(&replica, sender, live));
     }
+    drop(replica);
 }
 
 /// Hidden until the name is up; out of order; removed before it came; removed after it came.
@@ -243,6 +257,7 @@ fn plays_all<'a, B: Allocator>(rt: &impl Abort, alloc: &'a B, pair: Pair) {
     for rows in DELIVERIES {
         plays(rt, alloc, &inputs, rows);
     }
+    drop(inputs);
 }
 
 #[test]
@@ -267,6 +282,26 @@ fn refused<'a>(
     answer.err()
 }
 
+/// Makes the call with each request for memory refused in turn, which leaves the replica as it was, and then with none. Gives
+/// how many were refused.
+fn refuses_in_turn<'a>(
+    rt: &impl Abort,
+    heap: &'a Heap,
+    replica: &mut Replica<&'a Heap>,
+    inputs: &Inputs<&'a Heap>,
+    call: Call,
+    before: &Replica<&'a Heap>,
+) -> u64 {
+    for number in 1..100 {
+        let Some(fault) = refused(heap, replica, inputs, call, number) else {
+            return number - 1;
+        };
+        assert!(rt; fault == ReplicaFault::OutOfMemory);
+        holds_at(rt, replica.same(before), number);
+    }
+    100
+}
+
 /// Makes the call and undoes it, makes it with each request for memory refused in turn, and then with none. Gives how many
 /// were refused.
 fn refuses<'a>(
@@ -279,14 +314,9 @@ fn refuses<'a>(
     let before = replica.try_copy().expect(rt, "a copy");
     assert!(rt; call.is_made(replica, inputs, true));
     assert!(rt; replica.same(&before));
-    for number in 1..100 {
-        let Some(fault) = refused(heap, replica, inputs, call, number) else {
-            return number - 1;
-        };
-        assert!(rt; fault == ReplicaFault::OutOfMemory);
-        holds_at(rt, replica.same(&before), number);
-    }
-    100
+    let refused = refuses_in_turn(rt, heap, replica, inputs, call, &before);
+    drop(before);
+    refused
 }
 
 const CALLS: [Call; 9] = [
@@ -342,6 +372,7 @@ fn refuses_each<'a>(
     let (clock, live, status) = after;
     let has_status = b.status(pair.sender()) == status;
     assert!(rt; has_status && has_own(&b, pair.receiver(), clock, live));
+    drop(b);
 }
 
 #[test]
@@ -378,12 +409,14 @@ fn a_process_leaves_under_all_its_keys(rt: HostRuntime) {
     let mut b = four_joined(&rt, &heap);
     leaves_refused(&rt, &heap, &mut b);
     assert!(rt; has_own(&b, 1, 7, &[4]));
+    drop(b);
 }
 
 fn leaves_refused<'a>(rt: &impl Abort, heap: &'a Heap, replica: &mut Replica<&'a Heap>) {
     let inputs = inputs_of(rt, heap, Pair::First);
     let refusals = refuses(rt, heap, replica, &inputs, Call::LeaveAll);
     assert!(rt; 0 < refusals && refusals < 100);
+    drop(inputs);
 }
 
 /// Joins the process under the topic `r` and this key.
@@ -396,6 +429,7 @@ fn joins_under<'a, B: Allocator>(
 ) {
     let words = words_of(rt, alloc, key);
     joins(rt, replica, &words, pid);
+    drop(words);
 }
 
 /// A node 0 with one join, of which nothing was sent.
@@ -421,7 +455,18 @@ fn extracted<'a, B: Allocator>(
 fn extracts_the_delta<'a, B: Allocator>(rt: &impl Abort, replica: &mut Replica<&'a B>) -> bool {
     let extract = extracted(rt, replica, 0);
     let delta = replica.take_delta().expect(rt, "a delta");
-    extract.same(&delta)
+    let is_the_same = extract.same(&delta);
+    drop(extract);
+    drop(delta);
+    is_the_same
+}
+
+/// Whether an extract of another name has no entry.
+fn extracts_nothing<'a, B: Allocator>(rt: &impl Abort, replica: &Replica<&'a B>) -> bool {
+    let extract = extracted(rt, replica, 1);
+    let is_empty = extract.entries().is_empty();
+    drop(extract);
+    is_empty
 }
 
 /// An extract has all that was joined where its sender is named, and else nothing.
@@ -429,8 +474,9 @@ fn extracts_the_delta<'a, B: Allocator>(rt: &impl Abort, replica: &mut Replica<&
 fn an_extract_has_the_named_alone(rt: HostRuntime) {
     let heap = rt.alloc();
     let mut a = joined(&rt, &heap);
-    assert!(rt; extracted(&rt, &a, 1).entries().is_empty());
+    assert!(rt; extracts_nothing(&rt, &a));
     assert!(rt; extracts_the_delta(&rt, &mut a));
+    drop(a);
 }
 
 /// Whether the receiver, to which the sender's first message came, has it in an extract of the sender's name.
@@ -440,9 +486,11 @@ fn extracts_foreign<'a, B: Allocator>(
     inputs: &Inputs<&'a B>,
 ) -> bool {
     let message = extracted(rt, replica, inputs.pair.sender());
-    message.sender() == inputs.pair.receiver()
+    let is_the_same = message.sender() == inputs.pair.receiver()
         && message.seen().same(inputs.first.seen())
-        && message.entries().same(inputs.first.entries())
+        && message.entries().same(inputs.first.entries());
+    drop(message);
+    is_the_same
 }
 
 /// An extract of another's name has what was delivered of it.
@@ -454,14 +502,16 @@ fn an_extract_has_foreign_names_too(rt: HostRuntime) {
     let is_up = Call::Up.is_made(&mut b, &inputs, false);
     let is_delivered = Call::First.is_made(&mut b, &inputs, false);
     assert!(rt; is_up && is_delivered && extracts_foreign(&rt, &b, &inputs));
+    drop(b);
+    drop(inputs);
 }
 
 fn copies<'a, B: Allocator>(replica: &Replica<&'a B>) -> bool {
-    replica.try_copy().is_ok()
+    replica.try_copy().err().is_none()
 }
 
 fn extracts<'a, B: Allocator>(replica: &Replica<&'a B>) -> bool {
-    replica.extract(NameSet::empty().with(0)).is_ok()
+    replica.extract(NameSet::empty().with(0)).err().is_none()
 }
 
 #[test]
@@ -476,6 +526,7 @@ fn a_refused_copy_or_extract_is_an_error(rt: HostRuntime) {
         let is_extracted = extracts(&a);
         holds_at(&rt, is_extracted == (heap.requests() < number), number);
     }
+    drop(a);
 }
 
 /// Whether the delta was taken, as of node 0, and given back.
@@ -518,4 +569,6 @@ fn reads_and_sends_take_no_memory(rt: HostRuntime) {
     let is_as_before = reads_and_sends(&mut a, &before);
     assert!(rt; is_as_before);
     assert!(rt; heap.requests() == 0);
+    drop(before);
+    drop(a);
 }

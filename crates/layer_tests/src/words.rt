@@ -118,6 +118,7 @@ fn a_set_of_names_has_their_entries_alone(rt: HostRuntime) {
     assert!(rt; has_only(&rt, &entries, all, 3));
     assert!(rt; has_only(&rt, &entries, all.without(0), 1));
     assert!(rt; has_only(&rt, &entries, NameSet::empty().with(1), 0));
+    drop(entries);
 }
 
 /// Whether so many entries are of these names.
@@ -129,7 +130,9 @@ fn has_only<A: Allocator + Copy>(
 ) -> bool {
     let part = entries.only(names).expect(rt, "a part");
     let is_whole = part.same(entries) == (count == entries.len());
-    is_whole && part.len() == count && part.is_empty() == (count == 0)
+    let has_these = is_whole && part.len() == count && part.is_empty() == (count == 0);
+    drop(part);
+    has_these
 }
 
 /// The places of three entries, by rising dot.
@@ -143,6 +146,7 @@ fn an_entry_set_rises_by_dot(rt: HostRuntime) {
         assert!(rt; is_at(&entries, place, Dot { name, clock }));
     }
     assert!(rt; entries.at(3).is_none());
+    drop(entries);
 }
 
 /// Whether the entry at this place is the one of this dot.
@@ -172,6 +176,7 @@ fn find_gives_the_least_clock_of_the_name(rt: HostRuntime) {
     assert!(rt; finds(&rt, rt.alloc(), &entries, 0, 7) == Some(least));
     assert!(rt; finds(&rt, rt.alloc(), &entries, 0, 8) == None);
     assert!(rt; finds(&rt, rt.alloc(), &entries, 31, 7) == None);
+    drop(entries);
 }
 
 /// Takes out what is at the dot, and says whether that is an entry of this dot.
@@ -190,6 +195,8 @@ fn a_removal_takes_one_entry_out(rt: HostRuntime) {
     assert!(rt; entries.same(&before));
     assert!(rt; takes_out(&mut entries, Dot { name: 0, clock: 5 }));
     assert!(rt; entries.len() == 2);
+    drop(before);
+    drop(entries);
 }
 
 /// A message of node 0 that has seen these dots and has no entry.
@@ -217,6 +224,7 @@ fn a_message_gives_its_parts(rt: HostRuntime) {
     assert!(rt; copy.same(&message));
     assert!(rt; message.seen().contains(Dot { name: 0, clock: 4 }));
     assert!(rt; are_parts(copy, &message));
+    drop(message);
 }
 
 /// A request gives the names that it asks for, and is neither another request nor a message without them.
@@ -226,17 +234,26 @@ fn a_request_gives_its_names(rt: HostRuntime) {
     let names = NameSet::empty().with(0).with(31);
     let request = Payload::request(&heap, 0, names);
     let other = Payload::request(&heap, 0, NameSet::empty().with(31));
+    let none = seen_alone(&rt, &heap, &[]);
     let copy = request.try_copy().expect(&rt, "a copy");
     assert!(rt; copy.same(&request) && !request.same(&other));
-    assert!(rt; !request.same(&seen_alone(&rt, &heap, &[])));
+    assert!(rt; !request.same(&none));
     assert!(rt; copy.asked().is_some_and(|asked| asked.same(names)));
-    assert!(rt; are_parts(copy, &seen_alone(&rt, &heap, &[])));
+    assert!(rt; are_parts(copy, &none));
+    drop(request);
+    drop(other);
+    drop(none);
 }
 
 /// Whether the message falls into the parts of the other.
 fn are_parts<'a, B: Allocator>(message: Payload<&'a B>, other: &Payload<&'a B>) -> bool {
     let (sender, seen, entries) = message.into_parts();
-    sender == other.sender() && seen.same(other.seen()) && entries.same(other.entries())
+    let are_the_same = sender == other.sender()
+        && seen.same(other.seen())
+        && entries.same(other.entries());
+    drop(seen);
+    drop(entries);
+    are_the_same
 }
 
 /// Pushes the message of this clock, which is refused, and comes back: gives the fault. Only the messages take memory.
@@ -250,6 +267,8 @@ fn refused<'a, B: Allocator>(
     let copy = message.try_copy().expect(rt, "a copy");
     let (given_back, fault) = outbox.push(message).err().expect(rt, "a refusal");
     assert!(rt; given_back.same(&copy));
+    drop(given_back);
+    drop(copy);
     fault
 }
 
@@ -272,19 +291,26 @@ fn an_outbox_holds_as_many_messages_as_its_limit(rt: HostRuntime) {
     assert!(rt; pushes(&rt, &heap, &mut outbox, 1) == 1);
     assert!(rt; outbox.is_full());
     assert!(rt; refused(&rt, &heap, &mut outbox, 2) == OutboxFault::OutboxFull);
+    drop(outbox);
 }
 
 /// Takes the last message out, which has seen the dot of this clock.
 fn pops<'a, B: Allocator>(rt: &impl Abort, outbox: &mut Outbox<'a, B>, clock: u64) {
     let last = outbox.pop().expect(rt, "a message");
     assert!(rt; last.seen().contains(Dot { name: 0, clock }));
+    drop(last);
 }
 
 /// Whether there are two messages, numbered from 1, in a copy too.
 fn are_numbered<'a, B: Allocator>(rt: &impl Abort, outbox: &Outbox<'a, B>) -> bool {
     let copy = outbox.try_copy().expect(rt, "a copy");
     let are_two = outbox.get(1).is_some() && outbox.get(2).is_some();
-    are_two && outbox.get(0).is_none() && outbox.get(3).is_none() && copy.same(outbox)
+    let are_told = are_two
+        && outbox.get(0).is_none()
+        && outbox.get(3).is_none()
+        && copy.same(outbox);
+    drop(copy);
+    are_told
 }
 
 #[test]
@@ -297,6 +323,7 @@ fn messages_are_numbered_from_1_and_popped_from_the_end(rt: HostRuntime) {
     pops(&rt, &mut outbox, 2);
     pops(&rt, &mut outbox, 1);
     assert!(rt; outbox.len() == 0);
+    drop(outbox);
 }
 
 #[test]
@@ -344,6 +371,8 @@ fn a_refused_insert_gives_the_entry_back(rt: HostRuntime) {
     heap.refuse_from(1);
     assert!(rt; is_given_back(&rt, &mut entries, new, &copy));
     assert!(rt; entries.is_empty());
+    drop(copy);
+    drop(entries);
 }
 
 /// Makes room for one entry, which is refused first.
@@ -363,6 +392,7 @@ fn an_insert_into_room_takes_no_memory(rt: HostRuntime) {
     heap.refuse_from(1);
     put(&rt, &mut entries, new);
     assert!(rt; heap.requests() == 0);
+    drop(entries);
 }
 
 /// Copies a set of entries, or those of name 0 alone.
@@ -383,7 +413,7 @@ fn requests_for(
     number: u64,
 ) -> u64 {
     heap.refuse_only(number);
-    let is_made = copies(entries, is_whole).is_ok();
+    let is_made = copies(entries, is_whole).err().is_none();
     holds_at(rt, is_made == (heap.requests() < number), number);
     heap.requests()
 }
@@ -399,6 +429,7 @@ fn a_refused_copy_of_a_set_is_an_error(rt: HostRuntime) {
     }
     assert!(rt; requests_for(&rt, &heap, &entries, true, 4) == 1);
     assert!(rt; requests_for(&rt, &heap, &entries, false, 4) >= 1);
+    drop(entries);
 }
 
 #[test]
@@ -408,6 +439,7 @@ fn a_refused_push_gives_the_message_back(rt: HostRuntime) {
     heap.refuse_from(1);
     assert!(rt; refused(&rt, &heap, &mut outbox, 1) == OutboxFault::OutOfMemory);
     assert!(rt; outbox.is_empty() && outbox.make_room().is_err());
+    drop(outbox);
 }
 
 #[test]
@@ -418,7 +450,8 @@ fn a_push_into_room_takes_no_memory(rt: HostRuntime) {
     heap.refuse_from(1);
     assert!(rt; pushes(&rt, &heap, &mut outbox, 1) == 1);
     assert!(rt; heap.requests() == 0);
-    assert!(rt; outbox.try_copy().is_err());
+    assert!(rt; outbox.try_copy().err().is_some());
+    drop(outbox);
 }
 
 /// Reads in a set of three entries.
@@ -436,6 +469,8 @@ fn reads_and_removals_take_no_memory(rt: HostRuntime) {
     assert!(rt; reads(&entries, &room));
     assert!(rt; takes_out(&mut entries, Dot { name: 0, clock: 5 }));
     assert!(rt; heap.requests() == 0);
+    drop(room);
+    drop(entries);
 }
 
 /// A part's list, and what it grows by, is of the memory of the set that it is a part of. Its entries' words are shared.
@@ -454,4 +489,6 @@ fn a_part_of_a_set_keeps_the_memory_of_its_set(rt: HostRuntime) {
     assert!(rt; part.make_room(100).is_ok());
     put(&rt, &mut part, new);
     assert!(rt; (own.requests(), others.requests()) == (2, 0));
+    drop(part);
+    drop(entries);
 }

@@ -1,10 +1,12 @@
 //! Pictures of small runs.
-use bench_core::Limits;
+use bench_core::{Bench, Limits};
 use picture_core::draw;
 use script_core::{Played, parse_script, run_script};
-use std::alloc::{AllocError, Allocator};
+use std::alloc::{AllocError, Allocator, Global};
 use std::process::Abort;
 use test_alloc::Refusing;
+
+type Heap = Refusing<Global>;
 
 /// What each picture has before its lines.
 const FRONT: &str = concat!(
@@ -129,26 +131,34 @@ b answer a 1
 
 fn played<'a, B: Allocator>(rt: &impl Abort, alloc: &'a B, script: &str) -> Played<'a, B> {
     let script = parse_script(alloc, script.as_bytes()).expect(rt, "a script");
-    run_script(alloc, &script, Limits::usual()).expect(rt, "memory")
+    let played = run_script(alloc, &script, Limits::usual()).expect(rt, "memory");
+    drop(script);
+    played
+}
+
+/// Whether the script of the case has its picture.
+fn has_its_picture<'a, B: Allocator>(rt: &impl Abort, alloc: &'a B, case: Case) -> bool {
+    let played = played(rt, alloc, case.script);
+    let picture = draw(alloc, &played.bench, case.why).expect(rt, "memory");
+    drop(played);
+    let Case {
+        width,
+        height,
+        lanes,
+        over,
+        ..
+    } = case;
+    let expected = format!(in alloc;
+        "<svg xmlns=\"http://www.w3.org/2000/svg\" width=\"{width}\" height=\"{height}\">{FRONT}{lanes}{over}</g></svg>"
+    ).expect(rt, "memory");
+    picture.as_slice() == expected.as_bytes()
 }
 
 #[test]
 fn each_run_has_its_picture(rt: HostRuntime) {
     let alloc = rt.alloc();
     for case in [SENT, MARKED_UP, PAINTED] {
-        let played = played(&rt, &alloc, case.script);
-        let picture = draw(&alloc, &played.bench, case.why).expect(&rt, "memory");
-        let Case {
-            width,
-            height,
-            lanes,
-            over,
-            ..
-        } = case;
-        let expected = format!(in alloc;
-            "<svg xmlns=\"http://www.w3.org/2000/svg\" width=\"{width}\" height=\"{height}\">{FRONT}{lanes}{over}</g></svg>"
-        ).expect(&rt, "memory");
-        assert_eq!(rt; picture.as_slice(), expected.as_bytes());
+        assert!(rt; has_its_picture(&rt, &alloc, case));
     }
 }
 
@@ -159,6 +169,7 @@ fn thirty_two_nodes_stand_below_one_another(rt: HostRuntime) {
         "nodes n0 n1 n2 n3 n4 n5 n6 n7 n8 n9 n10 n11 n12 n13 n14 n15 n16 n17 n18 n19 n20 n21 n22 n23 n24 n25 n26 n27 n28 n29 n30 n31\n";
     let played = played(&rt, &alloc, script);
     let picture = draw(&alloc, &played.bench, Some(1)).expect(&rt, "memory");
+    drop(played);
     let text = str::from_utf8(&picture).expect(&rt, "text");
     assert!(rt; text.contains(r#" width="300" height="3200">"#));
     assert!(rt;
@@ -166,17 +177,23 @@ fn thirty_two_nodes_stand_below_one_another(rt: HostRuntime) {
     );
 }
 
+/// The fault of a picture with this request for memory refused, if it has one.
+fn fault_without<'a>(heap: &'a Heap, bench: &Bench<'a, Heap>, number: u64) -> Option<AllocError> {
+    heap.refuse_only(number);
+    draw(heap, bench, Some(2)).err()
+}
+
 #[test]
 fn refused_memory_is_told(rt: HostRuntime) {
     let heap = Refusing::new(rt.alloc());
     let played = played(&rt, &heap, SENT.script);
     for number in 1..1_000 {
-        heap.refuse_only(number);
-        let picture = draw(&heap, &played.bench, Some(2));
+        let fault = fault_without(&heap, &played.bench, number);
         if heap.requests() < number {
-            assert!(rt; picture.is_ok());
-            return;
+            assert!(rt; fault.is_none());
+            break;
         }
-        assert_eq!(rt; picture.err(), Some(AllocError));
+        assert!(rt; fault == Some(AllocError));
     }
+    drop(played);
 }
