@@ -334,19 +334,21 @@ fn lists_in<'a, B: Allocator>(
 fn explored_in<'a, B: Allocator>(
     rt: &impl Abort,
     heap: &'a B,
+    reading: Reading,
+    lists: &Lists<'a, B>,
     case: &Case,
     most: usize,
 ) -> Result<Explored<'a, B>, ExploreFault> {
-    let (reading, lists) = lists_in(rt, heap, &case.lines);
     let limits = limits_of(rt, case.acts);
-    explore(heap, names_of(rt, heap), limits, reading, &lists, most)
+    explore(heap, names_of(rt, heap), limits, reading, lists, most)
 }
 
 #[test]
 fn each_order_is_told(rt: HostRuntime) {
     let heap = rt.alloc();
     for case in &CASES {
-        let explored = explored_in(&rt, &heap, case, case.states);
+        let (reading, lists) = lists_in(&rt, &heap, &case.lines);
+        let explored = explored_in(&rt, &heap, reading, &lists, case, case.states);
         let explored = explored.expect(&rt, "all orders");
         assert_eq!(rt; explored.states, case.states);
         assert!(rt; explored.orders == Some(case.orders));
@@ -360,7 +362,8 @@ fn too_many_states_are_refused(rt: HostRuntime) {
     let heap = rt.alloc();
     for case in &CASES {
         let most = case.states.saturating_sub(1);
-        let explored = explored_in(&rt, &heap, case, most);
+        let (reading, lists) = lists_in(&rt, &heap, &case.lines);
+        let explored = explored_in(&rt, &heap, reading, &lists, case, most);
         let states = case.states as u128;
         assert!(rt;
             matches!(explored, Err(ExploreFault::TooMany { states: told }) if told == states)
