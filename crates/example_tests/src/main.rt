@@ -47,7 +47,13 @@ fn is_as_explored(rt: &HostRuntime, example: &str) -> io::Result<bool> {
     let Ok(script) = parse_script(&alloc, &script) else {
         return Ok(false);
     };
-    match report_orders(&alloc, &script, Limits::usual(), Reading::EveryOrder, 100_000) {
+    match report_orders(
+        &alloc,
+        &script,
+        Limits::usual(),
+        Reading::EveryOrder,
+        100_000,
+    ) {
         Ok(text) => Ok(text.as_slice() == report.as_slice()),
         Err(_) => Ok(false),
     }

@@ -56,10 +56,7 @@ fn lists_below<A: Allocator + Copy>(
 }
 
 /// A list of this call.
-fn alone<A: Allocator + Copy>(
-    alloc: A,
-    call: &(u16, Act<A>),
-) -> Result<Vec<(u16, Act<A>), A>, Oom>
+fn alone<A: Allocator + Copy>(alloc: A, call: &(u16, Act<A>)) -> Result<Vec<(u16, Act<A>), A>, Oom>
     ensures { IfOk result (λ list. calls_of list.items ≡ (call.now.0, plain_act call.now.1) ∷ []) }
 {
     let mut list = Vec::new(alloc);

@@ -121,7 +121,13 @@ fn put_refused_line<'a, B: Allocator>(
     ensures { OnOk result (string_bytes text.new ≡ string_bytes text.old ++
         refused_line page.now.reading (plain_script page.now.script.now).lines (calls_of page.now.calls.now) refusal.now.refusal) }
 {
-    let line = number_of(page.reading, page.script, page.calls, refusal.list, refusal.place);
+    let line = number_of(
+        page.reading,
+        page.script,
+        page.calls,
+        refusal.list,
+        refusal.place,
+    );
     put_refused(text, line, refusal.fault)
 }
 

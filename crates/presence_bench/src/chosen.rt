@@ -20,7 +20,9 @@ pub enum Subcommand {
     /// Takes a script line by line, and answers each before the next is read.
     Step,
     /// Draws a saved session, with the future of the step of this number painted.
-    Draw { why: Option<u64> },
+    Draw {
+        why: Option<u64>,
+    },
 }
 
 /// What it prints of the bench that was played on.

@@ -6,7 +6,8 @@ ghost use Rattle.presence_bench.specs.Line.{app, as_rule, draw_app, explore_app,
 
 use crate::chosen::{Choice, Form, Options, Subcommand};
 use crate::help::{
-    DELIVERIES, DRAW, EXPLORE, FORM, LANGUAGE, LOAD, ORDER, PLAY, PURPOSE, RACE, STATES, STEP, VERSION, WHY,
+    DELIVERIES, DRAW, EXPLORE, FORM, LANGUAGE, LOAD, ORDER, PLAY, PURPOSE, RACE, STATES, STEP,
+    VERSION, WHY,
 };
 use clap::error::ErrorKind;
 use clap::{Arg, ArgAction, ArgMatches, Command, Error};

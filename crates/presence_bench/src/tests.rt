@@ -41,7 +41,8 @@ online b 0\n  nodes a b\n  a join 1 r alice phone\n  a leave 2 r bob\n  b up a\n
 refused line 4 NotTracked\n  nodes a b\n  a join 1 r alice phone\n  a leave 2 r bob\n";
 
 /// A node hears of a join and of its end, in either order: two orders of deliveries, gone through by hand.
-const HEARD: &str = "nodes a b\na join 1 r alice phone\na broadcast\na leave 1 r alice\na broadcast\nb up a\n\
+const HEARD: &str =
+    "nodes a b\na join 1 r alice phone\na broadcast\na leave 1 r alice\na broadcast\nb up a\n\
 b deliver a 1\nb deliver a 2\n";
 
 const HEARD_ORDERS: &str = "orders of deliveries 2 states 9 outcomes 1 refusals 0\n\
