@@ -39,8 +39,8 @@ class Recorder:
             self.undo(first, int(words[1]))
         elif words[0] == "back":
             number = self.last[words[1]][-1]
-            self.record(first, ["back", self.nodes.index(words[1])], ["undone", number])
             self.remove(number)
+            self.record(first, ["back", self.nodes.index(words[1])], ["undone", number])
         elif words[0] == "unwind":
             for number in reversed(self.future(int(words[1]))):
                 self.undo(first, number)
@@ -70,8 +70,8 @@ class Recorder:
         self.record(node, ["do", verb, *self.operands(verb, words)], ["ok", self.given])
 
     def undo(self, actor, number):
-        self.record(actor, ["undo", number], ["undone", number])
         self.remove(number)
+        self.record(actor, ["undo", number], ["undone", number])
 
     def remove(self, number):
         node, sent, _ = self.remaining.pop(number)
