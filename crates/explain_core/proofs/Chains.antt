@@ -26,18 +26,18 @@ ordered_push b [] h low reads below ordered = (low, reads, tt)
 ordered_push b (x ∷ hops) h low reads below ordered =
     (ordered.0, ordered.1, ordered_push x.number hops h (All-head (λ (y : Hop). y.number < h.number) x hops below) reads (All-tail (λ (y : Hop). y.number < h.number) x hops below) ordered.2)
 
-no_element : {A : Type 0} (x : A) → Contains [] x → ⊥
+pub no_element : {A : Type 0} (x : A) → Contains [] x → ⊥
 no_element x c = let within = c.1 in omega arith
 
 -- an element is the first, or among the others
-among_cases : (x h : Hop) (hops : List Hop) → Contains (x ∷ hops) h → (x ≡ h) ⊎ Contains hops h
-among_cases x h hops c = go (Contains-append_cases (x ∷ []) hops h c)
+pub among_cases : {A : Type 0} (x h : A) (xs : List A) → Contains (x ∷ xs) h → (x ≡ h) ⊎ Contains xs h
+among_cases x h xs c = go (Contains-append_cases (x ∷ []) xs h c)
   where
-    only : Contains [] h ⊎ (x ≡ h) → (x ≡ h) ⊎ Contains hops h
+    only : Contains [] h ⊎ (x ≡ h) → (x ≡ h) ⊎ Contains xs h
     only (inl none) = absurd (no_element h none)
     only (inr is) = inl is
 
-    go : Contains (x ∷ []) h ⊎ Contains hops h → (x ≡ h) ⊎ Contains hops h
+    go : Contains (x ∷ []) h ⊎ Contains xs h → (x ≡ h) ⊎ Contains xs h
     go (inl first) = only (Contains-push_cases [] x h first)
     go (inr other) = inr other
 

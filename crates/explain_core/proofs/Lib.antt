@@ -3,6 +3,7 @@ pub mod Chains
 pub mod Asked
 pub mod Hops
 pub mod Along
+pub mod Changes
 pub mod Followed
 pub mod Tracked
 pub mod Lawful

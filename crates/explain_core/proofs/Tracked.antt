@@ -23,6 +23,7 @@ use Rattle.explain_core.specs.declared.hop.Stand.{Stand}
 use Rattle.explain_core.specs.declared.standing.Standing.TheVariants.{Unseen}
 use Rattle.explain_core.proofs.Along.{told_in}
 use Rattle.explain_core.proofs.Asked.{fewer_remain, opened_in_step}
+use Rattle.explain_core.proofs.Chains.{no_element}
 use Rattle.explain_core.proofs.Followed.{Along, Without, along_more}
 
 -- what all steps leave
@@ -94,6 +95,7 @@ at_start m d = record {
   ordered = tt;
   steps = All-nil _;
   senders = λ n p. Without (told_nowhere (node_limits m.limits) (length m.names) n p d) refl;
+  deliveries = λ j among. absurd (no_element j among);
 }
 
 pub tracked : (m : Machine) (d : Dot) → IsReached (config_of m) m.state → Whole m d (track_of m d)

@@ -1,5 +1,5 @@
 -- Why a presence is online at a node, or why not.
-use Rattle.std.specs.Prelude.{ℕ, ◌==◌, ◌&&◌, ◌||◌, Bool, true, false, if◌then◌else◌, List, [], ◌∷◌, ◌++◌, map, filter, reverse, Option, Some, None}
+use Rattle.std.specs.Prelude.{ℕ, ◌==◌, ◌&&◌, ◌||◌, not, Bool, true, false, if◌then◌else◌, List, [], ◌∷◌, ◌++◌, map, filter, reverse, Option, Some, None}
 use Rattle.dots_core.specs.declared.dot.Dot.{Dot}
 use Rattle.node_core.specs.Nodes.{Node}
 use Rattle.node_core.specs.Operations.{Operation, Up, Down, Permdown}
@@ -7,7 +7,7 @@ use Rattle.replica_core.specs.Replicas.{is_online}
 use Rattle.journal_core.specs.Journals.{Kept, is_number}
 use Rattle.bench_core.specs.Machine.{Machine}
 use Rattle.script_core.specs.Shown.{node_of}
-use Rattle.explain_core.specs.Standings.{is_same, standing_at}
+use Rattle.explain_core.specs.Standings.{is_above, is_same, standing_at}
 use Rattle.explain_core.specs.Tracks.{Track, is_sent, stand_at}
 use Rattle.explain_core.specs.declared.finding.Verdict.{Verdict}
 use Rattle.explain_core.specs.declared.finding.Verdict.TheVariants.{Online, Down as Hidden, Removed, Left, Forgotten, Missed, Undelivered, Unsent}
@@ -58,8 +58,9 @@ chain hops by = reverse (backwards (by, []) hops).1
 abbrev pub is_of : ℕ → Standing → Hop → Bool
 is_of node wanted h = (h.node == node) && is_same h.standing wanted
 
+-- the node forgot the dot, which stood so there, or above
 abbrev pub is_forgotten_at : ℕ → Standing → Hop → Bool
-is_forgotten_at node wanted h = is_forgotten h.kind && is_of node wanted h
+is_forgotten_at node wanted h = is_forgotten h.kind && ((h.node == node) && not (is_above wanted h.standing))
 
 abbrev pub is_missed_at : ℕ → Standing → Hop → Bool
 is_missed_at node wanted h = is_missed h.kind && is_of node wanted h

@@ -1,15 +1,15 @@
 -- What holds of explanations, told by the remaining steps and the cluster that they give.
-use Rattle.std.specs.Prelude.{◌≡◌, ◌≢◌, ℕ, ◌||◌, true, List, [], ◌∷◌, reverse, Option, Some, None, IsSome}
+use Rattle.std.specs.Prelude.{◌≡◌, ◌≢◌, ℕ, ◌||◌, true, List, [], ◌∷◌, reverse, Option, Some, None}
 use Rattle.std.specs.List.{Contains}
 use Rattle.dots_core.specs.declared.dot.Dot.{Dot}
-use Rattle.node_core.specs.Operations.{delivers, sends}
+use Rattle.node_core.specs.Operations.{Deliver, Permdown, delivers, sends}
 use Rattle.journal_core.specs.Journals.{Kept, find_number, sender_of, source_of}
 use Rattle.bench_core.specs.Headline.{IsReached}
 use Rattle.bench_core.specs.Machine.{Machine, config_of}
-use Rattle.explain_core.specs.Standings.{standing_at, standing_sent}
+use Rattle.explain_core.specs.Standings.{is_above, standing_at, standing_sent}
 use Rattle.explain_core.specs.Tracks.{is_sent, stand_at, track_of}
 use Rattle.explain_core.specs.Findings.{chain, is_came, missing}
-use Rattle.explain_core.specs.declared.finding.Verdict.TheVariants.{Unsent}
+use Rattle.explain_core.specs.declared.finding.Verdict.TheVariants.{Undelivered, Unsent}
 use Rattle.explain_core.specs.declared.hop.Hop.{Hop}
 use Rattle.explain_core.specs.declared.hop.Kind.{Kind}
 use Rattle.explain_core.specs.declared.hop.Kind.TheVariants.{Sent, Came, Missed, Forgot}
@@ -51,16 +51,24 @@ StandingLaw =
       since : (number : ℕ) → (stand_at (track_of m d).stands node).by ≡ Some number → IsSince m node number;
     }
 
--- what a step of a track did: it sent this message, with the dot standing so in it; it delivered a message, and what it read is the step
--- which sent that; or it forgot the dot, and delivered nothing
+-- a delivery of a message in which the dot stands so, which read the step that sent that
+pub record IsDelivery (m : Machine) (d : Dot) (h : Hop) (k : Kept) : Type 0 where
+  pub sender : ℕ
+  pub message : ℕ
+  pub delivered : delivers k.step ≡ Some (sender, message)
+  pub source : ℕ
+  pub read : h.reads ≡ Some source
+  pub sent : source_of m.state.remaining k.step ≡ Some source
+  pub has : standing_sent m sender message d ≡ h.standing
+
+-- what a step of a track did: it sent this message, with the dot standing so in it; it delivered such a message; or it took the dot's
+-- name permanently down
 abbrev pub Did : Machine → Dot → Hop → Kept → Kind → Type 0
 Did m d h k Sent =
     (sends k.step ≡ true) × (sender_of m.state.remaining h.node h.message ≡ Some h.number) × (standing_sent m h.node h.message d ≡ h.standing)
-Did m d h k Came = IsSome (delivers k.step) × ((number : ℕ) → h.reads ≡ Some number → source_of m.state.remaining k.step ≡ Some number)
-Did m d h k Missed =
-    (p : ℕ × ℕ) × (delivers k.step ≡ Some p) × ((number : ℕ) → h.reads ≡ Some number → source_of m.state.remaining k.step ≡ Some number)
-    × (standing_sent m p.0 p.1 d ≡ h.standing)
-Did m d h k Forgot = delivers k.step ≡ None
+Did m d h k Came = IsDelivery m d h k
+Did m d h k Missed = IsDelivery m d h k
+Did m d h k Forgot = k.step ≡ Permdown d.name
 
 -- a remaining step, and what it did
 pub record IsOfStep (m : Machine) (d : Dot) (h : Hop) : Type 0 where
@@ -77,3 +85,18 @@ abbrev pub UnsentLaw : Type 0
 UnsentLaw =
     (m : Machine) (d : Dot) (node : ℕ) (wanted : Standing) → IsReached (config_of m) m.state → wanted ≢ Unseen →
     (missing (track_of m d).hops node wanted).verdict ≡ Unsent → (sender number : ℕ) → standing_sent m sender number d ≡ wanted → ⊥
+
+-- the step of this number sent a message in which the dot stands so, and no remaining step of the node delivered that message
+pub record IsUndelivered (m : Machine) (d : Dot) (node : ℕ) (wanted : Standing) (number : ℕ) : Type 0 where
+  pub sender : ℕ
+  pub message : ℕ
+  pub sent : sender_of m.state.remaining sender message ≡ Some number
+  pub has : standing_sent m sender message d ≡ wanted
+  pub undelivered : (k : Kept) → Contains m.state.remaining k → k.node ≡ node → k.step ≡ Deliver sender message → ⊥
+
+-- where a dot doesn't stand so at a node, and it says that it was sent and not delivered: of each step that is told that is so
+abbrev pub UndeliveredLaw : Type 0
+UndeliveredLaw =
+    (m : Machine) (d : Dot) (node : ℕ) (wanted : Standing) → IsReached (config_of m) m.state → is_above wanted (standing_at m node d) ≡ true →
+    (missing (track_of m d).hops node wanted).verdict ≡ Undelivered → (number : ℕ) → Contains (missing (track_of m d).hops node wanted).steps number →
+    IsUndelivered m d node wanted number

@@ -63,10 +63,11 @@ impl Hop {
         }
     }
 
+    /// Whether the node forgot the dot by it, which stood so there, or above.
     fn is_forgotten_at(&self, node: u16, wanted: Standing) -> bool
         ensures { result ≡ is_forgotten_at node wanted self.now }
     {
-        matches!(self.kind, Kind::Forgot) && self.node == node && self.standing.is_same(wanted)
+        matches!(self.kind, Kind::Forgot) && self.node == node && !wanted.is_above(self.standing)
     }
 
     fn is_missed_at(&self, node: u16, wanted: Standing) -> bool

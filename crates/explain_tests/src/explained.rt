@@ -258,13 +258,72 @@ status 6 b down a
 ",
 };
 
+/// A node that was cut off: what it knew it forgot, and what was sent meanwhile never came.
+const CUT_OFF: Case = Case {
+    script: "\
+nodes a b
+consoles desk
+a join 1 lobby alice phone
+a broadcast
+b up a
+b deliver a 1
+b down a
+b permdown a
+a update 1 lobby alice away
+a broadcast
+b up a
+b request
+a answer b 1
+b deliver a 3
+desk unwind 10
+",
+    node: 1,
+    text: "\
+explain b lobby alice 2
+made 1 a join 1 lobby alice phone
+left 7 a update 1 lobby alice away
+at b left
+status 9 b up a
+made 7 a update 1 lobby alice away
+at b undelivered
+by 8 a broadcast
+status 9 b up a
+",
+};
+
+/// A delivery that came before its message was sent is no step, so the removal stays away.
+const TOO_EARLY: Case = Case {
+    script: "\
+nodes a b
+a join 1 lobby alice phone
+b up a
+a broadcast
+b deliver a 1
+b deliver a 2
+a leave 1 lobby alice
+a broadcast
+",
+    node: 1,
+    text: "\
+explain b lobby alice 1
+made 1 a join 1 lobby alice phone
+left 5 a leave 1 lobby alice
+at b online
+by 3 a broadcast
+by 4 b deliver a 1
+status 2 b up a
+removal undelivered
+by 6 a broadcast
+",
+};
+
 const NONE: Case = Case {
     script: "nodes a\na join 1 lobby bob phone\n",
     node: 0,
     text: "explain a lobby alice 0\n",
 };
 
-const CASES: [Case; 12] = [
+const CASES: [Case; 14] = [
     OWN,
     UNSENT,
     UPDATED,
@@ -276,6 +335,8 @@ const CASES: [Case; 12] = [
     TOO_SOON,
     BY_ANOTHER,
     ASKED,
+    CUT_OFF,
+    TOO_EARLY,
     NONE,
 ];
 
