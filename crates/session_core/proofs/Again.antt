@@ -1,10 +1,10 @@
 -- The JSON of an event is read as that event, and a saved session as its parts.
-use Rattle.std.proofs.Common.{◌≡◌, ℕ, List, [], ◌∷◌, map, codes, Bool, true, false, ◌&&◌, Option, Some, None, Result, Ok, refl, ap, ap₂, ◌∙◌, arith}
-use Rattle.std.specs.Prelude.{nat_lt, nat_le, option_map, option_and_then}
+use Rattle.std.proofs.Common.{◌≡◌, List, [], ◌∷◌, map, true, Some, Ok, refl, ap, ◌∙◌}
+use Rattle.std.specs.Prelude.{option_and_then}
 use Rattle.std.proofs.lemmas.Bool.{le-leb}
-use Rattle.serde_json.specs.Data.{Data, string, Items}
+use Rattle.serde_json.specs.Data.{string}
 use Rattle.serde_json.specs.View.{items_of}
-use Rattle.node_core.specs.Operations.{Operation, Join, Leave, LeaveAll, Update, Broadcast, Extract, Deliver, Request, Answer, Up, Down, Permdown}
+use Rattle.node_core.specs.Operations.{Join, Leave, LeaveAll, Update, Broadcast, Extract, Deliver, Request, Answer, Up, Down, Permdown}
 use Rattle.bench_core.specs.declared.reply.Reply.{Reply}
 use Rattle.bench_core.specs.declared.reply.Reply.TheVariants.{Taken, Undone, Refused}
 use Rattle.bench_core.specs.declared.fault.Fault.{Fault}
@@ -15,7 +15,7 @@ use Rattle.bench_core.specs.Acts.{Action, Do, Undo, Back}
 use Rattle.bench_core.specs.Limits.{Limits, AreLimits}
 use Rattle.bench_core.specs.Machine.{Event}
 use Rattle.bench_core.specs.NameList.{Texts, names_of}
-use Rattle.session_core.specs.Format.{list, whole, numbers_of, act_json, reply_json, event_json, limits_json, session}
+use Rattle.session_core.specs.Format.{act_json, reply_json, event_json, limits_json, session}
 use Rattle.session_core.specs.Decoding.{◌>>=◌, presence_at, leave_at, leave_all_at, extract_at, sent_at, name_at, status_at, message_at, tracking_at, step_at}
 use Rattle.session_core.specs.Decoding.{undo_at, back_at, act_at, consequence_at, fault_at, counted_at, reply_at, event_at, are_limits, limits_at, texts_of}
 use Rattle.session_core.specs.Decoding.{if_ok, names_at, values_at, Parts, parts_at}

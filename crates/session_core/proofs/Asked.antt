@@ -1,12 +1,12 @@
 -- One call, asked again.
-use Rattle.std.proofs.Common.{◌≡◌, ◌≢◌, ℕ, ◌+◌, ◌<◌, nat_lt, Bool, true, false, if◌then◌else◌, List, [], ◌∷◌, ◌++◌, length, refl, sym, ap, ◌∙◌, arith, length-append}
+use Rattle.std.proofs.Common.{◌≡◌, ◌≢◌, ◌+◌, nat_lt, Bool, true, false, if◌then◌else◌, length, refl, sym, ap, ◌∙◌, arith, length-append}
 use Rattle.std.proofs.lemmas.Bool.{ltb-true, ltb-false}
 use Rattle.bench_core.specs.declared.reply.Reply.{Reply}
 use Rattle.bench_core.specs.declared.reply.Reply.TheVariants.{Refused}
 use Rattle.bench_core.specs.declared.fault.Fault.TheVariants.{OutOfMemory}
 use Rattle.bench_core.specs.Histories.{note}
 use Rattle.bench_core.specs.Machine.{Event, Machine, config_of, with_state, reply_to, is_recorded, after, AnswersAs, Answered, Unmade}
-use Rattle.session_core.specs.Sessions.{RecordsNext, Asked, with_event}
+use Rattle.session_core.specs.Sessions.{RecordsNext, Asked}
 
 module _ (old : Machine) (e : Event) (answer : Reply) (new : Machine) (made : answer ≢ Refused OutOfMemory) where
   -- the reply was another, so the bench doesn't record the event

@@ -1,22 +1,15 @@
 -- A saved bench comes back as it was.
-use Rattle.std.proofs.Common.{◌≡◌, ◌≢◌, ◌⊎◌, ℕ, ◌+◌, true, false, List, [], ◌∷◌, map, Option, Some, None, Result, Ok, Err, refl, sym, ap, subst, ◌∙◌, inl, inr}
-use Rattle.std.specs.Prelude.{IsUtf8}
+use Rattle.std.proofs.Common.{◌≡◌, ℕ, ◌+◌, List, [], ◌∷◌, map, Some, Result, Ok, Err, refl, sym, ap, subst, ◌∙◌, inl, inr}
 use Rattle.std.specs.List.{AllByRecursion}
 use Rattle.serde_json.specs.Data.{Data}
-use Rattle.serde_json.specs.Read.{read}
-use Rattle.serde_json.specs.View.{items_of}
-use Rattle.bench_core.specs.declared.reply.Reply.{Reply}
-use Rattle.bench_core.specs.declared.reply.Reply.TheVariants.{Refused}
-use Rattle.bench_core.specs.Limits.{Limits}
-use Rattle.bench_core.specs.NameList.{Texts}
-use Rattle.bench_core.specs.Machine.{Config, State, Event, Machine, opening_state, opening_machine, config_of, with_state, after}
-use Rattle.bench_core.specs.Replays.{Records, Replays}
+use Rattle.bench_core.specs.Machine.{State, Event, Machine, opening_machine, config_of, with_state}
+use Rattle.bench_core.specs.Replays.{Replays}
 use Rattle.session_core.specs.declared.session_fault.SessionFault.{SessionFault}
 use Rattle.session_core.specs.declared.session_fault.SessionFault.TheVariants.{NotJson, BadShape, BadVersion, Disagrees, OutOfMemory}
 use Rattle.session_core.specs.Format.{event_json, session}
 use Rattle.session_core.specs.Decoding.{Parts, version_of, parts_at, acts_of}
 use Rattle.session_core.specs.Versions.{event_in}
-use Rattle.session_core.specs.Sessions.{with_event, RecordsNext, Reads, Steps, Faults, data_of, first_bench, HasHead, LeadsTo, IsRefused, IsMisshapen, HasFault, IsJson, Answers, IsSaved, ComesBack, IsEvent, IsTold}
+use Rattle.session_core.specs.Sessions.{with_event, RecordsNext, Reads, Steps, Faults, data_of, first_bench, HasHead, IsJson, Answers, IsSaved, ComesBack, IsTold}
 use Rattle.session_core.proofs.Again.{event_in_again, parts, parts_again}
 use Rattle.session_core.proofs.Replayed.{data_of-items_of}
 

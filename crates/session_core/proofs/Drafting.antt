@@ -1,7 +1,7 @@
 -- Values that are read as events, one after another.
-use Rattle.std.proofs.Common.{◌≡◌, ℕ, ◌+◌, List, [], ◌∷◌, ◌++◌, Bool, true, false, Some, None, Err, Ok, refl, sym, ap, subst, ◌∙◌}
+use Rattle.std.proofs.Common.{◌≡◌, List, [], ◌∷◌, ◌++◌, Bool, true, false, Some, None, refl}
 use Rattle.serde_json.specs.Data.{Data}
-use Rattle.bench_core.specs.Machine.{Event, Machine}
+use Rattle.bench_core.specs.Machine.{Event}
 use Rattle.session_core.specs.Decoding.{event_at}
 use Rattle.session_core.specs.Drafts.{AreRead}
 

@@ -1,12 +1,12 @@
 -- What a session's value and its head have in common.
-use Rattle.std.proofs.Common.{◌≡◌, ℕ, List, [], ◌∷◌, codes, Bool, true, false, cond, if◌then◌else◌, ◌&&◌, Option, Some, None, option_map, bytes_eq, Ordering, Less, Equal, Greater, nat_cmp, is_eq, refl, sym, ap, subst, ◌∙◌}
+use Rattle.std.proofs.Common.{◌≡◌, ℕ, List, codes, Bool, true, false, if◌then◌else◌, ◌&&◌, Option, Some, None, option_map, bytes_eq, Ordering, Less, Equal, Greater, nat_cmp, is_eq, refl, sym, ap, subst, ◌∙◌}
 use Rattle.std.proofs.lemmas.Cmp.{nat_list_cmp_total, tied_itself}
 use Rattle.std.proofs.lemmas.Map.Text.{is_eq-slice_cmp}
 use Rattle.std.specs.Cmp.Lexicographic.{slice_cmp}
 use Rattle.std.specs.Bool.{MatchBool}
 use Rattle.std.specs.Ordering.{match_ordering}
-use Rattle.serde_json.specs.Data.{Data, null, boolean, number, string, array, object, Items, no_items, Members, no_members, member, put}
-use Rattle.serde_json.specs.Find.{get_member, as_array, as_object}
+use Rattle.serde_json.specs.Data.{Data, null, boolean, number, string, array, object, Items, Members, no_members, member, put}
+use Rattle.serde_json.specs.Find.{get_member, as_array}
 use Rattle.session_core.specs.Decoding.{◌>>=◌, kept_if, Parts, version_of, limits_at, names_at, are_keys, values_at, parts_at, items_in, are_acts, acts_members}
 use Rattle.bench_core.specs.Limits.{Limits}
 use Rattle.bench_core.specs.NameList.{Texts}

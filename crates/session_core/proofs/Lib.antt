@@ -15,3 +15,5 @@ pub mod Reading
 pub mod Heads
 pub mod Drafting
 pub mod Plain
+pub mod WholeNumbers
+pub mod Recorded

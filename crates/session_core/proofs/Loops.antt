@@ -1,6 +1,6 @@
 -- Reading a list from the front.
 use Rattle.std.proofs.Common.{◌≡◌, ℕ, zero, suc, ◌+◌, ◌<◌, ◌≤◌, List, [], ◌∷◌, ◌++◌, length, map, drop, take, get_or, Option, Some, Ok, Err, inl, inr, refl, sym, ap, subst, ◌∙◌, add-one, drop-cons, arith}
-use Rattle.std.proofs.lemmas.List.{drop_all, map-append, take_all}
+use Rattle.std.proofs.lemmas.List.{map-append, take_all}
 use Rattle.std.specs.Prelude.{option_map, slice_get}
 use Rattle.std.specs.List.{AllByRecursion}
 use Rattle.serde_json.specs.Data.{Data}

@@ -1,17 +1,17 @@
 -- Sets of names, as lists of rising numbers.
-use Rattle.std.proofs.Common.{◌≡◌, ◌≢◌, ℕ, ◌+◌, ◌-◌, ◌++◌, append_assoc, append-nil, ◌<◌, ◌≤◌, zero, suc, List, [], ◌∷◌, map, Bool, true, false, cond, if◌then◌else◌, ◌&&◌, ◌||◌, ◌==◌, Option, Some, None, refl, sym, ap, ap₂, ◌∙◌, arith}
+use Rattle.std.proofs.Common.{◌≡◌, ◌≢◌, ℕ, ◌+◌, ◌-◌, ◌++◌, append_assoc, append-nil, ◌<◌, ◌≤◌, zero, suc, List, [], ◌∷◌, map, Bool, true, false, if◌then◌else◌, ◌&&◌, ◌||◌, ◌==◌, Some, None, refl, sym, ap, ap₂, ◌∙◌, arith}
 use Rattle.std.specs.Prelude.{nat_lt, nat_le}
 use Rattle.std.proofs.lemmas.Bool.{eqb-true, eqb-false, ne_eqb, eq-eqb, ltb-true, ltb-false, lt-ltb, leb-true, le-leb}
 use Rattle.std.specs.Cmp.{unsigned_tied}
 use Rattle.std.proofs.lemmas.Cmp.{nat_cmp_total}
-use Rattle.std.specs.Ordering.{nat_cmp, eq_by_cmp}
+use Rattle.std.specs.Ordering.{nat_cmp}
 use Rattle.std.specs.FinSet as set
 use Rattle.std.specs.FinSet.{nat_cmp-IsAntisymmetric}
 use Rattle.serde_json.specs.Data.{Data, Items, no_items, item}
 use Rattle.serde_json.specs.View.{items_of}
 use Rattle.dots_core.specs.Names.{Names, AreNamesBelow}
 use Rattle.session_core.specs.Format.{whole, numbers_from, numbers_of}
-use Rattle.session_core.specs.Decoding.{◌>>=◌, number_of, names_from}
+use Rattle.session_core.specs.Decoding.{number_of, names_from}
 use Rattle.session_core.proofs.Lists.{bind_some, tested, both, whole_is}
 
 -- another number is in the set with n exactly where it is in the set

@@ -7,7 +7,7 @@ use Rattle.json.specs.Reads.{token_of}
 use Rattle.json.specs.declared.token.Token.{Token}
 use Rattle.json.specs.declared.token.Token.TheVariants.{BeginObject, EndObject, BeginArray, EndArray, Key, String, Number, Bool, Null, Bad}
 use Rattle.json.proofs.Grammar.{value_is, value-begin_array, value-begin_object}
-use Rattle.serde_json.specs.Data.{Num, Data, null, boolean, number, string, array, object, Items, no_items, Members, no_members}
+use Rattle.serde_json.specs.Data.{Num, Data, null, boolean, number, string, array, object, no_items, no_members}
 use Rattle.serde_json.specs.Read.{number_of, of_json, of_items, of_members, converted}
 use Rattle.session_core.specs.Decoding.{items_in, acts_of}
 use Rattle.session_core.specs.Drafts.{emptied, head}

@@ -1,14 +1,13 @@
 -- What is loaded is the session of the bench that it gives.
 use Rattle.std.proofs.Common.{◌≡◌, ℕ, List, [], ◌∷◌, ◌++◌, length, map, if◌then◌else◌, Some, Ok, Err, inr, refl, sym, ap, ap₂, subst, ◌∙◌, append_assoc, append-nil}
-use Rattle.std.specs.Prelude.{IfOk, IfErr, Result, IsUtf8, true}
+use Rattle.std.specs.Prelude.{IfOk, IfErr, Result, true}
 use Rattle.std.specs.List.{AllByRecursion}
 use Rattle.serde_json.specs.Data.{Data, string, array, object, Items, no_items, item}
-use Rattle.serde_json.specs.Read.{read}
 use Rattle.serde_json.specs.View.{items_of}
 use Rattle.bench_core.specs.Limits.{Limits}
 use Rattle.bench_core.specs.NameList.{Texts}
 use Rattle.bench_core.specs.Histories.{note}
-use Rattle.bench_core.specs.Machine.{Config, State, Event, Machine, opening_state, opening_machine, config_of, with_state, is_recorded, after}
+use Rattle.bench_core.specs.Machine.{Config, State, Event, Machine, opening_state, config_of, after}
 use Rattle.bench_core.specs.Replays.{Records, Replays}
 use Rattle.session_core.specs.declared.session_fault.SessionFault.{SessionFault}
 use Rattle.session_core.specs.declared.session_fault.SessionFault.TheVariants.{NotJson, BadShape, BadVersion, Disagrees, OutOfMemory}
@@ -32,15 +31,15 @@ items_of-data_of (item d ds) = ap (item d) (items_of-data_of ds)
 
 -- from the head and the loop over the acts to the answer
 
-module _ (d : Data) (v : ℕ) (p : Parts) (is_version : version_of (head d) ≡ Some v) (known : IsVersion v) (is : parts_at (head d) ≡ Some p) where
-  has_head : HasHead d v p
-  has_head = record { version = sym (head_version d) ∙ is_version; known = known; parts = sym (head_parts d) ∙ is }
+pub has_head : (d : Data) (v : ℕ) (p : Parts) → version_of (head d) ≡ Some v → IsVersion v → parts_at (head d) ≡ Some p → HasHead d v p
+has_head d v p is_version known is = record { version = sym (head_version d) ∙ is_version; known = known; parts = sym (head_parts d) ∙ is }
 
+module _ (d : Data) (v : ℕ) (p : Parts) (has : HasHead d v p) where
   pub gives : (m : Machine) → Reads v (first_bench p) (data_of (acts_of d)) m → LeadsTo d m
-  gives m h = (v, p, has_head, h)
+  gives m h = (v, p, has, h)
 
   at_fault : (fault : SessionFault) → Faults v 1 (first_bench p) (data_of (acts_of d)) fault → HasFault d fault
-  at_fault fault h = (v, p, has_head, h)
+  at_fault fault h = (v, p, has, h)
 
   pub refused : (fault : SessionFault) → Faults v 1 (first_bench p) (data_of (acts_of d)) fault → IsRefused d fault
   refused NotJson h = absurd h
@@ -52,7 +51,7 @@ module _ (d : Data) (v : ℕ) (p : Parts) (is_version : version_of (head d) ≡ 
 -- what the acts say, and where they lead
 
 -- a recorded event comes last in the history
-grown : (c : Config) (s : State) (e : Event) → Records c s e → (after c s e.actor e.act e.reply).history ≡ s.history ++ e ∷ []
+pub grown : (c : Config) (s : State) (e : Event) → Records c s e → (after c s e.actor e.act e.reply).history ≡ s.history ++ e ∷ []
 grown c s e recs = ap (λ b. if b then note e.actor e.act e.reply s.history else s.history) recs.1
 
 record Came (v : ℕ) (old : Machine) (ds : List Data) (new : Machine) : Type 0 where

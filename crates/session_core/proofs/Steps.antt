@@ -1,16 +1,15 @@
 -- What is read as a step is its JSON.
-use Rattle.std.proofs.Common.{◌≡◌, ℕ, List, [], ◌∷◌, ◌++◌, map, codes, cond, Option, Some, None, option_map, option_and_then, bytes_eq, refl, ap, ◌∙◌, subst, inl, inr}
+use Rattle.std.proofs.Common.{◌≡◌, ℕ, List, [], ◌∷◌, map, codes, cond, Some, None, option_map, option_and_then, bytes_eq, ap, ◌∙◌, subst, inl, inr}
 use Rattle.std.proofs.lemmas.Option.{cond_some}
 use Rattle.std.specs.FinSet as set
 use Rattle.serde_json.specs.Data.{Data, string, array}
 use Rattle.serde_json.specs.Find.{at, as_array}
-use Rattle.dots_core.specs.Names.{Names}
 use Rattle.payload_core.specs.Presences.{Presence}
 use Rattle.node_core.specs.Operations.{Operation, Join, Leave, LeaveAll, Update, Broadcast, Extract, Deliver, Request, Answer, Up, Down, Permdown}
 use Rattle.session_core.specs.Format.{list, whole, numbers_of, step_data}
 use Rattle.session_core.specs.Decoding.{◌>>=◌, kept_if, number_in, node_in, text_in, word_in, ends_at, names_from, presence_at, leave_at, leave_all_at}
 use Rattle.session_core.specs.Decoding.{extract_at, sent_at, deliver_at, answer_at, name_at, status_at, message_at, tracking_at, step_at}
-use Rattle.session_core.proofs.Lists.{HasItems, bind_some, then_some, map_some, chosen, tested, absent, array_is, number_there, node_there, word_there, verb_there}
+use Rattle.session_core.proofs.Lists.{HasItems, bind_some, then_some, map_some, chosen, tested, array_is, number_there, node_there, word_there, verb_there}
 use Rattle.session_core.proofs.Numbers.{names_are}
 
 -- from place 1 on stands what the step asks

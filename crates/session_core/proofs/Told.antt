@@ -1,12 +1,12 @@
 -- What a bench recorded can be told by its JSON.
-use Rattle.std.proofs.Common.{◌≡◌, true, false, List, [], ◌∷◌}
+use Rattle.std.proofs.Common.{◌≡◌, true, List, [], ◌∷◌}
 use Rattle.std.specs.List.{AllByRecursion}
 use Rattle.bench_core.specs.declared.reply.Reply.{Reply}
-use Rattle.bench_core.specs.declared.reply.Reply.TheVariants.{Taken, Undone, Refused}
+use Rattle.bench_core.specs.declared.reply.Reply.TheVariants.{Refused}
 use Rattle.bench_core.specs.declared.fault.Fault.{Fault}
 use Rattle.bench_core.specs.declared.fault.Fault.TheVariants.{HistoryFull, OutOfMemory}
 use Rattle.bench_core.specs.Machine.{Config, State, Event, is_recorded, after, reply_to}
-use Rattle.bench_core.specs.Replays.{Records, Replays, NoMemoryLaw}
+use Rattle.bench_core.specs.Replays.{Replays, NoMemoryLaw}
 use Rattle.session_core.specs.Sessions.{IsEvent, IsRecordedFault, IsRecordedReply, IsTold}
 
 module _ (none : NoMemoryLaw) where

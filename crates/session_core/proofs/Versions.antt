@@ -1,5 +1,5 @@
 -- What an act is, in a text of a version.
-use Rattle.std.proofs.Common.{◌≡◌, ◌⊎◌, ℕ, true, false, Bool, if◌then◌else◌, Some, None, refl, ap, subst, ◌∙◌, inl, inr}
+use Rattle.std.proofs.Common.{◌≡◌, ℕ, true, false, Some, None, refl, ap, subst, ◌∙◌, inl, inr}
 use Rattle.std.proofs.lemmas.Option.{cond_some}
 use Rattle.serde_json.specs.Data.{Data}
 use Rattle.bench_core.specs.Machine.{Event}

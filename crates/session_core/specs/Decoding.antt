@@ -1,5 +1,5 @@
 -- A session read from left to right, as its parts, its events, and what these ask and answer.
-use Rattle.std.specs.Prelude.{◌≡◌, ℕ, suc, ◌+◌, ◌==◌, ◌&&◌, if◌then◌else◌, nat_lt, nat_le, List, [], ◌∷◌, codes, Bool, true, false}
+use Rattle.std.specs.Prelude.{ℕ, suc, ◌+◌, ◌==◌, ◌&&◌, if◌then◌else◌, nat_lt, nat_le, List, [], ◌∷◌, codes, Bool, true, false}
 use Rattle.std.specs.Prelude.{Option, Some, None, option_and_then, option_map, Result, Ok, Err, is_none}
 use Rattle.std.specs.Str.{bytes_eq}
 use Rattle.std.specs.FinSet as set
@@ -17,7 +17,6 @@ use Rattle.bench_core.specs.Acts.{Action, Do, Undo, Back}
 use Rattle.bench_core.specs.Limits.{Limits}
 use Rattle.bench_core.specs.Machine.{Event}
 use Rattle.bench_core.specs.NameList.{Texts, names_of}
-use Rattle.bench_core.specs.declared.names_fault.NamesFault.{NamesFault}
 
 -- the next step of a reading in `do`, where the step before gave a value
 infixl 10 ◌>>=◌

@@ -4,3 +4,4 @@ pub mod Decoded
 pub mod Versions
 pub mod Sessions
 pub mod Drafts
+pub mod Recordings

@@ -21,10 +21,10 @@ const ITEM_DEPTH: usize = 125;
 
 /// The events of a list of JSON values, up to the first value that is none.
 #[derive(Drop)]
-pub(crate) struct Acts<A: Allocator> {
-    pub(crate) events: Vec<Event<A>>,
+pub struct Acts<A: Allocator> {
+    pub events: Vec<Event<A>>,
     /// A value follows that is no event.
-    pub(crate) is_cut: bool,
+    pub is_cut: bool,
 }
 
 impl<'a, B: Allocator> Acts<&'a B> {

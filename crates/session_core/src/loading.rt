@@ -1,20 +1,16 @@
 //! `load`: the bench of a session, asked its calls again.
-ghost use Rattle.std.specs.Prelude.{◌≡◌, ◌⊎◌, List, Some, None, IfOk, OnOk, IfErr, IsUtf8};
+ghost use Rattle.std.specs.Prelude.{◌≡◌, List, Some, IfOk, OnOk, IfErr};
 ghost use Rattle.serde_json.specs.Data.{Data};
-ghost use Rattle.serde_json.specs.Read.{read};
-ghost use Rattle.serde_json.specs.View.{view};
 ghost use Rattle.bench_core.specs.Machine.{Machine};
 ghost use Rattle.session_core.specs.Decoding.{event_at};
-ghost use Rattle.session_core.specs.Drafts.{AreRead, IsDraft};
+ghost use Rattle.session_core.specs.Drafts.{AreRead};
 ghost use Rattle.session_core.specs.Versions.{number_of};
-ghost use Rattle.session_core.specs.Sessions.{Asked, Steps, Reads, Faults, Refuses, Answers, ComesBack, IsJson, IsSaved, IsSession};
+ghost use Rattle.session_core.specs.Sessions.{Asked, Steps, Reads, Faults, Refuses, ComesBack, IsSaved, IsSession};
 
 use crate::acts::Acts;
-use crate::draft::{Draft, draft_of};
-use crate::read_parts::{parts_at, version_of};
+use crate::recording::read_session;
 use crate::same_reply::same_reply;
 use crate::session_fault::SessionFault;
-use crate::unread::Unread;
 use crate::version::Version;
 use bench_core::{Bench, Event, Fault, Reply};
 use dots_core::Oom;
@@ -78,52 +74,6 @@ fn take_events<'a, B: Allocator>(
     Ok(())
 }
 
-/// The bench of a text that was read.
-fn from_draft<'a, B: Allocator>(
-    heap: Global,
-    alloc: &'a B,
-    draft: &Draft<&'a B>,
-) -> Result<Bench<'a, B>, SessionFault>
-    ensures { (d : Data) → IsDraft d (view draft.now.head) draft.now.acts.events.items draft.now.acts.is_cut → Answers d result }
-{
-    let Some(number) = version_of(&draft.head) else {
-        return Err(SessionFault::BadShape { act: 0 });
-    };
-    let Some(version) = Version::of_number(number) else {
-        return Err(SessionFault::BadVersion);
-    };
-    let parts = match parts_at(heap, alloc, &draft.head) {
-        Ok(parts) => parts,
-        Err(Unread::Memory) => return Err(SessionFault::OutOfMemory),
-        Err(Unread::Shape) => return Err(SessionFault::BadShape { act: 0 }),
-    };
-    let Ok(mut bench) = Bench::new(alloc, parts.names, parts.limits) else {
-        return Err(SessionFault::OutOfMemory);
-    };
-    take_events(&mut bench, &draft.acts, version)?;
-    Ok(bench)
-}
-
-/// The text that the bytes are, read before its calls are asked.
-fn read<'a, B: Allocator>(
-    heap: Global,
-    alloc: &'a B,
-    bytes: &[u8],
-) -> Result<Draft<&'a B>, SessionFault>
-    ensures ok { IfOk result (λ x. (d : Data) × IsJson bytes.now d × IsDraft d (view x.head) x.acts.events.items x.acts.is_cut) }
-    ensures err { IfErr result (λ e. (e ≡ SessionFault.OutOfMemory)
-        ⊎ ((e ≡ SessionFault.NotJson) × (IsUtf8 bytes.now → read bytes.now ≡ None))) }
-{
-    let Ok(text) = std::str::from_utf8(bytes) else {
-        return Err(SessionFault::NotJson);
-    };
-    match draft_of(heap, alloc, text) {
-        Ok(draft) => Ok(draft),
-        Err(Unread::Memory) => Err(SessionFault::OutOfMemory),
-        Err(Unread::Shape) => Err(SessionFault::NotJson),
-    }
-}
-
 /// The bench of a session, of either version: opened with the session's names and limits, and asked its calls in order. Each reply has to be
 /// the one in the text, and recorded. Of an object with two equal keys the last counts. The refusals come in this order:
 /// `NotJson`; `BadShape {act: 0}` where there is no whole number at `version`; `BadVersion` where it is neither 1 nor 2;
@@ -139,6 +89,10 @@ pub fn load<'a, B: Allocator>(
     ensures refused { IfErr result (Refuses bytes.now) }
     ensures comes_back { (m : Machine) → IsSaved bytes.now m → ComesBack m result }
 {
-    let draft = read(heap, alloc, bytes)?;
-    from_draft(heap, alloc, &draft)
+    let recording = read_session(heap, alloc, bytes)?;
+    let Ok(mut bench) = Bench::new(alloc, recording.names, recording.limits) else {
+        return Err(SessionFault::OutOfMemory);
+    };
+    take_events(&mut bench, &recording.acts, recording.version)?;
+    Ok(bench)
 }

@@ -1,24 +1,39 @@
 //! The next JSON value of a reader, as `serde_json` has it.
-ghost use Rattle.std.specs.Prelude.{◌≡◌, ◌≢◌, ◌<◌, ◌≤◌, ◌∷◌, length, Some, None, Err, IfOk, OnOk, option_map};
+ghost use Rattle.std.specs.Prelude.{◌≡◌, ◌≢◌, ◌<◌, ◌≤◌, ◌∷◌, length, Some, None, Err, IfOk, IfSome, OnOk, option_map};
 ghost use Rattle.json.specs.Json.{value, items, members};
 ghost use Rattle.json.specs.Print.{IsNumber, IsPrintable};
 ghost use Rattle.json.specs.Reads.{token_of};
 ghost use Rattle.json.specs.declared.token.Token.TheVariants.{Bad};
-ghost use Rattle.serde_json.specs.Data.{number, no_members};
+ghost use Rattle.serde_json.specs.Data.{number, unsigned, no_members};
 ghost use Rattle.serde_json.specs.Read.{number_of, of_json, of_items, of_members, converted};
 ghost use Rattle.serde_json.specs.View.{view, items_view, members_view};
 ghost use Rattle.session_core.specs.declared.unread.Unread.TheVariants.{Shape};
 
 use crate::unread::Unread;
+use fast_float::Numeral;
 use json::{Reader, Token};
 use serde_json::{Map, Value};
 use std::alloc::Global;
+
+/// The whole number that the text writes by digits alone, where it has 64 bits.
+fn whole_number(text: &str) -> Option<u64>
+    ensures { IfSome result (λ whole. number_of text.now ≡ Some (unsigned whole)) }
+{
+    let digits = text.as_bytes();
+    if digits.first() == Some(&b'-') {
+        return None;
+    }
+    Numeral::scan(digits).to_u64()
+}
 
 fn number_from(heap: Global, text: &str) -> Result<Value, Unread>
     requires { IsNumber text.now }
     ensures ok { IfOk result (λ v. option_map number (number_of text.now) ≡ Some (view v)) }
     ensures err { result ≡ Err Shape → option_map number (number_of text.now) ≡ None }
 {
+    if let Some(whole) = whole_number(text) {
+        return Ok(Value::from(whole));
+    }
     match Value::from_str(heap, text) {
         Ok(value) => Ok(value),
         Err(fault) if fault.is_memory() => Err(Unread::Memory),

@@ -9,7 +9,7 @@ use std::alloc::Allocator;
 
 /// The form of a session's text. The first has no requests and no answers, and neither of the refusals that come of these.
 #[derive(Clone, Copy)]
-pub(crate) enum Version {
+pub enum Version {
     First,
     Second,
 }
@@ -39,7 +39,7 @@ impl Version {
     }
 
     /// Whether a text of this version can tell the event.
-    pub(crate) fn tells<A: Allocator>(self, event: &Event<A>) -> bool
+    pub fn tells<A: Allocator>(self, event: &Event<A>) -> bool
         ensures { result ≡ tells (number_of self) event.now }
     {
         match self {

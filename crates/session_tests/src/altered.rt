@@ -1,6 +1,6 @@
 //! Texts that are no sessions, each with its fault, and some that still are.
 use crate::saved::JOINED_AND_UNDONE;
-use crate::texts::{altered, fault_of, holds, nested};
+use crate::texts::{altered, fault_of, holds, is_at_fault, nested};
 use session_core::SessionFault;
 use std::alloc::Global;
 use std::process::Abort;
@@ -164,7 +164,7 @@ fn has_fault_in_the_first_version(
         return true;
     }
     let older = altered(rt, heap, text, SECOND_VERSION, r#""version":1}"#);
-    fault_of(heap, older.as_bytes()) == fault
+    is_at_fault(heap, older.as_bytes(), fault)
 }
 
 /// Whether the session altered so has this fault, in both versions, but for a refusal that the first version hasn't.
@@ -176,7 +176,7 @@ fn has_fault(
     fault: Option<SessionFault>,
 ) -> bool {
     let text = altered(rt, heap, JOINED_AND_UNDONE, part, by);
-    fault_of(heap, text.as_bytes()) == fault
+    is_at_fault(heap, text.as_bytes(), fault)
         && (by.contains(r#"["no",18]"#)
             || has_fault_in_the_first_version(rt, heap, text.as_str(), fault))
 }
@@ -202,7 +202,7 @@ fn has_fault_within(
     fault: Option<SessionFault>,
 ) -> bool {
     let text = altered(rt, heap, UNDONE_AGAIN, "LIMITS", limits);
-    fault_of(heap, text.as_bytes()) == fault
+    is_at_fault(heap, text.as_bytes(), fault)
 }
 
 /// With two places a bench gives the third reply, too, and doesn't record it.

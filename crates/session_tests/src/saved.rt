@@ -4,6 +4,7 @@ use bench_core::{Act, Bench, Limits, Names, Step};
 use dots_core::NameSet;
 use script_core::{Played, parse_script, report_history, run_script};
 use session_core::{load, save};
+use session_report::report_session;
 use std::alloc::{Allocator, Global};
 use std::process::Abort;
 
@@ -315,12 +316,15 @@ fn benches_come_back(rt: HostRuntime) {
     }
 }
 
-/// Whether the session prints this report of its calls.
+/// Whether the session prints this report of its calls, once its bench stands and while they are asked.
 fn prints(rt: &impl Abort, heap: Global, saved: &[u8], report: &[u8]) -> bool {
     let bench = load(heap, &heap, saved).expect(rt, "a session");
     let printed = report_history(&heap, &bench).expect(rt, "memory");
     drop(bench);
-    printed.as_slice() == report
+    let told = report_session(heap, &heap, saved).expect(rt, "a session");
+    let is_told = told.report.as_slice() == report;
+    drop(told);
+    is_told && printed.as_slice() == report
 }
 
 #[test]

@@ -1,6 +1,7 @@
 //! Texts made from texts of sessions, the faults of texts, and an assertion in loops over tables, which names its row. They
 //! stand here, and not in the loops, since an assertion with a message is dear to prove where much is live.
 use session_core::{SessionFault, load};
+use session_report::report_session;
 use std::alloc::Global;
 use std::process::Abort;
 
@@ -12,6 +13,11 @@ pub(crate) fn holds(rt: &impl Abort, is_so: bool, row: &str) {
 /// The fault of a text, if it has one.
 pub(crate) fn fault_of(heap: Global, text: &[u8]) -> Option<SessionFault> {
     load(heap, &heap, text).err()
+}
+
+/// Whether the text has this fault, if it is one: of its bench, and of the report of its calls.
+pub(crate) fn is_at_fault(heap: Global, text: &[u8], fault: Option<SessionFault>) -> bool {
+    fault_of(heap, text) == fault && report_session(heap, &heap, text).err() == fault
 }
 
 /// The text with another in the place of a part that it has.

@@ -1,9 +1,9 @@
-use Rattle.std.proofs.Common.{◌≡◌, ◌-◌, ◌<◌, [], ◌∷◌, length, Some, None, string_bytes, sym, ap, refl, ◌∙◌, arith, rules}
+use Rattle.std.proofs.Common.{◌≡◌, ◌-◌, length, Some, string_bytes, sym, ap, refl, ◌∙◌, arith, rules}
 use Rattle.json.specs.Json.{parse_map, read_key, members, value}
 use Rattle.json.proofs.Grammar.{value-begin_object, read_key-shorter}
 use Rattle.serde_json.specs.Data.{object, no_members, put}
-use Rattle.serde_json.specs.Read.{of_json, of_members, converted}
-use Rattle.serde_json.specs.View.{view, members_view}
+use Rattle.serde_json.specs.Read.{of_json, converted}
+use Rattle.serde_json.specs.View.{members_view}
 use Rattle.serde_json.proofs.Views.{view-Object, members_view-insert_entry}
 use Rattle.session_core.specs.Drafts.{AreRead, emptied_at, head_members}
 use Rattle.session_core.specs.Sessions.{data_of}

@@ -1,5 +1,4 @@
 use Rattle.std.proofs.Common.{◌≡◌, [], ◌∷◌, sym, ap, refl, ◌∙◌, arith}
-use Rattle.json.specs.Token.{begin_object}
 use Rattle.json.specs.Json.{value}
 use Rattle.json.specs.Reads.{token_of}
 use Rattle.json.proofs.Grammar.{value_is}

@@ -1,14 +1,49 @@
-use Rattle.session_core.proofs.ComesBack.{comes_back}
-use Rattle.session_core.proofs.Replayed.{is_session, is_refused}
+use Rattle.std.proofs.Common.{subst}
+use Rattle.std.proofs.lemmas.Result.{err_from_is_err_and}
+use Rattle.bench_core.specs.Machine.{Machine}
+use Rattle.session_core.specs.Decoding.{Parts}
+use Rattle.session_core.specs.Sessions.{Faults, Reads}
+use Rattle.session_core.specs.Versions.{number_of}
+use Rattle.session_core.proofs.Recorded.{fault_back, refused_back, refuses, saved_back, session_of}
 use Rattle.session_core.proofs.loading.load.Goals as goal
 
-pub returns-clause-session : goal.returns-clause-session
-returns-clause-session g c = let x = c.in_ok-draft.ensures.ok in is_session c.args.bytes.now x.0 c.from_draft.result x.1 (c.from_draft.ensures x.0 x.2)
+pub returns-in_err-recording-clause-comes_back : goal.returns-in_err-recording-clause-comes_back
+returns-in_err-recording-clause-comes_back g c =
+    let fault = err_from_is_err_and c.from_residual.result c.from_residual.ensures.1 in
+    rw (fault.1, fault.2) (λ m saved. refused_back c.args.bytes.now m saved c.in_err-recording.field-0.0 c.in_err-recording.ensures.refused)
 
-pub returns-clause-refused : goal.returns-clause-refused
-returns-clause-refused g c = let x = c.in_ok-draft.ensures.ok in is_refused c.args.bytes.now x.0 c.from_draft.result x.1 (c.from_draft.ensures x.0 x.2)
+pub returns-in_err-take_events-clause-refused : goal.returns-in_err-take_events-clause-refused
+returns-in_err-take_events-clause-refused g c =
+    let r = c.in_ok-recording.recording in
+    let p : Parts = record { limits = r.limits; names = r.names } in
+    let v = number_of r.version in
+    let fault = err_from_is_err_and c.from_residual-in_err-take_events.result c.from_residual-in_err-take_events.ensures.1 in
+    rw (fault.1, fault.2) (refuses c.args.bytes.now v p r.acts.events.items r.acts.is_cut c.in_ok-recording.ensures.recording c.in_err-take_events.field-0.0
+    (λ ds are. subst (λ (m : Machine). Faults v 1 m ds c.in_err-take_events.field-0.0) c.in-Ok.ensures (c.in_err-take_events.ensures.err ds are)))
+
+pub returns-in_err-take_events-clause-comes_back : goal.returns-in_err-take_events-clause-comes_back
+returns-in_err-take_events-clause-comes_back g c =
+    let r = c.in_ok-recording.recording in
+    let p : Parts = record { limits = r.limits; names = r.names } in
+    let v = number_of r.version in
+    let fault = err_from_is_err_and c.from_residual-in_err-take_events.result c.from_residual-in_err-take_events.ensures.1 in
+    rw (fault.1, fault.2) (fault_back c.args.bytes.now v p r.acts.events.items r.acts.is_cut c.in_ok-recording.ensures.recording c.in_err-take_events.field-0.0
+    (λ ds are. subst (λ (m : Machine). Faults v 1 m ds c.in_err-take_events.field-0.0) c.in-Ok.ensures (c.in_err-take_events.ensures.err ds are)))
+
+pub returns-clause-session : goal.returns-clause-session
+returns-clause-session g c =
+    let r = c.in_ok-recording.recording in
+    let p : Parts = record { limits = r.limits; names = r.names } in
+    let v = number_of r.version in
+    let new = c.take_events.new.bench in
+    session_of c.args.bytes.now v p r.acts.events.items r.acts.is_cut c.in_ok-recording.ensures.recording new
+    (λ ds are. subst (λ (m : Machine). Reads v m ds new) c.in-Ok.ensures (c.in_ok-take_events.ensures.ok ds are))
 
 pub returns-clause-comes_back : goal.returns-clause-comes_back
-returns-clause-comes_back g c = λ m saved.
-    let x = c.in_ok-draft.ensures.ok in
-    comes_back c.args.bytes.now m saved x.0 x.1 c.from_draft.result (c.from_draft.ensures x.0 x.2)
+returns-clause-comes_back g c =
+    let r = c.in_ok-recording.recording in
+    let p : Parts = record { limits = r.limits; names = r.names } in
+    let v = number_of r.version in
+    let new = c.take_events.new.bench in
+    saved_back c.args.bytes.now v p r.acts.events.items r.acts.is_cut c.in_ok-recording.ensures.recording new
+    (λ ds are. subst (λ (m : Machine). Reads v m ds new) c.in-Ok.ensures (c.in_ok-take_events.ensures.ok ds are))

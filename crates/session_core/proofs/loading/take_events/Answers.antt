@@ -1,8 +1,8 @@
-use Rattle.std.proofs.Common.{◌≡◌, ◌+◌, [], ◌∷◌, true, false, length, drop, refl, subst, ap, sym, ◌∙◌, arith, rules}
+use Rattle.std.proofs.Common.{◌≡◌, ◌+◌, [], ◌∷◌, true, false, length, drop, refl, subst, ap, sym, ◌∙◌, arith}
 use Rattle.std.proofs.lemmas.List.{drop_all}
 use Rattle.std.proofs.lemmas.Result.{err_from_is_err_and}
 use Rattle.session_core.specs.Drafts.{AreRead}
-use Rattle.session_core.specs.Sessions.{Reads, Faults}
+use Rattle.session_core.specs.Sessions.{Reads}
 use Rattle.session_core.specs.declared.session_fault.SessionFault.TheVariants.{BadShape}
 use Rattle.session_core.specs.Versions.{number_of}
 use Rattle.session_core.proofs.Versions.{no_event}

@@ -1,13 +1,13 @@
-use Rattle.std.proofs.Common.{◌≡◌, ◌-◌, ◌<◌, [], ◌∷◌, ◌++◌, map, length, Some, None, option_map, string_bytes, sym, ap, ap₂, ◌∙◌, arith, rules}
+use Rattle.std.proofs.Common.{◌≡◌, ◌-◌, ◌<◌, [], ◌∷◌, map, length, Some, None, option_map, string_bytes, sym, ap, ap₂, ◌∙◌, arith, rules}
 use Rattle.std.proofs.lemmas.List.{map-append}
 use Rattle.json.specs.Token.{Token}
 use Rattle.json.specs.Json.{parse_map, after_end_array, read_key, items, members, value}
 use Rattle.json.specs.Reads.{token_of}
 use Rattle.json.proofs.Grammar.{value_is, value-begin_array, value-begin_object, read_key-shorter}
-use Rattle.serde_json.specs.Data.{null, boolean, number, string, array, object, put}
+use Rattle.serde_json.specs.Data.{null, boolean, string, array, object, put}
 use Rattle.serde_json.specs.Read.{of_json, of_items, of_members, converted}
-use Rattle.serde_json.specs.View.{view, number_view, members_view}
-use Rattle.serde_json.specs.declared.value.Value.{String, Number, Bool, Null, the_lemmas}
+use Rattle.serde_json.specs.View.{view, members_view}
+use Rattle.serde_json.specs.declared.value.Value.{String, Bool, Null, the_lemmas}
 use Rattle.serde_json.proofs.Views.{view-Array, view-Object, members_view-insert_entry}
 use Rattle.session_core.proofs.Reading.{converted-array, converted-object, item_read, item_refused, items_over, member_read, member_refused, key_refused, members_over, number_there, items_after, items_after-no_items, one_more_item}
 use Rattle.session_core.proofs.one_value.+read.Goals as goal

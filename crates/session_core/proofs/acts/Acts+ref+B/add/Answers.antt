@@ -1,4 +1,4 @@
-use Rattle.std.proofs.Common.{◌≡◌, ◌∷◌, [], ◌++◌, false, true, None, subst, sym, ◌∙◌}
+use Rattle.std.proofs.Common.{◌≡◌, ◌∷◌, [], ◌++◌, false, None, subst, sym}
 use Rattle.serde_json.specs.View.{view}
 use Rattle.session_core.specs.Decoded.{Fails}
 use Rattle.session_core.specs.Decoding.{event_at}

@@ -1,6 +1,5 @@
-use Rattle.std.proofs.Common.{◌≡◌, ◌-◌, ◌<◌, [], ◌∷◌, ◌++◌, length, Some, None, sym, ap, subst, ◌∙◌, arith, rules}
-use Rattle.json.specs.Json.{parse_map, after_end_array, items, value}
-use Rattle.serde_json.specs.Read.{of_items, converted}
+use Rattle.std.proofs.Common.{◌≡◌, ◌-◌, ◌<◌, [], ◌∷◌, ◌++◌, length, Some, None, sym, ap, subst, ◌∙◌, arith}
+use Rattle.json.specs.Json.{parse_map, after_end_array, value}
 use Rattle.serde_json.specs.View.{view, items_of}
 use Rattle.session_core.specs.Drafts.{AreRead}
 use Rattle.session_core.proofs.Reading.{item_refused, items_over, items_after, items_after-no_items, next_item}

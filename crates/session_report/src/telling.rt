@@ -1,0 +1,120 @@
+//! `report_session`: the bench of a session, with what its calls print.
+ghost use Rattle.std.specs.Prelude.{◌≡◌, ◌↔◌, ◌++◌, List, Some, IfOk, IfErr, IsTrue, MatchResult, OnOk, map, option_map, slice_get, string_bytes};
+ghost use Rattle.serde_json.specs.Data.{Data};
+ghost use Rattle.bench_core.specs.Machine.{Machine};
+ghost use Rattle.script_core.specs.Report.{after_command, call_of, command_text, commands_text, history_text};
+ghost use Rattle.session_core.specs.Decoding.{event_at};
+ghost use Rattle.session_core.specs.Drafts.{AreRead};
+ghost use Rattle.session_core.specs.Sessions.{Asked, Faults, IsSaved, IsSession, Reads, Refuses, Steps};
+ghost use Rattle.session_core.specs.Versions.{number_of};
+ghost use Rattle.session_core.specs.declared.session_fault.SessionFault.TheVariants as sessions;
+
+use bench_core::{Bench, Event, History, Reply};
+use payload_core::Oom;
+use script_core::{Played, act};
+use session_core::{Acts, SessionFault, Version, read_session};
+use std::alloc::{Allocator, Global};
+
+/// Whether the call at this place has this reply.
+fn has_reply<'a, B: Allocator>(history: &History<'a, B>, place: usize, reply: Reply) -> bool
+    ensures { IsTrue result ↔ (option_map (λ event. event.reply) (slice_get history.now place) ≡ Some reply) }
+{
+    match history.at(place) {
+        Some(event) => event.reply == reply,
+        None => false,
+    }
+}
+
+/// Asks the event's call, prints it, and says whether the bench gave its reply and recorded it.
+#[tactic(auto, unfolding(script_core::specs::Report::command_text, script_core::specs::Report::after_command))]
+fn tell_next<'a, B: Allocator>(
+    alloc: &'a B,
+    text: &mut String<&'a B>,
+    bench: &mut Bench<'a, B>,
+    event: &Event<&'a B>,
+) -> Result<bool, Oom>
+    ensures asked { IfOk result (Asked event.now bench.old bench.new) }
+    ensures bench { OnOk result (bench.new ≡ after_command bench.old (call_of event.now)) }
+    ensures text { OnOk result (string_bytes text.new ≡ string_bytes text.old ++ command_text bench.old (call_of event.now)) }
+{
+    let place = bench.history().len();
+    act(alloc, text, bench, event.actor, &event.act)?;
+    Ok(has_reply(bench.history(), place, event.reply))
+}
+
+/// Asks the call of act `number`, if the text of this version can tell it, prints it, and compares the reply.
+fn tell_event<'a, B: Allocator>(
+    alloc: &'a B,
+    text: &mut String<&'a B>,
+    bench: &mut Bench<'a, B>,
+    event: &Event<&'a B>,
+    version: Version,
+    number: u64,
+) -> Result<(), SessionFault>
+    ensures steps { (d : Data) → event_at d ≡ Some event.now → Steps (number_of version) number bench.old d result bench.new }
+    ensures bench { OnOk result (bench.new ≡ after_command bench.old (call_of event.now)) }
+    ensures text { OnOk result (string_bytes text.new ≡ string_bytes text.old ++ command_text bench.old (call_of event.now)) }
+{
+    if !version.tells(event) {
+        return Err(SessionFault::BadShape { act: number });
+    }
+    match tell_next(alloc, text, bench, event) {
+        Ok(true) => Ok(()),
+        Ok(false) => Err(SessionFault::Disagrees { act: number }),
+        Err(_) => Err(SessionFault::OutOfMemory),
+    }
+}
+
+/// Asks the calls of the acts, in order, and prints them.
+fn tell_events<'a, B: Allocator>(
+    alloc: &'a B,
+    text: &mut String<&'a B>,
+    bench: &mut Bench<'a, B>,
+    acts: &Acts<&'a B>,
+    version: Version,
+) -> Result<(), SessionFault>
+    ensures ok { OnOk result ((ds : List Data) → AreRead ds acts.now.events.items acts.now.is_cut →
+        Reads (number_of version) bench.old ds bench.new) }
+    ensures text { OnOk result (string_bytes text.new ≡ string_bytes text.old ++ commands_text bench.old (map call_of acts.now.events.items)) }
+    ensures err { IfErr result (λ fault. (ds : List Data) → AreRead ds acts.now.events.items acts.now.is_cut →
+        Faults (number_of version) 1 bench.old ds fault) }
+{
+    for (place, event) in acts.events.iter().enumerate() {
+        tell_event(alloc, text, bench, event, version, place as u64 + 1)?;
+    }
+    if acts.is_cut {
+        let act = acts.events.len() as u64 + 1;
+        return Err(SessionFault::BadShape { act });
+    }
+    Ok(())
+}
+
+/// The bench of a session, and what its calls print, as `load` and `report_history` give them, but each call is asked once. It
+/// refuses what `load` refuses, in its order. JSON values and the list of events take their memory from the global heap.
+pub fn report_session<'a, B: Allocator>(
+    heap: Global,
+    alloc: &'a B,
+    bytes: &[u8],
+) -> Result<Played<'a, B>, SessionFault>
+    ensures session { IfOk result (λ told. IsSession bytes.now told.bench) }
+    ensures report { IfOk result (λ told. told.report.items ≡ history_text told.bench) }
+    ensures refused { IfErr result (Refuses bytes.now) }
+    ensures comes_back { (m : Machine) → IsSaved bytes.now m → MatchResult result (λ told. told.bench ≡ m) (λ fault. fault ≡ sessions.OutOfMemory) }
+{
+    let recording = read_session(heap, alloc, bytes)?;
+    let Ok(mut bench) = Bench::new(alloc, recording.names, recording.limits) else {
+        return Err(SessionFault::OutOfMemory);
+    };
+    let mut text = String::new(alloc);
+    tell_events(
+        alloc,
+        &mut text,
+        &mut bench,
+        &recording.acts,
+        recording.version,
+    )?;
+    Ok(Played {
+        bench,
+        report: text.into_bytes(),
+    })
+}
