@@ -4,6 +4,8 @@ use Rattle.std.proofs.lemmas.Bool.Decides.{nat_tests}
 use Rattle.std.specs.Io.KnownBytes.{Appends}
 use Rattle.bench_core.specs.Limits.{Limits}
 use Rattle.bench_core.specs.Machine.{Machine}
+use Rattle.explain_core.specs.Questions.{IsAnswer}
+use Rattle.explain_core.specs.declared.asking.Question.{Question}
 use Rattle.script_core.specs.Grammar.{script_of}
 use Rattle.script_core.specs.Play.{IsLonger}
 use Rattle.script_core.specs.Report.{history_text, played, report_of}
@@ -11,7 +13,7 @@ use Rattle.script_core.specs.Scripts.{Script}
 use Rattle.script_core.specs.declared.fault.FaultKind.TheVariants.{TooLong}
 use Rattle.presence_bench.specs.declared.chosen.Form.{Form}
 use Rattle.presence_bench.specs.declared.chosen.Subcommand.{Subcommand}
-use Rattle.presence_bench.specs.declared.chosen.Subcommand.TheVariants.{Play, Race, Load, Explore, Step, Draw}
+use Rattle.presence_bench.specs.declared.chosen.Subcommand.TheVariants.{Play, Race, Load, Explore, Step, Draw, Explain}
 use Rattle.presence_bench.specs.declared.fault.Fault.{Fault}
 use Rattle.presence_bench.specs.declared.fault.Fault.TheVariants as faults
 use Rattle.script_core.specs.declared.fault.ScriptFault.{ScriptFault}
@@ -44,6 +46,7 @@ module _ (form : Form) (limits : Limits) (text : List ℕ) (old new : Option (Li
   ends command input (Err faults.LongSession) p e = elim e [ ]
   ends command input (Err (faults.Race fault)) p e = elim e [ ]
   ends command input (Err (faults.TooManyStates most)) p e = elim e [ ]
+  ends command input (Err (faults.Explain fault)) p e = elim e [ ]
   ends command input (Err (faults.Prompt fault)) p e = elim e [ ]
   ends command input (Err (faults.NoSuchOutcome outcomes)) p e = elim e [ ]
   ends command input (Err faults.ReadFault) p e = elim e [ ]
@@ -64,6 +67,11 @@ module _ (form : Form) (limits : Limits) (text : List ℕ) (old new : Option (Li
       text ≡ drawn why m → EndsAsText text r old new → EndsAt (Draw why) form limits known r old new
   ends_draw why None m r k is e = tt
   ends_draw why (Some input) m r k is e = ends (Draw why) input r (m, k, is) e
+
+  pub ends_explain : (question : Question) (known : Option (List ℕ)) (m : Machine) (r : Result (Unit {0}) Fault) → IsSessionAt known m →
+      IsAnswer m question text → EndsAsText text r old new → EndsAt (Explain question) form limits known r old new
+  ends_explain question None m r k told e = tt
+  ends_explain question (Some input) m r k told e = ends (Explain question) input r (m, k, told) e
 
   pub ends_race : (known : Option (List ℕ)) (s : Script) (m : Machine) (r : Result (Unit {0}) Fault) → IsScriptAt known s →
       IsRaceOf limits s m → text ≡ shown form (history_text m) m → EndsAsText text r old new → EndsAt Race form limits known r old new
@@ -89,6 +97,7 @@ module _ (form : Form) (limits : Limits) (text : List ℕ) (old new : Option (Li
   keeps_before (Err faults.LongSession) e = elim e [ ]
   keeps_before (Err (faults.Race fault)) e = elim e [ ]
   keeps_before (Err (faults.TooManyStates most)) e = elim e [ ]
+  keeps_before (Err (faults.Explain fault)) e = elim e [ ]
   keeps_before (Err (faults.Prompt fault)) e = elim e [ ]
   keeps_before (Err (faults.NoSuchOutcome outcomes)) e = elim e [ ]
   keeps_before (Err faults.ReadFault) e = elim e [ ]
@@ -102,6 +111,7 @@ module _ (form : Form) (limits : Limits) (text : List ℕ) (old new : Option (Li
   tells_memory (Err faults.LongSession) e = elim e [ ]
   tells_memory (Err (faults.Race fault)) e = elim e [ ]
   tells_memory (Err (faults.TooManyStates most)) e = elim e [ ]
+  tells_memory (Err (faults.Explain fault)) e = elim e [ ]
   tells_memory (Err (faults.Prompt fault)) e = elim e [ ]
   tells_memory (Err (faults.NoSuchOutcome outcomes)) e = elim e [ ]
   tells_memory (Err faults.ReadFault) e = elim e [ ]

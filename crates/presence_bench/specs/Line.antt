@@ -1,11 +1,12 @@
 -- What the command line takes, and what words choose.
-use Rattle.std.specs.Prelude.{◌≡◌, ◌≢◌, ℕ, List, codes, true, ⊤, Option, Some, None, unwrap_or}
+use Rattle.std.specs.Prelude.{◌≡◌, ◌≢◌, ℕ, List, codes, true, ⊤, Option, Some, None, IfSome, unwrap_or}
 use Rattle.std.specs.Str.Parse.{IsNumeral, digits_value, without_leading_plus}
 use Rattle.clap.specs.Words.{App, Row, Rule, first_of, new_app, new_rule, with_rule, with_subcommand, subcommand_of}
 use Rattle.presence_bench.specs.declared.chosen.Form.{Form}
 use Rattle.presence_bench.specs.declared.chosen.Form.TheVariants.{Report, Session}
 use Rattle.presence_bench.specs.declared.chosen.Subcommand.{Subcommand}
-use Rattle.presence_bench.specs.declared.chosen.Subcommand.TheVariants.{Play, Race, Load, Explore, Step, Draw}
+use Rattle.presence_bench.specs.declared.chosen.Subcommand.TheVariants.{Play, Race, Load, Explore, Step, Draw, Explain}
+use Rattle.explain_core.specs.declared.asking.Question.{Question}
 use Rattle.presence_bench.specs.declared.chosen.Choice.{Choice}
 use Rattle.presence_bench.specs.declared.chosen.Options.{Options}
 use Rattle.explore_core.specs.declared.reading.Reading.{Reading}
@@ -44,12 +45,19 @@ explore_app =
 abbrev pub draw_app : App
 draw_app = with_rule (new_app (codes "draw")) (number_rule (codes "why"))
 
+-- a word that comes in its place
+abbrev pub word_rule : List ℕ → Rule
+word_rule name = record (new_rule name) { required = true }
+
+abbrev pub explain_app : App
+explain_app = with_rule (with_rule (with_rule (new_app (codes "explain")) (word_rule (codes "NODE"))) (word_rule (codes "TOPIC"))) (word_rule (codes "KEY"))
+
 abbrev pub app : App
 app =
     let bare = new_app (codes "presence_bench") in
     let top : App = record bare { top = record bare.top { has_version = true; no_binary_name = true; subcommand_required = true } } in
     let older = with_subcommand (with_subcommand (with_subcommand (with_subcommand top play_app.top) race_app.top) load_app.top) explore_app.top in
-    with_subcommand (with_subcommand older step_app.top) draw_app.top
+    with_subcommand (with_subcommand (with_subcommand older step_app.top) draw_app.top) explain_app.top
 
 abbrev pub name_of : Subcommand → List ℕ
 name_of Play = codes "play"
@@ -58,6 +66,7 @@ name_of Load = codes "load"
 name_of (Explore reading states outcome) = codes "explore"
 name_of Step = codes "step"
 name_of (Draw why) = codes "draw"
+name_of (Explain question) = codes "explain"
 
 abbrev pub form_name : Form → List ℕ
 form_name Report = codes "report"
@@ -86,23 +95,32 @@ pub record AreOptions (values : List ℕ → Option (List ℕ)) (options : Optio
   pub states : IsNumber (values (codes "states")) options.states
   pub outcome : IsNumber (values (codes "script")) options.outcome
 
--- the subcommand has these of the options that it takes; of states 100,000 are kept where it is not told how many
-abbrev pub Takes : Options → Subcommand → Type 0
-Takes options (Draw why) = why ≡ options.why
-Takes options (Explore reading states outcome) =
-    (reading ≡ options.reading) × (states ≡ unwrap_or options.states 100000) × (outcome ≡ options.outcome)
-Takes options Play = ⊤
-Takes options Race = ⊤
-Takes options Load = ⊤
-Takes options Step = ⊤
+-- the words that come in their places
+pub record IsQuestion (values : List ℕ → Option (List ℕ)) (question : Question) : Type 0 where
+  pub node : values (codes "NODE") ≡ Some question.node.now
+  pub topic : values (codes "TOPIC") ≡ Some question.topic.now
+  pub key : values (codes "KEY") ≡ Some question.key.now
 
--- the subcommand has this name, and the form and the rest those that its options give
+-- the subcommand has these of the options and words that it takes; of states 100,000 are kept where it is not told how many
+abbrev pub Takes : Options → Option Question → Subcommand → Type 0
+Takes options question (Draw why) = why ≡ options.why
+Takes options question (Explore reading states outcome) =
+    (reading ≡ options.reading) × (states ≡ unwrap_or options.states 100000) × (outcome ≡ options.outcome)
+Takes options question Play = ⊤
+Takes options question Race = ⊤
+Takes options question Load = ⊤
+Takes options question Step = ⊤
+Takes options question (Explain asked) = question ≡ Some asked
+
+-- the subcommand has this name, and the form and the rest those that its options and words give
 pub record IsChoiceOf (name : List ℕ) (values : List ℕ → Option (List ℕ)) (choice : Choice) : Type 0 where
   pub name_is : name ≡ name_of choice.command
   pub form : IsForm (values (codes "as")) choice.form
   pub options : Options
   pub options_are : AreOptions values options
-  pub takes : Takes options choice.command
+  pub question : Option Question
+  pub question_is : IfSome question (IsQuestion values)
+  pub takes : Takes options question choice.command
 
 -- the choice is that of the subcommand which the command line finds in the words, with its options
 pub record Chooses (words : List (List ℕ)) (choice : Choice) : Type 0 where

@@ -4,6 +4,10 @@ use Rattle.std.specs.Io.KnownBytes.{Appends, IsAtEnd, Keeps}
 use Rattle.serde_json.specs.Written.{compact_text}
 use Rattle.bench_core.specs.Limits.{Limits}
 use Rattle.bench_core.specs.Machine.{Machine}
+use Rattle.explain_core.specs.Questions.{IsAnswer, Refuses as RefusesQuestion}
+use Rattle.explain_core.specs.declared.ask_fault.AskFault.{AskFault}
+use Rattle.explain_core.specs.declared.ask_fault.AskFault.TheVariants as asks
+use Rattle.explain_core.specs.declared.asking.Question.{Question}
 use Rattle.picture_core.specs.Pictures.{picture}
 use Rattle.picture_core.specs.Standings.{painted_of}
 use Rattle.script_core.specs.Grammar.{script_of}
@@ -27,7 +31,7 @@ use Rattle.presence_bench.specs.declared.chosen.Choice.{Choice}
 use Rattle.presence_bench.specs.declared.chosen.Form.{Form}
 use Rattle.presence_bench.specs.declared.chosen.Form.TheVariants.{Report, Session}
 use Rattle.presence_bench.specs.declared.chosen.Subcommand.{Subcommand}
-use Rattle.presence_bench.specs.declared.chosen.Subcommand.TheVariants.{Play, Race, Load, Explore, Step, Draw}
+use Rattle.presence_bench.specs.declared.chosen.Subcommand.TheVariants.{Play, Race, Load, Explore, Step, Draw, Explain}
 use Rattle.presence_bench.specs.declared.fault.Fault.{Fault}
 use Rattle.presence_bench.specs.declared.fault.Fault.TheVariants as faults
 
@@ -42,6 +46,9 @@ fault_status (faults.Race races.OutOfMemory) = 4
 fault_status (faults.Race races.LogsDisagree) = 5
 fault_status (faults.TooManyStates most) = 1
 fault_status (faults.NoSuchOutcome outcomes) = 1
+fault_status (faults.Explain asks.NoSuchNode) = 1
+fault_status (faults.Explain asks.NoWord) = 1
+fault_status (faults.Explain asks.OutOfMemory) = 4
 fault_status (faults.Prompt prompts.TooLong) = 1
 fault_status (faults.Prompt prompts.ReadFault) = 3
 fault_status (faults.Prompt prompts.WriteFault) = 3
@@ -65,6 +72,10 @@ abbrev pub fault_of_race : RaceFault → Fault
 fault_of_race races.OutOfMemory = faults.OutOfMemory
 fault_of_race fault = faults.Race fault
 
+abbrev pub fault_of_ask : AskFault → Fault
+fault_of_ask asks.OutOfMemory = faults.OutOfMemory
+fault_of_ask fault = faults.Explain fault
+
 -- the text of a bench's session, and a line feed
 abbrev pub session_text : Machine → List ℕ
 session_text m = compact_text (session 2 m.names m.limits m.state.history) ++ 10 ∷ []
@@ -86,12 +97,18 @@ IsCause input (faults.Session fault) = Refuses input fault
 IsCause input faults.LongSession = 67108864 < length input
 IsCause input (faults.Race fault) = ⊥
 IsCause input (faults.TooManyStates most) = ⊥
+IsCause input (faults.Explain fault) = ⊥
 IsCause input (faults.Prompt fault) = ⊥
 IsCause input (faults.NoSuchOutcome outcomes) = ⊥
 IsCause input _ = ⊤
 
+-- nothing is explained of a session's bench
+abbrev pub RefusesAsked : Question → List ℕ → Fault → Type 0
+RefusesAsked question input (faults.Explain fault) = (m : Machine) × IsSession input m × RefusesQuestion m question fault
+RefusesAsked question input fault = ⊥
+
 -- what refuses the input of this command: of a race also that a line is no act line, or that the race can't be had; of all orders
--- that a line is no act line, that there are too many states, or that there is no such outcome
+-- that a line is no act line, that there are too many states, or that there is no such outcome; and of what is asked that nothing is explained
 abbrev pub IsCauseOf : Subcommand → Limits → List ℕ → Fault → Type 0
 IsCauseOf Race limits input fault = IsCause input fault ⊎ IsOkAnd (script_of input) (λ s. RefusesRaceOf limits s fault)
 IsCauseOf Play limits input fault = IsCause input fault
@@ -99,6 +116,7 @@ IsCauseOf Load limits input fault = IsCause input fault
 IsCauseOf (Explore reading states outcome) limits input fault = IsCause input fault ⊎ IsOkAnd (script_of input) (λ s. RefusesOrders reading states outcome limits s fault)
 IsCauseOf Step limits input fault = ⊥
 IsCauseOf (Draw why) limits input fault = IsCause input fault
+IsCauseOf (Explain question) limits input fault = IsCause input fault ⊎ RefusesAsked question input fault
 
 abbrev pub IsCauseAt : Option (List ℕ) → Fault → Type 0
 IsCauseAt None fault = ⊤
@@ -123,6 +141,7 @@ Prints (Explore reading states outcome) form limits input text = IsOkAnd (script
 Prints Step form limits input text =
     (text ≡ printed language limits input) × IfOk (script_of input) (λ s. text ≡ report_of limits s)
 Prints (Draw why) form limits input text = (m : Machine) × IsSession input m × (text ≡ drawn why m)
+Prints (Explain question) form limits input text = (m : Machine) × IsSession input m × IsAnswer m question text
 
 -- all of the text went out, or, where the writing failed, its first `written` bytes
 abbrev pub EndsAsText : List ℕ → Result (Unit {0}) Fault → Option (List ℕ) → Option (List ℕ) → Type 0
@@ -138,6 +157,7 @@ HasPrompt Load = ⊥
 HasPrompt (Explore reading states outcome) = ⊥
 HasPrompt Step = ⊤
 HasPrompt (Draw why) = ⊥
+HasPrompt (Explain question) = ⊥
 
 -- what went out, by the answer: what is printed of the input; its first bytes, where a write failed; and else nothing, and the
 -- fault is the input's
@@ -168,6 +188,7 @@ EndsSoon Race limits result input left old new = ⊤
 EndsSoon Load limits result input left old new = ⊤
 EndsSoon (Explore reading states outcome) limits result input left old new = ⊤
 EndsSoon (Draw why) limits result input left old new = ⊤
+EndsSoon (Explain question) limits result input left old new = ⊤
 
 -- it is no fault of a write, nor of a prompt
 abbrev pub IsUnwritten : Fault → Type 0
@@ -180,6 +201,7 @@ abbrev pub TellsMemory : Fault → Type 0
 TellsMemory (faults.Script fault) = fault.kind ≢ kinds.OutOfMemory
 TellsMemory (faults.Session fault) = fault ≢ sessions.OutOfMemory
 TellsMemory (faults.Race fault) = fault ≢ races.OutOfMemory
+TellsMemory (faults.Explain fault) = fault ≢ asks.OutOfMemory
 TellsMemory _ = ⊤
 
 -- the status is that of an answer by which the choice may end on the input, with what is left of the input and what went out

@@ -1,9 +1,10 @@
 //! What a command line chooses.
+use explain_core::Question;
 use explore_core::Reading;
 
 /// What the program does.
 #[derive(Clone, Copy, Debug, PartialEq, Eq)]
-pub enum Subcommand {
+pub enum Subcommand<'w> {
     /// Plays a script.
     Play,
     /// Has the act lines of a script asked by a worker for each actor.
@@ -23,6 +24,8 @@ pub enum Subcommand {
     Draw {
         why: Option<u64>,
     },
+    /// Explains why presences of a saved session are online at a node, and why not.
+    Explain(Question<'w>),
 }
 
 /// What it prints of the bench that was played on.
@@ -36,8 +39,8 @@ pub enum Form {
 
 /// What the words of a command line ask.
 #[derive(Clone, Copy, Debug, PartialEq, Eq)]
-pub struct Choice {
-    pub command: Subcommand,
+pub struct Choice<'w> {
+    pub command: Subcommand<'w>,
     pub form: Form,
 }
 

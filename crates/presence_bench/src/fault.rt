@@ -2,6 +2,7 @@
 ghost use Rattle.std.specs.Prelude.{◌≡◌};
 ghost use Rattle.presence_bench.specs.Program.{fault_status};
 
+use explain_core::AskFault;
 use prompt_core::PromptFault;
 use script_core::{PlayFault, ScriptFault};
 use session_core::SessionFault;
@@ -29,6 +30,9 @@ pub enum Fault {
     /// All orders lead to so many outcomes, and none has the number that was asked for.
     #[error("explore: NoSuchOutcome, there are {outcomes}")]
     NoSuchOutcome { outcomes: usize },
+    /// Why nothing is explained. Want of memory is never in it.
+    #[error("explain: {0}")]
+    Explain(AskFault),
     /// A prompt ended early, after what it had answered.
     #[error("{0}")]
     Prompt(PromptFault),
@@ -52,11 +56,13 @@ impl Fault {
             Fault::Script(_) | Fault::Session(_) | Fault::LongSession => 1,
             Fault::Race(RaceFault::UnknownActor | RaceFault::NoRoom) => 1,
             Fault::TooManyStates { .. } | Fault::NoSuchOutcome { .. } => 1,
+            Fault::Explain(AskFault::NoSuchNode | AskFault::NoWord) => 1,
             Fault::Prompt(PromptFault::TooLong) => 1,
             Fault::Prompt(PromptFault::ReadFault | PromptFault::WriteFault) => 3,
             Fault::Prompt(PromptFault::OutOfMemory) => 4,
             Fault::ReadFault | Fault::WriteFault { .. } => 3,
             Fault::Race(RaceFault::OutOfMemory) | Fault::OutOfMemory => 4,
+            Fault::Explain(AskFault::OutOfMemory) => 4,
             Fault::Race(RaceFault::WorkerRefused | RaceFault::LogsDisagree) => 5,
         }
     }
@@ -74,6 +80,20 @@ impl From<PlayFault> for Fault {
             PlayFault::ReadFault => Fault::ReadFault,
             PlayFault::WriteFault { written } => Fault::WriteFault { written },
             PlayFault::OutOfMemory => Fault::OutOfMemory,
+        }
+    }
+}
+
+impl From<AskFault> for Fault {
+    ghost use Rattle.std.specs.Prelude.{◌≡◌};
+    ghost use Rattle.presence_bench.specs.Program.{fault_of_ask};
+
+    ghost from_gives = { λ fault given. given ≡ fault_of_ask fault };
+
+    fn from(fault: AskFault) -> Fault {
+        match fault {
+            AskFault::OutOfMemory => Fault::OutOfMemory,
+            AskFault::NoSuchNode | AskFault::NoWord => Fault::Explain(fault),
         }
     }
 }

@@ -21,6 +21,15 @@ pub const STEP: &str =
 pub const DRAW: &str =
     "Draws the session on standard input: what each node did, what was sent, and what was undone";
 
+pub const EXPLAIN: &str =
+    "Tells why presences of the session on standard input are online at a node, and why not";
+
+pub const NODE: &str = "The node that is asked about";
+
+pub const TOPIC: &str = "The topic under which they are tracked";
+
+pub const KEY: &str = "The key under which they are tracked";
+
 pub const WHY: &str = "The number of a step, to paint it and all that follows from it";
 
 pub const DELIVERIES: &str =
@@ -62,4 +71,5 @@ Script lines (words between spaces; a line that begins with # is a comment):
 A step prints NUMBER ok, an undo undone NUMBER, a refusal no and its name; then
 come the rows that left (-) and joined (+) the online list of the step's node.
 With the subcommand step, a line that can't be taken is told and changes nothing;
-:save prints the session so far, and :help this text.";
+:save prints the session so far, :explain NODE TOPIC KEY why somebody is online at
+a node or isn't, and :help this text.";

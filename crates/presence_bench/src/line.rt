@@ -2,15 +2,16 @@
 ghost use Rattle.std.specs.Prelude.{◌≡◌, IfOk, IfSome, codes, map, false};
 ghost use Rattle.clap.specs.Words.{app_of, first_value, found_of, new_app, rule_of, with_rule};
 ghost use Rattle.clap.specs.declared.Command.TheViews.{out-Command as fields_of};
-ghost use Rattle.presence_bench.specs.Line.{app, as_rule, draw_app, explore_app, number_rule, deliveries_rule, step_app, AreOptions, Chooses, IsChoiceOf, IsForm, IsNumber, IsReading, Takes, name_of};
+ghost use Rattle.presence_bench.specs.Line.{app, as_rule, draw_app, explain_app, explore_app, number_rule, deliveries_rule, step_app, word_rule, AreOptions, Chooses, IsChoiceOf, IsForm, IsNumber, IsQuestion, IsReading, Takes, name_of};
 
 use crate::chosen::{Choice, Form, Options, Subcommand};
 use crate::help::{
-    DELIVERIES, DRAW, EXPLORE, FORM, LANGUAGE, LOAD, ORDER, PLAY, PURPOSE, RACE, STATES, STEP,
-    VERSION, WHY,
+    DELIVERIES, DRAW, EXPLAIN, EXPLORE, FORM, KEY, LANGUAGE, LOAD, NODE, ORDER, PLAY, PURPOSE,
+    RACE, STATES, STEP, TOPIC, VERSION, WHY,
 };
 use clap::error::ErrorKind;
 use clap::{Arg, ArgAction, ArgMatches, Command, Error};
+use explain_core::Question;
 use explore_core::Reading;
 use std::alloc::{AllocError, Global};
 use std::convert::AsStr;
@@ -61,6 +62,26 @@ fn draw_line<'a>(alloc: Global) -> Result<Command<'a>, AllocError>
         .arg(number_option(alloc, "why", WHY))
 }
 
+/// A word that comes in its place.
+fn word_place<'a>(alloc: Global, name: &'a str, about: &'a str) -> Arg<'a>
+    ensures rule { rule_of result ≡ word_rule name.entry.now }
+    ensures local { result.global ≡ false }
+{
+    Arg::new(alloc, name).required(true).help(about)
+}
+
+/// The subcommand that explains.
+fn explain_line<'a>(alloc: Global) -> Result<Command<'a>, AllocError>
+    ensures app { IfOk result (λ line. app_of line ≡ explain_app) }
+    ensures local { IfOk result (λ line. (fields_of line).has_globals ≡ false) }
+{
+    Command::new(alloc, "explain")
+        .about(EXPLAIN)
+        .arg(word_place(alloc, "NODE", NODE))?
+        .arg(word_place(alloc, "TOPIC", TOPIC))?
+        .arg(word_place(alloc, "KEY", KEY))
+}
+
 /// The subcommand that tries all orders.
 fn explore_line<'a>(alloc: Global) -> Result<Command<'a>, AllocError>
     ensures app { IfOk result (λ line. app_of line ≡ explore_app) }
@@ -103,6 +124,7 @@ fn line<'a>(alloc: Global) -> Result<Command<'a>, AllocError>
     let explore = explore_line(alloc)?;
     let step = step_line(alloc);
     let draw = draw_line(alloc)?;
+    let explain = explain_line(alloc)?;
     Command::new(alloc, "presence_bench")
         .about(PURPOSE)
         .version(VERSION)
@@ -114,13 +136,29 @@ fn line<'a>(alloc: Global) -> Result<Command<'a>, AllocError>
         .subcommand(load)?
         .subcommand(explore)?
         .subcommand(step)?
-        .subcommand(draw)
+        .subcommand(draw)?
+        .subcommand(explain)
 }
 
-/// The subcommand of this name, with those of the options that it takes.
-fn command_of(name: &str, options: Options) -> Option<Subcommand>
+/// The words that come in their places, where all three are there.
+fn question_of<'a>(matches: &ArgMatches<'a>) -> Option<Question<'a>>
+    ensures { IfSome result (IsQuestion (λ id. first_value (found_of matches.now) id)) }
+{
+    Some(Question {
+        node: matches.get_str("NODE")?,
+        topic: matches.get_str("TOPIC")?,
+        key: matches.get_str("KEY")?,
+    })
+}
+
+/// The subcommand of this name, with those of the options and words that it takes.
+fn command_of<'a>(
+    name: &str,
+    options: Options,
+    question: Option<Question<'a>>,
+) -> Option<Subcommand<'a>>
     ensures name { IfSome result (λ command. name.now ≡ name_of command) }
-    ensures takes { IfSome result (Takes options) }
+    ensures takes { IfSome result (Takes options question.entry) }
 {
     match name {
         "play" => Some(Subcommand::Play),
@@ -133,6 +171,7 @@ fn command_of(name: &str, options: Options) -> Option<Subcommand>
         }),
         "step" => Some(Subcommand::Step),
         "draw" => Some(Subcommand::Draw { why: options.why }),
+        "explain" => Some(Subcommand::Explain(question?)),
         _ => None,
     }
 }
@@ -193,14 +232,14 @@ fn options_of<'a>(matches: &ArgMatches<'a>) -> Result<Options, &'static str>
 }
 
 /// What a subcommand's name and words choose; or what to tell where they choose nothing.
-fn chosen<'a>(name: &str, matches: &ArgMatches<'a>) -> Result<Choice, &'static str>
+fn chosen<'a>(name: &str, matches: &ArgMatches<'a>) -> Result<Choice<'a>, &'static str>
     ensures { IfOk result (IsChoiceOf name.now (λ option. first_value (found_of matches.now) option)) }
 {
     let options = match options_of(matches) {
         Ok(options) => options,
         Err(told) => return Err(told),
     };
-    let Some(command) = command_of(name, options) else {
+    let Some(command) = command_of(name, options, question_of(matches)) else {
         return Err("no such subcommand");
     };
     let Some(form) = form_of(matches) else {
@@ -213,7 +252,7 @@ fn chosen<'a>(name: &str, matches: &ArgMatches<'a>) -> Result<Choice, &'static s
 }
 
 /// What the words after the program's name choose.
-pub fn choice<'a, S: AsStr>(alloc: Global, words: &'a [S]) -> Result<Choice, Error>
+pub fn choice<'a, S: AsStr>(alloc: Global, words: &'a [S]) -> Result<Choice<'a>, Error>
     ensures { IfOk result (Chooses (map S.text words.entry.now)) }
 {
     let mut line = line(alloc)?;

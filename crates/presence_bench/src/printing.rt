@@ -11,8 +11,9 @@ use crate::exploring::explore_script;
 use crate::fault::Fault;
 use crate::racing::race_script;
 use crate::stepping::step_script;
-use crate::texts::{read_script, read_session, session_line};
+use crate::texts::{read_script, read_session, session_line, tell_session};
 use bench_core::Limits;
+use explain_core::{Question, explain_asked};
 use explore_core::Reading;
 use picture_core::draw;
 use script_core::{play, report_history, run_script, write_out};
@@ -131,11 +132,8 @@ fn load_report<B: Allocator, R: Read, W: Write>(
     ensures unwritten { IfErr result (λ fault. KeepsBefore fault (W.contents writer.old) (W.contents writer.new)) }
     ensures memory { IfErr result TellsMemory }
 {
-    let bench = read_session(heap, alloc, reader)?;
-    let Ok(text) = report_history(alloc, &bench) else {
-        return Err(Fault::OutOfMemory);
-    };
-    print(writer, &text)
+    let told = tell_session(heap, alloc, reader)?;
+    print(writer, &told.report)
 }
 
 /// A session, once it was played again.
@@ -200,6 +198,29 @@ fn draw_session<B: Allocator, R: Read, W: Write>(
     print(writer, &text)
 }
 
+/// Why presences of a session are online at a node, once it was played again.
+fn explain_session<B: Allocator, R: Read, W: Write>(
+    heap: Global,
+    alloc: &B,
+    reader: &mut R,
+    writer: &mut W,
+    limits: Limits,
+    form: Form,
+    question: Question<'_>,
+) -> Result<(), Fault>
+    ensures ends { EndsAt (subcommands.Explain question.entry) form limits (R.remaining reader.old) result (W.contents writer.old) (W.contents writer.new) }
+    ensures read { OnOk result (IsAtEnd (R.remaining reader.new)) }
+    ensures unwritten { IfErr result (λ fault. KeepsBefore fault (W.contents writer.old) (W.contents writer.new)) }
+    ensures memory { IfErr result TellsMemory }
+{
+    let bench = read_session(heap, alloc, reader)?;
+    let text = match explain_asked(alloc, &bench, question) {
+        Ok(text) => text,
+        Err(fault) => return Err(Fault::from(fault)),
+    };
+    print(writer, text.as_bytes())
+}
+
 /// Reads the whole input, plays it as was chosen, and then prints; nothing is written before the whole text stands, but at a
 /// prompt, where each line is answered before the next is read. Limits are those of a script's bench; a session has its own.
 /// JSON takes its memory from `heap`, and all else from `alloc`.
@@ -207,16 +228,16 @@ pub fn answer<B: Allocator + Sync, T: Threads + Wait + Sync, R: BufRead, W: Writ
     rt: &T,
     heap: Global,
     alloc: &B,
-    choice: Choice,
+    choice: Choice<'_>,
     reader: &mut R,
     writer: &mut W,
     limits: Limits,
 ) -> Result<(), Fault>
-    ensures ends { EndsAt choice.command choice.form limits (R.remaining reader.old) result (W.contents writer.old) (W.contents writer.new) }
+    ensures ends { EndsAt choice.entry.command choice.entry.form limits (R.remaining reader.old) result (W.contents writer.old) (W.contents writer.new) }
     ensures read { OnOk result (IsAtEnd (R.remaining reader.new)) }
     ensures unwritten { IfErr result (λ fault. KeepsBefore fault (W.contents writer.old) (W.contents writer.new)) }
     ensures memory { IfErr result TellsMemory }
-    ensures early { EndsSoon choice.command limits result (R.remaining reader.old) (R.remaining reader.new) (W.contents writer.old) (W.contents writer.new) }
+    ensures early { EndsSoon choice.entry.command limits result (R.remaining reader.old) (R.remaining reader.new) (W.contents writer.old) (W.contents writer.new) }
 {
     match (choice.command, choice.form) {
         (Subcommand::Play, Form::Report) => play_report(alloc, reader, writer, limits),
@@ -236,6 +257,9 @@ pub fn answer<B: Allocator + Sync, T: Threads + Wait + Sync, R: BufRead, W: Writ
         ) => explore_orders(alloc, reader, writer, limits, reading, states, outcome),
         (Subcommand::Draw { why }, form) => draw_session(
             heap, alloc, reader, writer, limits, form, why,
+        ),
+        (Subcommand::Explain(question), form) => explain_session(
+            heap, alloc, reader, writer, limits, form, question,
         ),
     }
 }

@@ -30,13 +30,13 @@ fn run_choice<B: Allocator + Sync, T: Threads + Wait + Sync, R: BufRead, W: Writ
     rt: &T,
     heap: Global,
     alloc: &B,
-    choice: Choice,
+    choice: Choice<'_>,
     reader: &mut R,
     writer: &mut W,
     errors: &mut E,
     limits: Limits,
 ) -> u8
-    ensures exits { Exits choice (R.remaining reader.old) (R.remaining reader.new) limits result (W.contents writer.old) (W.contents writer.new) }
+    ensures exits { Exits choice.entry (R.remaining reader.old) (R.remaining reader.new) limits result (W.contents writer.old) (W.contents writer.new) }
     ensures quiet { result ≡ 0 → Keeps (E.contents errors.old) (E.contents errors.new) }
 {
     let answer = answer(rt, heap, alloc, choice, reader, writer, limits);

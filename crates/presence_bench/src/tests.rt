@@ -6,6 +6,7 @@ use crate::program::program;
 use crate::run::run;
 use bench_core::Limits;
 use clap::error::ErrorKind;
+use explain_core::Question;
 use explore_core::Reading;
 use script_core::{FakeReader, FakeWriter};
 use session_core::load;
@@ -69,7 +70,7 @@ const ALL_ORDERS: Subcommand = Subcommand::Explore {
 };
 
 /// The words that choose something, and what they choose.
-const CHOSEN: [(&[&str], Subcommand, Form); 16] = [
+const CHOSEN: [(&[&str], Subcommand, Form); 17] = [
     (&["play"], Subcommand::Play, Form::Report),
     (&["play", "--as", "report"], Subcommand::Play, Form::Report),
     (&["play", "--as=session"], Subcommand::Play, Form::Session),
@@ -122,6 +123,15 @@ const CHOSEN: [(&[&str], Subcommand, Form); 16] = [
         Subcommand::Draw { why: Some(12) },
         Form::Report,
     ),
+    (
+        &["explain", "b", "lobby", "alice"],
+        Subcommand::Explain(Question {
+            node: "b",
+            topic: "lobby",
+            key: "alice",
+        }),
+        Form::Report,
+    ),
 ];
 
 #[test]
@@ -165,6 +175,14 @@ fn words_choose_a_subcommand_and_a_form(rt: HostRuntime) {
         (
             ["explore", "--as", "session"].as_slice(),
             ErrorKind::InvalidValue,
+        ),
+        (
+            ["explain", "b", "lobby"].as_slice(),
+            ErrorKind::MissingRequiredArgument,
+        ),
+        (
+            ["explain", "b", "lobby", "alice", "x"].as_slice(),
+            ErrorKind::UnknownArgument,
         ),
         (["play", "x"].as_slice(), ErrorKind::UnknownArgument),
         (["--as", "report"].as_slice(), ErrorKind::UnknownArgument),
@@ -246,9 +264,38 @@ const STEPPED: Case = Case {
     ..PLAYED
 };
 
-const CASES: [Case; 29] = [
+/// A presence of a session, asked about at its own node.
+const EXPLAINED: Case = Case {
+    words: &["explain", "a", "lobby", "alice"],
+    script: "{\"acts\":[[0,[\"do\",\"join\",1,\"lobby\",\"alice\",\"phone\"],[\"ok\",1]]],\
+\"limits\":[10,10,10,10],\"nodes\":[\"a\",\"b\"],\"version\":2}",
+    printed: "explain a lobby alice 1\nmade 1 a join 1 lobby alice phone\nat a online\n",
+    ..PLAYED
+};
+
+const CASES: [Case; 33] = [
     PLAYED,
     DRAWN,
+    EXPLAINED,
+    Case {
+        words: &["explain", "b", "lobby", "bob"],
+        printed: "explain b lobby bob 0\n",
+        ..EXPLAINED
+    },
+    Case {
+        words: &["explain", "c", "lobby", "alice"],
+        status: 1,
+        printed: "",
+        told: "presence_bench: explain: NoSuchNode\n",
+        ..EXPLAINED
+    },
+    Case {
+        words: &["explain", "a", "the lobby", "alice"],
+        status: 1,
+        printed: "",
+        told: "presence_bench: explain: NoWord\n",
+        ..EXPLAINED
+    },
     Case {
         words: &["play", "--as", "session"],
         printed: SESSION,

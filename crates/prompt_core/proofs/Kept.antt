@@ -8,7 +8,7 @@ use Rattle.script_core.specs.Grammar.{Reading, with_line}
 use Rattle.script_core.specs.Prompts.{Prompt, answered, taken}
 use Rattle.script_core.specs.declared.fault.FaultKind.TheVariants.{TooLong}
 use Rattle.prompt_core.specs.declared.reading.TheConstants.{KEPT}
-use Rattle.prompt_core.specs.Answers.{answer, answer_by, fault_line, own_answer}
+use Rattle.prompt_core.specs.Answers.{answer, answer_by, fault_line, faulty, own_answer}
 use Rattle.prompt_core.specs.Ends.{kept}
 
 -- the answer to a line that is too long
@@ -28,7 +28,7 @@ other_word line word longer =
 
 told : (help : List ℕ) (prompt : Prompt) (number : ℕ) (line : List ℕ) → 4096 < length line →
     own_answer help prompt.machine number line TooLong ≡ fault_line number TooLong
-unfolding own_answer
+unfolding own_answer faulty
 told help prompt number line long =
     rw (other_word line (codes ":help") (omega arith), other_word line (codes ":save") (omega arith)) refl
 

@@ -2,4 +2,5 @@ pub mod Kept
 pub mod Pieces
 pub mod Printed
 pub mod Taken
+pub mod Texts
 pub mod Turns

@@ -1,13 +1,17 @@
 -- What is printed of each line at a prompt.
-use Rattle.std.specs.Prelude.{ℕ, ◌+◌, List, [], ◌∷◌, ◌++◌, codes, decimal, if◌then◌else◌, Option, Some, None, Result, Ok, Err}
+use Rattle.std.specs.Prelude.{ℕ, ◌+◌, ◌&&◌, Bool, true, false, List, [], ◌∷◌, ◌++◌, codes, decimal, if◌then◌else◌, Option, Some, None, Result, Ok, Err}
 use Rattle.std.specs.Str.{bytes_eq}
 use Rattle.serde_json.specs.Written.{compact_text}
+use Rattle.payload_core.specs.Words.{is_word}
 use Rattle.bench_core.specs.Machine.{Machine}
+use Rattle.bench_core.specs.NameList.{Texts, number_in}
 use Rattle.script_core.specs.Prompts.{Prompt, taken}
+use Rattle.script_core.specs.Words.{words_of}
 use Rattle.script_core.specs.declared.fault.FaultKind.{FaultKind}
 use Rattle.script_core.specs.declared.fault.FaultKind.TheVariants.{NotText, TooLong, NoNodes, Twice, UnknownWord, WrongCount, NotAllowed, BadNumber}
 use Rattle.script_core.specs.declared.fault.FaultKind.TheVariants.{BadName, OutOfMemory}
 use Rattle.session_core.specs.Format.{session}
+use Rattle.explain_core.specs.Explanations.{explanation}
 
 unfoldable pub kind_name : FaultKind → List ℕ
 kind_name NotText = codes "NotText"
@@ -29,12 +33,39 @@ abbrev pub saved : ℕ → Option Machine → List ℕ
 saved number None = fault_line number NoNodes
 saved number (Some m) = compact_text (session 2 m.names m.limits m.state.history) ++ codes "\n"
 
+-- the explanation at a node, or what is wrong with its name and the two texts, as in a line of a script
+abbrev pub explained_at : ℕ → Machine → Option ℕ → List ℕ → List ℕ → List ℕ
+explained_at number m None topic key = fault_line number BadName
+explained_at number m (Some node) topic key =
+    if is_word topic && is_word key then explanation m node topic key else fault_line number TooLong
+
+-- what the words behind `:explain` ask for, once the nodes are named
+unfoldable pub explained : ℕ → Option Machine → Texts → List ℕ
+explained number None words = fault_line number NoNodes
+explained number (Some m) (node ∷ topic ∷ key ∷ []) = explained_at number m (number_in m.names node) topic key
+explained number (Some m) words = fault_line number WrongCount
+
+-- the answer to the words of a line of which a script doesn't know the first
+unfoldable pub worded : ℕ → Option Machine → Texts → List ℕ
+worded number machine [] = fault_line number UnknownWord
+worded number machine (first ∷ words) =
+    if bytes_eq first (codes ":explain") then explained number machine words else fault_line number UnknownWord
+
+abbrev pub is_unknown : FaultKind → Bool
+is_unknown UnknownWord = true
+is_unknown _ = false
+
+-- the answer to a line that has this fault in a script
+unfoldable pub faulty : ℕ → Option Machine → List ℕ → FaultKind → List ℕ
+faulty number machine line kind =
+    if is_unknown kind then worded number machine (words_of line) else fault_line number kind
+
 -- the answer to a line that is none of a script, which has this fault there: one of the prompt's own, or the fault
 unfoldable pub own_answer : List ℕ → Option Machine → ℕ → List ℕ → FaultKind → List ℕ
 own_answer help machine number line kind =
     if bytes_eq line (codes ":help") then help ++ codes "\n"
     else (if bytes_eq line (codes ":save") then saved number machine
-    else fault_line number kind)
+    else faulty number machine line kind)
 
 abbrev pub answer_by : List ℕ → Prompt → ℕ → List ℕ → Result (Prompt × List ℕ) FaultKind → Prompt × List ℕ
 answer_by help prompt number line (Ok next) = next

@@ -1,7 +1,11 @@
 //! The answers to lines that are none of a script.
-ghost use Rattle.std.specs.Prelude.{◌≡◌, ◌++◌, OnOk};
-ghost use Rattle.prompt_core.specs.Answers.{fault_line, kind_name, own_answer, saved};
+ghost use Rattle.std.specs.Prelude.{◌≡◌, ◌++◌, IfOk, OnOk, map, true};
+ghost use Rattle.bench_core.specs.NameList.{number_in};
+ghost use Rattle.script_core.specs.Words.{is_text, words_of};
+ghost use Rattle.prompt_core.specs.Answers.{explained, explained_at, fault_line, faulty, is_unknown, kind_name, own_answer, saved, worded};
 
+use bench_core::Bench;
+use explain_core::{AskFault, Question, explain_asked};
 use payload_core::Oom;
 use script_core::{FaultKind, Prompt};
 use session_core::save;
@@ -64,6 +68,104 @@ fn put_saved<'a, B: Allocator>(
     put_text(answer, "\n")
 }
 
+/// The explanation that is asked for, or what is wrong with the question.
+fn put_explanation<'a, B: Allocator>(
+    alloc: &'a B,
+    answer: &mut Vec<u8, &'a B>,
+    bench: &Bench<'a, B>,
+    number: u64,
+    question: Question<'_>,
+) -> Result<(), Oom>
+    ensures { OnOk result (answer.new.items ≡ answer.old.items ++
+        explained_at number bench.now (number_in bench.now.names question.entry.node.now) question.entry.topic.now question.entry.key.now) }
+{
+    match explain_asked(alloc, bench, question) {
+        Ok(text) => put_text(answer, text.as_str()),
+        Err(AskFault::NoSuchNode) => put_fault(alloc, answer, number, FaultKind::BadName),
+        Err(AskFault::NoWord) => put_fault(alloc, answer, number, FaultKind::TooLong),
+        Err(AskFault::OutOfMemory) => Err(Oom),
+    }
+}
+
+/// What the words behind `:explain` ask for, once the nodes are named.
+#[tactic(auto, unfolding(crate::specs::Answers::explained))]
+fn put_explained<'a, B: Allocator>(
+    alloc: &'a B,
+    answer: &mut Vec<u8, &'a B>,
+    prompt: &Prompt<'a, B>,
+    number: u64,
+    words: &[&str],
+) -> Result<(), Oom>
+    ensures { OnOk result (answer.new.items ≡ answer.old.items ++ explained number prompt.now.machine (map (λ word. word.now) words.now)) }
+{
+    let Some(bench) = prompt.bench() else {
+        return put_fault(alloc, answer, number, FaultKind::NoNodes);
+    };
+    let [node, topic, key] = words else {
+        return put_fault(alloc, answer, number, FaultKind::WrongCount);
+    };
+    let question = Question { node, topic, key };
+    put_explanation(alloc, answer, bench, number, question)
+}
+
+/// The answer to the words of a line of which a script doesn't know the first.
+#[tactic(auto, unfolding(crate::specs::Answers::worded))]
+fn put_worded<'a, B: Allocator>(
+    alloc: &'a B,
+    answer: &mut Vec<u8, &'a B>,
+    prompt: &Prompt<'a, B>,
+    number: u64,
+    words: &[&str],
+) -> Result<(), Oom>
+    ensures { OnOk result (answer.new.items ≡ answer.old.items ++ worded number prompt.now.machine (map (λ word. word.now) words.now)) }
+{
+    let [first, rest @ ..] = words else {
+        return put_fault(alloc, answer, number, FaultKind::UnknownWord);
+    };
+    if *first != ":explain" {
+        return put_fault(alloc, answer, number, FaultKind::UnknownWord);
+    }
+    put_explained(alloc, answer, prompt, number, rest)
+}
+
+/// The runs of bytes other than space.
+fn words_of<A: Allocator>(alloc: A, line: &str) -> Result<Vec<&str, A>, Oom>
+    ensures { IfOk result (λ words. map (λ word. word.now) words.items ≡ words_of line.now) }
+{
+    line.split(' ')
+        .filter(|word| !word.is_empty())
+        .collect(alloc)
+}
+
+fn is_unknown(kind: FaultKind) -> bool
+    ensures { result ≡ is_unknown kind }
+{
+    matches!(kind, FaultKind::UnknownWord)
+}
+
+/// The answer to a line that has this fault in a script. Where a script doesn't know its first word, it is text.
+#[tactic(auto, unfolding(crate::specs::Answers::faulty))]
+fn put_faulty<'a, B: Allocator>(
+    alloc: &'a B,
+    answer: &mut Vec<u8, &'a B>,
+    prompt: &Prompt<'a, B>,
+    number: u64,
+    line: &[u8],
+    kind: FaultKind,
+) -> Result<(), Oom>
+    requires { is_unknown kind ≡ true → is_text line.now ≡ true }
+    ensures { OnOk result (answer.new.items ≡ answer.old.items ++ faulty number prompt.now.machine line.now kind) }
+{
+    if !is_unknown(kind) {
+        return put_fault(alloc, answer, number, kind);
+    }
+    let Ok(text) = str::from_utf8(line) else {
+        unreachable!()
+    };
+    let words = words_of(alloc, text)?;
+    put_worded(alloc, answer, prompt, number, &words)
+}
+
 /// The answer to a line that is none of a script, which has this fault there.
 #[tactic(auto, unfolding(crate::specs::Answers::own_answer))]
 pub fn put_own<'a, B: Allocator>(
@@ -76,6 +178,7 @@ pub fn put_own<'a, B: Allocator>(
     line: &[u8],
     kind: FaultKind,
 ) -> Result<(), Oom>
+    requires { is_unknown kind ≡ true → is_text line.now ≡ true }
     ensures { OnOk result (answer.new.items ≡ answer.old.items ++ own_answer help.now prompt.now.machine number line.now kind) }
 {
     if line == b":help".as_slice() {
@@ -85,5 +188,5 @@ pub fn put_own<'a, B: Allocator>(
     if line == b":save".as_slice() {
         return put_saved(heap, alloc, answer, prompt, number);
     }
-    put_fault(alloc, answer, number, kind)
+    put_faulty(alloc, answer, prompt, number, line, kind)
 }

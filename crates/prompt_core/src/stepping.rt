@@ -29,7 +29,8 @@ fn put_out<W: Write>(writer: &mut W, answer: &[u8]) -> Result<(), PromptFault>
 }
 
 /// Reads line by line to the end of the input, and answers each before the next is read. What a script has is done as in a
-/// script; `:help` prints this help, `:save` the session so far, and any other line its fault, which changes nothing.
+/// script; `:help` prints this help, `:save` the session so far, `:explain` with a node, a topic and a key the explanation of
+/// these, and any other line its fault, which changes nothing.
 pub fn step<B: Allocator, R: BufRead, W: Write>(
     heap: Global,
     alloc: &B,

@@ -8,9 +8,12 @@ use test_alloc::Refusing;
 const HELP: &str = "the lines";
 
 /// An input, and all that is printed of it.
-const CASES: [(&str, &str); 4] = [
+const CASES: [(&str, &str); 5] = [
     ("", ""),
-    (":help\n:save\n", "the lines\nline 2: NoNodes\n"),
+    (
+        ":help\n:save\n:explain a lobby alice\n",
+        "the lines\nline 2: NoNodes\nline 3: NoNodes\n",
+    ),
     (
         "nodes a b\na join 1 r alice phone\nc undo 1\nconsoles c\nc undo 1",
         "1 ok\n+ r alice a/1 phone\nline 3: UnknownWord\nundone 1\n- r alice a/1 phone\n",
@@ -18,6 +21,14 @@ const CASES: [(&str, &str); 4] = [
     (
         "nodes a\n\n:save\n:more\nshow a\n",
         "{\"acts\":[],\"limits\":[10,10,10,10],\"nodes\":[\"a\"],\"version\":2}\nline 4: UnknownWord\nonline a 0\n",
+    ),
+    (
+        "nodes a b\nb up a\na join 1 lobby alice phone\n:explain b lobby alice\n :explain  a lobby alice\n\
+:explain c lobby alice\n:explain b lobby\n:explain\nb:explain b lobby alice\n",
+        "1 ok\n2 ok\n+ lobby alice a/1 phone\n\
+explain b lobby alice 1\nmade 2 a join 1 lobby alice phone\nat b unsent\nstatus 1 b up a\n\
+explain a lobby alice 1\nmade 2 a join 1 lobby alice phone\nat a online\n\
+line 6: BadName\nline 7: WrongCount\nline 8: WrongCount\nline 9: UnknownWord\n",
     ),
 ];
 

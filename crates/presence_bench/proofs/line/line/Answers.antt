@@ -15,5 +15,6 @@ returns c =
     let third = c.in_ok-subcommand-3.ensures.shape c.in_ok-load.ensures.local ∙ ap₂ with_subcommand second (ap top c.in_ok-load.ensures.app) in
     let fourth = c.in_ok-subcommand-4.ensures.shape c.in_ok-explore.ensures.local ∙ ap₂ with_subcommand third (ap top c.in_ok-explore.ensures.app) in
     let fifth = c.in_ok-subcommand-5.ensures.shape c.step_line-step.ensures.local ∙ ap₂ with_subcommand fourth (ap top c.step_line-step.ensures.app) in
-    IfOk-weaker c.subcommand-6.result _ _
-    (λ r h. h.shape c.in_ok-draw.ensures.local ∙ ap₂ with_subcommand fifth (ap top c.in_ok-draw.ensures.app)) c.subcommand-6.ensures
+    let sixth = c.in_ok-subcommand-6.ensures.shape c.in_ok-draw.ensures.local ∙ ap₂ with_subcommand fifth (ap top c.in_ok-draw.ensures.app) in
+    IfOk-weaker c.subcommand-7.result _ _
+    (λ r h. h.shape c.in_ok-explain.ensures.local ∙ ap₂ with_subcommand sixth (ap top c.in_ok-explain.ensures.app)) c.subcommand-7.ensures

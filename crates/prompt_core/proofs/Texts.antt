@@ -1,0 +1,46 @@
+-- A line of which a script doesn't know the first word: that it is text, and the words behind `:explain`.
+use Rattle.std.proofs.Common.{◌≡◌, ◌≢◌, ℕ, ◌<◌, ◌≤◌, nat_lt, Bool, true, false, not, if◌then◌else◌, List, [], ◌∷◌, length, map, Option, Some, arith, slice_index_or, Bor, Result, Ok, Err, refl, ap}
+use Rattle.bench_core.specs.Machine.{Machine}
+use Rattle.bench_core.specs.NameList.{number_in}
+use Rattle.script_core.specs.Grammar.{Reading, with_line, with_words}
+use Rattle.script_core.specs.Prompts.{Prompt, answered, taken}
+use Rattle.script_core.specs.Words.{is_text, words_of}
+use Rattle.script_core.specs.declared.fault.FaultKind.{FaultKind}
+use Rattle.script_core.specs.declared.fault.FaultKind.TheVariants.{NotText, OutOfMemory, TooLong}
+use Rattle.prompt_core.specs.Answers.{explained, explained_at, is_unknown}
+
+of_line : (reading : Reading) (line : List ℕ) (long text : Bool) (kind : FaultKind) → is_text line ≡ text →
+    (if long then Err TooLong else (if not text then Err NotText else with_words reading 0 (words_of line))) ≡ Err kind → is_unknown kind ≡ true →
+    is_text line ≡ true
+of_line reading line true text kind is refused unknown = let same : TooLong ≡ kind = cc in absurd (cc (ap is_unknown same, unknown))
+of_line reading line false false kind is refused unknown = let same : NotText ≡ kind = cc in absurd (cc (ap is_unknown same, unknown))
+of_line reading line false true kind is refused unknown = is
+
+of_reading : (prompt : Prompt) (text : List ℕ) (read : Result Reading FaultKind) (kind : FaultKind) → answered prompt text read ≡ Err kind → read ≡ Err kind
+of_reading prompt text (Ok reading) kind refused = absurd (cc)
+of_reading prompt text (Err fault) kind refused = let same : fault ≡ kind = cc in ap Err same
+
+is_line_text : (prompt : Prompt) (text line : List ℕ) (kind : FaultKind) → taken prompt text line ≡ Err kind → is_unknown kind ≡ true → is_text line ≡ true
+unfolding taken with_line
+is_line_text prompt text line kind refused unknown =
+    let reading : Reading = record { cast = prompt.cast; lines = [] } in
+    of_line reading line (nat_lt 4096 (length line)) (is_text line) kind refl
+    (of_reading prompt text (with_line reading 0 line) kind refused) unknown
+
+-- so, by what is answered of it, want of memory apart
+pub is_own_text : (prompt : Prompt) (text line : List ℕ) (kind : FaultKind) → (kind ≢ OutOfMemory → taken prompt text line ≡ Err kind) →
+    is_unknown kind ≡ true → is_text line ≡ true
+is_own_text prompt text line kind refused unknown =
+    is_line_text prompt text line kind (refused (λ memory. let none : is_unknown kind ≡ false = ap is_unknown memory in cc (none, unknown))) unknown
+
+-- three words ask for the explanation at the first, of the other two
+pub three_words : (number : ℕ) (machine : Option Machine) (m : Machine) (words : List (Bor (List ℕ))) (d : Bor (List ℕ)) → Some m ≡ machine →
+    3 ≤ length words → length words < 4 →
+    explained_at number m (number_in m.names (slice_index_or words 0 d).now) (slice_index_or words 1 d).now (slice_index_or words 2 d).now
+    ≡ explained number machine (map (λ word. word.now) words)
+unfolding explained
+three_words number machine m [] d is least below = absurd (omega arith)
+three_words number machine m (a ∷ []) d is least below = absurd (omega arith)
+three_words number machine m (a ∷ b ∷ []) d is least below = absurd (omega arith)
+three_words number machine m (a ∷ b ∷ e ∷ []) d is least below = ap (λ (o : Option Machine). explained number o (a.now ∷ b.now ∷ e.now ∷ [])) is
+three_words number machine m (a ∷ b ∷ e ∷ f ∷ words) d is least below = absurd (omega arith)
