@@ -22,8 +22,8 @@ use Rattle.bench_core.specs.declared.reply.Reply.{Reply}
 use Rattle.bench_core.specs.declared.reply.Reply.TheVariants.{Taken, Undone, Refused}
 use Rattle.bench_core.proofs.Clusters.{stepped}
 use Rattle.bench_core.proofs.Runs.{runs_append}
-use Rattle.script_core.specs.Report.{after_act}
-use Rattle.script_core.specs.Shown.{node_in, node_of}
+use Rattle.report_core.specs.ActTexts.{after_act}
+use Rattle.report_core.specs.Shown.{node_in, node_of}
 use Rattle.explain_core.specs.Tracks.{after_step, opened}
 
 -- the machine was asked so many steps, all were taken, and they lead to this cluster

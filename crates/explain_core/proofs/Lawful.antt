@@ -8,7 +8,7 @@ use Rattle.dots_core.specs.declared.dot.Dot.{Dot}
 use Rattle.node_core.specs.Nodes.{Node}
 use Rattle.journal_core.specs.Journals.{Kept, source_at}
 use Rattle.bench_core.specs.Machine.{Machine}
-use Rattle.script_core.specs.Shown.{node_in, node_of}
+use Rattle.report_core.specs.Shown.{node_in, node_of}
 use Rattle.explain_core.specs.Standings.{is_above, is_same, outbox_of, standing_at, standing_of, standing_sent, standing_told}
 use Rattle.explain_core.specs.Tracks.{Track, is_sender, is_sent, track_of}
 use Rattle.explain_core.specs.Findings.{forgotten_or, is_forgotten_at, is_missed_at, is_sent_as, missed_or, missing, numbers_of, sent_or_not}

@@ -5,8 +5,8 @@ use Rattle.dots_core.specs.declared.dot.Dot.{Dot}
 use Rattle.journal_core.specs.Journals.{Kept, find_number}
 use Rattle.bench_core.specs.Machine.{Machine}
 use Rattle.bench_core.specs.NameList.{Texts}
-use Rattle.script_core.specs.Rows.{name_at}
-use Rattle.script_core.specs.StepText.{act_line}
+use Rattle.report_core.specs.Rows.{name_at}
+use Rattle.report_core.specs.StepText.{act_line}
 use Rattle.explain_core.specs.Standings.{is_same, standing_at}
 use Rattle.explain_core.specs.Tracks.{Track, stand_at, track_of}
 use Rattle.explain_core.specs.Makings.{makings_of}

@@ -6,7 +6,7 @@ use Rattle.node_core.specs.Operations.{Operation, Up, Down, Permdown}
 use Rattle.replica_core.specs.Replicas.{is_online}
 use Rattle.journal_core.specs.Journals.{Kept, is_number}
 use Rattle.bench_core.specs.Machine.{Machine}
-use Rattle.script_core.specs.Shown.{node_of}
+use Rattle.report_core.specs.Shown.{node_of}
 use Rattle.explain_core.specs.Standings.{is_above, is_same, standing_at}
 use Rattle.explain_core.specs.Tracks.{Track, is_sent, stand_at}
 use Rattle.explain_core.specs.declared.finding.Verdict.{Verdict}

@@ -7,7 +7,7 @@ use Rattle.node_core.specs.Nodes.{Node}
 use Rattle.node_core.specs.Operations.{Operation, Join, Update}
 use Rattle.journal_core.specs.Journals.{Kept}
 use Rattle.bench_core.specs.Machine.{Machine}
-use Rattle.script_core.specs.Shown.{node_of}
+use Rattle.report_core.specs.Shown.{node_of}
 use Rattle.explain_core.specs.Tracks.{after_step, opened}
 use Rattle.explain_core.specs.declared.making.Making.{Making}
 

@@ -8,7 +8,7 @@ use Rattle.payload_core.specs.Presences.{Entries, Presence}
 use Rattle.payload_core.specs.Messages.{Message, numbered}
 use Rattle.node_core.specs.Nodes.{Node}
 use Rattle.bench_core.specs.Machine.{Machine}
-use Rattle.script_core.specs.Shown.{node_of}
+use Rattle.report_core.specs.Shown.{node_of}
 use Rattle.explain_core.specs.declared.standing.Standing.{Standing}
 use Rattle.explain_core.specs.declared.standing.Standing.TheVariants.{Unseen, Live, Gone}
 

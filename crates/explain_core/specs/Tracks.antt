@@ -6,7 +6,7 @@ use Rattle.node_core.specs.Operations.{delivers, sends}
 use Rattle.journal_core.specs.Journals.{Kept}
 use Rattle.bench_core.specs.Acts.{Do}
 use Rattle.bench_core.specs.Machine.{Machine, opening_machine}
-use Rattle.script_core.specs.Report.{after_act}
+use Rattle.report_core.specs.ActTexts.{after_act}
 use Rattle.explain_core.specs.Standings.{is_above, is_same, last_message, standing_at, standing_sent}
 use Rattle.explain_core.specs.declared.hop.Hop.{Hop}
 use Rattle.explain_core.specs.declared.hop.Kind.{Kind}

@@ -10,7 +10,7 @@ use crate::tracking::track_of;
 use bench_core::{Bench, Kept, Names};
 use dots_core::Dot;
 use payload_core::{Oom, Word};
-use script_core::{name_at, put_act};
+use report_core::{name_at, put_act};
 use std::alloc::Allocator;
 
 impl Verdict {

@@ -174,7 +174,7 @@ pub fn missing<A: Allocator + Copy>(
 }
 
 /// Whether the node knows the name, and has it up.
-#[tactic(auto, unfolding(crate::specs::Findings::is_up_at, script_core::specs::Shown::node_of))]
+#[tactic(auto, unfolding(crate::specs::Findings::is_up_at, report_core::specs::Shown::node_of))]
 fn is_up_at<'a, B: Allocator>(bench: &Bench<'a, B>, node: u16, name: u16) -> bool
     ensures { result ≡ is_up_at bench.now node name }
 {

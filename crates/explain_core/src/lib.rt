@@ -1,6 +1,6 @@
 //! Why a presence is online at a node of a bench, and why not, told by the steps that remain.
 //!
-//! Stands on `script_core`, which prints steps, and names the plain types of the crates below. In the order to read them:
+//! Stands on `report_core`, which prints steps, and names the plain types of the crates below. In the order to read them:
 //! `standing`, how a dot stands at a node and in a message; `hop`, what a step did to a dot; `track`, how it came to stand as it
 //! does, step by step; `tracking`, the remaining steps asked again; `making`, the steps that made presences of a topic and key;
 //! `finding`, how a presence stands at a node, and why; `explaining`, the text; `asking`, one that is asked for by words,

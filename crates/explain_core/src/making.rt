@@ -17,7 +17,7 @@ pub struct Making {
 }
 
 /// The dot under which the node tracks the process, topic and key.
-#[tactic(auto, unfolding(crate::specs::Makings::tracked_dot, script_core::specs::Shown::node_of))]
+#[tactic(auto, unfolding(crate::specs::Makings::tracked_dot, report_core::specs::Shown::node_of))]
 fn tracked_dot<'a, B: Allocator>(
     bench: &Bench<'a, B>,
     node: u16,

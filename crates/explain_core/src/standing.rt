@@ -59,7 +59,7 @@ fn standing_in<A: Allocator>(seen: &DotSet<A>, entries: &EntrySet<A>, dot: Dot) 
 }
 
 /// At a node, as the remaining steps give it.
-#[tactic(auto, unfolding(crate::specs::Standings::standing_at, script_core::specs::Shown::node_of))]
+#[tactic(auto, unfolding(crate::specs::Standings::standing_at, report_core::specs::Shown::node_of))]
 pub fn standing_at<'a, B: Allocator>(bench: &Bench<'a, B>, node: u16, dot: Dot) -> Standing
     ensures { result ≡ standing_at bench.now node dot }
 {
@@ -71,7 +71,7 @@ pub fn standing_at<'a, B: Allocator>(bench: &Bench<'a, B>, node: u16, dot: Dot) 
 }
 
 /// In a message of a node.
-#[tactic(auto, unfolding(crate::specs::Standings::standing_sent, script_core::specs::Shown::node_of))]
+#[tactic(auto, unfolding(crate::specs::Standings::standing_sent, report_core::specs::Shown::node_of))]
 pub fn standing_sent<'a, B: Allocator>(
     bench: &Bench<'a, B>,
     node: u16,
@@ -90,7 +90,7 @@ pub fn standing_sent<'a, B: Allocator>(
 }
 
 /// The number of the last message of a node, 0 where it has none.
-#[tactic(auto, unfolding(crate::specs::Standings::last_message, script_core::specs::Shown::node_of))]
+#[tactic(auto, unfolding(crate::specs::Standings::last_message, report_core::specs::Shown::node_of))]
 pub fn last_message<'a, B: Allocator>(bench: &Bench<'a, B>, node: u16) -> u64
     ensures { result ≡ last_message bench.now node }
 {

@@ -18,7 +18,7 @@ pub fn opened<'a, B: Allocator>(alloc: &'a B, bench: &Bench<'a, B>) -> Result<Be
 }
 
 /// Asks a step of the bench.
-#[tactic(auto, unfolding(crate::specs::Tracks::after_step, script_core::specs::Report::after_act))]
+#[tactic(auto, unfolding(crate::specs::Tracks::after_step, report_core::specs::ActTexts::after_act))]
 pub fn ask<'a, B: Allocator>(asked: &mut Bench<'a, B>, kept: &Kept<&'a B>) -> Result<(), Oom>
     ensures { OnOk result (asked.new ≡ after_step asked.old kept.now) }
 {

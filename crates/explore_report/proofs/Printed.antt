@@ -3,9 +3,9 @@ use Rattle.std.proofs.Common.{◌≡◌, ◌∙◌, ℕ, ◌+◌, ◌<◌, ◌�
 use Rattle.std.proofs.lemmas.List.{at_drop_more, at_drop_all}
 use Rattle.std.proofs.lemmas.Grind.{flat_map-append}
 use Rattle.bench_core.specs.Machine.{Machine}
-use Rattle.script_core.specs.Casts.{Cast}
-use Rattle.script_core.specs.Rows.{online_text}
-use Rattle.script_core.specs.Shown.{rows_at}
+use Rattle.grammar_core.specs.Casts.{Cast}
+use Rattle.report_core.specs.Rows.{online_text}
+use Rattle.report_core.specs.Shown.{rows_at}
 use Rattle.explore_core.specs.Orders.{Call, Position}
 use Rattle.explore_report.specs.Grouped.{call_from, next_of, position_after, calls_from}
 use Rattle.explore_report.specs.OrderText.{call_text, calls_text}

@@ -4,8 +4,8 @@ use Rattle.std.specs.List.{AllByRecursion}
 use Rattle.bench_core.specs.Limits.{Limits}
 use Rattle.bench_core.specs.Machine.{opening_machine}
 use Rattle.bench_core.specs.NameList.{Texts}
-use Rattle.script_core.specs.Grammar.{with_calls}
-use Rattle.script_core.specs.Scripts.{Script}
+use Rattle.grammar_core.specs.Grammar.{with_calls}
+use Rattle.grammar_core.specs.Scripts.{Script}
 use Rattle.explore_core.specs.Orders.{Lists, Call, orders_of}
 use Rattle.explore_core.specs.Explorations.{Outcome, Told, IsExplored}
 use Rattle.explore_core.specs.Counts.{IsCounted, told_number}

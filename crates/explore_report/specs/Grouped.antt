@@ -1,8 +1,8 @@
 -- The calls of a script in lists, and those of an order.
 use Rattle.std.specs.Prelude.{◌≡◌, ℕ, zero, suc, ◌+◌, ◌-◌, ◌==◌, if◌then◌else◌, List, [], ◌∷◌, ◌++◌, length, map, slice_get, unwrap_or, option_map, Option, Some, None}
 use Rattle.std.specs.List.{flat_map}
-use Rattle.script_core.specs.Casts.{Cast}
-use Rattle.script_core.specs.Scripts.{Line}
+use Rattle.grammar_core.specs.Casts.{Cast}
+use Rattle.grammar_core.specs.Scripts.{Line}
 use Rattle.explore_core.specs.Orders.{Lists, Call, Pick, Position, asked_of, call_at, calls_in, one_more, start_of, lists_of, Leads}
 use Rattle.explore_core.specs.declared.reading.Reading.{Reading}
 use Rattle.explore_core.specs.declared.reading.Reading.TheVariants.{EveryOrder, Deliveries}

@@ -3,9 +3,9 @@ use Rattle.std.specs.Prelude.{ℕ, ◌-◌, nat_lt, if◌then◌else◌, List, [
 use Rattle.std.specs.List.{flat_map}
 use Rattle.bench_core.specs.Acts.{Action, Do, Undo, Back}
 use Rattle.bench_core.specs.NameList.{Texts}
-use Rattle.script_core.specs.Casts.{Cast}
-use Rattle.script_core.specs.Rows.{name_at}
-use Rattle.script_core.specs.StepText.{act_line}
+use Rattle.grammar_core.specs.Casts.{Cast}
+use Rattle.report_core.specs.Rows.{name_at}
+use Rattle.report_core.specs.StepText.{act_line}
 use Rattle.explore_core.specs.Orders.{Call}
 use Rattle.explore_report.specs.Grouped.{calls_of_order}
 

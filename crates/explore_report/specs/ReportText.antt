@@ -4,10 +4,10 @@ use Rattle.std.specs.List.{flat_map}
 use Rattle.bench_core.specs.declared.fault.Fault.{Fault}
 use Rattle.bench_core.specs.FaultText.{fault_text}
 use Rattle.bench_core.specs.Machine.{Machine}
-use Rattle.script_core.specs.Casts.{Cast}
-use Rattle.script_core.specs.Rows.{online_text}
-use Rattle.script_core.specs.Scripts.{Line, Script}
-use Rattle.script_core.specs.Shown.{rows_at}
+use Rattle.grammar_core.specs.Casts.{Cast}
+use Rattle.report_core.specs.Rows.{online_text}
+use Rattle.grammar_core.specs.Scripts.{Line, Script}
+use Rattle.report_core.specs.Shown.{rows_at}
 use Rattle.explore_core.specs.Orders.{Lists, Call}
 use Rattle.explore_core.specs.declared.reading.Reading.{Reading}
 use Rattle.explore_core.specs.declared.reading.Reading.TheVariants.{EveryOrder, Deliveries}

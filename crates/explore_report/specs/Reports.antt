@@ -3,9 +3,9 @@ use Rattle.std.specs.Prelude.{◌≡◌, ◌≢◌, ℕ, zero, suc, List, [], le
 use Rattle.std.specs.List.{AllByRecursion}
 use Rattle.bench_core.specs.Limits.{Limits}
 use Rattle.bench_core.specs.Machine.{opening_machine}
-use Rattle.script_core.specs.Grammar.{with_calls}
-use Rattle.script_core.specs.Scripts.{Script}
-use Rattle.script_core.specs.declared.fault.FaultKind.TheVariants as kinds
+use Rattle.grammar_core.specs.Grammar.{with_calls}
+use Rattle.grammar_core.specs.Scripts.{Script}
+use Rattle.grammar_core.specs.declared.fault.FaultKind.TheVariants as kinds
 use Rattle.explore_core.specs.Orders.{Call, orders_of}
 use Rattle.explore_core.specs.declared.explore_fault.ExploreFault.{ExploreFault}
 use Rattle.explore_core.specs.declared.explore_fault.ExploreFault.TheVariants as explores

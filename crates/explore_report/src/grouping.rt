@@ -1,14 +1,14 @@
 //! The calls of a script in lists, and where they stand in the script.
 ghost use Rattle.std.specs.Prelude.{◌≡◌, ◌++◌, ◌∷◌, [], IfOk, OnOk};
 ghost use Rattle.bench_core.specs.Acts.{plain_act, calls_of};
-ghost use Rattle.script_core.specs.Scripts.{plain_script};
+ghost use Rattle.grammar_core.specs.Scripts.{plain_script};
 ghost use Rattle.explore_core.specs.Orders.{plain_each, plain_lists};
 ghost use Rattle.explore_report.specs.Grouped.{call_by, calls_alone, calls_by, lists_below, lists_in, place_in, place_of, number_of};
 
 use bench_core::Act;
 use explore_core::Reading;
+use grammar_core::{Script, actors, line_number};
 use payload_core::Oom;
-use script_core::{Script, actors, line_number};
 use std::alloc::Allocator;
 
 /// Puts the call behind these, where it is this actor's.

@@ -1,15 +1,16 @@
 //! An order as a script that plays it, each line behind two spaces.
 ghost use Rattle.std.specs.Prelude.{◌≡◌, ◌++◌, ◌<◌, ◌^◌, ◌-◌, OnOk, IfOk, IfSome, map, option_map, replicate, string_bytes};
 ghost use Rattle.bench_core.specs.Acts.{plain_act};
-ghost use Rattle.script_core.specs.Rows.{name_at};
-ghost use Rattle.script_core.specs.Scripts.{plain_script};
+ghost use Rattle.report_core.specs.Rows.{name_at};
+ghost use Rattle.grammar_core.specs.Scripts.{plain_script};
 ghost use Rattle.explore_core.specs.Orders.{plain_each, asked_of, call_at, one_more};
 ghost use Rattle.explore_report.specs.Grouped.{call_from, next_of, position_after, calls_of_order};
 ghost use Rattle.explore_report.specs.OrderText.{actor_name, call_line, call_text, calls_text, spaced_names, consoles_text, cast_text, order_text};
 
 use bench_core::{Act, Names, TextSet};
+use grammar_core::{Script, console_names, node_names};
 use payload_core::Oom;
-use script_core::{Script, console_names, name_at, node_names, put_act};
+use report_core::{name_at, put_act};
 use std::alloc::Allocator;
 
 /// The text of a console's name, and nothing where there is no such console.

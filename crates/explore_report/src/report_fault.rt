@@ -2,8 +2,8 @@
 ghost use Rattle.std.specs.Prelude.{◌≡◌};
 
 use explore_core::ExploreFault;
+use grammar_core::ScriptFault;
 use payload_core::Oom;
-use script_core::ScriptFault;
 use thiserror::Error;
 
 /// Why what all orders of a script's lines lead to isn't told.

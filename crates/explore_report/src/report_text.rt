@@ -1,7 +1,7 @@
 //! The text of what all orders of a script's lines lead to.
 ghost use Rattle.std.specs.Prelude.{◌≡◌, ◌++◌, ◌∷◌, [], IfOk, OnOk, length, string_bytes};
 ghost use Rattle.bench_core.specs.Acts.{calls_of};
-ghost use Rattle.script_core.specs.Scripts.{plain_script};
+ghost use Rattle.grammar_core.specs.Scripts.{plain_script};
 ghost use Rattle.explore_core.specs.Orders.{plain_each, plain_lists};
 ghost use Rattle.explore_report.specs.OrderText.{order_text};
 ghost use Rattle.explore_report.specs.ReportText.{number_text, online_below, outcome_line, outcome_text, outcomes_text, fault_line, refused_line, refusal_text, refusals_text, orders_text, counts_line, agreed_text, text_of_all};
@@ -10,8 +10,9 @@ use crate::grouping::number_of;
 use crate::order_text::put_order;
 use bench_core::{Act, Bench, Fault};
 use explore_core::{Explored, Outcome, Reading, Refusal};
+use grammar_core::Script;
 use payload_core::Oom;
-use script_core::{Script, show};
+use report_core::show;
 use std::alloc::Allocator;
 
 /// The script whose orders are told: its calls, how their orders are read, and the lists for that.

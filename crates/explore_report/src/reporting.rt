@@ -2,8 +2,8 @@
 ghost use Rattle.std.specs.Prelude.{◌≡◌, ℕ, ◌<◌, ◌^◌, [], Ok, IfOk, IfErr, length, option_map};
 ghost use Rattle.bench_core.specs.Acts.{calls_of};
 ghost use Rattle.bench_core.specs.Limits.{Limits as Four};
-ghost use Rattle.script_core.specs.Grammar.{with_calls};
-ghost use Rattle.script_core.specs.Scripts.{plain_script};
+ghost use Rattle.grammar_core.specs.Grammar.{with_calls};
+ghost use Rattle.grammar_core.specs.Scripts.{plain_script};
 ghost use Rattle.explore_core.specs.Orders.{plain_lists};
 ghost use Rattle.explore_report.specs.Grouped.{lists_in};
 ghost use Rattle.explore_core.specs.declared.reading.Reading.{Reading as Read};
@@ -15,7 +15,7 @@ use crate::report_fault::ReportFault;
 use crate::report_text::{Page, script_of, text_of};
 use bench_core::{Act, Limits};
 use explore_core::{Explored, Outcome, Reading, explore};
-use script_core::{FaultKind, Script, acts, node_names};
+use grammar_core::{FaultKind, Script, acts, node_names};
 use std::alloc::Allocator;
 
 /// The calls of the script's act lines.

@@ -5,7 +5,6 @@ use Rattle.std.proofs.Math.Facts.{and_yes, yes_and}
 use Rattle.std.specs.List.{slice_get, insert, remove, AllWithin}
 use Rattle.std.specs.List.{find as list_find}
 use Rattle.std.proofs.lemmas.List.{length-map}
-use Rattle.std.proofs.lemmas.Option.{slice_get_read}
 use Rattle.std.specs.List.Sorted.{IsBinarySearchResult, IsSearchInRange}
 use Rattle.std.specs.Option.{option_map}
 use Rattle.std.specs.Ordering.{is_lt, is_eq, ordering_reverse}

@@ -1,20 +1,19 @@
 -- A search in a list of entries in pieces.
-use Rattle.std.proofs.Common.{◌≡◌, ◌≤◌, ◌<◌, ◌+◌, ◌-◌, ℕ, zero, suc, Bool, true, false, T, List, [], ◌∷◌, ◌++◌, length, take, drop, get_or, slice_get, Option, Some, None}
-use Rattle.std.proofs.Common.{Result, Ok, Err, Ordering, Less, Equal, Greater, refl, sym, ap, subst, ◌∙◌, arith}
+use Rattle.std.proofs.Common.{◌≡◌, ◌≤◌, ◌<◌, ◌+◌, ◌-◌, ℕ, zero, suc, true, false, T, List, [], ◌∷◌, ◌++◌, length, take, drop, get_or, slice_get, Some}
+use Rattle.std.proofs.Common.{Ok, Err, Ordering, Less, Equal, Greater, refl, sym, ap, subst, ◌∙◌, arith}
 use Rattle.std.proofs.Math.Facts.{and_yes, yes_and}
-use Rattle.std.specs.List.{AllByRecursion, AllWithin}
-use Rattle.std.specs.List.Sorted.{IsPartitionedBy, IsPartitionPoint}
-use Rattle.std.specs.Ordering.{is_lt, ordering_reverse}
-use Rattle.std.specs.FinMap.Entries.{below_all, by_order, is_sorted}
-use Rattle.std.proofs.lemmas.List.{length-append}
+use Rattle.std.specs.List.{AllByRecursion}
+use Rattle.std.specs.List.Sorted.{IsPartitionedBy}
+use Rattle.std.specs.Ordering.{is_lt}
+use Rattle.std.specs.FinMap.Entries.{below_all, by_order}
 use Rattle.dots_core.specs.declared.dot.Dot.{Dot}
 use Rattle.dots_core.specs.Dots.{dot_cmp}
 use Rattle.dots_core.proofs.Order.{dot_total, less}
-use Rattle.payload_core.specs.Presences.{Entry, Presence}
+use Rattle.payload_core.specs.Presences.{Entry}
 use Rattle.payload_core.specs.EntryLists.{pairs, Rises, one_later, spot}
 use Rattle.payload_core.specs.Pieces.{IsFilled, IsPassed, ends_below, is_entry_below, joined}
 use Rattle.payload_core.proofs.EntryLists.{at_equal, at_greater, at_less, later_err, later_ok, turned}
-use Rattle.payload_core.proofs.Pieces.{at_read, joined-around, some_at}
+use Rattle.payload_core.proofs.Pieces.{at_read, joined-around}
 
 -- parts of a list that rises
 

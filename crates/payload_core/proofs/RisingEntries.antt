@@ -1,5 +1,5 @@
 -- Edits of a list of entries that rises by dot, as edits of the map of its presences.
-use Rattle.std.proofs.Common.{◌≡◌, ℕ, List, Option, Some, None, Result, Ok, Err, slice_get, insert, true, false, refl, sym, ap, subst, ◌∙◌}
+use Rattle.std.proofs.Common.{◌≡◌, ℕ, List, None, Result, Ok, Err, insert, refl, sym, ap, ◌∙◌}
 use Rattle.std.specs.Result.{IsErr}
 use Rattle.std.specs.FinMap as fin
 use Rattle.std.specs.Option.{option_map}
@@ -7,7 +7,7 @@ use Rattle.dots_core.specs.declared.dot.Dot.{Dot}
 use Rattle.payload_core.specs.Presences.{Entry, entry_of, presence_of}
 use Rattle.payload_core.specs.EntryLists.{Rises, entries_of, spot}
 use Rattle.payload_core.specs.RisingEntries.{entry_in, entry_where, place_of, with, without, without_where}
-use Rattle.payload_core.proofs.EntryLists.{Rises-insert, Rises-remove, entries_of-insert, entries_of-remove, found_at, get-entries_of, get_missing, present, remove_missing, missing_at}
+use Rattle.payload_core.proofs.EntryLists.{Rises-insert, Rises-remove, entries_of-insert, entries_of-remove, found_at, get-entries_of, get_missing, present, remove_missing}
 
 pub without-rises : (es : List Entry) (d : Dot) → Rises es → Rises (without es d)
 without-rises es d h = go (spot d es)

@@ -4,8 +4,6 @@ use Rattle.std.specs.Option.{option_map}
 use Rattle.std.specs.FinMap as fin
 use Rattle.std.specs.FinSet as set
 use Rattle.dots_core.specs.declared.dot.Dot.{Dot}
-use Rattle.dots_core.specs.Dots.{Dots}
-use Rattle.dots_core.proofs.Sets.{contains_insert_other}
 use Rattle.payload_core.specs.Presences.{Presence, Entry, Entries, entry_of}
 use Rattle.payload_core.proofs.EntryMaps.{get_insert_other, get_removed}
 use Rattle.payload_core.specs.Stores.{Store, with_dot, with_entry, with_removal, without, without_entry}

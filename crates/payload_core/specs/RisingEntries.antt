@@ -1,5 +1,5 @@
 -- What a contract sees of a list of entries that rises by dot, and edits of it by dot.
-use Rattle.std.specs.Prelude.{◌≡◌, ◌==◌, ◌&&◌, ℕ, List, [], ◌∷◌, ◌++◌, Option, None, Result, Ok, Err, filter, insert, map, remove, slice_get, refl}
+use Rattle.std.specs.Prelude.{◌==◌, ◌&&◌, ℕ, List, Option, None, Result, Ok, Err, filter, insert, map, remove, slice_get, refl}
 use Rattle.std.specs.Coded.{Coded, code_by, coded×, coded_list, coded_ℕ}
 use Rattle.dots_core.specs.declared.dot.Dot.{Dot}
 use Rattle.payload_core.specs.Presences.{Entry}

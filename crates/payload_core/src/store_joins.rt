@@ -1,5 +1,5 @@
 //! A join of a store and its delta, and the join taken back.
-ghost use Rattle.std.specs.Prelude.{◌≡◌, ◌≤◌, None, OnErr, OnOk};
+ghost use Rattle.std.specs.Prelude.{◌≡◌, ◌<◌, ◌≤◌, IfOk, None, OnErr, OnOk};
 ghost use Rattle.std.specs.FinMap as fin;
 ghost use Rattle.std.specs.FinSet as set;
 ghost use Rattle.dots_core.specs.Contexts.{IsLast, IsNext};
@@ -28,17 +28,37 @@ pub fn join<A: Allocator + Copy>(
     ensures store_stays { OnErr result (store.new ≡ store.old) }
     ensures delta_stays { OnErr result (delta.new ≡ delta.old) }
 {
-    let copy = entry.try_copy()?;
-    make_ready(
+    let copy = ready_copy(
         &mut store.entries,
         &mut delta.entries,
         &mut delta.seen,
-        entry.dot,
+        &entry,
     )?;
     store.seen.insert(entry.dot).unwrap();
-    store.entries.insert(entry).unwrap();
-    delta.entries.insert(copy).unwrap();
+    put(&mut store.entries, entry);
+    put(&mut delta.entries, copy);
     Ok(())
+}
+
+/// A copy of the entry, once there is room for one more in both, and its dot is put in.
+fn ready_copy<A: Allocator + Copy>(
+    entries: &mut EntrySet<A>,
+    delta_entries: &mut EntrySet<A>,
+    delta_seen: &mut DotSet<A>,
+    entry: &Entry<A>,
+) -> Result<Entry<A>, Oom>
+    requires { IsValid entry.now.dot }
+    ensures copy { IfOk result (λ copy. copy ≡ entry.now) }
+    ensures entries { entries.new.map ≡ entries.old.map }
+    ensures delta_entries { delta_entries.new.map ≡ delta_entries.old.map }
+    ensures room { OnOk result (0 < entries.new.room) }
+    ensures delta_room { OnOk result (0 < delta_entries.new.room) }
+    ensures seen { OnOk result (delta_seen.new ≡ set.insert delta_seen.old entry.now.dot) }
+    ensures seen_stay { OnErr result (delta_seen.new ≡ delta_seen.old) }
+{
+    let copy = entry.try_copy()?;
+    make_ready(entries, delta_entries, delta_seen, entry.dot)?;
+    Ok(copy)
 }
 
 /// Makes room for one more entry in both, and then puts the dot in.
@@ -51,8 +71,8 @@ fn make_ready<A: Allocator + Copy>(
     requires { IsValid dot }
     ensures entries { entries.new.map ≡ entries.old.map }
     ensures delta_entries { delta_entries.new.map ≡ delta_entries.old.map }
-    ensures room { OnOk result (1 ≤ entries.new.room) }
-    ensures delta_room { OnOk result (1 ≤ delta_entries.new.room) }
+    ensures room { OnOk result (0 < entries.new.room) }
+    ensures delta_room { OnOk result (0 < delta_entries.new.room) }
     ensures seen { OnOk result (delta_seen.new ≡ set.insert delta_seen.old dot) }
     ensures seen_stay { OnErr result (delta_seen.new ≡ delta_seen.old) }
 {
@@ -60,6 +80,15 @@ fn make_ready<A: Allocator + Copy>(
     delta_entries.make_room(1)?;
     delta_seen.insert(dot)?;
     Ok(())
+}
+
+/// Puts a new entry in for which room was made.
+fn put<A: Allocator + Copy>(entries: &mut EntrySet<A>, entry: Entry<A>)
+    requires new { fin.get entries.old.map entry.dot ≡ None }
+    requires room { 0 < entries.old.room }
+    ensures { entries.new.map ≡ fin.insert entries.old.map entry.dot (presence_of entry) }
+{
+    entries.insert(entry).unwrap();
 }
 
 /// Takes the last dot of its name, and its entry, out of the store and the delta. It takes no memory.

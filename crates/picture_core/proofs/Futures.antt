@@ -3,7 +3,7 @@ use Rattle.std.proofs.Common.{◌≡◌, ℕ, List, [], sym, ap, ◌∙◌, None
 use Rattle.bench_core.specs.Machine.{State}
 use Rattle.journal_core.specs.Gathering.{gathered_numbers}
 use Rattle.journal_core.specs.Journals.{Kept, find_number}
-use Rattle.script_core.specs.Report.{unless_none, unwound}
+use Rattle.report_core.specs.ActTexts.{unless_none, unwound}
 
 pub whole_future : (s : State) (n : ℕ) (numbers : List ℕ) → ((k : Kept) × (find_number s.remaining n ≡ Some k)) →
     numbers ≡ gathered_numbers s.remaining n → numbers ≡ unwound s n

@@ -5,7 +5,7 @@ use Rattle.std.proofs.lemmas.List.{at_drop_more, at_drop_all}
 use Rattle.std.proofs.lemmas.Option.{get_or_from_slice_get}
 use Rattle.bench_core.specs.Machine.{Event, Machine}
 use Rattle.journal_core.specs.Journals.{Kept}
-use Rattle.script_core.specs.Report.{after_act}
+use Rattle.report_core.specs.ActTexts.{after_act}
 use Rattle.svg_core.specs.Trees.{Tree, Nothing, beside, text_of}
 use Rattle.picture_core.specs.Steps.{arrow_of, arrows_from, mark_of, marks_from, title_of}
 use Rattle.picture_core.proofs.Texts.{beside_text, nothing_text}

@@ -3,7 +3,7 @@ use Rattle.std.proofs.Common.{◌≡◌, ℕ, ◌+◌, ◌<◌, ◌≤◌, List,
 use Rattle.std.proofs.lemmas.List.{at_drop_more, at_drop_all}
 use Rattle.std.proofs.lemmas.Option.{unwrap_or-slice_get}
 use Rattle.bench_core.specs.NameList.{Texts}
-use Rattle.script_core.specs.Rows.{name_at}
+use Rattle.report_core.specs.Rows.{name_at}
 use Rattle.svg_core.specs.Trees.{text_of}
 use Rattle.picture_core.specs.Shapes.{lane}
 use Rattle.picture_core.specs.Steps.{lanes_from}

@@ -7,7 +7,7 @@ use Rattle.bench_core.specs.declared.reply.Reply.{Reply}
 use Rattle.bench_core.specs.declared.reply.Reply.TheVariants.{Taken, Undone, Refused}
 use Rattle.journal_core.specs.Journals.{Kept, sender_of}
 use Rattle.node_core.specs.Operations.{delivers}
-use Rattle.script_core.specs.Report.{after_act}
+use Rattle.report_core.specs.ActTexts.{after_act}
 use Rattle.svg_core.specs.Trees.{Nothing, beside, is_named}
 use Rattle.svg_core.proofs.Beside.{named_beside}
 use Rattle.picture_core.specs.Standings.{standing_of, verb_of}

@@ -4,7 +4,7 @@ use Rattle.std.specs.List.{list_any}
 use Rattle.node_core.specs.Operations.{Operation, Join, Leave, LeaveAll, Update, Broadcast, Extract, Deliver, Request, Answer, Up, Down, Permdown}
 use Rattle.journal_core.specs.Journals.{Kept, find_number}
 use Rattle.bench_core.specs.Machine.{State}
-use Rattle.script_core.specs.Report.{unwound}
+use Rattle.report_core.specs.ActTexts.{unwound}
 use Rattle.picture_core.specs.declared.standing.Standing.{Standing}
 use Rattle.picture_core.specs.declared.standing.Standing.TheVariants.{Remains, Painted, Undone}
 

@@ -7,8 +7,8 @@ use Rattle.bench_core.specs.Machine.{Event, Machine}
 use Rattle.bench_core.specs.declared.reply.Reply.{Reply}
 use Rattle.bench_core.specs.declared.reply.Reply.TheVariants.{Taken, Undone, Refused}
 use Rattle.bench_core.specs.NameList.{Texts}
-use Rattle.script_core.specs.Report.{act_text, after_act}
-use Rattle.script_core.specs.StepText.{act_line}
+use Rattle.report_core.specs.ActTexts.{act_text, after_act}
+use Rattle.report_core.specs.StepText.{act_line}
 use Rattle.svg_core.specs.Trees.{Tree, Nothing, beside}
 use Rattle.picture_core.specs.Standings.{standing_of, verb_of}
 use Rattle.picture_core.specs.Shapes.{arrow, lane, mark}

@@ -1,7 +1,7 @@
 //! The arrows and the marks of all recorded calls.
 ghost use Rattle.std.specs.Prelude.{◌≡◌, ◌++◌, IfOk, OnOk, string_bytes};
 ghost use Rattle.journal_core.specs.Holdings.{kepts};
-ghost use Rattle.script_core.specs.Report.{after_act};
+ghost use Rattle.report_core.specs.ActTexts.{after_act};
 ghost use Rattle.svg_core.specs.Trees.{text_of};
 ghost use Rattle.picture_core.specs.Steps.{arrow_of, arrows_from, mark_of, marks_from, title_of};
 ghost use Rattle.picture_core.specs.Pictures.{arrows, marks};

@@ -2,10 +2,10 @@
 ghost use Rattle.std.specs.Prelude.{◌≡◌, ◌++◌, IfOk, OnOk, string_bytes, codes, length};
 ghost use Rattle.svg_core.specs.Grammar.{IsDocument};
 ghost use Rattle.bench_core.specs.Machine.{given};
-ghost use Rattle.script_core.specs.Report.{unwound};
+ghost use Rattle.report_core.specs.ActTexts.{unwound};
 ghost use Rattle.svg_core.specs.Trees.{opening_text, text_of};
 ghost use Rattle.picture_core.specs.Standings.{painted_of};
-ghost use Rattle.script_core.specs.Rows.{name_at};
+ghost use Rattle.report_core.specs.Rows.{name_at};
 ghost use Rattle.picture_core.specs.Shapes.{lane};
 ghost use Rattle.picture_core.specs.Steps.{lanes_from};
 ghost use Rattle.picture_core.specs.Pictures.{front, ground, head, margin, picture, size, style, text_around};
@@ -184,7 +184,7 @@ fn put_picture<'a, A: Allocator, B: Allocator>(
 }
 
 /// The steps that the undo of a step would take back with it, if it remains.
-#[tactic(auto, using(crate::proofs::Futures::whole_future, crate::proofs::Futures::no_future), unfolding(script_core::specs::Report::unwound))]
+#[tactic(auto, using(crate::proofs::Futures::whole_future, crate::proofs::Futures::no_future), unfolding(report_core::specs::ActTexts::unwound))]
 fn future_of<'a, B: Allocator>(
     alloc: &'a B,
     bench: &Bench<'a, B>,

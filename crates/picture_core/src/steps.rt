@@ -3,7 +3,7 @@ ghost use Rattle.std.specs.Prelude.{◌≡◌, ◌++◌, IfOk, OnOk, string_byte
 ghost use Rattle.node_core.specs.Operations.{plain};
 ghost use Rattle.journal_core.specs.Holdings.{kepts};
 ghost use Rattle.bench_core.specs.Acts.{plain_act};
-ghost use Rattle.script_core.specs.Report.{after_act};
+ghost use Rattle.report_core.specs.ActTexts.{after_act};
 ghost use Rattle.svg_core.specs.Trees.{text_of};
 ghost use Rattle.picture_core.specs.Steps.{arrow_of, arrow_to, line_of, mark_of, title_of};
 
@@ -13,7 +13,7 @@ use crate::standing::{Standing, standing_of};
 use crate::verb::verb_of;
 use bench_core::{Act, Bench, Event, Journal, Names, Reply, Step};
 use payload_core::Oom;
-use script_core::{act, put_act};
+use report_core::{act, put_act};
 use std::alloc::Allocator;
 
 /// The arrow to a step, before which these steps remained.

@@ -8,7 +8,7 @@ use Rattle.std.proofs.lemmas.List.Elements.{All-cons, All-head, All-nil, All-tai
 use Rattle.std.specs.List.{All, onto_first}
 use Rattle.std.specs.Io.{StopsAt}
 use Rattle.std.specs.Io.BufRead.{drop_through, ends_with_byte, first_piece, strip_last, take_through}
-use Rattle.script_core.specs.Words.{lines_of}
+use Rattle.grammar_core.specs.Words.{lines_of}
 
 -- another byte in front does not change whether the last one is stripped
 

@@ -3,11 +3,11 @@ use Rattle.std.proofs.Common.{◌≡◌, ℕ, ◌+◌, List, [], ◌∷◌, ◌+
 use Rattle.payload_core.specs.Answers.{◌>>=◌}
 use Rattle.bench_core.specs.Limits.{Limits}
 use Rattle.bench_core.specs.Machine.{Machine}
-use Rattle.script_core.specs.declared.fault.FaultKind.{FaultKind}
-use Rattle.script_core.specs.Casts.{Cast}
-use Rattle.script_core.specs.Scripts.{Command, Script}
-use Rattle.script_core.specs.Words.{lines_of}
-use Rattle.script_core.specs.Grammar.{Reading, script_of, with_line, with_words}
+use Rattle.grammar_core.specs.declared.fault.FaultKind.{FaultKind}
+use Rattle.grammar_core.specs.Casts.{Cast}
+use Rattle.grammar_core.specs.Scripts.{Command, Script}
+use Rattle.grammar_core.specs.Words.{lines_of}
+use Rattle.grammar_core.specs.Grammar.{Reading, script_of, with_line, with_words}
 use Rattle.std.specs.Io.BufRead.{drop_through, first_piece}
 use Rattle.prompt_core.proofs.Pieces.{IsSplit, More, Last, split}
 use Rattle.script_core.specs.Prompts.{Prompt, PromptLaw, all_taken, answered, asked, new_prompt, opened, taken}

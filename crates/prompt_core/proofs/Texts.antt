@@ -2,11 +2,11 @@
 use Rattle.std.proofs.Common.{◌≡◌, ◌≢◌, ℕ, ◌<◌, ◌≤◌, nat_lt, Bool, true, false, not, if◌then◌else◌, List, [], ◌∷◌, length, map, Option, Some, arith, slice_index_or, Bor, Result, Ok, Err, refl, ap}
 use Rattle.bench_core.specs.Machine.{Machine}
 use Rattle.bench_core.specs.NameList.{number_in}
-use Rattle.script_core.specs.Grammar.{Reading, with_line, with_words}
+use Rattle.grammar_core.specs.Grammar.{Reading, with_line, with_words}
 use Rattle.script_core.specs.Prompts.{Prompt, answered, taken}
-use Rattle.script_core.specs.Words.{is_text, words_of}
-use Rattle.script_core.specs.declared.fault.FaultKind.{FaultKind}
-use Rattle.script_core.specs.declared.fault.FaultKind.TheVariants.{NotText, OutOfMemory, TooLong}
+use Rattle.grammar_core.specs.Words.{is_text, words_of}
+use Rattle.grammar_core.specs.declared.fault.FaultKind.{FaultKind}
+use Rattle.grammar_core.specs.declared.fault.FaultKind.TheVariants.{NotText, OutOfMemory, TooLong}
 use Rattle.prompt_core.specs.Answers.{explained, explained_at, is_unknown}
 
 of_line : (reading : Reading) (line : List ℕ) (long text : Bool) (kind : FaultKind) → is_text line ≡ text →

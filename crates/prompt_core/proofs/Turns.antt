@@ -8,12 +8,12 @@ use Rattle.std.specs.Io.{StartsWith, StopsAt}
 use Rattle.std.specs.Io.BufRead.{drop_through, first_piece, take_through}
 use Rattle.std.specs.Io.KnownBytes.{Appends}
 use Rattle.bench_core.specs.Limits.{Limits}
-use Rattle.script_core.specs.Grammar.{script_of}
+use Rattle.grammar_core.specs.Grammar.{script_of}
 use Rattle.script_core.specs.Prompts.{Prompt, new_prompt}
 use Rattle.script_core.specs.Report.{report_of}
-use Rattle.script_core.specs.Scripts.{Script}
-use Rattle.script_core.specs.declared.fault.ScriptFault.{ScriptFault}
-use Rattle.script_core.specs.Words.{lines_of}
+use Rattle.grammar_core.specs.Scripts.{Script}
+use Rattle.grammar_core.specs.declared.fault.ScriptFault.{ScriptFault}
+use Rattle.grammar_core.specs.Words.{lines_of}
 use Rattle.prompt_core.specs.Answers.{answer, answers}
 use Rattle.prompt_core.specs.Ends.{Answers, EndsEarly, IsCutShort, IsEndless, IsNext, ReportLaw, Reports, TakesLine, kept, printed}
 use Rattle.prompt_core.specs.declared.prompt_fault.PromptFault.{PromptFault}

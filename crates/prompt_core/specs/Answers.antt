@@ -6,10 +6,10 @@ use Rattle.payload_core.specs.Words.{is_word}
 use Rattle.bench_core.specs.Machine.{Machine}
 use Rattle.bench_core.specs.NameList.{Texts, number_in}
 use Rattle.script_core.specs.Prompts.{Prompt, taken}
-use Rattle.script_core.specs.Words.{words_of}
-use Rattle.script_core.specs.declared.fault.FaultKind.{FaultKind}
-use Rattle.script_core.specs.declared.fault.FaultKind.TheVariants.{NotText, TooLong, NoNodes, Twice, UnknownWord, WrongCount, NotAllowed, BadNumber}
-use Rattle.script_core.specs.declared.fault.FaultKind.TheVariants.{BadName, OutOfMemory}
+use Rattle.grammar_core.specs.Words.{words_of}
+use Rattle.grammar_core.specs.declared.fault.FaultKind.{FaultKind}
+use Rattle.grammar_core.specs.declared.fault.FaultKind.TheVariants.{NotText, TooLong, NoNodes, Twice, UnknownWord, WrongCount, NotAllowed, BadNumber}
+use Rattle.grammar_core.specs.declared.fault.FaultKind.TheVariants.{BadName, OutOfMemory}
 use Rattle.session_core.specs.Format.{session}
 use Rattle.explain_core.specs.Explanations.{explanation}
 

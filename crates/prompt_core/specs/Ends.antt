@@ -4,11 +4,11 @@ use Rattle.std.specs.Io.{StartsWith, StopsAt}
 use Rattle.std.specs.Io.KnownBytes.{Appends, Consumes}
 use Rattle.std.specs.Io.BufRead.{drop_through, first_piece}
 use Rattle.bench_core.specs.Limits.{Limits}
-use Rattle.script_core.specs.Grammar.{script_of}
+use Rattle.grammar_core.specs.Grammar.{script_of}
 use Rattle.script_core.specs.Prompts.{new_prompt}
 use Rattle.script_core.specs.Report.{report_of}
-use Rattle.script_core.specs.Scripts.{Script}
-use Rattle.script_core.specs.Words.{lines_of}
+use Rattle.grammar_core.specs.Scripts.{Script}
+use Rattle.grammar_core.specs.Words.{lines_of}
 use Rattle.prompt_core.specs.Answers.{answers}
 use Rattle.prompt_core.specs.declared.reading.TheConstants.{KEPT}
 use Rattle.prompt_core.specs.declared.prompt_fault.PromptFault.{PromptFault}

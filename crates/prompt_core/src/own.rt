@@ -1,11 +1,12 @@
 //! The answers to lines that are none of a script.
-ghost use Rattle.std.specs.Prelude.{◌≡◌, ◌++◌, IfOk, OnOk, map, true};
+ghost use Rattle.std.specs.Prelude.{◌≡◌, ◌++◌, OnOk, map, true};
 ghost use Rattle.bench_core.specs.NameList.{number_in};
-ghost use Rattle.script_core.specs.Words.{is_text, words_of};
+ghost use Rattle.grammar_core.specs.Words.{is_text};
 ghost use Rattle.prompt_core.specs.Answers.{explained, explained_at, fault_line, faulty, is_unknown, kind_name, own_answer, saved, worded};
 
 use bench_core::Bench;
 use explain_core::{AskFault, Question, explain_asked};
+use grammar_core::words_of;
 use payload_core::Oom;
 use script_core::{FaultKind, Prompt};
 use session_core::save;
@@ -126,15 +127,6 @@ fn put_worded<'a, B: Allocator>(
         return put_fault(alloc, answer, number, FaultKind::UnknownWord);
     }
     put_explained(alloc, answer, prompt, number, rest)
-}
-
-/// The runs of bytes other than space.
-fn words_of<A: Allocator>(alloc: A, line: &str) -> Result<Vec<&str, A>, Oom>
-    ensures { IfOk result (λ words. map (λ word. word.now) words.items ≡ words_of line.now) }
-{
-    line.split(' ')
-        .filter(|word| !word.is_empty())
-        .collect(alloc)
 }
 
 fn is_unknown(kind: FaultKind) -> bool

@@ -6,8 +6,8 @@ use Rattle.std.proofs.lemmas.Grind.{common_steps}
 use Rattle.std.proofs.lemmas.Bool.Decides.{nat_tests}
 use Rattle.std.specs.Io.KnownBytes.{Appends, Consumes, IsAtEnd}
 use Rattle.bench_core.specs.Limits.{Limits}
-use Rattle.script_core.specs.Grammar.{script_of}
-use Rattle.script_core.specs.declared.fault.FaultKind.TheVariants.{TooLong}
+use Rattle.grammar_core.specs.Grammar.{script_of}
+use Rattle.grammar_core.specs.declared.fault.FaultKind.TheVariants.{TooLong}
 use Rattle.script_core.specs.declared.fault.PlayFault.TheVariants as faults
 use Rattle.script_core.specs.Play.{IsWhole, IsLonger, TakesAtMost, EndsAt}
 

@@ -1,13 +1,4 @@
-pub mod LineText
-pub mod Lines
-pub mod Calls
-pub mod Texts
-pub mod Orders
 pub mod Printed
-pub mod StepDiffs
-pub mod MovedRows
-pub mod Unwound
-pub mod OnePart
 pub mod Bytes
 pub mod Spaced
 pub mod ReadNumbers

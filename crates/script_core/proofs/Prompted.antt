@@ -6,14 +6,14 @@ use Rattle.payload_core.specs.Answers.{◌>>=◌}
 use Rattle.bench_core.specs.Limits.{Limits}
 use Rattle.bench_core.specs.Machine.{Machine, opening_machine}
 use Rattle.bench_core.specs.NameList.{Texts}
-use Rattle.script_core.specs.declared.fault.FaultKind.{FaultKind}
-use Rattle.script_core.specs.declared.fault.FaultKind.TheVariants.{NotText, TooLong, Twice, WrongCount}
-use Rattle.script_core.specs.declared.fault.ScriptFault.{ScriptFault}
-use Rattle.script_core.specs.Casts.{Cast}
-use Rattle.script_core.specs.Scripts.{Command, Line, Script}
-use Rattle.script_core.specs.Words.{lines_of, words_of, is_text}
-use Rattle.script_core.specs.Grammar.{Reading, opening, with_consoles, with_each, keyword_of, command_by, with_words_by, with_words, with_line, with_lines, at_line}
-use Rattle.script_core.specs.Grammar.{finished, script_of}
+use Rattle.grammar_core.specs.declared.fault.FaultKind.{FaultKind}
+use Rattle.grammar_core.specs.declared.fault.FaultKind.TheVariants.{NotText, TooLong, Twice, WrongCount}
+use Rattle.grammar_core.specs.declared.fault.ScriptFault.{ScriptFault}
+use Rattle.grammar_core.specs.Casts.{Cast}
+use Rattle.grammar_core.specs.Scripts.{Command, Line, Script}
+use Rattle.grammar_core.specs.Words.{lines_of, words_of, is_text}
+use Rattle.grammar_core.specs.Grammar.{Reading, opening, with_consoles, with_each, keyword_of, command_by, with_words_by, with_words, with_line, with_lines, at_line}
+use Rattle.grammar_core.specs.Grammar.{finished, script_of}
 use Rattle.script_core.specs.Report.{after_command, after_commands, command_text, commands_of, commands_text, played, report_of}
 use Rattle.script_core.specs.Prompts.{Prompt, PromptLaw, all_taken, answered, new_prompt, taken}
 

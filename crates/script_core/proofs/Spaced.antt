@@ -11,9 +11,9 @@ use Rattle.payload_core.specs.Presences.{Presence}
 use Rattle.payload_core.specs.Words.{is_word_byte}
 use Rattle.node_core.specs.Operations.{Operation, Join, Leave, LeaveAll, Update, Broadcast, Extract, Deliver, Request, Answer, Up, Down, Permdown}
 use Rattle.bench_core.specs.NameList.{Texts}
-use Rattle.script_core.specs.Rows.{name_at}
-use Rattle.script_core.specs.StepText.{presence_text, extract_from, step_text, act_line}
-use Rattle.script_core.specs.Words.{words_of, is_text, is_visible}
+use Rattle.report_core.specs.Rows.{name_at}
+use Rattle.report_core.specs.StepText.{presence_text, extract_from, step_text, act_line}
+use Rattle.grammar_core.specs.Words.{words_of, is_text, is_visible}
 
 pub both : (a b : Bool) → (a && b) ≡ true → (a ≡ true) × (b ≡ true)
 both true b e = (refl, e)

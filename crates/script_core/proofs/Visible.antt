@@ -16,7 +16,7 @@ use Rattle.payload_core.specs.Words.{is_word_byte}
 use Rattle.bench_core.specs.declared.names_fault.NamesFault.TheVariants.{BadName, Twice}
 use Rattle.bench_core.specs.NameText.{is_name, is_name_byte}
 use Rattle.bench_core.specs.NameList.{Texts, with_names, names_of}
-use Rattle.script_core.specs.Words.{is_visible}
+use Rattle.grammar_core.specs.Words.{is_visible}
 use Rattle.script_core.specs.ReadSteps.{IsWord, IsNumber}
 use Rattle.script_core.proofs.ReadNames.{opened}
 use Rattle.script_core.proofs.Spaced.{both, chosen_from}

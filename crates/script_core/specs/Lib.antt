@@ -1,16 +1,3 @@
-pub mod Words
-pub mod Casts
-pub mod Scripts
-pub mod Answers
-pub mod Grammar
-pub mod Presences
-pub mod Readings
-pub mod Rows
-pub mod StepText
-pub mod Shown
-pub mod StepDiffs
-pub mod MovedRows
-pub mod Dots
 pub mod Report
 pub mod Play
 pub mod ReadSteps

@@ -2,9 +2,9 @@
 use Rattle.std.specs.Prelude.{◌≡◌, ◌≢◌, ℕ, ◌<◌, ◌≤◌, List, length, take, ⊤, Option, None, Some, Result, Ok, Err, IsOkAnd}
 use Rattle.std.specs.Io.KnownBytes.{Appends, Consumes, Keeps}
 use Rattle.bench_core.specs.Limits.{Limits}
-use Rattle.script_core.specs.Grammar.{script_of}
+use Rattle.grammar_core.specs.Grammar.{script_of}
 use Rattle.script_core.specs.Report.{report_of}
-use Rattle.script_core.specs.declared.fault.FaultKind.TheVariants.{OutOfMemory}
+use Rattle.grammar_core.specs.declared.fault.FaultKind.TheVariants.{OutOfMemory}
 use Rattle.script_core.specs.declared.fault.PlayFault.{PlayFault}
 use Rattle.script_core.specs.declared.fault.PlayFault.TheVariants as faults
 

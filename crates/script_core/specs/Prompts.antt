@@ -6,12 +6,12 @@ use Rattle.bench_core.specs.Limits.{Limits}
 use Rattle.bench_core.specs.NameList.{Texts}
 use Rattle.bench_core.specs.Machine.{Machine, machine_code, opening_machine}
 use Rattle.bench_core.specs.declared.reply.Reply.{Reply}
-use Rattle.script_core.specs.Casts.{Cast}
-use Rattle.script_core.specs.Scripts.{Command, Script}
-use Rattle.script_core.specs.Words.{lines_of}
-use Rattle.script_core.specs.Grammar.{Reading, script_of, with_line}
+use Rattle.grammar_core.specs.Casts.{Cast}
+use Rattle.grammar_core.specs.Scripts.{Command, Script}
+use Rattle.grammar_core.specs.Words.{lines_of}
+use Rattle.grammar_core.specs.Grammar.{Reading, script_of, with_line}
 use Rattle.script_core.specs.Report.{after_commands, commands_of, commands_text, played, report_of}
-use Rattle.script_core.specs.declared.fault.FaultKind.{FaultKind}
+use Rattle.grammar_core.specs.declared.fault.FaultKind.{FaultKind}
 
 -- who may act, and the machine, once the nodes are named
 pub record Prompt : Type 0 where

@@ -2,9 +2,9 @@
 ghost use Rattle.std.specs.Prelude.{◌≡◌, ◌++◌, OnOk, IfOk, string_bytes, map};
 ghost use Rattle.script_core.specs.Report.{command_text, after_command, commands_text, call_of, history_text};
 
-use crate::acting::act;
 use bench_core::{Bench, Event, History};
 use payload_core::Oom;
+use report_core::act;
 use std::alloc::Allocator;
 
 /// What a recorded act does again on another bench, and prints.

@@ -3,11 +3,11 @@ ghost use Rattle.std.specs.Prelude.{OnOk, IfErr};
 ghost use Rattle.std.specs.Io.KnownBytes.{IsAtEnd};
 ghost use Rattle.script_core.specs.Play.{EndsAt, KeepsBefore, TellsMemory};
 
-use crate::fault::{FaultKind, InputFault, PlayFault, ScriptFault};
-use crate::parse::{LONGEST_SCRIPT, parse_script};
+use crate::fault::{InputFault, PlayFault};
 use crate::run::run_script;
 use crate::streams::{read_all, write_out};
 use bench_core::Limits;
+use grammar_core::{FaultKind, LONGEST_SCRIPT, ScriptFault, parse_script};
 use std::alloc::Allocator;
 use std::io::{Read, Write};
 

@@ -1,17 +1,14 @@
 //! `Prompt`: the lines of a script one by one, each answered before the next is read.
 ghost use Rattle.std.specs.Prelude.{◌≡◌, ◌≢◌, OnOk, IfErr, option_copied, string_bytes};
-ghost use Rattle.script_core.specs.Answers.{Gives};
+ghost use Rattle.grammar_core.specs.Answers.{Gives};
 ghost use Rattle.script_core.specs.Prompts.{asked, new_prompt, opened, taken};
 ghost use Rattle.script_core.specs.Report.{commands_of};
-ghost use Rattle.script_core.specs.Scripts.{plain_lines};
-ghost use Rattle.script_core.specs.declared.fault.FaultKind.TheVariants.{OutOfMemory};
+ghost use Rattle.grammar_core.specs.Scripts.{plain_lines};
+ghost use Rattle.grammar_core.specs.declared.fault.FaultKind.TheVariants.{OutOfMemory};
 
-use crate::cast::Cast;
-use crate::fault::FaultKind;
-use crate::parse::{Reading, read_line};
 use crate::run;
-use crate::script::Line;
 use bench_core::{Bench, Limits};
+use grammar_core::{Cast, FaultKind, Line, Reading, read_line};
 use payload_core::Oom;
 use std::alloc::Allocator;
 use std::marker::Model;

@@ -1,34 +1,13 @@
 //! A script played on a bench, with its report.
 ghost use Rattle.std.specs.Prelude.{◌≡◌, ◌++◌, OnOk, IfOk, string_bytes};
-ghost use Rattle.script_core.specs.Rows.{online_text};
 ghost use Rattle.script_core.specs.Report.{command_text, after_command, commands_text, after_commands, commands_of, played, report_of};
-ghost use Rattle.script_core.specs.Scripts.{plain_command, plain_lines, plain_script};
-ghost use Rattle.script_core.specs.Shown.{rows_at};
+ghost use Rattle.grammar_core.specs.Scripts.{plain_command, plain_lines, plain_script};
 
-use crate::acting::act;
-use crate::command::Command;
-use crate::dots_text::put_dots;
-use crate::rows::put_online;
-use crate::script::{Line, Script, node_names};
-use crate::shown::{node, rows_at};
-use crate::step_text::put_journal;
-use crate::unwinding::{unwind, why};
 use bench_core::{Bench, Limits};
+use grammar_core::{Command, Line, Script, node_names};
 use payload_core::Oom;
+use report_core::{act, node, put_dots, put_journal, show, unwind, why};
 use std::alloc::Allocator;
-
-/// Prints the online list of a node.
-pub fn show<'a, B: Allocator>(
-    alloc: &'a B,
-    text: &mut String<&'a B>,
-    bench: &Bench<'a, B>,
-    node: u16,
-) -> Result<(), Oom>
-    ensures { OnOk result (string_bytes text.new ≡ string_bytes text.old ++ online_text bench.now.names node (rows_at bench.now node)) }
-{
-    let rows = rows_at(alloc, bench, node)?;
-    put_online(text, bench.names(), node, rows.rows())
-}
 
 /// What a command does, and prints.
 #[tactic(auto, unfolding(crate::specs::Report::command_text, crate::specs::Report::after_command))]
@@ -88,7 +67,7 @@ pub fn run_script<'a, B: Allocator>(
     let names = node_names(script).try_copy()?;
     let mut bench = Bench::new(alloc, names, limits)?;
     let mut text = String::new(alloc);
-    lines(alloc, &mut text, &mut bench, &script.lines)?;
+    lines(alloc, &mut text, &mut bench, grammar_core::lines(script))?;
     Ok(Played {
         bench,
         report: text.into_bytes(),

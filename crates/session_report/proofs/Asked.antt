@@ -5,7 +5,7 @@ use Rattle.std.proofs.lemmas.Option.{slice_get_past}
 use Rattle.bench_core.specs.declared.reply.Reply.{Reply}
 use Rattle.bench_core.specs.Histories.{note}
 use Rattle.bench_core.specs.Machine.{Event, Machine, config_of, with_state, reply_to, is_recorded, after}
-use Rattle.script_core.specs.Report.{after_act}
+use Rattle.report_core.specs.ActTexts.{after_act}
 use Rattle.session_core.specs.Sessions.{Asked}
 
 at_end : {A : Type 0} (xs : List A) (x : A) → slice_get (xs ++ x ∷ []) (length xs) ≡ Some x

@@ -11,7 +11,8 @@ ghost use Rattle.session_core.specs.declared.session_fault.SessionFault.TheVaria
 
 use bench_core::{Bench, Event, History, Reply};
 use payload_core::Oom;
-use script_core::{Played, act};
+use report_core::act;
+use script_core::Played;
 use session_core::{Acts, SessionFault, Version, read_session};
 use std::alloc::{Allocator, Global};
 

@@ -1,5 +1,5 @@
 use Rattle.std.proofs.Common.{◌≡◌, ◌++◌, drop, string_bytes}
-use Rattle.script_core.specs.Scripts.{plain_script}
+use Rattle.grammar_core.specs.Scripts.{plain_script}
 use Rattle.explore_core.specs.Orders.{plain_each}
 use Rattle.explore_report.specs.Grouped.{calls_from, calls_of_order}
 use Rattle.explore_report.specs.OrderText.{calls_text}

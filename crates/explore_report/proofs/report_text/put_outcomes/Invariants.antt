@@ -1,5 +1,5 @@
 use Rattle.std.proofs.Common.{◌≡◌, ◌+◌, ◌++◌, drop, string_bytes}
-use Rattle.script_core.specs.Scripts.{plain_script}
+use Rattle.grammar_core.specs.Scripts.{plain_script}
 use Rattle.explore_core.specs.Orders.{plain_each}
 use Rattle.explore_report.specs.ReportText.{outcomes_text}
 use Rattle.explore_report.proofs.report_text.put_outcomes.Given as goal

@@ -1,6 +1,6 @@
 use Rattle.std.proofs.Common.{◌≡◌, ◌++◌, drop, string_bytes}
 use Rattle.bench_core.specs.Acts.{calls_of}
-use Rattle.script_core.specs.Scripts.{plain_script}
+use Rattle.grammar_core.specs.Scripts.{plain_script}
 use Rattle.explore_core.specs.Orders.{plain_lists}
 use Rattle.explore_report.specs.ReportText.{refusals_text}
 use Rattle.explore_report.proofs.report_text.put_refusals.Given as goal

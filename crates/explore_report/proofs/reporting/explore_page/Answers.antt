@@ -1,7 +1,7 @@
 use Rattle.std.proofs.Common.{◌∙◌}
 use Rattle.std.proofs.lemmas.Result.{err_from_is_err_and}
 use Rattle.bench_core.specs.Acts.{calls_of}
-use Rattle.script_core.specs.Scripts.{plain_script}
+use Rattle.grammar_core.specs.Scripts.{plain_script}
 use Rattle.explore_core.specs.Orders.{plain_lists}
 use Rattle.explore_report.proofs.Reported.{exploration_told, refusal_told}
 use Rattle.explore_report.proofs.reporting.explore_page.Goals as goal

@@ -1,6 +1,6 @@
 use Rattle.std.proofs.Common.{◌≡◌}
 use Rattle.std.proofs.lemmas.Result.{err_from_is_err_and}
-use Rattle.script_core.specs.Scripts.{plain_script}
+use Rattle.grammar_core.specs.Scripts.{plain_script}
 use Rattle.explore_report.proofs.Reported.{refuses_order}
 use Rattle.explore_report.proofs.reporting.order_of_outcome.Goals as goal
 

@@ -1,6 +1,6 @@
 use Rattle.std.proofs.Common.{◌∙◌, ap, sym, List}
 use Rattle.bench_core.specs.Acts.{calls_of}
-use Rattle.script_core.specs.Scripts.{plain_script}
+use Rattle.grammar_core.specs.Scripts.{plain_script}
 use Rattle.explore_core.specs.Explorations.{Outcome}
 use Rattle.explore_core.specs.Orders.{Lists}
 use Rattle.explore_report.specs.OrderText.{order_text}

@@ -1,4 +1,4 @@
-use Rattle.std.proofs.Common.{◌≡◌, ◌++◌, ap, ◌∙◌, take_all}
+use Rattle.std.proofs.Common.{◌++◌, ap, ◌∙◌, take_all}
 use Rattle.payload_core.proofs.entry_list.push_copies.Goals as goal
 
 pub returns : goal.returns

@@ -1,4 +1,4 @@
-use Rattle.std.proofs.Common.{◌≡◌, ◌++◌, filter, ap, ◌∙◌, take_all}
+use Rattle.std.proofs.Common.{◌++◌, filter, ap, ◌∙◌, take_all}
 use Rattle.std.specs.FinSet as set
 use Rattle.payload_core.specs.Presences.{Entry}
 use Rattle.payload_core.proofs.entry_list.push_named.Goals as goal

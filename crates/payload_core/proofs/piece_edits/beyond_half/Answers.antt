@@ -1,4 +1,4 @@
-use Rattle.std.proofs.Common.{◌≡◌, ◌<◌, arith}
+use Rattle.std.proofs.Common.{arith}
 use Rattle.payload_core.proofs.Pieces.{beyond-most, beyond-next}
 use Rattle.payload_core.proofs.piece_edits.beyond_half.Goals as goal
 

@@ -1,4 +1,4 @@
-use Rattle.std.proofs.Common.{rules, ◌≡◌, ◌∙◌, length, slice_get, get_or, Some, refl, ap, sym, arith}
+use Rattle.std.proofs.Common.{rules, ◌∙◌, ap, sym, arith}
 use Rattle.std.proofs.lemmas.List.Sorted.{IsPartitionPoint-from_clause}
 use Rattle.payload_core.specs.Pieces.{ends_below}
 use Rattle.payload_core.proofs.Pieces.{read_at, some_at}

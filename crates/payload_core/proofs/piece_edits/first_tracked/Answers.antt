@@ -1,4 +1,4 @@
-use Rattle.std.proofs.Common.{◌≡◌, ◌==◌, ◌&&◌, ◌∙◌, Some, None, Bool, option_map, sym, ap}
+use Rattle.std.proofs.Common.{◌==◌, ◌&&◌, ◌∙◌, Bool, option_map, sym, ap}
 use Rattle.std.specs.List.{find}
 use Rattle.payload_core.specs.Presences.{Entry, is_tracked_as, presence_of}
 use Rattle.payload_core.proofs.Pieces.{find-behind, find-here}

@@ -1,4 +1,4 @@
-use Rattle.std.proofs.Common.{◌≡◌, ◌<◌, ◌∙◌, length, [], ◌∷◌, slice_get, Some, sym, ap, subst, arith}
+use Rattle.std.proofs.Common.{◌∙◌, length, [], ◌∷◌, Some, sym, ap, arith}
 use Rattle.std.proofs.lemmas.List.{length-append}
 use Rattle.payload_core.specs.Pieces.{joined, crowd_of}
 use Rattle.payload_core.proofs.Pieces.{at_read, crowd-back, filled-with, joined-without, nothing}

@@ -1,4 +1,4 @@
-use Rattle.std.proofs.Common.{◌≡◌, ◌++◌, ◌+◌, ◌∙◌, Bool, drop, filter, sym, ap}
+use Rattle.std.proofs.Common.{◌++◌, ◌+◌, ◌∙◌, Bool, drop, filter, sym, ap}
 use Rattle.std.specs.FinSet as set
 use Rattle.std.proofs.lemmas.List.{append_assoc}
 use Rattle.payload_core.specs.Presences.{Entry}

@@ -1,7 +1,7 @@
-use Rattle.std.proofs.Common.{◌≡◌, ◌≤◌, ◌+◌, refl, ◌<◌, ◌∙◌, length, insert, slice_set, sym, ap, subst, arith}
+use Rattle.std.proofs.Common.{◌≤◌, ◌+◌, refl, ◌<◌, ◌∙◌, length, insert, slice_set, sym, ap, subst}
 use Rattle.payload_core.specs.Pieces.{IsFilled, joined, crowd_of, place_in}
 use Rattle.std.specs.List.{AllByRecursion}
-use Rattle.payload_core.proofs.Pieces.{crowd-put, filled-put, joined-insert, length-set, read_is}
+use Rattle.payload_core.proofs.Pieces.{crowd-put, filled-put, joined-insert, read_is}
 use Rattle.payload_core.proofs.piece_edits.put_at.Goals as goal
 
 pub insert-requires-clause-within : goal.insert-requires-clause-within

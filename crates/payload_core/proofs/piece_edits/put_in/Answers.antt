@@ -1,4 +1,4 @@
-use Rattle.std.proofs.Common.{◌≡◌, ◌≤◌, ◌<◌, ◌∙◌, ℕ, length, insert, sym, ap, subst, arith}
+use Rattle.std.proofs.Common.{◌≡◌, ◌∙◌, ℕ, length, insert, sym, ap, subst, arith}
 use Rattle.payload_core.specs.Pieces.{IsOpenBelow, joined, place_in}
 use Rattle.payload_core.proofs.Pieces.{halved-crowd, halved-joined, halved-open, halved-place, some_at}
 use Rattle.payload_core.proofs.piece_edits.put_in.Goals as goal

@@ -1,4 +1,4 @@
-use Rattle.std.proofs.Common.{◌≡◌, ◌≤◌, ◌<◌, ◌∙◌, length, remove, slice_get, slice_set, refl, sym, ap, subst, arith}
+use Rattle.std.proofs.Common.{◌∙◌, remove, slice_get, slice_set, refl, sym, ap, subst, arith}
 use Rattle.std.specs.List.{AllByRecursion}
 use Rattle.payload_core.specs.Pieces.{IsFilled, joined, crowd_of, place_in}
 use Rattle.payload_core.proofs.Pieces.{crowd-less, filled-without, joined-get, joined-remove, read_is, remove-set}

@@ -1,5 +1,5 @@
 use Rattle.std.proofs.Common.{sym}
-use Rattle.script_core.proofs.LineText.{IsUtf8-is_text}
+use Rattle.grammar_core.proofs.LineText.{IsUtf8-is_text}
 use Rattle.prompt_core.proofs.own.put_faulty.Goals as goal
 
 -- the line is text, so it is UTF-8

@@ -1,5 +1,5 @@
 use Rattle.std.proofs.Common.{◌≡◌, ◌++◌, drop, string_bytes}
-use Rattle.script_core.specs.Scripts.{plain_lines}
+use Rattle.grammar_core.specs.Scripts.{plain_lines}
 use Rattle.script_core.specs.Report.{after_commands, commands_of, commands_text}
 use Rattle.script_core.proofs.run.lines.Given as goal
 

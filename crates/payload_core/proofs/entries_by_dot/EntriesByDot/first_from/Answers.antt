@@ -1,4 +1,4 @@
-use Rattle.std.proofs.Common.{◌≡◌, ◌⊎◌, inl, inr, ℕ, Result, Ok, Err, refl, sym, subst}
+use Rattle.std.proofs.Common.{◌≡◌, inl, inr, ℕ, Result, Ok, Err, refl, sym, subst}
 use Rattle.std.specs.FinMap as fin
 use Rattle.payload_core.specs.EntryLists.{IsPlaceFrom, entries_of, spot}
 use Rattle.payload_core.specs.EntrySets.{EntrySet}

@@ -1,5 +1,5 @@
-use Rattle.std.proofs.Common.{◌≡◌, ◌∙◌, ◌+◌, ◌-◌, drop, ◌<◌, ◌≤◌, length, slice_get, get_or, Some, refl, ap, sym, subst, arith}
-use Rattle.payload_core.specs.Pieces.{joined, place_in, Pieces}
+use Rattle.std.proofs.Common.{◌≡◌, ◌∙◌, ◌+◌, ◌-◌, drop, ◌<◌, length, slice_get, get_or, ap, sym, subst, arith}
+use Rattle.payload_core.specs.Pieces.{joined, Pieces}
 use Rattle.payload_core.proofs.Pieces.{get-here, get-behind}
 use Rattle.payload_core.proofs.entry_pieces.EntryPieces.at.Goals as goal
 

@@ -1,5 +1,5 @@
-use Rattle.std.proofs.Common.{◌≡◌, ◌∙◌, ◌-◌, ◌+◌, ◌<◌, length, slice_get, Some, option_copied, refl, ap, sym, subst, arith}
-use Rattle.payload_core.specs.Pieces.{joined, place_in, Pieces}
+use Rattle.std.proofs.Common.{◌≡◌, ◌∙◌, ◌-◌, length, slice_get, Some, ap, sym, arith}
+use Rattle.payload_core.specs.Pieces.{place_in, Pieces}
 use Rattle.payload_core.proofs.Pieces.{before-last, some_at}
 use Rattle.payload_core.proofs.entry_pieces.EntryPieces.end.Goals as goal
 

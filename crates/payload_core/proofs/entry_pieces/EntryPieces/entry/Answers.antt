@@ -1,5 +1,5 @@
-use Rattle.std.proofs.Common.{◌≡◌, ◌∙◌, length, slice_get, Some, refl, ap, sym, arith}
-use Rattle.payload_core.specs.Pieces.{joined, place_in, Pieces}
+use Rattle.std.proofs.Common.{◌≡◌, ◌∙◌, slice_get, Some, refl, ap, sym}
+use Rattle.payload_core.specs.Pieces.{place_in, Pieces}
 use Rattle.payload_core.proofs.Pieces.{joined-get}
 use Rattle.payload_core.proofs.entry_pieces.EntryPieces.entry.Goals as goal
 

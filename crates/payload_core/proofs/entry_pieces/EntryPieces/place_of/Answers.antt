@@ -1,6 +1,6 @@
-use Rattle.std.proofs.Common.{◌≡◌, ◌∙◌, ◌+◌, ◌<◌, ◌≤◌, ℕ, List, [], ◌∷◌, zero, suc, length, take, slice_get, get_or, Some, refl, ap, sym, subst, arith}
+use Rattle.std.proofs.Common.{◌≡◌, ◌∙◌, ◌+◌, ◌<◌, ◌≤◌, ℕ, List, [], ◌∷◌, zero, suc, length, take, get_or, refl, ap, subst, arith}
 use Rattle.payload_core.specs.Presences.{Entry}
-use Rattle.payload_core.specs.Pieces.{joined, place_in, Pieces}
+use Rattle.payload_core.specs.Pieces.{joined, Pieces}
 use Rattle.payload_core.proofs.Pieces.{at_read, before-more, length-around, some_at}
 use Rattle.payload_core.proofs.entry_pieces.EntryPieces.place_of.Goals as goal
 

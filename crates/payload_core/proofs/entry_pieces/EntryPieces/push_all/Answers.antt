@@ -1,4 +1,4 @@
-use Rattle.std.proofs.Common.{rules, ◌≡◌, ◌++◌, ◌∙◌, [], ◌∷◌, reverse, refl, sym, ap, arith}
+use Rattle.std.proofs.Common.{rules, ◌++◌, ◌∙◌, [], ◌∷◌, reverse, sym, ap, arith}
 use Rattle.std.proofs.lemmas.List.{append-nil, append_assoc, reverse-append, reverse-reverse}
 use Rattle.payload_core.specs.Pieces.{joined}
 use Rattle.payload_core.proofs.Pieces.{nothing}

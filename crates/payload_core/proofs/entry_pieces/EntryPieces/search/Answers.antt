@@ -1,7 +1,6 @@
-use Rattle.std.proofs.Common.{◌≡◌, ◌∙◌, ◌<◌, ◌≤◌, length, slice_get, take, false, Some, None, Ok, Err, refl, ap, sym, arith, subst}
+use Rattle.std.proofs.Common.{◌≡◌, ◌∙◌, slice_get, take, Some, Err, ap, sym, subst}
 use Rattle.std.specs.List.{AllByRecursion}
-use Rattle.payload_core.specs.EntryLists.{Rises, spot}
-use Rattle.payload_core.specs.Pieces.{joined, place_in, ends_below, IsFilled, IsPassed, Pieces}
+use Rattle.payload_core.specs.Pieces.{joined, IsPassed, Pieces}
 use Rattle.payload_core.proofs.EntryLists.{slice_get_none}
 use Rattle.payload_core.proofs.Pieces.{filled-at, take_past}
 use Rattle.payload_core.proofs.PieceSearch.{found-in, missed-in, missed-past, rises-piece}

@@ -1,4 +1,4 @@
-use Rattle.std.proofs.Common.{rules, ◌≡◌, ◌++◌, [], ◌∷◌, reverse, sym, ap, ◌∙◌}
+use Rattle.std.proofs.Common.{rules, ◌++◌, [], ◌∷◌, reverse, sym, ap, ◌∙◌}
 use Rattle.std.proofs.lemmas.List.{reverse-append, append_assoc}
 use Rattle.payload_core.proofs.piece.Piece.halve.Goals as goal
 

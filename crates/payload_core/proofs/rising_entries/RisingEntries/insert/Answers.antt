@@ -1,7 +1,7 @@
-use Rattle.std.proofs.Common.{◌≡◌, ◌∙◌, Some, None, subst, sym, ap}
+use Rattle.std.proofs.Common.{◌∙◌, subst, sym, ap}
 use Rattle.payload_core.specs.EntryLists.{Rises}
 use Rattle.payload_core.specs.Pieces.{Pieces, joined}
-use Rattle.payload_core.specs.RisingEntries.{RisingEntries, with}
+use Rattle.payload_core.specs.RisingEntries.{RisingEntries}
 use Rattle.payload_core.specs.TrackIndices.{in_box}
 use Rattle.payload_core.proofs.RisingEntries.{with-rises}
 use Rattle.std.specs.Result.{IsErr}

@@ -1,7 +1,6 @@
-use Rattle.std.proofs.Common.{◌≡◌, ◌∙◌, Some, None, subst, sym, ap}
+use Rattle.std.proofs.Common.{◌∙◌, subst, sym, ap}
 use Rattle.payload_core.specs.EntryLists.{Rises}
 use Rattle.payload_core.specs.Pieces.{Pieces, joined}
-use Rattle.payload_core.specs.RisingEntries.{RisingEntries, without}
 use Rattle.payload_core.specs.TrackIndices.{in_box}
 use Rattle.payload_core.proofs.RisingEntries.{without-rises}
 use Rattle.payload_core.proofs.rising_entries.RisingEntries.remove.Goals as goal

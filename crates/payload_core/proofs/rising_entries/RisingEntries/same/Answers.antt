@@ -1,4 +1,4 @@
-use Rattle.std.proofs.Common.{◌≡◌, ◌∙◌, sym, ap}
+use Rattle.std.proofs.Common.{◌∙◌, sym}
 use Rattle.std.proofs.lemmas.List.{take_more_same}
 use Rattle.payload_core.proofs.Pieces.{entry-read, entry-within}
 use Rattle.payload_core.proofs.rising_entries.RisingEntries.same.Goals as goal

@@ -1,0 +1,134 @@
+-- What the command line takes, and what words choose.
+use Rattle.std.specs.Prelude.{◌≡◌, ◌≢◌, ℕ, List, codes, true, ⊤, Option, Some, None, IfSome, unwrap_or}
+use Rattle.std.specs.Str.Parse.{IsNumeral, digits_value, without_leading_plus}
+use Rattle.clap.specs.Words.{App, Row, Rule, first_of, new_app, new_rule, with_rule, with_subcommand, subcommand_of}
+use Rattle.command_line.specs.declared.chosen.Form.{Form}
+use Rattle.command_line.specs.declared.chosen.Form.TheVariants.{Report, Session}
+use Rattle.command_line.specs.declared.chosen.Subcommand.{Subcommand}
+use Rattle.command_line.specs.declared.chosen.Subcommand.TheVariants.{Play, Race, Load, Explore, Step, Draw, Explain}
+use Rattle.explain_core.specs.declared.asking.Question.{Question}
+use Rattle.command_line.specs.declared.chosen.Choice.{Choice}
+use Rattle.command_line.specs.declared.chosen.Options.{Options}
+use Rattle.explore_core.specs.declared.reading.Reading.{Reading}
+use Rattle.explore_core.specs.declared.reading.Reading.TheVariants.{EveryOrder, Deliveries}
+use Rattle.clap.specs.declared.builder.action.ArgAction.TheVariants.{SetTrue}
+
+-- the option that names a form
+abbrev pub as_rule : Rule
+as_rule = record (new_rule (codes "as")) { long = Some (codes "as"); value_names = 1 }
+
+abbrev pub play_app : App
+play_app = with_rule (new_app (codes "play")) as_rule
+
+abbrev pub race_app : App
+race_app = with_rule (new_app (codes "race")) as_rule
+
+abbrev pub load_app : App
+load_app = with_rule (new_app (codes "load")) as_rule
+
+-- an option that takes a number
+abbrev pub number_rule : List ℕ → Rule
+number_rule name = record (new_rule name) { long = Some name; value_names = 1 }
+
+abbrev pub step_app : App
+step_app = new_app (codes "step")
+
+-- the option that moves deliveries alone
+abbrev pub deliveries_rule : Rule
+deliveries_rule = record (new_rule (codes "deliveries")) { long = Some (codes "deliveries"); action = Some SetTrue }
+
+abbrev pub explore_app : App
+explore_app =
+    with_rule (with_rule (with_rule (with_rule (new_app (codes "explore")) as_rule) deliveries_rule) (number_rule (codes "states")))
+    (number_rule (codes "script"))
+
+abbrev pub draw_app : App
+draw_app = with_rule (new_app (codes "draw")) (number_rule (codes "why"))
+
+-- a word that comes in its place
+abbrev pub word_rule : List ℕ → Rule
+word_rule name = record (new_rule name) { required = true }
+
+abbrev pub explain_app : App
+explain_app = with_rule (with_rule (with_rule (new_app (codes "explain")) (word_rule (codes "NODE"))) (word_rule (codes "TOPIC"))) (word_rule (codes "KEY"))
+
+-- the line without its subcommands
+abbrev pub bare_app : App
+bare_app =
+    let new = new_app (codes "presence_bench") in
+    record new { top = record new.top { has_version = true; no_binary_name = true; subcommand_required = true } }
+
+abbrev pub app : App
+app =
+    let older = with_subcommand (with_subcommand (with_subcommand (with_subcommand bare_app play_app.top) race_app.top) load_app.top) explore_app.top in
+    with_subcommand (with_subcommand (with_subcommand older step_app.top) draw_app.top) explain_app.top
+
+abbrev pub name_of : Subcommand → List ℕ
+name_of Play = codes "play"
+name_of Race = codes "race"
+name_of Load = codes "load"
+name_of (Explore reading states outcome) = codes "explore"
+name_of Step = codes "step"
+name_of (Draw why) = codes "draw"
+name_of (Explain question) = codes "explain"
+
+abbrev pub form_name : Form → List ℕ
+form_name Report = codes "report"
+form_name Session = codes "session"
+
+-- the form that a value names; without a value it is the report
+abbrev pub IsForm : Option (List ℕ) → Form → Type 0
+IsForm None form = form ≡ Report
+IsForm (Some name) form = name ≡ form_name form
+
+-- the number that a value spells; without a value there is none
+abbrev pub IsNumber : Option (List ℕ) → Option ℕ → Type 0
+IsNumber None number = number ≡ None
+IsNumber (Some digits) number =
+    IsNumeral 10 (without_leading_plus digits) × (number ≡ Some (digits_value 10 (without_leading_plus digits)))
+
+-- deliveries alone move where the value is `true`
+abbrev pub IsReading : Option (List ℕ) → Reading → Type 0
+IsReading value EveryOrder = value ≢ Some (codes "true")
+IsReading value Deliveries = value ≡ Some (codes "true")
+
+-- what options give
+pub record AreOptions (values : List ℕ → Option (List ℕ)) (options : Options) : Type 0 where
+  pub reading : IsReading (values (codes "deliveries")) options.reading
+  pub why : IsNumber (values (codes "why")) options.why
+  pub states : IsNumber (values (codes "states")) options.states
+  pub outcome : IsNumber (values (codes "script")) options.outcome
+
+-- the words that come in their places
+pub record IsQuestion (values : List ℕ → Option (List ℕ)) (question : Question) : Type 0 where
+  pub node : values (codes "NODE") ≡ Some question.node.now
+  pub topic : values (codes "TOPIC") ≡ Some question.topic.now
+  pub key : values (codes "KEY") ≡ Some question.key.now
+
+-- the subcommand has these of the options and words that it takes; of states 100,000 are kept where it is not told how many
+abbrev pub Takes : Options → Option Question → Subcommand → Type 0
+Takes options question (Draw why) = why ≡ options.why
+Takes options question (Explore reading states outcome) =
+    (reading ≡ options.reading) × (states ≡ unwrap_or options.states 100000) × (outcome ≡ options.outcome)
+Takes options question Play = ⊤
+Takes options question Race = ⊤
+Takes options question Load = ⊤
+Takes options question Step = ⊤
+Takes options question (Explain asked) = question ≡ Some asked
+
+-- the subcommand has this name, and the form and the rest those that its options and words give
+pub record IsChoiceOf (name : List ℕ) (values : List ℕ → Option (List ℕ)) (choice : Choice) : Type 0 where
+  pub name_is : name ≡ name_of choice.command
+  pub form : IsForm (values (codes "as")) choice.form
+  pub options : Options
+  pub options_are : AreOptions values options
+  pub question : Option Question
+  pub question_is : IfSome question (IsQuestion values)
+  pub takes : Takes options question choice.command
+
+-- the choice is that of the subcommand which the command line finds in the words, with its options
+pub record Chooses (words : List (List ℕ)) (choice : Choice) : Type 0 where
+  pub name : List ℕ
+  pub rows : List Row
+  pub command : subcommand_of app words ≡ Some (name, rows)
+  pub chosen : IsChoiceOf name (λ option. first_of option rows) choice

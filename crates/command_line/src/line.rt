@@ -1,0 +1,300 @@
+//! The command line, read by `clap`.
+ghost use Rattle.std.specs.Prelude.{◌≡◌, IfOk, IfSome, codes, map, false};
+ghost use Rattle.clap.specs.Words.{app_of, first_value, found_of, new_app, rule_of, with_rule, with_subcommand};
+ghost use Rattle.clap.specs.declared.Command.TheViews.{out-Command as fields_of};
+ghost use Rattle.command_line.specs.Line.{app, as_rule, bare_app, draw_app, explain_app, explore_app, number_rule, deliveries_rule, step_app, word_rule, AreOptions, Chooses, IsChoiceOf, IsForm, IsNumber, IsQuestion, IsReading, Takes, name_of};
+
+use crate::chosen::{Choice, Form, Options, Subcommand};
+use crate::help::{
+    DELIVERIES, DRAW, EXPLAIN, EXPLORE, FORM, KEY, LANGUAGE, LOAD, NODE, ORDER, PLAY, PURPOSE,
+    RACE, STATES, STEP, TOPIC, VERSION, WHY,
+};
+use clap::error::ErrorKind;
+use clap::{Arg, ArgAction, ArgMatches, Command, Error};
+use explain_core::Question;
+use explore_core::Reading;
+use std::alloc::{AllocError, Global};
+use std::convert::AsStr;
+
+/// The most different states that are kept of all orders, where it is not told how many.
+const MOST_STATES: u64 = 100_000;
+
+/// The option that names a form.
+fn form_option<'a>(alloc: Global) -> Arg<'a>
+    ensures rule { rule_of result ≡ as_rule }
+    ensures local { result.global ≡ false }
+{
+    Arg::new(alloc, "as")
+        .long("as")
+        .value_name("FORM")
+        .help(FORM)
+}
+
+/// An option that takes a number.
+fn number_option<'a>(alloc: Global, name: &'a str, about: &'a str) -> Arg<'a>
+    ensures rule { rule_of result ≡ number_rule name.entry.now }
+    ensures local { result.global ≡ false }
+{
+    Arg::new(alloc, name)
+        .long(name)
+        .value_name("NUMBER")
+        .help(about)
+}
+
+/// The option that moves deliveries alone.
+fn deliveries_option<'a>(alloc: Global) -> Arg<'a>
+    ensures rule { rule_of result ≡ deliveries_rule }
+    ensures local { result.global ≡ false }
+{
+    Arg::new(alloc, "deliveries")
+        .long("deliveries")
+        .action(ArgAction::SetTrue)
+        .help(DELIVERIES)
+}
+
+/// A word that comes in its place.
+fn word_place<'a>(alloc: Global, name: &'a str, about: &'a str) -> Arg<'a>
+    ensures rule { rule_of result ≡ word_rule name.entry.now }
+    ensures local { result.global ≡ false }
+{
+    Arg::new(alloc, name).required(true).help(about)
+}
+
+/// A subcommand with the option of a form.
+fn form_line<'a>(alloc: Global, name: &'a str, about: &'a str) -> Result<Command<'a>, AllocError>
+    ensures app { IfOk result (λ line. app_of line ≡ with_rule (new_app name.entry.now) as_rule) }
+    ensures local { IfOk result (λ line. (fields_of line).has_globals ≡ false) }
+{
+    Command::new(alloc, name)
+        .about(about)
+        .arg(form_option(alloc))
+}
+
+/// The subcommand that tries all orders.
+fn explore_line<'a>(alloc: Global) -> Result<Command<'a>, AllocError>
+    ensures app { IfOk result (λ line. app_of line ≡ explore_app) }
+    ensures local { IfOk result (λ line. (fields_of line).has_globals ≡ false) }
+{
+    form_line(alloc, "explore", EXPLORE)?
+        .arg(deliveries_option(alloc))?
+        .arg(number_option(alloc, "states", STATES))?
+        .arg(number_option(alloc, "script", ORDER))
+}
+
+/// The subcommand that is a prompt.
+fn step_line<'a>(alloc: Global) -> Command<'a>
+    ensures app { app_of result ≡ step_app }
+    ensures local { (fields_of result).has_globals ≡ false }
+{
+    Command::new(alloc, "step").about(STEP)
+}
+
+/// The subcommand that draws.
+fn draw_line<'a>(alloc: Global) -> Result<Command<'a>, AllocError>
+    ensures app { IfOk result (λ line. app_of line ≡ draw_app) }
+    ensures local { IfOk result (λ line. (fields_of line).has_globals ≡ false) }
+{
+    Command::new(alloc, "draw")
+        .about(DRAW)
+        .arg(number_option(alloc, "why", WHY))
+}
+
+/// The subcommand that explains.
+fn explain_line<'a>(alloc: Global) -> Result<Command<'a>, AllocError>
+    ensures app { IfOk result (λ line. app_of line ≡ explain_app) }
+    ensures local { IfOk result (λ line. (fields_of line).has_globals ≡ false) }
+{
+    Command::new(alloc, "explain")
+        .about(EXPLAIN)
+        .arg(word_place(alloc, "NODE", NODE))?
+        .arg(word_place(alloc, "TOPIC", TOPIC))?
+        .arg(word_place(alloc, "KEY", KEY))
+}
+
+/// The line without its subcommands.
+fn bare_line<'a>(alloc: Global) -> Command<'a>
+    ensures { app_of result ≡ bare_app }
+{
+    Command::new(alloc, "presence_bench")
+        .about(PURPOSE)
+        .version(VERSION)
+        .after_help(LANGUAGE)
+        .no_binary_name(true)
+        .subcommand_required(true)
+}
+
+/// The line with one more subcommand, which has the option of a form.
+fn with_form<'a>(
+    line: Command<'a>,
+    alloc: Global,
+    name: &'a str,
+    about: &'a str,
+) -> Result<Command<'a>, AllocError>
+    ensures { IfOk result (λ longer. app_of longer ≡ with_subcommand (app_of line.entry) (with_rule (new_app name.entry.now) as_rule).top) }
+{
+    let added = form_line(alloc, name, about)?;
+    line.subcommand(added)
+}
+
+/// The line with one more subcommand, which tries all orders.
+fn with_explore<'a>(line: Command<'a>, alloc: Global) -> Result<Command<'a>, AllocError>
+    ensures { IfOk result (λ longer. app_of longer ≡ with_subcommand (app_of line.entry) explore_app.top) }
+{
+    let added = explore_line(alloc)?;
+    line.subcommand(added)
+}
+
+/// The line with one more subcommand, which draws.
+fn with_draw<'a>(line: Command<'a>, alloc: Global) -> Result<Command<'a>, AllocError>
+    ensures { IfOk result (λ longer. app_of longer ≡ with_subcommand (app_of line.entry) draw_app.top) }
+{
+    let added = draw_line(alloc)?;
+    line.subcommand(added)
+}
+
+/// The line with one more subcommand, which explains.
+fn with_explain<'a>(line: Command<'a>, alloc: Global) -> Result<Command<'a>, AllocError>
+    ensures { IfOk result (λ longer. app_of longer ≡ with_subcommand (app_of line.entry) explain_app.top) }
+{
+    let added = explain_line(alloc)?;
+    line.subcommand(added)
+}
+
+/// The whole line. Each call takes the line before along, so that nothing large lives at an early end.
+fn line<'a>(alloc: Global) -> Result<Command<'a>, AllocError>
+    ensures { IfOk result (λ line. app_of line ≡ app) }
+{
+    let line = with_form(bare_line(alloc), alloc, "play", PLAY)?;
+    let line = with_form(line, alloc, "race", RACE)?;
+    let line = with_form(line, alloc, "load", LOAD)?;
+    let line = with_explore(line, alloc)?;
+    let line = line.subcommand(step_line(alloc))?;
+    let line = with_draw(line, alloc)?;
+    with_explain(line, alloc)
+}
+
+/// The words that come in their places, where all three are there.
+fn question_of<'a>(matches: &ArgMatches<'a>) -> Option<Question<'a>>
+    ensures { IfSome result (IsQuestion (λ id. first_value (found_of matches.now) id)) }
+{
+    Some(Question {
+        node: matches.get_str("NODE")?,
+        topic: matches.get_str("TOPIC")?,
+        key: matches.get_str("KEY")?,
+    })
+}
+
+/// The subcommand of this name, with those of the options and words that it takes.
+fn command_of<'a>(
+    name: &str,
+    options: Options,
+    question: Option<Question<'a>>,
+) -> Option<Subcommand<'a>>
+    ensures name { IfSome result (λ command. name.now ≡ name_of command) }
+    ensures takes { IfSome result (Takes options question.entry) }
+{
+    match name {
+        "play" => Some(Subcommand::Play),
+        "race" => Some(Subcommand::Race),
+        "load" => Some(Subcommand::Load),
+        "explore" => Some(Subcommand::Explore {
+            reading: options.reading,
+            states: options.states.unwrap_or(MOST_STATES) as usize,
+            outcome: options.outcome,
+        }),
+        "step" => Some(Subcommand::Step),
+        "draw" => Some(Subcommand::Draw { why: options.why }),
+        "explain" => Some(Subcommand::Explain(question?)),
+        _ => None,
+    }
+}
+
+/// The form that a subcommand's words name, the report where they name none.
+fn form_of<'a>(matches: &ArgMatches<'a>) -> Option<Form>
+    ensures { IfSome result (IsForm (first_value (found_of matches.now) (codes "as"))) }
+{
+    match matches.get_str("as") {
+        None | Some("report") => Some(Form::Report),
+        Some("session") => Some(Form::Session),
+        Some(_) => None,
+    }
+}
+
+/// The number that an option of a subcommand's words gives, if they have it.
+fn number_of<'a>(matches: &ArgMatches<'a>, option: &str) -> Option<Option<u64>>
+    ensures { IfSome result (IsNumber (first_value (found_of matches.now) option.now)) }
+{
+    match matches.get_str(option) {
+        None => Some(None),
+        Some(digits) => match digits.parse::<u64>() {
+            Ok(number) => Some(Some(number)),
+            Err(_) => None,
+        },
+    }
+}
+
+/// How a subcommand's words have orders read.
+fn reading_of<'a>(matches: &ArgMatches<'a>) -> Reading
+    ensures { IsReading (first_value (found_of matches.now) (codes "deliveries")) result }
+{
+    match matches.get_str("deliveries") {
+        Some("true") => Reading::Deliveries,
+        _ => Reading::EveryOrder,
+    }
+}
+
+/// What the options of a subcommand's words give; or what to tell of a number that is none.
+fn options_of<'a>(matches: &ArgMatches<'a>) -> Result<Options, &'static str>
+    ensures { IfOk result (AreOptions (λ option. first_value (found_of matches.now) option)) }
+{
+    let Some(why) = number_of(matches, "why") else {
+        return Err("--why takes the number of a step");
+    };
+    let Some(states) = number_of(matches, "states") else {
+        return Err("--states takes a number of states");
+    };
+    let Some(outcome) = number_of(matches, "script") else {
+        return Err("--script takes the number of an outcome");
+    };
+    Ok(Options {
+        reading: reading_of(matches),
+        why,
+        states,
+        outcome,
+    })
+}
+
+/// What a subcommand's name and words choose; or what to tell where they choose nothing.
+fn chosen<'a>(name: &str, matches: &ArgMatches<'a>) -> Result<Choice<'a>, &'static str>
+    ensures { IfOk result (IsChoiceOf name.now (λ option. first_value (found_of matches.now) option)) }
+{
+    let options = match options_of(matches) {
+        Ok(options) => options,
+        Err(told) => return Err(told),
+    };
+    let Some(command) = command_of(name, options, question_of(matches)) else {
+        return Err("no such subcommand");
+    };
+    let Some(form) = form_of(matches) else {
+        return Err("--as takes report or session");
+    };
+    if form == Form::Session && matches!(command, Subcommand::Explore { .. }) {
+        return Err("explore prints a report alone");
+    }
+    Ok(Choice { command, form })
+}
+
+/// What the words after the program's name choose.
+pub fn choice<'a, S: AsStr>(alloc: Global, words: &'a [S]) -> Result<Choice<'a>, Error>
+    ensures { IfOk result (Chooses (map S.text words.entry.now)) }
+{
+    let mut line = line(alloc)?;
+    let matches = line.try_get_matches_from_mut(words)?;
+    let Some((name, entered)) = matches.subcommand() else {
+        return Err(line.error(ErrorKind::MissingSubcommand, "a subcommand is required")?);
+    };
+    match chosen(name, entered) {
+        Ok(choice) => Ok(choice),
+        Err(told) => Err(line.error(ErrorKind::InvalidValue, told)?),
+    }
+}

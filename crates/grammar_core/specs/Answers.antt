@@ -1,0 +1,14 @@
+-- What a reader of scripts answers, against what was meant: a value, or the first fault.
+use Rattle.std.specs.Prelude.{Result}
+use Rattle.payload_core.specs.Answers.{GivesUnless}
+use Rattle.grammar_core.specs.declared.fault.FaultKind.{FaultKind}
+use Rattle.grammar_core.specs.declared.fault.FaultKind.TheVariants.{OutOfMemory}
+use Rattle.grammar_core.specs.declared.fault.ScriptFault.{ScriptFault}
+
+-- of a line or a part of it
+abbrev pub Gives : {X Y : Type 0} → (X → Y) → Result X FaultKind → Result Y FaultKind → Type 0
+Gives = GivesUnless OutOfMemory
+
+-- of a script
+abbrev pub GivesScript : {X Y : Type 0} → (X → Y) → Result X ScriptFault → Result Y ScriptFault → Type 0
+GivesScript = GivesUnless (record { line = 0; kind = OutOfMemory })

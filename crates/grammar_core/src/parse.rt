@@ -1,0 +1,111 @@
+//! A script from its bytes, or its first fault.
+ghost use Rattle.std.specs.Prelude.{◌≡◌, map, IfErr, IsTrue};
+ghost use Rattle.std.specs.List.{list_all};
+ghost use Rattle.grammar_core.specs.Answers.{Gives, GivesScript};
+ghost use Rattle.grammar_core.specs.Grammar.{with_words, with_line, script_of};
+ghost use Rattle.grammar_core.specs.Readings.{reading_view};
+ghost use Rattle.grammar_core.specs.Scripts.{plain_script};
+ghost use Rattle.grammar_core.specs.Words.{is_visible};
+
+use crate::cast::{Cast, add_consoles, opening};
+use crate::command::command_of;
+use crate::fault::{FaultKind, ScriptFault};
+use crate::script::{Line, Script};
+use crate::words::{lines_of, text_of, words_of};
+use std::alloc::Allocator;
+
+/// The most bytes of a script.
+pub const LONGEST_SCRIPT: usize = 1_048_576;
+
+/// The most bytes of a line, without its line feed.
+const LONGEST_LINE: usize = 4096;
+
+/// What has been read so far.
+#[derive(Drop)]
+pub struct Reading<A: Allocator> {
+    pub cast: Option<Cast<A>>,
+    pub lines: Vec<Line<A>, A>,
+}
+
+#[tactic(auto, unfolding(crate::specs::Grammar::with_words, crate::specs::Grammar::with_words_by))]
+fn read_words<A: Allocator + Copy>(
+    alloc: A,
+    reading: &mut Reading<A>,
+    number: u64,
+    words: &[&str],
+) -> Result<(), FaultKind>
+    requires { IsTrue (list_all is_visible (map (λ word. word.now) words.now)) }
+    ensures gives { Gives (λ _. reading_view reading.new) result (with_words (reading_view reading.old) number (map (λ word. word.now) words.now)) }
+    ensures kept { IfErr result (λ _. reading_view reading.new ≡ reading_view reading.old) }
+{
+    let [first, rest @ ..] = words else {
+        return Ok(());
+    };
+    if first.starts_with('#') {
+        return Ok(());
+    }
+    let Some(cast) = &mut reading.cast else {
+        reading.cast = Some(opening(alloc, first, rest)?);
+        return Ok(());
+    };
+    if *first == "consoles" {
+        return add_consoles(alloc, cast, rest);
+    }
+    let command = command_of(alloc, cast, first, rest)?;
+    reading.lines.push(Line { number, command })?;
+    Ok(())
+}
+
+/// A line, whose fault changes nothing.
+#[tactic(auto, unfolding(crate::specs::Grammar::with_line))]
+pub fn read_line<A: Allocator + Copy>(
+    alloc: A,
+    reading: &mut Reading<A>,
+    number: u64,
+    line: &[u8],
+) -> Result<(), FaultKind>
+    ensures gives { Gives (λ _. reading_view reading.new) result (with_line (reading_view reading.old) number line.now) }
+    ensures kept { IfErr result (λ _. reading_view reading.new ≡ reading_view reading.old) }
+{
+    if line.len() > LONGEST_LINE {
+        return Err(FaultKind::TooLong);
+    }
+    let Some(text) = text_of(line) else {
+        return Err(FaultKind::NotText);
+    };
+    let words = words_of(alloc, text)?;
+    read_words(alloc, reading, number, &words)
+}
+
+/// The script that the bytes spell, or its first fault. Want of memory, at line 0, may come at any line in
+/// place of what would follow.
+#[tactic(auto, unfolding(crate::specs::Grammar::script_of, crate::specs::Grammar::with_lines))]
+pub fn parse_script<A: Allocator + Copy>(alloc: A, bytes: &[u8]) -> Result<Script<A>, ScriptFault>
+    ensures { GivesScript plain_script result (script_of bytes.now) }
+{
+    if bytes.len() > LONGEST_SCRIPT {
+        return Err(ScriptFault {
+            line: 0,
+            kind: FaultKind::TooLong,
+        });
+    }
+    let lines = lines_of(alloc, bytes)?;
+    let mut reading = Reading {
+        cast: None,
+        lines: Vec::new(alloc),
+    };
+    for (index, line) in lines.iter().enumerate() {
+        let number = index as u64 + 1;
+        if let Err(kind) = read_line(alloc, &mut reading, number, line) {
+            return Err(ScriptFault::at(number, kind));
+        }
+    }
+    let Reading { cast, lines } = reading;
+    match cast {
+        Some(cast) => Ok(Script { cast, lines }),
+        None => Err(ScriptFault {
+            line: 0,
+            kind: FaultKind::NoNodes,
+        }),
+    }
+}

@@ -1,9 +1,0 @@
-use Rattle.std.proofs.Common.{◌≡◌, ◌∙◌}
-use Rattle.presence_bench.specs.declared.chosen.Form.TheVariants as forms
-use Rattle.presence_bench.proofs.Printed.{ends_load}
-use Rattle.presence_bench.proofs.printing.load_report.Goals as goal
-
-pub returns-clause-ends : goal.returns-clause-ends
-returns-clause-ends g c =
-    ends_load forms.Report c.args.limits c.deref.result.now _ _ _ _ c.print.result c.in_ok-told.ensures.session
-    (c.deref.ensures.value ∙ c.in_ok-told.ensures.report) c.print.ensures

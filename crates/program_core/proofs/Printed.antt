@@ -1,0 +1,143 @@
+-- What a text that was written is, for the input that it was made of.
+use Rattle.std.proofs.Common.{◌≡◌, List, ℕ, Option, None, Some, Result, Ok, Err, IfErr, IfOk, IsOkAnd, OnOk, refl, sym, subst, arith}
+use Rattle.std.proofs.lemmas.Bool.Decides.{nat_tests}
+use Rattle.std.specs.Io.KnownBytes.{Appends}
+use Rattle.bench_core.specs.Limits.{Limits}
+use Rattle.bench_core.specs.Machine.{Machine}
+use Rattle.explain_core.specs.Questions.{IsAnswer}
+use Rattle.explain_core.specs.declared.asking.Question.{Question}
+use Rattle.grammar_core.specs.Grammar.{script_of}
+use Rattle.script_core.specs.Play.{IsLonger}
+use Rattle.script_core.specs.Report.{history_text, played, report_of}
+use Rattle.grammar_core.specs.Scripts.{Script}
+use Rattle.grammar_core.specs.declared.fault.FaultKind.TheVariants.{TooLong}
+use Rattle.command_line.specs.declared.chosen.Form.{Form}
+use Rattle.command_line.specs.declared.chosen.Subcommand.{Subcommand}
+use Rattle.command_line.specs.declared.chosen.Subcommand.TheVariants.{Play, Race, Load, Explore, Step, Draw, Explain}
+use Rattle.program_core.specs.declared.fault.Fault.{Fault}
+use Rattle.program_core.specs.declared.fault.Fault.TheVariants as faults
+use Rattle.grammar_core.specs.declared.fault.ScriptFault.{ScriptFault}
+use Rattle.explore_core.specs.declared.reading.Reading.{Reading}
+use Rattle.program_core.specs.Explored.{TellsOrders}
+use Rattle.prompt_core.specs.Ends.{Answers, EndsEarly, ReportLaw, printed}
+use Rattle.prompt_core.specs.declared.prompt_fault.PromptFault.{PromptFault}
+use Rattle.command_line.specs.Help.{language}
+use Rattle.program_core.specs.Races.{IsRaceOf}
+use Rattle.program_core.specs.Program.{IsCauseAt, IsScriptAt, IsSessionAt, Prints, drawn, Ends, EndsAt, EndsAsText, EndsSoon, KeepsBefore, TellsMemory, shown}
+
+-- an input past the limit has that fault
+pub too_long : (known : Option (List ℕ)) → IsLonger known 1048576 → IsCauseAt known (faults.Script (record { line = 0; kind = TooLong }))
+unfolding script_of
+too_long None h = tt
+too_long (Some input) h = grind (arith, nat_tests)
+
+-- what holds whatever the answer is
+pub always : (r : Result (Unit {0}) Fault) (X : Type 0) → X → OnOk r X
+always (Ok u) X x = x
+always (Err fault) X x = tt
+
+module _ (form : Form) (limits : Limits) (text : List ℕ) (old new : Option (List ℕ)) where
+  ends : (command : Subcommand) (input : List ℕ) (r : Result (Unit {0}) Fault) → Prints command form limits input text →
+      EndsAsText text r old new → Ends command form limits input r old new
+  ends command input (Ok u) p e = (text, p, e)
+  ends command input (Err (faults.WriteFault written)) p e = (text, p, e.0, e.1)
+  ends command input (Err (faults.Script fault)) p e = elim e [ ]
+  ends command input (Err (faults.Session fault)) p e = elim e [ ]
+  ends command input (Err faults.LongSession) p e = elim e [ ]
+  ends command input (Err (faults.Race fault)) p e = elim e [ ]
+  ends command input (Err (faults.TooManyStates most)) p e = elim e [ ]
+  ends command input (Err (faults.Explain fault)) p e = elim e [ ]
+  ends command input (Err (faults.Prompt fault)) p e = elim e [ ]
+  ends command input (Err (faults.NoSuchOutcome outcomes)) p e = elim e [ ]
+  ends command input (Err faults.ReadFault) p e = elim e [ ]
+  ends command input (Err faults.OutOfMemory) p e = elim e [ ]
+
+  pub ends_play : (known : Option (List ℕ)) (s : Script) (r : Result (Unit {0}) Fault) → IsScriptAt known s →
+      text ≡ shown form (report_of limits s) (played limits s) → EndsAsText text r old new → EndsAt Play form limits known r old new
+  ends_play None s r k is e = tt
+  ends_play (Some input) s r k is e =
+      ends Play input r (subst (λ o. IsOkAnd o (λ s. text ≡ shown form (report_of limits s) (played limits s))) (sym k) is) e
+
+  pub ends_load : (known : Option (List ℕ)) (m : Machine) (r : Result (Unit {0}) Fault) → IsSessionAt known m →
+      text ≡ shown form (history_text m) m → EndsAsText text r old new → EndsAt Load form limits known r old new
+  ends_load None m r k is e = tt
+  ends_load (Some input) m r k is e = ends Load input r (m, k, is) e
+
+  pub ends_draw : (why : Option ℕ) (known : Option (List ℕ)) (m : Machine) (r : Result (Unit {0}) Fault) → IsSessionAt known m →
+      text ≡ drawn why m → EndsAsText text r old new → EndsAt (Draw why) form limits known r old new
+  ends_draw why None m r k is e = tt
+  ends_draw why (Some input) m r k is e = ends (Draw why) input r (m, k, is) e
+
+  pub ends_explain : (question : Question) (known : Option (List ℕ)) (m : Machine) (r : Result (Unit {0}) Fault) → IsSessionAt known m →
+      IsAnswer m question text → EndsAsText text r old new → EndsAt (Explain question) form limits known r old new
+  ends_explain question None m r k told e = tt
+  ends_explain question (Some input) m r k told e = ends (Explain question) input r (m, k, told) e
+
+  pub ends_race : (known : Option (List ℕ)) (s : Script) (m : Machine) (r : Result (Unit {0}) Fault) → IsScriptAt known s →
+      IsRaceOf limits s m → text ≡ shown form (history_text m) m → EndsAsText text r old new → EndsAt Race form limits known r old new
+  ends_race None s m r k raced is e = tt
+  ends_race (Some input) s m r k raced is e =
+      let P : Result Script ScriptFault → Type 0 =
+      λ o. IsOkAnd o (λ s. (m : Machine) × IsRaceOf limits s m × (text ≡ shown form (history_text m) m)) in
+      ends Race input r (subst P (sym k) (m, raced, is)) e
+
+  pub ends_explore : (reading : Reading) (states : ℕ) (outcome : Option ℕ) (known : Option (List ℕ)) (s : Script) (r : Result (Unit {0}) Fault) → IsScriptAt known s →
+      TellsOrders reading outcome limits s text → EndsAsText text r old new → EndsAt (Explore reading states outcome) form limits known r old new
+  ends_explore reading states outcome None s r k told e = tt
+  ends_explore reading states outcome (Some input) s r k told e =
+      let P : Result Script ScriptFault → Type 0 = λ o. IsOkAnd o (λ s. TellsOrders reading outcome limits s text) in
+      ends (Explore reading states outcome) input r (subst P (sym k) told) e
+
+  -- a text that goes out meets no fault but that of a write
+  pub keeps_before : (r : Result (Unit {0}) Fault) → EndsAsText text r old new → IfErr r (λ fault. KeepsBefore fault old new)
+  keeps_before (Ok u) e = tt
+  keeps_before (Err (faults.WriteFault written)) e = tt
+  keeps_before (Err (faults.Script fault)) e = elim e [ ]
+  keeps_before (Err (faults.Session fault)) e = elim e [ ]
+  keeps_before (Err faults.LongSession) e = elim e [ ]
+  keeps_before (Err (faults.Race fault)) e = elim e [ ]
+  keeps_before (Err (faults.TooManyStates most)) e = elim e [ ]
+  keeps_before (Err (faults.Explain fault)) e = elim e [ ]
+  keeps_before (Err (faults.Prompt fault)) e = elim e [ ]
+  keeps_before (Err (faults.NoSuchOutcome outcomes)) e = elim e [ ]
+  keeps_before (Err faults.ReadFault) e = elim e [ ]
+  keeps_before (Err faults.OutOfMemory) e = elim e [ ]
+
+  pub tells_memory : (r : Result (Unit {0}) Fault) → EndsAsText text r old new → IfErr r TellsMemory
+  tells_memory (Ok u) e = tt
+  tells_memory (Err (faults.WriteFault written)) e = tt
+  tells_memory (Err (faults.Script fault)) e = elim e [ ]
+  tells_memory (Err (faults.Session fault)) e = elim e [ ]
+  tells_memory (Err faults.LongSession) e = elim e [ ]
+  tells_memory (Err (faults.Race fault)) e = elim e [ ]
+  tells_memory (Err (faults.TooManyStates most)) e = elim e [ ]
+  tells_memory (Err (faults.Explain fault)) e = elim e [ ]
+  tells_memory (Err (faults.Prompt fault)) e = elim e [ ]
+  tells_memory (Err (faults.NoSuchOutcome outcomes)) e = elim e [ ]
+  tells_memory (Err faults.ReadFault) e = elim e [ ]
+  tells_memory (Err faults.OutOfMemory) e = elim e [ ]
+
+-- at a prompt
+
+if_ok_each : (r : Result Script ScriptFault) (P : Script → Type 0) → ((s : Script) → r ≡ Ok s → P s) → IfOk r P
+if_ok_each (Ok s) P each = each s refl
+if_ok_each (Err fault) P each = tt
+
+pub ends_step : ReportLaw → (form : Form) (limits : Limits) (help : List ℕ) → help ≡ language → (known old new : Option (List ℕ)) →
+    Answers help limits known old new → EndsAt Step form limits known (Ok tt) old new
+ends_step law form limits help is None old new answered = tt
+ends_step law form limits help is (Some input) old new answered = (
+  printed language limits input,
+  (refl, if_ok_each (script_of input) (λ s. printed language limits input ≡ report_of limits s) (law language limits input)),
+  subst (λ (help : List ℕ). Appends old new (printed help limits input)) is answered,
+)
+
+pub ends_prompt : (form : Form) (limits : Limits) (fault : PromptFault) (known old new : Option (List ℕ)) →
+    EndsAt Step form limits known (Err (faults.Prompt fault)) old new
+ends_prompt form limits fault None old new = tt
+ends_prompt form limits fault (Some input) old new = tt
+
+pub early_prompt : (limits : Limits) (help : List ℕ) → help ≡ language → (fault : PromptFault) (known left old new : Option (List ℕ)) →
+    EndsEarly help limits fault known left old new → EndsSoon Step limits (Err (faults.Prompt fault)) known left old new
+early_prompt limits help is fault known left old new early =
+    subst (λ (help : List ℕ). EndsEarly help limits fault known left old new) is early

@@ -1,0 +1,215 @@
+-- What the program prints, and how it ends.
+use Rattle.std.specs.Prelude.{◌≡◌, ◌≢◌, ◌⊎◌, ℕ, ◌<◌, List, [], ◌∷◌, ◌++◌, length, take, ⊤, Option, None, Some, Result, Ok, Err, OnOk, IfErr, IfOk, IsOkAnd}
+use Rattle.std.specs.Io.KnownBytes.{Appends, IsAtEnd, Keeps}
+use Rattle.serde_json.specs.Written.{compact_text}
+use Rattle.bench_core.specs.Limits.{Limits}
+use Rattle.bench_core.specs.Machine.{Machine}
+use Rattle.explain_core.specs.Questions.{IsAnswer, Refuses as RefusesQuestion}
+use Rattle.explain_core.specs.declared.ask_fault.AskFault.{AskFault}
+use Rattle.explain_core.specs.declared.ask_fault.AskFault.TheVariants as asks
+use Rattle.explain_core.specs.declared.asking.Question.{Question}
+use Rattle.picture_core.specs.Pictures.{picture}
+use Rattle.picture_core.specs.Standings.{painted_of}
+use Rattle.grammar_core.specs.Grammar.{script_of}
+use Rattle.script_core.specs.Report.{history_text, played, report_of}
+use Rattle.grammar_core.specs.Scripts.{Script}
+use Rattle.grammar_core.specs.declared.fault.FaultKind.TheVariants as kinds
+use Rattle.script_core.specs.declared.fault.PlayFault.{PlayFault}
+use Rattle.script_core.specs.declared.fault.PlayFault.TheVariants as plays
+use Rattle.session_core.specs.Format.{session}
+use Rattle.session_core.specs.Sessions.{IsSession, Refuses}
+use Rattle.session_core.specs.declared.session_fault.SessionFault.TheVariants as sessions
+use Rattle.svg_core.specs.Trees.{text_of}
+use Rattle.worker_core.specs.declared.race_fault.RaceFault.{RaceFault}
+use Rattle.worker_core.specs.declared.race_fault.RaceFault.TheVariants as races
+use Rattle.program_core.specs.Explored.{TellsOrders, RefusesOrders}
+use Rattle.prompt_core.specs.Ends.{EndsEarly, printed}
+use Rattle.prompt_core.specs.declared.prompt_fault.PromptFault.TheVariants as prompts
+use Rattle.command_line.specs.Help.{language}
+use Rattle.program_core.specs.Races.{IsRaceOf, RefusesRaceOf}
+use Rattle.command_line.specs.declared.chosen.Choice.{Choice}
+use Rattle.command_line.specs.declared.chosen.Form.{Form}
+use Rattle.command_line.specs.declared.chosen.Form.TheVariants.{Report, Session}
+use Rattle.command_line.specs.declared.chosen.Subcommand.{Subcommand}
+use Rattle.command_line.specs.declared.chosen.Subcommand.TheVariants.{Play, Race, Load, Explore, Step, Draw, Explain}
+use Rattle.program_core.specs.declared.fault.Fault.{Fault}
+use Rattle.program_core.specs.declared.fault.Fault.TheVariants as faults
+
+abbrev pub fault_status : Fault → ℕ
+fault_status (faults.Script fault) = 1
+fault_status (faults.Session fault) = 1
+fault_status faults.LongSession = 1
+fault_status (faults.Race races.UnknownActor) = 1
+fault_status (faults.Race races.NoRoom) = 1
+fault_status (faults.Race races.WorkerRefused) = 5
+fault_status (faults.Race races.OutOfMemory) = 4
+fault_status (faults.Race races.LogsDisagree) = 5
+fault_status (faults.TooManyStates most) = 1
+fault_status (faults.NoSuchOutcome outcomes) = 1
+fault_status (faults.Explain asks.NoSuchNode) = 1
+fault_status (faults.Explain asks.NoWord) = 1
+fault_status (faults.Explain asks.OutOfMemory) = 4
+fault_status (faults.Prompt prompts.TooLong) = 1
+fault_status (faults.Prompt prompts.ReadFault) = 3
+fault_status (faults.Prompt prompts.WriteFault) = 3
+fault_status (faults.Prompt prompts.OutOfMemory) = 4
+fault_status faults.ReadFault = 3
+fault_status (faults.WriteFault written) = 3
+fault_status faults.OutOfMemory = 4
+
+-- the status of an answer
+abbrev pub status_of : Result (Unit {0}) Fault → ℕ
+status_of (Ok _) = 0
+status_of (Err fault) = fault_status fault
+
+abbrev pub fault_of_play : PlayFault → Fault
+fault_of_play (plays.Script fault) = faults.Script fault
+fault_of_play plays.ReadFault = faults.ReadFault
+fault_of_play (plays.WriteFault written) = faults.WriteFault written
+fault_of_play plays.OutOfMemory = faults.OutOfMemory
+
+abbrev pub fault_of_race : RaceFault → Fault
+fault_of_race races.OutOfMemory = faults.OutOfMemory
+fault_of_race fault = faults.Race fault
+
+abbrev pub fault_of_ask : AskFault → Fault
+fault_of_ask asks.OutOfMemory = faults.OutOfMemory
+fault_of_ask fault = faults.Explain fault
+
+-- the text of a bench's session, and a line feed
+abbrev pub session_text : Machine → List ℕ
+session_text m = compact_text (session 2 m.names m.limits m.state.history) ++ 10 ∷ []
+
+-- the input spells this script; so, where it is known
+abbrev pub IsScriptAt : Option (List ℕ) → Script → Type 0
+IsScriptAt None script = ⊤
+IsScriptAt (Some input) script = script_of input ≡ Ok script
+
+-- the input is the session of this bench; so, where it is known
+abbrev pub IsSessionAt : Option (List ℕ) → Machine → Type 0
+IsSessionAt None bench = ⊤
+IsSessionAt (Some input) bench = IsSession input bench
+
+-- the input is refused so: a fault of a script is its first, one of a session comes only in its case
+abbrev pub IsCause : List ℕ → Fault → Type 0
+IsCause input (faults.Script fault) = script_of input ≡ Err fault
+IsCause input (faults.Session fault) = Refuses input fault
+IsCause input faults.LongSession = 67108864 < length input
+IsCause input (faults.Race fault) = ⊥
+IsCause input (faults.TooManyStates most) = ⊥
+IsCause input (faults.Explain fault) = ⊥
+IsCause input (faults.Prompt fault) = ⊥
+IsCause input (faults.NoSuchOutcome outcomes) = ⊥
+IsCause input _ = ⊤
+
+-- nothing is explained of a session's bench
+abbrev pub RefusesAsked : Question → List ℕ → Fault → Type 0
+RefusesAsked question input (faults.Explain fault) = (m : Machine) × IsSession input m × RefusesQuestion m question fault
+RefusesAsked question input fault = ⊥
+
+-- what refuses the input of this command: of a race also that a line is no act line, or that the race can't be had; of all orders
+-- that a line is no act line, that there are too many states, or that there is no such outcome; and of what is asked that nothing is explained
+abbrev pub IsCauseOf : Subcommand → Limits → List ℕ → Fault → Type 0
+IsCauseOf Race limits input fault = IsCause input fault ⊎ IsOkAnd (script_of input) (λ s. RefusesRaceOf limits s fault)
+IsCauseOf Play limits input fault = IsCause input fault
+IsCauseOf Load limits input fault = IsCause input fault
+IsCauseOf (Explore reading states outcome) limits input fault = IsCause input fault ⊎ IsOkAnd (script_of input) (λ s. RefusesOrders reading states outcome limits s fault)
+IsCauseOf Step limits input fault = ⊥
+IsCauseOf (Draw why) limits input fault = IsCause input fault
+IsCauseOf (Explain question) limits input fault = IsCause input fault ⊎ RefusesAsked question input fault
+
+abbrev pub IsCauseAt : Option (List ℕ) → Fault → Type 0
+IsCauseAt None fault = ⊤
+IsCauseAt (Some input) fault = IsCause input fault
+
+-- what is shown of a bench that has this report
+abbrev pub shown : Form → List ℕ → Machine → List ℕ
+shown Report report bench = report
+shown Session report bench = session_text bench
+
+-- the text of a bench's picture, with the future of a step painted
+abbrev pub drawn : Option ℕ → Machine → List ℕ
+drawn why bench = text_of (picture bench (painted_of bench.state why))
+
+-- the text is what the subcommand prints of the input: of a script's bench, of a session's, of all orders of a script's lines, or at
+-- a prompt; there too it is the report of a script without faults
+abbrev pub Prints : Subcommand → Form → Limits → List ℕ → List ℕ → Type 0
+Prints Play form limits input text = IsOkAnd (script_of input) (λ s. text ≡ shown form (report_of limits s) (played limits s))
+Prints Race form limits input text = IsOkAnd (script_of input) (λ s. (m : Machine) × IsRaceOf limits s m × (text ≡ shown form (history_text m) m))
+Prints Load form limits input text = (m : Machine) × IsSession input m × (text ≡ shown form (history_text m) m)
+Prints (Explore reading states outcome) form limits input text = IsOkAnd (script_of input) (λ s. TellsOrders reading outcome limits s text)
+Prints Step form limits input text =
+    (text ≡ printed language limits input) × IfOk (script_of input) (λ s. text ≡ report_of limits s)
+Prints (Draw why) form limits input text = (m : Machine) × IsSession input m × (text ≡ drawn why m)
+Prints (Explain question) form limits input text = (m : Machine) × IsSession input m × IsAnswer m question text
+
+-- all of the text went out, or, where the writing failed, its first `written` bytes
+abbrev pub EndsAsText : List ℕ → Result (Unit {0}) Fault → Option (List ℕ) → Option (List ℕ) → Type 0
+EndsAsText text (Ok _) old new = Appends old new text
+EndsAsText text (Err (faults.WriteFault written)) old new = (written < length text) × Appends old new (take written text)
+EndsAsText text (Err fault) old new = ⊥
+
+-- a prompt's faults come at a prompt alone, where they are all that comes; what went out before is told by `EndsSoon`
+abbrev pub HasPrompt : Subcommand → Type 0
+HasPrompt Play = ⊥
+HasPrompt Race = ⊥
+HasPrompt Load = ⊥
+HasPrompt (Explore reading states outcome) = ⊥
+HasPrompt Step = ⊤
+HasPrompt (Draw why) = ⊥
+HasPrompt (Explain question) = ⊥
+
+-- what went out, by the answer: what is printed of the input; its first bytes, where a write failed; and else nothing, and the
+-- fault is the input's
+abbrev pub Ends : Subcommand → Form → Limits → List ℕ → Result (Unit {0}) Fault → Option (List ℕ) → Option (List ℕ) → Type 0
+Ends command form limits input (Ok u) old new = (text : List ℕ) × Prints command form limits input text × Appends old new text
+Ends command form limits input (Err (faults.WriteFault written)) old new =
+    (text : List ℕ) × Prints command form limits input text × (written < length text) × Appends old new (take written text)
+Ends command form limits input (Err (faults.Prompt fault)) old new = HasPrompt command
+Ends command form limits input (Err fault) old new = IsCauseOf command limits input fault × Keeps old new
+
+-- the same, where the reader's bytes are known
+abbrev pub EndsAt : Subcommand → Form → Limits → Option (List ℕ) → Result (Unit {0}) Fault → Option (List ℕ) → Option (List ℕ) → Type 0
+EndsAt command form limits None result old new = ⊤
+EndsAt command form limits (Some input) result old new = Ends command form limits input result old new
+
+-- nothing went out for a fault that came before the writing
+abbrev pub KeepsBefore : Fault → Option (List ℕ) → Option (List ℕ) → Type 0
+KeepsBefore (faults.WriteFault written) old new = ⊤
+KeepsBefore (faults.Prompt fault) old new = ⊤
+KeepsBefore _ old new = Keeps old new
+
+-- a prompt that ends early has answered all lines that it took in, but for the last
+abbrev pub EndsSoon : Subcommand → Limits → Result (Unit {0}) Fault → Option (List ℕ) → Option (List ℕ) → Option (List ℕ) → Option (List ℕ) → Type 0
+EndsSoon Step limits (Err (faults.Prompt fault)) input left old new = EndsEarly language limits fault input left old new
+EndsSoon Step limits result input left old new = ⊤
+EndsSoon Play limits result input left old new = ⊤
+EndsSoon Race limits result input left old new = ⊤
+EndsSoon Load limits result input left old new = ⊤
+EndsSoon (Explore reading states outcome) limits result input left old new = ⊤
+EndsSoon (Draw why) limits result input left old new = ⊤
+EndsSoon (Explain question) limits result input left old new = ⊤
+
+-- it is no fault of a write, nor of a prompt
+abbrev pub IsUnwritten : Fault → Type 0
+IsUnwritten (faults.WriteFault written) = ⊥
+IsUnwritten (faults.Prompt fault) = ⊥
+IsUnwritten _ = ⊤
+
+-- want of memory is never told as a fault of the input
+abbrev pub TellsMemory : Fault → Type 0
+TellsMemory (faults.Script fault) = fault.kind ≢ kinds.OutOfMemory
+TellsMemory (faults.Session fault) = fault ≢ sessions.OutOfMemory
+TellsMemory (faults.Race fault) = fault ≢ races.OutOfMemory
+TellsMemory (faults.Explain fault) = fault ≢ asks.OutOfMemory
+TellsMemory _ = ⊤
+
+-- the status is that of an answer by which the choice may end on the input, with what is left of the input and what went out
+pub record Exits (choice : Choice) (input left : Option (List ℕ)) (limits : Limits) (status : ℕ) (old new : Option (List ℕ)) : Type 0 where
+  pub answer : Result (Unit {0}) Fault
+  pub status_is : status ≡ status_of answer
+  pub ends : EndsAt choice.command choice.form limits input answer old new
+  pub read : OnOk answer (IsAtEnd left)
+  pub unwritten : IfErr answer (λ fault. KeepsBefore fault old new)
+  pub memory : IfErr answer TellsMemory
+  pub early : EndsSoon choice.command limits answer input left old new

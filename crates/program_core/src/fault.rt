@@ -1,0 +1,99 @@
+//! `Fault`: why the program ends early, its status and its line.
+ghost use Rattle.std.specs.Prelude.{◌≡◌};
+ghost use Rattle.program_core.specs.Program.{fault_status};
+
+use explain_core::AskFault;
+use prompt_core::PromptFault;
+use script_core::{PlayFault, ScriptFault};
+use session_core::SessionFault;
+use thiserror::Error;
+use worker_core::RaceFault;
+
+/// Why the program ends early. Printed, it is what the line on standard error tells.
+#[derive(Clone, Copy, Debug, PartialEq, Eq, Error)]
+pub enum Fault {
+    /// The first fault of a script.
+    #[error("{0}")]
+    Script(ScriptFault),
+    /// Why a text is no session.
+    #[error("session: {0}")]
+    Session(SessionFault),
+    /// A text is longer than a session may be.
+    #[error("session: TooLong")]
+    LongSession,
+    /// Why a race can't be vouched for. Want of memory is never in it.
+    #[error("race: {0}")]
+    Race(RaceFault),
+    /// More different states than so many would be kept of all orders.
+    #[error("explore: TooManyStates, more than {most}")]
+    TooManyStates { most: usize },
+    /// All orders lead to so many outcomes, and none has the number that was asked for.
+    #[error("explore: NoSuchOutcome, there are {outcomes}")]
+    NoSuchOutcome { outcomes: usize },
+    /// Why nothing is explained. Want of memory is never in it.
+    #[error("explain: {0}")]
+    Explain(AskFault),
+    /// A prompt ended early, after what it had answered.
+    #[error("{0}")]
+    Prompt(PromptFault),
+    /// A read failed.
+    #[error("read fault")]
+    ReadFault,
+    /// Exactly the first `written` bytes went out.
+    #[error("write fault")]
+    WriteFault { written: usize },
+    /// A request for memory was refused.
+    #[error("out of memory")]
+    OutOfMemory,
+}
+
+impl Fault {
+    /// The status with which it ends the program.
+    pub fn status(self) -> u8
+        ensures { result ≡ fault_status self }
+    {
+        match self {
+            Fault::Script(_) | Fault::Session(_) | Fault::LongSession => 1,
+            Fault::Race(RaceFault::UnknownActor | RaceFault::NoRoom) => 1,
+            Fault::TooManyStates { .. } | Fault::NoSuchOutcome { .. } => 1,
+            Fault::Explain(AskFault::NoSuchNode | AskFault::NoWord) => 1,
+            Fault::Prompt(PromptFault::TooLong) => 1,
+            Fault::Prompt(PromptFault::ReadFault | PromptFault::WriteFault) => 3,
+            Fault::Prompt(PromptFault::OutOfMemory) => 4,
+            Fault::ReadFault | Fault::WriteFault { .. } => 3,
+            Fault::Race(RaceFault::OutOfMemory) | Fault::OutOfMemory => 4,
+            Fault::Explain(AskFault::OutOfMemory) => 4,
+            Fault::Race(RaceFault::WorkerRefused | RaceFault::LogsDisagree) => 5,
+        }
+    }
+}
+
+impl From<PlayFault> for Fault {
+    ghost use Rattle.std.specs.Prelude.{◌≡◌};
+    ghost use Rattle.program_core.specs.Program.{fault_of_play};
+
+    ghost from_gives = { λ fault given. given ≡ fault_of_play fault };
+
+    fn from(fault: PlayFault) -> Fault {
+        match fault {
+            PlayFault::Script(fault) => Fault::Script(fault),
+            PlayFault::ReadFault => Fault::ReadFault,
+            PlayFault::WriteFault { written } => Fault::WriteFault { written },
+            PlayFault::OutOfMemory => Fault::OutOfMemory,
+        }
+    }
+}
+
+impl From<AskFault> for Fault {
+    ghost use Rattle.std.specs.Prelude.{◌≡◌};
+    ghost use Rattle.program_core.specs.Program.{fault_of_ask};
+
+    ghost from_gives = { λ fault given. given ≡ fault_of_ask fault };
+
+    fn from(fault: AskFault) -> Fault {
+        match fault {
+            AskFault::OutOfMemory => Fault::OutOfMemory,
+            AskFault::NoSuchNode | AskFault::NoWord => Fault::Explain(fault),
+        }
+    }
+}

@@ -1,0 +1,79 @@
+//! The race of a script's act lines.
+ghost use Rattle.std.specs.Prelude.{◌≡◌, Ok, Err, IfOk, IfErr};
+ghost use Rattle.grammar_core.specs.Scripts.{plain_script};
+ghost use Rattle.program_core.specs.Program.{TellsMemory, IsUnwritten, fault_of_race};
+ghost use Rattle.program_core.specs.Races.{IsRaceOf, RefusesRaceOf};
+
+use crate::fault::Fault;
+use bench_core::{Bench, Limits};
+use script_core::{FaultKind, Script, actors, acts, node_names};
+use std::alloc::Allocator;
+use std::sync::Wait;
+use std::thread::Threads;
+use worker_core::{Gate, RaceFault, Receipts, race};
+
+/// A gate whose calls return at once.
+struct Idle;
+
+impl Gate for Idle {
+    fn before(&self, _actor: u16, _line: u64) {}
+
+    fn after(&self, _actor: u16, _line: u64) {}
+}
+
+/// A race's fault as the program's.
+fn fault_of(fault: RaceFault) -> Fault
+    ensures { result ≡ fault_of_race fault }
+{
+    match fault {
+        RaceFault::OutOfMemory => Fault::OutOfMemory,
+        fault => Fault::Race(fault),
+    }
+}
+
+/// Lets go of the receipts of a race, for which it vouched.
+fn discard<A: Allocator>(receipts: Receipts<A>) {
+    drop(receipts);
+}
+
+/// The bench that a race gave, which it vouched for; the receipts go, and so does a bench that it didn't.
+fn outcome<'a, B: Allocator>(
+    raced: Result<(Bench<'a, B>, Receipts<&'a B>), (RaceFault, Bench<'a, B>)>,
+) -> Result<Bench<'a, B>, Fault>
+    ensures bench { IfOk raced.entry (λ r. result ≡ Ok r.0) }
+    ensures fault { IfErr raced.entry (λ e. result ≡ Err (fault_of_race e.0)) }
+{
+    match raced {
+        Ok((bench, receipts)) => {
+            discard(receipts);
+            Ok(bench)
+        }
+        Err((fault, _bench)) => Err(fault_of(fault)),
+    }
+}
+
+/// The bench that a race of the script's lines leaves. Workers go as they come.
+pub fn race_script<'a, B: Allocator + Sync, T: Threads + Wait + Sync>(
+    rt: &T,
+    alloc: &'a B,
+    script: &Script<&'a B>,
+    limits: Limits,
+) -> Result<Bench<'a, B>, Fault>
+    ensures raced { IfOk result (IsRaceOf limits (plain_script script.now)) }
+    ensures cause { IfErr result (RefusesRaceOf limits (plain_script script.now)) }
+    ensures memory { IfErr result TellsMemory }
+    ensures unwritten { IfErr result IsUnwritten }
+{
+    let lines = match acts(alloc, script) {
+        Ok(lines) => lines,
+        Err(fault) if fault.kind == FaultKind::OutOfMemory => return Err(Fault::OutOfMemory),
+        Err(fault) => return Err(Fault::Script(fault)),
+    };
+    let Ok(names) = node_names(script).try_copy() else {
+        return Err(Fault::OutOfMemory);
+    };
+    let Ok(bench) = Bench::new(alloc, names, limits) else {
+        return Err(Fault::OutOfMemory);
+    };
+    outcome(race(rt, alloc, bench, actors(script), lines, &Idle))
+}

@@ -1,0 +1,44 @@
+//! A prompt from the program's input to its output.
+ghost use Rattle.std.specs.Prelude.{◌≡◌, IfErr, OnOk};
+ghost use Rattle.std.specs.Io.KnownBytes.{IsAtEnd};
+ghost use Rattle.command_line.specs.Help.{language};
+ghost use Rattle.program_core.specs.Program.{EndsAt, EndsSoon, KeepsBefore, TellsMemory};
+ghost use Rattle.command_line.specs.declared.chosen.Form.{Form};
+ghost use Rattle.command_line.specs.declared.chosen.Subcommand.TheVariants as subcommands;
+
+use crate::fault::Fault;
+use bench_core::Limits;
+use command_line::LANGUAGE;
+use prompt_core::laws::report_law;
+use prompt_core::step;
+use std::alloc::{Allocator, Global};
+use std::io::{BufRead, Write};
+
+/// What `:help` prints.
+#[tactic(auto, unfolding(command_line::specs::Help::language))]
+fn help() -> &'static str
+    ensures { result.now ≡ language }
+{
+    LANGUAGE
+}
+
+/// Answers the lines of a script one by one, each before the next is read.
+pub fn step_script<B: Allocator, R: BufRead, W: Write>(
+    heap: Global,
+    alloc: &B,
+    reader: &mut R,
+    writer: &mut W,
+    limits: Limits,
+) -> Result<(), Fault>
+    ensures ends { (form : Form) → EndsAt subcommands.Step form limits (R.remaining reader.old) result (W.contents writer.old) (W.contents writer.new) }
+    ensures read { OnOk result (IsAtEnd (R.remaining reader.new)) }
+    ensures unwritten { IfErr result (λ fault. KeepsBefore fault (W.contents writer.old) (W.contents writer.new)) }
+    ensures memory { IfErr result TellsMemory }
+    ensures early { EndsSoon subcommands.Step limits result (R.remaining reader.old) (R.remaining reader.new) (W.contents writer.old) (W.contents writer.new) }
+{
+    report_law();
+    match step(heap, alloc, reader, writer, limits, help()) {
+        Ok(()) => Ok(()),
+        Err(fault) => Err(Fault::Prompt(fault)),
+    }
+}

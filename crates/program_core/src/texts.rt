@@ -1,0 +1,122 @@
+//! What is read, and what is printed of a bench besides the report of a play.
+ghost use Rattle.std.specs.Prelude.{◌≡◌, IfOk, IfErr, OnOk};
+ghost use Rattle.std.specs.Io.KnownBytes.{IsAtEnd};
+ghost use Rattle.script_core.specs.Play.{IsWhole};
+ghost use Rattle.script_core.specs.Report.{history_text};
+ghost use Rattle.grammar_core.specs.Scripts.{plain_script};
+ghost use Rattle.program_core.specs.Program.{IsCauseAt, IsScriptAt, IsSessionAt, IsUnwritten, TellsMemory, session_text};
+
+use crate::fault::Fault;
+use bench_core::Bench;
+use script_core::{FaultKind, InputFault, Played, Script, ScriptFault, parse_script, read_all};
+use session_core::{SessionFault, load, save};
+use session_report::report_session;
+use std::alloc::{AllocError, Allocator, Global};
+use std::io::Read;
+
+/// The most bytes of a script.
+const LONGEST_SCRIPT: usize = 1_048_576;
+
+/// The most bytes of a session.
+const LONGEST_SESSION: usize = 67_108_864;
+
+/// The script that the input spells.
+pub fn read_script<'a, B: Allocator, R: Read>(
+    alloc: &'a B,
+    reader: &mut R,
+) -> Result<Script<&'a B>, Fault>
+    ensures script { IfOk result (λ script. IsScriptAt (R.remaining reader.old) (plain_script script)) }
+    ensures cause { IfErr result (IsCauseAt (R.remaining reader.old)) }
+    ensures memory { IfErr result TellsMemory }
+    ensures unwritten { IfErr result IsUnwritten }
+    ensures read { OnOk result (IsAtEnd (R.remaining reader.new)) }
+{
+    let input = match read_all(alloc, reader, LONGEST_SCRIPT) {
+        Ok(input) => input,
+        Err(InputFault::ReadFault) => return Err(Fault::ReadFault),
+        Err(InputFault::TooLong) => {
+            return Err(Fault::Script(ScriptFault {
+                line: 0,
+                kind: FaultKind::TooLong,
+            }));
+        }
+        Err(InputFault::OutOfMemory) => return Err(Fault::OutOfMemory),
+    };
+    match parse_script(alloc, &input) {
+        Ok(script) => Ok(script),
+        Err(fault) if fault.kind == FaultKind::OutOfMemory => Err(Fault::OutOfMemory),
+        Err(fault) => Err(Fault::Script(fault)),
+    }
+}
+
+/// What a session is read of. Of an input that is too long no more is kept than a session may have.
+fn session_input<'a, B: Allocator, R: Read>(
+    alloc: &'a B,
+    reader: &mut R,
+) -> Result<Vec<u8, &'a B>, Fault>
+    ensures whole { IfOk result (λ bytes. IsWhole (R.remaining reader.old) bytes.items) }
+    ensures cause { IfErr result (IsCauseAt (R.remaining reader.old)) }
+    ensures memory { IfErr result TellsMemory }
+    ensures unwritten { IfErr result IsUnwritten }
+    ensures read { OnOk result (IsAtEnd (R.remaining reader.new)) }
+{
+    match read_all(alloc, reader, LONGEST_SESSION) {
+        Ok(input) => Ok(input),
+        Err(InputFault::ReadFault) => Err(Fault::ReadFault),
+        Err(InputFault::TooLong) => Err(Fault::LongSession),
+        Err(InputFault::OutOfMemory) => Err(Fault::OutOfMemory),
+    }
+}
+
+/// The bench of the session that the input is.
+pub fn read_session<'a, B: Allocator, R: Read>(
+    heap: Global,
+    alloc: &'a B,
+    reader: &mut R,
+) -> Result<Bench<'a, B>, Fault>
+    ensures session { IfOk result (IsSessionAt (R.remaining reader.old)) }
+    ensures cause { IfErr result (IsCauseAt (R.remaining reader.old)) }
+    ensures memory { IfErr result TellsMemory }
+    ensures unwritten { IfErr result IsUnwritten }
+    ensures read { OnOk result (IsAtEnd (R.remaining reader.new)) }
+{
+    let input = session_input(alloc, reader)?;
+    match load(heap, alloc, &input) {
+        Ok(bench) => Ok(bench),
+        Err(SessionFault::OutOfMemory) => Err(Fault::OutOfMemory),
+        Err(fault) => Err(Fault::Session(fault)),
+    }
+}
+
+/// The bench of the session that the input is, with what its calls print.
+pub fn tell_session<'a, B: Allocator, R: Read>(
+    heap: Global,
+    alloc: &'a B,
+    reader: &mut R,
+) -> Result<Played<'a, B>, Fault>
+    ensures session { IfOk result (λ told. IsSessionAt (R.remaining reader.old) told.bench) }
+    ensures report { IfOk result (λ told. told.report.items ≡ history_text told.bench) }
+    ensures cause { IfErr result (IsCauseAt (R.remaining reader.old)) }
+    ensures memory { IfErr result TellsMemory }
+    ensures unwritten { IfErr result IsUnwritten }
+    ensures read { OnOk result (IsAtEnd (R.remaining reader.new)) }
+{
+    let input = session_input(alloc, reader)?;
+    match report_session(heap, alloc, &input) {
+        Ok(told) => Ok(told),
+        Err(SessionFault::OutOfMemory) => Err(Fault::OutOfMemory),
+        Err(refusal) => Err(Fault::Session(refusal)),
+    }
+}
+
+/// The session of a bench and a line feed.
+pub fn session_line<'a, B: Allocator>(
+    heap: Global,
+    bench: &Bench<'a, B>,
+) -> Result<Vec<u8>, AllocError>
+    ensures { IfOk result (λ text. text.items ≡ session_text bench.now) }
+{
+    let mut text = save(heap, bench)?;
+    text.push(b'\n')?;
+    Ok(text)
+}

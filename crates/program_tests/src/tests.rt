@@ -1,0 +1,649 @@
+//! What words choose, and the statuses of the program with what it writes.
+use bench_core::Limits;
+use clap::error::ErrorKind;
+use command_line::{Choice, Form, Subcommand, choice};
+use explain_core::Question;
+use explore_core::Reading;
+use program_core::{Fault, program, run};
+use script_core::{FakeReader, FakeWriter};
+use session_core::load;
+use std::alloc::{Allocator, Global};
+use std::io::BufReader;
+use std::process::{Abort, Termination};
+use std::sync::Wait;
+use std::thread::Threads;
+use test_alloc::Refusing;
+use worker_core::RaceFault;
+
+const JOINED: &str = "nodes a b\na join 1 r alice phone\na undo 1\n";
+
+const REPORT: &str = "1 ok\n+ r alice a/1 phone\nundone 1\n- r alice a/1 phone\n";
+
+/// A play of it as it is saved.
+const SESSION: &str = "{\"acts\":[[0,[\"do\",\"join\",1,\"r\",\"alice\",\"phone\"],[\"ok\",1]],\
+[0,[\"undo\",1],[\"undone\",1]]],\"limits\":[100000,10000,1000000,10000],\"nodes\":[\"a\",\"b\"],\"version\":2}\n";
+
+/// Orders of a join and its undo, and of a line that is refused whenever it comes, gone through by hand.
+const UNDONE: &str = "nodes a\nconsoles desk\na join 1 r alice phone\ndesk undo 1\n";
+
+const UNDONE_ORDERS: &str = "orders 2 states 5 outcomes 2 refusals 1\n\
+outcome 1 orders 1\nonline a 0\n  nodes a\n  consoles desk\n  a join 1 r alice phone\n  desk undo 1\n\
+outcome 2 orders 1\nonline a 1\n= r alice a/1 phone\n  nodes a\n  consoles desk\n  desk undo 1\n  a join 1 r alice phone\n\
+refused line 4 NoSuchStep\n  nodes a\n  consoles desk\n  desk undo 1\n";
+
+const UNTRACKED: &str = "nodes a b\n\na join 1 r alice phone\na leave 2 r bob\nb up a\n";
+
+const UNTRACKED_ORDERS: &str = "orders 3 states 6 outcomes 1 refusals 1\n\
+outcome 1 orders 3\nonline a 1\n= r alice a/1 phone\n\
+online b 0\n  nodes a b\n  a join 1 r alice phone\n  a leave 2 r bob\n  b up a\n\
+refused line 4 NotTracked\n  nodes a b\n  a join 1 r alice phone\n  a leave 2 r bob\n";
+
+/// A node hears of a join and of its end, in either order: two orders of deliveries, gone through by hand.
+const HEARD: &str =
+    "nodes a b\na join 1 r alice phone\na broadcast\na leave 1 r alice\na broadcast\nb up a\n\
+b deliver a 1\nb deliver a 2\n";
+
+const HEARD_ORDERS: &str = "orders of deliveries 2 states 9 outcomes 1 refusals 0\n\
+all orders of deliveries lead to the same nodes\n\
+outcome 1 orders 2\nonline a 0\nonline b 0\n  nodes a b\n  a join 1 r alice phone\n  a broadcast\n  \
+a leave 1 r alice\n  a broadcast\n  b up a\n  b deliver a 1\n  b deliver a 2\n";
+
+/// Now the first delivery stands before the second message: where they change places, one comes too early.
+const TOO_EARLY: &str = "nodes a b\na join 1 r alice phone\na broadcast\nb up a\nb deliver a 1\n\
+a leave 1 r alice\na broadcast\nb deliver a 2\n";
+
+const TOO_EARLY_ORDERS: &str = "orders of deliveries 2 states 12 outcomes 2 refusals 1\n\
+outcome 1 orders 1\nonline a 0\nonline b 0\n  nodes a b\n  a join 1 r alice phone\n  a broadcast\n  b up a\n  \
+b deliver a 1\n  a leave 1 r alice\n  a broadcast\n  b deliver a 2\n\
+outcome 2 orders 1\nonline a 0\nonline b 1\n= r alice a/1 phone\n  nodes a b\n  a join 1 r alice phone\n  a broadcast\n  b up a\n  \
+b deliver a 2\n  a leave 1 r alice\n  a broadcast\n  b deliver a 1\n\
+refused line 8 NoSuchMessage\n  nodes a b\n  a join 1 r alice phone\n  a broadcast\n  b up a\n  b deliver a 2\n";
+
+/// All orders with no option.
+const ALL_ORDERS: Subcommand = Subcommand::Explore {
+    reading: Reading::EveryOrder,
+    states: 100_000,
+    outcome: None,
+};
+
+/// The words that choose something, and what they choose.
+const CHOSEN: [(&[&str], Subcommand, Form); 17] = [
+    (&["play"], Subcommand::Play, Form::Report),
+    (&["play", "--as", "report"], Subcommand::Play, Form::Report),
+    (&["play", "--as=session"], Subcommand::Play, Form::Session),
+    (&["race"], Subcommand::Race, Form::Report),
+    (
+        &["race", "--as", "session"],
+        Subcommand::Race,
+        Form::Session,
+    ),
+    (&["load"], Subcommand::Load, Form::Report),
+    (&["load", "--as=report"], Subcommand::Load, Form::Report),
+    (
+        &["load", "--as", "session"],
+        Subcommand::Load,
+        Form::Session,
+    ),
+    (&["explore"], ALL_ORDERS, Form::Report),
+    (&["explore", "--as", "report"], ALL_ORDERS, Form::Report),
+    (
+        &["explore", "--states", "7"],
+        Subcommand::Explore {
+            reading: Reading::EveryOrder,
+            states: 7,
+            outcome: None,
+        },
+        Form::Report,
+    ),
+    (
+        &["explore", "--script=2"],
+        Subcommand::Explore {
+            reading: Reading::EveryOrder,
+            states: 100_000,
+            outcome: Some(2),
+        },
+        Form::Report,
+    ),
+    (
+        &["explore", "--script", "0", "--deliveries", "--states", "12"],
+        Subcommand::Explore {
+            reading: Reading::Deliveries,
+            states: 12,
+            outcome: Some(0),
+        },
+        Form::Report,
+    ),
+    (&["step"], Subcommand::Step, Form::Report),
+    (&["draw"], Subcommand::Draw { why: None }, Form::Report),
+    (
+        &["draw", "--why", "12"],
+        Subcommand::Draw { why: Some(12) },
+        Form::Report,
+    ),
+    (
+        &["explain", "b", "lobby", "alice"],
+        Subcommand::Explain(Question {
+            node: "b",
+            topic: "lobby",
+            key: "alice",
+        }),
+        Form::Report,
+    ),
+];
+
+#[test]
+fn words_choose_a_subcommand_and_a_form(rt: HostRuntime) {
+    for (words, command, form) in CHOSEN {
+        let given = choice(rt.alloc(), words).expect(&rt, "a choice");
+        assert_eq!(rt; given, Choice { command, form });
+    }
+    let none: [&str; 0] = [];
+    for (words, kind) in [
+        (none.as_slice(), ErrorKind::MissingSubcommand),
+        (["jump"].as_slice(), ErrorKind::InvalidSubcommand),
+        (["play", "--as", "x"].as_slice(), ErrorKind::InvalidValue),
+        (["load", "--as"].as_slice(), ErrorKind::InvalidValue),
+        (["draw", "--why", "x"].as_slice(), ErrorKind::InvalidValue),
+        (
+            ["step", "--as", "report"].as_slice(),
+            ErrorKind::UnknownArgument,
+        ),
+        (
+            ["explore", "--states", "x"].as_slice(),
+            ErrorKind::InvalidValue,
+        ),
+        (
+            ["explore", "--script", "-1"].as_slice(),
+            ErrorKind::UnknownArgument,
+        ),
+        (["explore", "--script="].as_slice(), ErrorKind::InvalidValue),
+        (
+            ["play", "--states", "7"].as_slice(),
+            ErrorKind::UnknownArgument,
+        ),
+        (
+            ["draw", "--script", "1"].as_slice(),
+            ErrorKind::UnknownArgument,
+        ),
+        (
+            ["draw", "--as", "session"].as_slice(),
+            ErrorKind::UnknownArgument,
+        ),
+        (
+            ["explore", "--as", "session"].as_slice(),
+            ErrorKind::InvalidValue,
+        ),
+        (
+            ["explain", "b", "lobby"].as_slice(),
+            ErrorKind::MissingRequiredArgument,
+        ),
+        (
+            ["explain", "b", "lobby", "alice", "x"].as_slice(),
+            ErrorKind::UnknownArgument,
+        ),
+        (["play", "x"].as_slice(), ErrorKind::UnknownArgument),
+        (["--as", "report"].as_slice(), ErrorKind::UnknownArgument),
+        (["--help"].as_slice(), ErrorKind::DisplayHelp),
+        (["--version"].as_slice(), ErrorKind::DisplayVersion),
+    ] {
+        let refused = choice(rt.alloc(), words).err().expect(&rt, "a refusal");
+        assert!(rt; refused.kind() == kind);
+    }
+}
+
+/// What the program is given, and what it gives back.
+#[derive(Clone, Copy)]
+struct Case {
+    words: &'static [&'static str],
+    script: &'static str,
+    fails: bool,
+    room: usize,
+    status: u8,
+    printed: &'static str,
+    told: &'static str,
+}
+
+const PLAYED: Case = Case {
+    words: &["play"],
+    script: JOINED,
+    fails: false,
+    room: 100_000,
+    status: 0,
+    printed: REPORT,
+    told: "",
+};
+
+const LOADED: Case = Case {
+    words: &["load"],
+    script: SESSION,
+    ..PLAYED
+};
+
+/// A node that did nothing, drawn.
+const DRAWN: Case = Case {
+    words: &["draw"],
+    script: "{\"acts\":[],\"limits\":[10,10,10,10],\"nodes\":[\"a\"],\"version\":2}",
+    printed: concat!(
+        r#"<svg xmlns="http://www.w3.org/2000/svg" width="300" height="100">"#,
+        r#"<style>text{font:13px monospace;text-anchor:middle;stroke:white;stroke-width:4px;paint-order:stroke}"#,
+        r#"circle{fill:white;stroke:black;stroke-width:2px}line{stroke:black;stroke-width:1.5px;marker-end:url(#head)}"#,
+        r#".lane{stroke:#888;stroke-width:1px;marker-end:none}.name{text-anchor:end;font-weight:bold}"#,
+        r#".future text{font-weight:bold}.ring{fill:none}line.future{stroke-width:4px}"#,
+        r#".undone{opacity:.45;stroke-dasharray:4 3}.undone path{stroke:black;stroke-width:2px;stroke-dasharray:none}</style>"#,
+        r#"<marker id="head" viewBox="0 0 10 10" refX="16" refY="5" markerWidth="14" markerHeight="14" "#,
+        r#"markerUnits="userSpaceOnUse" orient="auto"><path d="M0 1L10 5L0 9z"></path></marker>"#,
+        r#"<rect width="100%" height="100%" fill="white"></rect><g transform="translate(180 60)">"#,
+        r#"<line class="lane" x1="-20" y1="000" x2="100%" y2="000"></line>"#,
+        r#"<text class="name" x="-30" y="000" dy="5">a</text></g></svg>"#
+    ),
+    ..PLAYED
+};
+
+/// A race of one actor, whose order is given.
+const RACED: Case = Case {
+    words: &["race"],
+    ..PLAYED
+};
+
+const EXPLORED: Case = Case {
+    words: &["explore"],
+    script: UNDONE,
+    printed: UNDONE_ORDERS,
+    ..PLAYED
+};
+
+/// Lines at a prompt, one of them with a fault.
+const STEPPED: Case = Case {
+    words: &["step"],
+    script: "nodes a\na join 1 r\n:save\nshow a",
+    printed: "line 2: WrongCount\n\
+{\"acts\":[],\"limits\":[100000,10000,1000000,10000],\"nodes\":[\"a\"],\"version\":2}\nonline a 0\n",
+    ..PLAYED
+};
+
+/// A presence of a session, asked about at its own node.
+const EXPLAINED: Case = Case {
+    words: &["explain", "a", "lobby", "alice"],
+    script: "{\"acts\":[[0,[\"do\",\"join\",1,\"lobby\",\"alice\",\"phone\"],[\"ok\",1]]],\
+\"limits\":[10,10,10,10],\"nodes\":[\"a\",\"b\"],\"version\":2}",
+    printed: "explain a lobby alice 1\nmade 1 a join 1 lobby alice phone\nat a online\n",
+    ..PLAYED
+};
+
+const CASES: [Case; 33] = [
+    PLAYED,
+    DRAWN,
+    EXPLAINED,
+    Case {
+        words: &["explain", "b", "lobby", "bob"],
+        printed: "explain b lobby bob 0\n",
+        ..EXPLAINED
+    },
+    Case {
+        words: &["explain", "c", "lobby", "alice"],
+        status: 1,
+        printed: "",
+        told: "presence_bench: explain: NoSuchNode\n",
+        ..EXPLAINED
+    },
+    Case {
+        words: &["explain", "a", "the lobby", "alice"],
+        status: 1,
+        printed: "",
+        told: "presence_bench: explain: NoWord\n",
+        ..EXPLAINED
+    },
+    Case {
+        words: &["play", "--as", "session"],
+        printed: SESSION,
+        ..PLAYED
+    },
+    LOADED,
+    Case {
+        words: &["load", "--as", "session"],
+        printed: SESSION,
+        ..LOADED
+    },
+    Case {
+        script: "{",
+        status: 1,
+        printed: "",
+        told: "presence_bench: session: NotJson\n",
+        ..LOADED
+    },
+    Case {
+        script: "{\"acts\":[[0,[\"back\",0],[\"ok\",1]]],\"limits\":[10,10,10,10],\"nodes\":[\"a\"],\"version\":2}",
+        status: 1,
+        printed: "",
+        told: "presence_bench: session: Disagrees at act 1\n",
+        ..LOADED
+    },
+    Case {
+        room: 9,
+        status: 3,
+        printed: "{\"acts\":[",
+        told: "presence_bench: write fault\n",
+        words: &["load", "--as", "session"],
+        ..LOADED
+    },
+    Case {
+        script: "nodes a\na join 1 r\n",
+        status: 1,
+        printed: "",
+        told: "presence_bench: line 2: WrongCount\n",
+        ..PLAYED
+    },
+    Case {
+        fails: true,
+        status: 3,
+        printed: "",
+        told: "presence_bench: read fault\n",
+        ..PLAYED
+    },
+    Case {
+        room: 7,
+        status: 3,
+        printed: "1 ok\n+ ",
+        told: "presence_bench: write fault\n",
+        ..PLAYED
+    },
+    RACED,
+    Case {
+        script: "nodes a\na join 1 r alice phone\nshow a\n",
+        status: 1,
+        printed: "",
+        told: "presence_bench: line 3: NotAllowed\n",
+        ..RACED
+    },
+    Case {
+        script: "nodes a\nb broadcast\n",
+        status: 1,
+        printed: "",
+        told: "presence_bench: line 2: UnknownWord\n",
+        ..RACED
+    },
+    STEPPED,
+    Case {
+        words: &["step"],
+        ..PLAYED
+    },
+    Case {
+        fails: true,
+        status: 3,
+        printed: "line 2: WrongCount\n\
+{\"acts\":[],\"limits\":[100000,10000,1000000,10000],\"nodes\":[\"a\"],\"version\":2}\n",
+        told: "presence_bench: read fault\n",
+        ..STEPPED
+    },
+    Case {
+        room: 7,
+        status: 3,
+        printed: "line 2:",
+        told: "presence_bench: write fault\n",
+        ..STEPPED
+    },
+    EXPLORED,
+    Case {
+        script: UNTRACKED,
+        printed: UNTRACKED_ORDERS,
+        ..EXPLORED
+    },
+    Case {
+        script: "nodes a\na join 1 r alice phone\nshow a\n",
+        status: 1,
+        printed: "",
+        told: "presence_bench: line 3: NotAllowed\n",
+        ..EXPLORED
+    },
+    Case {
+        words: &["explore", "--script", "2"],
+        printed: "  nodes a\n  consoles desk\n  desk undo 1\n  a join 1 r alice phone\n",
+        ..EXPLORED
+    },
+    Case {
+        words: &["explore", "--script", "3"],
+        status: 1,
+        printed: "",
+        told: "presence_bench: explore: NoSuchOutcome, there are 2\n",
+        ..EXPLORED
+    },
+    Case {
+        words: &["explore", "--script", "0"],
+        status: 1,
+        printed: "",
+        told: "presence_bench: explore: NoSuchOutcome, there are 2\n",
+        ..EXPLORED
+    },
+    Case {
+        words: &["explore", "--states", "5"],
+        ..EXPLORED
+    },
+    Case {
+        words: &["explore", "--deliveries"],
+        script: HEARD,
+        printed: HEARD_ORDERS,
+        ..EXPLORED
+    },
+    Case {
+        words: &["explore", "--deliveries"],
+        script: TOO_EARLY,
+        printed: TOO_EARLY_ORDERS,
+        ..EXPLORED
+    },
+    Case {
+        words: &["explore", "--states", "4"],
+        status: 1,
+        printed: "",
+        told: "presence_bench: explore: TooManyStates, more than 4\n",
+        ..EXPLORED
+    },
+    Case {
+        words: &["--version"],
+        printed: "presence_bench 0.1.0\n",
+        ..PLAYED
+    },
+];
+
+/// The status with which the program ends, and what it wrote to its output and to its errors, each a writer of so much room.
+fn ended<T: Threads + Wait + Sync + Abort, B: Allocator + Sync>(
+    rt: &T,
+    heap: Global,
+    alloc: &B,
+    words: &[&str],
+    reader: &mut FakeReader<'_>,
+    rooms: [usize; 2],
+) -> (u8, FakeWriter, FakeWriter) {
+    let [room, errors_room] = rooms;
+    let mut writer = FakeWriter::new(heap, room);
+    let mut errors = FakeWriter::new(heap, errors_room);
+    let mut reader = BufReader::new(heap, reader).expect(rt, "memory");
+    let status = program(
+        rt,
+        heap,
+        alloc,
+        words,
+        &mut reader,
+        &mut writer,
+        &mut errors,
+        Limits::usual(),
+    );
+    (status, writer, errors)
+}
+
+/// Whether the program ends as the case says.
+fn ends_so<T: Threads + Wait + Sync + Abort>(
+    rt: &T,
+    heap: Global,
+    case: &Case,
+    reader: &mut FakeReader<'_>,
+) -> bool {
+    let rooms = [case.room, 1000];
+    let (status, writer, errors) = ended(rt, heap, &heap, case.words, reader, rooms);
+    status == case.status
+        && writer.taken() == case.printed.as_bytes()
+        && errors.taken() == case.told.as_bytes()
+}
+
+#[test]
+fn each_end_has_its_status_and_its_line(rt: HostRuntime) {
+    for case in &CASES {
+        let script = case.script.as_bytes();
+        let is_so = if case.fails {
+            ends_so(&rt, rt.alloc(), case, &mut FakeReader::failing(script))
+        } else {
+            ends_so(&rt, rt.alloc(), case, &mut FakeReader::ending(script))
+        };
+        assert!(rt; is_so, "{:?} {}", case.words, case.told);
+    }
+}
+
+#[test]
+fn a_status_stands_where_its_line_cannot_be_written(rt: HostRuntime) {
+    for (words, script, status) in [
+        (["play"].as_slice(), "nodes", 1),
+        (["jump"].as_slice(), "", 2),
+        (["play"].as_slice(), JOINED, 3),
+        (["load"].as_slice(), "", 1),
+        (["--help"].as_slice(), "", 3),
+    ] {
+        let mut reader = FakeReader::ending(script.as_bytes());
+        let (ended, writer, errors) = ended(
+            &rt,
+            rt.alloc(),
+            &rt.alloc(),
+            words,
+            &mut reader,
+            [0, 0],
+        );
+        assert_eq!(rt; ended, status);
+        assert!(rt; writer.taken().is_empty() && errors.taken().is_empty());
+    }
+}
+
+#[test]
+fn refused_words_are_told_and_help_is_printed(rt: HostRuntime) {
+    for (words, status) in [
+        (["jump"].as_slice(), 2),
+        (["play", "x"].as_slice(), 2),
+        (["--help"].as_slice(), 0),
+        (["play", "--help"].as_slice(), 0),
+    ] {
+        let mut reader = FakeReader::failing(b"");
+        let rooms = [100_000, 100_000];
+        let (ended, writer, errors) = ended(
+            &rt,
+            rt.alloc(),
+            &rt.alloc(),
+            words,
+            &mut reader,
+            rooms,
+        );
+        assert_eq!(rt; ended, status);
+        assert_eq!(rt; writer.taken().is_empty(), status == 2);
+        assert_eq!(rt; errors.taken().is_empty(), status == 0);
+        assert_eq!(rt; reader.calls(), 0);
+    }
+}
+
+/// Words, an input, and what is printed of it.
+const ANSWERED: [(&[&str], &str, &str); 8] = [
+    (&["play"], JOINED, REPORT),
+    (&["play", "--as", "session"], JOINED, SESSION),
+    (&["race"], JOINED, REPORT),
+    (&["race", "--as", "session"], JOINED, SESSION),
+    (&["load"], SESSION, REPORT),
+    (&["load", "--as", "session"], SESSION, SESSION),
+    (&["explore"], UNDONE, UNDONE_ORDERS),
+    (
+        &["explore", "--script", "1"],
+        UNDONE,
+        "  nodes a\n  consoles desk\n  a join 1 r alice phone\n  desk undo 1\n",
+    ),
+];
+
+/// Runs the program with this request for memory refused: it prints all, or nothing and says so. Gives whether the request was
+/// met, and whether the program ended early.
+fn refused<T: Threads + Wait + Sync + Abort>(
+    rt: &T,
+    global: Global,
+    heap: &Refusing<Global>,
+    answered: (&[&str], &str, &str),
+    number: u64,
+) -> (bool, bool) {
+    let (words, input, printed) = answered;
+    heap.refuse_only(number);
+    let mut reader = FakeReader::ending(input.as_bytes());
+    let (status, writer, errors) = ended(rt, global, heap, words, &mut reader, [1000, 1000]);
+    let (out, told) = match status {
+        0 => (printed, ""),
+        _ => ("", "presence_bench: out of memory\n"),
+    };
+    let is_met = number <= heap.requests();
+    assert!(rt; status == 0 || is_met && status == 4, "request {number}");
+    assert!(rt; writer.taken() == out.as_bytes(), "request {number}");
+    assert!(rt; errors.taken() == told.as_bytes(), "request {number}");
+    (is_met, status == 4)
+}
+
+#[test]
+fn want_of_memory_prints_nothing(rt: HostRuntime) {
+    let heap = Refusing::new(rt.alloc());
+    for answered in ANSWERED {
+        let mut ended_early = 0u64;
+        for number in 1..10_000 {
+            let (is_met, is_early) = refused(&rt, rt.alloc(), &heap, answered, number);
+            ended_early = ended_early.saturating_add(u64::from(is_early));
+            if !is_met {
+                break;
+            }
+            assert!(rt; number < 9_999);
+        }
+        assert!(rt; 10 <= ended_early);
+    }
+}
+
+/// Lines of two nodes, in whatever order they are asked: a session with an event for each.
+#[test]
+fn a_race_is_saved_and_loads_again(rt: HostRuntime) {
+    let script = "nodes a b\na join 1 r alice phone\nb up a\na broadcast\nb deliver a 1\n";
+    let mut reader = FakeReader::ending(script.as_bytes());
+    let words = ["race", "--as", "session"];
+    let (status, writer, errors) = ended(
+        &rt,
+        rt.alloc(),
+        &rt.alloc(),
+        &words,
+        &mut reader,
+        [10_000, 1000],
+    );
+    assert!(rt; status == 0 && errors.taken().is_empty());
+    let heap = rt.alloc();
+    let bench = load(rt.alloc(), &heap, writer.taken()).expect(&rt, "a session");
+    assert_eq!(rt; bench.history().len(), 4);
+}
+
+/// The status and the line of each fault of a race.
+#[test]
+fn the_faults_of_a_race_have_their_status(rt: HostRuntime) {
+    for (fault, status, line) in [
+        (RaceFault::UnknownActor, 1, "race: UnknownActor"),
+        (RaceFault::NoRoom, 1, "race: NoRoom"),
+        (RaceFault::WorkerRefused, 5, "race: WorkerRefused"),
+        (RaceFault::LogsDisagree, 5, "race: LogsDisagree"),
+    ] {
+        let fault = Fault::Race(fault);
+        assert_eq!(rt; fault.status(), status);
+        let mut text = String::new(rt.alloc());
+        assert!(rt; write!(text, "{fault}").is_ok());
+        assert!(rt; text.as_str() == line);
+    }
+}
+
+/// The words of the tests' own command line choose nothing.
+#[test]
+fn run_ends_with_the_status(rt: HostRuntime) {
+    let code = run(&rt, &rt).report(&rt);
+    let mut text = String::new(rt.alloc());
+    assert!(rt; write!(text, "{code:?}").is_ok());
+    assert!(rt; text.as_str() == "ExitCode(unix_exit_status(2))");
+}

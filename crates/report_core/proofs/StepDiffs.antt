@@ -1,0 +1,322 @@
+-- What the inverse of a step tells of the report of an act.
+use Rattle.std.proofs.Common.{◌≡◌, ◌==◌, ◌||◌, ℕ, ◌+◌, Bool, true, false, nat_lt, if◌then◌else◌, List, [], ◌∷◌, ◌++◌, length, slice_get, Option, Some, None}
+use Rattle.std.proofs.Common.{Result, Ok, Err, IfOk, refl, sym, ap, ap₂, ◌∙◌, subst, subst₂, not, option_map, append_assoc, ◌⊎◌, inl, inr}
+use Rattle.std.proofs.lemmas.Bool.{eq-eqb}
+use Rattle.bench_core.specs.declared.fault.Fault.{Fault}
+use Rattle.bench_core.specs.declared.fault.Fault.TheVariants.{UnknownNode, HistoryFull, NoSuchStep}
+use Rattle.bench_core.specs.declared.reply.Reply.{Reply}
+use Rattle.bench_core.specs.declared.reply.Reply.TheVariants.{Taken, Undone, Refused}
+use Rattle.node_core.specs.Nodes.{Node}
+use Rattle.node_core.specs.declared.inverse.Inverse as declared
+use Rattle.node_core.specs.declared.inverse.Inverse.TheVariants as variants
+use Rattle.node_core.specs.Inverses.{Inverse, plain_inverse, OfChange, OfBroadcast, OfSent, Names, LeadsBack, LeadsSomewhere}
+use Rattle.journal_core.specs.Journals.{Kept, find_number, first_consequence, last_of, without}
+use Rattle.journal_core.proofs.InTurn.{find_out}
+use Rattle.payload_core.specs.Answers.{◌>>=◌}
+use Rattle.bench_core.specs.Acts.{Action, Do, Undo, Back}
+use Rattle.bench_core.specs.Limits.{node_limits}
+use Rattle.bench_core.specs.Clusters.{Cluster, step}
+use Rattle.bench_core.specs.Runs.{runs}
+use Rattle.bench_core.specs.Machine.{Machine, State, config_of, cluster_of, given, knows, free_places, now, step_reply, undo_reply, undo_found, unheld}
+use Rattle.bench_core.specs.Machine.{back_reply, reply_to, with_state, call, remaining_after}
+use Rattle.bench_core.specs.Headline.{IsReached}
+use Rattle.bench_core.specs.WaysBack.{LeadsOut, IsWayBack}
+use Rattle.bench_core.proofs.Clusters.{get-set_same}
+use Rattle.bench_core.proofs.InTurn.{undone_parts}
+use Rattle.bench_core.proofs.Others.{undo_made}
+use Rattle.bench_core.proofs.Reached.{taken_by_do, back_holds}
+use Rattle.replica_core.specs.Replicas.{Replica}
+use Rattle.replica_core.specs.Changes.{Change, ChangeLeadsBack, ChangeLeadsSomewhere, BackLaw, back}
+use Rattle.diff_core.specs.Rows.{Row}
+use Rattle.diff_core.specs.Diffs.{alone}
+use Rattle.diff_core.specs.Sorting.{online_of}
+use Rattle.diff_core.specs.Laws.{DiffLaw, OneListLaw, OnlineLaw}
+use Rattle.report_core.specs.Rows.{reply_line, diff_text, change_lines}
+use Rattle.report_core.specs.Shown.{changed, node_in, node_of, node_of_step, rows_in, rows_at, rows_of}
+use Rattle.report_core.specs.ActTexts.{reply_of, after_act, act_text, change_text}
+use Rattle.report_core.specs.StepDiffs.{Differ, without_step, TellsInverse, TellsStep, asked_undo, TellsUndo, PutsStep}
+
+-- an inverse
+
+pub tells_change : (law : BackLaw) (inverse : Inverse) (change : Change) (b : Node) (r : Replica) (left joined : List Row) →
+    inverse ≡ OfChange change → r ≡ b.replica →
+    left ≡ alone (online_of (back change r)) (online_of r) → joined ≡ alone (online_of r) (online_of (back change r)) →
+    TellsInverse inverse b left joined
+tells_change law inverse change b r left joined is here left_is joined_is a leads =
+    let named : Names (OfChange change) b a = subst (λ i. Names i b a) is leads.names in
+    let same : back change r ≡ a.replica = ap (back change) here ∙ law change b.replica a.replica named.0 in record {
+      left_is = left_is ∙ ap₂ (λ x y. alone (online_of x) (online_of y)) same here;
+      joined_is = joined_is ∙ ap₂ (λ x y. alone (online_of y) (online_of x)) same here;
+    }
+
+-- what holds of an answer by two clauses
+pub both : {X E : Type 0} (r : Result X E) (P Q R : X → Type 0) → ((x : X) → P x → Q x → R x) → IfOk r P → IfOk r Q → IfOk r R
+both (Ok x) P Q R gives p q = gives x p q
+both (Err e) P Q R gives p q = tt
+
+-- the change of a step leads back, since its inverse does
+pub change_leads : (inverse : Inverse) (change : Change) (b : Node) (r : Replica) → inverse ≡ OfChange change → r ≡ b.replica →
+    LeadsSomewhere inverse b → ChangeLeadsSomewhere change r
+change_leads inverse change b r is same leads =
+    let named : Names (OfChange change) b leads.0 = subst (λ i. Names i b leads.0) is leads.1.names in
+    (leads.0.replica, subst (λ r. ChangeLeadsBack change r leads.0.replica) (sym same) named.0)
+
+-- replicas with the same entries and statuses differ in no row
+no_change : (law : DiffLaw) (one : OneListLaw) (online : OnlineLaw) (a b : Replica) → a.store.entries ≡ b.store.entries → a.view ≡ b.view
+    → Differ (online_of a) (online_of b) [] []
+no_change law one online a b entries view =
+    let same : online_of a ≡ online_of b =
+    one a b (online_of a) (online_of b) entries view ((online a (online_of a)).1 refl) ((online b (online_of b)).1 refl) in record {
+      left_is = sym (law.itself (online_of a)) ∙ ap (alone (online_of a)) same;
+      joined_is = sym (law.itself (online_of b)) ∙ ap (alone (online_of b)) (sym same);
+    }
+
+pub is_send : {X : Type 0} (i : declared.Inverse X) → (i ≡ variants.Broadcast) ⊎ (i ≡ variants.Sent) →
+    (plain_inverse i ≡ OfBroadcast) ⊎ (plain_inverse i ≡ OfSent)
+is_send i (inl is) = inl (ap plain_inverse is)
+is_send i (inr is) = inr (ap plain_inverse is)
+
+pub tells_send : (law : DiffLaw) (one : OneListLaw) (online : OnlineLaw) (inverse : Inverse) (b : Node) (left joined : List Row) →
+    (inverse ≡ OfBroadcast) ⊎ (inverse ≡ OfSent) → left ≡ [] → joined ≡ [] → TellsInverse inverse b left joined
+tells_send law one online inverse b left joined is no_left no_joined a leads =
+    subst₂ (Differ (online_of a.replica) (online_of b.replica)) (sym no_left) (sym no_joined) (go is)
+  where
+    go : (inverse ≡ OfBroadcast) ⊎ (inverse ≡ OfSent) → Differ (online_of a.replica) (online_of b.replica) [] []
+    go (inl is) =
+        let named : Names OfBroadcast b a = subst (λ i. Names i b a) is leads.names in
+        no_change law one online a.replica b.replica (ap (λ (n : Node). n.replica.store.entries) (sym named))
+        (ap (λ (n : Node). n.replica.view) (sym named))
+    go (inr is) =
+        let named : Names OfSent b a = subst (λ i. Names i b a) is leads.names in
+        no_change law one online a.replica b.replica (ap (λ (n : Node). n.replica.store.entries) (sym named.1))
+        (ap (λ (n : Node). n.replica.view) (sym named.1))
+
+-- a step
+
+-- its node, as the bench lends it
+pub later_is : (m : Machine) (n node : ℕ) (inverse : Inverse) (c : Cluster) (b : Node) → (out : LeadsOut m n node inverse) →
+    cluster_of m ≡ Ok c → Some b ≡ slice_get c node → out.later ≡ b
+later_is m n node inverse c b out is at =
+    let same : out.cluster ≡ c = cc (out.is_now, is) in
+    let found : Some b ≡ Some out.later = at ∙ ap (λ (c : Cluster). slice_get c node) (sym same) ∙ out.at in
+    cc
+
+pub tells_step : (m : Machine) (n node : ℕ) (inverse : Inverse) (b : Node) (left joined : List Row) → (out : LeadsOut m n node inverse) →
+    out.later ≡ b → TellsInverse inverse b left joined → Differ (rows_at (without_step m n) node) (rows_at m node) left joined
+unfolding rows_at node_of
+tells_step m n node inverse b left joined out same tells =
+    let told : Differ (online_of out.earlier.replica) (online_of b.replica) left joined =
+    tells out.earlier (subst (λ (b : Node). LeadsBack inverse b out.earlier) same out.leads) in
+    let before : rows_in (node_in (cluster_of (without_step m n)) node) ≡ online_of out.earlier.replica =
+    ap (λ c. rows_in (node_in c node)) out.left_out
+    ∙ ap rows_in (get-set_same out.cluster node out.later out.earlier out.at) in
+    let after : rows_in (node_in (cluster_of m) node) ≡ online_of b.replica = ap (λ c. rows_in (node_in c node)) out.is_now
+    ∙ ap rows_in out.at ∙ ap (λ (n : Node). online_of n.replica) same in
+    subst₂ (λ first second. Differ first second left joined) (sym before) (sym after) told
+
+-- a kept step that nothing follows from, its inverse and its node
+pub step_tells : (m : Machine) (n : ℕ) (kept : Kept) (inverse : Inverse) (c : Cluster) (b : Node) (left joined : List Row) →
+    IsWayBack m n inverse → first_consequence m.state.remaining n ≡ None → Some kept ≡ find_number m.state.remaining n →
+    cluster_of m ≡ Ok c → Some b ≡ slice_get c kept.node → TellsInverse inverse b left joined → TellsStep m n left joined
+step_tells m n kept inverse c b left joined way free found is at tells step there =
+    let one : Some kept ≡ Some step = found ∙ there in
+    let same : kept ≡ step = cc in
+    let out = way step there free in
+    let here : Some b ≡ slice_get c step.node = at ∙ ap (λ (k : Kept). slice_get c k.node) same in
+    tells_step m n step.node inverse b left joined out (later_is m n step.node inverse c b out is here) tells
+
+pub leads_somewhere : (m : Machine) (n : ℕ) (kept : Kept) (inverse : Inverse) (c : Cluster) (b : Node) → IsWayBack m n inverse →
+    first_consequence m.state.remaining n ≡ None → Some kept ≡ find_number m.state.remaining n →
+    cluster_of m ≡ Ok c → Some b ≡ slice_get c kept.node → LeadsSomewhere inverse b
+leads_somewhere m n kept inverse c b way free found is at =
+    let out = way kept (sym found) free in
+    (out.earlier, subst (λ (b : Node). LeadsBack inverse b out.earlier) (later_is m n kept.node inverse c b out is at) out.leads)
+
+-- there is a node of each step
+pub has_node : (m : Machine) (n : ℕ) (kept : Kept) (inverse : Inverse) (c : Cluster) → IsWayBack m n inverse →
+    first_consequence m.state.remaining n ≡ None → Some kept ≡ find_number m.state.remaining n → cluster_of m ≡ Ok c →
+    None ≡ slice_get c kept.node → ⊥
+has_node m n kept inverse c way free found is at =
+    let out = way kept (sym found) free in
+    let same : out.cluster ≡ c = cc (out.is_now, is) in
+    let none : None ≡ Some out.later = at ∙ ap (λ (c : Cluster). slice_get c kept.node) (sym same) ∙ out.at in
+    absurd (cc)
+
+-- the undo that an act asks for
+
+-- an undo that is made is that of its step
+same_undo : (s : State) (n k : ℕ) → undo_reply s n ≡ Undone k → n ≡ k
+same_undo s n k = outer ((n == 0) || nat_lt (given s.history) n)
+  where
+    held : (o : Option ℕ) → unheld n o ≡ Undone k → n ≡ k
+    held None h = cc
+    held (Some j) h = absurd (cc)
+
+    found : (o : Option Kept) → undo_found s.remaining n o ≡ Undone k → n ≡ k
+    found None h = absurd (cc)
+    found (Some x) h = held (first_consequence s.remaining n) h
+
+    outer : (b : Bool) → (if b then Refused NoSuchStep else undo_found s.remaining n (find_number s.remaining n)) ≡ Undone k → n ≡ k
+    outer true h = absurd (cc)
+    outer false h = found (find_number s.remaining n) h
+
+-- an undo that is made was asked for, and could be made
+abbrev Asked : Machine → Action → ℕ → Type 0
+Asked m act k = (asked_undo m act ≡ Some k) × (undo_reply m.state k ≡ Undone k)
+
+of_undo : (m : Machine) (act : Action) (n k : ℕ) → asked_undo m act ≡ Some n → undo_reply m.state n ≡ Undone k → Asked m act k
+of_undo m act n k asked made =
+    let same = same_undo m.state n k made in
+    (asked ∙ ap Some same, ap (undo_reply m.state) (sym same) ∙ made)
+
+asked : (m : Machine) (actor : ℕ) (act : Action) (k : ℕ) → reply_of m actor act ≡ Undone k → Asked m act k
+unfolding reply_of asked_undo
+asked m actor (Do operation) k =
+    go (not (knows (config_of m) actor operation)) (nat_lt (free_places (config_of m) m.state) 2)
+    (now (config_of m) m.state >>= λ cluster. step cluster actor operation)
+  where
+    go : (a b : Bool) (r : Result Cluster Fault) →
+        (if a then Refused UnknownNode else if b then Refused HistoryFull else step_reply (given m.state.history + 1) r) ≡ Undone k →
+        Asked m (Do operation) k
+    go true b r h = absurd (cc)
+    go false true r h = absurd (cc)
+    go false false (Ok c) h = absurd (cc)
+    go false false (Err e) h = absurd (cc)
+asked m actor (Undo n) k = λ h. of_undo m (Undo n) n k refl h
+asked m actor (Back node) k = go (nat_lt node (length m.names)) refl (last_of m.state.remaining node) refl
+  where
+    go : (b : Bool) → nat_lt node (length m.names) ≡ b → (o : Option ℕ) → last_of m.state.remaining node ≡ o →
+        (if b then back_reply m.state o else Refused UnknownNode) ≡ Undone k → Asked m (Back node) k
+    go true is None last h = absurd (cc)
+    go true is (Some n) last h =
+        of_undo m (Back node) n k (ap (λ b. if b then last_of m.state.remaining node else None) is ∙ last) h
+    go false is o last h = absurd (cc)
+
+-- what the report of an act says of the rows
+change_is : (old new : Machine) (node : ℕ) (left joined : List Row) → Differ (rows_at old node) (rows_at new node) left joined →
+    change_text old new (Some node) ≡ change_lines old.names left joined
+unfolding change_text rows_of diff_text
+change_is old new node left joined differ =
+    ap (λ l. change_lines old.names l (alone (rows_at new node) (rows_at old node))) (sym differ.left_is)
+    ∙ ap (change_lines old.names left) (sym differ.joined_is)
+
+-- rows are those of the remaining steps
+pub same_rows : (m : Machine) (s : State) (ks : List Kept) (node : ℕ) → s.remaining ≡ ks →
+    rows_at (with_state m s) node ≡ rows_at (with_state m (record { history = m.state.history; remaining = ks })) node
+unfolding rows_at node_of
+same_rows m s ks node same = ap (λ (ks : List Kept). rows_in (node_in (runs (node_limits m.limits) (length m.names) ks) node)) same
+
+after_undo : (m : Machine) (actor : ℕ) (act : Action) (k : ℕ) → reply_of m actor act ≡ Undone k →
+    (call (config_of m) m.state actor act).remaining ≡ without m.state.remaining k
+unfolding reply_of
+after_undo m actor act k made = ap (remaining_after m.state.remaining actor act) made
+
+-- an undo: the rows that its step gave leave, and those that it took come back
+pub undone_text : (m : Machine) (actor : ℕ) (act : Action) (k : ℕ) (left joined : List Row) → reply_of m actor act ≡ Undone k →
+    TellsUndo m act left joined → act_text m actor act ≡ reply_line (Undone k) ++ change_lines m.names joined left
+unfolding act_text changed node_of_step after_act
+undone_text m actor act k left joined made tells =
+    let was = asked m actor act k made in
+    let parts = undone_parts m.state k was.1 in
+    let differ = tells k was.0 parts.1 parts.0.0 parts.0.1 in
+    let out : (call (config_of m) m.state actor act).remaining ≡ without m.state.remaining k = after_undo m actor act k made in
+    let rows : rows_at (after_act m actor act) parts.0.0.node ≡ rows_at (without_step m k) parts.0.0.node =
+    same_rows m (call (config_of m) m.state actor act) (without m.state.remaining k) parts.0.0.node out in
+    let back : Differ (rows_at m parts.0.0.node) (rows_at (after_act m actor act) parts.0.0.node) joined left =
+    subst (λ rows. Differ (rows_at m parts.0.0.node) rows joined left) (sym rows)
+    (record { left_is = differ.joined_is; joined_is = differ.left_is }) in
+    ap (λ r. reply_line r ++ change_text m (after_act m actor act) (changed m.state.remaining actor r)) made
+    ∙ ap (λ o. reply_line (Undone k) ++ change_text m (after_act m actor act) (option_map (λ (k : Kept). k.node) o)) parts.0.1
+    ∙ ap (λ t. reply_line (Undone k) ++ t) (change_is m (after_act m actor act) parts.0.0.node joined left back)
+
+-- a step that is taken: it is the last, nothing follows from it, and without it all is as before
+
+pub record Newest (m : Machine) (actor k : ℕ) (new : Machine) : Type 0 where
+  pub step : Kept
+  pub found : find_number new.state.remaining k ≡ Some step
+  pub of : step.node ≡ actor
+  pub free : first_consequence new.state.remaining k ≡ None
+  pub out : without new.state.remaining k ≡ m.state.remaining
+
+appended : (ks : List Kept) (k : ℕ) (r : Kept) → find_number ks k ≡ None → r.number ≡ k → find_number (ks ++ r ∷ []) k ≡ Some r
+appended [] k r none is = ap (λ b. if b then Some r else None) (eq-eqb r.number k is)
+appended (x ∷ ks) k r none is = go (x.number == k) none (λ none. appended ks k r none is)
+  where
+    go : (b : Bool) → (if b then Some x else find_number ks k) ≡ None → (find_number ks k ≡ None → find_number (ks ++ r ∷ []) k ≡ Some r) →
+        (if b then Some x else find_number (ks ++ r ∷ []) k) ≡ Some r
+    go true none more = absurd (cc)
+    go false none more = more none
+
+pub newest : (m new : Machine) (actor : ℕ) (act : Action) (k : ℕ) → IsReached (config_of m) m.state → reply_of m actor act ≡ Taken k →
+    new ≡ after_act m actor act → Newest m actor k new
+unfolding reply_of after_act
+newest m new actor act k reached took now =
+    let c = config_of m in
+    let t = taken_by_do c m.state actor act k took in
+    let next : State = call c m.state actor act in
+    let took_do : reply_to c m.state actor (Do t.0) ≡ Taken k = ap (reply_to c m.state actor) (sym t.1) ∙ took in
+    let same : call c m.state actor (Do t.0) ≡ next = ap (call c m.state actor) (sym t.1) in
+    let law = back_holds c m.state actor actor k t.0 reached took_do in
+    let undone : undo_reply next k ≡ Undone k = ap (λ (s : State). undo_reply s k) (sym same) ∙ law.undone in
+    let out : without next.remaining k ≡ m.state.remaining = sym (undo_made c next actor k undone)
+    ∙ ap (λ (s : State). (call c s actor (Undo k)).remaining) (sym same) ∙ law.as_it_was in
+    let free = undone_parts next k undone in
+    let r : Kept = record { number = k; node = actor; step = t.0 } in
+    let grown : next.remaining ≡ m.state.remaining ++ r ∷ [] =
+    ap (remaining_after m.state.remaining actor act) took ∙ ap (λ a. remaining_after m.state.remaining actor a (Taken k)) t.1 in
+    let none : find_number m.state.remaining k ≡ None = ap (λ ks. find_number ks k) (sym out) ∙ find_out next.remaining k in
+    let found : find_number next.remaining k ≡ Some r = ap (λ ks. find_number ks k) grown ∙ appended m.state.remaining k r none refl in
+    subst (Newest m actor k) (sym now)
+    (record { step = r; found = found; of = refl; free = free.1; out = out })
+
+-- the rows that it took leave, and those that it gave join
+pub taken_text : (m new : Machine) (actor : ℕ) (act : Action) (k : ℕ) (left joined : List Row) → reply_of m actor act ≡ Taken k →
+    new ≡ after_act m actor act → Newest m actor k new → TellsStep new k left joined →
+    act_text m actor act ≡ reply_line (Taken k) ++ change_lines m.names left joined
+unfolding act_text changed after_act
+taken_text m new actor act k left joined took now newest tells =
+    let told = tells newest.step newest.found in
+    let here : Differ (rows_at (without_step new k) actor) (rows_at new actor) left joined =
+    subst (λ n. Differ (rows_at (without_step new k) n) (rows_at new n) left joined) newest.of told in
+    let s : State = call (config_of m) m.state actor act in
+    let is : new ≡ with_state m s = now in
+    let before : rows_at (without_step new k) actor ≡ rows_at m actor =
+    ap (λ (x : Machine). rows_at (without_step x k) actor) is
+    ∙ same_rows m (record { history = s.history; remaining = without s.remaining k }) m.state.remaining actor
+    (ap (λ (x : Machine). without x.state.remaining k) (sym is) ∙ newest.out) in
+    let differ : Differ (rows_at m actor) (rows_at (with_state m s) actor) left joined =
+    subst₂ (λ first (x : Machine). Differ first (rows_at x actor) left joined) before is here in
+    ap (λ r. reply_line r ++ change_text m (with_state m s) (changed m.state.remaining actor r)) took
+    ∙ ap (λ t. reply_line (Taken k) ++ t) (change_is m (with_state m s) actor left joined differ)
+
+-- the text of an act, put together
+
+wrote : (start middle end lines text : List ℕ) (reply : Reply) → middle ≡ start ++ reply_line reply → end ≡ middle ++ lines →
+    text ≡ reply_line reply ++ lines → end ≡ start ++ text
+wrote start middle end lines text reply first second is =
+    second ∙ ap (λ t. t ++ lines) first ∙ append_assoc start (reply_line reply) lines ∙ ap (λ t. start ++ t) (sym is)
+
+names_stay : (m new : Machine) (actor : ℕ) (act : Action) → new ≡ after_act m actor act → new.names ≡ m.names
+unfolding after_act
+names_stay m new actor act now = ap (λ (m : Machine). m.names) now
+
+pub taken_done : (m new : Machine) (actor : ℕ) (act : Action) (k : ℕ) (reply : Reply) (start middle end : List ℕ) →
+    IsReached (config_of m) m.state → reply ≡ reply_of m actor act → reply ≡ Taken k → new ≡ after_act m actor act →
+    middle ≡ start ++ reply_line reply → PutsStep new k middle end → end ≡ start ++ act_text m actor act
+taken_done m new actor act k reply start middle end reached said is now first puts =
+    let took : reply_of m actor act ≡ Taken k = sym said ∙ is in
+    let lines : change_lines new.names puts.0 puts.1 ≡ change_lines m.names puts.0 puts.1 =
+    ap (λ names. change_lines names puts.0 puts.1) (names_stay m new actor act now) in
+    wrote start middle end (change_lines m.names puts.0 puts.1) (act_text m actor act) (Taken k) (first ∙ ap (λ r. start ++ reply_line r) is)
+    (puts.3 ∙ ap (λ t. middle ++ t) lines)
+    (taken_text m new actor act k puts.0 puts.1 took now (newest m new actor act k reached took now) puts.2)
+
+pub undone_done : (m new : Machine) (actor : ℕ) (act : Action) (k : ℕ) (reply : Reply) (left joined : List Row) (start middle end : List ℕ) →
+    reply ≡ reply_of m actor act → reply ≡ Undone k → new ≡ after_act m actor act → TellsUndo m act left joined →
+    middle ≡ start ++ reply_line reply → end ≡ middle ++ change_lines new.names joined left → end ≡ start ++ act_text m actor act
+undone_done m new actor act k reply left joined start middle end said is now tells first second =
+    let lines : change_lines new.names joined left ≡ change_lines m.names joined left =
+    ap (λ names. change_lines names joined left) (names_stay m new actor act now) in
+    wrote start middle end (change_lines m.names joined left) (act_text m actor act) (Undone k) (first ∙ ap (λ r. start ++ reply_line r) is)
+    (second ∙ ap (λ t. middle ++ t) lines)
+    (undone_text m actor act k left joined (sym said ∙ is) tells)

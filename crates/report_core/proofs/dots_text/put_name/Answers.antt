@@ -1,0 +1,9 @@
+use Rattle.std.proofs.Common.{rules, sym, subst}
+use Rattle.dots_core.specs.Dots.{AreValid}
+use Rattle.report_core.proofs.dots_text.put_name.Goals as goal
+
+pub clock_of-clock-requires : goal.clock_of-clock-requires
+clock_of-clock-requires g c = (search rules, (c.requires.name, subst AreValid (sym c.seen-seen.ensures) c.requires.valid))
+
+pub cloud_of-cloud-requires : goal.cloud_of-cloud-requires
+cloud_of-cloud-requires g c = (search rules, (c.requires.name, subst AreValid (sym c.seen-seen.ensures) c.requires.valid))

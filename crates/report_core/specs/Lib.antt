@@ -1,0 +1,7 @@
+pub mod Rows
+pub mod StepText
+pub mod Shown
+pub mod StepDiffs
+pub mod MovedRows
+pub mod Dots
+pub mod ActTexts

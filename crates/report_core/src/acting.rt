@@ -1,0 +1,66 @@
+//! An act on a bench, and what is printed of it.
+ghost use Rattle.std.specs.Prelude.{◌≡◌, ◌++◌, OnOk, IfOk, None, string_bytes};
+ghost use Rattle.journal_core.specs.Journals.{first_consequence};
+ghost use Rattle.bench_core.specs.Acts.{plain_act};
+ghost use Rattle.report_core.specs.StepDiffs.{PutsStep};
+ghost use Rattle.report_core.specs.ActTexts.{reply_of, after_act, act_text};
+
+use crate::rows::{put_lines, put_reply};
+use crate::step_diff::{step_diff, undo_diff};
+use bench_core::{Act, Bench, Fault, Reply};
+use payload_core::Oom;
+use std::alloc::Allocator;
+
+/// The reply to an act, unless it is want of memory.
+#[tactic(auto, unfolding(crate::specs::ActTexts::reply_of, crate::specs::ActTexts::after_act))]
+pub fn answer<'a, B: Allocator>(
+    bench: &mut Bench<'a, B>,
+    actor: u16,
+    act: &Act<&'a B>,
+) -> Result<Reply, Oom>
+    ensures reply { IfOk result (λ reply. reply ≡ reply_of bench.old actor (plain_act act.now)) }
+    ensures bench { OnOk result (bench.new ≡ after_act bench.old actor (plain_act act.now)) }
+{
+    let reply = bench.act(actor, act);
+    if reply == Reply::Refused(Fault::OutOfMemory) {
+        return Err(Oom);
+    }
+    Ok(reply)
+}
+
+/// What the last step changed of its node's online list.
+fn put_step<'a, B: Allocator>(
+    alloc: &'a B,
+    text: &mut String<&'a B>,
+    bench: &Bench<'a, B>,
+    number: u64,
+) -> Result<(), Oom>
+    requires { first_consequence bench.now.state.remaining number ≡ None }
+    ensures { OnOk result (PutsStep bench.now number (string_bytes text.old) (string_bytes text.new)) }
+{
+    let diff = step_diff(alloc, bench, number)?;
+    put_lines(text, bench.names(), &diff.left, &diff.joined)
+}
+
+/// An act: its reply, and how the online list of its node changed.
+#[tactic(auto, unfolding(crate::specs::ActTexts::act_text))]
+pub fn act<'a, B: Allocator>(
+    alloc: &'a B,
+    text: &mut String<&'a B>,
+    bench: &mut Bench<'a, B>,
+    actor: u16,
+    act: &Act<&'a B>,
+) -> Result<(), Oom>
+    ensures bench { OnOk result (bench.new ≡ after_act bench.old actor (plain_act act.now)) }
+    ensures text { OnOk result (string_bytes text.new ≡ string_bytes text.old ++ act_text bench.old actor (plain_act act.now)) }
+{
+    bench.bench_law();
+    let undone = undo_diff(alloc, bench, act)?;
+    let reply = answer(bench, actor, act)?;
+    put_reply(text, reply)?;
+    match reply {
+        Reply::Taken(number) => put_step(alloc, text, bench, number),
+        Reply::Undone(_) => put_lines(text, bench.names(), &undone.joined, &undone.left),
+        Reply::Refused(_) => Ok(()),
+    }
+}

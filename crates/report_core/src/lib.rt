@@ -1,0 +1,24 @@
+//! What is printed of a bench: acts and what they changed of online lists, unwinds, steps, lists and sets of dots.
+//!
+//! It stands on `bench_core` (the machine) and `diff_core` (online lists); it names the plain types of the crates below.
+//!
+//! `rows`, `step_text` and `dots_text` print what they are given. `step_diff` tells what a step changed, and `moved` what undos
+//! in turn changed, of the online lists; `shown` tells what a bench shows; and `acting` and `unwinding` change a bench and print
+//! what it answered, with what that changed.
+#![tactic(auto)]
+
+mod acting;
+mod dots_text;
+mod moved;
+mod rows;
+mod shown;
+mod step_diff;
+mod step_text;
+mod unwinding;
+
+pub use acting::act;
+pub use dots_text::put_dots;
+pub use rows::name_at;
+pub use shown::{node, show};
+pub use step_text::{put_act, put_journal};
+pub use unwinding::{unwind, why};

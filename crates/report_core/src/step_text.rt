@@ -1,0 +1,184 @@
+//! A kept step as a line of a script, and the list of kept steps.
+ghost use Rattle.std.specs.Prelude.{◌≡◌, ◌++◌, OnOk, string_bytes};
+ghost use Rattle.node_core.specs.Operations.{plain};
+ghost use Rattle.journal_core.specs.Holdings.{kepts};
+ghost use Rattle.report_core.specs.Rows.{name_at};
+ghost use Rattle.report_core.specs.StepText.{presence_text, chosen_text, extract_from, step_text, act_line, kept_line, kept_lines, journal_text};
+
+use crate::rows::name_at;
+use bench_core::{Journal, Kept, Names, Step};
+use dots_core::NameSet;
+use payload_core::{Oom, Word};
+use std::alloc::Allocator;
+
+/// `PID TOPIC KEY META`.
+#[tactic(auto, unfolding(crate::specs::StepText::presence_text))]
+fn put_presence<A: Allocator, W: Allocator>(
+    text: &mut String<A>,
+    pid: u64,
+    topic: &Word<W>,
+    key: &Word<W>,
+    metadata: &Word<W>,
+) -> Result<(), Oom>
+    ensures { OnOk result (string_bytes text.new ≡ string_bytes text.old ++
+        presence_text (record { pid = pid; topic = topic.now; key = key.now; metadata = metadata.now })) }
+{
+    let topic = topic.as_str();
+    let key = key.as_str();
+    let metadata = metadata.as_str();
+    write!(text, "{pid} {topic}")?;
+    Ok(write!(text, " {key} {metadata}")?)
+}
+
+/// The name of this number after a space, where it is in the set.
+fn put_name<A: Allocator, N: Allocator>(
+    text: &mut String<A>,
+    names: &Names<N>,
+    chosen: NameSet,
+    number: u16,
+) -> Result<(), Oom>
+    ensures { OnOk result (string_bytes text.new ≡ string_bytes text.old ++ chosen_text chosen number (name_at names.now number)) }
+{
+    if chosen.has(number) {
+        let name = name_at(names, number);
+        write!(text, " {name}")?;
+    }
+    Ok(())
+}
+
+/// The names of the set by rising number, each after a space.
+fn put_names<A: Allocator, N: Allocator>(
+    text: &mut String<A>,
+    names: &Names<N>,
+    chosen: NameSet,
+) -> Result<(), Oom>
+    ensures { OnOk result (string_bytes text.new ≡ string_bytes text.old ++ extract_from chosen 0 names.now) }
+{
+    for number in 0..names.len() as u16 {
+        put_name(text, names, chosen, number)?;
+    }
+    Ok(())
+}
+
+/// The step as a script has it, after its node.
+#[tactic(auto, unfolding(crate::specs::StepText::step_text))]
+fn put_step<A: Allocator, N: Allocator, W: Allocator>(
+    text: &mut String<A>,
+    names: &Names<N>,
+    step: &Step<W>,
+) -> Result<(), Oom>
+    ensures { OnOk result (string_bytes text.new ≡ string_bytes text.old ++ step_text names.now (plain step.now)) }
+{
+    match step {
+        Step::Join {
+            pid,
+            topic,
+            key,
+            metadata,
+        } => {
+            text.push_str("join ")?;
+            put_presence(text, *pid, topic, key, metadata)
+        }
+        Step::Leave { pid, topic, key } => {
+            let topic = topic.as_str();
+            let key = key.as_str();
+            Ok(write!(text, "leave {pid} {topic} {key}")?)
+        }
+        Step::LeaveAll { pid } => Ok(write!(text, "leaveall {pid}")?),
+        Step::Update {
+            pid,
+            topic,
+            key,
+            metadata,
+        } => {
+            text.push_str("update ")?;
+            put_presence(text, *pid, topic, key, metadata)
+        }
+        Step::Broadcast => Ok(text.push_str("broadcast")?),
+        Step::Extract { names: chosen } => {
+            text.push_str("extract")?;
+            put_names(text, names, *chosen)
+        }
+        Step::Deliver { sender, number } => {
+            let sender = name_at(names, *sender);
+            Ok(write!(text, "deliver {sender} {number}")?)
+        }
+        Step::Request => Ok(text.push_str("request")?),
+        Step::Answer { sender, number } => {
+            let sender = name_at(names, *sender);
+            Ok(write!(text, "answer {sender} {number}")?)
+        }
+        Step::Up { name } => {
+            let name = name_at(names, *name);
+            Ok(write!(text, "up {name}")?)
+        }
+        Step::Down { name } => {
+            let name = name_at(names, *name);
+            Ok(write!(text, "down {name}")?)
+        }
+        Step::Permdown { name } => {
+            let name = name_at(names, *name);
+            Ok(write!(text, "permdown {name}")?)
+        }
+    }
+}
+
+/// `NODE VERB ..`, a line of a script.
+#[tactic(auto, unfolding(crate::specs::StepText::act_line))]
+pub fn put_act<A: Allocator, N: Allocator, W: Allocator>(
+    text: &mut String<A>,
+    names: &Names<N>,
+    node: u16,
+    step: &Step<W>,
+) -> Result<(), Oom>
+    ensures { OnOk result (string_bytes text.new ≡ string_bytes text.old ++ act_line names.now node (plain step.now)) }
+{
+    let node = name_at(names, node);
+    write!(text, "{node} ")?;
+    put_step(text, names, step)
+}
+
+/// `NUMBER`, and the step as a line of a script.
+#[tactic(auto, unfolding(crate::specs::StepText::kept_line))]
+fn put_kept<A: Allocator, N: Allocator, W: Allocator>(
+    text: &mut String<A>,
+    names: &Names<N>,
+    kept: &Kept<W>,
+) -> Result<(), Oom>
+    ensures { OnOk result (string_bytes text.new ≡ string_bytes text.old ++ kept_line names.now kept.now) }
+{
+    let number = kept.number;
+    write!(text, "{number} ")?;
+    put_act(text, names, kept.node, &kept.step)?;
+    Ok(text.push_str("\n")?)
+}
+
+/// Each kept step on a line.
+#[tactic(auto, unfolding(crate::specs::StepText::kept_lines))]
+fn put_kepts<'a, A: Allocator, N: Allocator, B: Allocator>(
+    text: &mut String<A>,
+    names: &Names<N>,
+    journal: &Journal<'a, B>,
+) -> Result<(), Oom>
+    ensures { OnOk result (string_bytes text.new ≡ string_bytes text.old ++ kept_lines names.now (kepts journal.now.steps)) }
+{
+    let mut steps = journal.steps();
+    while let Some(kept) = steps.next() {
+        put_kept(text, names, kept)?;
+    }
+    Ok(())
+}
+
+/// `journal COUNT`, and each kept step on a line.
+#[tactic(auto, unfolding(crate::specs::StepText::journal_text))]
+pub fn put_journal<'a, A: Allocator, N: Allocator, B: Allocator>(
+    text: &mut String<A>,
+    names: &Names<N>,
+    journal: &Journal<'a, B>,
+) -> Result<(), Oom>
+    ensures { OnOk result (string_bytes text.new ≡ string_bytes text.old ++ journal_text names.now (kepts journal.now.steps)) }
+{
+    let count = journal.len();
+    writeln!(text, "journal {count}")?;
+    put_kepts(text, names, journal)
+}

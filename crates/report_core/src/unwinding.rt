@@ -1,0 +1,123 @@
+//! The future of a step, and its undo with all of that future.
+ghost use Rattle.std.specs.Prelude.{◌≡◌, ◌++◌, List, OnOk, IfOk, string_bytes, false};
+ghost use Rattle.bench_core.specs.declared.reply.Reply.TheVariants.{Refused};
+ghost use Rattle.bench_core.specs.Machine.{Machine};
+ghost use Rattle.bench_core.specs.Unwinds.{CanBeUndone};
+ghost use Rattle.diff_core.specs.NetChanges.{ComesTo};
+ghost use Rattle.diff_core.specs.Online.{AreInOrder};
+ghost use Rattle.diff_core.specs.Rows.{Row};
+ghost use Rattle.report_core.specs.Rows.{at_text, reply_line};
+ghost use Rattle.report_core.specs.Shown.{rows_at};
+ghost use Rattle.report_core.specs.MovedRows.{AreMoved};
+ghost use Rattle.report_core.specs.ActTexts.{is_want, why_text, changes_text, after_unwind, unwind_text, IsItsFuture};
+
+use crate::moved::{Moved, undo_each};
+use crate::rows::{put_change, put_future, put_reply, put_undone};
+use bench_core::{Bench, Fault, Reply};
+use diff_core::laws::online_law;
+use payload_core::Oom;
+use std::alloc::Allocator;
+
+/// Want of memory, which no report tells.
+fn is_want(fault: Fault) -> bool
+    ensures { result ≡ is_want fault }
+{
+    matches!(fault, Fault::OutOfMemory)
+}
+
+/// The refusal of an unwind or of `why`.
+fn put_refusal<'a, B: Allocator>(text: &mut String<&'a B>, fault: Fault) -> Result<(), Oom>
+    ensures told { OnOk result (string_bytes text.new ≡ string_bytes text.old ++ reply_line (Refused fault)) }
+    ensures want { OnOk result (is_want fault ≡ false) }
+{
+    if is_want(fault) {
+        return Err(Oom);
+    }
+    put_reply(text, Reply::Refused(fault))
+}
+
+/// The future of a step.
+#[tactic(auto, unfolding(crate::specs::ActTexts::why_text))]
+pub fn why<'a, B: Allocator>(
+    text: &mut String<&'a B>,
+    bench: &Bench<'a, B>,
+    number: u64,
+) -> Result<(), Oom>
+    ensures { OnOk result (string_bytes text.new ≡ string_bytes text.old ++ why_text bench.now number) }
+{
+    match bench.why(number) {
+        Ok(numbers) => put_future(text, &numbers),
+        Err(fault) => put_refusal(text, fault),
+    }
+}
+
+/// `at NODE` and how its list changed, if it did.
+fn put_change_at<'a, B: Allocator>(
+    alloc: &'a B,
+    text: &mut String<&'a B>,
+    bench: &Bench<'a, B>,
+    node: u16,
+    moved: &Moved<'a, B>,
+) -> Result<(), Oom>
+    ensures { OnOk result ((before : List Row) → AreInOrder before → ComesTo before (rows_at bench.now node) moved.now.left moved.now.joined →
+        string_bytes text.new ≡ string_bytes text.old ++ at_text bench.now.names node before (rows_at bench.now node)) }
+{
+    online_law();
+    let change = moved.net(alloc)?;
+    put_change(text, bench.names(), node, &change)
+}
+
+/// How the online lists of the nodes changed, where these rows left and joined them.
+fn put_changes<'a, B: Allocator>(
+    alloc: &'a B,
+    text: &mut String<&'a B>,
+    bench: &Bench<'a, B>,
+    moved: &[Moved<'a, B>],
+) -> Result<(), Oom>
+    ensures { OnOk result ((start : Machine) → AreMoved start bench.now moved.now →
+        string_bytes text.new ≡ string_bytes text.old ++ changes_text start bench.now) }
+{
+    online_law();
+    for node in 0..bench.names().len() as u16 {
+        if let Some(moved) = moved.get(node as usize) {
+            put_change_at(alloc, text, bench, node, moved)?;
+        }
+    }
+    Ok(())
+}
+
+/// The undo of a step and of all that follows from it, which are these.
+fn unwind_all<'a, B: Allocator>(
+    alloc: &'a B,
+    text: &mut String<&'a B>,
+    bench: &mut Bench<'a, B>,
+    actor: u16,
+    number: u64,
+    numbers: &[u64],
+) -> Result<(), Oom>
+    requires future { IsItsFuture bench.old number numbers.now }
+    requires made { CanBeUndone bench.old numbers.now }
+    ensures bench { OnOk result (bench.new ≡ after_unwind bench.old actor number) }
+    ensures text { OnOk result (string_bytes text.new ≡ string_bytes text.old ++ unwind_text bench.old actor number) }
+{
+    let moved = undo_each(alloc, bench, actor, numbers)?;
+    put_undone(text, numbers)?;
+    put_changes(alloc, text, bench, &moved)
+}
+
+/// The undo of a step with all that follows from it.
+pub fn unwind<'a, B: Allocator>(
+    alloc: &'a B,
+    text: &mut String<&'a B>,
+    bench: &mut Bench<'a, B>,
+    actor: u16,
+    number: u64,
+) -> Result<(), Oom>
+    ensures bench { OnOk result (bench.new ≡ after_unwind bench.old actor number) }
+    ensures text { OnOk result (string_bytes text.new ≡ string_bytes text.old ++ unwind_text bench.old actor number) }
+{
+    match bench.why(number) {
+        Ok(numbers) => unwind_all(alloc, text, bench, actor, number, &numbers),
+        Err(fault) => put_refusal(text, fault),
+    }
+}
