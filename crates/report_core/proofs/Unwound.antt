@@ -6,7 +6,7 @@ use Rattle.bench_core.specs.Machine.{Machine}
 use Rattle.bench_core.specs.Unwinds.{Unexplained}
 use Rattle.report_core.specs.Rows.{reply_line}
 use Rattle.report_core.specs.ActTexts.{is_want, why_text, after_unwind, unwind_text}
-use Rattle.script_core.proofs.Printed.{gone_text, gone_bench, gone_unwind}
+use Rattle.report_core.proofs.Printed.{gone_text, gone_bench, gone_unwind}
 
 module _ {X E : Type 0} (m : Machine) (n : ℕ) (fault : Fault) (start end : List ℕ) where
   pub why_refused : (result : Result X E) → Unexplained m.state n fault → OnOk result (end ≡ start ++ reply_line (Refused fault)) →

@@ -2,7 +2,7 @@ use Rattle.std.proofs.Common.{◌++◌, ap, sym, ◌∙◌, string_bytes}
 use Rattle.std.proofs.lemmas.Result.{on_ok_weaker}
 use Rattle.bench_core.specs.Acts.{plain_act}
 use Rattle.report_core.specs.Rows.{change_lines}
-use Rattle.script_core.proofs.Printed.{refused_text}
+use Rattle.report_core.proofs.Printed.{refused_text}
 use Rattle.report_core.proofs.StepDiffs.{newest, taken_done, undone_done}
 use Rattle.report_core.proofs.acting.act.Goals as goal
 

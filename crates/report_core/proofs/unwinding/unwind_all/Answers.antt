@@ -4,7 +4,7 @@ use Rattle.report_core.specs.MovedRows.{Moves, AreMoved}
 use Rattle.report_core.specs.ActTexts.{after_unwind}
 use Rattle.report_core.specs.Shown.{rows_to}
 use Rattle.report_core.proofs.MovedRows.{told_changes}
-use Rattle.script_core.proofs.Printed.{unwound_bench, unwound_text}
+use Rattle.report_core.proofs.Printed.{unwound_bench, unwound_text}
 use Rattle.report_core.proofs.unwinding.unwind_all.Goals as goal
 
 pub undo_each-requires : goal.undo_each-requires
