@@ -8,7 +8,7 @@ use crate::fault::Fault;
 use bench_core::Limits;
 use explore_core::Reading;
 use explore_report::{ReportFault, order_of_outcome, report_orders};
-use script_core::Script;
+use grammar_core::Script;
 use std::alloc::Allocator;
 
 /// The fault of a report of at most so many states as the program's.

@@ -3,8 +3,9 @@ ghost use Rattle.std.specs.Prelude.{◌≡◌};
 ghost use Rattle.program_core.specs.Program.{fault_status};
 
 use explain_core::AskFault;
+use grammar_core::ScriptFault;
 use prompt_core::PromptFault;
-use script_core::{PlayFault, ScriptFault};
+use script_core::PlayFault;
 use session_core::SessionFault;
 use thiserror::Error;
 use worker_core::RaceFault;

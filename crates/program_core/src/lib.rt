@@ -1,12 +1,12 @@
 //! What the program does, with its words and its streams lent: it reads a script or a saved session, and prints what was chosen
 //! of it.
 //!
-//! Stands on `command_line` (what the words choose), `script_core` (scripts and their reports), `prompt_core` (prompts),
-//! `session_core` (sessions) and `session_report` (their reports), `picture_core` (pictures), `explain_core` (explanations),
-//! `worker_core` (races), `explore_report` (all orders) and `bench_core` (limits). In the order to read them: `fault`, why the
-//! program ends early; `texts`, `racing`, `exploring`, `stepping` and `printing`, what is read, what a race of it leaves, what
-//! all orders of it lead to, what a prompt answers, and what is printed; `program`, all of that, and the status; `run`, the
-//! program on the runtime's words and streams.
+//! Stands on `command_line` (what the words choose), `grammar_core` and `script_core` (scripts and their reports),
+//! `prompt_core` (prompts), `session_core` (sessions) and `session_report` (their reports), `picture_core` (pictures),
+//! `explain_core` (explanations), `worker_core` (races), `explore_report` (all orders) and `bench_core` (limits). In the order
+//! to read them: `fault`, why the program ends early; `texts`, `racing`, `exploring`, `stepping` and `printing`, what is read,
+//! what a race of it leaves, what all orders of it lead to, what a prompt answers, and what is printed; `program`, all of
+//! that, and the status; `run`, the program on the runtime's words and streams.
 #![tactic(auto)]
 
 mod exploring;

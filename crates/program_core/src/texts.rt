@@ -8,7 +8,8 @@ ghost use Rattle.program_core.specs.Program.{IsCauseAt, IsScriptAt, IsSessionAt,
 
 use crate::fault::Fault;
 use bench_core::Bench;
-use script_core::{FaultKind, InputFault, Played, Script, ScriptFault, parse_script, read_all};
+use grammar_core::{FaultKind, Script, ScriptFault, parse_script};
+use script_core::{InputFault, Played, read_all};
 use session_core::{SessionFault, load, save};
 use session_report::report_session;
 use std::alloc::{AllocError, Allocator, Global};

@@ -6,9 +6,9 @@ ghost use Rattle.prompt_core.specs.Answers.{explained, explained_at, fault_line,
 
 use bench_core::Bench;
 use explain_core::{AskFault, Question, explain_asked};
-use grammar_core::words_of;
+use grammar_core::{FaultKind, words_of};
 use payload_core::Oom;
-use script_core::{FaultKind, Prompt};
+use script_core::Prompt;
 use session_core::save;
 use std::alloc::{Allocator, Global};
 
