@@ -1,3 +1,3 @@
 pub mod LineText
-pub mod Lines
+pub mod LineByLine
 pub mod Calls

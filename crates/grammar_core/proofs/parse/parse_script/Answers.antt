@@ -3,7 +3,7 @@ use Rattle.grammar_core.specs.Grammar.{with_lines, finished}
 use Rattle.grammar_core.specs.Readings.{reading_view}
 use Rattle.grammar_core.specs.Words.{lines_of}
 use Rattle.grammar_core.specs.declared.fault.FaultKind.TheVariants.{OutOfMemory}
-use Rattle.grammar_core.proofs.Lines.{with_lines_fault, all_read, script_of-read, script_of-fault}
+use Rattle.grammar_core.proofs.LineByLine.{with_lines_fault, all_read, script_of-read, script_of-fault}
 use Rattle.grammar_core.proofs.parse.parse_script.Goals as goal
 
 -- the line's fault is the script's, since the lines in front of it have none
