@@ -5,19 +5,19 @@
 //! `prompt_core` (prompts), `session_core` (sessions) and `session_report` (their reports), `picture_core` (pictures),
 //! `explain_core` (explanations), `worker_core` (races), `explore_report` (all orders) and `bench_core` (limits). In the order
 //! to read them: `fault`, why the program ends early; `texts`, `racing`, `exploring`, `stepping` and `printing`, what is read,
-//! what a race of it leaves, what all orders of it lead to, what a prompt answers, and what is printed; `program`, all of
-//! that, and the status; `run`, the program on the runtime's words and streams.
+//! what a race of it leaves, what all orders of it lead to, what a prompt answers, and what is printed; `status`, the program
+//! from its words to its status; `hosted`, the same on the runtime's words and streams.
 #![tactic(auto)]
 
 mod exploring;
 mod fault;
+mod hosted;
 mod printing;
-mod program;
 mod racing;
-mod run;
+mod status;
 mod stepping;
 mod texts;
 
 pub use fault::Fault;
-pub use program::program;
-pub use run::{Ended, run};
+pub use hosted::{Ended, run};
+pub use status::program;

@@ -1,4 +1,4 @@
-//! What `main` runs on the standard streams.
+//! `program`: from the words to the status, with the streams lent.
 ghost use Rattle.std.specs.Prelude.{◌≡◌};
 ghost use Rattle.std.specs.Io.KnownBytes.{Keeps};
 ghost use Rattle.program_core.specs.Program.{status_of, Exits};

@@ -1,5 +1,5 @@
 //! `run`: the program on the runtime's words and standard streams.
-use crate::program;
+use crate::status::{program, want_of_memory};
 use bench_core::Limits;
 use std::io::Write;
 use std::process::{ExitCode, Termination};
@@ -32,7 +32,7 @@ fn status<T: Threads + Wait + Sync>(rt: &HostRuntime, threads: &T) -> u8 {
     let words = match env::args(rt) {
         Ok(words) => words,
         Err(fault) if fault.kind() == io::ErrorKind::OutOfMemory => {
-            return program::want_of_memory(&mut errors);
+            return want_of_memory(&mut errors);
         }
         Err(_) => {
             let _ = writeln!(errors, "error: a word is no text");
@@ -40,10 +40,10 @@ fn status<T: Threads + Wait + Sync>(rt: &HostRuntime, threads: &T) -> u8 {
         }
     };
     let Ok(words) = words.skip(1).collect::<Vec<String>>(rt.alloc()) else {
-        return program::want_of_memory(&mut errors);
+        return want_of_memory(&mut errors);
     };
     let mut output = io::writer(rt);
-    program::program(
+    program(
         threads,
         rt.alloc(),
         &rt.alloc(),
