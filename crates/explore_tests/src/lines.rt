@@ -40,6 +40,11 @@ fn act_of<'a, B: Allocator>(rt: &impl Abort, alloc: &'a B, line: Line) -> Act<&'
 /// The calls of each list.
 pub type Lists<'a, B> = Vec<Vec<(u16, Act<&'a B>), &'a B>, &'a B>;
 
+/// Lets go of lists: a call takes them whole.
+pub fn let_go<A: Allocator>(lists: Vec<Vec<(u16, Act<A>), A>, A>) {
+    drop(lists);
+}
+
 /// For each actor a list of its lines.
 pub fn lists_of<'a, B: Allocator>(
     rt: &impl Abort,

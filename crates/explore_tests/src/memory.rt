@@ -1,38 +1,36 @@
 //! Want of memory at each request in turn.
-use crate::lines::Line::{Broadcast, Deliver, Join, Up};
-use crate::lines::{limits_of, lists_of, names_of};
+use crate::lines::Line::{self, Broadcast, Deliver, Join, Up};
+use crate::lines::{let_go, limits_of, lists_of, names_of};
 use explore_core::{ExploreFault, Reading, explore};
+use std::alloc::Global;
+use std::process::Abort;
 use test_alloc::Refusing;
+
+const LISTS: [&[Line]; 2] = [&[Join(1), Broadcast], &[Up(0), Deliver(0, 1)]];
+
+/// The fault of all orders of the lines with this request for memory refused, if they have one.
+fn fault_without(rt: &impl Abort, heap: &Refusing<Global>, number: u64) -> Option<ExploreFault> {
+    heap.refuse_none();
+    let lists = lists_of(rt, heap, &LISTS);
+    let names = names_of(rt, heap);
+    heap.refuse_only(number);
+    let reading = Reading::EveryOrder;
+    let fault = explore(heap, names, limits_of(rt, 100), reading, &lists, 100).err();
+    let_go(lists);
+    fault
+}
 
 #[test]
 fn want_of_memory_is_told(rt: HostRuntime) {
     let heap = Refusing::new(rt.alloc());
     let mut ended_early = 0u64;
     for number in 1..10_000 {
-        heap.refuse_none();
-        let lists = lists_of(
-            &rt,
-            &heap,
-            &[&[Join(1), Broadcast], &[Up(0), Deliver(0, 1)]],
-        );
-        let names = names_of(&rt, &heap);
-        heap.refuse_only(number);
-        let explored = explore(
-            &heap,
-            names,
-            limits_of(&rt, 100),
-            Reading::EveryOrder,
-            &lists,
-            100,
-        );
+        let fault = fault_without(&rt, &heap, number);
         if heap.requests() < number {
-            assert!(rt; explored.is_ok());
+            assert!(rt; fault.is_none());
             break;
         }
-        assert!(rt;
-            matches!(explored, Err(ExploreFault::OutOfMemory)),
-            "request {number}"
-        );
+        assert!(rt; fault == Some(ExploreFault::OutOfMemory));
         ended_early = ended_early.saturating_add(1);
     }
     assert!(rt; 40 <= ended_early && ended_early < 9_000);

@@ -1,9 +1,9 @@
 //! Small sets of lines whose orders were gone through by hand.
 use crate::lines::Line::{self, Back, Broadcast, Deliver, Join, Undo, Up};
-use crate::lines::{Lists, limits_of, lines_alone, lists_of, names_of};
+use crate::lines::{Lists, let_go, limits_of, lines_alone, lists_of, names_of};
 use bench_core::{Bench, Fault, Names};
-use explore_core::{ExploreFault, Explored, Reading, explore};
-use std::alloc::{Allocator, Global};
+use explore_core::{ExploreFault, Explored, Outcome, Reading, Refusal, explore};
+use std::alloc::Allocator;
 use std::process::Abort;
 
 /// The lists of an order, how many entries the nodes `a` and `b` have after it, and how many orders lead there.
@@ -289,71 +289,90 @@ fn entries_of<'a, B: Allocator>(rt: &impl Abort, bench: &Bench<'a, B>, number: u
     node.replica().entries().len()
 }
 
+/// Whether the outcome is this one.
+fn is_told<'a, B: Allocator>(rt: &impl Abort, told: &Outcome<'a, B>, ends: &Ends) -> bool {
+    let [of_a, of_b] = ends.entries;
+    told.order.as_slice() == ends.order
+        && told.orders == Some(ends.orders)
+        && entries_of(rt, &told.bench, 0) == of_a
+        && entries_of(rt, &told.bench, 1) == of_b
+}
+
 fn check_outcomes<'a, B: Allocator>(
     rt: &impl Abort,
-    explored: &Explored<'a, B>,
-    outcomes: &[Ends],
+    outcomes: &[Outcome<'a, B>],
+    expected: &[Ends],
 ) {
-    assert_eq!(rt; explored.outcomes.len(), outcomes.len());
-    for (told, ends) in explored.outcomes.iter().zip(outcomes) {
-        assert_eq!(rt; told.order.as_slice(), ends.order);
-        let entries = [
-            entries_of(rt, &told.bench, 0),
-            entries_of(rt, &told.bench, 1),
-        ];
-        assert_eq!(rt; entries, ends.entries);
-        assert!(rt; told.orders == Some(ends.orders));
+    assert!(rt; outcomes.len() == expected.len());
+    for (told, ends) in outcomes.iter().zip(expected) {
+        assert!(rt; is_told(rt, told, ends));
     }
+}
+
+/// Whether the refusal is this one.
+fn is_refused<'a, B: Allocator>(told: &Refusal<'a, B>, refused: &Refused) -> bool {
+    told.list == refused.list
+        && told.place == refused.place
+        && told.fault == refused.fault
+        && told.order.as_slice() == refused.order
 }
 
 fn check_refusals<'a, B: Allocator>(
     rt: &impl Abort,
-    explored: &Explored<'a, B>,
-    refusals: &[Refused],
+    refusals: &[Refusal<'a, B>],
+    expected: &[Refused],
 ) {
-    assert_eq!(rt; explored.refusals.len(), refusals.len());
-    for (told, refused) in explored.refusals.iter().zip(refusals) {
-        assert_eq!(rt; (told.list, told.place), (refused.list, refused.place));
-        assert_eq!(rt; told.fault, refused.fault);
-        assert_eq!(rt; told.order.as_slice(), refused.order);
+    assert!(rt; refusals.len() == expected.len());
+    for (told, refused) in refusals.iter().zip(expected) {
+        assert!(rt; is_refused(told, refused));
     }
 }
 
-/// The calls of these lines in lists, and how their orders are read.
-fn lists_in<'a, B: Allocator>(
-    rt: &impl Abort,
-    heap: &'a B,
-    lines: &Lines,
-) -> (Reading, Lists<'a, B>) {
+/// The calls of these lines in lists.
+fn lists_in<'a, B: Allocator>(rt: &impl Abort, heap: &'a B, lines: &Lines) -> Lists<'a, B> {
     match lines {
-        Lines::OfActors(lists) => (Reading::EveryOrder, lists_of(rt, heap, lists)),
-        Lines::InTurn(lines) => (Reading::Deliveries, lines_alone(rt, heap, lines)),
+        Lines::OfActors(lists) => lists_of(rt, heap, lists),
+        Lines::InTurn(lines) => lines_alone(rt, heap, lines),
     }
 }
 
+/// How the orders of these lines are read.
+fn reading_of(lines: &Lines) -> Reading {
+    match lines {
+        Lines::OfActors(_) => Reading::EveryOrder,
+        Lines::InTurn(_) => Reading::Deliveries,
+    }
+}
+
+/// All orders of the lines of a case, of at most so many states.
 fn explored_in<'a, B: Allocator>(
     rt: &impl Abort,
     heap: &'a B,
-    reading: Reading,
-    lists: &Lists<'a, B>,
     case: &Case,
     most: usize,
 ) -> Result<Explored<'a, B>, ExploreFault> {
+    let names = names_of(rt, heap);
     let limits = limits_of(rt, case.acts);
-    explore(heap, names_of(rt, heap), limits, reading, lists, most)
+    let lists = lists_in(rt, heap, &case.lines);
+    let explored = explore(heap, names, limits, reading_of(&case.lines), &lists, most);
+    let_go(lists);
+    explored
+}
+
+/// Stops where anything else is told of a case.
+fn check<'a, B: Allocator>(rt: &impl Abort, explored: &Explored<'a, B>, case: &Case) {
+    assert!(rt; explored.states == case.states && explored.orders == Some(case.orders));
+    check_outcomes(rt, &explored.outcomes, case.outcomes);
+    check_refusals(rt, &explored.refusals, case.refusals);
 }
 
 #[test]
 fn each_order_is_told(rt: HostRuntime) {
     let heap = rt.alloc();
     for case in &CASES {
-        let (reading, lists) = lists_in(&rt, &heap, &case.lines);
-        let explored = explored_in(&rt, &heap, reading, &lists, case, case.states);
-        let explored = explored.expect(&rt, "all orders");
-        assert_eq!(rt; explored.states, case.states);
-        assert!(rt; explored.orders == Some(case.orders));
-        check_outcomes(&rt, &explored, case.outcomes);
-        check_refusals(&rt, &explored, case.refusals);
+        let explored = explored_in(&rt, &heap, case, case.states).expect(&rt, "all orders");
+        check(&rt, &explored, case);
+        drop(explored);
     }
 }
 
@@ -362,58 +381,55 @@ fn too_many_states_are_refused(rt: HostRuntime) {
     let heap = rt.alloc();
     for case in &CASES {
         let most = case.states.saturating_sub(1);
-        let (reading, lists) = lists_in(&rt, &heap, &case.lines);
-        let explored = explored_in(&rt, &heap, reading, &lists, case, most);
         let states = case.states as u128;
-        assert!(rt;
-            matches!(explored, Err(ExploreFault::TooMany { states: told }) if told == states)
-        );
+        let fault = explored_in(&rt, &heap, case, most).err();
+        assert!(rt; fault == Some(ExploreFault::TooMany { states }));
     }
 }
 
-/// Each of three nodes hears of the two others: 18! / 6!³ orders, which no walk could go through one by one.
+/// Six lines of each of three nodes, of which each hears of the two others.
+const SIX_LINES: [&[Line]; 3] = [
+    &[
+        Up(1),
+        Up(2),
+        Join(1),
+        Broadcast,
+        Deliver(1, 1),
+        Deliver(2, 1),
+    ],
+    &[
+        Up(0),
+        Up(2),
+        Join(2),
+        Broadcast,
+        Deliver(0, 1),
+        Deliver(2, 1),
+    ],
+    &[
+        Up(0),
+        Up(1),
+        Join(3),
+        Broadcast,
+        Deliver(0, 1),
+        Deliver(1, 1),
+    ],
+];
+
+/// How many orders those lines have, if the walk is told to its end.
+fn orders_of_six_lines<'a, B: Allocator>(rt: &impl Abort, heap: &'a B) -> Option<u128> {
+    let names = Names::new(heap, &["a", "b", "c"]).expect(rt, "names");
+    let limits = limits_of(rt, 100);
+    let lists = lists_of(rt, heap, &SIX_LINES);
+    let explored = explore(heap, names, limits, Reading::EveryOrder, &lists, 10_000);
+    let_go(lists);
+    let explored = explored.expect(rt, "all orders");
+    let orders = explored.orders;
+    drop(explored);
+    orders
+}
+
+/// 18! / 6!³ orders, which no walk could go through one by one.
 #[test]
 fn orders_of_three_nodes_of_six_lines_are_told(rt: HostRuntime) {
-    let heap = rt.alloc();
-    let lists = lists_of(
-        &rt,
-        &heap,
-        &[
-            &[
-                Up(1),
-                Up(2),
-                Join(1),
-                Broadcast,
-                Deliver(1, 1),
-                Deliver(2, 1),
-            ],
-            &[
-                Up(0),
-                Up(2),
-                Join(2),
-                Broadcast,
-                Deliver(0, 1),
-                Deliver(2, 1),
-            ],
-            &[
-                Up(0),
-                Up(1),
-                Join(3),
-                Broadcast,
-                Deliver(0, 1),
-                Deliver(1, 1),
-            ],
-        ],
-    );
-    let names = Names::new(&heap, &["a", "b", "c"]).expect(&rt, "names");
-    let explored = explore(
-        &heap,
-        names,
-        limits_of(&rt, 100),
-        Reading::EveryOrder,
-        &lists,
-        10_000,
-    );
-    let explored = explored.expect(&rt, "all orders");
-    assert!(rt; explored.orders == Some(17_153_136));
+    assert!(rt; orders_of_six_lines(&rt, &rt.alloc()) == Some(17_153_136));
 }
