@@ -1,6 +1,6 @@
 //! What a race is given: a bench of two nodes, and the lines of a script.
 use bench_core::{Act, Bench, Limits, Names};
-use script_core::{acts, parse_script};
+use grammar_core::{acts, parse_script};
 use std::alloc::Allocator;
 use std::process::Abort;
 
@@ -10,7 +10,14 @@ pub type Lines<'a, B> = Vec<(u16, Act<&'a B>), &'a B>;
 /// The act lines of a script.
 pub fn lines_of<'a, B: Allocator>(rt: &impl Abort, alloc: &'a B, script: &str) -> Lines<'a, B> {
     let script = parse_script(alloc, script.as_bytes()).expect(rt, "a script");
-    acts(alloc, &script).expect(rt, "act lines")
+    let lines = acts(alloc, &script).expect(rt, "act lines");
+    drop(script);
+    lines
+}
+
+/// Lets go of lines: a call takes them whole.
+pub fn let_go_of_lines<'a, B: Allocator>(lines: Lines<'a, B>) {
+    drop(lines);
 }
 
 /// A bench of the nodes `a` and `b`, with this limit on acts.

@@ -1,14 +1,14 @@
 //! Consoles that undo against running nodes in orders that a gate fixes, and receipts of such a race that were altered.
 use crate::gates::InOrder;
-use crate::lines::{Lines, lines_of, open};
-use crate::races::fault_of;
+use crate::lines::{let_go_of_lines, lines_of, open};
+use crate::races::{agrees, bench_raced, let_go_of_receipts, raced};
 use bench_core::{Act, Bench, Fault, Reply};
 use std::alloc::{Allocator, Global};
 use std::process::Abort;
 use std::sync::Wait;
 use std::thread::Threads;
 use std::time::Clock;
-use worker_core::{Receipt, Receipts, agree, race};
+use worker_core::{Receipt, Receipts};
 
 /// A console undoes what a node did, beside the nodes.
 pub const UNDONE_BESIDE: &str = "\
@@ -109,19 +109,25 @@ fn entries_of<'a, B: Allocator>(rt: &impl Abort, bench: &Bench<'a, B>, number: u
     node.replica().entries().len()
 }
 
+/// Whether a race in this order is told so, and leaves so many entries.
+fn is_raced_so<R: Threads + Wait + Clock + Abort + Sync + Copy>(
+    rt: &R,
+    heap: &Global,
+    order: &Order,
+) -> bool {
+    let gate = InOrder::new(*rt, order.lines);
+    let bench = bench_raced(rt, heap, UNDONE_BESIDE, 3, &gate);
+    let lines = lines_of(rt, heap, UNDONE_BESIDE);
+    let is_so = is_told(&bench, order, &lines) && entries_of(rt, &bench, 1) == order.entries;
+    let_go_of_lines(lines);
+    drop(bench);
+    is_so && gate.has_passed_each_once()
+}
+
 #[test]
 fn consoles_undo_beside_running_nodes(rt: HostRuntime) {
     for order in &ORDERS {
-        let heap = rt.alloc();
-        let gate = InOrder::new(rt, order.lines);
-        let bench = open(&rt, &heap, 100);
-        let lines = lines_of(&rt, &heap, UNDONE_BESIDE);
-        let raced = race(&rt, &heap, bench, 3, lines, &gate).map_err(fault_of);
-        let (bench, _receipts) = raced.expect(&rt, "a race");
-        assert!(rt; gate.has_passed_each_once());
-        let kept = lines_of(&rt, &heap, UNDONE_BESIDE);
-        assert!(rt; is_told(&bench, order, &kept));
-        assert_eq!(rt; entries_of(&rt, &bench, 1), order.entries);
+        assert!(rt; is_raced_so(&rt, &rt.alloc(), order));
     }
 }
 
@@ -177,10 +183,8 @@ fn alter_list<'a, B: Allocator>(
             list.push(again).expect(rt, "memory");
         }
         Alteration::TwoExchanged => {
-            let last = list.pop().expect(rt, "a receipt");
-            let one = list.pop().expect(rt, "a receipt");
-            list.push(last).expect(rt, "memory");
-            list.push(one).expect(rt, "memory");
+            assert!(rt; list.len() == 2);
+            list.swap(0, 1);
         }
         _ => {
             let receipt = list.get_mut(0).expect(rt, "a receipt");
@@ -214,15 +218,12 @@ fn alter<'a, B: Allocator>(rt: &impl Abort, alteration: Alteration, lists: &mut 
 }
 
 /// A race in the order of the lines, and its receipts.
-fn raced<'a, R: Threads + Wait + Clock + Abort + Sync + Copy>(
+fn raced_in_turn<'a, R: Threads + Wait + Clock + Abort + Sync + Copy>(
     rt: &R,
     heap: &'a Global,
 ) -> (Bench<'a, Global>, Receipts<&'a Global>) {
     let gate = InOrder::new(*rt, &[1, 2, 3, 4, 5]);
-    let bench = open(rt, heap, 100);
-    let lines = lines_of(rt, heap, UNDONE_BESIDE);
-    let raced = race(rt, heap, bench, 3, lines, &gate).map_err(fault_of);
-    raced.expect(rt, "a race")
+    raced(rt, heap, UNDONE_BESIDE, 3, &gate)
 }
 
 /// Whether the receipts of such a race agree with its history once they are altered.
@@ -232,11 +233,13 @@ fn agrees_altered<R: Threads + Wait + Clock + Abort + Sync + Copy>(
     alteration: Alteration,
 ) -> bool {
     let opening = open(rt, heap, 100);
-    let (bench, mut receipts) = raced(rt, heap);
+    let (bench, mut receipts) = raced_in_turn(rt, heap);
     alter(rt, alteration, &mut receipts);
-    let lines: Lines<'_, Global> = lines_of(rt, heap, UNDONE_BESIDE);
-    let agrees = agree(heap, opening.history(), bench.history(), &lines, &receipts);
-    agrees.expect(rt, "memory")
+    let agrees = agrees(rt, heap, &opening, &bench, UNDONE_BESIDE, &receipts);
+    let_go_of_receipts(receipts);
+    drop(bench);
+    drop(opening);
+    agrees
 }
 
 #[test]
@@ -247,12 +250,21 @@ fn altered_receipts_disagree(rt: HostRuntime) {
     }
 }
 
+/// Whether the receipts of such a race agree with the history of a bench just opened, after its own.
+fn agrees_backwards<R: Threads + Wait + Clock + Abort + Sync + Copy>(
+    rt: &R,
+    heap: &Global,
+) -> bool {
+    let opening = open(rt, heap, 100);
+    let (bench, receipts) = raced_in_turn(rt, heap);
+    let agrees = agrees(rt, heap, &bench, &opening, UNDONE_BESIDE, &receipts);
+    let_go_of_receipts(receipts);
+    drop(bench);
+    drop(opening);
+    agrees
+}
+
 #[test]
 fn receipts_disagree_with_a_history_that_does_not_go_on(rt: HostRuntime) {
-    let heap = rt.alloc();
-    let opening = open(&rt, &heap, 100);
-    let (bench, receipts) = raced(&rt, &heap);
-    let lines = lines_of(&rt, &heap, UNDONE_BESIDE);
-    let agrees = agree(&heap, bench.history(), opening.history(), &lines, &receipts);
-    assert!(rt; !agrees.expect(&rt, "memory"));
+    assert!(rt; !agrees_backwards(&rt, &rt.alloc()));
 }

@@ -1,10 +1,13 @@
 //! Races, single calls, and what refuses a race.
 use crate::gates::{Idle, InOrder};
-use crate::lines::{lines_of, open};
+use crate::lines::{let_go_of_lines, lines_of, open};
 use bench_core::{Act, Bench, Fault, Reply};
-use std::alloc::Allocator;
+use std::alloc::{Allocator, Global};
 use std::process::Abort;
-use worker_core::{RaceFault, Receipt, agree, ask, race};
+use std::sync::Wait;
+use std::thread::Threads;
+use std::time::Clock;
+use worker_core::{Gate, RaceFault, Receipt, Receipts, agree, ask, race};
 
 /// A node joins, sends, and another takes the delivery.
 const DELIVERED: &str = "\
@@ -28,8 +31,98 @@ consoles c1
 c1 undo 1
 ";
 
-pub fn fault_of<'a, B: Allocator>((fault, _bench): (RaceFault, Bench<'a, B>)) -> RaceFault {
+/// What a race leaves: the bench, and its receipts or its fault.
+pub type Raced<'a, B> = Result<(Bench<'a, B>, Receipts<&'a B>), (RaceFault, Bench<'a, B>)>;
+
+/// Lets go of receipts: a call takes them whole.
+pub fn let_go_of_receipts<A: Allocator>(receipts: Receipts<A>) {
+    drop(receipts);
+}
+
+/// A race of the lines of a script, over a bench just opened.
+pub fn raced_in<'a, B: Allocator + Sync, G: Gate + Sync, R: Threads + Wait + Sync + Abort>(
+    rt: &R,
+    heap: &'a B,
+    script: &str,
+    acts: u64,
+    actors: u16,
+    gate: &G,
+) -> Raced<'a, B> {
+    let lines = lines_of(rt, heap, script);
+    let bench = open(rt, heap, acts);
+    race(rt, heap, bench, actors, lines, gate)
+}
+
+fn fault_of<'a, B: Allocator>(refused: (RaceFault, Bench<'a, B>)) -> RaceFault {
+    let (fault, bench) = refused;
+    drop(bench);
     fault
+}
+
+/// What a race that is vouched for leaves.
+pub fn raced<'a, B: Allocator + Sync, G: Gate + Sync, R: Threads + Wait + Sync + Abort>(
+    rt: &R,
+    heap: &'a B,
+    script: &str,
+    actors: u16,
+    gate: &G,
+) -> (Bench<'a, B>, Receipts<&'a B>) {
+    let raced = raced_in(rt, heap, script, 100, actors, gate).map_err(fault_of);
+    raced.expect(rt, "a race")
+}
+
+/// The bench that such a race leaves.
+pub fn bench_raced<'a, B: Allocator + Sync, G: Gate + Sync, R: Threads + Wait + Sync + Abort>(
+    rt: &R,
+    heap: &'a B,
+    script: &str,
+    actors: u16,
+    gate: &G,
+) -> Bench<'a, B> {
+    let (bench, receipts) = raced(rt, heap, script, actors, gate);
+    let_go_of_receipts(receipts);
+    bench
+}
+
+/// Whether the receipts account for what the calls of a script's lines added to the history of a bench.
+pub fn agrees<'a, B: Allocator>(
+    rt: &impl Abort,
+    heap: &'a B,
+    before: &Bench<'a, B>,
+    after: &Bench<'a, B>,
+    script: &str,
+    receipts: &[Vec<Receipt<&'a B>, &'a B>],
+) -> bool {
+    let lines = lines_of(rt, heap, script);
+    let agrees = agree(heap, before.history(), after.history(), &lines, receipts);
+    let_go_of_lines(lines);
+    agrees.expect(rt, "memory")
+}
+
+/// Whether each recorded call of the bench has the same reply of this one.
+fn replies_so<'a, B: Allocator>(again: &mut Bench<'a, B>, bench: &Bench<'a, B>) -> bool {
+    for place in 0..bench.history().len() {
+        let Some(event) = bench.history().at(place) else {
+            return false;
+        };
+        if again.act(event.actor, &event.act) != event.reply {
+            return false;
+        }
+    }
+    true
+}
+
+/// Whether both benches of two nodes have the same.
+fn same_nodes<'a, B: Allocator>(one: &Bench<'a, B>, other: &Bench<'a, B>) -> bool {
+    for number in 0..2u16 {
+        let (Some(node), Some(again)) = (one.node(number), other.node(number)) else {
+            return false;
+        };
+        if !node.same(again) {
+            return false;
+        }
+    }
+    true
 }
 
 /// Whether the nodes are what the recorded calls give, asked of a bench just opened.
@@ -39,18 +132,9 @@ fn is_what_its_history_gives<'a, B: Allocator>(
     bench: &Bench<'a, B>,
 ) -> bool {
     let mut again = open(rt, alloc, bench.limits().acts());
-    let mut same = true;
-    for place in 0..bench.history().len() {
-        if let Some(event) = bench.history().at(place) {
-            same = same && again.act(event.actor, &event.act) == event.reply;
-        }
-    }
-    for number in 0..bench.names().len() as u16 {
-        if let (Some(node), Some(given)) = (bench.node(number), again.node(number)) {
-            same = same && node.same(given);
-        }
-    }
-    same
+    let is_so = replies_so(&mut again, bench) && same_nodes(&again, bench);
+    drop(again);
+    is_so
 }
 
 /// Whether there are so many lists, each of so many receipts.
@@ -62,36 +146,58 @@ fn are_so_many<A: Allocator>(lists: &[Vec<Receipt<A>, A>], lengths: &[usize]) ->
     are_so
 }
 
+/// Whether what a race left has so many receipts, which agree with its history, and the nodes that this history gives.
+fn are_vouched_for<'a, B: Allocator>(
+    rt: &impl Abort,
+    heap: &'a B,
+    bench: &Bench<'a, B>,
+    receipts: &[Vec<Receipt<&'a B>, &'a B>],
+) -> bool {
+    let opening = open(rt, heap, 100);
+    let are_so = agrees(rt, heap, &opening, bench, DELIVERED, receipts);
+    drop(opening);
+    are_so && are_so_many(receipts, &[2, 2, 0]) && is_what_its_history_gives(rt, heap, bench)
+}
+
 #[test]
 fn a_race_is_vouched_for(rt: HostRuntime) {
     let heap = rt.alloc();
-    let lines = lines_of(&rt, &heap, DELIVERED);
-    let bench = open(&rt, &heap, 100);
-    let before = bench.history().try_copy().expect(&rt, "a copy");
-    let kept = lines_of(&rt, &heap, DELIVERED);
-    let raced = race(&rt, &heap, bench, 3, lines, &Idle).map_err(fault_of);
-    let (bench, receipts) = raced.expect(&rt, "a race");
-    assert!(rt; are_so_many(&receipts, &[2, 2, 0]));
-    assert!(rt; is_what_its_history_gives(&rt, &heap, &bench));
-    let agrees = agree(&heap, &before, bench.history(), &kept, &receipts);
-    assert!(rt; agrees.expect(&rt, "memory"));
+    let (bench, receipts) = raced(&rt, &heap, DELIVERED, 3, &Idle);
+    let is_so = are_vouched_for(&rt, &heap, &bench, &receipts);
+    let_go_of_receipts(receipts);
+    drop(bench);
+    assert!(rt; is_so);
 }
 
 /// Each of the two lines in turn waits at the gate until the other was asked.
 const TURNS: [(&[u64], u16); 2] = [(&[2, 1], 0), (&[1, 2], 1)];
 
+/// Whether the second call that the history has is the join of this node.
+fn is_last<'a, B: Allocator>(bench: &Bench<'a, B>, node: u16) -> bool {
+    match bench.history().at(1) {
+        Some(last) => last.actor == node && last.reply == Reply::Taken(2),
+        None => false,
+    }
+}
+
+/// Whether the join of this node comes last where the gate lets the lines pass in this order.
+fn turns<R: Threads + Wait + Clock + Abort + Sync + Copy>(
+    rt: &R,
+    heap: &Global,
+    order: &'static [u64],
+    later: u16,
+) -> bool {
+    let gate = InOrder::new(*rt, order);
+    let bench = bench_raced(rt, heap, TWO_JOINS, 2, &gate);
+    let is_so = is_last(&bench, later);
+    drop(bench);
+    is_so && gate.has_passed_each_once()
+}
+
 #[test]
 fn a_gate_turns_the_order(rt: HostRuntime) {
     for (order, later) in TURNS {
-        let heap = rt.alloc();
-        let lines = lines_of(&rt, &heap, TWO_JOINS);
-        let gate = InOrder::new(rt, order);
-        let bench = open(&rt, &heap, 100);
-        let raced = race(&rt, &heap, bench, 2, lines, &gate).map_err(fault_of);
-        let (bench, _receipts) = raced.expect(&rt, "a race");
-        let last = bench.history().at(1).expect(&rt, "two events");
-        assert!(rt; last.actor == later && last.reply == Reply::Taken(2));
-        assert!(rt; gate.has_passed_each_once());
+        assert!(rt; turns(&rt, &rt.alloc(), order, later));
     }
 }
 
@@ -102,23 +208,43 @@ const REFUSED: [(&str, u64, u16, RaceFault); 3] = [
     (UNKNOWN_ACTOR, 1, 2, RaceFault::UnknownActor),
 ];
 
+/// Whether a race has this fault, and gives back its bench as it was opened, with this limit on acts.
+fn is_refused<'a>(rt: &impl Abort, raced: Raced<'a, Global>, fault: RaceFault, acts: u64) -> bool {
+    let (refused, bench) = raced.err().expect(rt, "a refusal");
+    let is_as_opened = bench.history().len() == 0 && bench.limits().acts() == acts;
+    drop(bench);
+    is_as_opened && refused == fault
+}
+
 #[test]
 fn a_race_is_refused_before_it_begins(rt: HostRuntime) {
+    let heap = rt.alloc();
     for (script, acts, actors, fault) in REFUSED {
-        let heap = rt.alloc();
-        let lines = lines_of(&rt, &heap, script);
-        let bench = open(&rt, &heap, acts);
-        let raced = race(&rt, &heap, bench, actors, lines, &Idle);
-        let (refused, bench) = raced.err().expect(&rt, "a refusal");
-        assert!(rt; refused == fault);
-        assert!(rt; bench.history().len() == 0 && bench.limits().acts() == acts);
+        let raced = raced_in(&rt, &heap, script, acts, actors, &Idle);
+        assert!(rt; is_refused(&rt, raced, fault, acts));
     }
 }
 
-/// The receipt has this reply and this place.
-fn tells<A: Allocator>(receipt: &Receipt<A>, reply: Reply, place: Option<u64>) -> bool {
-    receipt.reply == reply && receipt.place == place
+/// The reply of a receipt, and its place.
+fn told<'a, B: Allocator>(
+    bench: &mut Bench<'a, B>,
+    actor: u16,
+    line: u64,
+    act: Act<&'a B>,
+) -> (Reply, Option<u64>) {
+    let receipt = ask(bench, actor, line, act);
+    let told = (receipt.reply, receipt.place);
+    drop(receipt);
+    told
 }
+
+/// What is told of two joins, of which there is room for one, and of two undos behind them, of which there is room for one.
+const TOLD: [(Reply, Option<u64>); 4] = [
+    (Reply::Taken(1), Some(1)),
+    (Reply::Refused(Fault::HistoryFull), None),
+    (Reply::Refused(Fault::NoSuchStep), Some(2)),
+    (Reply::Refused(Fault::NoSuchStep), None),
+];
 
 #[test]
 fn a_call_is_told_with_its_place(rt: HostRuntime) {
@@ -127,12 +253,13 @@ fn a_call_is_told_with_its_place(rt: HostRuntime) {
     let mut lines = lines_of(&rt, &heap, TWO_JOINS);
     let (_, second) = lines.pop().expect(&rt, "a line");
     let (_, first) = lines.pop().expect(&rt, "a line");
-    let receipt = ask(&mut bench, 0, 1, first);
-    assert!(rt; tells(&receipt, Reply::Taken(1), Some(1)));
-    let receipt = ask(&mut bench, 1, 2, second);
-    assert!(rt; tells(&receipt, Reply::Refused(Fault::HistoryFull), None));
-    let receipt = ask(&mut bench, 7, 3, Act::Undo(9));
-    assert!(rt; tells(&receipt, Reply::Refused(Fault::NoSuchStep), Some(2)));
-    let receipt = ask(&mut bench, 7, 4, Act::Undo(9));
-    assert!(rt; tells(&receipt, Reply::Refused(Fault::NoSuchStep), None));
+    let_go_of_lines(lines);
+    let all_told = [
+        told(&mut bench, 0, 1, first),
+        told(&mut bench, 1, 2, second),
+        told(&mut bench, 7, 3, Act::Undo(9)),
+        told(&mut bench, 7, 4, Act::Undo(9)),
+    ];
+    drop(bench);
+    assert!(rt; all_told == TOLD);
 }

@@ -2,6 +2,7 @@
 use crate::gates::Idle;
 use crate::lines::{Lines, lines_of, open};
 use crate::orders::UNDONE_BESIDE;
+use crate::races::{Raced, agrees, let_go_of_receipts};
 use bench_core::{Act, Bench, Fault, Reply};
 use std::alloc::{Allocator, Global};
 use std::process::Abort;
@@ -9,13 +10,26 @@ use std::sync::{Mutex, Wait};
 use std::thread;
 use std::thread::Threads;
 use test_alloc::Refusing;
-use worker_core::{RaceFault, Receipt, Receipts, agree, ask, race};
+use worker_core::{RaceFault, Receipt, Receipts, ask, race};
 
 type Heap = Refusing<Global>;
 
 /// Whether the bench that comes back from a race still answers.
 fn still_answers<'a>(mut bench: Bench<'a, Heap>) -> bool {
-    bench.act(0, &Act::Undo(0)) == Reply::Refused(Fault::NoSuchStep)
+    let answer = bench.act(0, &Act::Undo(0));
+    drop(bench);
+    answer == Reply::Refused(Fault::NoSuchStep)
+}
+
+/// Whether a race is vouched for, or else wants memory and gives a bench back that still answers. First whether it was vouched for.
+fn ended<'a>(raced: Raced<'a, Heap>) -> (bool, bool) {
+    match raced.err() {
+        None => (true, true),
+        Some((fault, bench)) => {
+            let wants = fault == RaceFault::OutOfMemory || fault == RaceFault::WorkerRefused;
+            (false, still_answers(bench) && wants)
+        }
+    }
 }
 
 /// Whether a race meets this request for memory, which is refused. Then it says so, and the bench comes back; else it is vouched for.
@@ -26,17 +40,9 @@ fn refused<R: Threads + Wait + Abort + Sync>(rt: &R, heap: &Heap, number: u64) -
     let raced = race(rt, heap, bench, 3, lines, &Idle);
     let is_met = number <= heap.requests();
     heap.refuse_none();
-    match raced {
-        Ok((_bench, _receipts)) => {
-            assert!(rt; !is_met, "request {number}");
-            false
-        }
-        Err((fault, bench)) => {
-            let is_so = fault == RaceFault::OutOfMemory || fault == RaceFault::WorkerRefused;
-            assert!(rt; is_met && is_so && still_answers(bench), "request {number}");
-            true
-        }
-    }
+    let (is_vouched_for, is_so) = ended(raced);
+    assert!(rt; is_so && is_vouched_for != is_met, "request {number}");
+    is_met
 }
 
 #[test]
@@ -87,11 +93,11 @@ fn ask_alone<L, T, S: Shared<L, T>, R: Wait>(rt: &R, shared: &Mutex<S>, number: 
     bench.ask_line(number, line)
 }
 
-/// A thousand joins of each of two nodes, as a script.
-fn joins<A: Allocator>(rt: &impl Abort, alloc: A) -> String<A> {
+/// A thousand joins of each of these nodes, as a script.
+fn joins<A: Allocator>(rt: &impl Abort, alloc: A, nodes: &[&str]) -> String<A> {
     let mut script = String::new(alloc);
     script.push_str("nodes a b\n").expect(rt, "memory");
-    for name in ["a", "b"] {
+    for name in nodes {
         for pid in 1..1_001u64 {
             write!(script, "{name} join {pid} r alice phone\n").expect(rt, "memory");
         }
@@ -120,15 +126,10 @@ fn ask_both<
     )
 }
 
-/// The lines of one node.
-fn lines_by<'a>(rt: &impl Abort, heap: &'a Global, script: &str, node: u16) -> Lines<'a, Global> {
-    let mut lines = Vec::new(heap);
-    for (actor, act) in lines_of(rt, heap, script) {
-        if actor == node {
-            lines.push((actor, act)).expect(rt, "memory");
-        }
-    }
-    lines
+/// A thousand joins of one node.
+fn joins_of<'a>(rt: &impl Abort, heap: &'a Global, node: &str) -> Lines<'a, Global> {
+    let script = joins(rt, heap, &[node]);
+    lines_of(rt, heap, script.as_str())
 }
 
 /// How many of the receipts tell of a step that was taken.
@@ -149,15 +150,14 @@ fn clock_of<'a>(rt: &impl Abort, bench: &Bench<'a, Global>, node: u16) -> u64 {
     replica.seen().clock_of(node)
 }
 
-/// A bench that two threads have asked the lines of the script, and their receipts.
+/// A bench that two threads have asked a thousand joins each, and their receipts.
 fn shared_by_two<'a, R: Threads + Wait + Abort + Sync>(
     rt: &R,
     heap: &'a Global,
-    script: &str,
 ) -> (Bench<'a, Global>, Receipts<&'a Global>) {
     let shared = Mutex::new(open(rt, heap, 10_000));
-    let first = lines_by(rt, heap, script, 0);
-    let second = lines_by(rt, heap, script, 1);
+    let first = joins_of(rt, heap, "a");
+    let second = joins_of(rt, heap, "b");
     let (of_a, of_b) = ask_both(rt, heap, &shared, first, second);
     let mut receipts = Vec::new(heap);
     receipts.push(of_a).expect(rt, "memory");
@@ -165,22 +165,41 @@ fn shared_by_two<'a, R: Threads + Wait + Abort + Sync>(
     (shared.into_inner(), receipts)
 }
 
+/// Whether the bench has taken a thousand joins of this node, and the receipts tell of each.
+fn are_all_taken<'a>(
+    rt: &impl Abort,
+    bench: &Bench<'a, Global>,
+    receipts: &[Vec<Receipt<&'a Global>, &'a Global>],
+    node: u16,
+) -> bool {
+    let list = receipts.get(usize::from(node)).expect(rt, "a list");
+    taken_of(list) == 1_000 && clock_of(rt, bench, node) == 1_000
+}
+
+/// Whether the bench has taken a thousand joins of both nodes, and the receipts account for its history.
+fn are_all_told<'a>(
+    rt: &impl Abort,
+    heap: &'a Global,
+    bench: &Bench<'a, Global>,
+    receipts: &[Vec<Receipt<&'a Global>, &'a Global>],
+) -> bool {
+    let script = joins(rt, heap, &["a", "b"]);
+    let opening = open(rt, heap, 10_000);
+    let agrees = agrees(rt, heap, &opening, bench, script.as_str(), receipts);
+    drop(opening);
+    agrees
+        && are_all_taken(rt, bench, receipts, 0)
+        && are_all_taken(rt, bench, receipts, 1)
+        && bench.history().len() == 2_000
+        && bench.remaining().len() == 2_000
+}
+
 #[test]
 fn two_threads_share_a_bench(rt: HostRuntime) {
     let heap = rt.alloc();
-    let script = joins(&rt, heap);
-    let opening = open(&rt, &heap, 10_000);
-    let (bench, receipts) = shared_by_two(&rt, &heap, script.as_str());
-    for node in 0..2u16 {
-        let list = receipts.get(usize::from(node)).expect(&rt, "a list");
-        assert_eq!(rt; taken_of(list), 1_000);
-        assert_eq!(rt; clock_of(&rt, &bench, node), 1_000);
-    }
-    assert_eq!(rt;
-        (bench.history().len(), bench.remaining().len()),
-        (2_000, 2_000)
-    );
-    let lines = lines_of(&rt, &heap, script.as_str());
-    let agrees = agree(&heap, opening.history(), bench.history(), &lines, &receipts);
-    assert!(rt; agrees.expect(&rt, "memory"));
+    let (bench, receipts) = shared_by_two(&rt, &heap);
+    let is_so = are_all_told(&rt, &heap, &bench, &receipts);
+    let_go_of_receipts(receipts);
+    drop(bench);
+    assert!(rt; is_so);
 }
