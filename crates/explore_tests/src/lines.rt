@@ -1,5 +1,6 @@
-//! Lines of actors, as tables name them.
+//! Lines of actors, as tables name them, and all that their orders lead to.
 use bench_core::{Act, Limits, Names, Step};
+use explore_core::{ExploreFault, Explored, Reading, explore};
 use payload_core::Word;
 use std::alloc::Allocator;
 use std::process::Abort;
@@ -41,8 +42,29 @@ fn act_of<'a, B: Allocator>(rt: &impl Abort, alloc: &'a B, line: Line) -> Act<&'
 pub type Lists<'a, B> = Vec<Vec<(u16, Act<&'a B>), &'a B>, &'a B>;
 
 /// Lets go of lists: a call takes them whole.
-pub fn let_go<A: Allocator>(lists: Vec<Vec<(u16, Act<A>), A>, A>) {
+fn let_go<A: Allocator>(lists: Vec<Vec<(u16, Act<A>), A>, A>) {
     drop(lists);
+}
+
+/// What all orders of the lists lead to.
+pub fn explored<'a, B: Allocator>(
+    heap: &'a B,
+    names: Names<&'a B>,
+    limits: Limits,
+    reading: Reading,
+    lists: Lists<'a, B>,
+    most: usize,
+) -> Result<Explored<'a, B>, ExploreFault> {
+    let explored = explore(heap, names, limits, reading, &lists, most);
+    let_go(lists);
+    explored
+}
+
+/// Why it isn't told, where it isn't.
+pub fn fault_of<'a, B: Allocator>(
+    explored: Result<Explored<'a, B>, ExploreFault>,
+) -> Option<ExploreFault> {
+    explored.err()
 }
 
 /// For each actor a list of its lines.

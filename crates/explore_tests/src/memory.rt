@@ -1,7 +1,7 @@
 //! Want of memory at each request in turn.
 use crate::lines::Line::{self, Broadcast, Deliver, Join, Up};
-use crate::lines::{let_go, limits_of, lists_of, names_of};
-use explore_core::{ExploreFault, Reading, explore};
+use crate::lines::{explored, fault_of, limits_of, lists_of, names_of};
+use explore_core::{ExploreFault, Reading};
 use std::alloc::Global;
 use std::process::Abort;
 use test_alloc::Refusing;
@@ -13,11 +13,9 @@ fn fault_without(rt: &impl Abort, heap: &Refusing<Global>, number: u64) -> Optio
     heap.refuse_none();
     let lists = lists_of(rt, heap, &LISTS);
     let names = names_of(rt, heap);
+    let limits = limits_of(rt, 100);
     heap.refuse_only(number);
-    let reading = Reading::EveryOrder;
-    let fault = explore(heap, names, limits_of(rt, 100), reading, &lists, 100).err();
-    let_go(lists);
-    fault
+    fault_of(explored(heap, names, limits, Reading::EveryOrder, lists, 100))
 }
 
 #[test]

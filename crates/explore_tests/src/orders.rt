@@ -1,8 +1,8 @@
 //! Small sets of lines whose orders were gone through by hand.
 use crate::lines::Line::{self, Back, Broadcast, Deliver, Join, Undo, Up};
-use crate::lines::{Lists, let_go, limits_of, lines_alone, lists_of, names_of};
+use crate::lines::{Lists, explored, fault_of, limits_of, lines_alone, lists_of, names_of};
 use bench_core::{Bench, Fault, Names};
-use explore_core::{ExploreFault, Explored, Outcome, Reading, Refusal, explore};
+use explore_core::{ExploreFault, Explored, Outcome, Reading, Refusal};
 use std::alloc::Allocator;
 use std::process::Abort;
 
@@ -354,9 +354,7 @@ fn explored_in<'a, B: Allocator>(
     let names = names_of(rt, heap);
     let limits = limits_of(rt, case.acts);
     let lists = lists_in(rt, heap, &case.lines);
-    let explored = explore(heap, names, limits, reading_of(&case.lines), &lists, most);
-    let_go(lists);
-    explored
+    explored(heap, names, limits, reading_of(&case.lines), lists, most)
 }
 
 /// Stops where anything else is told of a case.
@@ -366,13 +364,17 @@ fn check<'a, B: Allocator>(rt: &impl Abort, explored: &Explored<'a, B>, case: &C
     check_refusals(rt, &explored.refusals, case.refusals);
 }
 
+fn check_case<'a, B: Allocator>(rt: &impl Abort, heap: &'a B, case: &Case) {
+    let told = explored_in(rt, heap, case, case.states).expect(rt, "all orders");
+    check(rt, &told, case);
+    drop(told);
+}
+
 #[test]
 fn each_order_is_told(rt: HostRuntime) {
     let heap = rt.alloc();
     for case in &CASES {
-        let explored = explored_in(&rt, &heap, case, case.states).expect(&rt, "all orders");
-        check(&rt, &explored, case);
-        drop(explored);
+        check_case(&rt, &heap, case);
     }
 }
 
@@ -382,7 +384,7 @@ fn too_many_states_are_refused(rt: HostRuntime) {
     for case in &CASES {
         let most = case.states.saturating_sub(1);
         let states = case.states as u128;
-        let fault = explored_in(&rt, &heap, case, most).err();
+        let fault = fault_of(explored_in(&rt, &heap, case, most));
         assert!(rt; fault == Some(ExploreFault::TooMany { states }));
     }
 }
@@ -420,11 +422,10 @@ fn orders_of_six_lines<'a, B: Allocator>(rt: &impl Abort, heap: &'a B) -> Option
     let names = Names::new(heap, &["a", "b", "c"]).expect(rt, "names");
     let limits = limits_of(rt, 100);
     let lists = lists_of(rt, heap, &SIX_LINES);
-    let explored = explore(heap, names, limits, Reading::EveryOrder, &lists, 10_000);
-    let_go(lists);
-    let explored = explored.expect(rt, "all orders");
-    let orders = explored.orders;
-    drop(explored);
+    let told = explored(heap, names, limits, Reading::EveryOrder, lists, 10_000);
+    let told = told.expect(rt, "all orders");
+    let orders = told.orders;
+    drop(told);
     orders
 }
 
