@@ -1,5 +1,5 @@
 -- What a call does, where it is not refused, and when it is.
-use Rattle.std.proofs.Common.{◌≡◌, ◌≢◌, ℕ, ◌+◌, ◌==◌, not, Bool, true, false, Option, None, List, [], ◌∷◌, length, refl, ap, sym, subst, ◌∙◌, true≢false}
+use Rattle.std.proofs.Common.{◌≡◌, ◌≢◌, ℕ, ◌+◌, ◌==◌, not, Bool, true, false, Option, None, Some, List, [], ◌∷◌, length, slice_get, refl, ap, sym, subst, ◌∙◌, true≢false}
 use Rattle.std.proofs.lemmas.Bool.{eq-eqb, ne_eqb}
 use Rattle.std.specs.FinMap as fin
 use Rattle.dots_core.specs.declared.dot.Dot.{Dot}
@@ -12,7 +12,7 @@ use Rattle.replica_core.specs.declared.replica_fault.ReplicaFault.TheVariants.{N
 use Rattle.replica_core.specs.declared.status.Status.{Status}
 use Rattle.payload_core.specs.Stores.{Store, with_entry}
 use Rattle.replica_core.specs.Views.{View}
-use Rattle.replica_core.specs.Replicas.{Replica, fresh, dots_of_process, is_known, is_online, joined, with_status}
+use Rattle.replica_core.specs.Replicas.{Replica, fresh, dots_of_process, tracked_dots, is_known, is_online, joined, with_status}
 use Rattle.replica_core.specs.Refusals.{first_of, is_some_dot, is_tracked, are_too_many, is_clock_full, join_refusal, leave_refusal}
 use Rattle.replica_core.specs.Refusals.{leave_all_refusal, up_refusal, down_refusal, permdown_refusal}
 use Rattle.replica_core.specs.Invariant.{IsReplica}
@@ -21,6 +21,10 @@ use Rattle.replica_core.proofs.Invariant.{fresh_valid, fresh_next, fresh_absent,
 -- an up of another name is not refused
 pub up_free : (r now : Replica) (name : ℕ) → r ≡ now → name ≢ r.own → up_refusal now name ≡ None
 up_free r now name same other = ap (λ (r : Replica). up_refusal r name) (sym same) ∙ ap (λ b. first_of ((b, OwnReplica) ∷ [])) (ne_eqb name r.own other)
+
+-- an up of the own name is
+pub up_own : (r now : Replica) (name : ℕ) → r ≡ now → name ≡ r.own → up_refusal now name ≡ Some OwnReplica
+up_own r now name same own = ap (λ (r : Replica). up_refusal r name) (sym same) ∙ ap (λ b. first_of ((b, OwnReplica) ∷ [])) (eq-eqb name r.own own)
 
 pub status_is : (r now : Replica) (name : ℕ) (s : Status) (v : View) → r ≡ now → v ≡ fin.insert r.view name s → record r { view = v } ≡ with_status name s now
 status_is r now name s v same at = ap (λ (v : View). record r { view = v }) at ∙ ap (with_status name s) same
@@ -33,6 +37,16 @@ down_other r now name asked same is free = go (name == r.own) refl (ap (λ (r : 
     go : (b : Bool) → (name == r.own) ≡ b → first_of ((b, OwnReplica) ∷ (not (is_known r name), NotKnown) ∷ []) ≡ None → (name == r.own) ≡ false
     go true at h = absurd (cc)
     go false at h = at
+
+-- and of a known one
+pub down_known : (r now : Replica) (name : ℕ) (asked : Option ReplicaFault) → r ≡ now → asked ≡ down_refusal now name → asked ≡ None → is_known r name ≡ true
+down_known r now name asked same is free =
+    go (name == r.own) (is_known r name) refl (ap (λ (r : Replica). down_refusal r name) same ∙ sym is ∙ free)
+  where
+    go : (b k : Bool) → is_known r name ≡ k → first_of ((b, OwnReplica) ∷ (not k, NotKnown) ∷ []) ≡ None → is_known r name ≡ true
+    go true k at h = absurd (cc)
+    go false true at h = at
+    go false false at h = absurd (cc)
 
 pub permdown_other : (r now : Replica) (name : ℕ) (asked : Option ReplicaFault) → r ≡ now → asked ≡ permdown_refusal now name →
     asked ≡ None → (name == r.own) ≡ false
@@ -51,6 +65,27 @@ leave_free r pid topic key free = go (is_tracked r pid topic key) (is_clock_full
     go false b at h = absurd (cc)
     go true true at h = absurd (cc)
     go true false at h = at
+
+-- a leave of one that is tracked, where the own clock has room, isn't refused
+pub leave_accepted : (r : Replica) (pid : ℕ) (topic key : List ℕ) (d : Dot) → tracked_dots r pid topic key ≡ d ∷ [] → is_clock_full r 1 ≡ false →
+    leave_refusal r pid topic key ≡ None
+leave_accepted r pid topic key d one free =
+    ap (λ ds. first_of ((not (is_some_dot ds), NotTracked) ∷ (is_clock_full r 1, ClockFull) ∷ [])) one ∙ ap (λ b. first_of ((b, ClockFull) ∷ [])) free
+
+pub leave_full : (r : Replica) (pid : ℕ) (topic key : List ℕ) (d : Dot) → tracked_dots r pid topic key ≡ d ∷ [] → is_clock_full r 1 ≡ true →
+    leave_refusal r pid topic key ≡ Some ClockFull
+leave_full r pid topic key d one full =
+    ap (λ ds. first_of ((not (is_some_dot ds), NotTracked) ∷ (is_clock_full r 1, ClockFull) ∷ [])) one ∙ ap (λ b. first_of ((b, ClockFull) ∷ [])) full
+
+-- and of one that no search found, it is
+pub leave_untracked : (r now : Replica) (pid : ℕ) (topic key : List ℕ) → r ≡ now → None ≡ slice_get (tracked_dots r pid topic key) 0 →
+    leave_refusal now pid topic key ≡ Some NotTracked
+leave_untracked r now pid topic key same none =
+    subst (λ (r : Replica). leave_refusal r pid topic key ≡ Some NotTracked) same (go (tracked_dots r pid topic key) refl none)
+  where
+    go : (ds : List Dot) → tracked_dots r pid topic key ≡ ds → None ≡ slice_get ds 0 → leave_refusal r pid topic key ≡ Some NotTracked
+    go [] is none = ap (λ ds. first_of ((not (is_some_dot ds), NotTracked) ∷ (is_clock_full r 1, ClockFull) ∷ [])) is
+    go (d ∷ ds) is none = absurd (cc)
 
 pub leave_all_free : (r : Replica) (pid : ℕ) (ds : List Dot) (len : ℕ) → ds ≡ dots_of_process r pid → len ≡ length ds →
     (len == 0) ≡ false → is_clock_full r len ≡ false → leave_all_refusal r pid ≡ None

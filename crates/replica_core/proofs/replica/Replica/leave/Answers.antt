@@ -1,4 +1,5 @@
 use Rattle.std.proofs.Common.{rules}
+use Rattle.std.proofs.lemmas.Result.{err_from_is_err_and}
 use Rattle.replica_core.proofs.Calls.{leave_free}
 use Rattle.replica_core.proofs.replica.Replica.leave.Goals as goal
 
@@ -30,3 +31,8 @@ returns-clause-leads_back g c = record {
   };
   earlier = c.in_ok-left.ensures.earlier;
 }
+
+pub returns-in_err-dot-clause-refused : goal.returns-in_err-dot-clause-refused
+returns-in_err-dot-clause-refused g c =
+    let failed = err_from_is_err_and c.from_residual.result c.from_residual.ensures.1 in
+    rw (failed.1, failed.2) c.in_err-dot.ensures.refused

@@ -1,8 +1,9 @@
-use Rattle.std.proofs.Common.{◌≡◌, ℕ, ◌==◌, not, true, false, List, [], ◌∷◌, length, Some, refl, ap, sym, subst, ◌∙◌, true≢false, arith}
+use Rattle.std.proofs.Common.{rules, ◌≡◌, ℕ, ◌==◌, not, true, false, List, [], ◌∷◌, length, Some, refl, ap, sym, subst, ◌∙◌, true≢false, arith}
 use Rattle.std.proofs.lemmas.Bool.{eq-eqb, eqb-true}
 use Rattle.dots_core.specs.declared.dot.Dot.{Dot}
 use Rattle.payload_core.specs.LeavesTogether.{lefts_of}
 use Rattle.replica_core.specs.declared.replica_fault.ReplicaFault.TheVariants.{NotTracked, ClockFull}
+use Rattle.replica_core.specs.Leaves.{AreOwnSeen}
 use Rattle.replica_core.specs.Replicas.{Replica, dots_of_process, left_each}
 use Rattle.replica_core.specs.Refusals.{first_of, is_clock_full, is_some_dot, leave_all_refusal}
 use Rattle.replica_core.proofs.Calls.{leave_all_free}
@@ -33,6 +34,18 @@ returns-then-is_clock_full-clause-refused g c =
     λ _. leave_all_full c.args.self.now c.args.pid c.in_ok-leaving.leaving.items _ c.in_ok-leaving.ensures.dots c.in_ok-leaving.leaving.ok.0
     (sym c.is_empty.ensures ∙ c.if-is_empty.false)
     (ap (is_clock_full c.args.self.now) (sym c.len.ensures) ∙ sym c.is_clock_full.ensures ∙ c.if-is_clock_full.true)
+
+pub let_all_go-requires : goal.let_all_go-requires
+let_all_go-requires g c =
+    let dots = c.deref.ensures.value in (
+      search rules,
+      (
+        subst (λ ds. AreOwnSeen ds c.args.self.now) (sym dots) c.in_ok-leaving.ensures.own,
+        ap (λ (ds : List Dot). is_clock_full c.args.self.now (length ds)) dots
+        ∙ ap (is_clock_full c.args.self.now) (sym c.in_ok-leaving.leaving.ok.0 ∙ sym c.len.ensures)
+        ∙ sym c.is_clock_full.ensures ∙ c.if-is_clock_full.false,
+      ),
+    )
 
 pub returns-clause-refused : goal.returns-clause-refused
 returns-clause-refused g c =

@@ -1,5 +1,6 @@
-use Rattle.std.proofs.Common.{ap, slice_get, ◌∙◌}
+use Rattle.std.proofs.Common.{ap, sym, slice_get, ◌∙◌}
 use Rattle.payload_core.specs.Presences.{Entries, dots_of, is_tracked_as}
+use Rattle.replica_core.proofs.Calls.{leave_accepted, leave_full, leave_untracked}
 use Rattle.replica_core.proofs.Left.{found_dot, found_live}
 use Rattle.replica_core.proofs.replica.Replica.leaving_dot.Goals as goal
 
@@ -19,4 +20,23 @@ pub returns-clause-live : goal.returns-clause-live
 returns-clause-live g c =
     found_live _ c.args.self.now c.args.pid c.args.topic.now c.args.key.now c.in-Some.dot c.self.view_is c.self.invariant
     (c.in-Some.ensures ∙ ap (λ (m : Entries). slice_get (dots_of c.self.inside.own
+    (is_tracked_as c.args.pid c.args.topic.now c.args.key.now) m) 0) c.entries.ensures)
+
+pub returns-clause-refused : goal.returns-clause-refused
+returns-clause-refused g c =
+    leave_accepted c.args.self.now c.args.pid c.args.topic.now c.args.key.now c.in-Some.dot (returns-clause-dot g c)
+    (sym c.is_clock_full.ensures ∙ c.if-is_clock_full.false)
+
+pub returns-then-is_clock_full-clause-refused : goal.returns-then-is_clock_full-clause-refused
+returns-then-is_clock_full-clause-refused g c =
+    λ _. leave_full c.args.self.now c.args.pid c.args.topic.now c.args.key.now c.in-Some.dot
+    (found_dot _ c.args.self.now c.args.pid c.args.topic.now c.args.key.now c.in-Some.dot c.self.view_is c.self.invariant
+    (c.in-Some.ensures ∙ ap (λ (m : Entries). slice_get (dots_of c.self.inside.own
+    (is_tracked_as c.args.pid c.args.topic.now c.args.key.now) m) 0) c.entries.ensures)).0
+    (sym c.is_clock_full.ensures ∙ c.if-is_clock_full.true)
+
+pub returns-in_default-clause-refused : goal.returns-in_default-clause-refused
+returns-in_default-clause-refused g c =
+    λ _. leave_untracked _ c.args.self.now c.args.pid c.args.topic.now c.args.key.now c.self.view_is
+    (sym c.in_default.is ∙ c.find.ensures ∙ ap (λ (m : Entries). slice_get (dots_of c.self.inside.own
     (is_tracked_as c.args.pid c.args.topic.now c.args.key.now) m) 0) c.entries.ensures)

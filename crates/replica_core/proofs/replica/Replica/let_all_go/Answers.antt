@@ -33,3 +33,6 @@ pub returns-clause-left : goal.returns-clause-left
 returns-clause-left g c =
     all_gone_is c.args.dots.now _ c.args.self.now c.self.view_is c.self.invariant c.requires.own c.requires.free c.own_clock-clock.result
     c.own_clock-clock.ensures.clock c.leave_each.new.store c.leave_each.new.delta c.in_ok-lefts.ensures.store c.in_ok-lefts.ensures.delta
+
+pub invariant_of-self : goal.invariant_of-self
+invariant_of-self g c = rw c.in_err-lefts.ensures.store_stays (rw c.in_err-lefts.ensures.delta_stays c.self.invariant)

@@ -4,7 +4,7 @@ use Rattle.std.specs.FinMap as fin
 use Rattle.replica_core.specs.declared.status.Status.TheVariants.{Up}
 use Rattle.replica_core.specs.Replicas.{Replica}
 use Rattle.replica_core.specs.Invariant.{IsReplica}
-use Rattle.replica_core.proofs.Calls.{status_is, up_free}
+use Rattle.replica_core.proofs.Calls.{status_is, up_free, up_own}
 use Rattle.replica_core.proofs.Invariant.{kept_status}
 use Rattle.replica_core.proofs.replica.Replica.up.Goals as goal
 
@@ -24,3 +24,6 @@ returns-clause-leads_back g c = record {
   };
   earlier = subst IsReplica c.self.view_is c.self.invariant;
 }
+
+pub returns-then-name-self-clause-refused : goal.returns-then-name-self-clause-refused
+returns-then-name-self-clause-refused g c = λ _. up_own _ c.args.self.now c.args.name c.self.view_is c.if-name-self.true

@@ -1,4 +1,5 @@
 use Rattle.std.proofs.Common.{rules, ap, ◌∙◌}
+use Rattle.std.proofs.lemmas.Result.{err_from_is_err_and}
 use Rattle.payload_core.specs.Presences.{Presence, Entry, presence_of}
 use Rattle.replica_core.specs.Replicas.{tracked_dots, updated}
 use Rattle.replica_core.proofs.Calls.{leave_free}
@@ -29,3 +30,8 @@ returns-clause-leads_back g c =
       };
       earlier = c.in_ok-left.ensures.earlier;
     }
+
+pub returns-in_err-dot-clause-refused : goal.returns-in_err-dot-clause-refused
+returns-in_err-dot-clause-refused g c =
+    let failed = err_from_is_err_and c.from_residual.result c.from_residual.ensures.1 in
+    rw (failed.1, failed.2) c.in_err-dot.ensures.refused
