@@ -399,6 +399,10 @@ read_at [] i p x at = absurd (cc)
 read_at (q ∷ ps) zero p x at = let same : q ≡ p = cc in same
 read_at (q ∷ ps) (suc i) p x at = read_at ps i p x at
 
+pub all_front : {X : Type 0} (P : X → Type 0) (xs ys : List X) → AllByRecursion P (xs ++ ys) → AllByRecursion P xs
+all_front P [] ys all = tt
+all_front P (x ∷ xs) ys all = (all.0, all_front P xs ys all.1)
+
 pub filled-at : (ps : List (List Entry)) (i : ℕ) (p : List Entry) → AllByRecursion IsFilled ps → slice_get ps i ≡ Some p → 0 < length p
 filled-at [] i p all at = absurd (cc)
 filled-at (q ∷ ps) zero p all at = let same : q ≡ p = cc in subst (λ x. 0 < length x) same all.0

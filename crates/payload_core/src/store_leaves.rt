@@ -70,14 +70,13 @@ pub fn update<A: Allocator + Copy>(
     ensures store_stays { OnErr result (store.new ≡ store.old) }
     ensures delta_stays { OnErr result (delta.new ≡ delta.old) }
 {
-    let copy = entry.try_copy()?;
     let in_delta = delta.seen.contains(dot);
-    make_ready(
+    let copy = ready_copy(
         &mut store.entries,
         &mut delta.entries,
         &mut delta.seen,
         dot,
-        entry.dot,
+        &entry,
     )?;
     store.seen.insert(entry.dot).unwrap();
     let unsent = delta.entries.remove(dot);
@@ -91,6 +90,31 @@ pub fn update<A: Allocator + Copy>(
         unsent,
         in_delta,
     })
+}
+
+/// A copy of the entry, once there is room for one more in both, and the dots are put in.
+fn ready_copy<A: Allocator + Copy>(
+    entries: &mut EntrySet<A>,
+    delta_entries: &mut EntrySet<A>,
+    delta_seen: &mut DotSet<A>,
+    dot: Dot,
+    entry: &Entry<A>,
+) -> Result<Entry<A>, Oom>
+    requires valid { IsValid dot }
+    requires valid_fresh { IsValid entry.now.dot }
+    requires last { IsLast entry.now.dot delta_seen.old }
+    requires unseen { set.contains delta_seen.old entry.now.dot ≡ false }
+    ensures copy { IfOk result (λ copy. copy ≡ entry.now) }
+    ensures entries { entries.new.map ≡ entries.old.map }
+    ensures delta_entries { delta_entries.new.map ≡ delta_entries.old.map }
+    ensures room { OnOk result (1 ≤ entries.new.room) }
+    ensures delta_room { OnOk result (1 ≤ delta_entries.new.room) }
+    ensures seen { OnOk result (delta_seen.new ≡ set.insert (set.insert delta_seen.old dot) entry.now.dot) }
+    ensures seen_stay { OnErr result (delta_seen.new ≡ delta_seen.old) }
+{
+    let copy = entry.try_copy()?;
+    make_ready(entries, delta_entries, delta_seen, dot, entry.dot)?;
+    Ok(copy)
 }
 
 /// Makes room for one more entry in both, and then puts the dots in.

@@ -2,22 +2,21 @@ use Rattle.std.proofs.Common.{◌≡◌, ap, false, rules, subst, subst₂, sym,
 use Rattle.std.specs.FinMap as fin
 use Rattle.std.specs.FinSet as set
 use Rattle.dots_core.specs.Contexts.{IsLast, IsNext}
-use Rattle.dots_core.specs.Dots.{IsValid}
 use Rattle.payload_core.specs.Presences.{Entry}
 use Rattle.payload_core.specs.Stores.{Store}
 use Rattle.payload_core.proofs.StoreEdits.{never_absent, absent_after}
 use Rattle.payload_core.proofs.store_leaves.update.Goals as goal
 
-pub make_ready-requires : goal.make_ready-requires
-make_ready-requires g c = (
+pub ready_copy-requires : goal.ready_copy-requires
+ready_copy-requires g c = (
   search rules,
   (
     c.requires.valid,
     (
-      subst (λ (e : Entry). IsValid e.dot) (sym c.entry.view_is) c.requires.valid_fresh,
+      c.requires.valid_fresh,
       (
-        subst₂ (λ (e : Entry) (s : Store). IsLast e.dot s.seen) (sym c.entry.view_is) (sym c.delta.view_is) c.requires.last,
-        subst₂ (λ (e : Entry) (s : Store). set.contains s.seen e.dot ≡ false) (sym c.entry.view_is) (sym c.delta.view_is) c.requires.unseen,
+        subst (λ (s : Store). IsLast c.args.entry.dot s.seen) (sym c.delta.view_is) c.requires.last,
+        subst (λ (s : Store). set.contains s.seen c.args.entry.dot ≡ false) (sym c.delta.view_is) c.requires.unseen,
       ),
     ),
   ),
@@ -29,16 +28,16 @@ unwrap-requires g c =
 
 pub unreachable-requires : goal.unreachable-requires
 unreachable-requires g c =
-    never_absent c.make_ready.new.entries.map c.args.store.now c.args.dot c.remove.result
-    (c.in_ok-make_ready.ensures.entries ∙ ap (λ (s : Store). s.entries) c.store.view_is) c.requires.present c.remove.ensures.entry c.in_default.is
+    never_absent c.ready_copy.new.entries.map c.args.store.now c.args.dot c.remove.result
+    (c.in_ok-copy.ensures.entries ∙ ap (λ (s : Store). s.entries) c.store.view_is) c.requires.present c.remove.ensures.entry c.in_default.is
 
 pub insert-requires-2 : goal.insert-requires-2
 insert-requires-2 g c =
-    absent_after c.make_ready.new.entries.map c.remove.new.self.map c.args.store.now c.args.dot c.args.entry.dot
-    (c.in_ok-make_ready.ensures.entries ∙ ap (λ (s : Store). s.entries) c.store.view_is) c.remove.ensures.map c.requires.absent
+    absent_after c.ready_copy.new.entries.map c.remove.new.self.map c.args.store.now c.args.dot c.args.entry.dot
+    (c.in_ok-copy.ensures.entries ∙ ap (λ (s : Store). s.entries) c.store.view_is) c.remove.ensures.map c.requires.absent
 
 pub insert-requires-3 : goal.insert-requires-3
 insert-requires-3 g c =
-    ap (λ (e : Entry). fin.get c.remove-unsent.new.self.map e.dot) c.in_ok-copy.ensures
-    ∙ absent_after c.make_ready.new.delta_entries.map c.remove-unsent.new.self.map c.args.delta.now c.args.dot c.args.entry.dot
-    (c.in_ok-make_ready.ensures.delta_entries ∙ ap (λ (s : Store). s.entries) c.delta.view_is) c.remove-unsent.ensures.map c.requires.absent_in_delta
+    ap (λ (e : Entry). fin.get c.remove-unsent.new.self.map e.dot) c.in_ok-copy.ensures.copy
+    ∙ absent_after c.ready_copy.new.delta_entries.map c.remove-unsent.new.self.map c.args.delta.now c.args.dot c.args.entry.dot
+    (c.in_ok-copy.ensures.delta_entries ∙ ap (λ (s : Store). s.entries) c.delta.view_is) c.remove-unsent.ensures.map c.requires.absent_in_delta
