@@ -260,7 +260,9 @@ fn changes<'a, B: Allocator>(
     let after = list(rt, alloc, bench, node);
     let (left, joined) = rows;
     let there = differ(rt, alloc, before, &after, rows);
-    there && differ(rt, alloc, &after, before, (joined, left))
+    let back = differ(rt, alloc, &after, before, (joined, left));
+    drop(after);
+    there && back
 }
 
 /// Whether there is a way back from a step that was taken, and none from one that was undone.
@@ -330,10 +332,13 @@ const FIVE_STEPS: [Turn; 5] = [
 
 /// Whether the unwind of step 1 undoes these steps.
 fn unwinds<'a, B: Allocator>(bench: &mut Bench<'a, B>, expected: &[u64]) -> bool {
-    match bench.unwind(2, 1) {
+    let unwound = bench.unwind(2, 1);
+    let is_done = match &unwound {
         Unwound::Done(numbers) => numbers.as_slice() == expected,
         _ => false,
-    }
+    };
+    drop(unwound);
+    is_done
 }
 
 /// Whether the unwind takes what was joined, at both nodes, off the lists.
@@ -343,6 +348,8 @@ fn is_unwound<'a, B: Allocator>(rt: &impl Abort, alloc: &'a B, bench: &mut Bench
     let is_done = unwinds(bench, &[5, 4, 3, 1]);
     let at_a = changes(rt, alloc, bench, 0, &a, (&[ALICE], &[]));
     let at_b = changes(rt, alloc, bench, 1, &b, (&[ALICE, BOB], &[]));
+    drop(a);
+    drop(b);
     is_done && at_a && at_b
 }
 
@@ -350,6 +357,6 @@ fn is_unwound<'a, B: Allocator>(rt: &impl Abort, alloc: &'a B, bench: &mut Bench
 fn an_unwind_changes_the_list_of_each_node(rt: HostRuntime) {
     let heap = rt.alloc();
     let mut bench = shown(&rt, &heap, Limits::usual(), &FIVE_STEPS, "five steps");
-    assert!(rt; is_unwound(&rt, &heap, &mut bench));
+    holds!(&rt, is_unwound(&rt, &heap, &mut bench));
     drop(bench);
 }

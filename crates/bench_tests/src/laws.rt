@@ -62,6 +62,6 @@ fn laws_hold_of_a_bench(rt: HostRuntime) {
     runs_in_order(&bench);
     can_be_left_out(&bench, 1);
     can_be_unwound(&bench, 1);
-    assert_eq!(rt; leads_back(&bench).len(), 0);
+    holds!(&rt, leads_back(&bench).len() == 0);
     drop(bench);
 }

@@ -1,26 +1,11 @@
 //! Named cases of leaves, updates and statuses with their replies, and what a node holds then.
-use crate::calls::{Call, HELD_3_BY_4, HELD_6_BY_7, Row, Shown, USUAL, limits_of, played};
-use crate::rows::holds;
-use bench_core::{Bench, Fault, Limits, Reply};
+use crate::calls::{Call, HELD_3_BY_4, HELD_6_BY_7, Row, Shown, USUAL};
+use crate::steps::{Case, plays};
+use bench_core::{Fault, Reply};
 use replica_core::Status;
-use std::alloc::Allocator;
-use std::process::Abort;
-
-/// The first `asked` of some calls of a bench of two nodes, each with its reply. After them the node has this status for
-/// name 0, has seen the dots of name 0 up to the clock and none beyond a gap, and holds so many entries.
-struct Case {
-    name: &'static str,
-    limits: [u64; 4],
-    rows: &'static [Row],
-    asked: usize,
-    node: u16,
-    status: Option<Status>,
-    clock: u64,
-    entries: usize,
-}
 
 /// A join of node 0, sent and delivered to node 1, and an update of it, sent and delivered.
-const UPDATED: [Row; 10] = [
+pub const UPDATED: [Row; 10] = [
     (0, Call::Join(1, Shown::Alice), Reply::Taken(1)),
     (1, Call::Up(0), Reply::Taken(2)),
     (0, Call::Broadcast, Reply::Taken(3)),
@@ -128,9 +113,12 @@ const CASES: [Case; 15] = [
         limits: USUAL,
         rows: &UPDATED,
         asked: 4,
+        recorded: 4,
+        remaining: 4,
         node: 1,
         status: Some(Status::Up),
         clock: 1,
+        cloud: &[],
         entries: 1,
     },
     Case {
@@ -138,9 +126,12 @@ const CASES: [Case; 15] = [
         limits: USUAL,
         rows: &UPDATED,
         asked: 10,
+        recorded: 10,
+        remaining: 8,
         node: 1,
         status: Some(Status::Up),
         clock: 2,
+        cloud: &[],
         entries: 1,
     },
     Case {
@@ -148,9 +139,12 @@ const CASES: [Case; 15] = [
         limits: [100, 1, 10, 10],
         rows: &UPDATED,
         asked: 7,
+        recorded: 7,
+        remaining: 7,
         node: 1,
         status: Some(Status::Up),
         clock: 2,
+        cloud: &[],
         entries: 1,
     },
     Case {
@@ -158,9 +152,12 @@ const CASES: [Case; 15] = [
         limits: USUAL,
         rows: &FAULTS,
         asked: 11,
+        recorded: 11,
+        remaining: 3,
         node: 0,
         status: Some(Status::Up),
         clock: 1,
+        cloud: &[],
         entries: 1,
     },
     Case {
@@ -168,9 +165,12 @@ const CASES: [Case; 15] = [
         limits: USUAL,
         rows: &FORGOTTEN,
         asked: 5,
+        recorded: 5,
+        remaining: 5,
         node: 1,
         status: Some(Status::Down),
         clock: 1,
+        cloud: &[],
         entries: 1,
     },
     Case {
@@ -178,9 +178,12 @@ const CASES: [Case; 15] = [
         limits: USUAL,
         rows: &FORGOTTEN,
         asked: 6,
+        recorded: 6,
+        remaining: 6,
         node: 1,
         status: None,
         clock: 0,
+        cloud: &[],
         entries: 0,
     },
     Case {
@@ -188,9 +191,12 @@ const CASES: [Case; 15] = [
         limits: USUAL,
         rows: &FORGOTTEN,
         asked: 7,
+        recorded: 7,
+        remaining: 5,
         node: 1,
         status: Some(Status::Down),
         clock: 1,
+        cloud: &[],
         entries: 1,
     },
     Case {
@@ -198,9 +204,12 @@ const CASES: [Case; 15] = [
         limits: USUAL,
         rows: &FORGOTTEN,
         asked: 8,
+        recorded: 8,
+        remaining: 4,
         node: 1,
         status: Some(Status::Up),
         clock: 1,
+        cloud: &[],
         entries: 1,
     },
     Case {
@@ -208,9 +217,12 @@ const CASES: [Case; 15] = [
         limits: [100, 1, 2, 1],
         rows: &FULL,
         asked: 7,
+        recorded: 7,
+        remaining: 3,
         node: 0,
         status: Some(Status::Up),
         clock: 2,
+        cloud: &[],
         entries: 0,
     },
     Case {
@@ -218,9 +230,12 @@ const CASES: [Case; 15] = [
         limits: USUAL,
         rows: &ALL_LEFT,
         asked: 3,
+        recorded: 3,
+        remaining: 3,
         node: 0,
         status: Some(Status::Up),
         clock: 4,
+        cloud: &[],
         entries: 0,
     },
     Case {
@@ -228,9 +243,12 @@ const CASES: [Case; 15] = [
         limits: USUAL,
         rows: &ALL_LEFT,
         asked: 4,
+        recorded: 4,
+        remaining: 2,
         node: 0,
         status: Some(Status::Up),
         clock: 2,
+        cloud: &[],
         entries: 2,
     },
     Case {
@@ -238,9 +256,12 @@ const CASES: [Case; 15] = [
         limits: USUAL,
         rows: &NOT_REVIVED,
         asked: 6,
+        recorded: 6,
+        remaining: 6,
         node: 1,
         status: Some(Status::Up),
         clock: 2,
+        cloud: &[],
         entries: 0,
     },
     Case {
@@ -248,9 +269,12 @@ const CASES: [Case; 15] = [
         limits: USUAL,
         rows: &NOT_REVIVED,
         asked: 7,
+        recorded: 7,
+        remaining: 7,
         node: 1,
         status: Some(Status::Up),
         clock: 2,
+        cloud: &[],
         entries: 0,
     },
     Case {
@@ -258,9 +282,12 @@ const CASES: [Case; 15] = [
         limits: [3, 10, 10, 10],
         rows: &ONE_PLACE,
         asked: 3,
+        recorded: 2,
+        remaining: 1,
         node: 0,
         status: Some(Status::Up),
         clock: 1,
+        cloud: &[],
         entries: 1,
     },
     Case {
@@ -268,30 +295,15 @@ const CASES: [Case; 15] = [
         limits: USUAL,
         rows: &DOWN,
         asked: 5,
+        recorded: 5,
+        remaining: 5,
         node: 1,
         status: Some(Status::Down),
         clock: 1,
+        cloud: &[],
         entries: 1,
     },
 ];
-
-/// Whether the node has what the case says.
-fn has<'a, B: Allocator>(rt: &impl Abort, bench: &Bench<'a, B>, case: &Case) -> bool {
-    let replica = bench.node(case.node).expect(rt, case.name).replica();
-    let seen = replica.seen();
-    replica.status(0) == case.status
-        && seen.clock_of(0) == case.clock
-        && seen.cloud_of(0).is_empty()
-        && replica.entries().len() == case.entries
-}
-
-fn plays<'a, B: Allocator>(rt: &impl Abort, alloc: &'a B, case: &Case) {
-    let limits = limits_of(rt, case.limits, case.name);
-    let rows = case.rows.get(..case.asked).expect(rt, case.name);
-    let bench = played(rt, alloc, limits, rows, case.name);
-    holds(rt, has(rt, &bench, case), case.name);
-    drop(bench);
-}
 
 #[test]
 fn leaves_and_statuses_get_their_replies(rt: HostRuntime) {
@@ -299,14 +311,4 @@ fn leaves_and_statuses_get_their_replies(rt: HostRuntime) {
     for case in &CASES {
         plays(&rt, &heap, case);
     }
-}
-
-#[test]
-fn an_updated_entry_has_the_new_metadata(rt: HostRuntime) {
-    let heap = rt.alloc();
-    let bench = played(&rt, &heap, Limits::usual(), &UPDATED, "an update");
-    let replica = bench.node(1).expect(&rt, "a node").replica();
-    let entry = replica.entries().at(0).expect(&rt, "an entry");
-    assert!(rt; entry.dot.name == 0 && entry.dot.clock == 2 && entry.metadata.as_str() == "away");
-    drop(bench);
 }

@@ -8,6 +8,14 @@
 //! `lists`, of online lists; `diffs`, what each call of a bench changes in them.
 #![tactic(auto)]
 
+/// An assertion as a call: it is told by its own words. An `assert!` in its place is an exit more where much is live.
+#[cfg(test)]
+macro_rules! holds {
+    ($rt:expr, $is_so:expr $(,)?) => {
+        $crate::rows::holds($rt, $is_so, stringify!($is_so))
+    };
+}
+
 #[cfg(test)]
 mod calls;
 #[cfg(test)]

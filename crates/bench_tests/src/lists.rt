@@ -120,7 +120,9 @@ fn joins<'a, B: Allocator>(
     ensures { IfOk result (λ change. ChangeLeadsBack (plain_change change) replica.new replica.old) }
 {
     let words = words_of(rt, alloc, shown);
-    replica.join(1, &words.topic, &words.key, &words.metadata)
+    let made = replica.join(1, &words.topic, &words.key, &words.metadata);
+    drop(words);
+    made
 }
 
 fn updates<'a, B: Allocator>(
@@ -132,7 +134,9 @@ fn updates<'a, B: Allocator>(
     ensures { IfOk result (λ change. ChangeLeadsBack (plain_change change) replica.new replica.old) }
 {
     let words = words_of(rt, alloc, shown);
-    replica.update(1, &words.topic, &words.key, &words.metadata)
+    let made = replica.update(1, &words.topic, &words.key, &words.metadata);
+    drop(words);
+    made
 }
 
 fn leaves<'a, B: Allocator>(
@@ -144,7 +148,9 @@ fn leaves<'a, B: Allocator>(
     ensures { IfOk result (λ change. ChangeLeadsBack (plain_change change) replica.new replica.old) }
 {
     let words = words_of(rt, alloc, shown);
-    replica.leave(1, &words.topic, &words.key)
+    let made = replica.leave(1, &words.topic, &words.key);
+    drop(words);
+    made
 }
 
 /// The call is asked; of a message that isn't there, or is a request, nothing is.
@@ -344,19 +350,28 @@ fn are_in_order<'a, B: Allocator>(rt: &impl Abort, rows: &[OnlineRow<&'a B>]) ->
     let [first, second, ..] = rows else {
         return false;
     };
-    first.cmp(second) == Ordering::Less && first.same(&first.try_copy().expect(rt, "a copy"))
+    let copy = first.try_copy().expect(rt, "a copy");
+    let is_same = first.same(&copy);
+    drop(copy);
+    is_same && first.cmp(second) == Ordering::Less
+}
+
+/// A replica of name 0 whose process 1 joined so.
+fn joined<'a, B: Allocator>(rt: &impl Abort, alloc: &'a B, all: &[Shown]) -> Replica<&'a B> {
+    let mut replica = opening(alloc, 0);
+    for shown in all {
+        drop(made(rt, alloc, &mut replica, &[], Call::Join(*shown)));
+    }
+    replica
 }
 
 #[test]
 fn rows_stand_in_order(rt: HostRuntime) {
     let heap = rt.alloc();
-    let mut replica = opening(&heap, 0);
-    for shown in [Shown::AliceUnderS, Shown::Bob, Shown::Alice] {
-        assert!(rt; joins(&rt, &heap, &mut replica, shown).err().is_none());
-    }
+    let replica = joined(&rt, &heap, &[Shown::AliceUnderS, Shown::Bob, Shown::Alice]);
     let rows = list_of(&rt, &heap, &replica);
-    assert!(rt; are(&rows, &[ALICE, (0, 1, Shown::Bob), ALICE_UNDER_S]));
-    assert!(rt; are_in_order(&rt, &rows));
+    holds!(&rt, are(&rows, &[ALICE, (0, 1, Shown::Bob), ALICE_UNDER_S]));
+    holds!(&rt, are_in_order(&rt, &rows));
     drop(rows);
     drop(replica);
 }
@@ -374,30 +389,51 @@ fn fails_where_refused<'a>(
     is_had == (requests < number)
 }
 
+/// The difference from the list of the other.
+fn compared<'a, B: Allocator>(
+    alloc: &'a B,
+    rows: &[OnlineRow<&'a B>],
+    other: &Replica<&'a B>,
+) -> Result<(), Oom>
+    requires { AreInOrder rows.now }
+{
+    let others = online_list(alloc, other)?;
+    let answer = diff(alloc, rows, &others).err();
+    drop(others);
+    match answer {
+        Some(oom) => Err(oom),
+        None => Ok(()),
+    }
+}
+
 fn is_compared<'a, B: Allocator>(
     alloc: &'a B,
     replica: &Replica<&'a B>,
     other: &Replica<&'a B>,
 ) -> Result<(), Oom> {
     let rows = online_list(alloc, replica)?;
-    let others = online_list(alloc, other)?;
-    drop(diff(alloc, &rows, &others)?);
-    Ok(())
+    let answer = compared(alloc, &rows, other);
+    drop(rows);
+    answer
+}
+
+fn fail_where_refused<'a>(
+    rt: &impl Abort,
+    heap: &'a Heap,
+    replica: &Replica<&'a Heap>,
+    other: &Replica<&'a Heap>,
+) {
+    for number in 1..16 {
+        holds!(rt, fails_where_refused(heap, replica, other, number));
+    }
 }
 
 #[test]
 fn refused_memory_is_told(rt: HostRuntime) {
     let heap = Refusing::new(rt.alloc());
-    let mut replica = opening(&heap, 0);
-    assert!(rt;
-        joins(&rt, &heap, &mut replica, Shown::Alice)
-            .err()
-            .is_none()
-    );
+    let replica = joined(&rt, &heap, &[Shown::Alice]);
     let other = opening(&heap, 1);
-    for number in 1..16 {
-        assert!(rt; fails_where_refused(&heap, &replica, &other, number));
-    }
+    fail_where_refused(&rt, &heap, &replica, &other);
     drop(other);
     drop(replica);
 }

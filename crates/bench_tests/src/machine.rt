@@ -1,5 +1,7 @@
 //! What no contract says of the machine: that calls succeed with ample memory, and what its parts tell then.
-use crate::calls::{Call, Row, Shown, answers, open, played};
+use crate::calls::{Call, Row, Shown, open, played};
+use crate::leaves::UPDATED;
+use crate::rows::holds;
 use crate::steps::{DELIVERED, DELIVERED_AND_UNDONE, UNDONE_JOIN};
 use bench_core::{Act, Bench, Fault, Journal, Limits, Reply, Step};
 use dots_core::NameSet;
@@ -22,7 +24,7 @@ fn a_run_of_calls_gives_their_replies(rt: HostRuntime) {
     let expected = [unknown, unknown, unknown, unknown, never];
     let mut bench = open(&rt, &heap, Limits::usual());
     let replies = bench.run(&calls).expect(&rt, "replies");
-    assert!(rt; replies.as_slice() == expected.as_slice());
+    holds!(&rt, replies.as_slice() == expected.as_slice());
     drop(replies);
     drop(calls);
     drop(bench);
@@ -39,7 +41,7 @@ fn has_copy<A: Allocator + Copy>(rt: &impl Abort, act: &Act<A>) -> bool {
 #[test]
 fn an_act_is_the_same_as_its_copy(rt: HostRuntime) {
     let act = Call::Join(1, Shown::Alice).act(&rt, rt.alloc());
-    assert!(rt; has_copy(&rt, &act));
+    holds!(&rt, has_copy(&rt, &act));
     drop(act);
 }
 
@@ -47,22 +49,99 @@ fn an_act_is_the_same_as_its_copy(rt: HostRuntime) {
 fn a_bench_has_its_names_and_limits(rt: HostRuntime) {
     let heap = rt.alloc();
     let bench = open(&rt, &heap, Limits::usual());
-    assert!(rt; bench.names().number_of("b") == Some(1) && bench.limits().acts() == 100_000);
-    assert!(rt; bench.node(1).is_some() && bench.node(2).is_none());
+    holds!(
+        &rt,
+        bench.names().number_of("b") == Some(1) && bench.limits().acts() == 100_000
+    );
+    holds!(&rt, bench.node(1).is_some() && bench.node(2).is_none());
     drop(bench);
 }
 
-#[test]
-fn a_step_is_recorded_and_kept(rt: HostRuntime) {
-    let heap = rt.alloc();
-    let rows = [(1, Call::Join(1, Shown::Alice), Reply::Taken(1))];
-    let bench = played(&rt, &heap, Limits::usual(), &rows, "one join");
-    let kept = bench.remaining().at(0).expect(&rt, "a step");
-    assert!(rt; kept.number == 1 && kept.node == 1);
-    let event = bench.history().at(0).expect(&rt, "a call");
-    assert!(rt; event.actor == 1 && event.reply == Reply::Taken(1));
-    drop(bench);
+/// What a bench is asked about after some calls.
+#[derive(Clone, Copy)]
+enum Look {
+    /// Step 1 of node 1 is the first that remains, and the first call that is recorded.
+    First,
+    /// Step 2, an up of name 0 by node 1, is the first that remains.
+    UpAlone,
+    /// Each of these steps has this least consequence.
+    Held(&'static [(u64, Option<u64>)]),
+    /// The last steps of the two nodes.
+    Last(u64, u64),
+    /// The first entry of node 1: its clock of name 0, its process and its metadata.
+    Entry(u64, u64, &'static str),
 }
+
+/// Calls of a bench of two nodes, each with its reply, and what there is after them.
+struct Case {
+    name: &'static str,
+    rows: &'static [Row],
+    look: Look,
+}
+
+/// A message that is delivered, the delivery undone, and the message delivered again.
+const DELIVERED_AGAIN: [Row; 6] = [
+    (0, Call::Join(1, Shown::Alice), Reply::Taken(1)),
+    (1, Call::Up(0), Reply::Taken(2)),
+    (0, Call::Broadcast, Reply::Taken(3)),
+    (1, Call::Deliver(0, 1), Reply::Taken(4)),
+    (2, Call::Undo(4), Reply::Undone(4)),
+    (1, Call::Deliver(0, 1), Reply::Taken(5)),
+];
+
+/// And that delivery undone too.
+const UNDONE_AGAIN: [Row; 7] = [
+    (0, Call::Join(1, Shown::Alice), Reply::Taken(1)),
+    (1, Call::Up(0), Reply::Taken(2)),
+    (0, Call::Broadcast, Reply::Taken(3)),
+    (1, Call::Deliver(0, 1), Reply::Taken(4)),
+    (2, Call::Undo(4), Reply::Undone(4)),
+    (1, Call::Deliver(0, 1), Reply::Taken(5)),
+    (2, Call::Undo(5), Reply::Undone(5)),
+];
+
+const CASES: [Case; 8] = [
+    Case {
+        name: "a step is recorded and kept",
+        rows: &[(1, Call::Join(1, Shown::Alice), Reply::Taken(1))],
+        look: Look::First,
+    },
+    Case {
+        name: "a step is held by its least consequence",
+        rows: &DELIVERED,
+        look: Look::Held(&[(1, Some(3)), (2, Some(4)), (3, Some(4)), (4, None)]),
+    },
+    Case {
+        name: "each node has its last step",
+        rows: &DELIVERED,
+        look: Look::Last(3, 4),
+    },
+    Case {
+        name: "a send is held by the delivery that remains",
+        rows: &DELIVERED_AGAIN,
+        look: Look::Held(&[(3, Some(5))]),
+    },
+    Case {
+        name: "and by none once that is undone",
+        rows: &UNDONE_AGAIN,
+        look: Look::Held(&[(3, None)]),
+    },
+    Case {
+        name: "the step that remains is as it was asked",
+        rows: &DELIVERED_AND_UNDONE,
+        look: Look::UpAlone,
+    },
+    Case {
+        name: "an entry of a later join has the dot of the undone",
+        rows: &UNDONE_JOIN,
+        look: Look::Entry(1, 2, "phone"),
+    },
+    Case {
+        name: "an updated entry has the new metadata",
+        rows: &UPDATED,
+        look: Look::Entry(2, 1, "away"),
+    },
+];
 
 /// Whether each of these steps has this least consequence.
 fn are_held<'a, B: Allocator>(
@@ -85,39 +164,16 @@ fn last_of<'a, B: Allocator>(bench: &Bench<'a, B>, node: u16) -> Option<u64> {
     bench.remaining().last_of(node)
 }
 
-#[test]
-fn a_step_is_held_by_its_least_consequence(rt: HostRuntime) {
-    let heap = rt.alloc();
-    let bench = played(&rt, &heap, Limits::usual(), &DELIVERED, "a delivery");
-    let held = [(1, Some(3)), (2, Some(4)), (3, Some(4)), (4, None)];
-    assert!(rt; are_held(bench.remaining(), &held));
-    assert!(rt; last_of(&bench, 0) == Some(3) && last_of(&bench, 1) == Some(4));
-    drop(bench);
+fn has_first<'a, B: Allocator>(bench: &Bench<'a, B>) -> bool {
+    match (bench.remaining().at(0), bench.history().at(0)) {
+        (Some(kept), Some(event)) => kept.number == 1
+            && kept.node == 1
+            && event.actor == 1
+            && event.reply == Reply::Taken(1),
+        _ => false,
+    }
 }
 
-/// A message that is delivered, the delivery undone, and the message delivered again.
-const DELIVERED_AGAIN: [Row; 6] = [
-    (0, Call::Join(1, Shown::Alice), Reply::Taken(1)),
-    (1, Call::Up(0), Reply::Taken(2)),
-    (0, Call::Broadcast, Reply::Taken(3)),
-    (1, Call::Deliver(0, 1), Reply::Taken(4)),
-    (2, Call::Undo(4), Reply::Undone(4)),
-    (1, Call::Deliver(0, 1), Reply::Taken(5)),
-];
-
-#[test]
-fn a_send_is_held_by_the_delivery_that_remains(rt: HostRuntime) {
-    let heap = rt.alloc();
-    let name = "delivered again";
-    let mut bench = played(&rt, &heap, Limits::usual(), &DELIVERED_AGAIN, name);
-    assert!(rt; bench.remaining().first_consequence(3) == Some(5));
-    let undo = (2, Call::Undo(5), Reply::Undone(5));
-    answers(&rt, &heap, &mut bench, &undo, name);
-    assert!(rt; bench.remaining().first_consequence(3).is_none());
-    drop(bench);
-}
-
-/// Whether the first step that remains is number 2, an up of name 0 by node 1.
 fn has_up_alone<'a, B: Allocator>(bench: &Bench<'a, B>) -> bool {
     match bench.remaining().at(0) {
         Some(kept) => kept.number == 2
@@ -127,20 +183,41 @@ fn has_up_alone<'a, B: Allocator>(bench: &Bench<'a, B>) -> bool {
     }
 }
 
-#[test]
-fn the_step_that_remains_is_as_it_was_asked(rt: HostRuntime) {
-    let heap = rt.alloc();
-    let bench = played(&rt, &heap, Limits::usual(), &DELIVERED_AND_UNDONE, "undone");
-    assert!(rt; has_up_alone(&bench));
+fn has_entry<'a, B: Allocator>(bench: &Bench<'a, B>, clock: u64, pid: u64, metadata: &str) -> bool {
+    let Some(node) = bench.node(1) else {
+        return false;
+    };
+    match node.replica().entries().at(0) {
+        Some(entry) => entry.dot.name == 0
+            && entry.dot.clock == clock
+            && entry.pid == pid
+            && entry.metadata.as_str() == metadata,
+        None => false,
+    }
+}
+
+/// Whether there is what is looked for.
+fn has<'a, B: Allocator>(bench: &Bench<'a, B>, look: Look) -> bool {
+    match look {
+        Look::First => has_first(bench),
+        Look::UpAlone => has_up_alone(bench),
+        Look::Held(consequences) => are_held(bench.remaining(), consequences),
+        Look::Last(one, other) => last_of(bench, 0) == Some(one)
+            && last_of(bench, 1) == Some(other),
+        Look::Entry(clock, pid, metadata) => has_entry(bench, clock, pid, metadata),
+    }
+}
+
+fn plays<'a, B: Allocator>(rt: &impl Abort, alloc: &'a B, case: &Case) {
+    let bench = played(rt, alloc, Limits::usual(), case.rows, case.name);
+    holds(rt, has(&bench, case.look), case.name);
     drop(bench);
 }
 
 #[test]
-fn an_entry_of_a_later_join_has_the_dot_of_the_undone(rt: HostRuntime) {
+fn a_bench_has_what_its_calls_left(rt: HostRuntime) {
     let heap = rt.alloc();
-    let bench = played(&rt, &heap, Limits::usual(), &UNDONE_JOIN, "an undone join");
-    let replica = bench.node(1).expect(&rt, "a node").replica();
-    let entry = replica.entries().at(0).expect(&rt, "an entry");
-    assert!(rt; entry.dot.name == 0 && entry.dot.clock == 1 && entry.pid == 2);
-    drop(bench);
+    for case in &CASES {
+        plays(&rt, &heap, case);
+    }
 }

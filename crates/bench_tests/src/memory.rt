@@ -92,8 +92,8 @@ fn refused_until<'a>(
         if answer == reply {
             return number - 1;
         }
-        assert!(rt; answer == Reply::Refused(Fault::OutOfMemory));
-        assert!(rt; is_as_before(bench, held));
+        holds!(rt, answer == Reply::Refused(Fault::OutOfMemory));
+        holds!(rt, is_as_before(bench, held));
     }
     100
 }
@@ -202,7 +202,7 @@ fn a_call_that_is_refused_memory_changes_nothing(rt: HostRuntime) {
     let heap = Refusing::new(rt.alloc());
     for rows in [MESSAGES.as_slice(), &LEAVES, &REFUSED, &ANSWERS] {
         let most = all_refused_in_turn(&rt, &heap, rows);
-        assert!(rt; 0 < most && most < 100);
+        holds!(&rt, 0 < most && most < 100);
     }
 }
 
@@ -221,7 +221,7 @@ fn gives_up_for_memory(rt: HostRuntime) {
     ];
     let mut bench = played(&rt, &heap, Limits::usual(), &rows, "a join undone");
     heap.refuse_from(1);
-    assert!(rt; !runs(&mut bench));
+    holds!(&rt, !runs(&mut bench));
     drop(bench);
 }
 
@@ -355,10 +355,10 @@ fn a_join_and_its_undo_ask_for_memory_a_few_times(rt: HostRuntime) {
     let join = Call::Join(1_001, Shown::Alice).act(&rt, &heap);
     let taken = answer_refused(&heap, &mut bench, 0, &join, 65);
     drop(join);
-    assert!(rt; taken == Reply::Taken(1_001));
+    holds!(&rt, taken == Reply::Taken(1_001));
     let undo = Act::Undo(1_001);
     let undone = answer_refused(&heap, &mut bench, 0, &undo, 65);
     drop(undo);
-    assert!(rt; undone == Reply::Undone(1_001));
+    holds!(&rt, undone == Reply::Undone(1_001));
     drop(bench);
 }

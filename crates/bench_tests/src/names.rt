@@ -21,7 +21,7 @@ const NO_NAMES: [(&[&str], NamesFault); 6] = [
 fn names_are_refused_at_their_first_fault(rt: HostRuntime) {
     for (texts, fault) in &NO_NAMES {
         let answer = Names::new(rt.alloc(), texts).err();
-        assert!(rt; answer == Some(*fault));
+        holds!(&rt, answer == Some(*fault));
     }
 }
 
@@ -46,9 +46,9 @@ fn names_are_numbered_in_their_order(rt: HostRuntime) {
         ("c", None),
     ];
     are_numbered(&rt, &names, &numbers);
-    assert!(rt; names.len() == 3);
-    assert!(rt; names.text(1).expect(&rt, "a name") == "a");
-    assert!(rt; names.text(3).is_none());
+    holds!(&rt, names.len() == 3);
+    holds!(&rt, names.text(1).expect(&rt, "a name") == "a");
+    holds!(&rt, names.text(3).is_none());
     drop(names);
 }
 
@@ -57,8 +57,8 @@ fn names_are_the_same_in_one_order_alone(rt: HostRuntime) {
     let names = named(&rt, rt.alloc(), &["b_1", "a", "abcdefghijklmnop"]);
     let copy = names.try_copy().expect(&rt, "a copy");
     let turned = named(&rt, rt.alloc(), &["a", "b_1", "abcdefghijklmnop"]);
-    assert!(rt; names.same(&copy));
-    assert!(rt; !names.same(&turned));
+    holds!(&rt, names.same(&copy));
+    holds!(&rt, !names.same(&turned));
     drop(names);
     drop(copy);
     drop(turned);
@@ -72,7 +72,7 @@ fn refused_names(rt: &impl Abort, heap: &Refusing<Global>) -> u64 {
         if fault.is_none() {
             return number - 1;
         }
-        assert!(rt; fault == Some(NamesFault::OutOfMemory));
+        holds!(rt, fault == Some(NamesFault::OutOfMemory));
     }
     99
 }
@@ -92,11 +92,11 @@ fn refused_copies<'a>(heap: &'a Refusing<Global>, names: &Names<&'a Refusing<Glo
 fn a_refused_request_is_out_of_memory(rt: HostRuntime) {
     let heap = Refusing::new(rt.alloc());
     let refused = refused_names(&rt, &heap);
-    assert!(rt; 2 <= refused && refused < 99);
+    holds!(&rt, 2 <= refused && refused < 99);
     heap.refuse_none();
     let names = named(&rt, &heap, &["a", "b"]);
     let unmade = refused_copies(&heap, &names);
-    assert!(rt; 2 <= unmade && unmade < 99);
+    holds!(&rt, 2 <= unmade && unmade < 99);
     drop(names);
 }
 
@@ -105,11 +105,11 @@ fn reads_of_names_take_no_memory(rt: HostRuntime) {
     let heap = Refusing::new(rt.alloc());
     let names = named(&rt, &heap, &["a", "b"]);
     heap.refuse_from(1);
-    assert!(rt; names.len() == 2);
-    assert!(rt; names.number_of("b") == Some(1));
-    assert!(rt; names.text(0).expect(&rt, "a name") == "a");
-    assert!(rt; names.same(&names));
-    assert!(rt; heap.requests() == 0);
+    holds!(&rt, names.len() == 2);
+    holds!(&rt, names.number_of("b") == Some(1));
+    holds!(&rt, names.text(0).expect(&rt, "a name") == "a");
+    holds!(&rt, names.same(&names));
+    holds!(&rt, heap.requests() == 0);
     drop(names);
 }
 
@@ -142,6 +142,9 @@ fn limits_stay_in_their_ranges(rt: HostRuntime) {
 #[test]
 fn usual_limits_are_those_of_the_model(rt: HostRuntime) {
     let usual = Limits::usual();
-    assert!(rt; (usual.acts(), usual.entries()) == (100_000, 10_000));
-    assert!(rt; (usual.clock(), usual.messages()) == (1_000_000, 10_000));
+    holds!(&rt, (usual.acts(), usual.entries()) == (100_000, 10_000));
+    holds!(
+        &rt,
+        (usual.clock(), usual.messages()) == (1_000_000, 10_000)
+    );
 }

@@ -5,22 +5,25 @@ use crate::calls::{
 };
 use crate::rows::holds;
 use bench_core::{Bench, Fault, Reply};
+use replica_core::Status;
 use std::alloc::Allocator;
 use std::process::Abort;
 
 /// The first `asked` of some calls of a bench of two nodes, each with its reply. After them so many calls are recorded and
-/// so many steps remain; of the dots of node 0, node 1 has seen those up to the clock and those in the cloud; and it
-/// holds so many entries.
-struct Case {
-    name: &'static str,
-    limits: [u64; 4],
-    rows: &'static [Row],
-    asked: usize,
-    recorded: usize,
-    remaining: usize,
-    clock: u64,
-    cloud: &'static [u64],
-    entries: usize,
+/// so many steps remain. The node then has this status for name 0; of the dots of name 0 it has seen those up to the clock
+/// and those in the cloud; and it holds so many entries.
+pub struct Case {
+    pub name: &'static str,
+    pub limits: [u64; 4],
+    pub rows: &'static [Row],
+    pub asked: usize,
+    pub recorded: usize,
+    pub remaining: usize,
+    pub node: u16,
+    pub status: Option<Status>,
+    pub clock: u64,
+    pub cloud: &'static [u64],
+    pub entries: usize,
 }
 
 const HELD_2_BY_4: Fault = Fault::HasConsequence {
@@ -228,6 +231,8 @@ const CASES: [Case; 23] = [
         asked: 9,
         recorded: 9,
         remaining: 2,
+        node: 1,
+        status: None,
         clock: 0,
         cloud: &[],
         entries: 1,
@@ -239,6 +244,8 @@ const CASES: [Case; 23] = [
         asked: 6,
         recorded: 6,
         remaining: 0,
+        node: 1,
+        status: None,
         clock: 0,
         cloud: &[],
         entries: 0,
@@ -250,6 +257,8 @@ const CASES: [Case; 23] = [
         asked: 6,
         recorded: 6,
         remaining: 0,
+        node: 1,
+        status: None,
         clock: 0,
         cloud: &[],
         entries: 0,
@@ -261,6 +270,8 @@ const CASES: [Case; 23] = [
         asked: 4,
         recorded: 2,
         remaining: 0,
+        node: 1,
+        status: None,
         clock: 0,
         cloud: &[],
         entries: 0,
@@ -272,6 +283,8 @@ const CASES: [Case; 23] = [
         asked: 2,
         recorded: 2,
         remaining: 1,
+        node: 1,
+        status: None,
         clock: 0,
         cloud: &[],
         entries: 0,
@@ -283,6 +296,8 @@ const CASES: [Case; 23] = [
         asked: 2,
         recorded: 2,
         remaining: 1,
+        node: 1,
+        status: None,
         clock: 0,
         cloud: &[],
         entries: 0,
@@ -294,6 +309,8 @@ const CASES: [Case; 23] = [
         asked: 2,
         recorded: 2,
         remaining: 1,
+        node: 1,
+        status: None,
         clock: 0,
         cloud: &[],
         entries: 0,
@@ -305,6 +322,8 @@ const CASES: [Case; 23] = [
         asked: 4,
         recorded: 4,
         remaining: 4,
+        node: 1,
+        status: Some(Status::Up),
         clock: 1,
         cloud: &[],
         entries: 1,
@@ -316,6 +335,8 @@ const CASES: [Case; 23] = [
         asked: 11,
         recorded: 11,
         remaining: 1,
+        node: 1,
+        status: Some(Status::Up),
         clock: 0,
         cloud: &[],
         entries: 0,
@@ -327,6 +348,8 @@ const CASES: [Case; 23] = [
         asked: 3,
         recorded: 3,
         remaining: 3,
+        node: 1,
+        status: None,
         clock: 0,
         cloud: &[],
         entries: 0,
@@ -338,6 +361,8 @@ const CASES: [Case; 23] = [
         asked: 5,
         recorded: 5,
         remaining: 5,
+        node: 1,
+        status: Some(Status::Up),
         clock: 1,
         cloud: &[],
         entries: 1,
@@ -349,6 +374,8 @@ const CASES: [Case; 23] = [
         asked: 7,
         recorded: 7,
         remaining: 5,
+        node: 1,
+        status: Some(Status::Up),
         clock: 2,
         cloud: &[],
         entries: 2,
@@ -360,6 +387,8 @@ const CASES: [Case; 23] = [
         asked: 6,
         recorded: 6,
         remaining: 4,
+        node: 1,
+        status: Some(Status::Up),
         clock: 1,
         cloud: &[],
         entries: 1,
@@ -371,6 +400,8 @@ const CASES: [Case; 23] = [
         asked: 6,
         recorded: 6,
         remaining: 6,
+        node: 1,
+        status: Some(Status::Up),
         clock: 0,
         cloud: &[2],
         entries: 1,
@@ -382,6 +413,8 @@ const CASES: [Case; 23] = [
         asked: 7,
         recorded: 7,
         remaining: 7,
+        node: 1,
+        status: Some(Status::Up),
         clock: 2,
         cloud: &[],
         entries: 2,
@@ -393,6 +426,8 @@ const CASES: [Case; 23] = [
         asked: 8,
         recorded: 8,
         remaining: 6,
+        node: 1,
+        status: Some(Status::Up),
         clock: 0,
         cloud: &[2],
         entries: 1,
@@ -404,6 +439,8 @@ const CASES: [Case; 23] = [
         asked: 7,
         recorded: 7,
         remaining: 4,
+        node: 1,
+        status: Some(Status::Up),
         clock: 1,
         cloud: &[],
         entries: 1,
@@ -415,6 +452,8 @@ const CASES: [Case; 23] = [
         asked: 6,
         recorded: 6,
         remaining: 1,
+        node: 1,
+        status: None,
         clock: 0,
         cloud: &[],
         entries: 0,
@@ -426,6 +465,8 @@ const CASES: [Case; 23] = [
         asked: 5,
         recorded: 5,
         remaining: 5,
+        node: 1,
+        status: Some(Status::Up),
         clock: 1,
         cloud: &[],
         entries: 1,
@@ -437,6 +478,8 @@ const CASES: [Case; 23] = [
         asked: 10,
         recorded: 10,
         remaining: 2,
+        node: 1,
+        status: Some(Status::Up),
         clock: 0,
         cloud: &[],
         entries: 0,
@@ -448,6 +491,8 @@ const CASES: [Case; 23] = [
         asked: 10,
         recorded: 10,
         remaining: 5,
+        node: 1,
+        status: Some(Status::Up),
         clock: 0,
         cloud: &[],
         entries: 0,
@@ -459,6 +504,8 @@ const CASES: [Case; 23] = [
         asked: 6,
         recorded: 6,
         remaining: 4,
+        node: 1,
+        status: Some(Status::Up),
         clock: 0,
         cloud: &[],
         entries: 0,
@@ -470,6 +517,8 @@ const CASES: [Case; 23] = [
         asked: 5,
         recorded: 5,
         remaining: 5,
+        node: 1,
+        status: Some(Status::Up),
         clock: 0,
         cloud: &[],
         entries: 0,
@@ -478,16 +527,17 @@ const CASES: [Case; 23] = [
 
 /// Whether the bench has what the case says.
 fn has<'a, B: Allocator>(rt: &impl Abort, bench: &Bench<'a, B>, case: &Case) -> bool {
-    let replica = bench.node(1).expect(rt, case.name).replica();
+    let replica = bench.node(case.node).expect(rt, case.name).replica();
     let seen = replica.seen();
     bench.history().len() == case.recorded
         && bench.remaining().len() == case.remaining
+        && replica.status(0) == case.status
         && seen.clock_of(0) == case.clock
         && seen.cloud_of(0) == case.cloud
         && replica.entries().len() == case.entries
 }
 
-fn plays<'a, B: Allocator>(rt: &impl Abort, alloc: &'a B, case: &Case) {
+pub fn plays<'a, B: Allocator>(rt: &impl Abort, alloc: &'a B, case: &Case) {
     let limits = limits_of(rt, case.limits, case.name);
     let rows = case.rows.get(..case.asked).expect(rt, case.name);
     let bench = played(rt, alloc, limits, rows, case.name);
@@ -510,7 +560,7 @@ fn the_meter_counts_the_steps_that_were_taken(rt: HostRuntime) {
     let mut bench = open(&rt, &heap, limits_of(&rt, USUAL, "the usual"));
     for (place, row) in DELIVERED_AND_UNDONE.iter().enumerate() {
         answers(&rt, &heap, &mut bench, row, "steps and undos");
-        assert!(rt; bench.meter() == (place + 1).min(4) as u64);
+        holds!(&rt, bench.meter() == (place + 1).min(4) as u64);
     }
     drop(bench);
 }

@@ -1,5 +1,5 @@
 //! Swaps between the steps of two benches, and deliveries in either order: worked rows, and refused memory.
-use crate::calls::{Call, Row, Shown, limits_of, played};
+use crate::calls::{Call, Row, Shown, USUAL, limits_of, played};
 use crate::rows::holds;
 use crate::steps::DELIVERED;
 use bench_core::{Bench, Limits, Reply, SwapFault, same_cluster};
@@ -22,15 +22,18 @@ struct Swaps {
     name: &'static str,
     one: &'static [Row],
     other: &'static [Row],
+    /// The limits of the other.
+    limits: [u64; 4],
     places: &'static [u64],
     answer: Result<(), SwapFault>,
 }
 
-const SWAPS: [Swaps; 9] = [
+const SWAPS: [Swaps; 10] = [
     Swaps {
         name: "two joins in the other order",
         one: &ALICE_FIRST,
         other: &BOB_FIRST,
+        limits: USUAL,
         places: &[1],
         answer: Ok(()),
     },
@@ -38,6 +41,7 @@ const SWAPS: [Swaps; 9] = [
         name: "no swap of two joins in the other order",
         one: &ALICE_FIRST,
         other: &BOB_FIRST,
+        limits: USUAL,
         places: &[],
         answer: Err(SwapFault::OtherSteps),
     },
@@ -45,6 +49,7 @@ const SWAPS: [Swaps; 9] = [
         name: "a swap of the last place",
         one: &ALICE_FIRST,
         other: &BOB_FIRST,
+        limits: USUAL,
         places: &[2],
         answer: Err(SwapFault::BadSwap { at: 1 }),
     },
@@ -52,6 +57,7 @@ const SWAPS: [Swaps; 9] = [
         name: "a swap of place 0, after one that is good",
         one: &ALICE_FIRST,
         other: &ALICE_FIRST,
+        limits: USUAL,
         places: &[1, 0],
         answer: Err(SwapFault::BadSwap { at: 2 }),
     },
@@ -59,6 +65,7 @@ const SWAPS: [Swaps; 9] = [
         name: "a send and its delivery",
         one: &DELIVERED,
         other: &DELIVERED,
+        limits: USUAL,
         places: &[3],
         answer: Err(SwapFault::BadSwap { at: 1 }),
     },
@@ -66,6 +73,7 @@ const SWAPS: [Swaps; 9] = [
         name: "one place twice",
         one: &DELIVERED,
         other: &DELIVERED,
+        limits: USUAL,
         places: &[1, 1],
         answer: Ok(()),
     },
@@ -73,6 +81,7 @@ const SWAPS: [Swaps; 9] = [
         name: "two steps of one node, once they are adjacent",
         one: &DELIVERED,
         other: &DELIVERED,
+        limits: USUAL,
         places: &[1, 2],
         answer: Err(SwapFault::BadSwap { at: 2 }),
     },
@@ -80,6 +89,7 @@ const SWAPS: [Swaps; 9] = [
         name: "fewer steps",
         one: &DELIVERED,
         other: &ALICE_FIRST,
+        limits: USUAL,
         places: &[],
         answer: Err(SwapFault::OtherSteps),
     },
@@ -87,14 +97,24 @@ const SWAPS: [Swaps; 9] = [
         name: "a swap that leads away",
         one: &ALICE_FIRST,
         other: &ALICE_FIRST,
+        limits: USUAL,
         places: &[1],
         answer: Err(SwapFault::OtherSteps),
+    },
+    Swaps {
+        name: "a bench with another limit",
+        one: &ALICE_FIRST,
+        other: &ALICE_FIRST,
+        limits: [100_000, 10_000, 9, 10_000],
+        places: &[9],
+        answer: Err(SwapFault::OtherBench),
     },
 ];
 
 fn answers<'a, B: Allocator>(rt: &impl Abort, alloc: &'a B, swaps: &Swaps) {
     let one = played(rt, alloc, Limits::usual(), swaps.one, swaps.name);
-    let other = played(rt, alloc, Limits::usual(), swaps.other, swaps.name);
+    let limits = limits_of(rt, swaps.limits, swaps.name);
+    let other = played(rt, alloc, limits, swaps.other, swaps.name);
     let answer = same_cluster(&one, &other, swaps.places);
     drop(one);
     drop(other);
@@ -107,18 +127,6 @@ fn swaps_lead_from_one_bench_to_another(rt: HostRuntime) {
     for swaps in &SWAPS {
         answers(&rt, &heap, swaps);
     }
-}
-
-#[test]
-fn a_bench_with_another_limit_is_another(rt: HostRuntime) {
-    let heap = rt.alloc();
-    let one = played(&rt, &heap, Limits::usual(), &ALICE_FIRST, "usual limits");
-    let limits = limits_of(&rt, [100_000, 10_000, 9, 10_000], "a clock of 9");
-    let other = played(&rt, &heap, limits, &ALICE_FIRST, "a clock of 9");
-    let answer = same_cluster(&one, &other, &[9]);
-    drop(one);
-    drop(other);
-    assert!(rt; answer == Err(SwapFault::OtherBench));
 }
 
 /// Answers with this request for memory refused alone.
@@ -134,20 +142,29 @@ fn answer_refused<'a>(
     answer
 }
 
+/// Answers with the first, second, .. request for memory refused, until none is met. Gives how many were refused.
+fn refused_in_turn<'a>(
+    rt: &impl Abort,
+    heap: &'a Refusing<Global>,
+    one: &Bench<'a, Refusing<Global>>,
+    other: &Bench<'a, Refusing<Global>>,
+) -> u64 {
+    for number in 1..10 {
+        match answer_refused(heap, one, other, number) {
+            Ok(()) => return number - 1,
+            Err(fault) => holds!(rt, fault == SwapFault::OutOfMemory),
+        }
+    }
+    9
+}
+
 #[test]
 fn swaps_are_told_from_want_of_memory(rt: HostRuntime) {
     let heap = Refusing::new(rt.alloc());
     let one = played(&rt, &heap, Limits::usual(), &ALICE_FIRST, "one order");
     let other = played(&rt, &heap, Limits::usual(), &BOB_FIRST, "the other order");
-    let mut refused = 0u64;
-    for number in 1..10 {
-        match answer_refused(&heap, &one, &other, number) {
-            Ok(()) => break,
-            Err(fault) => assert!(rt; fault == SwapFault::OutOfMemory),
-        }
-        refused = number;
-    }
-    assert!(rt; 0 < refused && refused < 9);
+    let refused = refused_in_turn(&rt, &heap, &one, &other);
+    holds!(&rt, 0 < refused && refused < 9);
     drop(one);
     drop(other);
 }
@@ -204,7 +221,7 @@ fn two_messages_come_in_either_order_and_twice(rt: HostRuntime) {
         &SECOND_MESSAGE_FIRST,
         "the second first",
     );
-    assert!(rt; has_same_node(&rt, &one, &other, 1));
+    holds!(&rt, has_same_node(&rt, &one, &other, 1));
     drop(one);
     drop(other);
 }

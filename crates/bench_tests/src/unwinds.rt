@@ -23,17 +23,26 @@ fn unwinds<'a, B: Allocator>(
     expected: &[u64],
     counts: (usize, usize),
 ) {
-    let is_done = match bench.unwind(2, number) {
+    let unwound = bench.unwind(2, number);
+    let is_done = match &unwound {
         Unwound::Done(numbers) => numbers.as_slice() == expected,
         _ => false,
     };
-    assert!(rt; is_done);
-    assert!(rt; (bench.history().len(), bench.remaining().len()) == counts);
+    drop(unwound);
+    holds!(rt, is_done);
+    holds!(
+        rt,
+        (bench.history().len(), bench.remaining().len()) == counts
+    );
 }
 
 fn has_future<'a, B: Allocator>(bench: &Bench<'a, B>, number: u64, expected: &[u64]) -> bool {
     match bench.why(number) {
-        Ok(numbers) => numbers.as_slice() == expected,
+        Ok(numbers) => {
+            let is_this = numbers.as_slice() == expected;
+            drop(numbers);
+            is_this
+        }
         Err(_) => false,
     }
 }
@@ -42,10 +51,10 @@ fn has_future<'a, B: Allocator>(bench: &Bench<'a, B>, number: u64, expected: &[u
 fn a_step_is_undone_with_all_that_follows(rt: HostRuntime) {
     let heap = rt.alloc();
     let mut bench = played(&rt, &heap, Limits::usual(), &FIVE_STEPS, "five steps");
-    assert!(rt; has_future(&bench, 1, &[5, 4, 3, 1]));
+    holds!(&rt, has_future(&bench, 1, &[5, 4, 3, 1]));
     unwinds(&rt, &mut bench, 1, &[5, 4, 3, 1], (9, 1));
     let kept = bench.remaining().at(0).expect(&rt, "a step");
-    assert!(rt; kept.number == 2);
+    holds!(&rt, kept.number == 2);
     drop(bench);
 }
 
@@ -83,9 +92,12 @@ fn no_step_that_is_gone_has_a_future(rt: HostRuntime) {
         (2, Fault::NoSuchStep),
         (1, Fault::AlreadyUndone),
     ] {
-        assert!(rt; faults(&mut bench, number) == (Some(fault), Some(fault)));
+        holds!(
+            &rt,
+            faults(&mut bench, number) == (Some(fault), Some(fault))
+        );
     }
-    assert!(rt; bench.history().len() == 2);
+    holds!(&rt, bench.history().len() == 2);
     drop(bench);
 }
 
@@ -119,7 +131,7 @@ fn undone_in_part<'a>(
         Unwound::Refused(Fault::OutOfMemory) => (Some(0), false),
         _ => (None, false),
     };
-    assert!(rt; is_done != is_met);
+    holds!(rt, is_done != is_met);
     (undone.expect(rt, "a part"), is_met)
 }
 
@@ -128,8 +140,8 @@ fn undone_in_part<'a>(
 fn goes_on<'a>(rt: &impl Abort, heap: &'a Heap, number: u64) -> Option<usize> {
     let mut bench = played(rt, heap, Limits::usual(), &FIVE_STEPS, "five steps");
     let (undone, is_met) = undone_in_part(rt, heap, &mut bench, number);
-    assert!(rt; bench.history().len().checked_sub(5) == Some(undone));
-    assert!(rt; bench.remaining().len().checked_add(undone) == Some(5));
+    holds!(rt, bench.history().len().checked_sub(5) == Some(undone));
+    holds!(rt, bench.remaining().len().checked_add(undone) == Some(5));
     if undone < 4 {
         let rest = [5, 4, 3, 1];
         let rest = rest.get(undone..).expect(rt, "a rest");
@@ -148,7 +160,7 @@ fn an_unwind_that_is_refused_memory_can_go_on(rt: HostRuntime) {
             break;
         };
         most = most.max(undone);
-        assert!(rt; number < 99);
+        holds!(&rt, number < 99);
     }
-    assert!(rt; 0 < most && most < 4);
+    holds!(&rt, 0 < most && most < 4);
 }

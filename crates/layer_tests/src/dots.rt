@@ -27,9 +27,12 @@ fn a_dot_is_ok_in_its_range(rt: HostRuntime) {
 #[test]
 fn a_name_set_has_what_was_put_in(rt: HostRuntime) {
     let names = NameSet::empty().with(0).with(31).with(7).without(7);
-    assert!(rt; names.has(0) && !names.has(7) && !names.has(30) && names.has(31));
-    assert!(rt; names.same(NameSet::empty().with(31).with(0)));
-    assert!(rt; !names.same(NameSet::empty()));
+    holds!(
+        &rt,
+        names.has(0) && !names.has(7) && !names.has(30) && names.has(31)
+    );
+    holds!(&rt, names.same(NameSet::empty().with(31).with(0)));
+    holds!(&rt, !names.same(NameSet::empty()));
 }
 
 /// Puts the dot in, for which there is memory, and says whether it was new.
@@ -92,20 +95,28 @@ fn edits<A: Allocator + Copy>(
 #[test]
 fn a_set_has_what_was_inserted(rt: HostRuntime) {
     let mut dots = DotSet::new(rt.alloc());
-    assert!(rt; dots.is_empty());
-    assert!(rt; puts_in(&rt, &mut dots, Dot { name: 1, clock: 2 }));
-    assert!(rt; puts_in(&rt, &mut dots, Dot { name: 0, clock: 1 }));
-    assert!(rt; !puts_in(&rt, &mut dots, Dot { name: 1, clock: 2 }));
-    assert!(rt;
+    holds!(&rt, dots.is_empty());
+    holds!(&rt, puts_in(&rt, &mut dots, Dot { name: 1, clock: 2 }));
+    holds!(&rt, puts_in(&rt, &mut dots, Dot { name: 0, clock: 1 }));
+    holds!(&rt, !puts_in(&rt, &mut dots, Dot { name: 1, clock: 2 }));
+    holds!(
+        &rt,
         dots.contains(Dot { name: 0, clock: 1 }) && dots.contains(Dot { name: 1, clock: 2 })
     );
-    assert!(rt; !dots.contains(Dot { name: 1, clock: 1 }) && !dots.is_empty());
-    assert!(rt; has_copy(&rt, &dots));
+    holds!(
+        &rt,
+        !dots.contains(Dot { name: 1, clock: 1 }) && !dots.is_empty()
+    );
+    holds!(&rt, has_copy(&rt, &dots));
+    drop(dots);
 }
 
 /// Whether a copy has the same dots.
 fn has_copy<A: Allocator + Copy>(rt: &impl Abort, dots: &DotSet<A>) -> bool {
-    dots.try_copy().expect(rt, "a copy").same(dots)
+    let copy = dots.try_copy().expect(rt, "a copy");
+    let is_same = copy.same(dots);
+    drop(copy);
+    is_same
 }
 
 /// Whether these are the context clock and the cloud of the name.
@@ -129,18 +140,23 @@ fn a_cloud_goes_into_the_context_and_comes_back(rt: HostRuntime) {
     let far = DotSet::new(rt.alloc());
     let mut dots = DotSet::new(rt.alloc());
     for (edit, clock, cloud) in CLOUDS {
-        assert!(rt; edits(&rt, &mut dots, &far, edit) == Ok(true));
-        assert!(rt; is_seen(&dots, 0, clock, cloud));
+        holds!(&rt, edits(&rt, &mut dots, &far, edit) == Ok(true));
+        holds!(&rt, is_seen(&dots, 0, clock, cloud));
     }
+    drop(far);
+    drop(dots);
 }
 
 #[test]
 fn only_keeps_the_names_alone(rt: HostRuntime) {
     let dots = set_of(&rt, rt.alloc(), &THREE);
     let none = dots.only(NameSet::empty().with(1)).expect(&rt, "a part");
-    assert!(rt; none.is_empty());
+    holds!(&rt, none.is_empty());
     let all = dots.only(NameSet::empty().with(0)).expect(&rt, "a part");
-    assert!(rt; all.same(&dots));
+    holds!(&rt, all.same(&dots));
+    drop(none);
+    drop(all);
+    drop(dots);
 }
 
 /// Whether the union of none with these dots, of the known names but the own one, has them all; else it has none.
@@ -154,17 +170,20 @@ fn takes<A: Allocator + Copy>(
     assert!(rt; own < 32);
     let mut union = DotSet::new(alloc);
     union.union_known(dots, known, own).expect(rt, "a union");
-    assert!(rt; union.same(dots) || union.is_empty());
-    union.same(dots)
+    let is_whole = union.same(dots);
+    holds!(rt, is_whole || union.is_empty());
+    drop(union);
+    is_whole
 }
 
 #[test]
 fn a_union_takes_the_known_names_but_the_own(rt: HostRuntime) {
     let dots = set_of(&rt, rt.alloc(), &THREE);
     let known = NameSet::empty().with(0);
-    assert!(rt; !takes(&rt, rt.alloc(), &dots, known, 0));
-    assert!(rt; takes(&rt, rt.alloc(), &dots, known, 1));
-    assert!(rt; !takes(&rt, rt.alloc(), &dots, known.without(0), 1));
+    holds!(&rt, !takes(&rt, rt.alloc(), &dots, known, 0));
+    holds!(&rt, takes(&rt, rt.alloc(), &dots, known, 1));
+    holds!(&rt, !takes(&rt, rt.alloc(), &dots, known.without(0), 1));
+    drop(dots);
 }
 
 #[test]
@@ -173,21 +192,28 @@ fn a_union_merges_clouds(rt: HostRuntime) {
     let other = set_of(&rt, rt.alloc(), &[(5, 3), (5, 2), (5, 4), (5, 9)]);
     let known = NameSet::empty().with(5);
     dots.union_known(&other, known, 0).expect(&rt, "a union");
-    assert!(rt; is_seen(&dots, 5, 4, &[7, 9]));
+    holds!(&rt, is_seen(&dots, 5, 4, &[7, 9]));
+    drop(dots);
+    drop(other);
 }
 
 #[test]
 fn a_part_restores_its_name(rt: HostRuntime) {
     let dots = set_of(&rt, rt.alloc(), &THREE);
     let part = dots.part_of(0).expect(&rt, "a part");
-    assert!(rt; part.clock == 1 && part.cloud.as_slice() == [3, 4].as_slice());
+    holds!(
+        &rt,
+        part.clock == 1 && part.cloud.as_slice() == [3, 4].as_slice()
+    );
     let mut restored = DotSet::new(rt.alloc());
     restored.set_part(0, part);
-    assert!(rt; restored.same(&dots));
+    holds!(&rt, restored.same(&dots));
     let part = restored.drop_name(0);
-    assert!(rt; restored.is_empty());
+    holds!(&rt, restored.is_empty());
     restored.set_part(0, part);
-    assert!(rt; restored.same(&dots));
+    holds!(&rt, restored.same(&dots));
+    drop(restored);
+    drop(dots);
 }
 
 #[test]
@@ -196,7 +222,8 @@ fn each_law_can_be_called(rt: HostRuntime) {
     laws::one_part_law();
     laws::part_law();
     dots.valid_law();
-    assert!(rt; dots.is_empty());
+    holds!(&rt, dots.is_empty());
+    drop(dots);
 }
 
 /// Each of the 32 names has a dot above its context clock, in a part, a union and a copy too.
@@ -205,13 +232,15 @@ fn each_name_below_32_has_its_dots(rt: HostRuntime) {
     let mut dots = DotSet::new(rt.alloc());
     let mut names = NameSet::empty();
     for name in 0..32u16 {
-        assert!(rt; puts_in(&rt, &mut dots, Dot { name, clock: 2 }));
-        assert!(rt; is_seen(&dots, name, 0, &[2]));
+        holds!(&rt, puts_in(&rt, &mut dots, Dot { name, clock: 2 }));
+        holds!(&rt, is_seen(&dots, name, 0, &[2]));
         names = names.with(name);
     }
     let others = dots.only(names.without(0)).expect(&rt, "a part");
-    assert!(rt; takes(&rt, rt.alloc(), &others, names, 0));
-    assert!(rt; has_copy(&rt, &dots));
+    holds!(&rt, takes(&rt, rt.alloc(), &others, names, 0));
+    holds!(&rt, has_copy(&rt, &dots));
+    drop(others);
+    drop(dots);
 }
 
 type Heap = Refusing<Global>;
@@ -229,7 +258,7 @@ fn is_made<'a>(
     let answer = edits(rt, dots, far, edit);
     let requests = heap.requests();
     heap.refuse_none();
-    assert!(rt; answer.is_ok() == (requests < number));
+    holds!(rt, answer.is_ok() == (requests < number));
     answer.is_ok()
 }
 
@@ -267,13 +296,16 @@ fn refused_in_turn<'a>(
     edit: Edit,
 ) -> u64 {
     let before = dots.try_copy().expect(rt, "a copy");
+    let mut refused = 0;
     for number in 1..100 {
         if is_made(rt, heap, dots, far, edit, number) {
-            return number - 1;
+            break;
         }
         holds_at(rt, dots.same(&before), number);
+        refused = number;
     }
-    100
+    drop(before);
+    refused
 }
 
 #[test]
@@ -281,8 +313,9 @@ fn a_refused_edit_changes_nothing(rt: HostRuntime) {
     let heap = Refusing::new(rt.alloc());
     let far = set_of(&rt, &heap, &FAR);
     for refusal in REFUSALS {
-        assert!(rt; is_refused_in_turn(&rt, &heap, &far, refusal));
+        holds!(&rt, is_refused_in_turn(&rt, &heap, &far, refusal));
     }
+    drop(far);
 }
 
 /// Whether the edit is refused so often, and then leaves these dots.
@@ -294,8 +327,12 @@ fn is_refused_in_turn<'a>(
 ) -> bool {
     let (before, edit, refusals, after) = refusal;
     let mut dots = set_of(rt, heap, before);
-    refused_in_turn(rt, heap, &mut dots, far, edit) == refusals
-        && dots.same(&set_of(rt, heap, after))
+    let refused = refused_in_turn(rt, heap, &mut dots, far, edit);
+    let expected = set_of(rt, heap, after);
+    let is_edited = dots.same(&expected);
+    drop(expected);
+    drop(dots);
+    is_edited && refused == refusals
 }
 
 #[test]
@@ -303,10 +340,11 @@ fn refused_copies_are_errors(rt: HostRuntime) {
     let heap = Refusing::new(rt.alloc());
     let dots = set_of(&rt, &heap, &THREE);
     heap.refuse_from(1);
-    assert!(rt; dots.only(NameSet::empty().with(0)).is_err());
-    assert!(rt; dots.part_of(0).is_err());
-    assert!(rt; dots.try_copy().is_err());
-    assert!(rt; heap.requests() == 3);
+    holds!(&rt, dots.only(NameSet::empty().with(0)).err().is_some());
+    holds!(&rt, dots.part_of(0).err().is_some());
+    holds!(&rt, dots.try_copy().err().is_some());
+    holds!(&rt, heap.requests() == 3);
+    drop(dots);
 }
 
 #[test]
@@ -315,10 +353,15 @@ fn reads_and_the_empty_set_take_no_memory(rt: HostRuntime) {
     let mut dots = set_of(&rt, &heap, &THREE);
     heap.refuse_from(1);
     let empty = DotSet::new(&heap);
-    assert!(rt; empty.is_empty() && !dots.same(&empty) && has_copy(&rt, &empty));
+    holds!(
+        &rt,
+        empty.is_empty() && !dots.same(&empty) && has_copy(&rt, &empty)
+    );
     let there = Dot { name: 0, clock: 3 };
-    assert!(rt; dots.contains(there) && !puts_in(&rt, &mut dots, there));
-    assert!(rt; heap.requests() == 0);
+    holds!(&rt, dots.contains(there) && !puts_in(&rt, &mut dots, there));
+    holds!(&rt, heap.requests() == 0);
+    drop(empty);
+    drop(dots);
 }
 
 #[test]
@@ -327,9 +370,11 @@ fn what_grows_no_cloud_takes_no_memory(rt: HostRuntime) {
     let mut dots = set_of(&rt, &heap, &THREE);
     let copy = dots.try_copy().expect(&rt, "a copy");
     heap.refuse_from(1);
-    assert!(rt; takes_again(&rt, &mut dots, &copy));
-    assert!(rt; grows_its_context(&rt, &mut dots));
-    assert!(rt; heap.requests() == 0);
+    holds!(&rt, takes_again(&rt, &mut dots, &copy));
+    holds!(&rt, grows_its_context(&rt, &mut dots));
+    holds!(&rt, heap.requests() == 0);
+    drop(copy);
+    drop(dots);
 }
 
 /// Fills the gap, goes on from there, and goes out and in again; the part of no name is empty.
@@ -340,7 +385,9 @@ fn grows_its_context<A: Allocator + Copy>(rt: &impl Abort, dots: &mut DotSet<A>)
     let is_out = dots.is_empty();
     dots.set_part(0, part);
     let none = dots.only(NameSet::empty()).expect(rt, "a part");
-    fills && goes_on && is_out && none.is_empty() && is_seen(dots, 0, 5, &[])
+    let has_none = none.is_empty();
+    drop(none);
+    fills && goes_on && is_out && has_none && is_seen(dots, 0, 5, &[])
 }
 
 /// Takes nothing new in, and takes the dot at the context clock out and in again.
@@ -361,7 +408,7 @@ fn takes_again<A: Allocator + Copy>(
 fn grows_its_cloud<A: Allocator>(rt: &impl Abort, dots: &mut DotSet<A>) {
     for clock in 11..=30u8 {
         let clock = u64::from(clock);
-        assert!(rt; puts_in(rt, dots, Dot { name: 1, clock }));
+        holds!(rt, puts_in(rt, dots, Dot { name: 1, clock }));
     }
 }
 
@@ -374,10 +421,12 @@ fn a_union_takes_the_memory_of_the_set_that_grows(rt: HostRuntime) {
     let far = set_of(&rt, &others, &FAR);
     own.refuse_none();
     others.refuse_from(1);
-    assert!(rt; edits(&rt, &mut dots, &far, Edit::Union).is_ok());
-    assert!(rt; own.requests() == 2);
+    holds!(&rt, edits(&rt, &mut dots, &far, Edit::Union).is_ok());
+    holds!(&rt, own.requests() == 2);
     grows_its_cloud(&rt, &mut dots);
-    assert!(rt; own.requests() > 2 && others.requests() == 0);
+    holds!(&rt, own.requests() > 2 && others.requests() == 0);
+    drop(dots);
+    drop(far);
 }
 
 /// A part takes its memory, and what it grows by, of the set that it is a part of.
@@ -390,7 +439,10 @@ fn a_part_keeps_the_memory_of_its_set(rt: HostRuntime) {
     own.refuse_none();
     others.refuse_from(1);
     let mut part = dots.only(NameSet::empty().with(0)).expect(&rt, "a part");
-    assert!(rt; other.only(NameSet::empty().with(0)).is_err());
+    holds!(&rt, other.only(NameSet::empty().with(0)).err().is_some());
     grows_its_cloud(&rt, &mut part);
-    assert!(rt; own.requests() > 1 && others.requests() == 1);
+    holds!(&rt, own.requests() > 1 && others.requests() == 1);
+    drop(part);
+    drop(dots);
+    drop(other);
 }

@@ -1,10 +1,9 @@
 //! Inverses: what each step destroyed is kept to take it back, and nothing more.
-use crate::node::{Ask, Side, USUAL, message, request};
-use crate::words::word;
+use crate::node::{Ask, Sent, Side, USUAL};
 use dots_core::Dot;
 use node_core::{Inverse, Meter, Node};
 use payload_core::{Delivered, Entry, Forgotten, Left, OldPart, Payload};
-use replica_core::{Change, Replica, Status};
+use replica_core::{Change, Status};
 use std::alloc::{Allocator, Global};
 use std::process::Abort;
 use test_alloc::Refusing;
@@ -277,17 +276,14 @@ const AGAIN: [(Ask, Told); 2] = [
 /// A step on its request.
 const ASKED: [(Ask, Told); 1] = [(Ask::Answer(Side::There), Told::Sent)];
 
-/// What the node there sends after its process 1 has left.
-fn left_message<'a>(rt: &impl Abort, heap: &'a Heap) -> Payload<&'a Heap> {
-    let word = word(rt, heap, "r");
-    let mut replica = Replica::opening(heap, Side::There.name(), USUAL);
-    drop(replica.join(1, &word, &word, &word).expect(rt, "a join"));
-    drop(replica.leave(1, &word, &word).expect(rt, "a leave"));
-    let message = replica.take_delta().expect(rt, "a message");
-    drop(replica);
-    drop(word);
-    message
-}
+/// All of them, each with the message that its steps are given.
+const STEPS: [(Sent, &[(Ask, Told)]); 5] = [
+    (Sent::Joined, &OWN),
+    (Sent::Joined, &FIRST),
+    (Sent::Left, &SECOND),
+    (Sent::Joined, &AGAIN),
+    (Sent::Request, &ASKED),
+];
 
 /// Takes a step, and says whether its inverse has what is told.
 fn keeps<'a>(
@@ -313,28 +309,22 @@ fn each_keeps<'a>(
     rt: &impl Abort,
     heap: &'a Heap,
     node: &mut Node<'a, Heap>,
-    message: &Payload<&'a Heap>,
+    sent: Sent,
     rows: &[(Ask, Told)],
 ) {
+    let message = sent.message(rt, heap);
     for (ask, told) in rows {
-        assert!(rt; keeps(rt, heap, node, *ask, message, *told));
+        holds!(rt, keeps(rt, heap, node, *ask, &message, *told));
     }
+    drop(message);
 }
 
 #[test]
 fn each_inverse_keeps_what_its_step_destroyed(rt: HostRuntime) {
     let heap = Refusing::new(rt.alloc());
-    let first = message(&rt, &heap);
-    let second = left_message(&rt, &heap);
-    let request = request(&heap);
     let mut node = Node::new(&heap, 0, USUAL);
-    each_keeps(&rt, &heap, &mut node, &first, &OWN);
-    each_keeps(&rt, &heap, &mut node, &first, &FIRST);
-    each_keeps(&rt, &heap, &mut node, &second, &SECOND);
-    each_keeps(&rt, &heap, &mut node, &first, &AGAIN);
-    each_keeps(&rt, &heap, &mut node, &request, &ASKED);
-    drop(first);
-    drop(second);
-    drop(request);
+    for (sent, rows) in &STEPS {
+        each_keeps(&rt, &heap, &mut node, *sent, rows);
+    }
     drop(node);
 }

@@ -109,7 +109,7 @@ fn follow<'a, B: Allocator>(journal: &Journal<'a, B>) -> bool
 fn a_delivery_follows_from_its_send(rt: HostRuntime) {
     let heap = rt.alloc();
     let journal = four_steps(&rt, &heap);
-    assert!(rt; follow(&journal));
+    holds!(&rt, follow(&journal));
     drop(journal);
 }
 
@@ -118,8 +118,18 @@ const FUTURES: [(u64, &[u64]); 3] = [(1, &[4, 3, 1]), (2, &[4, 2]), (5, &[])];
 /// Whether this is the future of the step.
 fn has_future<'a, B: Allocator>(journal: &Journal<'a, B>, number: u64, expected: &[u64]) -> bool {
     match journal.future(number) {
-        Ok(numbers) => numbers.as_slice() == expected,
+        Ok(numbers) => {
+            let is_this = numbers.as_slice() == expected;
+            drop(numbers);
+            is_this
+        }
         Err(_) => false,
+    }
+}
+
+fn has_futures<'a, B: Allocator>(rt: &impl Abort, journal: &Journal<'a, B>) {
+    for (number, expected) in &FUTURES {
+        holds_at(rt, has_future(journal, *number, expected), *number);
     }
 }
 
@@ -127,29 +137,31 @@ fn has_future<'a, B: Allocator>(journal: &Journal<'a, B>, number: u64, expected:
 fn a_future_goes_all_the_way(rt: HostRuntime) {
     let heap = rt.alloc();
     let journal = four_steps(&rt, &heap);
-    for (number, expected) in FUTURES {
-        holds_at(&rt, has_future(&journal, number, expected), number);
-    }
+    has_futures(&rt, &journal);
     drop(journal);
 }
 
 /// Whether the future of step 1, with this request for memory refused, is had where it met no refusal.
 fn is_told<'a>(heap: &'a Heap, journal: &Journal<'a, Heap>, number: u64) -> bool {
     heap.refuse_only(number);
-    let is_had = journal.future(1).is_ok();
+    let is_had = journal.future(1).err().is_none();
     let requests = heap.requests();
     heap.refuse_none();
     0 < requests && is_had == (requests < number)
+}
+
+fn is_told_each<'a>(rt: &impl Abort, heap: &'a Heap, journal: &Journal<'a, Heap>) {
+    for number in 1..8 {
+        holds_at(rt, is_told(heap, journal, number), number);
+    }
 }
 
 #[test]
 fn a_future_that_is_refused_memory_is_an_error(rt: HostRuntime) {
     let heap = Refusing::new(rt.alloc());
     let journal = four_steps(&rt, &heap);
-    for number in 1..8 {
-        holds_at(&rt, is_told(&heap, &journal, number), number);
-    }
-    assert!(rt; has_future(&journal, 1, &[4, 3, 1]));
+    is_told_each(&rt, &heap, &journal);
+    holds!(&rt, has_future(&journal, 1, &[4, 3, 1]));
     drop(journal);
 }
 
@@ -217,8 +229,8 @@ fn a_second_send<'a, B: Allocator>(rt: &impl Abort, alloc: &'a B) -> Journal<'a,
 fn an_undone_send_frees_its_number(rt: HostRuntime) {
     let heap = rt.alloc();
     let journal = a_second_send(&rt, &heap);
-    assert!(rt; journal.first_consequence(1) == None);
-    assert!(rt; journal.first_consequence(2) == Some(4));
+    holds!(&rt, journal.first_consequence(1) == None);
+    holds!(&rt, journal.first_consequence(2) == Some(4));
     drop(journal);
 }
 
@@ -234,10 +246,10 @@ fn has_first<'a, B: Allocator>(journal: &Journal<'a, B>) -> bool {
 fn a_loan_ends_in_two_ways(rt: HostRuntime) {
     let heap = rt.alloc();
     let journal = one_send(&rt, &heap);
-    assert!(rt; has_first(&journal));
+    holds!(&rt, has_first(&journal));
     drop(journal);
     let journal = an_undone_send(&rt, &heap);
-    assert!(rt; journal.len() == 0 && journal.find(1).is_none());
+    holds!(&rt, journal.len() == 0 && journal.find(1).is_none());
     drop(journal);
 }
 
@@ -273,10 +285,10 @@ fn are_numbers<'a, B: Allocator>(journal: &Journal<'a, B>, expected: &[u64]) -> 
 fn a_walk_meets_the_steps_that_remain(rt: HostRuntime) {
     let heap = rt.alloc();
     let journal = four_steps(&rt, &heap);
-    assert!(rt; are_numbers(&journal, &[1, 2, 3, 4]));
+    holds!(&rt, are_numbers(&journal, &[1, 2, 3, 4]));
     drop(journal);
     let journal = a_step_taken_out_before_another(&rt, &heap);
-    assert!(rt; are_numbers(&journal, &[2]));
+    holds!(&rt, are_numbers(&journal, &[2]));
     drop(journal);
 }
 
@@ -293,7 +305,7 @@ fn each_of_32_nodes_has_its_steps(rt: HostRuntime) {
         Step::Broadcast,
         inverse(&rt, &heap),
     );
-    assert!(rt; journal.last_of(31) == Some(1));
+    holds!(&rt, journal.last_of(31) == Some(1));
     drop(journal);
 }
 
@@ -303,10 +315,16 @@ fn a_step_that_is_refused_memory_is_not_kept(rt: HostRuntime) {
     let mut journal = opened(&rt, &heap, 2);
     let inverse = inverse(&rt, &heap);
     heap.refuse_from(1);
-    assert!(rt; Journal::new(&heap, 2).err().is_some() == (heap.requests() > 0));
-    assert!(rt; journal.make_room(0, &Step::Broadcast).is_err());
-    assert!(rt; journal.keep(1, 0, Step::Broadcast, inverse).ok().is_none());
-    assert!(rt; journal.len() == 0);
+    holds!(
+        &rt,
+        Journal::new(&heap, 2).err().is_some() == (heap.requests() > 0)
+    );
+    holds!(&rt, journal.make_room(0, &Step::Broadcast).is_err());
+    holds!(
+        &rt,
+        journal.keep(1, 0, Step::Broadcast, inverse).ok().is_none()
+    );
+    holds!(&rt, journal.len() == 0);
     drop(journal);
 }
 
@@ -316,10 +334,13 @@ fn a_step_with_room_needs_no_memory(rt: HostRuntime) {
     let heap = Refusing::new(rt.alloc());
     let mut journal = opened(&rt, &heap, 2);
     let inverse = inverse(&rt, &heap);
-    assert!(rt; journal.make_room(0, &Step::Broadcast).is_ok());
-    assert!(rt; journal.make_room(1, &Step::Up { name: 0 }).is_ok());
+    holds!(&rt, journal.make_room(0, &Step::Broadcast).is_ok());
+    holds!(&rt, journal.make_room(1, &Step::Up { name: 0 }).is_ok());
     heap.refuse_from(1);
-    assert!(rt; journal.keep(1, 0, Step::Broadcast, inverse).ok().is_some());
-    assert!(rt; heap.requests() == 0 && journal.len() == 1);
+    holds!(
+        &rt,
+        journal.keep(1, 0, Step::Broadcast, inverse).ok().is_some()
+    );
+    holds!(&rt, heap.requests() == 0 && journal.len() == 1);
     drop(journal);
 }

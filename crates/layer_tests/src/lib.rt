@@ -6,6 +6,14 @@
 //! helpers the others use.
 #![tactic(auto)]
 
+/// An assertion as a call: it is told by its own words. An `assert!` in its place is an exit more where much is live.
+#[cfg(test)]
+macro_rules! holds {
+    ($rt:expr, $is_so:expr $(,)?) => {
+        $crate::rows::holds($rt, $is_so, stringify!($is_so))
+    };
+}
+
 #[cfg(test)]
 mod dots;
 #[cfg(test)]

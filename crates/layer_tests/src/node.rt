@@ -267,7 +267,7 @@ fn a_step_is_copied_without_memory(rt: HostRuntime) {
     let heap = Refusing::new(rt.alloc());
     for ask in KINDS {
         let step = ask.step(&rt, &heap);
-        assert!(rt; is_copied(&heap, &step));
+        holds!(&rt, is_copied(&heap, &step));
         drop(step);
     }
 }
@@ -292,7 +292,7 @@ fn fault_of<'a, B: Allocator>(
     let mut meter = Meter::new();
     let fault = node.take(&step, None, &mut meter).err();
     drop(step);
-    assert!(rt; (meter.count() == 1) == fault.is_none());
+    holds!(rt, (meter.count() == 1) == fault.is_none());
     fault
 }
 
@@ -321,7 +321,7 @@ fn joins<'a, B: Allocator>(rt: &impl Abort, alloc: &'a B, replica: &mut Replica<
 }
 
 /// The message of the node there that tells of its process 1.
-pub fn message<'a, B: Allocator>(rt: &impl Abort, alloc: &'a B) -> Payload<&'a B> {
+fn message<'a, B: Allocator>(rt: &impl Abort, alloc: &'a B) -> Payload<&'a B> {
     let mut replica = Replica::opening(alloc, Side::There.name(), USUAL);
     joins(rt, alloc, &mut replica);
     let message = replica.take_delta().expect(rt, "a message");
@@ -330,11 +330,48 @@ pub fn message<'a, B: Allocator>(rt: &impl Abort, alloc: &'a B) -> Payload<&'a B
 }
 
 /// A request of the node there.
-pub fn request<'a, B: Allocator>(alloc: &'a B) -> Payload<&'a B> {
+fn request<'a, B: Allocator>(alloc: &'a B) -> Payload<&'a B> {
     let replica = Replica::opening(alloc, Side::There.name(), USUAL);
     let request = replica.request();
     drop(replica);
     request
+}
+
+/// What the node there sends after its process 1 has left.
+fn left_message<'a, B: Allocator>(rt: &impl Abort, alloc: &'a B) -> Payload<&'a B> {
+    let mut replica = Replica::opening(alloc, Side::There.name(), USUAL);
+    joins(rt, alloc, &mut replica);
+    leaves(rt, alloc, &mut replica);
+    let message = replica.take_delta().expect(rt, "a message");
+    drop(replica);
+    message
+}
+
+fn leaves<'a, B: Allocator>(rt: &impl Abort, alloc: &'a B, replica: &mut Replica<&'a B>) {
+    let word = word(rt, alloc, "r");
+    let change = replica.leave(1, &word, &word).expect(rt, "a leave");
+    drop(change);
+    drop(word);
+}
+
+/// A message of the node there.
+#[derive(Clone, Copy)]
+pub enum Sent {
+    /// It tells of its process 1.
+    Joined,
+    /// It tells that its process 1 has left.
+    Left,
+    Request,
+}
+
+impl Sent {
+    pub fn message<'a, B: Allocator>(self, rt: &impl Abort, alloc: &'a B) -> Payload<&'a B> {
+        match self {
+            Sent::Joined => message(rt, alloc),
+            Sent::Left => left_message(rt, alloc),
+            Sent::Request => request(alloc),
+        }
+    }
 }
 
 /// The fault of a step that is given this message.
@@ -342,28 +379,41 @@ fn fault_given<'a, B: Allocator>(
     rt: &impl Abort,
     alloc: &'a B,
     ask: Ask,
-    message: &Payload<&'a B>,
+    sent: Sent,
 ) -> Option<StepFault> {
     let step = ask.step(rt, alloc);
+    let message = sent.message(rt, alloc);
     let mut node = Node::new(alloc, 0, USUAL);
-    let fault = node.take(&step, Some(message), &mut Meter::new()).err();
+    let fault = node.take(&step, Some(&message), &mut Meter::new()).err();
     drop(node);
+    drop(message);
     drop(step);
     fault
 }
+
+/// A step, the message that it is given, and its fault.
+const GIVEN: [(Ask, Sent, Option<StepFault>); 4] = [
+    (Ask::Deliver(Side::There), Sent::Joined, None),
+    (
+        Ask::Answer(Side::There),
+        Sent::Joined,
+        Some(StepFault::NotRequest),
+    ),
+    (
+        Ask::Deliver(Side::There),
+        Sent::Request,
+        Some(StepFault::IsRequest),
+    ),
+    (Ask::Answer(Side::There), Sent::Request, None),
+];
 
 /// A request is answered and not delivered, and another message is delivered and not answered.
 #[test]
 fn a_request_alone_is_answered(rt: HostRuntime) {
     let heap = rt.alloc();
-    let (message, request) = (message(&rt, &heap), request(&heap));
-    let (deliver, answer) = (Ask::Deliver(Side::There), Ask::Answer(Side::There));
-    assert!(rt; fault_given(&rt, &heap, deliver, &message).is_none());
-    assert!(rt; fault_given(&rt, &heap, answer, &message) == Some(StepFault::NotRequest));
-    assert!(rt; fault_given(&rt, &heap, deliver, &request) == Some(StepFault::IsRequest));
-    assert!(rt; fault_given(&rt, &heap, answer, &request).is_none());
-    drop(message);
-    drop(request);
+    for (ask, sent, expected) in &GIVEN {
+        holds!(&rt, fault_given(&rt, &heap, *ask, *sent) == *expected);
+    }
 }
 
 /// Takes a step for which memory and the message are there.
@@ -378,7 +428,7 @@ fn takes<'a>(
     let mut meter = Meter::new();
     let fault = node.take(&step, Some(message), &mut meter).err();
     drop(step);
-    assert!(rt; fault.is_none());
+    holds!(rt, fault.is_none());
 }
 
 /// Takes the step, and takes it back, with this request for memory and all later ones refused first: the node is as it was.
@@ -395,9 +445,9 @@ fn taken_back<'a>(
     let mut meter = Meter::new();
     let taken = node.take(&step, Some(message), &mut meter);
     let inverse = taken.expect(rt, "an inverse");
-    assert!(rt; !node.same(&before));
+    holds!(rt, !node.same(&before));
     gives_back(rt, heap, node, inverse, number);
-    assert!(rt; node.same(&before));
+    holds!(rt, node.same(&before));
     drop(before);
     drop(step);
 }
@@ -417,7 +467,7 @@ fn gives_back<'a>(
     heap.refuse_none();
     if let Some(inverse) = refused {
         let left = given_back(node, inverse);
-        assert!(rt; left.is_none());
+        holds!(rt, left.is_none());
         drop(left);
     }
 }
@@ -482,29 +532,33 @@ const ANSWERS: [Turn; 4] = [
 ];
 
 /// What a node that is given this message is asked in turn.
-fn are_taken_back<'a>(
+fn turns_back<'a>(
     rt: &impl Abort,
     heap: &'a Heap,
+    node: &mut Node<'a, Heap>,
     message: &Payload<&'a Heap>,
     turns: &[Turn],
     number: u64,
 ) {
-    let mut node = Node::new(heap, 0, USUAL);
     for turn in turns {
         match turn {
-            Turn::There(ask) => takes(rt, heap, &mut node, *ask, message),
-            Turn::Back(ask) => taken_back(rt, heap, &mut node, *ask, message, number),
+            Turn::There(ask) => takes(rt, heap, node, *ask, message),
+            Turn::Back(ask) => taken_back(rt, heap, node, *ask, message, number),
         }
     }
+}
+
+fn are_taken_back<'a>(rt: &impl Abort, heap: &'a Heap, sent: Sent, turns: &[Turn], number: u64) {
+    let message = sent.message(rt, heap);
+    let mut node = Node::new(heap, 0, USUAL);
+    turns_back(rt, heap, &mut node, &message, turns, number);
     drop(node);
+    drop(message);
 }
 
 fn each_is_taken_back<'a>(rt: &impl Abort, heap: &'a Heap, number: u64) {
-    let (message, request) = (message(rt, heap), request(heap));
-    are_taken_back(rt, heap, &message, &TURNS, number);
-    are_taken_back(rt, heap, &request, &ANSWERS, number);
-    drop(message);
-    drop(request);
+    are_taken_back(rt, heap, Sent::Joined, &TURNS, number);
+    are_taken_back(rt, heap, Sent::Request, &ANSWERS, number);
 }
 
 #[test]
@@ -550,10 +604,10 @@ fn is_refused_in_turn<'a>(
 {
     for number in 1..100 {
         match fault_without(heap, node, step, message, number) {
-            Some(fault) => assert!(rt; fault == StepFault::OutOfMemory),
+            Some(fault) => holds!(rt, fault == StepFault::OutOfMemory),
             None => return true,
         }
-        assert!(rt; node.same(before));
+        holds!(rt, node.same(before));
     }
     false
 }
@@ -589,18 +643,28 @@ fn refuses<'a>(
     is_refused
 }
 
+/// Makes each of these, refused in turn, with this message.
+fn refuses_each<'a>(
+    rt: &impl Abort,
+    heap: &'a Heap,
+    node: &mut Node<'a, Heap>,
+    sent: Sent,
+    asks: &[Ask],
+) {
+    let message = sent.message(rt, heap);
+    for ask in asks {
+        holds!(rt, refuses(rt, heap, node, &message, *ask));
+    }
+    drop(message);
+}
+
 #[test]
 fn a_step_that_is_refused_memory_changes_nothing(rt: HostRuntime) {
     let heap = Refusing::new(rt.alloc());
-    let message = message(&rt, &heap);
     let mut node = Node::new(&heap, 0, USUAL);
-    for ask in REFUSED {
-        assert!(rt; refuses(&rt, &heap, &mut node, &message, ask));
-    }
-    let request = request(&heap);
-    assert!(rt; refuses(&rt, &heap, &mut node, &request, Ask::Answer(Side::There)));
-    assert!(rt; node.outbox().len() == 4);
-    drop(message);
-    drop(request);
+    refuses_each(&rt, &heap, &mut node, Sent::Joined, &REFUSED);
+    let answers = [Ask::Answer(Side::There)];
+    refuses_each(&rt, &heap, &mut node, Sent::Request, &answers);
+    holds!(&rt, node.outbox().len() == 4);
     drop(node);
 }

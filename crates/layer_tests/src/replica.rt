@@ -220,9 +220,9 @@ fn plays<'a, B: Allocator>(rt: &impl Abort, alloc: &'a B, inputs: &Inputs<&'a B>
     let sender = inputs.pair.sender();
     let mut replica = opening(alloc, inputs.pair.receiver());
     for (call, is_undone, clock, cloud, live) in rows {
-        assert!(rt; call.is_made(&mut replica, inputs, *is_undone));
-        assert!(rt; is_seen(replica.seen(), sender, *clock, cloud));
-        assert!(rt; are_live(&replica, sender, live));
+        holds!(rt, call.is_made(&mut replica, inputs, *is_undone));
+        holds!(rt, is_seen(replica.seen(), sender, *clock, cloud));
+        holds!(rt, are_live(&replica, sender, live));
     }
     drop(replica);
 }
@@ -296,7 +296,7 @@ fn refuses_in_turn<'a>(
         let Some(fault) = refused(heap, replica, inputs, call, number) else {
             return number - 1;
         };
-        assert!(rt; fault == ReplicaFault::OutOfMemory);
+        holds!(rt, fault == ReplicaFault::OutOfMemory);
         holds_at(rt, replica.same(before), number);
     }
     100
@@ -312,8 +312,8 @@ fn refuses<'a>(
     call: Call,
 ) -> u64 {
     let before = replica.try_copy().expect(rt, "a copy");
-    assert!(rt; call.is_made(replica, inputs, true));
-    assert!(rt; replica.same(&before));
+    holds!(rt, call.is_made(replica, inputs, true));
+    holds!(rt, replica.same(&before));
     let refused = refuses_in_turn(rt, heap, replica, inputs, call, &before);
     drop(before);
     refused
@@ -346,14 +346,14 @@ fn refuses_calls<'a>(
     inputs: &Inputs<&'a Heap>,
     calls: &[Call],
 ) {
-    assert!(rt; Call::Up.is_made(replica, inputs, false));
+    holds!(rt, Call::Up.is_made(replica, inputs, false));
     let mut is_asked = false;
     for call in calls {
         let refusals = refuses(rt, heap, replica, inputs, *call);
-        assert!(rt; refusals < 100);
+        holds!(rt, refusals < 100);
         is_asked |= refusals > 0;
     }
-    assert!(rt; is_asked);
+    holds!(rt, is_asked);
 }
 
 /// Makes these calls of a new receiver so, which leaves it this own clock, the live entries of these clocks, and this status
@@ -371,7 +371,7 @@ fn refuses_each<'a>(
     drop(inputs);
     let (clock, live, status) = after;
     let has_status = b.status(pair.sender()) == status;
-    assert!(rt; has_status && has_own(&b, pair.receiver(), clock, live));
+    holds!(rt, has_status && has_own(&b, pair.receiver(), clock, live));
     drop(b);
 }
 
@@ -408,14 +408,14 @@ fn a_process_leaves_under_all_its_keys(rt: HostRuntime) {
     let heap = Refusing::new(rt.alloc());
     let mut b = four_joined(&rt, &heap);
     leaves_refused(&rt, &heap, &mut b);
-    assert!(rt; has_own(&b, 1, 7, &[4]));
+    holds!(&rt, has_own(&b, 1, 7, &[4]));
     drop(b);
 }
 
 fn leaves_refused<'a>(rt: &impl Abort, heap: &'a Heap, replica: &mut Replica<&'a Heap>) {
     let inputs = inputs_of(rt, heap, Pair::First);
     let refusals = refuses(rt, heap, replica, &inputs, Call::LeaveAll);
-    assert!(rt; 0 < refusals && refusals < 100);
+    holds!(rt, 0 < refusals && refusals < 100);
     drop(inputs);
 }
 
@@ -474,8 +474,8 @@ fn extracts_nothing<'a, B: Allocator>(rt: &impl Abort, replica: &Replica<&'a B>)
 fn an_extract_has_the_named_alone(rt: HostRuntime) {
     let heap = rt.alloc();
     let mut a = joined(&rt, &heap);
-    assert!(rt; extracts_nothing(&rt, &a));
-    assert!(rt; extracts_the_delta(&rt, &mut a));
+    holds!(&rt, extracts_nothing(&rt, &a));
+    holds!(&rt, extracts_the_delta(&rt, &mut a));
     drop(a);
 }
 
@@ -501,7 +501,10 @@ fn an_extract_has_foreign_names_too(rt: HostRuntime) {
     let mut b = opening(&heap, 30);
     let is_up = Call::Up.is_made(&mut b, &inputs, false);
     let is_delivered = Call::First.is_made(&mut b, &inputs, false);
-    assert!(rt; is_up && is_delivered && extracts_foreign(&rt, &b, &inputs));
+    holds!(
+        &rt,
+        is_up && is_delivered && extracts_foreign(&rt, &b, &inputs)
+    );
     drop(b);
     drop(inputs);
 }
@@ -567,8 +570,8 @@ fn reads_and_sends_take_no_memory(rt: HostRuntime) {
     let before = a.try_copy().expect(&rt, "a copy");
     heap.refuse_from(1);
     let is_as_before = reads_and_sends(&mut a, &before);
-    assert!(rt; is_as_before);
-    assert!(rt; heap.requests() == 0);
+    holds!(&rt, is_as_before);
+    holds!(&rt, heap.requests() == 0);
     drop(before);
     drop(a);
 }

@@ -36,8 +36,8 @@ fn entry<A: Allocator + Copy>(
 /// Puts in an entry whose dot is not there.
 fn put<A: Allocator + Copy>(rt: &impl Abort, entries: &mut EntrySet<A>, entry: Entry<A>) {
     assert!(rt; entries.get(entry.dot).is_none());
-    let is_in = entries.insert(entry).is_ok();
-    assert!(rt; is_in);
+    let is_in = entries.insert(entry).ok().is_some();
+    holds!(rt, is_in);
 }
 
 /// Node 0's entries of `alice` at the clocks 9 and 5, and node 31's of `bob` at the clock 1.
@@ -53,7 +53,7 @@ fn three<A: Allocator + Copy>(rt: &impl Abort, alloc: A) -> EntrySet<A> {
 fn a_word_has_1_to_200_visible_bytes(rt: HostRuntime) {
     let longest = "a".repeat(rt.alloc(), 200).expect(&rt, "a text");
     for text in ["!", "~", "alice", longest.as_str()] {
-        assert!(rt; word(&rt, rt.alloc(), text).as_str() == text);
+        holds!(&rt, word(&rt, rt.alloc(), text).as_str() == text);
     }
 }
 
@@ -75,49 +75,66 @@ fn words_are_ordered_by_their_bytes(rt: HostRuntime) {
         let other = word(&rt, rt.alloc(), upper);
         holds(&rt, one < other && one != other && !one.same(&other), lower);
         holds(&rt, has_copy(&rt, &one), lower);
+        drop(one);
+        drop(other);
     }
 }
 
 /// Whether a copy is the same word.
 fn has_copy<A: Allocator + Copy>(rt: &impl Abort, word: &Word<A>) -> bool {
-    word.try_copy().expect(rt, "a copy") == *word
+    let copy = word.try_copy().expect(rt, "a copy");
+    let is_same = copy == *word;
+    drop(copy);
+    is_same
 }
 
 /// Whether the entry of `alice` at the clock 1 is that of this key at this clock.
 fn is_alice<A: Allocator + Copy>(rt: &impl Abort, alloc: A, clock: u64, key: &str) -> bool {
     let alice = entry(rt, alloc, 0, 1, "alice");
-    alice.same(&entry(rt, alloc, 0, clock, key))
+    let other = entry(rt, alloc, 0, clock, key);
+    let is_same = alice.same(&other);
+    drop(alice);
+    drop(other);
+    is_same
 }
 
 /// Whether a copy of an entry is the same.
 fn is_copied<A: Allocator + Copy>(rt: &impl Abort, alloc: A) -> bool {
     let alice = entry(rt, alloc, 0, 1, "alice");
-    alice.try_copy().expect(rt, "a copy").same(&alice)
+    let copy = alice.try_copy().expect(rt, "a copy");
+    let is_same = copy.same(&alice);
+    drop(alice);
+    drop(copy);
+    is_same
 }
 
 /// Whether the entry of `alice` is of process 7 under `room` and this key.
 fn is_tracked<A: Allocator + Copy>(rt: &impl Abort, alloc: A, key: &str) -> bool {
     let alice = entry(rt, alloc, 0, 1, "alice");
-    alice.is_tracked_as(7, &alice.topic, &word(rt, alloc, key))
+    let key = word(rt, alloc, key);
+    let is_tracked = alice.is_tracked_as(7, &alice.topic, &key);
+    drop(alice);
+    drop(key);
+    is_tracked
 }
 
 #[test]
 fn entries_differ_by_dot_and_by_key(rt: HostRuntime) {
-    assert!(rt; is_alice(&rt, rt.alloc(), 1, "alice"));
-    assert!(rt; !is_alice(&rt, rt.alloc(), 2, "alice"));
-    assert!(rt; !is_alice(&rt, rt.alloc(), 1, "bob"));
-    assert!(rt; is_copied(&rt, rt.alloc()));
-    assert!(rt; is_tracked(&rt, rt.alloc(), "alice"));
-    assert!(rt; !is_tracked(&rt, rt.alloc(), "bob"));
+    holds!(&rt, is_alice(&rt, rt.alloc(), 1, "alice"));
+    holds!(&rt, !is_alice(&rt, rt.alloc(), 2, "alice"));
+    holds!(&rt, !is_alice(&rt, rt.alloc(), 1, "bob"));
+    holds!(&rt, is_copied(&rt, rt.alloc()));
+    holds!(&rt, is_tracked(&rt, rt.alloc(), "alice"));
+    holds!(&rt, !is_tracked(&rt, rt.alloc(), "bob"));
 }
 
 #[test]
 fn a_set_of_names_has_their_entries_alone(rt: HostRuntime) {
     let entries = three(&rt, rt.alloc());
     let all = NameSet::empty().with(0).with(31);
-    assert!(rt; has_only(&rt, &entries, all, 3));
-    assert!(rt; has_only(&rt, &entries, all.without(0), 1));
-    assert!(rt; has_only(&rt, &entries, NameSet::empty().with(1), 0));
+    holds!(&rt, has_only(&rt, &entries, all, 3));
+    holds!(&rt, has_only(&rt, &entries, all.without(0), 1));
+    holds!(&rt, has_only(&rt, &entries, NameSet::empty().with(1), 0));
     drop(entries);
 }
 
@@ -141,11 +158,11 @@ const PLACES: [(usize, u16, u64); 3] = [(0, 0, 5), (1, 0, 9), (2, 31, 1)];
 #[test]
 fn an_entry_set_rises_by_dot(rt: HostRuntime) {
     let entries = three(&rt, rt.alloc());
-    assert!(rt; entries.len() == 3);
+    holds!(&rt, entries.len() == 3);
     for (place, name, clock) in PLACES {
-        assert!(rt; is_at(&entries, place, Dot { name, clock }));
+        holds!(&rt, is_at(&entries, place, Dot { name, clock }));
     }
-    assert!(rt; entries.at(3).is_none());
+    holds!(&rt, entries.at(3).is_none());
     drop(entries);
 }
 
@@ -166,23 +183,31 @@ fn finds<A: Allocator + Copy>(
     pid: u64,
 ) -> Option<Dot> {
     let room = word(rt, alloc, "room");
-    entries.find(name, pid, &room, &word(rt, alloc, "alice"))
+    let alice = word(rt, alloc, "alice");
+    let found = entries.find(name, pid, &room, &alice);
+    drop(room);
+    drop(alice);
+    found
 }
 
 #[test]
 fn find_gives_the_least_clock_of_the_name(rt: HostRuntime) {
     let entries = three(&rt, rt.alloc());
     let least = Dot { name: 0, clock: 5 };
-    assert!(rt; finds(&rt, rt.alloc(), &entries, 0, 7) == Some(least));
-    assert!(rt; finds(&rt, rt.alloc(), &entries, 0, 8) == None);
-    assert!(rt; finds(&rt, rt.alloc(), &entries, 31, 7) == None);
+    holds!(&rt, finds(&rt, rt.alloc(), &entries, 0, 7) == Some(least));
+    holds!(&rt, finds(&rt, rt.alloc(), &entries, 0, 8) == None);
+    holds!(&rt, finds(&rt, rt.alloc(), &entries, 31, 7) == None);
     drop(entries);
 }
 
 /// Takes out what is at the dot, and says whether that is an entry of this dot.
 fn takes_out<A: Allocator>(entries: &mut EntrySet<A>, dot: Dot) -> bool {
     match entries.remove(dot) {
-        Some(entry) => entry.dot == dot,
+        Some(entry) => {
+            let is_there = entry.dot == dot;
+            drop(entry);
+            is_there
+        }
         None => false,
     }
 }
@@ -191,10 +216,10 @@ fn takes_out<A: Allocator>(entries: &mut EntrySet<A>, dot: Dot) -> bool {
 fn a_removal_takes_one_entry_out(rt: HostRuntime) {
     let mut entries = three(&rt, rt.alloc());
     let before = entries.try_copy().expect(&rt, "a copy");
-    assert!(rt; !takes_out(&mut entries, Dot { name: 0, clock: 1 }));
-    assert!(rt; entries.same(&before));
-    assert!(rt; takes_out(&mut entries, Dot { name: 0, clock: 5 }));
-    assert!(rt; entries.len() == 2);
+    holds!(&rt, !takes_out(&mut entries, Dot { name: 0, clock: 1 }));
+    holds!(&rt, entries.same(&before));
+    holds!(&rt, takes_out(&mut entries, Dot { name: 0, clock: 5 }));
+    holds!(&rt, entries.len() == 2);
     drop(before);
     drop(entries);
 }
@@ -221,9 +246,9 @@ fn a_message_gives_its_parts(rt: HostRuntime) {
     let heap = rt.alloc();
     let message = message(&rt, &heap, 4);
     let copy = message.try_copy().expect(&rt, "a copy");
-    assert!(rt; copy.same(&message));
-    assert!(rt; message.seen().contains(Dot { name: 0, clock: 4 }));
-    assert!(rt; are_parts(copy, &message));
+    holds!(&rt, copy.same(&message));
+    holds!(&rt, message.seen().contains(Dot { name: 0, clock: 4 }));
+    holds!(&rt, are_parts(copy, &message));
     drop(message);
 }
 
@@ -236,10 +261,10 @@ fn a_request_gives_its_names(rt: HostRuntime) {
     let other = Payload::request(&heap, 0, NameSet::empty().with(31));
     let none = seen_alone(&rt, &heap, &[]);
     let copy = request.try_copy().expect(&rt, "a copy");
-    assert!(rt; copy.same(&request) && !request.same(&other));
-    assert!(rt; !request.same(&none));
-    assert!(rt; copy.asked().is_some_and(|asked| asked.same(names)));
-    assert!(rt; are_parts(copy, &none));
+    holds!(&rt, copy.same(&request) && !request.same(&other));
+    holds!(&rt, !request.same(&none));
+    holds!(&rt, copy.asked().is_some_and(|asked| asked.same(names)));
+    holds!(&rt, are_parts(copy, &none));
     drop(request);
     drop(other);
     drop(none);
@@ -266,7 +291,7 @@ fn refused<'a, B: Allocator>(
     let message = message(rt, alloc, clock);
     let copy = message.try_copy().expect(rt, "a copy");
     let (given_back, fault) = outbox.push(message).err().expect(rt, "a refusal");
-    assert!(rt; given_back.same(&copy));
+    holds!(rt, given_back.same(&copy));
     drop(given_back);
     drop(copy);
     fault
@@ -287,17 +312,20 @@ fn pushes<'a, B: Allocator>(
 fn an_outbox_holds_as_many_messages_as_its_limit(rt: HostRuntime) {
     let heap = rt.alloc();
     let mut outbox = Outbox::new(&heap, 1);
-    assert!(rt; outbox.is_empty() && !outbox.is_full());
-    assert!(rt; pushes(&rt, &heap, &mut outbox, 1) == 1);
-    assert!(rt; outbox.is_full());
-    assert!(rt; refused(&rt, &heap, &mut outbox, 2) == OutboxFault::OutboxFull);
+    holds!(&rt, outbox.is_empty() && !outbox.is_full());
+    holds!(&rt, pushes(&rt, &heap, &mut outbox, 1) == 1);
+    holds!(&rt, outbox.is_full());
+    holds!(
+        &rt,
+        refused(&rt, &heap, &mut outbox, 2) == OutboxFault::OutboxFull
+    );
     drop(outbox);
 }
 
 /// Takes the last message out, which has seen the dot of this clock.
 fn pops<'a, B: Allocator>(rt: &impl Abort, outbox: &mut Outbox<'a, B>, clock: u64) {
     let last = outbox.pop().expect(rt, "a message");
-    assert!(rt; last.seen().contains(Dot { name: 0, clock }));
+    holds!(rt, last.seen().contains(Dot { name: 0, clock }));
     drop(last);
 }
 
@@ -317,12 +345,12 @@ fn are_numbered<'a, B: Allocator>(rt: &impl Abort, outbox: &Outbox<'a, B>) -> bo
 fn messages_are_numbered_from_1_and_popped_from_the_end(rt: HostRuntime) {
     let heap = rt.alloc();
     let mut outbox = Outbox::new(&heap, 2);
-    assert!(rt; pushes(&rt, &heap, &mut outbox, 1) == 1);
-    assert!(rt; pushes(&rt, &heap, &mut outbox, 2) == 2);
-    assert!(rt; are_numbered(&rt, &outbox));
+    holds!(&rt, pushes(&rt, &heap, &mut outbox, 1) == 1);
+    holds!(&rt, pushes(&rt, &heap, &mut outbox, 2) == 2);
+    holds!(&rt, are_numbered(&rt, &outbox));
     pops(&rt, &mut outbox, 2);
     pops(&rt, &mut outbox, 1);
-    assert!(rt; outbox.len() == 0);
+    holds!(&rt, outbox.len() == 0);
     drop(outbox);
 }
 
@@ -331,10 +359,10 @@ fn a_refused_word_is_out_of_memory(rt: HostRuntime) {
     let heap = Refusing::new(rt.alloc());
     heap.refuse_from(1);
     let fault = Word::new(&heap, "alice").err();
-    assert!(rt; fault == Some(WordFault::OutOfMemory));
+    holds!(&rt, fault == Some(WordFault::OutOfMemory));
     let fault = Word::new(&heap, "a b").err();
-    assert!(rt; fault == Some(WordFault::BadWord));
-    assert!(rt; heap.requests() == 1);
+    holds!(&rt, fault == Some(WordFault::BadWord));
+    holds!(&rt, heap.requests() == 1);
 }
 
 #[test]
@@ -344,8 +372,9 @@ fn a_copy_of_a_word_takes_no_memory(rt: HostRuntime) {
     heap.refuse_from(1);
     let copy = alice.try_copy().expect(&rt, "a copy");
     drop(alice);
-    assert!(rt; copy.as_str() == "alice");
-    assert!(rt; heap.requests() == 0);
+    holds!(&rt, copy.as_str() == "alice");
+    holds!(&rt, heap.requests() == 0);
+    drop(copy);
 }
 
 /// Whether the insert of an entry whose dot is not there is refused, and gives the entry back.
@@ -358,7 +387,11 @@ fn is_given_back<A: Allocator + Copy>(
     assert!(rt; entries.get(entry.dot).is_none());
     match entries.insert(entry) {
         Ok(()) => false,
-        Err((given_back, _oom)) => given_back.same(copy),
+        Err((given_back, _oom)) => {
+            let is_same = given_back.same(copy);
+            drop(given_back);
+            is_same
+        }
     }
 }
 
@@ -369,8 +402,8 @@ fn a_refused_insert_gives_the_entry_back(rt: HostRuntime) {
     let new = entry(&rt, &heap, 0, 1, "alice");
     let copy = entry(&rt, &heap, 0, 1, "alice");
     heap.refuse_from(1);
-    assert!(rt; is_given_back(&rt, &mut entries, new, &copy));
-    assert!(rt; entries.is_empty());
+    holds!(&rt, is_given_back(&rt, &mut entries, new, &copy));
+    holds!(&rt, entries.is_empty());
     drop(copy);
     drop(entries);
 }
@@ -378,9 +411,9 @@ fn a_refused_insert_gives_the_entry_back(rt: HostRuntime) {
 /// Makes room for one entry, which is refused first.
 fn makes_room(rt: &impl Abort, heap: &Heap, entries: &mut EntrySet<&Heap>) {
     heap.refuse_from(1);
-    assert!(rt; entries.make_room(1).is_err());
+    holds!(rt, entries.make_room(1).is_err());
     heap.refuse_none();
-    assert!(rt; entries.make_room(1).is_ok());
+    holds!(rt, entries.make_room(1).is_ok());
 }
 
 #[test]
@@ -391,7 +424,7 @@ fn an_insert_into_room_takes_no_memory(rt: HostRuntime) {
     makes_room(&rt, &heap, &mut entries);
     heap.refuse_from(1);
     put(&rt, &mut entries, new);
-    assert!(rt; heap.requests() == 0);
+    holds!(&rt, heap.requests() == 0);
     drop(entries);
 }
 
@@ -427,8 +460,8 @@ fn a_refused_copy_of_a_set_is_an_error(rt: HostRuntime) {
         requests_for(&rt, &heap, &entries, true, number);
         requests_for(&rt, &heap, &entries, false, number);
     }
-    assert!(rt; requests_for(&rt, &heap, &entries, true, 4) == 1);
-    assert!(rt; requests_for(&rt, &heap, &entries, false, 4) >= 1);
+    holds!(&rt, requests_for(&rt, &heap, &entries, true, 4) == 1);
+    holds!(&rt, requests_for(&rt, &heap, &entries, false, 4) >= 1);
     drop(entries);
 }
 
@@ -437,8 +470,11 @@ fn a_refused_push_gives_the_message_back(rt: HostRuntime) {
     let heap = Refusing::new(rt.alloc());
     let mut outbox = Outbox::new(&heap, 2);
     heap.refuse_from(1);
-    assert!(rt; refused(&rt, &heap, &mut outbox, 1) == OutboxFault::OutOfMemory);
-    assert!(rt; outbox.is_empty() && outbox.make_room().is_err());
+    holds!(
+        &rt,
+        refused(&rt, &heap, &mut outbox, 1) == OutboxFault::OutOfMemory
+    );
+    holds!(&rt, outbox.is_empty() && outbox.make_room().is_err());
     drop(outbox);
 }
 
@@ -446,11 +482,11 @@ fn a_refused_push_gives_the_message_back(rt: HostRuntime) {
 fn a_push_into_room_takes_no_memory(rt: HostRuntime) {
     let heap = Refusing::new(rt.alloc());
     let mut outbox = Outbox::new(&heap, 2);
-    assert!(rt; outbox.make_room().is_ok());
+    holds!(&rt, outbox.make_room().is_ok());
     heap.refuse_from(1);
-    assert!(rt; pushes(&rt, &heap, &mut outbox, 1) == 1);
-    assert!(rt; heap.requests() == 0);
-    assert!(rt; outbox.try_copy().err().is_some());
+    holds!(&rt, pushes(&rt, &heap, &mut outbox, 1) == 1);
+    holds!(&rt, heap.requests() == 0);
+    holds!(&rt, outbox.try_copy().err().is_some());
     drop(outbox);
 }
 
@@ -466,9 +502,9 @@ fn reads_and_removals_take_no_memory(rt: HostRuntime) {
     let mut entries = three(&rt, &heap);
     let room = word(&rt, &heap, "room");
     heap.refuse_from(1);
-    assert!(rt; reads(&entries, &room));
-    assert!(rt; takes_out(&mut entries, Dot { name: 0, clock: 5 }));
-    assert!(rt; heap.requests() == 0);
+    holds!(&rt, reads(&entries, &room));
+    holds!(&rt, takes_out(&mut entries, Dot { name: 0, clock: 5 }));
+    holds!(&rt, heap.requests() == 0);
     drop(room);
     drop(entries);
 }
@@ -484,11 +520,11 @@ fn a_part_of_a_set_keeps_the_memory_of_its_set(rt: HostRuntime) {
     own.refuse_none();
     others.refuse_none();
     let mut part = copies(&entries, false).expect(&rt, "a part");
-    assert!(rt; (own.requests(), others.requests()) == (1, 0));
+    holds!(&rt, (own.requests(), others.requests()) == (1, 0));
     others.refuse_from(1);
-    assert!(rt; part.make_room(100).is_ok());
+    holds!(&rt, part.make_room(100).is_ok());
     put(&rt, &mut part, new);
-    assert!(rt; (own.requests(), others.requests()) == (2, 0));
+    holds!(&rt, (own.requests(), others.requests()) == (2, 0));
     drop(part);
     drop(entries);
 }

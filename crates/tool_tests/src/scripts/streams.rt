@@ -1,6 +1,6 @@
 //! How input is read and reports are written.
-use crate::cases::JOINED_AND_UNDONE;
-use crate::rows::{holds, holds_at};
+use crate::scripts::cases::JOINED_AND_UNDONE;
+use crate::scripts::rows::{holds, holds_at};
 use bench_core::Limits;
 use script_core::{
     FakeReader, FakeWriter, InputFault, PlayFault, WriteFault, play, read_all, write_out,

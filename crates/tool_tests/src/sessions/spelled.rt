@@ -1,6 +1,6 @@
 //! Other spellings of one session.
-use crate::saved::{JOINED_AND_UNDONE, is_saved_as};
-use crate::texts::holds;
+use crate::sessions::saved::{JOINED_AND_UNDONE, is_saved_as};
+use crate::sessions::texts::holds;
 use session_core::load;
 use std::alloc::Global;
 use std::process::Abort;

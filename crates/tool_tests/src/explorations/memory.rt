@@ -1,6 +1,6 @@
 //! Want of memory at each request in turn.
-use crate::lines::Line::{self, Broadcast, Deliver, Join, Up};
-use crate::lines::{explored, fault_of, limits_of, lists_of, names_of};
+use crate::explorations::lines::Line::{self, Broadcast, Deliver, Join, Up};
+use crate::explorations::lines::{explored, fault_of, limits_of, lists_of, names_of};
 use explore_core::{ExploreFault, Reading};
 use std::alloc::Global;
 use std::process::Abort;

@@ -1,5 +1,5 @@
 //! Scripts with their reports.
-use crate::tests::Case;
+use crate::scripts::played::Case;
 
 const USUAL: [u64; 4] = [100_000, 10_000, 1_000_000, 10_000];
 

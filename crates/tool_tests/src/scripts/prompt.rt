@@ -1,5 +1,5 @@
 //! Lines at a prompt, one by one, with faults between.
-use crate::rows::holds;
+use crate::scripts::rows::holds;
 use bench_core::Limits;
 use script_core::{FaultKind, Prompt};
 use std::alloc::Allocator;

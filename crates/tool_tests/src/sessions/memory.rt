@@ -1,5 +1,5 @@
 //! Want of memory of a bench that is loaded, at each request in turn.
-use crate::saved::{EVERY_ACT_SAVED, is_saved_as};
+use crate::sessions::saved::{EVERY_ACT_SAVED, is_saved_as};
 use session_core::{SessionFault, load};
 use std::alloc::Global;
 use std::process::Abort;

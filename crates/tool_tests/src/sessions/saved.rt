@@ -1,5 +1,5 @@
 //! Benches that are saved and come back.
-use crate::texts::holds;
+use crate::sessions::texts::holds;
 use bench_core::{Act, Bench, Limits, Names, Step};
 use dots_core::NameSet;
 use script_core::{Played, parse_script, report_history, run_script};

@@ -1,6 +1,6 @@
 //! Scripts, the reports that are printed of them, and the reports of what was recorded.
-use crate::cases::{CASES, JOINED_AND_UNDONE, REFUSED, TAKEN_BACK_STEP_BY_STEP};
-use crate::rows::holds;
+use crate::scripts::cases::{CASES, JOINED_AND_UNDONE, REFUSED, TAKEN_BACK_STEP_BY_STEP};
+use crate::scripts::rows::holds;
 use bench_core::{Act, Limits, Step};
 use script_core::{
     FakeReader, FakeWriter, FaultKind, PlayFault, Played, Script, ScriptFault, actors, acts,

@@ -1,5 +1,0 @@
-//! Tests of `prompt_core`, from bytes to bytes.
-#![tactic(auto)]
-
-#[cfg(test)]
-mod tests;
