@@ -1,6 +1,8 @@
 //! Small sets of lines whose orders were gone through by hand.
 use crate::explorations::lines::Line::{self, Back, Broadcast, Deliver, Join, Undo, Up};
-use crate::explorations::lines::{Lists, explored, fault_of, limits_of, lines_alone, lists_of, names_of};
+use crate::explorations::lines::{
+    Lists, explored, fault_of, limits_of, lines_alone, lists_of, names_of,
+};
 use bench_core::{Bench, Fault, Names};
 use explore_core::{ExploreFault, Explored, Outcome, Reading, Refusal};
 use std::alloc::Allocator;

@@ -1,7 +1,7 @@
 //! The first fault of each script that is refused.
 use crate::scripts::cases::TAKEN_BACK_STEP_BY_STEP;
-use crate::scripts::rows::{holds, holds_at};
 use crate::scripts::played::played_from;
+use crate::scripts::rows::{holds, holds_at};
 use bench_core::Limits;
 use script_core::{FaultKind, PlayFault, ScriptFault, parse_script};
 use std::alloc::Global;

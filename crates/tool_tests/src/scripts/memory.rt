@@ -1,7 +1,7 @@
 //! Want of memory at each request in turn.
 use crate::scripts::cases::TAKEN_BACK_STEP_BY_STEP;
-use crate::scripts::rows::holds_at;
 use crate::scripts::played::played_on;
+use crate::scripts::rows::holds_at;
 use bench_core::{Bench, Limits};
 use script_core::{FakeReader, FakeWriter, PlayFault, play, report_history};
 use std::alloc::Global;

@@ -1,5 +1,7 @@
 //! Sessions of the first version: they load as those of the second do, and are carried over to it.
-use crate::sessions::saved::{ANSWERED_SAVED, EVERY_ACT_SAVED, JOINED_AND_UNDONE, UNWOUND_SAVED, comes_to};
+use crate::sessions::saved::{
+    ANSWERED_SAVED, EVERY_ACT_SAVED, JOINED_AND_UNDONE, UNWOUND_SAVED, comes_to,
+};
 use crate::sessions::texts::{altered, fault_of, holds};
 use session_core::{SessionFault, carry, load};
 use std::alloc::Global;
