@@ -1,9 +1,9 @@
-//! Tests of `dots_core`, `payload_core`, `replica_core`, `node_core` and `journal_core`, in a crate of their own, so that those
-//! crates are proved once. It has no code but these tests.
+//! Tests of `test_alloc`, `dots_core`, `payload_core`, `replica_core`, `node_core` and `journal_core`, in a crate of their own, so
+//! that those crates are proved once. It has no code but these tests.
 //!
 //! Each says what no clause can: that calls succeed with memory, what a refusal of memory leaves, which calls take none, and
-//! whose memory is taken; and worked rows, for whether the clauses say what was meant. `dots` and `words` come first, whose
-//! helpers the others use.
+//! whose memory is taken; and worked rows, for whether the clauses say what was meant. `refusing` tests the allocator of the
+//! others; `dots` and `words` come next, whose helpers the others use.
 #![tactic(auto)]
 
 /// An assertion as a call: it is told by its own words. An `assert!` in its place is an exit more where much is live.
@@ -22,6 +22,8 @@ mod inverses;
 mod journal;
 #[cfg(test)]
 mod node;
+#[cfg(test)]
+mod refusing;
 #[cfg(test)]
 mod replica;
 #[cfg(test)]

@@ -1,16 +1,13 @@
 //! An allocator for the tests of this workspace: it hands each request on to an inner one, counts it, and refuses the
 //! n-th request, or all from the n-th on, as a test asks.
 //!
-//! It uses std alone. Only tests use it.
+//! It uses std alone. Only tests use it; those of its own stand in `layer_tests`.
 #![tactic(auto)]
 
 ghost use Rattle.std.specs.Prelude.{◌≡◌};
 
 use std::alloc::{AllocError, Allocator};
 use std::sync::atomic::{AtomicU64, Ordering};
-
-#[cfg(test)]
-mod tests;
 
 /// The number of requests made since the count last began at 0, and the numbers of the first and the last that are
 /// refused. Requests are numbered from 1, so a last of 0 refuses none. They are atomic, since threads share them.

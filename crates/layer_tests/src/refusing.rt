@@ -1,6 +1,7 @@
-//! What no clause says: which requests are refused, and what is counted.
-use super::*;
+//! What no clause says of the allocator that these tests use: which requests are refused, and what is counted.
+use std::alloc::AllocError;
 use std::test::Fail;
+use test_alloc::Refusing;
 
 #[test]
 fn refuses_the_one_request_that_is_named(rt: HostRuntime) -> Result<(), Fail> {
