@@ -28,3 +28,14 @@ invariant_of-self-2 g c =
       subst (λ rs. ArePromised cs s (map plain_room rs)) (sym c.in_ok-push.ensures.items)
           (promised_push cs s c.self.inside.room.items c.of-room.result before c.in_ok-make_all_room.ensures.promised),
     )
+
+pub invariant_of-self-in_err-push : goal.invariant_of-self-in_err-push
+invariant_of-self-in_err-push g c =
+    let cs = c.make_all_room.new.causes.items in
+    let s = c.make_all_room.new.slots.room in (
+      same_journal c.self.inside.slots.steps c.make_all_room.new.slots.steps c.self.inside.causes.items cs
+          c.make_all_room.ensures.steps c.make_all_room.ensures.same c.self.invariant.0,
+      subst (λ rs. ArePromised cs s (map plain_room rs)) (sym c.in_err-push.ensures.items)
+          (promised_keeps c.self.inside.causes.items cs c.self.inside.slots.room s (map plain_room c.self.inside.room.items)
+          c.make_all_room.ensures.keeps c.make_all_room.ensures.more c.self.invariant.1),
+    )

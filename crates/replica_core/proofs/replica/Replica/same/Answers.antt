@@ -1,5 +1,5 @@
-use Rattle.std.proofs.Common.{◌≡◌, ◌==◌, ◌&&◌, true, sym, ap, ◌∙◌, true≢false}
-use Rattle.std.proofs.lemmas.Bool.{and_parts, eqb-true}
+use Rattle.std.proofs.Common.{◌≡◌, ◌==◌, ◌&&◌, true, refl, sym, ap, subst, ◌∙◌, true≢false}
+use Rattle.std.proofs.lemmas.Bool.{and_parts, eq-eqb, eqb-true}
 use Rattle.replica_core.specs.declared.node_limits.NodeLimits.{NodeLimits}
 use Rattle.replica_core.specs.Replicas.{Replica}
 use Rattle.replica_core.proofs.replica.Replica.same.Goals as goal
@@ -43,4 +43,29 @@ returns-then-same-2 g c = (
     | else-same w ↦ absurd (true≢false (sym c.if-same-2.true ∙ w.value-is ∙ w.if-same.false))
   ],
   λ e. c.same-then-same-2.ensures.1 (ap (λ (r : Replica). r.delta) (c.self.view_is ∙ e ∙ sym c.other.view_is)),
+)
+
+limits_same : (a b : NodeLimits) → a ≡ b → (a.entries == b.entries && (a.clock == b.clock && a.messages == b.messages)) ≡ true
+limits_same a b e =
+    subst (λ (b : NodeLimits). (a.entries == b.entries && (a.clock == b.clock && a.messages == b.messages)) ≡ true) e
+    (ap (λ t. t && (a.clock == a.clock && a.messages == a.messages)) (eq-eqb a.entries a.entries refl)
+    ∙ ap (λ t. t && a.messages == a.messages) (eq-eqb a.clock a.clock refl) ∙ eq-eqb a.messages a.messages refl)
+
+pub returns-else-same-2 : goal.returns-else-same-2
+returns-else-same-2 g c = (
+  λ h. absurd (true≢false (sym h ∙ c.if-same-2.false)),
+  λ e. let all = c.self.view_is ∙ e ∙ sym c.other.view_is in
+    elim c.if-same.branch [
+      | then-same w ↦
+          absurd (true≢false (sym (w.same-then-same.ensures.1 (ap (λ (r : Replica). r.view) all)) ∙ sym w.value-is ∙ c.if-same-2.false))
+      | else-same w ↦ elim c.if-eq.branch [
+        | then-eq v ↦ absurd (true≢false (sym (v.same.ensures.1 (ap (λ (r : Replica). r.store) all)) ∙ sym v.value-is ∙ w.if-same.false))
+        | else-eq v ↦ elim c.if-self-other.branch [
+          | then-self-other u ↦
+              absurd (true≢false (sym (u.eq.ensures ∙ limits_same c.self.inside.limits c.other.inside.limits (ap (λ (r : Replica). r.limits) all))
+              ∙ sym u.value-is ∙ v.if-eq.false))
+          | else-self-other u ↦ absurd (u.if-self-other.false (ap (λ (r : Replica). r.own) all))
+        ]
+      ]
+    ],
 )
