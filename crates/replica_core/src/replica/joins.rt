@@ -38,15 +38,6 @@ impl<A: Allocator> Replica<A> {
             .find(self.own, pid, topic, key)
             .is_some()
     }
-
-    /// Takes the last own dot out, with its entry.
-    pub(super) fn unjoin(&mut self)
-        requires { ChangeLeadsSomewhere OfJoin self.old }
-        ensures { self.new ≡ without_last self.old }
-    {
-        let last = self.last();
-        unjoin(&mut self.store, &mut self.delta, last);
-    }
 }
 
 impl<A: Allocator + Copy> Replica<A> {
@@ -104,5 +95,14 @@ impl<A: Allocator + Copy> Replica<A> {
     {
         join(&mut self.store, &mut self.delta, entry)?;
         Ok(())
+    }
+
+    /// Takes the last own dot out, with its entry.
+    pub(super) fn unjoin(&mut self)
+        requires { ChangeLeadsSomewhere OfJoin self.old }
+        ensures { self.new ≡ without_last self.old }
+    {
+        let last = self.last();
+        unjoin(&mut self.store, &mut self.delta, last);
     }
 }

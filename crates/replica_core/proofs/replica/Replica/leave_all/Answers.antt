@@ -42,8 +42,8 @@ let_all_go-requires g c =
       (
         subst (λ ds. AreOwnSeen ds c.args.self.now) (sym dots) c.in_ok-leaving.ensures.own,
         ap (λ (ds : List Dot). is_clock_full c.args.self.now (length ds)) dots
-        ∙ ap (is_clock_full c.args.self.now) (sym c.in_ok-leaving.leaving.ok.0 ∙ sym c.len.ensures)
-        ∙ sym c.is_clock_full.ensures ∙ c.if-is_clock_full.false,
+            ∙ ap (is_clock_full c.args.self.now) (sym c.in_ok-leaving.leaving.ok.0 ∙ sym c.len.ensures)
+            ∙ sym c.is_clock_full.ensures ∙ c.if-is_clock_full.false,
       ),
     )
 

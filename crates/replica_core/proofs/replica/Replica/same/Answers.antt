@@ -55,17 +55,17 @@ pub returns-else-same-2 : goal.returns-else-same-2
 returns-else-same-2 g c = (
   λ h. absurd (true≢false (sym h ∙ c.if-same-2.false)),
   λ e. let all = c.self.view_is ∙ e ∙ sym c.other.view_is in
-    elim c.if-same.branch [
-      | then-same w ↦
-          absurd (true≢false (sym (w.same-then-same.ensures.1 (ap (λ (r : Replica). r.view) all)) ∙ sym w.value-is ∙ c.if-same-2.false))
-      | else-same w ↦ elim c.if-eq.branch [
-        | then-eq v ↦ absurd (true≢false (sym (v.same.ensures.1 (ap (λ (r : Replica). r.store) all)) ∙ sym v.value-is ∙ w.if-same.false))
-        | else-eq v ↦ elim c.if-self-other.branch [
-          | then-self-other u ↦
-              absurd (true≢false (sym (u.eq.ensures ∙ limits_same c.self.inside.limits c.other.inside.limits (ap (λ (r : Replica). r.limits) all))
-              ∙ sym u.value-is ∙ v.if-eq.false))
-          | else-self-other u ↦ absurd (u.if-self-other.false (ap (λ (r : Replica). r.own) all))
+      elim c.if-same.branch [
+        | then-same w ↦
+            absurd (true≢false (sym (w.same-then-same.ensures.1 (ap (λ (r : Replica). r.view) all)) ∙ sym w.value-is ∙ c.if-same-2.false))
+        | else-same w ↦ elim c.if-eq.branch [
+          | then-eq v ↦ absurd (true≢false (sym (v.same.ensures.1 (ap (λ (r : Replica). r.store) all)) ∙ sym v.value-is ∙ w.if-same.false))
+          | else-eq v ↦ elim c.if-self-other.branch [
+            | then-self-other u ↦
+                absurd (true≢false (sym (u.eq.ensures ∙ limits_same c.self.inside.limits c.other.inside.limits (ap (λ (r : Replica). r.limits) all))
+                ∙ sym u.value-is ∙ v.if-eq.false))
+            | else-self-other u ↦ absurd (u.if-self-other.false (ap (λ (r : Replica). r.own) all))
+          ]
         ]
-      ]
-    ],
+      ],
 )
