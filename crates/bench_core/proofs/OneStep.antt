@@ -1,19 +1,20 @@
--- The step of one node in a cluster, taken in its place, or while another node stands there.
-use Rattle.std.proofs.Common.{◌≡◌, ◌≢◌, ℕ, zero, suc, ◌<◌, ◌≤◌, ◌==◌, nat_lt, Bool, true, false, if◌then◌else◌, List, [], ◌∷◌, length, set, slice_get}
-use Rattle.std.proofs.Common.{get_or, Option, Some, None, Result, Ok, Err, OnOk, OnErr, IfOk, IfErr, refl, sym, ap, ◌∙◌, subst, arith}
+-- The step of one node in a cluster, which takes it beside the others.
+use Rattle.std.proofs.Common.{◌≡◌, ◌≢◌, ℕ, zero, suc, ◌<◌, ◌≤◌, ◌==◌, nat_lt, Bool, true, false, if◌then◌else◌, List, [], ◌∷◌, ◌++◌, length, set, slice_get}
+use Rattle.std.proofs.Common.{get_or, Option, Some, None, Result, Ok, Err, OnOk, OnErr, IfOk, IfErr, refl, sym, ap, ◌∙◌, arith}
+use Rattle.std.proofs.Math.Seq.{set-append_seam}
 use Rattle.std.proofs.lemmas.Bool.{eqb-false, ltb-true, and_parts}
 use Rattle.std.specs.List.{list_all}
 use Rattle.payload_core.specs.Messages.{Message, numbered}
 use Rattle.node_core.specs.declared.inverse.Inverse as declared
 use Rattle.node_core.specs.declared.step_fault.StepFault.{StepFault}
 use Rattle.node_core.specs.declared.step_fault.StepFault.TheVariants.{OwnMessage, OutOfMemory}
-use Rattle.node_core.specs.Operations.{Operation, Join, Leave, LeaveAll, Update, Broadcast, Extract, Deliver, Request, Answer, Up, Down, Permdown, named_in, delivers, AreNames}
+use Rattle.node_core.specs.Operations.{Operation, Join, Leave, LeaveAll, Update, Broadcast, Extract, Deliver, Request, Answer, Up, Down, Permdown, named_in, AreNames}
 use Rattle.node_core.specs.Nodes.{Node, deliver, answer, take}
 use Rattle.node_core.specs.Invariant.{IsNode}
 use Rattle.node_core.specs.Inverses.{plain_inverse, LeadsBack}
-use Rattle.bench_core.specs.Clusters.{Cluster, outbox_of, message_at, message_for}
+use Rattle.bench_core.specs.Clusters.{Cluster, outbox_of, message_for}
 use Rattle.bench_core.specs.Benches.{IsNumbered, Steps}
-use Rattle.bench_core.proofs.Clusters.{get-set_other, set-set_same, set-get, step_takes}
+use Rattle.bench_core.proofs.Clusters.{get-seam, get-set_other, step_takes}
 
 pub get_at : {A : Type 0} (xs : List A) (n : ℕ) (x : A) → n < length xs → x ≡ get_or xs n x → slice_get xs n ≡ Some x
 get_at [] n x h is = absurd (omega arith)
@@ -65,14 +66,22 @@ take_alike c n (Deliver sender p) x other own = read_alike (deliver x) c n sende
 take_alike c n Request x other own = refl
 take_alike c n (Answer sender p) x other own = read_alike (answer x) c n sender p x other own
 
-module _ (c : Cluster) (n : ℕ) (s : Operation) (x y z other : Node) (m : Option Message) (own : IsNumbered c) (at : slice_get c n ≡ Some x)
-    (named : list_all (λ k. nat_lt k (length c)) (named_in s) ≡ true) (is : m ≡ message_for (set c n other) s) (same : z ≡ x) where
-  alike : take z s m ≡ take x s (message_for c s)
-  alike = ap (λ z. take z s m) same ∙ ap (take x s) is ∙ take_alike c n s x other (own n x at)
+module _ (before after : Cluster) (s : Operation) (x y : Node) (m : Option Message) (own : IsNumbered (before ++ x ∷ after))
+    (named : list_all (λ k. nat_lt k (length (before ++ x ∷ after))) (named_in s) ≡ true)
+    (is : (silent : Node) → silent.outbox ≡ [] → m ≡ message_for (before ++ silent ∷ after) s) where
+  at : slice_get (before ++ x ∷ after) (length before) ≡ Some x
+  at = get-seam before x after
 
-  pub one_step : {X : Type 0} (r : Result (declared.Inverse X) StepFault) → OnOk r (take z s m ≡ Ok y) →
-      IfOk r (λ i. LeadsBack (plain_inverse i) y z) → IfErr r (λ fault. fault ≢ OutOfMemory → take z s m ≡ Err fault) → OnErr r (y ≡ z) →
-      IsNode y → Steps c n s r (set (set c n other) n y)
+  alike : take x s m ≡ take x s (message_for (before ++ x ∷ after) s)
+  alike =
+      let silent : Node = record { replica = x.replica; outbox = [] } in
+      let beside : set (before ++ x ∷ after) (length before) silent ≡ before ++ silent ∷ after = set-append_seam before x after silent in
+      ap (take x s) (is silent refl ∙ sym (ap (λ (d : Cluster). message_for d s) beside))
+      ∙ take_alike (before ++ x ∷ after) (length before) s x silent (own (length before) x at)
+
+  pub one_step : {X : Type 0} (r : Result (declared.Inverse X) StepFault) → OnOk r (take x s m ≡ Ok y) →
+      IfOk r (λ i. LeadsBack (plain_inverse i) y x) → IfErr r (λ fault. fault ≢ OutOfMemory → take x s m ≡ Err fault) → OnErr r (y ≡ x) →
+      IsNode y → Steps (before ++ x ∷ after) (length before) s r (before ++ y ∷ after)
   one_step (Ok i) taken leads fault stays kept =
       record {
         earlier = x;
@@ -80,21 +89,11 @@ module _ (c : Cluster) (n : ℕ) (s : Operation) (x y z other : Node) (m : Optio
         at = at;
         taken = sym alike
             ∙ taken;
-        leads = subst (λ z. LeadsBack (plain_inverse i) y z) same leads;
-        gives = set-set_same c n other y;
+        leads = leads;
+        gives = sym (set-append_seam before x after y);
         kept = kept;
       }
   one_step (Err e) taken leads fault stays kept = (
-    set-set_same c n other y ∙ ap (set c n) (stays ∙ same) ∙ set-get c n x at,
-    λ some. step_takes c n s x (Err e) at named (sym alike ∙ fault some),
+    ap (λ (z : Node). before ++ z ∷ after) stays,
+    λ some. step_takes (before ++ x ∷ after) (length before) s x (Err e) at named (sym alike ∙ fault some),
   )
-
--- a step that delivers nothing reads nothing of the others
-pub step_in_place : {X : Type 0} (c : Cluster) (n : ℕ) (s : Operation) (x y : Node) → IsNumbered c → slice_get c n ≡ Some x →
-    list_all (λ k. nat_lt k (length c)) (named_in s) ≡ true → delivers s ≡ None → (r : Result (declared.Inverse X) StepFault) →
-    OnOk r (take x s None ≡ Ok y) → IfOk r (λ i. LeadsBack (plain_inverse i) y x) →
-    IfErr r (λ fault. fault ≢ OutOfMemory → take x s None ≡ Err fault) → OnErr r (y ≡ x) → IsNode y → Steps c n s r (set c n y)
-step_in_place c n s x y own at named silent r taken leads fault stays kept =
-    let read : None ≡ message_for (set c n x) s = sym (ap (message_at (set c n x)) silent) in
-    subst (λ (d : Cluster). Steps c n s r d) (set-set_same c n x y)
-    (one_step c n s x y x x None own at named read refl r taken leads fault stays kept)

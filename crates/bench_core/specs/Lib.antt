@@ -3,6 +3,7 @@ pub mod NameList
 pub mod Limits
 pub mod FaultText
 pub mod Acts
+pub mod Among
 pub mod Clusters
 pub mod Runs
 pub mod Chains

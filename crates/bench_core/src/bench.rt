@@ -1,14 +1,16 @@
 //! `Bench`: the machine over its nodes, its journal and its history.
-ghost use Rattle.std.specs.Prelude.{◌≡◌, ◌≢◌, ◌↔◌, ◌<◌, ◌≤◌, ◌+◌, None, Ok, IfErr, IfOk, IfSome, IsSome, OnOk, OnErr, length, take, true, nat_lt, option_map};
+ghost use Rattle.std.specs.Prelude.{◌≡◌, ◌≢◌, ◌↔◌, ◌<◌, ◌≤◌, ◌+◌, ◌++◌, ◌∷◌, [], Ok, IfErr, IfOk, IfSome, IsSome, OnOk, OnErr, length, take, true, nat_lt, option_map};
 ghost use Rattle.std.specs.List.{list_all};
 ghost use Rattle.replica_core.specs.Limits.{AreNodeLimits};
 ghost use Rattle.node_core.specs.Inverses.{plain_inverse};
-ghost use Rattle.node_core.specs.Operations.{delivers, named_in, plain};
+ghost use Rattle.node_core.specs.Nodes.{Node as PlainNode};
+ghost use Rattle.node_core.specs.Operations.{named_in, plain};
 ghost use Rattle.journal_core.specs.Journals.{find_number};
 ghost use Rattle.journal_core.specs.Gathering.{gathered_numbers};
 ghost use Rattle.journal_core.specs.Holdings.{without_held, kepts};
 ghost use Rattle.bench_core.specs.declared.fault.Fault.TheVariants.{HistoryFull};
 ghost use Rattle.bench_core.specs.declared.reply.Reply.TheVariants.{Refused};
+ghost use Rattle.bench_core.specs.Among.{MayStep, StepsOnce};
 ghost use Rattle.bench_core.specs.Acts.{plain_act, calls_of, Do, Back};
 ghost use Rattle.bench_core.specs.Limits.{node_limits};
 ghost use Rattle.bench_core.specs.Clusters.{opening_of, message_for};
@@ -20,6 +22,7 @@ ghost use Rattle.bench_core.specs.WaysBack.{IsWayBack};
 ghost use Rattle.bench_core.specs.Benches.{AreNodes, GoesBack, IsBackable, IsGone, IsMachine, IsNodeOf, IsNumbered, IsStepOf, Steps};
 
 use crate::act::Act;
+use crate::among::{Member, other, step_at};
 use crate::fault::Fault;
 use crate::history::History;
 use crate::limits::Limits;
@@ -32,74 +35,44 @@ use node_core::{Inverse, Meter, Node, NodeLimits, Oom, Step, StepFault};
 use payload_core::Payload;
 use std::alloc::Allocator;
 use std::marker::Model;
-use std::mem;
 
-/// The message that a step delivers.
+/// The message that a step delivers, from among the nodes before one and those after it.
 fn message<'x, 'a, B: Allocator>(
-    nodes: &'x [Node<'a, B>],
+    before: &'x [Node<'a, B>],
+    after: &'x [Node<'a, B>],
     step: &Step<&'a B>,
 ) -> Option<&'x Payload<&'a B>>
-    ensures { option_map (λ m. m.now) result ≡ message_for nodes.now (plain step.now) }
+    ensures { (silent : PlainNode) → silent.outbox ≡ [] → option_map (λ m. m.now) result ≡ message_for (before.now ++ silent ∷ after.now) (plain step.now) }
 {
     let (sender, number) = step.delivers()?;
-    nodes.get(sender as usize)?.outbox().get(number)
+    other(before, after, sender as usize)?.outbox().get(number)
 }
 
-/// A step of one node that delivers nothing.
-fn step_in_place<'a, B: Allocator>(
-    nodes: &mut Vec<Node<'a, B>, &'a B>,
-    actor: u16,
-    step: &Step<&'a B>,
-    meter: &mut Meter,
-) -> Result<Inverse<&'a B>, StepFault>
-    requires silent { delivers (plain step.now) ≡ None }
-    requires there { actor < length nodes.old.items }
-    requires few { length nodes.old.items ≤ 32 }
-    requires named { list_all (λ k. nat_lt k (length nodes.old.items)) (named_in (plain step.now)) ≡ true }
-    requires numbered { IsNumbered nodes.old.items }
-    requires meter { meter.old.count < 18446744073709551615 }
-    ensures steps { Steps nodes.old.items actor (plain step.now) result nodes.new.items }
-    ensures ticks { OnOk result (meter.new.count ≡ meter.old.count + 1) }
-    ensures no_tick { OnErr result (meter.new.count ≡ meter.old.count) }
-{
-    let node = &mut nodes[actor as usize];
-    let result = node.take(step, None, meter);
-    node.node_law();
-    result
+/// A node takes a step with the others at hand, from among which the message is lent that it delivers: no step reads a
+/// message of its own node.
+impl<'a, B: Allocator> Member for Node<'a, B> {
+    type Step = Step<&'a B>;
+
+    type Answer = Result<Inverse<&'a B>, StepFault>;
+
+    ghost may_take = { λ before node after step count. MayStep (before ++ node ∷ after) (plain step) count };
+
+    ghost takes = { λ before node after step count answer left counted. StepsOnce (before ++ node ∷ after) (length before) (plain step) count answer (before ++ left ∷ after) counted };
+
+    fn take_beside(
+        &mut self,
+        before: &[Self],
+        after: &[Self],
+        step: &Step<&'a B>,
+        meter: &mut Meter,
+    ) -> Result<Inverse<&'a B>, StepFault> {
+        let result = self.take(step, message(before, after, step), meter);
+        self.node_law();
+        result
+    }
 }
 
-/// A step of one node, which is given the message of the other that it delivers. While the node takes it, an empty one
-/// stands in its place, so that the message can be lent from among the others: no step reads a message of its own node.
-fn step_with_message<'a, B: Allocator>(
-    nodes: &mut Vec<Node<'a, B>, &'a B>,
-    actor: u16,
-    step: &Step<&'a B>,
-    meter: &mut Meter,
-) -> Result<Inverse<&'a B>, StepFault>
-    requires there { actor < length nodes.old.items }
-    requires few { length nodes.old.items ≤ 32 }
-    requires named { list_all (λ k. nat_lt k (length nodes.old.items)) (named_in (plain step.now)) ≡ true }
-    requires numbered { IsNumbered nodes.old.items }
-    requires meter { meter.old.count < 18446744073709551615 }
-    ensures steps { Steps nodes.old.items actor (plain step.now) result nodes.new.items }
-    ensures ticks { OnOk result (meter.new.count ≡ meter.old.count + 1) }
-    ensures no_tick { OnErr result (meter.new.count ≡ meter.old.count) }
-{
-    let limits = NodeLimits {
-        entries: 1,
-        clock: 1,
-        messages: 1,
-    };
-    let other = Node::new(*nodes.allocator(), 0, limits);
-    let place = &mut nodes[actor as usize];
-    let mut receiver = mem::replace(place, other);
-    let result = receiver.take(step, message(nodes.as_slice(), step), meter);
-    receiver.node_law();
-    nodes[actor as usize] = receiver;
-    result
-}
-
-/// A step of one node.
+/// A step of one node, which stays where it stands.
 fn step_node<'a, B: Allocator>(
     nodes: &mut Vec<Node<'a, B>, &'a B>,
     actor: u16,
@@ -115,10 +88,7 @@ fn step_node<'a, B: Allocator>(
     ensures ticks { OnOk result (meter.new.count ≡ meter.old.count + 1) }
     ensures no_tick { OnErr result (meter.new.count ≡ meter.old.count) }
 {
-    if step.delivers().is_none() {
-        return step_in_place(nodes, actor, step, meter);
-    }
-    step_with_message(nodes, actor, step, meter)
+    step_at(nodes.as_mut_slice(), actor as usize, step, meter)
 }
 
 /// Takes step `number`, of this node, back by its inverse.

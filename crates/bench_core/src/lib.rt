@@ -5,11 +5,12 @@
 //! inverses); words come from `payload_core`, memory's refusal from `dots_core`.
 //!
 //! In the order to read them: `names`, over `names_fault` and `texts`, and `limits`, for whom and how much; `act`, `fault`,
-//! `reply` and `unwound`, what is asked and answered; `history`; `bench`, the machine;
+//! `reply` and `unwound`, what is asked and answered; `history`; `bench`, the machine, over `among`;
 //! `swaps`, over `movable` and `swap_fault`; `laws`.
 #![tactic(auto)]
 
 mod act;
+mod among;
 mod bench;
 mod fault;
 mod history;

@@ -1,0 +1,56 @@
+//! One of several values, with the others at hand. It stands over a type parameter: of a slice whose elements name a
+//! lifetime the check doesn't know what it becomes once it was split.
+ghost use Rattle.std.specs.Prelude.{◌≡◌, ◌≢◌, ◌<◌, ◌++◌, ◌∷◌, ℕ, List, None, length, option_copied, slice_get};
+ghost use Rattle.bench_core.specs.Among.{Edits, Parted};
+
+use node_core::Meter;
+use std::cmp::Ordering;
+
+/// One of several that take steps, each with those before it and those after it at hand.
+pub(crate) trait Member {
+    type Step;
+
+    type Answer;
+
+    ghost may_take: { List Self → Self → List Self → Self.Step → ℕ → Type 0 };
+
+    ghost takes: { List Self → Self → List Self → Self.Step → ℕ → Self.Answer → Self → ℕ → Type 0 };
+
+    fn take_beside(
+        &mut self,
+        before: &[Self],
+        after: &[Self],
+        step: &Self::Step,
+        meter: &mut Meter,
+    ) -> Self::Answer
+        requires { may_take before.now self.old after.now step.now meter.old.count }
+        ensures { takes before.now self.old after.now step.now meter.old.count result self.new meter.new.count };
+}
+
+/// The member at this place takes a step, where it stands.
+pub(crate) fn step_at<M: Member>(
+    members: &mut [M],
+    place: usize,
+    step: &M::Step,
+    meter: &mut Meter,
+) -> M::Answer
+    requires there { place < length members.old }
+    requires asked { (p : Parted members.old place) → M.may_take p.before p.value p.after step.now meter.old.count }
+    ensures { Edits (λ before member after left. M.takes before member after step.now meter.old.count result left meter.new.count) members.old place members.new }
+{
+    let (before, rest) = members.split_at_mut(place);
+    let (member, after) = rest.split_first_mut().unwrap();
+    member.take_beside(before, after, step, meter)
+}
+
+/// The value at a place, where it is not the one that these stand before and after.
+pub(crate) fn other<'x, T>(before: &'x [T], after: &'x [T], place: usize) -> Option<&'x T>
+    ensures beside { (value : T) → place ≢ length before.now → option_copied result ≡ slice_get (before.now ++ value ∷ after.now) place }
+    ensures itself { place ≡ length before.now → result ≡ None }
+{
+    match place.cmp(&before.len()) {
+        Ordering::Less => before.get(place),
+        Ordering::Equal => None,
+        Ordering::Greater => after.get(place - before.len() - 1),
+    }
+}
