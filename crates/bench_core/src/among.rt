@@ -1,5 +1,5 @@
-//! One of several values, with the others at hand. It stands over a type parameter: of a slice whose elements name a
-//! lifetime the check doesn't know what it becomes once it was split.
+//! One of several values, with the others at hand. It is generic, since of a split slice whose elements name a lifetime
+//! the check doesn't know what it becomes.
 ghost use Rattle.std.specs.Prelude.{◌≡◌, ◌≢◌, ◌<◌, ◌++◌, ◌∷◌, ℕ, List, None, length, option_copied, slice_get};
 ghost use Rattle.bench_core.specs.Among.{Edits, Parted};
 
