@@ -14,7 +14,8 @@ use Rattle.node_core.specs.Invariant.{IsNode}
 use Rattle.node_core.specs.Inverses.{plain_inverse, LeadsBack}
 use Rattle.bench_core.specs.Clusters.{Cluster, outbox_of, message_for}
 use Rattle.bench_core.specs.Benches.{IsNumbered, Steps}
-use Rattle.bench_core.proofs.Clusters.{get-seam, get-set_other, step_takes}
+use Rattle.journal_core.proofs.Numbered.{get-append_at}
+use Rattle.bench_core.proofs.Clusters.{get-set_other, step_takes}
 
 pub get_at : {A : Type 0} (xs : List A) (n : ℕ) (x : A) → n < length xs → x ≡ get_or xs n x → slice_get xs n ≡ Some x
 get_at [] n x h is = absurd (omega arith)
@@ -70,7 +71,7 @@ module _ (before after : Cluster) (s : Operation) (x y : Node) (m : Option Messa
     (named : list_all (λ k. nat_lt k (length (before ++ x ∷ after))) (named_in s) ≡ true)
     (is : (silent : Node) → silent.outbox ≡ [] → m ≡ message_for (before ++ silent ∷ after) s) where
   at : slice_get (before ++ x ∷ after) (length before) ≡ Some x
-  at = get-seam before x after
+  at = get-append_at before after x
 
   alike : take x s m ≡ take x s (message_for (before ++ x ∷ after) s)
   alike =
