@@ -72,6 +72,6 @@ impl<'a, B: Allocator> Held<'a, B> {
     pub(crate) fn put_back(&mut self, inverse: Inverse<&'a B>)
         ensures { self.new ≡ record { kept = self.old.kept; inverse = Some (plain_inverse inverse.entry) } }
     {
-        self.inverse = Some(inverse);
+        drop(self.inverse.replace(inverse));
     }
 }

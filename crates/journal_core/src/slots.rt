@@ -169,10 +169,10 @@ fn take_from<'a, B: Allocator>(slot: &mut Option<Held<'a, B>>) -> usize
     ensures count { result ≡ count_in slot.old }
     ensures after { slot.new ≡ None }
 {
-    match slot.take() {
-        Some(_held) => 1,
-        None => 0,
-    }
+    let taken = slot.take();
+    let count = usize::from(taken.is_some());
+    drop(taken);
+    count
 }
 
 /// The step in the slot at this place.
