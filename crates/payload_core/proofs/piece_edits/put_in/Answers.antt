@@ -1,4 +1,5 @@
 use Rattle.std.proofs.Common.{◌≡◌, ◌∙◌, ℕ, length, insert, sym, ap, subst, arith}
+use Rattle.std.proofs.lemmas.Grind.{common_steps, elements}
 use Rattle.payload_core.specs.Pieces.{IsOpenBelow, joined, place_in}
 use Rattle.payload_core.proofs.Pieces.{halved-crowd, halved-joined, halved-open, halved-place, some_at}
 use Rattle.payload_core.proofs.piece_edits.put_in.Goals as goal
@@ -31,3 +32,21 @@ returns-clause-enough g c =
     let more = c.put_at-2.ensures.crowd in
     let spares = c.halve_at.ensures.spares in
     omega (arith, crowd, more, spares)
+
+pub returns-then-is_empty-clause-entries : goal.returns-then-is_empty-clause-entries
+returns-then-is_empty-clause-entries g c = grind (arith, common_steps)
+
+pub index-requires : goal.index-requires
+index-requires g c = grind (arith, elements)
+
+pub put_at-requires-clause-open : goal.put_at-requires-clause-open
+put_at-requires-clause-open g c = grind (arith, elements)
+
+pub halve_at-requires-clause-full : goal.halve_at-requires-clause-full
+halve_at-requires-clause-full g c = grind (arith, elements)
+
+pub once_halved-requires : goal.once_halved-requires
+once_halved-requires g c = grind (arith, elements)
+
+pub put_at-requires-2-clause-filled : goal.put_at-requires-2-clause-filled
+put_at-requires-2-clause-filled g c = grind (arith, common_steps)
