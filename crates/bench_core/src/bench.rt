@@ -288,10 +288,12 @@ impl<'a, B: Allocator> Bench<'a, B> {
             return Reply::Refused(Fault::OutOfMemory);
         };
         if self.journal.make_room(actor, &step).is_err() {
+            drop(step);
             return Reply::Refused(Fault::OutOfMemory);
         }
         let unmade = Reply::Refused(Fault::OutOfMemory);
         if self.history.record(actor, act, unmade).is_err() {
+            drop(step);
             return unmade;
         }
         match step_node(&mut self.nodes, actor, &step, &mut self.meter) {
