@@ -17,10 +17,11 @@ pub(crate) fn event_at<'a, B: Allocator>(alloc: &'a B, list: &Value) -> Result<E
     ensures { Gives (λ e. e) result (event_at (view list.now)) }
 {
     let actor = node_in(list, 0)?;
-    let act = act_at(alloc, list.get(1).ok_or(Unread::Shape)?)?;
+    let asked = list.get(1).ok_or(Unread::Shape)?;
     let reply = reply_at(list.get(2).ok_or(Unread::Shape)?)?;
     if !ends_at(list, 3) {
         return Err(Unread::Shape);
     }
+    let act = act_at(alloc, asked)?;
     Ok(Event { actor, act, reply })
 }

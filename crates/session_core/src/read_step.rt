@@ -29,13 +29,13 @@ struct Presence<A: Allocator> {
 fn presence_at<'a, B: Allocator>(alloc: &'a B, list: &Value) -> Result<Presence<&'a B>, Unread>
     ensures { Gives (λ p. record { pid = p.pid; topic = p.topic; key = p.key; metadata = p.metadata }) result (presence_at (view list.now)) }
 {
+    if !ends_at(list, 6) {
+        return Err(Unread::Shape);
+    }
     let pid = number_in(list, 2)?;
     let topic = word_in(alloc, list, 3)?;
     let key = word_in(alloc, list, 4)?;
     let metadata = word_in(alloc, list, 5)?;
-    if !ends_at(list, 6) {
-        return Err(Unread::Shape);
-    }
     Ok(Presence {
         pid,
         topic,
@@ -82,12 +82,12 @@ fn update_at<'a, B: Allocator>(alloc: &'a B, list: &Value) -> Result<Step<&'a B>
 fn leave_at<'a, B: Allocator>(alloc: &'a B, list: &Value) -> Result<Step<&'a B>, Unread>
     ensures { Gives plain result (leave_at (view list.now)) }
 {
-    let pid = number_in(list, 2)?;
-    let topic = word_in(alloc, list, 3)?;
-    let key = word_in(alloc, list, 4)?;
     if !ends_at(list, 5) {
         return Err(Unread::Shape);
     }
+    let pid = number_in(list, 2)?;
+    let topic = word_in(alloc, list, 3)?;
+    let key = word_in(alloc, list, 4)?;
     Ok(Step::Leave { pid, topic, key })
 }
 
