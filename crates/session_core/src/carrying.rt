@@ -15,7 +15,9 @@ pub fn carry(heap: Global, bytes: &[u8]) -> Result<Vec<u8>, SessionFault>
     ensures refused { IfErr result (Refuses bytes.now) }
 {
     let bench = load(heap, &heap, bytes)?;
-    match save(heap, &bench) {
+    let saved = save(heap, &bench);
+    drop(bench);
+    match saved {
         Ok(text) => Ok(text),
         Err(_) => Err(SessionFault::OutOfMemory),
     }

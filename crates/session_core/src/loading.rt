@@ -8,7 +8,7 @@ ghost use Rattle.session_core.specs.Versions.{number_of};
 ghost use Rattle.session_core.specs.Sessions.{Asked, Steps, Reads, Faults, Refuses, ComesBack, IsSaved, IsSession};
 
 use crate::acts::Acts;
-use crate::recording::read_session;
+use crate::recording::{Recording, read_session};
 use crate::same_reply::same_reply;
 use crate::session_fault::SessionFault;
 use crate::version::Version;
@@ -89,10 +89,21 @@ pub fn load<'a, B: Allocator>(
     ensures refused { IfErr result (Refuses bytes.now) }
     ensures comes_back { (m : Machine) → IsSaved bytes.now m → ComesBack m result }
 {
-    let recording = read_session(heap, alloc, bytes)?;
-    let Ok(mut bench) = Bench::new(alloc, recording.names, recording.limits) else {
+    let Recording {
+        version,
+        limits,
+        names,
+        acts,
+    } = read_session(heap, alloc, bytes)?;
+    let Ok(mut bench) = Bench::new(alloc, names, limits) else {
+        drop(acts);
         return Err(SessionFault::OutOfMemory);
     };
-    take_events(&mut bench, &recording.acts, recording.version)?;
+    let taken = take_events(&mut bench, &acts, version);
+    drop(acts);
+    if let Err(fault) = taken {
+        drop(bench);
+        return Err(fault);
+    }
     Ok(bench)
 }

@@ -2,7 +2,7 @@
 ghost use Rattle.std.specs.Prelude.{◌≡◌, map};
 ghost use Rattle.serde_json.specs.View.{view, items_view, members_view};
 ghost use Rattle.session_core.specs.Decoded.{Gives};
-ghost use Rattle.session_core.specs.Decoding.{limits_at, texts_of, names_at, values_at, parts_at, version_of};
+ghost use Rattle.session_core.specs.Decoding.{limits_at, texts_of, names_at, are_keys, values_at, parts_at, version_of};
 
 use crate::places::{ends_at, number_in};
 use crate::unread::Unread;
@@ -56,6 +56,12 @@ fn names_at<'a, B: Allocator>(
     }
 }
 
+fn are_keys(first: &str, second: &str, third: &str, fourth: &str) -> bool
+    ensures { result ≡ are_keys first.now second.now third.now fourth.now }
+{
+    first == "acts" && second == "limits" && third == "nodes" && fourth == "version"
+}
+
 /// The values at `acts`, `limits` and `nodes`, where these and `version` are the keys. A map gives its keys in their order.
 #[tactic(auto, unfolding(crate::specs::Decoding::values_at))]
 fn values_at(members: &Map<String, Value>) -> Result<(&Value, &Value, &Value), Unread>
@@ -69,15 +75,15 @@ fn values_at(members: &Map<String, Value>) -> Result<(&Value, &Value, &Value), U
     if members.next().is_some() {
         return Err(Unread::Shape);
     }
-    if first.as_str() == "acts"
-        && second.as_str() == "limits"
-        && third.as_str() == "nodes"
-        && fourth.as_str() == "version"
-    {
-        Ok((acts, limits, nodes))
-    } else {
-        Err(Unread::Shape)
+    if !are_keys(
+        first.as_str(),
+        second.as_str(),
+        third.as_str(),
+        fourth.as_str(),
+    ) {
+        return Err(Unread::Shape);
     }
+    Ok((acts, limits, nodes))
 }
 
 /// What a session opens its bench with.
@@ -98,10 +104,10 @@ pub(crate) fn parts_at<'a, B: Allocator>(
     let members = value.as_object().ok_or(Unread::Shape)?;
     let (acts, limits, nodes) = values_at(members)?;
     let nodes = nodes.as_array().ok_or(Unread::Shape)?;
-    let names = names_at(heap, alloc, nodes)?;
     let limits = limits_at(limits)?;
     if !acts.is_array() {
         return Err(Unread::Shape);
     }
+    let names = names_at(heap, alloc, nodes)?;
     Ok(Parts { limits, names })
 }

@@ -46,6 +46,39 @@ fn extract_value(heap: Global, names: NameSet) -> Result<Value, AllocError>
     json!(in heap; ["do", "extract", numbers])
 }
 
+/// A step that tracks a process.
+fn presence_value(
+    heap: Global,
+    verb: &str,
+    pid: u64,
+    topic: &str,
+    key: &str,
+    metadata: &str,
+) -> Result<Value, AllocError>
+    ensures { IfOk result (λ v. view v ≡ list (string (codes "do") ∷ string verb.now ∷ whole pid ∷ string topic.now ∷ string key.now ∷ string metadata.now ∷ [])) }
+{
+    json!(in heap; ["do", verb, pid, topic, key, metadata])
+}
+
+fn leave_value(heap: Global, pid: u64, topic: &str, key: &str) -> Result<Value, AllocError>
+    ensures { IfOk result (λ v. view v ≡ list (string (codes "do") ∷ string (codes "leave") ∷ whole pid ∷ string topic.now ∷ string key.now ∷ [])) }
+{
+    json!(in heap; ["do", "leave", pid, topic, key])
+}
+
+fn leave_all_value(heap: Global, pid: u64) -> Result<Value, AllocError>
+    ensures { IfOk result (λ v. view v ≡ list (string (codes "do") ∷ string (codes "leaveall") ∷ whole pid ∷ [])) }
+{
+    json!(in heap; ["do", "leaveall", pid])
+}
+
+/// A step that names nothing.
+fn bare_value(heap: Global, verb: &str) -> Result<Value, AllocError>
+    ensures { IfOk result (λ v. view v ≡ list (string (codes "do") ∷ string verb.now ∷ [])) }
+{
+    json!(in heap; ["do", verb])
+}
+
 /// A step that names a message.
 fn message_value(heap: Global, verb: &str, sender: u16, number: u64) -> Result<Value, AllocError>
     ensures { IfOk result (λ v. view v ≡ list (string (codes "do") ∷ string verb.now ∷ whole sender ∷ whole number ∷ [])) }
@@ -71,24 +104,24 @@ fn step_value<A: Allocator>(heap: Global, step: &Step<A>) -> Result<Value, Alloc
             key,
             metadata,
         } => {
-            json!(in heap; ["do", "join", *pid, topic.as_str(), key.as_str(), metadata.as_str()])
+            let (topic, key) = (topic.as_str(), key.as_str());
+            presence_value(heap, "join", *pid, topic, key, metadata.as_str())
         }
-        Step::Leave { pid, topic, key } => {
-            json!(in heap; ["do", "leave", *pid, topic.as_str(), key.as_str()])
-        }
-        Step::LeaveAll { pid } => json!(in heap; ["do", "leaveall", *pid]),
+        Step::Leave { pid, topic, key } => leave_value(heap, *pid, topic.as_str(), key.as_str()),
+        Step::LeaveAll { pid } => leave_all_value(heap, *pid),
         Step::Update {
             pid,
             topic,
             key,
             metadata,
         } => {
-            json!(in heap; ["do", "update", *pid, topic.as_str(), key.as_str(), metadata.as_str()])
+            let (topic, key) = (topic.as_str(), key.as_str());
+            presence_value(heap, "update", *pid, topic, key, metadata.as_str())
         }
-        Step::Broadcast => json!(in heap; ["do", "broadcast"]),
+        Step::Broadcast => bare_value(heap, "broadcast"),
         Step::Extract { names } => extract_value(heap, *names),
         Step::Deliver { sender, number } => message_value(heap, "deliver", *sender, *number),
-        Step::Request => json!(in heap; ["do", "request"]),
+        Step::Request => bare_value(heap, "request"),
         Step::Answer { sender, number } => message_value(heap, "answer", *sender, *number),
         Step::Up { name } => status_value(heap, "up", *name),
         Step::Down { name } => status_value(heap, "down", *name),

@@ -7,43 +7,41 @@ use Rattle.session_core.specs.Versions.{number_of}
 use Rattle.session_core.proofs.Recorded.{fault_back, refused_back, refuses, saved_back, session_of}
 use Rattle.session_core.proofs.loading.load.Goals as goal
 
-pub returns-in_err-recording-clause-comes_back : goal.returns-in_err-recording-clause-comes_back
-returns-in_err-recording-clause-comes_back g c =
+pub returns-in_err-version-clause-comes_back : goal.returns-in_err-version-clause-comes_back
+returns-in_err-version-clause-comes_back g c =
     let fault = err_from_is_err_and c.from_residual.result c.from_residual.ensures.1 in
-    rw (fault.1, fault.2) (λ m saved. refused_back c.args.bytes.now m saved c.in_err-recording.field-0.0 c.in_err-recording.ensures.refused)
+    rw (fault.1, fault.2) (λ m saved. refused_back c.args.bytes.now m saved c.in_err-version.field-0.0 c.in_err-version.ensures.refused)
 
-pub returns-in_err-take_events-clause-refused : goal.returns-in_err-take_events-clause-refused
-returns-in_err-take_events-clause-refused g c =
-    let r = c.in_ok-recording.recording in
+pub returns-in-Err-clause-refused : goal.returns-in-Err-clause-refused
+returns-in-Err-clause-refused g c =
+    let r = c.in_ok-version.field-0 in
     let p : Parts = record { limits = r.limits; names = r.names } in
     let v = number_of r.version in
-    let fault = err_from_is_err_and c.from_residual-in_err-take_events.result c.from_residual-in_err-take_events.ensures.1 in
-    rw (fault.1, fault.2) (refuses c.args.bytes.now v p r.acts.events.items r.acts.is_cut c.in_ok-recording.ensures.recording c.in_err-take_events.field-0.0
-    (λ ds are. subst (λ (m : Machine). Faults v 1 m ds c.in_err-take_events.field-0.0) c.in-Ok.ensures (c.in_err-take_events.ensures.err ds are)))
+    refuses c.args.bytes.now v p r.acts.events.items r.acts.is_cut c.in_ok-version.ensures.recording c.in-Err.fault
+    (λ ds are. subst (λ (m : Machine). Faults v 1 m ds c.in-Err.fault) c.in-Ok.ensures (c.in-Err.ensures.err ds are))
 
-pub returns-in_err-take_events-clause-comes_back : goal.returns-in_err-take_events-clause-comes_back
-returns-in_err-take_events-clause-comes_back g c =
-    let r = c.in_ok-recording.recording in
+pub returns-in-Err-clause-comes_back : goal.returns-in-Err-clause-comes_back
+returns-in-Err-clause-comes_back g c =
+    let r = c.in_ok-version.field-0 in
     let p : Parts = record { limits = r.limits; names = r.names } in
     let v = number_of r.version in
-    let fault = err_from_is_err_and c.from_residual-in_err-take_events.result c.from_residual-in_err-take_events.ensures.1 in
-    rw (fault.1, fault.2) (fault_back c.args.bytes.now v p r.acts.events.items r.acts.is_cut c.in_ok-recording.ensures.recording c.in_err-take_events.field-0.0
-    (λ ds are. subst (λ (m : Machine). Faults v 1 m ds c.in_err-take_events.field-0.0) c.in-Ok.ensures (c.in_err-take_events.ensures.err ds are)))
+    fault_back c.args.bytes.now v p r.acts.events.items r.acts.is_cut c.in_ok-version.ensures.recording c.in-Err.fault
+    (λ ds are. subst (λ (m : Machine). Faults v 1 m ds c.in-Err.fault) c.in-Ok.ensures (c.in-Err.ensures.err ds are))
 
 pub returns-clause-session : goal.returns-clause-session
 returns-clause-session g c =
-    let r = c.in_ok-recording.recording in
+    let r = c.in_ok-version.field-0 in
     let p : Parts = record { limits = r.limits; names = r.names } in
     let v = number_of r.version in
-    let new = c.take_events.new.bench in
-    session_of c.args.bytes.now v p r.acts.events.items r.acts.is_cut c.in_ok-recording.ensures.recording new
-    (λ ds are. subst (λ (m : Machine). Reads v m ds new) c.in-Ok.ensures (c.in_ok-take_events.ensures.ok ds are))
+    let new = c.take_events-taken.new.bench in
+    session_of c.args.bytes.now v p r.acts.events.items r.acts.is_cut c.in_ok-version.ensures.recording new
+    (λ ds are. subst (λ (m : Machine). Reads v m ds new) c.in-Ok.ensures (c.in_default-taken.ensures.ok ds are))
 
 pub returns-clause-comes_back : goal.returns-clause-comes_back
 returns-clause-comes_back g c =
-    let r = c.in_ok-recording.recording in
+    let r = c.in_ok-version.field-0 in
     let p : Parts = record { limits = r.limits; names = r.names } in
     let v = number_of r.version in
-    let new = c.take_events.new.bench in
-    saved_back c.args.bytes.now v p r.acts.events.items r.acts.is_cut c.in_ok-recording.ensures.recording new
-    (λ ds are. subst (λ (m : Machine). Reads v m ds new) c.in-Ok.ensures (c.in_ok-take_events.ensures.ok ds are))
+    let new = c.take_events-taken.new.bench in
+    saved_back c.args.bytes.now v p r.acts.events.items r.acts.is_cut c.in_ok-version.ensures.recording new
+    (λ ds are. subst (λ (m : Machine). Reads v m ds new) c.in-Ok.ensures (c.in_default-taken.ensures.ok ds are))
