@@ -77,12 +77,12 @@ struct Known<'a, B: Allocator> {
 /// Vouches for a race, or says why it can't.
 #[tactic(auto, using(crate::proofs::Interleaving::agrees_interleave, crate::proofs::Replies::agrees_replies))]
 fn vouch<'a, B: Allocator>(
-    alloc: &'a B,
     before: &Known<'a, B>,
     bench: &Bench<'a, B>,
     actors: u16,
     lines: &[(u16, Act<&'a B>)],
     receipts: &[Vec<Receipt<&'a B>, &'a B>],
+    alloc: &'a B,
 ) -> Result<(), RaceFault>
     ensures agrees { OnOk result (Agrees before.now.history bench.now.state.history (calls_of lines.now) (map (λ v. v.items) receipts.now)) }
     ensures interleaving { OnOk result (IsInterleaving (drop (length before.now.history) bench.now.state.history) (all_told (map (λ v. v.items) receipts.now))) }
@@ -165,12 +165,16 @@ pub fn race<'a, B: Allocator + Sync, G: Gate + Sync, R: Threads + Wait + Sync>(
     ensures refused { MatchOption (refusal_of bench.entry actors (calls_of lines.entry.items)) (IfErr result (λ e. IsLate e.0)) (λ fault. result ≡ Err (fault, bench.entry)) }
 {
     if let Some(fault) = refusal(&bench, actors, &lines) {
+        drop(lines);
         return Err((fault, bench));
     }
     let Some(before) = known_of(&bench) else {
+        drop(lines);
         return Err((RaceFault::OutOfMemory, bench));
     };
     let Ok(copies) = copied(alloc, &lines) else {
+        drop(before);
+        drop(lines);
         return Err((RaceFault::OutOfMemory, bench));
     };
     let shared = Mutex::new(bench);
@@ -178,9 +182,16 @@ pub fn race<'a, B: Allocator + Sync, G: Gate + Sync, R: Threads + Wait + Sync>(
     let bench = shared.into_inner();
     let receipts = match asked {
         Ok(receipts) => receipts,
-        Err(fault) => return Err((fault.of_race(), bench)),
+        Err(fault) => {
+            drop(before);
+            drop(lines);
+            return Err((fault.of_race(), bench));
+        }
     };
-    match vouch(alloc, &before, &bench, actors, &lines, &receipts) {
+    let vouched = vouch(&before, &bench, actors, &lines, &receipts, alloc);
+    drop(before);
+    drop(lines);
+    match vouched {
         Ok(()) => Ok((bench, receipts)),
         Err(fault) => {
             discard(receipts);
