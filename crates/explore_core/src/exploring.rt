@@ -53,11 +53,11 @@ fn orders_to<'a, B: Allocator>(
 
 /// Tells this one of the waypoints as an outcome, unless one has its nodes.
 fn gather<'a, B: Allocator>(
-    alloc: &'a B,
     outcomes: &mut Vec<Outcome<'a, B>, &'a B>,
     waypoints: &[Waypoint<'a, B>],
     counts: &[Option<u128>],
     waypoint: &Waypoint<'a, B>,
+    alloc: &'a B,
 ) -> Result<(), Oom>
     ensures outcomes { OnOk result (AddsOutcome outcomes.old.items waypoint.now outcomes.new.items) }
     ensures orders { OnOk result (AllByRecursion (HasNumber waypoints.now counts.now) outcomes.old.items →
@@ -74,16 +74,16 @@ fn gather<'a, B: Allocator>(
 
 /// The different clusters of the waypoints, each once.
 fn outcomes_of<'a, B: Allocator>(
-    alloc: &'a B,
     waypoints: &[Waypoint<'a, B>],
     counts: &[Option<u128>],
+    alloc: &'a B,
 ) -> Result<Vec<Outcome<'a, B>, &'a B>, Oom>
     ensures outcomes { IfOk result (λ outcomes. Gathers waypoints.now outcomes.items) }
     ensures orders { IfOk result (λ outcomes. AllByRecursion (HasNumber waypoints.now counts.now) outcomes.items) }
 {
     let mut outcomes = Vec::new(alloc);
     for waypoint in waypoints {
-        gather(alloc, &mut outcomes, waypoints, counts, waypoint)?;
+        gather(&mut outcomes, waypoints, counts, waypoint, alloc)?;
     }
     Ok(outcomes)
 }
@@ -101,7 +101,7 @@ fn count_calls<A: Allocator>(lists: &[Vec<(u16, Act<A>), A>]) -> u128
 
 /// The waypoint before the first call, alone.
 fn begun<'a, B: Allocator>(
-    plan: &Plan<'_, 'a, B>,
+    plan: &Plan<'a, '_, B>,
     names: Names<&'a B>,
     limits: Limits,
 ) -> Result<Found<'a, B>, Oom>
@@ -124,7 +124,7 @@ fn begun<'a, B: Allocator>(
 
 /// What is found once so many calls were asked, and how many states were kept, of which there may be so many.
 fn walked<'a, B: Allocator>(
-    plan: &Plan<'_, 'a, B>,
+    plan: &Plan<'a, '_, B>,
     first: Found<'a, B>,
     calls: u128,
     most: usize,
@@ -189,7 +189,7 @@ pub fn explore<'a, B: Allocator>(
         told,
         ..
     } = found;
-    let outcomes = outcomes_of(alloc, kept.as_slice(), counts.as_slice())?;
+    let outcomes = outcomes_of(kept.as_slice(), counts.as_slice(), alloc)?;
     Ok(Explored {
         outcomes,
         orders: sum_of_all(counts.as_slice()),

@@ -22,7 +22,7 @@ use std::alloc::Allocator;
 
 /// What is walked: the calls of each list, how their orders are read, and whether each call is a step.
 #[derive(Drop)]
-pub(crate) struct Plan<'l, 'a, B: Allocator> {
+pub(crate) struct Plan<'a, 'l, B: Allocator> {
     pub(crate) alloc: &'a B,
     pub(crate) reading: Reading,
     pub(crate) lists: &'l [Vec<(u16, Act<&'a B>), &'a B>],
@@ -97,11 +97,12 @@ fn keep<'a, B: Allocator>(
     );
     if let Some(place) = place {
         add_number(&mut found.counts, place, orders);
+        drop(waypoint);
         return Ok(());
     }
-    found.places.add(digest)?;
     found.kept.push(waypoint)?;
     found.counts.push(orders)?;
+    found.places.add(digest)?;
     Ok(())
 }
 
@@ -133,7 +134,7 @@ fn tell<'a, B: Allocator>(
 
 /// Tells that the call of this place in the list is refused here, if the reply to it is a refusal.
 fn tell_reply<'a, B: Allocator>(
-    plan: &Plan<'_, 'a, B>,
+    plan: &Plan<'a, '_, B>,
     waypoint: &Waypoint<'a, B>,
     list: usize,
     place: usize,
@@ -159,7 +160,7 @@ fn tell_reply<'a, B: Allocator>(
 
 /// Keeps what the call of this place in the list leads to, and tells its reply, if it is a refusal.
 fn note<'a, B: Allocator>(
-    plan: &Plan<'_, 'a, B>,
+    plan: &Plan<'a, '_, B>,
     waypoint: &Waypoint<'a, B>,
     orders: Option<u128>,
     list: usize,
@@ -175,13 +176,13 @@ fn note<'a, B: Allocator>(
         OnOk result (AddsOrders plan.now.steps_alone found.old.kept.items found.old.counts.items found.new.kept.items found.new.counts.items (λ f. n * f later.entry.0)) }
 {
     let (later, reply) = later;
-    tell_reply(plan, waypoint, list, place, reply, &mut found.told)?;
-    keep(found, plan.steps_alone, later, orders)
+    keep(found, plan.steps_alone, later, orders)?;
+    tell_reply(plan, waypoint, list, place, reply, &mut found.told)
 }
 
 /// Asks the next call of the list at this waypoint, where it has one and may have this turn.
 fn advance<'a, B: Allocator>(
-    plan: &Plan<'_, 'a, B>,
+    plan: &Plan<'a, '_, B>,
     waypoint: &Waypoint<'a, B>,
     turn: u128,
     orders: Option<u128>,
@@ -206,7 +207,7 @@ fn advance<'a, B: Allocator>(
 
 /// Asks the next call of each list at this waypoint.
 fn advance_all<'a, B: Allocator>(
-    plan: &Plan<'_, 'a, B>,
+    plan: &Plan<'a, '_, B>,
     waypoint: &Waypoint<'a, B>,
     orders: Option<u128>,
     found: &mut Found<'a, B>,
@@ -228,7 +229,7 @@ fn advance_all<'a, B: Allocator>(
 
 /// The waypoints of one call more, where so many past ones are kept, and so many may be in all.
 pub(crate) fn deepened<'a, B: Allocator>(
-    plan: &Plan<'_, 'a, B>,
+    plan: &Plan<'a, '_, B>,
     before: Found<'a, B>,
     past: usize,
     most: usize,

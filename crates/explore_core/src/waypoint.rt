@@ -81,6 +81,7 @@ fn ask<'a, B: Allocator>(
 {
     let reply = bench.act(call.0, &call.1);
     if reply == Reply::Refused(Fault::OutOfMemory) {
+        drop(bench);
         return Err(Oom);
     }
     Ok((bench, reply))
@@ -160,7 +161,7 @@ impl<'a, B: Allocator> Waypoint<'a, B> {
         ensures { IfOk result (λ o. o ≡ outcome_of self.now orders) }
     {
         let order = Vec::from_slice(alloc, &self.order)?;
-        let bench = copied(alloc, &self.bench)?;
+        let bench = copied(&self.bench, alloc)?;
         Ok(Outcome {
             order,
             bench,
@@ -181,7 +182,7 @@ impl<'a, B: Allocator> Waypoint<'a, B> {
     {
         let position = moved(alloc, &self.position, list)?;
         let order = with_list(alloc, &self.order, list)?;
-        let (bench, reply) = ask(copied(alloc, &self.bench)?, call)?;
+        let (bench, reply) = ask(copied(&self.bench, alloc)?, call)?;
         Ok((
             Waypoint {
                 position,
