@@ -179,6 +179,7 @@ pub fn explore<'a, B: Allocator>(
     };
     let calls = count_calls(lists);
     if most == 0 {
+        drop(names);
         return Err(ExploreFault::TooMany { states: 1 });
     }
     let first = begun(&plan, names, limits)?;
@@ -186,13 +187,18 @@ pub fn explore<'a, B: Allocator>(
     let Found {
         kept,
         counts,
+        places,
         told,
-        ..
     } = found;
-    let outcomes = outcomes_of(kept.as_slice(), counts.as_slice(), alloc)?;
+    drop(places);
+    let outcomes = outcomes_of(kept.as_slice(), counts.as_slice(), alloc);
+    let orders = sum_of_all(counts.as_slice());
+    drop(kept);
+    drop(counts);
+    let outcomes = outcomes?;
     Ok(Explored {
         outcomes,
-        orders: sum_of_all(counts.as_slice()),
+        orders,
         refusals: told,
         states,
     })

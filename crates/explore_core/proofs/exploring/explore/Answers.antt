@@ -64,7 +64,7 @@ returns g c =
           c.in_ok-outcomes.outcomes.items numbers;
       orders =
           orders_counted (plain_lists c.args.reading c.args.lists.now) opening c.in_ok-found.found.kept.items c.in_ok-found.found.counts.items counted
-          c.sum_of_all.result (λ ns told. c.sum_of_all.ensures ns (c.as_slice-3.ensures.value ∙ told));
+          c.sum_of_all-orders.result (λ ns told. c.sum_of_all-orders.ensures ns (c.as_slice-3.ensures.value ∙ told));
       every_order = told.every_order;
       outcomes = told.outcomes;
       distinct = told.distinct;
