@@ -70,8 +70,8 @@ impl<'a, B: Allocator> Moved<'a, B> {
 
 /// No row at any node.
 fn none_moved<'a, B: Allocator>(
-    alloc: &'a B,
     bench: &Bench<'a, B>,
+    alloc: &'a B,
 ) -> Result<Vec<Moved<'a, B>, &'a B>, Oom>
     ensures { IfOk result (λ moved. AreMoved bench.now bench.now moved.items) }
 {
@@ -112,11 +112,11 @@ fn node_of_step<'a, B: Allocator>(bench: &Bench<'a, B>, number: u64) -> Option<u
 
 /// Undoes a step, and notes how that changes the online list of its node.
 fn undo_one<'a, B: Allocator>(
-    alloc: &'a B,
     bench: &mut Bench<'a, B>,
     actor: u16,
     number: u64,
     moved: Vec<Moved<'a, B>, &'a B>,
+    alloc: &'a B,
 ) -> Result<Vec<Moved<'a, B>, &'a B>, Oom>
     requires { undo_reply bench.old.state number ≡ Undone number }
     ensures bench { OnOk result (bench.new ≡ after_act bench.old actor (Undo number)) }
@@ -126,25 +126,25 @@ fn undo_one<'a, B: Allocator>(
     unwind_law();
     online_law();
     let node = node_of_step(bench, number);
-    let step = step_diff(alloc, bench, number)?;
+    let step = step_diff(bench, number, alloc)?;
     answer(bench, actor, &Act::Undo(number))?;
     add_at(moved, node, step)
 }
 
 /// Undoes these steps in turn, and notes how that changes the online list of each node.
 pub fn undo_each<'a, B: Allocator>(
-    alloc: &'a B,
     bench: &mut Bench<'a, B>,
     actor: u16,
     numbers: &[u64],
+    alloc: &'a B,
 ) -> Result<Vec<Moved<'a, B>, &'a B>, Oom>
     requires { AreMade bench.old actor numbers.now }
     ensures bench { OnOk result (bench.new ≡ after_undos bench.old actor numbers.now) }
     ensures moved { IfOk result (λ moved. AreMoved bench.old bench.new moved.items) }
 {
-    let mut moved = none_moved(alloc, bench)?;
+    let mut moved = none_moved(bench, alloc)?;
     for number in numbers {
-        moved = undo_one(alloc, bench, actor, *number, moved)?;
+        moved = undo_one(bench, actor, *number, moved, alloc)?;
     }
     Ok(moved)
 }

@@ -67,9 +67,9 @@ pub fn node<'x, 'a, B: Allocator>(bench: &'x Bench<'a, B>, number: u16) -> Optio
 /// The online list of a node.
 #[tactic(auto, unfolding(crate::specs::Shown::rows_at))]
 pub fn rows_at<'a, B: Allocator>(
-    alloc: &'a B,
     bench: &Bench<'a, B>,
     number: u16,
+    alloc: &'a B,
 ) -> Result<Listed<'a, B>, Oom>
     ensures { IfOk result (λ rows. rows ≡ rows_at bench.now number) }
 {
@@ -77,6 +77,21 @@ pub fn rows_at<'a, B: Allocator>(
         Some(node) => Ok(Listed::new(online_list(alloc, node.replica())?)),
         None => Ok(Listed::none(alloc)),
     }
+}
+
+/// Prints the rows of the online list of a node, and their count.
+fn put_rows_at<'a, B: Allocator>(
+    text: &mut String<&'a B>,
+    bench: &Bench<'a, B>,
+    node: u16,
+    alloc: &'a B,
+) -> Result<(), Oom>
+    ensures { OnOk result (string_bytes text.new ≡ string_bytes text.old ++ online_text bench.now.names node (rows_at bench.now node)) }
+{
+    let rows = rows_at(bench, node, alloc)?;
+    let answer = put_online(text, bench.names(), node, rows.rows());
+    drop(rows);
+    answer
 }
 
 /// Prints the online list of a node.
@@ -88,6 +103,5 @@ pub fn show<'a, B: Allocator>(
 ) -> Result<(), Oom>
     ensures { OnOk result (string_bytes text.new ≡ string_bytes text.old ++ online_text bench.now.names node (rows_at bench.now node)) }
 {
-    let rows = rows_at(alloc, bench, node)?;
-    put_online(text, bench.names(), node, rows.rows())
+    put_rows_at(text, bench, node, alloc)
 }

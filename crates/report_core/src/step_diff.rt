@@ -25,9 +25,9 @@ fn none<'a, B: Allocator>(alloc: &'a B) -> Diff<&'a B>
 
 /// What the step of this inverse changed of the online list of its node, as it is now.
 fn inverse_diff<'a, B: Allocator>(
-    alloc: &'a B,
     inverse: &Inverse<&'a B>,
     node: &Node<'a, B>,
+    alloc: &'a B,
 ) -> Result<Diff<&'a B>, Oom>
     requires { LeadsSomewhere (plain_inverse inverse.now) node.now }
     ensures { IfOk result (λ diff. TellsInverse (plain_inverse inverse.now) node.now diff.left.items diff.joined.items) }
@@ -44,9 +44,9 @@ fn inverse_diff<'a, B: Allocator>(
 
 /// What a step changed of the online list of its node; nothing follows from the step.
 pub fn step_diff<'a, B: Allocator>(
-    alloc: &'a B,
     bench: &Bench<'a, B>,
     number: u64,
+    alloc: &'a B,
 ) -> Result<Diff<&'a B>, Oom>
     requires { first_consequence bench.now.state.remaining number ≡ None }
     ensures { IfOk result (λ diff. TellsStep bench.now number diff.left.items diff.joined.items) }
@@ -60,7 +60,7 @@ pub fn step_diff<'a, B: Allocator>(
     let Some(node) = bench.node(kept.node) else {
         return Ok(none(alloc));
     };
-    inverse_diff(alloc, inverse, node)
+    inverse_diff(inverse, node, alloc)
 }
 
 /// The step whose undo an act asks for, where it is the last word on its node and message.
@@ -82,9 +82,9 @@ fn asked_undo<'a, B: Allocator>(bench: &Bench<'a, B>, act: &Act<&'a B>) -> Optio
 
 /// What the step changed of the online list of its node whose undo an act asks for, if it will be made.
 pub fn undo_diff<'a, B: Allocator>(
-    alloc: &'a B,
     bench: &Bench<'a, B>,
     act: &Act<&'a B>,
+    alloc: &'a B,
 ) -> Result<Diff<&'a B>, Oom>
     ensures { IfOk result (λ diff. TellsUndo bench.now (plain_act act.now) diff.left.items diff.joined.items) }
 {
@@ -94,5 +94,5 @@ pub fn undo_diff<'a, B: Allocator>(
     if bench.remaining().first_consequence(number).is_some() {
         return Ok(none(alloc));
     }
-    step_diff(alloc, bench, number)
+    step_diff(bench, number, alloc)
 }

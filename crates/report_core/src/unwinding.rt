@@ -53,11 +53,11 @@ pub fn why<'a, B: Allocator>(
 
 /// `at NODE` and how its list changed, if it did.
 fn put_change_at<'a, B: Allocator>(
-    alloc: &'a B,
     text: &mut String<&'a B>,
     bench: &Bench<'a, B>,
     node: u16,
     moved: &Moved<'a, B>,
+    alloc: &'a B,
 ) -> Result<(), Oom>
     ensures { OnOk result ((before : List Row) → AreInOrder before → ComesTo before (rows_at bench.now node) moved.now.left moved.now.joined →
         string_bytes text.new ≡ string_bytes text.old ++ at_text bench.now.names node before (rows_at bench.now node)) }
@@ -69,10 +69,10 @@ fn put_change_at<'a, B: Allocator>(
 
 /// How the online lists of the nodes changed, where these rows left and joined them.
 fn put_changes<'a, B: Allocator>(
-    alloc: &'a B,
     text: &mut String<&'a B>,
     bench: &Bench<'a, B>,
     moved: &[Moved<'a, B>],
+    alloc: &'a B,
 ) -> Result<(), Oom>
     ensures { OnOk result ((start : Machine) → AreMoved start bench.now moved.now →
         string_bytes text.new ≡ string_bytes text.old ++ changes_text start bench.now) }
@@ -80,7 +80,7 @@ fn put_changes<'a, B: Allocator>(
     online_law();
     for node in 0..bench.names().len() as u16 {
         if let Some(moved) = moved.get(node as usize) {
-            put_change_at(alloc, text, bench, node, moved)?;
+            put_change_at(text, bench, node, moved, alloc)?;
         }
     }
     Ok(())
@@ -88,21 +88,38 @@ fn put_changes<'a, B: Allocator>(
 
 /// The undo of a step and of all that follows from it, which are these.
 fn unwind_all<'a, B: Allocator>(
-    alloc: &'a B,
     text: &mut String<&'a B>,
     bench: &mut Bench<'a, B>,
     actor: u16,
     number: u64,
     numbers: &[u64],
+    alloc: &'a B,
 ) -> Result<(), Oom>
     requires future { IsItsFuture bench.old number numbers.now }
     requires made { CanBeUndone bench.old numbers.now }
     ensures bench { OnOk result (bench.new ≡ after_unwind bench.old actor number) }
     ensures text { OnOk result (string_bytes text.new ≡ string_bytes text.old ++ unwind_text bench.old actor number) }
 {
-    let moved = undo_each(alloc, bench, actor, numbers)?;
+    let moved = undo_each(bench, actor, numbers, alloc)?;
     put_undone(text, numbers)?;
-    put_changes(alloc, text, bench, &moved)
+    put_changes(text, bench, &moved, alloc)
+}
+
+/// The undo of a step with all that follows from it, or why there is none.
+fn put_unwind<'a, B: Allocator>(
+    text: &mut String<&'a B>,
+    bench: &mut Bench<'a, B>,
+    actor: u16,
+    number: u64,
+    alloc: &'a B,
+) -> Result<(), Oom>
+    ensures bench { OnOk result (bench.new ≡ after_unwind bench.old actor number) }
+    ensures text { OnOk result (string_bytes text.new ≡ string_bytes text.old ++ unwind_text bench.old actor number) }
+{
+    match bench.why(number) {
+        Ok(numbers) => unwind_all(text, bench, actor, number, &numbers, alloc),
+        Err(fault) => put_refusal(text, fault),
+    }
 }
 
 /// The undo of a step with all that follows from it.
@@ -116,8 +133,5 @@ pub fn unwind<'a, B: Allocator>(
     ensures bench { OnOk result (bench.new ≡ after_unwind bench.old actor number) }
     ensures text { OnOk result (string_bytes text.new ≡ string_bytes text.old ++ unwind_text bench.old actor number) }
 {
-    match bench.why(number) {
-        Ok(numbers) => unwind_all(alloc, text, bench, actor, number, &numbers),
-        Err(fault) => put_refusal(text, fault),
-    }
+    put_unwind(text, bench, actor, number, alloc)
 }

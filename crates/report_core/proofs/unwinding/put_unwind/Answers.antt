@@ -1,6 +1,6 @@
 use Rattle.std.proofs.Common.{string_bytes}
 use Rattle.report_core.proofs.Unwound.{unwind_refused, unwind_unchanged}
-use Rattle.report_core.proofs.unwinding.unwind.Goals as goal
+use Rattle.report_core.proofs.unwinding.put_unwind.Goals as goal
 
 pub returns-in-Err-clause-bench : goal.returns-in-Err-clause-bench
 returns-in-Err-clause-bench g c =
