@@ -20,12 +20,12 @@ pub struct Layers<'a, B: Allocator> {
 
 /// What is drawn of a recorded call, which is asked again on another bench.
 fn put_event<'a, B: Allocator>(
-    alloc: &'a B,
     layers: &mut Layers<'a, B>,
     remaining: &Journal<'a, B>,
     painted: &[u64],
     asked: &mut Bench<'a, B>,
     event: &Event<&'a B>,
+    alloc: &'a B,
 ) -> Result<(), Oom>
     ensures asked { OnOk result (asked.new ≡ after_act asked.old event.now.actor event.now.act) }
     ensures arrow { OnOk result (string_bytes layers.new.arrows ≡ string_bytes layers.old.arrows ++
@@ -40,18 +40,18 @@ fn put_event<'a, B: Allocator>(
         asked.remaining(),
         event,
     )?;
-    let title = title_of(alloc, asked, event)?;
+    let title = title_of(asked, event, alloc)?;
     put_mark_of(&mut layers.marks, remaining, painted, event, &title)
 }
 
 /// What is drawn of recorded calls, which are asked again on another bench.
 fn put_events<'a, B: Allocator>(
-    alloc: &'a B,
     layers: &mut Layers<'a, B>,
     remaining: &Journal<'a, B>,
     painted: &[u64],
     asked: &mut Bench<'a, B>,
     history: &History<'a, B>,
+    alloc: &'a B,
 ) -> Result<(), Oom>
     ensures arrows { OnOk result (string_bytes layers.new.arrows ≡ string_bytes layers.old.arrows ++
         text_of (arrows_from (kepts remaining.now.steps) painted.now asked.old history.now)) }
@@ -60,7 +60,7 @@ fn put_events<'a, B: Allocator>(
 {
     for place in 0..history.len() {
         let event = history.at(place).unwrap();
-        put_event(alloc, layers, remaining, painted, asked, event)?;
+        put_event(layers, remaining, painted, asked, event, alloc)?;
     }
     Ok(())
 }
@@ -68,9 +68,9 @@ fn put_events<'a, B: Allocator>(
 /// The arrows and the marks of a bench.
 #[tactic(auto, unfolding(crate::specs::Pictures::arrows, crate::specs::Pictures::marks))]
 pub fn layers_of<'a, B: Allocator>(
-    alloc: &'a B,
     bench: &Bench<'a, B>,
     painted: &[u64],
+    alloc: &'a B,
 ) -> Result<Layers<'a, B>, Oom>
     ensures arrows { IfOk result (λ layers. string_bytes layers.arrows ≡ text_of (arrows bench.now painted.now)) }
     ensures marks { IfOk result (λ layers. string_bytes layers.marks ≡ text_of (marks bench.now painted.now)) }
@@ -82,13 +82,15 @@ pub fn layers_of<'a, B: Allocator>(
         marks: String::new(alloc),
     };
     let remaining = bench.remaining();
-    put_events(
-        alloc,
+    let drawn = put_events(
         &mut layers,
         remaining,
         painted,
         &mut asked,
         bench.history(),
-    )?;
+        alloc,
+    );
+    drop(asked);
+    drawn?;
     Ok(layers)
 }

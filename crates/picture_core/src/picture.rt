@@ -114,8 +114,8 @@ fn put_lanes<A: Allocator, N: Allocator>(text: &mut String<A>, names: &Names<N>)
 
 /// The beginning of a picture of the bench, which has its size.
 fn put_opening<'a, A: Allocator, B: Allocator>(
-    text: &mut String<A>,
     bench: &Bench<'a, B>,
+    text: &mut String<A>,
 ) -> Result<(), Oom>
     ensures { OnOk result (string_bytes text.new ≡ string_bytes text.old ++
         opening_text (codes "svg") (size (given bench.now.state.history) (length bench.now.names))) }
@@ -153,14 +153,14 @@ fn put_layer<A: Allocator, B: Allocator>(text: &mut String<A>, layer: &String<B>
 
 /// The picture with these layers.
 fn put_around<'a, A: Allocator, B: Allocator>(
-    text: &mut String<A>,
     bench: &Bench<'a, B>,
+    text: &mut String<A>,
     layers: &Layers<'a, B>,
 ) -> Result<(), Oom>
     ensures { OnOk result (string_bytes text.new ≡ string_bytes text.old ++
         text_around bench.now (string_bytes layers.now.arrows) (string_bytes layers.now.marks)) }
 {
-    put_opening(text, bench)?;
+    put_opening(bench, text)?;
     put_front(text)?;
     put_margin(text)?;
     put_lanes(text, bench.names())?;
@@ -172,23 +172,23 @@ fn put_around<'a, A: Allocator, B: Allocator>(
 
 /// The picture, with these steps painted.
 fn put_picture<'a, A: Allocator, B: Allocator>(
-    alloc: &'a B,
-    text: &mut String<A>,
     bench: &Bench<'a, B>,
+    text: &mut String<A>,
     painted: &[u64],
+    alloc: &'a B,
 ) -> Result<(), Oom>
     ensures { OnOk result (string_bytes text.new ≡ string_bytes text.old ++ text_of (picture bench.now painted.now)) }
 {
-    let layers = layers_of(alloc, bench, painted)?;
-    put_around(text, bench, &layers)
+    let layers = layers_of(bench, painted, alloc)?;
+    put_around(bench, text, &layers)
 }
 
 /// The steps that the undo of a step would take back with it, if it remains.
 #[tactic(auto, using(crate::proofs::Futures::whole_future, crate::proofs::Futures::no_future), unfolding(report_core::specs::ActTexts::unwound))]
 fn future_of<'a, B: Allocator>(
-    alloc: &'a B,
     bench: &Bench<'a, B>,
     number: u64,
+    alloc: &'a B,
 ) -> Result<Vec<u64, &'a B>, Oom>
     ensures { IfOk result (λ numbers. numbers.items ≡ unwound bench.now.state number) }
 {
@@ -203,14 +203,14 @@ fn future_of<'a, B: Allocator>(
 
 /// The steps that are painted.
 fn painted_of<'a, B: Allocator>(
-    alloc: &'a B,
     bench: &Bench<'a, B>,
     why: Option<u64>,
+    alloc: &'a B,
 ) -> Result<Vec<u64, &'a B>, Oom>
     ensures { IfOk result (λ numbers. numbers.items ≡ painted_of bench.now.state why) }
 {
     match why {
-        Some(number) => future_of(alloc, bench, number),
+        Some(number) => future_of(bench, number, alloc),
         None => Ok(Vec::new(alloc)),
     }
 }
@@ -227,8 +227,8 @@ pub fn draw<'a, B: Allocator>(
     ensures document { IfOk result (λ text. IsDocument text.items) }
 {
     document_law();
-    let painted = painted_of(alloc, bench, why)?;
+    let painted = painted_of(bench, why, alloc)?;
     let mut text = String::new(alloc);
-    put_picture(alloc, &mut text, bench, painted.as_slice())?;
+    put_picture(bench, &mut text, painted.as_slice(), alloc)?;
     Ok(text.into_bytes())
 }

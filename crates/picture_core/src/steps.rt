@@ -81,9 +81,9 @@ fn put_line<A: Allocator, N: Allocator, W: Allocator>(
 /// A recorded call as a line of a script, and what it prints, asked again on another bench.
 #[tactic(auto, unfolding(crate::specs::Steps::title_of))]
 pub fn title_of<'a, B: Allocator>(
-    alloc: &'a B,
     bench: &mut Bench<'a, B>,
     event: &Event<&'a B>,
+    alloc: &'a B,
 ) -> Result<String<&'a B>, Oom>
     ensures bench { OnOk result (bench.new ≡ after_act bench.old event.now.actor event.now.act) }
     ensures title { IfOk result (λ title. string_bytes title ≡ title_of bench.old event.now) }
