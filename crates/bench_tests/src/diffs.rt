@@ -40,7 +40,7 @@ const DELIVERED: Turn = (
     (&[], &[ALICE]),
 );
 
-const CASES: [Case; 7] = [
+const CASES: &[Case] = &[
     Case {
         name: "a delivery and what it follows from are undone in turn",
         limits: USUAL,
@@ -311,7 +311,7 @@ fn shown<'a, B: Allocator>(
 #[test]
 fn each_call_changes_the_lists_so(rt: HostRuntime) {
     let heap = rt.alloc();
-    for case in &CASES {
+    for case in CASES {
         let limits = limits_of(&rt, case.limits, case.name);
         drop(shown(&rt, &heap, limits, case.turns, case.name));
     }

@@ -55,13 +55,17 @@ fn can_be_unwound<'a, B: Allocator>(bench: &Bench<'a, B>, number: u64)
     unwind_law();
 }
 
+fn laws_hold<'a, B: Allocator>(bench: &Bench<'a, B>) -> bool {
+    runs_in_order(bench);
+    can_be_left_out(bench, 1);
+    can_be_unwound(bench, 1);
+    leads_back(bench).len() == 0
+}
+
 #[test]
 fn laws_hold_of_a_bench(rt: HostRuntime) {
     let heap = rt.alloc();
     let bench = open(&rt, &heap, Limits::usual());
-    runs_in_order(&bench);
-    can_be_left_out(&bench, 1);
-    can_be_unwound(&bench, 1);
-    holds!(&rt, leads_back(&bench).len() == 0);
+    holds!(&rt, laws_hold(&bench));
     drop(bench);
 }

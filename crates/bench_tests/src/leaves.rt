@@ -107,7 +107,7 @@ const DOWN: [Row; 5] = [
     (1, Call::Deliver(0, 1), Reply::Taken(5)),
 ];
 
-const CASES: [Case; 15] = [
+const CASES: &[Case] = &[
     Case {
         name: "a join is delivered",
         limits: USUAL,
@@ -308,7 +308,7 @@ const CASES: [Case; 15] = [
 #[test]
 fn leaves_and_statuses_get_their_replies(rt: HostRuntime) {
     let heap = rt.alloc();
-    for case in &CASES {
+    for case in CASES {
         plays(&rt, &heap, case);
     }
 }

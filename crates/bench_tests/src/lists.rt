@@ -248,7 +248,7 @@ struct Case {
     rows: &'static [(Call, Rows)],
 }
 
-const CASES: [Case; 3] = [
+const CASES: &[Case] = &[
     Case {
         name: "own calls are shown",
         own: 0,
@@ -339,7 +339,7 @@ fn plays<'a, B: Allocator>(
 fn calls_are_shown(rt: HostRuntime) {
     let heap = rt.alloc();
     let messages = messages(&rt, &heap);
-    for case in &CASES {
+    for case in CASES {
         plays(&rt, &heap, &messages, case);
     }
     drop(messages);

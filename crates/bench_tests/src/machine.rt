@@ -45,15 +45,19 @@ fn an_act_is_the_same_as_its_copy(rt: HostRuntime) {
     drop(act);
 }
 
+/// Whether the bench has the names `a` and `b`, the usual limits, and node 1, but no node 2.
+fn is_usual<'a, B: Allocator>(bench: &Bench<'a, B>) -> bool {
+    bench.names().number_of("b") == Some(1)
+        && bench.limits().acts() == 100_000
+        && bench.node(1).is_some()
+        && bench.node(2).is_none()
+}
+
 #[test]
 fn a_bench_has_its_names_and_limits(rt: HostRuntime) {
     let heap = rt.alloc();
     let bench = open(&rt, &heap, Limits::usual());
-    holds!(
-        &rt,
-        bench.names().number_of("b") == Some(1) && bench.limits().acts() == 100_000
-    );
-    holds!(&rt, bench.node(1).is_some() && bench.node(2).is_none());
+    holds!(&rt, is_usual(&bench));
     drop(bench);
 }
 
@@ -100,7 +104,7 @@ const UNDONE_AGAIN: [Row; 7] = [
     (2, Call::Undo(5), Reply::Undone(5)),
 ];
 
-const CASES: [Case; 8] = [
+const CASES: &[Case] = &[
     Case {
         name: "a step is recorded and kept",
         rows: &[(1, Call::Join(1, Shown::Alice), Reply::Taken(1))],
@@ -217,7 +221,7 @@ fn plays<'a, B: Allocator>(rt: &impl Abort, alloc: &'a B, case: &Case) {
 #[test]
 fn a_bench_has_what_its_calls_left(rt: HostRuntime) {
     let heap = rt.alloc();
-    for case in &CASES {
+    for case in CASES {
         plays(&rt, &heap, case);
     }
 }

@@ -8,12 +8,12 @@ use test_alloc::Refusing;
 
 type Heap = Refusing<Global>;
 
-/// What a bench of two nodes held.
+/// What a bench of two nodes held. A part that could not be copied is none, and no part is as that.
 #[derive(Drop)]
 struct Held<'a> {
-    first: Node<'a, Heap>,
-    second: Node<'a, Heap>,
-    history: History<'a, Heap>,
+    first: Option<Node<'a, Heap>>,
+    second: Option<Node<'a, Heap>>,
+    history: Option<History<'a, Heap>>,
     counts: (usize, usize, u64),
 }
 
@@ -25,16 +25,18 @@ fn counts_of<'a>(bench: &Bench<'a, Heap>) -> (usize, usize, u64) {
     )
 }
 
-fn copy_of<'a>(rt: &impl Abort, bench: &Bench<'a, Heap>, number: u16) -> Node<'a, Heap> {
-    let node = bench.node(number).expect(rt, "a node");
-    node.try_copy().expect(rt, "a copy")
+fn copy_of<'a>(bench: &Bench<'a, Heap>, number: u16) -> Option<Node<'a, Heap>> {
+    match bench.node(number) {
+        Some(node) => node.try_copy().ok(),
+        None => None,
+    }
 }
 
-fn copied<'a>(rt: &impl Abort, bench: &Bench<'a, Heap>) -> Held<'a> {
+fn copied<'a>(bench: &Bench<'a, Heap>) -> Held<'a> {
     Held {
-        first: copy_of(rt, bench, 0),
-        second: copy_of(rt, bench, 1),
-        history: bench.history().try_copy().expect(rt, "a copy"),
+        first: copy_of(bench, 0),
+        second: copy_of(bench, 1),
+        history: bench.history().try_copy().ok(),
         counts: counts_of(bench),
     }
 }
@@ -52,15 +54,25 @@ fn has_calls<'a>(bench: &Bench<'a, Heap>, history: &History<'a, Heap>) -> bool {
     true
 }
 
+fn is_same<'a>(node: Option<&Node<'a, Heap>>, copy: &Option<Node<'a, Heap>>) -> bool {
+    match (node, copy) {
+        (Some(node), Some(copy)) => node.same(copy),
+        _ => false,
+    }
+}
+
+fn has_nodes<'a>(bench: &Bench<'a, Heap>, held: &Held<'a>) -> bool {
+    is_same(bench.node(0), &held.first) && is_same(bench.node(1), &held.second)
+}
+
 /// Whether the bench has the nodes, the recorded calls, and the numbers of remaining steps and of steps ever taken that it had.
 fn is_as_before<'a>(bench: &Bench<'a, Heap>, held: &Held<'a>) -> bool {
-    let (Some(one), Some(other)) = (bench.node(0), bench.node(1)) else {
-        return false;
-    };
-    one.same(&held.first)
-        && other.same(&held.second)
-        && has_calls(bench, &held.history)
-        && counts_of(bench) == held.counts
+    match &held.history {
+        Some(history) => has_nodes(bench, held)
+            && has_calls(bench, history)
+            && counts_of(bench) == held.counts,
+        None => false,
+    }
 }
 
 /// Makes the call with this request for memory refused alone.
@@ -107,7 +119,7 @@ fn refused_in_turn<'a>(
 ) -> u64 {
     let (actor, call, reply) = *row;
     let act = call.act(rt, heap);
-    let held = copied(rt, bench);
+    let held = copied(bench);
     let refused = refused_until(rt, heap, bench, (actor, &act, reply), &held);
     drop(held);
     drop(act);
@@ -233,7 +245,7 @@ struct Full {
     refused: &'static [Row],
 }
 
-const FULL: [Full; 5] = [
+const FULL: &[Full] = &[
     Full {
         name: "one place is too few for a step",
         limits: [3, 10, 10, 10],
@@ -318,21 +330,25 @@ fn is_free<'a>(rt: &impl Abort, heap: &'a Heap, bench: &mut Bench<'a, Heap>, row
 }
 
 /// Makes the calls that are refused, each of which is recorded nowhere.
+fn are_free<'a>(rt: &impl Abort, heap: &'a Heap, bench: &mut Bench<'a, Heap>, full: &Full) {
+    let counts = counts_of(bench);
+    for row in full.refused {
+        holds(rt, is_free(rt, heap, bench, row), full.name);
+        holds(rt, counts_of(bench) == counts, full.name);
+    }
+}
+
 fn refuses_all<'a>(rt: &impl Abort, heap: &'a Heap, full: &Full) {
     let limits = limits_of(rt, full.limits, full.name);
     let mut bench = played(rt, heap, limits, full.rows, full.name);
-    let counts = counts_of(&bench);
-    for row in full.refused {
-        holds(rt, is_free(rt, heap, &mut bench, row), full.name);
-        holds(rt, counts_of(&bench) == counts, full.name);
-    }
+    are_free(rt, heap, &mut bench, full);
     drop(bench);
 }
 
 #[test]
 fn a_refusal_without_a_place_takes_no_memory(rt: HostRuntime) {
     let heap = Refusing::new(rt.alloc());
-    for full in &FULL {
+    for full in FULL {
         refuses_all(&rt, &heap, full);
     }
 }

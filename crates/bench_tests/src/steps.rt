@@ -5,7 +5,7 @@ use crate::calls::{
 };
 use crate::rows::holds;
 use bench_core::{Bench, Fault, Reply};
-use replica_core::Status;
+use replica_core::{Replica, Status};
 use std::alloc::Allocator;
 use std::process::Abort;
 
@@ -223,7 +223,7 @@ const ASKED_EARLY: [Row; 5] = [
     (1, Call::Deliver(0, 1), Reply::Taken(5)),
 ];
 
-const CASES: [Case; 23] = [
+const CASES: &[Case] = &[
     Case {
         name: "an undo waits for later steps of its node",
         limits: USUAL,
@@ -525,32 +525,60 @@ const CASES: [Case; 23] = [
     },
 ];
 
-/// Whether the bench has what the case says.
-fn has<'a, B: Allocator>(rt: &impl Abort, bench: &Bench<'a, B>, case: &Case) -> bool {
-    let replica = bench.node(case.node).expect(rt, case.name).replica();
+/// Whether the replica has seen those dots of name 0.
+fn has_seen<'a, B: Allocator>(replica: &Replica<&'a B>, case: &Case) -> bool {
     let seen = replica.seen();
-    bench.history().len() == case.recorded
-        && bench.remaining().len() == case.remaining
-        && replica.status(0) == case.status
-        && seen.clock_of(0) == case.clock
-        && seen.cloud_of(0) == case.cloud
-        && replica.entries().len() == case.entries
+    seen.clock_of(0) == case.clock && seen.cloud_of(0) == case.cloud
+}
+
+/// Whether the replica has that status for name 0, and so many entries.
+fn shows<'a, B: Allocator>(replica: &Replica<&'a B>, case: &Case) -> bool {
+    replica.status(0) == case.status && replica.entries().len() == case.entries
+}
+
+/// Whether its node shows that.
+fn has_node<'a, B: Allocator>(bench: &Bench<'a, B>, case: &Case) -> bool {
+    match bench.node(case.node) {
+        Some(node) => has_seen(node.replica(), case) && shows(node.replica(), case),
+        None => false,
+    }
+}
+
+/// Whether so many calls are recorded, and so many steps remain.
+fn has_counts<'a, B: Allocator>(bench: &Bench<'a, B>, case: &Case) -> bool {
+    bench.history().len() == case.recorded && bench.remaining().len() == case.remaining
+}
+
+/// Whether the bench has what the case says.
+fn has<'a, B: Allocator>(bench: &Bench<'a, B>, case: &Case) -> bool {
+    has_node(bench, case) && has_counts(bench, case)
 }
 
 pub fn plays<'a, B: Allocator>(rt: &impl Abort, alloc: &'a B, case: &Case) {
     let limits = limits_of(rt, case.limits, case.name);
     let rows = case.rows.get(..case.asked).expect(rt, case.name);
     let bench = played(rt, alloc, limits, rows, case.name);
-    holds(rt, has(rt, &bench, case), case.name);
+    holds(rt, has(&bench, case), case.name);
     drop(bench);
 }
 
 #[test]
 fn calls_get_their_replies(rt: HostRuntime) {
     let heap = rt.alloc();
-    for case in &CASES {
+    for case in CASES {
         plays(&rt, &heap, case);
     }
+}
+
+/// What the meter shows after the call.
+fn meter_after<'a, B: Allocator>(
+    rt: &impl Abort,
+    alloc: &'a B,
+    bench: &mut Bench<'a, B>,
+    row: &Row,
+) -> u64 {
+    answers(rt, alloc, bench, row, "steps and undos");
+    bench.meter()
 }
 
 /// An undo, a back and a refusal count nothing.
@@ -559,8 +587,8 @@ fn the_meter_counts_the_steps_that_were_taken(rt: HostRuntime) {
     let heap = rt.alloc();
     let mut bench = open(&rt, &heap, limits_of(&rt, USUAL, "the usual"));
     for (place, row) in DELIVERED_AND_UNDONE.iter().enumerate() {
-        answers(&rt, &heap, &mut bench, row, "steps and undos");
-        holds!(&rt, bench.meter() == (place + 1).min(4) as u64);
+        let meter = meter_after(&rt, &heap, &mut bench, row);
+        holds!(&rt, meter == (place + 1).min(4) as u64);
     }
     drop(bench);
 }

@@ -28,7 +28,7 @@ struct Swaps {
     answer: Result<(), SwapFault>,
 }
 
-const SWAPS: [Swaps; 10] = [
+const SWAPS: &[Swaps] = &[
     Swaps {
         name: "two joins in the other order",
         one: &ALICE_FIRST,
@@ -111,38 +111,36 @@ const SWAPS: [Swaps; 10] = [
     },
 ];
 
-fn answers<'a, B: Allocator>(rt: &impl Abort, alloc: &'a B, swaps: &Swaps) {
-    let one = played(rt, alloc, Limits::usual(), swaps.one, swaps.name);
+/// What the steps of the one bench come to, beside those of the other.
+fn answer_of<'a, B: Allocator>(
+    rt: &impl Abort,
+    alloc: &'a B,
+    one: &Bench<'a, B>,
+    swaps: &Swaps,
+) -> Result<(), SwapFault> {
     let limits = limits_of(rt, swaps.limits, swaps.name);
     let other = played(rt, alloc, limits, swaps.other, swaps.name);
-    let answer = same_cluster(&one, &other, swaps.places);
-    drop(one);
+    let answer = same_cluster(one, &other, swaps.places);
     drop(other);
+    answer
+}
+
+fn answers<'a, B: Allocator>(rt: &impl Abort, alloc: &'a B, swaps: &Swaps) {
+    let one = played(rt, alloc, Limits::usual(), swaps.one, swaps.name);
+    let answer = answer_of(rt, alloc, &one, swaps);
+    drop(one);
     holds(rt, answer == swaps.answer, swaps.name);
 }
 
 #[test]
 fn swaps_lead_from_one_bench_to_another(rt: HostRuntime) {
     let heap = rt.alloc();
-    for swaps in &SWAPS {
+    for swaps in SWAPS {
         answers(&rt, &heap, swaps);
     }
 }
 
-/// Answers with this request for memory refused alone.
-fn answer_refused<'a>(
-    heap: &'a Refusing<Global>,
-    one: &Bench<'a, Refusing<Global>>,
-    other: &Bench<'a, Refusing<Global>>,
-    number: u64,
-) -> Result<(), SwapFault> {
-    heap.refuse_only(number);
-    let answer = same_cluster(one, other, &[1]);
-    heap.refuse_none();
-    answer
-}
-
-/// Answers with the first, second, .. request for memory refused, until none is met. Gives how many were refused.
+/// Answers with the first, second, .. request for memory refused alone, until none is met. Gives how many were refused.
 fn refused_in_turn<'a>(
     rt: &impl Abort,
     heap: &'a Refusing<Global>,
@@ -150,23 +148,36 @@ fn refused_in_turn<'a>(
     other: &Bench<'a, Refusing<Global>>,
 ) -> u64 {
     for number in 1..10 {
-        match answer_refused(heap, one, other, number) {
-            Ok(()) => return number - 1,
-            Err(fault) => holds!(rt, fault == SwapFault::OutOfMemory),
+        heap.refuse_only(number);
+        let answer = same_cluster(one, other, &[1]);
+        heap.refuse_none();
+        if answer == Ok(()) {
+            return number - 1;
         }
+        holds!(rt, answer == Err(SwapFault::OutOfMemory));
     }
     9
+}
+
+/// How many were refused between this bench and one of the other order.
+fn refused_before_the_other<'a>(
+    rt: &impl Abort,
+    heap: &'a Refusing<Global>,
+    one: &Bench<'a, Refusing<Global>>,
+) -> u64 {
+    let other = played(rt, heap, Limits::usual(), &BOB_FIRST, "the other order");
+    let refused = refused_in_turn(rt, heap, one, &other);
+    drop(other);
+    refused
 }
 
 #[test]
 fn swaps_are_told_from_want_of_memory(rt: HostRuntime) {
     let heap = Refusing::new(rt.alloc());
     let one = played(&rt, &heap, Limits::usual(), &ALICE_FIRST, "one order");
-    let other = played(&rt, &heap, Limits::usual(), &BOB_FIRST, "the other order");
-    let refused = refused_in_turn(&rt, &heap, &one, &other);
-    holds!(&rt, 0 < refused && refused < 9);
+    let refused = refused_before_the_other(&rt, &heap, &one);
     drop(one);
-    drop(other);
+    holds!(&rt, 0 < refused && refused < 9);
 }
 
 const FIRST_MESSAGE_FIRST: [Row; 9] = [
@@ -194,14 +205,24 @@ const SECOND_MESSAGE_FIRST: [Row; 9] = [
 ];
 
 /// Whether a node is the same in both benches.
-fn has_same_node<'a, B: Allocator>(
+fn has_same_node<'a, B: Allocator>(one: &Bench<'a, B>, other: &Bench<'a, B>, number: u16) -> bool {
+    match (one.node(number), other.node(number)) {
+        (Some(node), Some(same)) => node.same(same),
+        _ => false,
+    }
+}
+
+/// Whether the second node is the same in a bench to which the second message came first.
+fn has_node_of_the_other<'a, B: Allocator>(
     rt: &impl Abort,
+    alloc: &'a B,
     one: &Bench<'a, B>,
-    other: &Bench<'a, B>,
-    number: u16,
 ) -> bool {
-    let node = other.node(number).expect(rt, "a node");
-    one.node(number).expect(rt, "a node").same(node)
+    let rows = &SECOND_MESSAGE_FIRST;
+    let other = played(rt, alloc, Limits::usual(), rows, "the second first");
+    let is_same = has_same_node(one, &other, 1);
+    drop(other);
+    is_same
 }
 
 #[test]
@@ -214,14 +235,6 @@ fn two_messages_come_in_either_order_and_twice(rt: HostRuntime) {
         &FIRST_MESSAGE_FIRST,
         "in order",
     );
-    let other = played(
-        &rt,
-        &heap,
-        Limits::usual(),
-        &SECOND_MESSAGE_FIRST,
-        "the second first",
-    );
-    holds!(&rt, has_same_node(&rt, &one, &other, 1));
+    holds!(&rt, has_node_of_the_other(&rt, &heap, &one));
     drop(one);
-    drop(other);
 }

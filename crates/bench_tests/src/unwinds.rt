@@ -15,25 +15,30 @@ const FIVE_STEPS: [Row; 5] = [
     (1, Call::Join(9, Shown::Alice), Reply::Taken(5)),
 ];
 
-/// Unwinds a step, which undoes these. So many calls are recorded then, and so many steps remain.
-fn unwinds<'a, B: Allocator>(
-    rt: &impl Abort,
-    bench: &mut Bench<'a, B>,
-    number: u64,
-    expected: &[u64],
-    counts: (usize, usize),
-) {
+/// Whether the unwind of a step undoes these.
+fn undoes<'a, B: Allocator>(bench: &mut Bench<'a, B>, number: u64, expected: &[u64]) -> bool {
     let unwound = bench.unwind(2, number);
     let is_done = match &unwound {
         Unwound::Done(numbers) => numbers.as_slice() == expected,
         _ => false,
     };
     drop(unwound);
-    holds!(rt, is_done);
-    holds!(
-        rt,
-        (bench.history().len(), bench.remaining().len()) == counts
-    );
+    is_done
+}
+
+/// How many calls are recorded, and how many steps remain.
+fn counts_of<'a, B: Allocator>(bench: &Bench<'a, B>) -> (usize, usize) {
+    (bench.history().len(), bench.remaining().len())
+}
+
+/// Whether the unwind of a step undoes these, and so many calls are recorded then, and so many steps remain.
+fn unwinds<'a, B: Allocator>(
+    bench: &mut Bench<'a, B>,
+    number: u64,
+    expected: &[u64],
+    counts: (usize, usize),
+) -> bool {
+    undoes(bench, number, expected) && counts_of(bench) == counts
 }
 
 fn has_future<'a, B: Allocator>(bench: &Bench<'a, B>, number: u64, expected: &[u64]) -> bool {
@@ -47,14 +52,26 @@ fn has_future<'a, B: Allocator>(bench: &Bench<'a, B>, number: u64, expected: &[u
     }
 }
 
+/// Whether the first step that remains has this number.
+fn has_first<'a, B: Allocator>(bench: &Bench<'a, B>, number: u64) -> bool {
+    match bench.remaining().at(0) {
+        Some(kept) => kept.number == number,
+        None => false,
+    }
+}
+
+/// Whether the unwind of step 1 of five undoes what follows from it, and leaves step 2 alone.
+fn leaves_the_second<'a, B: Allocator>(bench: &mut Bench<'a, B>) -> bool {
+    has_future(bench, 1, &[5, 4, 3, 1])
+        && unwinds(bench, 1, &[5, 4, 3, 1], (9, 1))
+        && has_first(bench, 2)
+}
+
 #[test]
 fn a_step_is_undone_with_all_that_follows(rt: HostRuntime) {
     let heap = rt.alloc();
     let mut bench = played(&rt, &heap, Limits::usual(), &FIVE_STEPS, "five steps");
-    holds!(&rt, has_future(&bench, 1, &[5, 4, 3, 1]));
-    unwinds(&rt, &mut bench, 1, &[5, 4, 3, 1], (9, 1));
-    let kept = bench.remaining().at(0).expect(&rt, "a step");
-    holds!(&rt, kept.number == 2);
+    holds!(&rt, leaves_the_second(&mut bench));
     drop(bench);
 }
 
@@ -62,7 +79,7 @@ fn a_step_is_undone_with_all_that_follows(rt: HostRuntime) {
 fn other_steps_stay(rt: HostRuntime) {
     let heap = rt.alloc();
     let mut bench = played(&rt, &heap, Limits::usual(), &DELIVERED, "a delivery");
-    unwinds(&rt, &mut bench, 2, &[4, 2], (6, 2));
+    holds!(&rt, unwinds(&mut bench, 2, &[4, 2], (6, 2)));
     drop(bench);
 }
 
@@ -83,21 +100,25 @@ const JOINED_AND_UNDONE: [Row; 2] = [
     (2, Call::Undo(1), Reply::Undone(1)),
 ];
 
-#[test]
-fn no_step_that_is_gone_has_a_future(rt: HostRuntime) {
-    let heap = rt.alloc();
-    let mut bench = played(&rt, &heap, Limits::usual(), &JOINED_AND_UNDONE, "undone");
+/// Whether each number that is no remaining step's has its fault, and nothing is recorded.
+fn has_faults<'a, B: Allocator>(bench: &mut Bench<'a, B>) -> bool {
     for (number, fault) in [
         (0, Fault::NoSuchStep),
         (2, Fault::NoSuchStep),
         (1, Fault::AlreadyUndone),
     ] {
-        holds!(
-            &rt,
-            faults(&mut bench, number) == (Some(fault), Some(fault))
-        );
+        if faults(bench, number) != (Some(fault), Some(fault)) {
+            return false;
+        }
     }
-    holds!(&rt, bench.history().len() == 2);
+    bench.history().len() == 2
+}
+
+#[test]
+fn no_step_that_is_gone_has_a_future(rt: HostRuntime) {
+    let heap = rt.alloc();
+    let mut bench = played(&rt, &heap, Limits::usual(), &JOINED_AND_UNDONE, "undone");
+    holds!(&rt, has_faults(&mut bench));
     drop(bench);
 }
 
@@ -135,20 +156,42 @@ fn undone_in_part<'a>(
     (undone.expect(rt, "a part"), is_met)
 }
 
+/// Whether so many steps of five were undone.
+fn has_undone<'a>(bench: &Bench<'a, Heap>, undone: usize) -> bool {
+    let (recorded, remaining) = counts_of(bench);
+    recorded.checked_sub(5) == Some(undone) && remaining.checked_add(undone) == Some(5)
+}
+
+/// Whether the unwind of step 1 of five undoes the rest of them, where so many were undone.
+fn undoes_the_rest<'a>(bench: &mut Bench<'a, Heap>, undone: usize) -> bool {
+    let steps = [5, 4, 3, 1];
+    match steps.get(undone..) {
+        Some([]) => true,
+        Some(rest) => unwinds(bench, 1, rest, (9, 1)),
+        None => false,
+    }
+}
+
 /// Unwinds step 1 of five so, and then the rest of it with memory. Gives how many steps were undone first, where the request
 /// was met.
+fn undone_first<'a>(
+    rt: &impl Abort,
+    heap: &'a Heap,
+    bench: &mut Bench<'a, Heap>,
+    number: u64,
+) -> Option<usize> {
+    let (undone, is_met) = undone_in_part(rt, heap, bench, number);
+    holds!(rt, has_undone(bench, undone));
+    holds!(rt, undoes_the_rest(bench, undone));
+    if is_met { Some(undone) } else { None }
+}
+
+/// The same of a new bench.
 fn goes_on<'a>(rt: &impl Abort, heap: &'a Heap, number: u64) -> Option<usize> {
     let mut bench = played(rt, heap, Limits::usual(), &FIVE_STEPS, "five steps");
-    let (undone, is_met) = undone_in_part(rt, heap, &mut bench, number);
-    holds!(rt, bench.history().len().checked_sub(5) == Some(undone));
-    holds!(rt, bench.remaining().len().checked_add(undone) == Some(5));
-    if undone < 4 {
-        let rest = [5, 4, 3, 1];
-        let rest = rest.get(undone..).expect(rt, "a rest");
-        unwinds(rt, &mut bench, 1, rest, (9, 1));
-    }
+    let undone = undone_first(rt, heap, &mut bench, number);
     drop(bench);
-    if is_met { Some(undone) } else { None }
+    undone
 }
 
 #[test]
