@@ -8,7 +8,7 @@ use test_alloc::Refusing;
 
 type Heap = Refusing<Global>;
 
-/// What a bench of two nodes held. A part that could not be copied is none, and no part is as that.
+/// What a bench of two nodes held. A part is none where its copy was refused, and then nothing counts as the same.
 #[derive(Drop)]
 struct Held<'a> {
     first: Option<Node<'a, Heap>>,
