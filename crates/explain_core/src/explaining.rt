@@ -50,8 +50,8 @@ fn put_labelled<A: Allocator, N: Allocator, W: Allocator>(
 /// The line of a step that remains.
 #[tactic(auto, unfolding(crate::specs::Explanations::step_line))]
 fn put_step<'a, A: Allocator, B: Allocator>(
-    text: &mut String<A>,
     bench: &Bench<'a, B>,
+    text: &mut String<A>,
     label: &str,
     number: u64,
 ) -> Result<(), Oom>
@@ -64,15 +64,15 @@ fn put_step<'a, A: Allocator, B: Allocator>(
 }
 
 fn put_step_if<'a, A: Allocator, B: Allocator>(
-    text: &mut String<A>,
     bench: &Bench<'a, B>,
+    text: &mut String<A>,
     label: &str,
     number: Option<u64>,
 ) -> Result<(), Oom>
     ensures { OnOk result (string_bytes text.new ≡ string_bytes text.old ++ step_line_if bench.now label.now number) }
 {
     match number {
-        Some(number) => put_step(text, bench, label, number),
+        Some(number) => put_step(bench, text, label, number),
         None => Ok(()),
     }
 }
@@ -80,15 +80,15 @@ fn put_step_if<'a, A: Allocator, B: Allocator>(
 /// A line for each of these steps.
 #[tactic(auto, unfolding(crate::specs::Explanations::step_lines))]
 fn put_steps<'a, A: Allocator, B: Allocator>(
-    text: &mut String<A>,
     bench: &Bench<'a, B>,
+    text: &mut String<A>,
     label: &str,
     numbers: &[u64],
 ) -> Result<(), Oom>
     ensures { OnOk result (string_bytes text.new ≡ string_bytes text.old ++ step_lines bench.now label.now numbers.now) }
 {
     for number in numbers {
-        put_step(text, bench, label, *number)?;
+        put_step(bench, text, label, *number)?;
     }
     Ok(())
 }
@@ -96,8 +96,8 @@ fn put_steps<'a, A: Allocator, B: Allocator>(
 /// A verdict, and the steps that it rests on.
 #[tactic(auto, unfolding(crate::specs::Explanations::finding_text))]
 fn put_finding<'a, A: Allocator, B: Allocator, F: Allocator>(
-    text: &mut String<A>,
     bench: &Bench<'a, B>,
+    text: &mut String<A>,
     what: &str,
     finding: &Finding<F>,
 ) -> Result<(), Oom>
@@ -105,14 +105,14 @@ fn put_finding<'a, A: Allocator, B: Allocator, F: Allocator>(
 {
     let verdict = finding.verdict.text();
     writeln!(text, "{what} {verdict}")?;
-    put_steps(text, bench, "by", &finding.steps)
+    put_steps(bench, text, "by", &finding.steps)
 }
 
 /// The step by which it left at its own node.
 #[tactic(auto, unfolding(crate::specs::Explanations::left_text))]
 fn put_left<'a, A: Allocator, B: Allocator>(
-    text: &mut String<A>,
     bench: &Bench<'a, B>,
+    text: &mut String<A>,
     dot: Dot,
     track: &Track<&'a B>,
 ) -> Result<(), Oom>
@@ -120,7 +120,7 @@ fn put_left<'a, A: Allocator, B: Allocator>(
 {
     if has_left(bench, dot) {
         let by = stand_at(&track.stands, dot.name).by;
-        put_step_if(text, bench, "left", by)
+        put_step_if(bench, text, "left", by)
     } else {
         Ok(())
     }
@@ -129,51 +129,51 @@ fn put_left<'a, A: Allocator, B: Allocator>(
 /// How it stands at the node, and why.
 #[tactic(auto, unfolding(crate::specs::Explanations::node_text, crate::specs::Explanations::finding_text))]
 fn put_node<'a, A: Allocator, B: Allocator>(
-    alloc: &'a B,
-    text: &mut String<A>,
     bench: &Bench<'a, B>,
+    text: &mut String<A>,
     node: u16,
     dot: Dot,
     track: &Track<&'a B>,
+    alloc: &'a B,
 ) -> Result<(), Oom>
     ensures { OnOk result (string_bytes text.new ≡ string_bytes text.old ++ node_text bench.now node dot track.now) }
 {
-    let finding = finding_of(alloc, bench, node, dot, track)?;
+    let finding = finding_of(bench, node, dot, track, alloc)?;
     let name = name_at(bench.names(), node);
     let verdict = finding.verdict.text();
     writeln!(text, "at {name} {verdict}")?;
-    put_steps(text, bench, "by", &finding.steps)
+    put_steps(bench, text, "by", &finding.steps)
 }
 
 /// The last status step of the node about the presence's name.
 #[tactic(auto, unfolding(crate::specs::Explanations::status_text))]
 fn put_status<'a, A: Allocator, B: Allocator>(
-    text: &mut String<A>,
     bench: &Bench<'a, B>,
+    text: &mut String<A>,
     node: u16,
     dot: Dot,
 ) -> Result<(), Oom>
     ensures { OnOk result (string_bytes text.new ≡ string_bytes text.old ++ status_text bench.now node dot) }
 {
     let status = last_status(bench.remaining(), node, dot.name);
-    put_step_if(text, bench, "status", status)
+    put_step_if(bench, text, "status", status)
 }
 
 /// Why the removal didn't come, where it should have.
 #[tactic(auto, unfolding(crate::specs::Explanations::removal_text))]
 fn put_removal<'a, A: Allocator, B: Allocator>(
-    alloc: &'a B,
-    text: &mut String<A>,
     bench: &Bench<'a, B>,
+    text: &mut String<A>,
     node: u16,
     dot: Dot,
     track: &Track<&'a B>,
+    alloc: &'a B,
 ) -> Result<(), Oom>
     ensures { OnOk result (string_bytes text.new ≡ string_bytes text.old ++ removal_text bench.now node dot track.now) }
 {
     if standing_at(bench, node, dot).is_same(Standing::Live) && has_left(bench, dot) {
         let finding = missing(alloc, &track.hops, node, Standing::Gone)?;
-        put_finding(text, bench, "removal", &finding)
+        put_finding(bench, text, "removal", &finding)
     } else {
         Ok(())
     }
@@ -182,50 +182,50 @@ fn put_removal<'a, A: Allocator, B: Allocator>(
 /// What is told of a presence with this track.
 #[tactic(auto, unfolding(crate::specs::Explanations::tracked_text))]
 fn put_tracked<'a, A: Allocator, B: Allocator>(
-    alloc: &'a B,
-    text: &mut String<A>,
     bench: &Bench<'a, B>,
+    text: &mut String<A>,
     node: u16,
     making: Making,
     track: &Track<&'a B>,
+    alloc: &'a B,
 ) -> Result<(), Oom>
     ensures { OnOk result (string_bytes text.new ≡ string_bytes text.old ++ tracked_text bench.now node making track.now) }
 {
-    put_step(text, bench, "made", making.number)?;
-    put_left(text, bench, making.dot, track)?;
-    put_node(alloc, text, bench, node, making.dot, track)?;
-    put_status(text, bench, node, making.dot)?;
-    put_removal(alloc, text, bench, node, making.dot, track)
+    put_step(bench, text, "made", making.number)?;
+    put_left(bench, text, making.dot, track)?;
+    put_node(bench, text, node, making.dot, track, alloc)?;
+    put_status(bench, text, node, making.dot)?;
+    put_removal(bench, text, node, making.dot, track, alloc)
 }
 
 /// What is told of a presence.
 #[tactic(auto, unfolding(crate::specs::Explanations::making_text))]
 fn put_making<'a, A: Allocator, B: Allocator>(
-    alloc: &'a B,
-    text: &mut String<A>,
     bench: &Bench<'a, B>,
+    text: &mut String<A>,
     node: u16,
     making: Making,
+    alloc: &'a B,
 ) -> Result<(), Oom>
     ensures { OnOk result (string_bytes text.new ≡ string_bytes text.old ++ making_text bench.now node making) }
 {
-    let track = track_of(alloc, bench, making.dot)?;
-    put_tracked(alloc, text, bench, node, making, &track)
+    let track = track_of(bench, making.dot, alloc)?;
+    put_tracked(bench, text, node, making, &track, alloc)
 }
 
 /// What is told of each presence.
 #[tactic(auto, unfolding(crate::specs::Explanations::making_texts))]
 fn put_makings<'a, A: Allocator, B: Allocator>(
-    alloc: &'a B,
-    text: &mut String<A>,
     bench: &Bench<'a, B>,
+    text: &mut String<A>,
     node: u16,
     makings: &[Making],
+    alloc: &'a B,
 ) -> Result<(), Oom>
     ensures { OnOk result (string_bytes text.new ≡ string_bytes text.old ++ making_texts bench.now node makings.now) }
 {
     for making in makings {
-        put_making(alloc, text, bench, node, *making)?;
+        put_making(bench, text, node, *making, alloc)?;
     }
     Ok(())
 }
@@ -233,8 +233,8 @@ fn put_makings<'a, A: Allocator, B: Allocator>(
 /// `explain NODE TOPIC KEY COUNT`.
 #[tactic(auto, unfolding(crate::specs::Explanations::head_line))]
 fn put_head<'a, A: Allocator, B: Allocator>(
-    text: &mut String<A>,
     bench: &Bench<'a, B>,
+    text: &mut String<A>,
     node: u16,
     topic: &Word<&'a B>,
     key: &Word<&'a B>,
@@ -249,11 +249,28 @@ fn put_head<'a, A: Allocator, B: Allocator>(
     Ok(writeln!(text, " {key} {count}")?)
 }
 
+/// What is told of each presence of a topic and key that a remaining step made, behind the line that says how many there are.
+#[tactic(auto, unfolding(crate::specs::Explanations::explanation))]
+fn explained<'a, B: Allocator>(
+    bench: &Bench<'a, B>,
+    node: u16,
+    topic: &Word<&'a B>,
+    key: &Word<&'a B>,
+    alloc: &'a B,
+) -> Result<String<&'a B>, Oom>
+    ensures { IfOk result (λ text. string_bytes text ≡ explanation bench.now node topic.now key.now) }
+{
+    let makings = makings_of(bench, topic, key, alloc)?;
+    let mut text = String::new(alloc);
+    put_head(bench, &mut text, node, topic, key, makings.len())?;
+    put_makings(bench, &mut text, node, &makings, alloc)?;
+    Ok(text)
+}
+
 /// Why the presences of a topic and key are online at a node, and why not: of each that a remaining step made, in the order of
 /// these steps, the step; the one by which it left at its own node, if it did; how it stands at the node, with the steps that
 /// brought it there or by which it was lost; the last status step of the node about its name; and, where it left and is still
 /// there, why the removal didn't come.
-#[tactic(auto, unfolding(crate::specs::Explanations::explanation))]
 pub fn explain<'a, B: Allocator>(
     alloc: &'a B,
     bench: &Bench<'a, B>,
@@ -263,9 +280,5 @@ pub fn explain<'a, B: Allocator>(
 ) -> Result<String<&'a B>, Oom>
     ensures { IfOk result (λ text. string_bytes text ≡ explanation bench.now node topic.now key.now) }
 {
-    let makings = makings_of(alloc, bench, topic, key)?;
-    let mut text = String::new(alloc);
-    put_head(&mut text, bench, node, topic, key, makings.len())?;
-    put_makings(alloc, &mut text, bench, node, &makings)?;
-    Ok(text)
+    explained(bench, node, topic, key, alloc)
 }

@@ -194,11 +194,11 @@ pub fn has_left<'a, B: Allocator>(bench: &Bench<'a, B>, dot: Dot) -> bool
 /// How the presence of a dot stands at a node, and why.
 #[tactic(auto, unfolding(crate::specs::Findings::finding_of))]
 pub fn finding_of<'a, B: Allocator>(
-    alloc: &'a B,
     bench: &Bench<'a, B>,
     node: u16,
     dot: Dot,
     track: &Track<&'a B>,
+    alloc: &'a B,
 ) -> Result<Finding<&'a B>, Oom>
     ensures { IfOk result (λ finding. finding ≡ finding_of bench.now node dot track.now) }
 {

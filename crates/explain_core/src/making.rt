@@ -102,15 +102,17 @@ fn put_makings<'a, B: Allocator>(
 /// The steps that made presences of this topic and key, in their order, each with the presence's dot.
 #[tactic(auto, unfolding(crate::specs::Makings::makings_of))]
 pub fn makings_of<'a, B: Allocator>(
-    alloc: &'a B,
     bench: &Bench<'a, B>,
     topic: &Word<&'a B>,
     key: &Word<&'a B>,
+    alloc: &'a B,
 ) -> Result<Vec<Making, &'a B>, Oom>
     ensures { IfOk result (λ makings. makings.items ≡ makings_of bench.now topic.now key.now) }
 {
-    let mut asked = opened(alloc, bench)?;
+    let mut asked = opened(bench, alloc)?;
     let mut makings = Vec::new(alloc);
-    put_makings(&mut makings, &mut asked, topic, key, bench.remaining())?;
+    let answer = put_makings(&mut makings, &mut asked, topic, key, bench.remaining());
+    drop(asked);
+    answer?;
     Ok(makings)
 }

@@ -179,15 +179,12 @@ impl<A: Allocator> Track<A> {
             hops: Vec::new(alloc),
         })
     }
+}
 
+impl<'a, B: Allocator> Track<&'a B> {
     /// After a step, on the bench after it.
     #[tactic(auto, unfolding(crate::specs::Tracks::followed))]
-    pub fn follow<'a, B: Allocator>(
-        &mut self,
-        dot: Dot,
-        asked: &Bench<'a, B>,
-        kept: &Kept<&'a B>,
-    ) -> Result<(), Oom>
+    pub fn follow(&mut self, dot: Dot, asked: &Bench<'a, B>, kept: &Kept<&'a B>) -> Result<(), Oom>
         ensures { OnOk result (self.new ≡ followed dot asked.now kept.now self.old) }
     {
         let before = stand_at(&self.stands, kept.node);

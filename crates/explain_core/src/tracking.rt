@@ -10,7 +10,7 @@ use payload_core::Oom;
 use std::alloc::Allocator;
 
 /// A bench of the same names and limits that was asked nothing.
-pub fn opened<'a, B: Allocator>(alloc: &'a B, bench: &Bench<'a, B>) -> Result<Bench<'a, B>, Oom>
+pub fn opened<'a, B: Allocator>(bench: &Bench<'a, B>, alloc: &'a B) -> Result<Bench<'a, B>, Oom>
     ensures { IfOk result (λ asked. asked ≡ opened bench.now) }
 {
     let names = bench.names().try_copy()?;
@@ -23,7 +23,9 @@ pub fn ask<'a, B: Allocator>(asked: &mut Bench<'a, B>, kept: &Kept<&'a B>) -> Re
     ensures { OnOk result (asked.new ≡ after_step asked.old kept.now) }
 {
     let act = Act::Do(kept.step.try_copy()?);
-    if asked.act(kept.node, &act) == Reply::Refused(Fault::OutOfMemory) {
+    let reply = asked.act(kept.node, &act);
+    drop(act);
+    if reply == Reply::Refused(Fault::OutOfMemory) {
         return Err(Oom);
     }
     Ok(())
@@ -50,14 +52,16 @@ fn follow_each<'a, B: Allocator>(
 /// The track of a dot.
 #[tactic(auto, unfolding(crate::specs::Tracks::track_of))]
 pub fn track_of<'a, B: Allocator>(
-    alloc: &'a B,
     bench: &Bench<'a, B>,
     dot: Dot,
+    alloc: &'a B,
 ) -> Result<Track<&'a B>, Oom>
     ensures { IfOk result (λ track. track ≡ track_of bench.now dot) }
 {
-    let mut asked = opened(alloc, bench)?;
     let mut track = Track::new(alloc, bench.names().len())?;
-    follow_each(dot, &mut asked, bench.remaining(), &mut track)?;
+    let mut asked = opened(bench, alloc)?;
+    let answer = follow_each(dot, &mut asked, bench.remaining(), &mut track);
+    drop(asked);
+    answer?;
     Ok(track)
 }
