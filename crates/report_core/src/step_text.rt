@@ -1,5 +1,5 @@
 //! A kept step as a line of a script, and the list of kept steps.
-ghost use Rattle.std.specs.Prelude.{◌≡◌, ◌++◌, OnOk, string_bytes};
+ghost use Rattle.std.specs.Prelude.{◌≡◌, ◌++◌, OnOk, codes, decimal, string_bytes};
 ghost use Rattle.node_core.specs.Operations.{plain};
 ghost use Rattle.journal_core.specs.Holdings.{kepts};
 ghost use Rattle.report_core.specs.Rows.{name_at};
@@ -11,23 +11,51 @@ use dots_core::NameSet;
 use payload_core::{Oom, Word};
 use std::alloc::Allocator;
 
-/// `PID TOPIC KEY META`.
+/// A verb, and `PID TOPIC KEY META`.
 #[tactic(auto, unfolding(crate::specs::StepText::presence_text))]
 fn put_presence<A: Allocator, W: Allocator>(
     text: &mut String<A>,
+    verb: &str,
     pid: u64,
     topic: &Word<W>,
     key: &Word<W>,
     metadata: &Word<W>,
 ) -> Result<(), Oom>
-    ensures { OnOk result (string_bytes text.new ≡ string_bytes text.old ++
+    ensures { OnOk result (string_bytes text.new ≡ string_bytes text.old ++ verb.now ++
         presence_text (record { pid = pid; topic = topic.now; key = key.now; metadata = metadata.now })) }
 {
     let topic = topic.as_str();
     let key = key.as_str();
     let metadata = metadata.as_str();
-    write!(text, "{pid} {topic}")?;
+    write!(text, "{verb}{pid} {topic}")?;
     Ok(write!(text, " {key} {metadata}")?)
+}
+
+/// A verb, and `SENDER NUMBER`.
+fn put_message<A: Allocator, N: Allocator>(
+    text: &mut String<A>,
+    verb: &str,
+    names: &Names<N>,
+    sender: u16,
+    number: u64,
+) -> Result<(), Oom>
+    ensures { OnOk result (string_bytes text.new ≡ string_bytes text.old ++ verb.now ++ name_at names.now sender ++ codes " " ++ decimal number) }
+{
+    let sender = name_at(names, sender);
+    Ok(write!(text, "{verb}{sender} {number}")?)
+}
+
+/// A verb, and the name of this number.
+fn put_status<A: Allocator, N: Allocator>(
+    text: &mut String<A>,
+    verb: &str,
+    names: &Names<N>,
+    name: u16,
+) -> Result<(), Oom>
+    ensures { OnOk result (string_bytes text.new ≡ string_bytes text.old ++ verb.now ++ name_at names.now name) }
+{
+    text.push_str(verb)?;
+    Ok(text.push_str(name_at(names, name))?)
 }
 
 /// The name of this number after a space, where it is in the set.
@@ -75,10 +103,7 @@ fn put_step<A: Allocator, N: Allocator, W: Allocator>(
             topic,
             key,
             metadata,
-        } => {
-            text.push_str("join ")?;
-            put_presence(text, *pid, topic, key, metadata)
-        }
+        } => put_presence(text, "join ", *pid, topic, key, metadata),
         Step::Leave { pid, topic, key } => {
             let topic = topic.as_str();
             let key = key.as_str();
@@ -90,36 +115,20 @@ fn put_step<A: Allocator, N: Allocator, W: Allocator>(
             topic,
             key,
             metadata,
-        } => {
-            text.push_str("update ")?;
-            put_presence(text, *pid, topic, key, metadata)
-        }
+        } => put_presence(text, "update ", *pid, topic, key, metadata),
         Step::Broadcast => Ok(text.push_str("broadcast")?),
         Step::Extract { names: chosen } => {
             text.push_str("extract")?;
             put_names(text, names, *chosen)
         }
         Step::Deliver { sender, number } => {
-            let sender = name_at(names, *sender);
-            Ok(write!(text, "deliver {sender} {number}")?)
+            put_message(text, "deliver ", names, *sender, *number)
         }
         Step::Request => Ok(text.push_str("request")?),
-        Step::Answer { sender, number } => {
-            let sender = name_at(names, *sender);
-            Ok(write!(text, "answer {sender} {number}")?)
-        }
-        Step::Up { name } => {
-            let name = name_at(names, *name);
-            Ok(write!(text, "up {name}")?)
-        }
-        Step::Down { name } => {
-            let name = name_at(names, *name);
-            Ok(write!(text, "down {name}")?)
-        }
-        Step::Permdown { name } => {
-            let name = name_at(names, *name);
-            Ok(write!(text, "permdown {name}")?)
-        }
+        Step::Answer { sender, number } => put_message(text, "answer ", names, *sender, *number),
+        Step::Up { name } => put_status(text, "up ", names, *name),
+        Step::Down { name } => put_status(text, "down ", names, *name),
+        Step::Permdown { name } => put_status(text, "permdown ", names, *name),
     }
 }
 
