@@ -17,7 +17,7 @@ use std::alloc::Allocator;
 
 /// The script whose orders are told: its calls, how their orders are read, and the lists for that.
 #[derive(Drop)]
-pub(crate) struct Page<'l, 'a, B: Allocator> {
+pub(crate) struct Page<'a, 'l, B: Allocator> {
     pub(crate) alloc: &'a B,
     pub(crate) script: &'l Script<&'a B>,
     pub(crate) calls: &'l [(u16, Act<&'a B>)],
@@ -27,9 +27,9 @@ pub(crate) struct Page<'l, 'a, B: Allocator> {
 
 /// The online list of each node.
 fn put_online<'a, B: Allocator>(
-    alloc: &'a B,
     text: &mut String<&'a B>,
     bench: &Bench<'a, B>,
+    alloc: &'a B,
 ) -> Result<(), Oom>
     ensures { OnOk result (string_bytes text.new ≡ string_bytes text.old ++ online_below bench.now (length bench.now.names)) }
 {
@@ -66,7 +66,7 @@ fn put_outcome_line<A: Allocator>(
 /// The line, the online list of each node, and an order that leads there.
 #[tactic(auto, unfolding(crate::specs::ReportText::outcome_text))]
 fn put_outcome<'a, B: Allocator>(
-    page: &Page<'_, 'a, B>,
+    page: &Page<'a, '_, B>,
     text: &mut String<&'a B>,
     number: u64,
     outcome: &Outcome<'a, B>,
@@ -75,14 +75,14 @@ fn put_outcome<'a, B: Allocator>(
         outcome_text (plain_script page.now.script.now).cast (plain_each page.now.lists.now) number outcome.now) }
 {
     put_outcome_line(text, number, outcome.orders)?;
-    put_online(page.alloc, text, &outcome.bench)?;
+    put_online(text, &outcome.bench, page.alloc)?;
     put_order(page.alloc, text, page.script, page.lists, &outcome.order)
 }
 
 /// Each outcome, numbered from 1.
 #[tactic(auto, unfolding(crate::specs::ReportText::outcomes_text))]
 fn put_outcomes<'a, B: Allocator>(
-    page: &Page<'_, 'a, B>,
+    page: &Page<'a, '_, B>,
     text: &mut String<&'a B>,
     outcomes: &[Outcome<'a, B>],
 ) -> Result<(), Oom>
@@ -96,7 +96,7 @@ fn put_outcomes<'a, B: Allocator>(
 }
 
 /// The lists of the calls up to the one that is refused.
-fn up_to<'a, B: Allocator>(alloc: &'a B, refusal: &Refusal<'a, B>) -> Result<Vec<usize, &'a B>, Oom>
+fn up_to<'a, B: Allocator>(refusal: &Refusal<'a, B>, alloc: &'a B) -> Result<Vec<usize, &'a B>, Oom>
     ensures { IfOk result (λ order. order.items ≡ refusal.now.order ++ refusal.now.refusal.list ∷ []) }
 {
     let mut order = Vec::from_slice(alloc, &refusal.order)?;
@@ -115,7 +115,7 @@ fn put_refused<A: Allocator>(text: &mut String<A>, line: u64, fault: Fault) -> R
 /// The same of a refusal.
 #[tactic(auto, unfolding(crate::specs::ReportText::refused_line))]
 fn put_refused_line<'a, B: Allocator>(
-    page: &Page<'_, 'a, B>,
+    page: &Page<'a, '_, B>,
     text: &mut String<&'a B>,
     refusal: &Refusal<'a, B>,
 ) -> Result<(), Oom>
@@ -135,7 +135,7 @@ fn put_refused_line<'a, B: Allocator>(
 /// The line, and an order in which it is refused, up to it.
 #[tactic(auto, unfolding(crate::specs::ReportText::refusal_text))]
 fn put_refusal<'a, B: Allocator>(
-    page: &Page<'_, 'a, B>,
+    page: &Page<'a, '_, B>,
     text: &mut String<&'a B>,
     refusal: &Refusal<'a, B>,
 ) -> Result<(), Oom>
@@ -143,14 +143,14 @@ fn put_refusal<'a, B: Allocator>(
         refusal_text (plain_script page.now.script.now) (calls_of page.now.calls.now) (plain_lists page.now.reading page.now.lists.now) refusal.now) }
 {
     put_refused_line(page, text, refusal)?;
-    let order = up_to(page.alloc, refusal)?;
+    let order = up_to(refusal, page.alloc)?;
     put_order(page.alloc, text, page.script, page.lists, &order)
 }
 
 /// Each refusal.
 #[tactic(auto, unfolding(crate::specs::ReportText::refusals_text))]
 fn put_refusals<'a, B: Allocator>(
-    page: &Page<'_, 'a, B>,
+    page: &Page<'a, '_, B>,
     text: &mut String<&'a B>,
     refusals: &[Refusal<'a, B>],
 ) -> Result<(), Oom>
@@ -219,7 +219,7 @@ fn put_agreed<A: Allocator>(
 
 /// The counts, the outcomes and the refusals.
 pub(crate) fn text_of<'a, B: Allocator>(
-    page: &Page<'_, 'a, B>,
+    page: &Page<'a, '_, B>,
     explored: &Explored<'a, B>,
 ) -> Result<String<&'a B>, Oom>
     ensures { IfOk result (λ text. string_bytes text ≡ text_of_all (plain_script page.now.script.now) (calls_of page.now.calls.now)
@@ -242,7 +242,7 @@ pub(crate) fn text_of<'a, B: Allocator>(
 
 /// The order of an outcome as a script.
 pub(crate) fn script_of<'a, B: Allocator>(
-    page: &Page<'_, 'a, B>,
+    page: &Page<'a, '_, B>,
     outcome: &Outcome<'a, B>,
 ) -> Result<String<&'a B>, Oom>
     ensures { IfOk result (λ text. string_bytes text ≡ order_text (plain_script page.now.script.now).cast (plain_each page.now.lists.now) outcome.now.order) }

@@ -40,7 +40,7 @@ fn discard<A: Allocator>(lists: Vec<Vec<(u16, Act<A>), A>, A>) {
 
 /// What all orders of the page's lists lead to, the outcomes of most orders first.
 fn explore_page<'a, B: Allocator>(
-    page: &Page<'_, 'a, B>,
+    page: &Page<'a, '_, B>,
     limits: Limits,
     most: usize,
 ) -> Result<Explored<'a, B>, ReportFault>
@@ -57,7 +57,7 @@ fn explore_page<'a, B: Allocator>(
 
 /// The text of what all orders of the page's lists lead to.
 fn report_page<'a, B: Allocator>(
-    page: &Page<'_, 'a, B>,
+    page: &Page<'a, '_, B>,
     limits: Limits,
     most: usize,
 ) -> Result<Vec<u8, &'a B>, ReportFault>
@@ -85,7 +85,7 @@ fn outcome_at<'l, 'a, B: Allocator>(
 
 /// The order of the outcome of this number as a script.
 fn order_page<'a, B: Allocator>(
-    page: &Page<'_, 'a, B>,
+    page: &Page<'a, '_, B>,
     limits: Limits,
     most: usize,
     number: u64,
@@ -97,11 +97,13 @@ fn order_page<'a, B: Allocator>(
 {
     let explored = explore_page(page, limits, most)?;
     let Some(outcome) = outcome_at(&explored.outcomes, number) else {
-        return Err(ReportFault::NoSuchOutcome {
-            outcomes: explored.outcomes.len(),
-        });
+        let outcomes = explored.outcomes.len();
+        drop(explored);
+        return Err(ReportFault::NoSuchOutcome { outcomes });
     };
-    let text = script_of(page, outcome)?;
+    let text = script_of(page, outcome);
+    drop(explored);
+    let text = text?;
     Ok(text.into_bytes())
 }
 
@@ -128,6 +130,7 @@ pub fn report_orders<'a, B: Allocator>(
     };
     let told = report_page(&page, limits, most);
     discard(lists);
+    drop(calls);
     told
 }
 
@@ -154,5 +157,6 @@ pub fn order_of_outcome<'a, B: Allocator>(
     };
     let told = order_page(&page, limits, most, number);
     discard(lists);
+    drop(calls);
     told
 }
