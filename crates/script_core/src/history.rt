@@ -24,10 +24,10 @@ fn event<'a, B: Allocator>(
 /// What the recorded acts do again on another bench, and print.
 #[tactic(auto, unfolding(crate::specs::Report::commands_text))]
 fn events<'a, B: Allocator>(
-    alloc: &'a B,
     text: &mut String<&'a B>,
     bench: &mut Bench<'a, B>,
     history: &History<'a, B>,
+    alloc: &'a B,
 ) -> Result<(), Oom>
     ensures { OnOk result (string_bytes text.new ≡ string_bytes text.old ++ commands_text bench.old (map call_of history.now)) }
 {
@@ -39,17 +39,26 @@ fn events<'a, B: Allocator>(
     Ok(())
 }
 
-/// What the recorded acts of a bench print in a script, played from the opening.
+/// What the recorded acts of a bench print on another, played from the opening.
 #[tactic(auto, unfolding(crate::specs::Report::history_text, crate::specs::Report::report_of))]
+fn told_again<'a, B: Allocator>(bench: &Bench<'a, B>, alloc: &'a B) -> Result<Vec<u8, &'a B>, Oom>
+    ensures { IfOk result (λ report. report.items ≡ history_text bench.now) }
+{
+    let names = bench.names().try_copy()?;
+    let mut again = Bench::new(alloc, names, bench.limits())?;
+    let mut text = String::new(alloc);
+    let told = events(&mut text, &mut again, bench.history(), alloc);
+    drop(again);
+    told?;
+    Ok(text.into_bytes())
+}
+
+/// What the recorded acts of a bench print in a script, played from the opening.
 pub fn report_history<'a, B: Allocator>(
     alloc: &'a B,
     bench: &Bench<'a, B>,
 ) -> Result<Vec<u8, &'a B>, Oom>
     ensures { IfOk result (λ report. report.items ≡ history_text bench.now) }
 {
-    let names = bench.names().try_copy()?;
-    let mut again = Bench::new(alloc, names, bench.limits())?;
-    let mut text = String::new(alloc);
-    events(alloc, &mut text, &mut again, bench.history())?;
-    Ok(text.into_bytes())
+    told_again(bench, alloc)
 }

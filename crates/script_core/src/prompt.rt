@@ -64,7 +64,8 @@ impl<'a, B: Allocator> Prompt<'a, B> {
             return Ok(());
         };
         let names = cast.nodes().try_copy()?;
-        self.bench = Some(Bench::new(self.alloc, names, self.limits)?);
+        let bench = Bench::new(self.alloc, names, self.limits)?;
+        drop(self.bench.replace(bench));
         Ok(())
     }
 
@@ -74,7 +75,7 @@ impl<'a, B: Allocator> Prompt<'a, B> {
             asked self.old.limits self.old.cast self.old.machine (string_bytes text.old) (commands_of (plain_lines lines.now))) }
     {
         match &mut self.bench {
-            Some(bench) => run::lines(self.alloc, text, bench, lines),
+            Some(bench) => run::lines(text, bench, lines, self.alloc),
             None => Ok(()),
         }
     }

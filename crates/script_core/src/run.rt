@@ -12,10 +12,10 @@ use std::alloc::Allocator;
 /// What a command does, and prints.
 #[tactic(auto, unfolding(crate::specs::Report::command_text, crate::specs::Report::after_command))]
 fn command<'a, B: Allocator>(
-    alloc: &'a B,
     text: &mut String<&'a B>,
     bench: &mut Bench<'a, B>,
     command: &Command<&'a B>,
+    alloc: &'a B,
 ) -> Result<(), Oom>
     ensures bench { OnOk result (bench.new ≡ after_command bench.old (plain_command command.now)) }
     ensures text { OnOk result (string_bytes text.new ≡ string_bytes text.old ++ command_text bench.old (plain_command command.now)) }
@@ -33,16 +33,16 @@ fn command<'a, B: Allocator>(
 /// What the lines do, and print.
 #[tactic(auto, unfolding(crate::specs::Report::commands_text, crate::specs::Report::after_commands))]
 pub fn lines<'a, B: Allocator>(
-    alloc: &'a B,
     text: &mut String<&'a B>,
     bench: &mut Bench<'a, B>,
     lines: &[Line<&'a B>],
+    alloc: &'a B,
 ) -> Result<(), Oom>
     ensures bench { OnOk result (bench.new ≡ after_commands bench.old (commands_of (plain_lines lines.now))) }
     ensures text { OnOk result (string_bytes text.new ≡ string_bytes text.old ++ commands_text bench.old (commands_of (plain_lines lines.now))) }
 {
     for next in lines {
-        command(alloc, text, bench, &next.command)?;
+        command(text, bench, &next.command, alloc)?;
     }
     Ok(())
 }
@@ -67,7 +67,10 @@ pub fn run_script<'a, B: Allocator>(
     let names = node_names(script).try_copy()?;
     let mut bench = Bench::new(alloc, names, limits)?;
     let mut text = String::new(alloc);
-    lines(alloc, &mut text, &mut bench, grammar_core::lines(script))?;
+    if let Err(oom) = lines(&mut text, &mut bench, grammar_core::lines(script), alloc) {
+        drop(bench);
+        return Err(oom);
+    }
     Ok(Played {
         bench,
         report: text.into_bytes(),
