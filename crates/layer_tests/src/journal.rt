@@ -225,12 +225,16 @@ fn a_second_send<'a, B: Allocator>(rt: &impl Abort, alloc: &'a B) -> Journal<'a,
     journal
 }
 
+/// Whether the delivery follows from the second send, and not from the first.
+fn follows_from_the_second<'a, B: Allocator>(journal: &Journal<'a, B>) -> bool {
+    journal.first_consequence(1) == None && journal.first_consequence(2) == Some(4)
+}
+
 #[test]
 fn an_undone_send_frees_its_number(rt: HostRuntime) {
     let heap = rt.alloc();
     let journal = a_second_send(&rt, &heap);
-    holds!(&rt, journal.first_consequence(1) == None);
-    holds!(&rt, journal.first_consequence(2) == Some(4));
+    holds!(&rt, follows_from_the_second(&journal));
     drop(journal);
 }
 
@@ -242,6 +246,10 @@ fn has_first<'a, B: Allocator>(journal: &Journal<'a, B>) -> bool {
     }
 }
 
+fn is_empty<'a, B: Allocator>(journal: &Journal<'a, B>) -> bool {
+    journal.len() == 0 && journal.find(1).is_none()
+}
+
 #[test]
 fn a_loan_ends_in_two_ways(rt: HostRuntime) {
     let heap = rt.alloc();
@@ -249,7 +257,7 @@ fn a_loan_ends_in_two_ways(rt: HostRuntime) {
     holds!(&rt, has_first(&journal));
     drop(journal);
     let journal = an_undone_send(&rt, &heap);
-    holds!(&rt, journal.len() == 0 && journal.find(1).is_none());
+    holds!(&rt, is_empty(&journal));
     drop(journal);
 }
 
@@ -292,19 +300,20 @@ fn a_walk_meets_the_steps_that_remain(rt: HostRuntime) {
     drop(journal);
 }
 
-/// A step of the last of 32 nodes is its last one.
+/// A step of the last of 32 nodes.
+fn one_of_the_last<'a, B: Allocator>(rt: &impl Abort, alloc: &'a B) -> Journal<'a, B>
+    ensures { result.nodes ≡ 32 }
+{
+    let mut journal = opened(rt, alloc, 32);
+    keeps(rt, &mut journal, 1, 31, Step::Broadcast, inverse(rt, alloc));
+    journal
+}
+
+/// It is its last one.
 #[test]
 fn each_of_32_nodes_has_its_steps(rt: HostRuntime) {
     let heap = rt.alloc();
-    let mut journal = opened(&rt, &heap, 32);
-    keeps(
-        &rt,
-        &mut journal,
-        1,
-        31,
-        Step::Broadcast,
-        inverse(&rt, &heap),
-    );
+    let journal = one_of_the_last(&rt, &heap);
     holds!(&rt, journal.last_of(31) == Some(1));
     drop(journal);
 }

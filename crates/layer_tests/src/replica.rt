@@ -215,14 +215,24 @@ fn are_live<'a, B: Allocator>(replica: &Replica<&'a B>, name: u16, clocks: &[u64
     entries.len() == clocks.len()
 }
 
+/// Whether the call is made, and leaves what its row says.
+fn leaves<'a, B: Allocator>(
+    replica: &mut Replica<&'a B>,
+    inputs: &Inputs<&'a B>,
+    row: &Row,
+) -> bool {
+    let (call, is_undone, clock, cloud, live) = *row;
+    let sender = inputs.pair.sender();
+    call.is_made(replica, inputs, is_undone)
+        && is_seen(replica.seen(), sender, clock, cloud)
+        && are_live(replica, sender, live)
+}
+
 /// A new receiver makes the calls in turn, and each leaves what its row says.
 fn plays<'a, B: Allocator>(rt: &impl Abort, alloc: &'a B, inputs: &Inputs<&'a B>, rows: &[Row]) {
-    let sender = inputs.pair.sender();
     let mut replica = opening(alloc, inputs.pair.receiver());
-    for (call, is_undone, clock, cloud, live) in rows {
-        holds!(rt, call.is_made(&mut replica, inputs, *is_undone));
-        holds!(rt, is_seen(replica.seen(), sender, *clock, cloud));
-        holds!(rt, are_live(&replica, sender, live));
+    for row in rows {
+        holds!(rt, leaves(&mut replica, inputs, row));
     }
     drop(replica);
 }
@@ -268,20 +278,6 @@ fn deliveries_meet_in_context_and_cloud(rt: HostRuntime) {
     }
 }
 
-/// Makes the call with one request for memory refused.
-fn refused<'a>(
-    heap: &'a Heap,
-    replica: &mut Replica<&'a Heap>,
-    inputs: &Inputs<&'a Heap>,
-    call: Call,
-    number: u64,
-) -> Option<ReplicaFault> {
-    heap.refuse_only(number);
-    let answer = call.act(replica, inputs);
-    heap.refuse_none();
-    answer.err()
-}
-
 /// Makes the call with each request for memory refused in turn, which leaves the replica as it was, and then with none. Gives
 /// how many were refused.
 fn refuses_in_turn<'a>(
@@ -293,10 +289,13 @@ fn refuses_in_turn<'a>(
     before: &Replica<&'a Heap>,
 ) -> u64 {
     for number in 1..100 {
-        let Some(fault) = refused(heap, replica, inputs, call, number) else {
+        heap.refuse_only(number);
+        let fault = call.act(replica, inputs).err();
+        heap.refuse_none();
+        if fault.is_none() {
             return number - 1;
-        };
-        holds!(rt, fault == ReplicaFault::OutOfMemory);
+        }
+        holds!(rt, fault == Some(ReplicaFault::OutOfMemory));
         holds_at(rt, replica.same(before), number);
     }
     100
@@ -356,6 +355,16 @@ fn refuses_calls<'a>(
     holds!(rt, is_asked);
 }
 
+/// Whether the receiver has this own clock, the live entries of these clocks, and this status of the sender.
+fn is_left<'a, B: Allocator>(
+    replica: &Replica<&'a B>,
+    pair: Pair,
+    after: (u64, &[u64], Option<Status>),
+) -> bool {
+    let (clock, live, status) = after;
+    replica.status(pair.sender()) == status && has_own(replica, pair.receiver(), clock, live)
+}
+
 /// Makes these calls of a new receiver so, which leaves it this own clock, the live entries of these clocks, and this status
 /// of the sender.
 fn refuses_each<'a>(
@@ -369,9 +378,7 @@ fn refuses_each<'a>(
     let mut b = opening(heap, pair.receiver());
     refuses_calls(rt, heap, &mut b, &inputs, calls);
     drop(inputs);
-    let (clock, live, status) = after;
-    let has_status = b.status(pair.sender()) == status;
-    holds!(rt, has_status && has_own(&b, pair.receiver(), clock, live));
+    holds!(rt, is_left(&b, pair, after));
     drop(b);
 }
 
@@ -440,33 +447,43 @@ fn joined<'a, B: Allocator>(rt: &impl Abort, alloc: &'a B) -> Replica<&'a B> {
 }
 
 /// The extract of this name.
-fn extracted<'a, B: Allocator>(
-    rt: &impl Abort,
-    replica: &Replica<&'a B>,
-    name: u16,
-) -> Payload<&'a B>
+fn extracted<'a, B: Allocator>(replica: &Replica<&'a B>, name: u16) -> Option<Payload<&'a B>>
     requires { name < 32 }
 {
-    let names = NameSet::empty().with(name);
-    replica.extract(names).expect(rt, "a message")
+    replica.extract(NameSet::empty().with(name)).ok()
+}
+
+/// Whether both are there and the same.
+fn are_same<'a, B: Allocator>(
+    one: &Option<Payload<&'a B>>,
+    other: &Option<Payload<&'a B>>,
+) -> bool {
+    match (one, other) {
+        (Some(one), Some(other)) => one.same(other),
+        _ => false,
+    }
 }
 
 /// Whether an extract of the own name 0 is the delta.
-fn extracts_the_delta<'a, B: Allocator>(rt: &impl Abort, replica: &mut Replica<&'a B>) -> bool {
-    let extract = extracted(rt, replica, 0);
-    let delta = replica.take_delta().expect(rt, "a delta");
-    let is_the_same = extract.same(&delta);
+fn extracts_the_delta<'a, B: Allocator>(replica: &mut Replica<&'a B>) -> bool {
+    let extract = extracted(replica, 0);
+    let delta = replica.take_delta().ok();
+    let is_the_same = are_same(&extract, &delta);
     drop(extract);
     drop(delta);
     is_the_same
 }
 
 /// Whether an extract of another name has no entry.
-fn extracts_nothing<'a, B: Allocator>(rt: &impl Abort, replica: &Replica<&'a B>) -> bool {
-    let extract = extracted(rt, replica, 1);
-    let is_empty = extract.entries().is_empty();
-    drop(extract);
-    is_empty
+fn extracts_nothing<'a, B: Allocator>(replica: &Replica<&'a B>) -> bool {
+    match extracted(replica, 1) {
+        Some(extract) => {
+            let is_empty = extract.entries().is_empty();
+            drop(extract);
+            is_empty
+        }
+        None => false,
+    }
 }
 
 /// An extract has all that was joined where its sender is named, and else nothing.
@@ -474,23 +491,38 @@ fn extracts_nothing<'a, B: Allocator>(rt: &impl Abort, replica: &Replica<&'a B>)
 fn an_extract_has_the_named_alone(rt: HostRuntime) {
     let heap = rt.alloc();
     let mut a = joined(&rt, &heap);
-    holds!(&rt, extracts_nothing(&rt, &a));
-    holds!(&rt, extracts_the_delta(&rt, &mut a));
+    holds!(&rt, extracts_nothing(&a));
+    holds!(&rt, extracts_the_delta(&mut a));
     drop(a);
 }
 
+/// Whether the message is of the receiver, and has what the sender's first message has.
+fn has_first<A: Allocator>(message: &Payload<A>, inputs: &Inputs<A>) -> bool {
+    message.sender() == inputs.pair.receiver()
+        && message.seen().same(inputs.first.seen())
+        && message.entries().same(inputs.first.entries())
+}
+
 /// Whether the receiver, to which the sender's first message came, has it in an extract of the sender's name.
-fn extracts_foreign<'a, B: Allocator>(
-    rt: &impl Abort,
-    replica: &Replica<&'a B>,
+fn extracts_foreign<'a, B: Allocator>(replica: &Replica<&'a B>, inputs: &Inputs<&'a B>) -> bool {
+    match extracted(replica, inputs.pair.sender()) {
+        Some(message) => {
+            let has_first = has_first(&message, inputs);
+            drop(message);
+            has_first
+        }
+        None => false,
+    }
+}
+
+/// Whether the sender's first message is delivered, and is in an extract then.
+fn extracts_what_came<'a, B: Allocator>(
+    replica: &mut Replica<&'a B>,
     inputs: &Inputs<&'a B>,
 ) -> bool {
-    let message = extracted(rt, replica, inputs.pair.sender());
-    let is_the_same = message.sender() == inputs.pair.receiver()
-        && message.seen().same(inputs.first.seen())
-        && message.entries().same(inputs.first.entries());
-    drop(message);
-    is_the_same
+    Call::Up.is_made(replica, inputs, false)
+        && Call::First.is_made(replica, inputs, false)
+        && extracts_foreign(replica, inputs)
 }
 
 /// An extract of another's name has what was delivered of it.
@@ -499,12 +531,7 @@ fn an_extract_has_foreign_names_too(rt: HostRuntime) {
     let heap = rt.alloc();
     let inputs = inputs_of(&rt, &heap, Pair::Last);
     let mut b = opening(&heap, 30);
-    let is_up = Call::Up.is_made(&mut b, &inputs, false);
-    let is_delivered = Call::First.is_made(&mut b, &inputs, false);
-    holds!(
-        &rt,
-        is_up && is_delivered && extracts_foreign(&rt, &b, &inputs)
-    );
+    holds!(&rt, extracts_what_came(&mut b, &inputs));
     drop(b);
     drop(inputs);
 }
@@ -517,18 +544,23 @@ fn extracts<'a, B: Allocator>(replica: &Replica<&'a B>) -> bool {
     replica.extract(NameSet::empty().with(0)).err().is_none()
 }
 
+/// A copy and an extract are errors where they meet the refused request, and there alone.
+fn fail_where_refused<'a>(rt: &impl Abort, heap: &'a Heap, replica: &Replica<&'a Heap>) {
+    for number in 1..40 {
+        heap.refuse_only(number);
+        let is_copied = copies(replica);
+        holds_at(rt, is_copied == (heap.requests() < number), number);
+        heap.refuse_only(number);
+        let is_extracted = extracts(replica);
+        holds_at(rt, is_extracted == (heap.requests() < number), number);
+    }
+}
+
 #[test]
 fn a_refused_copy_or_extract_is_an_error(rt: HostRuntime) {
     let heap = Refusing::new(rt.alloc());
     let a = joined(&rt, &heap);
-    for number in 1..40 {
-        heap.refuse_only(number);
-        let is_copied = copies(&a);
-        holds_at(&rt, is_copied == (heap.requests() < number), number);
-        heap.refuse_only(number);
-        let is_extracted = extracts(&a);
-        holds_at(&rt, is_extracted == (heap.requests() < number), number);
-    }
+    fail_where_refused(&rt, &heap, &a);
     drop(a);
 }
 

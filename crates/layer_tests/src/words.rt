@@ -3,7 +3,7 @@ ghost use Rattle.std.specs.Prelude.{◌≡◌, None};
 
 use crate::dots::set_of;
 use crate::rows::{holds, holds_at};
-use dots_core::{Dot, NameSet, Oom};
+use dots_core::{Dot, DotSet, NameSet, Oom};
 use payload_core::{Entry, EntrySet, Outbox, OutboxFault, Payload, Word, WordFault};
 use std::alloc::{Allocator, Global};
 use std::process::Abort;
@@ -252,6 +252,16 @@ fn a_message_gives_its_parts(rt: HostRuntime) {
     drop(message);
 }
 
+/// Whether the message is the same as its copy, and as neither of the others.
+fn is_told_from<A: Allocator>(
+    message: &Payload<A>,
+    copy: &Payload<A>,
+    one: &Payload<A>,
+    other: &Payload<A>,
+) -> bool {
+    copy.same(message) && !message.same(one) && !message.same(other)
+}
+
 /// A request gives the names that it asks for, and is neither another request nor a message without them.
 #[test]
 fn a_request_gives_its_names(rt: HostRuntime) {
@@ -261,8 +271,7 @@ fn a_request_gives_its_names(rt: HostRuntime) {
     let other = Payload::request(&heap, 0, NameSet::empty().with(31));
     let none = seen_alone(&rt, &heap, &[]);
     let copy = request.try_copy().expect(&rt, "a copy");
-    holds!(&rt, copy.same(&request) && !request.same(&other));
-    holds!(&rt, !request.same(&none));
+    holds!(&rt, is_told_from(&request, &copy, &other, &none));
     holds!(&rt, copy.asked().is_some_and(|asked| asked.same(names)));
     holds!(&rt, are_parts(copy, &none));
     drop(request);
@@ -270,12 +279,20 @@ fn a_request_gives_its_names(rt: HostRuntime) {
     drop(none);
 }
 
+/// Whether these are the parts of the message.
+fn has_parts<A: Allocator>(
+    message: &Payload<A>,
+    sender: u16,
+    seen: &DotSet<A>,
+    entries: &EntrySet<A>,
+) -> bool {
+    message.sender() == sender && message.seen().same(seen) && message.entries().same(entries)
+}
+
 /// Whether the message falls into the parts of the other.
 fn are_parts<'a, B: Allocator>(message: Payload<&'a B>, other: &Payload<&'a B>) -> bool {
     let (sender, seen, entries) = message.into_parts();
-    let are_the_same = sender == other.sender()
-        && seen.same(other.seen())
-        && entries.same(other.entries());
+    let are_the_same = has_parts(other, sender, &seen, &entries);
     drop(seen);
     drop(entries);
     are_the_same
@@ -329,16 +346,22 @@ fn pops<'a, B: Allocator>(rt: &impl Abort, outbox: &mut Outbox<'a, B>, clock: u6
     drop(last);
 }
 
+/// Whether there are two messages, numbered from 1.
+fn has_two<'a, B: Allocator>(outbox: &Outbox<'a, B>) -> bool {
+    let are_there = outbox.get(1).is_some() && outbox.get(2).is_some();
+    are_there && outbox.get(0).is_none() && outbox.get(3).is_none()
+}
+
 /// Whether there are two messages, numbered from 1, in a copy too.
-fn are_numbered<'a, B: Allocator>(rt: &impl Abort, outbox: &Outbox<'a, B>) -> bool {
-    let copy = outbox.try_copy().expect(rt, "a copy");
-    let are_two = outbox.get(1).is_some() && outbox.get(2).is_some();
-    let are_told = are_two
-        && outbox.get(0).is_none()
-        && outbox.get(3).is_none()
-        && copy.same(outbox);
-    drop(copy);
-    are_told
+fn are_numbered<'a, B: Allocator>(outbox: &Outbox<'a, B>) -> bool {
+    match outbox.try_copy() {
+        Ok(copy) => {
+            let is_same = copy.same(outbox);
+            drop(copy);
+            is_same && has_two(outbox)
+        }
+        Err(_) => false,
+    }
 }
 
 #[test]
@@ -347,7 +370,7 @@ fn messages_are_numbered_from_1_and_popped_from_the_end(rt: HostRuntime) {
     let mut outbox = Outbox::new(&heap, 2);
     holds!(&rt, pushes(&rt, &heap, &mut outbox, 1) == 1);
     holds!(&rt, pushes(&rt, &heap, &mut outbox, 2) == 2);
-    holds!(&rt, are_numbered(&rt, &outbox));
+    holds!(&rt, are_numbered(&outbox));
     pops(&rt, &mut outbox, 2);
     pops(&rt, &mut outbox, 1);
     holds!(&rt, outbox.len() == 0);
@@ -452,16 +475,20 @@ fn requests_for(
 }
 
 /// A copy takes a request for the list, and none for its entries; a part may let its list grow.
+fn is_copied_by_few_requests(rt: &impl Abort, heap: &Heap, entries: &EntrySet<&Heap>) {
+    for number in 1..4 {
+        requests_for(rt, heap, entries, true, number);
+        requests_for(rt, heap, entries, false, number);
+    }
+    holds!(rt, requests_for(rt, heap, entries, true, 4) == 1);
+    holds!(rt, requests_for(rt, heap, entries, false, 4) >= 1);
+}
+
 #[test]
 fn a_refused_copy_of_a_set_is_an_error(rt: HostRuntime) {
     let heap = Refusing::new(rt.alloc());
     let entries = three(&rt, &heap);
-    for number in 1..4 {
-        requests_for(&rt, &heap, &entries, true, number);
-        requests_for(&rt, &heap, &entries, false, number);
-    }
-    holds!(&rt, requests_for(&rt, &heap, &entries, true, 4) == 1);
-    holds!(&rt, requests_for(&rt, &heap, &entries, false, 4) >= 1);
+    is_copied_by_few_requests(&rt, &heap, &entries);
     drop(entries);
 }
 
