@@ -6,7 +6,7 @@ ghost use Rattle.diff_core.specs.Online.{AreInOrder};
 
 use crate::calls::{Shown, word};
 use crate::rows::holds;
-use diff_core::{OnlineRow, Oom, changed, diff, online_list};
+use diff_core::{Diff, OnlineRow, Oom, changed, diff, online_list};
 use dots_core::NameSet;
 use payload_core::{Payload, Word};
 use replica_core::{Change, NodeLimits, Replica, ReplicaFault};
@@ -63,6 +63,12 @@ pub fn list_of<'a, B: Allocator>(
     online_list(alloc, replica).expect(rt, "a list")
 }
 
+/// Whether exactly these rows leave and join.
+fn has_rows<'a, B: Allocator>(diff: &Diff<&'a B>, rows: Rows) -> bool {
+    let (left, joined) = rows;
+    are(&diff.left, left) && are(&diff.joined, joined)
+}
+
 /// Whether exactly these rows leave and join between the two lists.
 pub fn differ<'a, B: Allocator>(
     rt: &impl Abort,
@@ -74,9 +80,8 @@ pub fn differ<'a, B: Allocator>(
     requires before { AreInOrder before.now }
     requires after { AreInOrder after.now }
 {
-    let (left, joined) = rows;
     let diff = diff(alloc, before, after).expect(rt, "a difference");
-    let are_these = are(&diff.left, left) && are(&diff.joined, joined);
+    let are_these = has_rows(&diff, rows);
     drop(diff);
     are_these
 }
@@ -193,7 +198,6 @@ fn made<'a, B: Allocator>(
 
 /// Whether what is kept of the last call tells that exactly these rows left and joined.
 fn tells<'a, B: Allocator>(
-    rt: &impl Abort,
     alloc: &'a B,
     change: &Change<&'a B>,
     replica: &Replica<&'a B>,
@@ -201,11 +205,14 @@ fn tells<'a, B: Allocator>(
 ) -> bool
     requires { ChangeLeadsSomewhere (plain_change change.now) replica.now }
 {
-    let (left, joined) = rows;
-    let diff = changed(alloc, change, replica).expect(rt, "a difference");
-    let are_these = are(&diff.left, left) && are(&diff.joined, joined);
-    drop(diff);
-    are_these
+    match changed(alloc, change, replica) {
+        Ok(diff) => {
+            let are_these = has_rows(&diff, rows);
+            drop(diff);
+            are_these
+        }
+        Err(_) => false,
+    }
 }
 
 fn opening<'a, B: Allocator>(alloc: &'a B, own: u16) -> Replica<&'a B>
@@ -232,7 +239,7 @@ fn shows<'a, B: Allocator>(
     let change = made(rt, alloc, replica, messages, call);
     let after = list_of(rt, alloc, replica);
     let (left, joined) = rows;
-    let is_told = tells(rt, alloc, &change, replica, rows);
+    let is_told = tells(alloc, &change, replica, rows);
     drop(change);
     let there = differ(rt, alloc, &before, &after, rows);
     let back = differ(rt, alloc, &after, &before, (joined, left));

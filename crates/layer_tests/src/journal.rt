@@ -70,7 +70,14 @@ fn keeps<'a, B: Allocator>(
       inverse = Some (plain_inverse inverse.entry);
     }) ∷ [] }
 {
-    let is_kept = journal.keep(number, node, step, inverse).is_ok();
+    let is_kept = match journal.keep(number, node, step, inverse) {
+        Ok(()) => true,
+        Err((step, inverse, _oom)) => {
+            drop(step);
+            drop(inverse);
+            false
+        }
+    };
     assert!(rt; is_kept);
 }
 
