@@ -1,35 +1,39 @@
 //! What no clause says of the allocator that these tests use: which requests are refused, and what is counted.
-use std::alloc::AllocError;
-use std::test::Fail;
+use std::alloc::Global;
 use test_alloc::Refusing;
 
-#[test]
-fn refuses_the_one_request_that_is_named(rt: HostRuntime) -> Result<(), Fail> {
-    let heap = Refusing::new(rt.alloc());
-    heap.refuse_only(2);
-    let first: Vec<u8, _> = Vec::with_capacity(&heap, 1)?;
-    let second: Result<Vec<u8, _>, AllocError> = Vec::with_capacity(&heap, 1);
-    assert!(rt; second.is_err());
-    let third: Vec<u8, _> = Vec::with_capacity(&heap, 1)?;
-    assert_eq!(rt; heap.requests(), 3);
-    assert_eq!(rt; first.len(), third.len());
-    Ok(())
+/// The length of a new list with room for a byte; none where its request is refused.
+fn length_of_new(heap: &Refusing<Global>) -> Option<usize> {
+    let bytes: Vec<u8, _> = Vec::with_capacity(heap, 1).ok()?;
+    let length = bytes.len();
+    drop(bytes);
+    Some(length)
 }
 
 #[test]
-fn refuses_all_from_the_one_that_is_named(rt: HostRuntime) -> Result<(), Fail> {
+fn refuses_the_one_request_that_is_named(rt: HostRuntime) {
     let heap = Refusing::new(rt.alloc());
-    let mut bytes: Vec<u8, _> = Vec::with_capacity(&heap, 1)?;
+    heap.refuse_only(2);
+    holds!(&rt, length_of_new(&heap) == Some(0));
+    holds!(&rt, length_of_new(&heap).is_none());
+    holds!(&rt, length_of_new(&heap) == Some(0));
+    holds!(&rt, heap.requests() == 3);
+}
+
+#[test]
+fn refuses_all_from_the_one_that_is_named(rt: HostRuntime) {
+    let heap = Refusing::new(rt.alloc());
+    let mut bytes: Vec<u8, _> = Vec::with_capacity(&heap, 1).expect(&rt, "a list");
     heap.refuse_from(1);
-    bytes.push(7)?;
-    assert_eq!(rt; heap.requests(), 0);
+    holds!(&rt, bytes.push(7).is_ok());
+    holds!(&rt, heap.requests() == 0);
     for number in 1..=3u8 {
-        assert!(rt; bytes.reserve(9).is_err());
-        assert_eq!(rt; heap.requests(), u64::from(number));
+        holds!(&rt, bytes.reserve(9).is_err());
+        holds!(&rt, heap.requests() == u64::from(number));
     }
     heap.refuse_none();
-    bytes.reserve(9)?;
-    assert_eq!(rt; heap.requests(), 1);
-    assert_eq!(rt; bytes.as_slice(), [7].as_slice());
-    Ok(())
+    holds!(&rt, bytes.reserve(9).is_ok());
+    holds!(&rt, heap.requests() == 1);
+    holds!(&rt, bytes.as_slice() == [7].as_slice());
+    drop(bytes);
 }
