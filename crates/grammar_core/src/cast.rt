@@ -10,6 +10,7 @@ use bench_core::{Names, TextSet, is_name};
 use payload_core::Oom;
 use std::alloc::Allocator;
 use std::marker::Model;
+use std::mem;
 
 /// The names of the nodes and of the consoles. Consoles are numbered after the nodes.
 #[derive(Drop)]
@@ -160,6 +161,6 @@ pub fn add_consoles<A: Allocator + Copy>(
     }
     let mut consoles = TextSet::new(alloc);
     add_each(&cast.nodes, &mut consoles, names)?;
-    cast.consoles = consoles;
+    drop(mem::replace(&mut cast.consoles, consoles));
     Ok(())
 }

@@ -45,7 +45,7 @@ fn read_words<A: Allocator + Copy>(
         return Ok(());
     }
     let Some(cast) = &mut reading.cast else {
-        reading.cast = Some(opening(alloc, first, rest)?);
+        drop(reading.cast.replace(opening(alloc, first, rest)?));
         return Ok(());
     };
     if *first == "consoles" {
