@@ -1,4 +1,5 @@
-use Rattle.std.proofs.Common.{rules, sym, subst}
+use Rattle.std.proofs.Common.{arith, rules, sym, subst}
+use Rattle.std.proofs.lemmas.Grind.{common_steps}
 use Rattle.dots_core.specs.Dots.{AreValid}
 use Rattle.report_core.proofs.dots_text.put_name.Goals as goal
 
@@ -7,3 +8,6 @@ clock_of-clock-requires g c = (search rules, (c.requires.name, subst AreValid (s
 
 pub cloud_of-cloud-requires : goal.cloud_of-cloud-requires
 cloud_of-cloud-requires g c = (search rules, (c.requires.name, subst AreValid (sym c.seen-seen.ensures) c.requires.valid))
+
+pub returns-in_err-put_cloud : goal.returns-in_err-put_cloud
+returns-in_err-put_cloud g c = grind (arith, common_steps)
