@@ -39,9 +39,9 @@ fn noted<A: Allocator>(kept: &Kept<A>, place: usize, sent: &mut [u64]) -> Movabl
 
 /// The steps of the journal in their order.
 fn movables<'a, B: Allocator>(
-    alloc: &'a B,
     journal: &Journal<'a, B>,
     nodes: usize,
+    alloc: &'a B,
 ) -> Result<Vec<Movable, &'a B>, Oom>
     requires { AreOfNodes nodes (kepts journal.now.steps) }
     ensures { IfOk result (λ steps. steps.items ≡ movables_after [] (kepts journal.now.steps)) }
@@ -141,7 +141,7 @@ pub fn same_cluster<'a, B: Allocator>(
     }
     let from = one.remaining();
     let to = other.remaining();
-    let mut steps = movables(one.allocator(), from, one.names().len())?;
+    let mut steps = movables(from, one.names().len(), one.allocator())?;
     if let Some(at) = first_bad(steps.as_mut_slice(), places) {
         return Err(SwapFault::BadSwap { at });
     }

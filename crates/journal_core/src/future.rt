@@ -15,7 +15,7 @@ use node_core::Oom;
 use std::alloc::Allocator;
 
 /// Brings the bound of a step's node below the step.
-fn lower_below<'a, B: Allocator>(bounds: &mut [Option<u64>], held: &Held<'a, B>)
+fn lower_below<'a, B: Allocator>(held: &Held<'a, B>, bounds: &mut [Option<u64>])
     requires { held.now.kept.node < length bounds.old }
     ensures { bounds.new ≡ lower_at bounds.old (Some held.now.kept) }
 {
@@ -35,7 +35,7 @@ fn lower_all<'a, B: Allocator>(slots: &Slots<'a, B>, numbers: &[u64], bounds: &m
 {
     for number in numbers {
         if let Some(held) = slots.find(*number) {
-            lower_below(bounds, held);
+            lower_below(held, bounds);
         }
     }
 }
@@ -105,11 +105,11 @@ fn start<'a, B: Allocator>(
 
 /// Gathers the numbers of what follows, least first.
 fn gather<'a, B: Allocator>(
-    alloc: &'a B,
     slots: &Slots<'a, B>,
     causes: &[Causes<'a, B>],
     number: u64,
     bounds: &mut [Option<u64>],
+    alloc: &'a B,
 ) -> Result<Vec<u64, &'a B>, Oom>
     requires long { length bounds.old ≡ length causes.now }
     requires known { AreKnown (length causes.now) (kepts slots.now.steps) }
@@ -130,11 +130,11 @@ fn gather<'a, B: Allocator>(
 
 /// The numbers of a step and of all that follows from it, greatest first.
 fn gather_back<'a, B: Allocator>(
-    alloc: &'a B,
     slots: &Slots<'a, B>,
     causes: &[Causes<'a, B>],
     number: u64,
     bounds: &mut [Option<u64>],
+    alloc: &'a B,
 ) -> Result<Vec<u64, &'a B>, Oom>
     requires long { length bounds.old ≡ length causes.now }
     requires known { AreKnown (length causes.now) (kepts slots.now.steps) }
@@ -143,17 +143,17 @@ fn gather_back<'a, B: Allocator>(
     requires starts { IsGatheredUpTo (kepts slots.now.steps) number [] bounds.old (Some number) }
     ensures { IfOk result (λ numbers. IsFuture (kepts slots.now.steps) number numbers.items) }
 {
-    let mut numbers = gather(alloc, slots, causes, number, bounds)?;
+    let mut numbers = gather(slots, causes, number, bounds, alloc)?;
     numbers.reverse();
     Ok(numbers)
 }
 
 /// The numbers of a step and of all that follows from it, greatest first, in time of so many times a logarithm.
 pub(crate) fn future<'a, B: Allocator>(
-    alloc: &'a B,
     slots: &Slots<'a, B>,
     causes: &[Causes<'a, B>],
     number: u64,
+    alloc: &'a B,
 ) -> Result<Vec<u64, &'a B>, Oom>
     requires known { AreKnown (length causes.now) (kepts slots.now.steps) }
     requires order { AreInCausalOrder (kepts slots.now.steps) }
@@ -165,5 +165,5 @@ pub(crate) fn future<'a, B: Allocator>(
     };
     let node = held.node() as usize;
     let mut bounds = start(alloc, causes.len(), node, number)?;
-    gather_back(alloc, slots, causes, number, bounds.as_mut_slice())
+    gather_back(slots, causes, number, bounds.as_mut_slice(), alloc)
 }

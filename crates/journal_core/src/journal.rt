@@ -140,10 +140,10 @@ impl<'a, B: Allocator> Journal<'a, B> {
         ensures in_order { AreInCausalOrder (kepts self.now.steps) }
     {
         future(
-            *self.causes.allocator(),
             &self.slots,
             self.causes.as_slice(),
             number,
+            *self.causes.allocator(),
         )
     }
 
