@@ -2,7 +2,7 @@
 ghost use Rattle.std.specs.Prelude.{◌≡◌, map, IfErr, IsTrue};
 ghost use Rattle.std.specs.List.{list_all};
 ghost use Rattle.grammar_core.specs.Answers.{Gives, GivesScript};
-ghost use Rattle.grammar_core.specs.Grammar.{with_words, with_line, script_of};
+ghost use Rattle.grammar_core.specs.Grammar.{with_words, with_words_by, with_line, script_of};
 ghost use Rattle.grammar_core.specs.Readings.{reading_view};
 ghost use Rattle.grammar_core.specs.Scripts.{plain_script};
 ghost use Rattle.grammar_core.specs.Words.{is_visible};
@@ -27,7 +27,33 @@ pub struct Reading<A: Allocator> {
     pub lines: Vec<Line<A>, A>,
 }
 
-#[tactic(auto, unfolding(crate::specs::Grammar::with_words, crate::specs::Grammar::with_words_by))]
+/// A significant line: its first word, and those behind it.
+#[tactic(auto, unfolding(crate::specs::Grammar::with_words_by))]
+fn read_significant<A: Allocator + Copy>(
+    alloc: A,
+    reading: &mut Reading<A>,
+    number: u64,
+    first: &str,
+    rest: &[&str],
+) -> Result<(), FaultKind>
+    requires { IsTrue (list_all is_visible (map (λ word. word.now) rest.now)) }
+    ensures gives { Gives (λ _. reading_view reading.new) result
+        (with_words_by (reading_view reading.old).cast (reading_view reading.old).lines number first.now (map (λ word. word.now) rest.now)) }
+    ensures kept { IfErr result (λ _. reading_view reading.new ≡ reading_view reading.old) }
+{
+    let Some(cast) = &mut reading.cast else {
+        drop(reading.cast.replace(opening(alloc, first, rest)?));
+        return Ok(());
+    };
+    if first == "consoles" {
+        return add_consoles(alloc, cast, rest);
+    }
+    let command = command_of(alloc, cast, first, rest)?;
+    reading.lines.push(Line { number, command })?;
+    Ok(())
+}
+
+#[tactic(auto, unfolding(crate::specs::Grammar::with_words))]
 fn read_words<A: Allocator + Copy>(
     alloc: A,
     reading: &mut Reading<A>,
@@ -44,16 +70,7 @@ fn read_words<A: Allocator + Copy>(
     if first.starts_with('#') {
         return Ok(());
     }
-    let Some(cast) = &mut reading.cast else {
-        drop(reading.cast.replace(opening(alloc, first, rest)?));
-        return Ok(());
-    };
-    if *first == "consoles" {
-        return add_consoles(alloc, cast, rest);
-    }
-    let command = command_of(alloc, cast, first, rest)?;
-    reading.lines.push(Line { number, command })?;
-    Ok(())
+    read_significant(alloc, reading, number, first, rest)
 }
 
 /// A line, whose fault changes nothing.
