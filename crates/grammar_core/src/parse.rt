@@ -114,6 +114,7 @@ pub fn parse_script<A: Allocator + Copy>(alloc: A, bytes: &[u8]) -> Result<Scrip
     for (index, line) in lines.iter().enumerate() {
         let number = index as u64 + 1;
         if let Err(kind) = read_line(alloc, &mut reading, number, line) {
+            drop(reading);
             return Err(ScriptFault::at(number, kind));
         }
     }
