@@ -1,15 +1,15 @@
 -- Undos in turn, and how they change the online lists of the nodes.
 use Rattle.std.proofs.Common.{◌≡◌, ◌≢◌, ◌⊎◌, inl, inr, ℕ, zero, suc, ◌+◌, ◌<◌, ◌≤◌, List, [], ◌∷◌, ◌++◌, map, drop, length, get_or, slice_get, slice_set}
-use Rattle.std.proofs.Common.{Option, Some, None, option_map, refl, sym, ap, ap₂, ◌∙◌, subst, subst₂, arith, append_assoc, append-nil, length-append}
+use Rattle.std.proofs.Common.{Option, Some, None, option_map, refl, sym, ap, ◌∙◌, subst, subst₂, arith, append_assoc, append-nil, length-append}
 use Rattle.std.proofs.lemmas.Bool.{cases_eq}
 use Rattle.std.proofs.lemmas.List.{drop_more, length-set}
 use Rattle.std.proofs.lemmas.Option.{slice_get-get_or}
 use Rattle.std.specs.List.Sorted.{IsStrictlySortedBy}
 use Rattle.bench_core.specs.declared.reply.Reply.TheVariants.{Undone}
-use Rattle.journal_core.specs.Journals.{Kept, find_number, first_consequence, without}
+use Rattle.journal_core.specs.Journals.{Kept, find_number, without}
 use Rattle.bench_core.specs.Acts.{Undo}
 use Rattle.bench_core.specs.Clusters.{Cluster}
-use Rattle.bench_core.specs.Machine.{Machine, State, config_of, cluster_of, undo_reply, with_state, call, calls, replies_of}
+use Rattle.bench_core.specs.Machine.{Machine, config_of, cluster_of, undo_reply, call, replies_of}
 use Rattle.bench_core.specs.Benches.{IsMachine}
 use Rattle.bench_core.specs.Unwinds.{OthersLaw, undos}
 use Rattle.bench_core.proofs.Clusters.{get-set_same, get-set_other}

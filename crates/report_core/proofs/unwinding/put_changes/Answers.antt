@@ -1,4 +1,4 @@
-use Rattle.std.proofs.Common.{◌≡◌, ◌<◌, length, ap, ◌∙◌, string_bytes, arith}
+use Rattle.std.proofs.Common.{length, ap, string_bytes, arith}
 use Rattle.report_core.specs.Shown.{rows_at}
 use Rattle.report_core.proofs.MovedRows.{no_changes, changes_more, all_changes, get_of, rows_in_order}
 use Rattle.report_core.proofs.unwinding.put_changes.Goals as goal

@@ -1,7 +1,6 @@
-use Rattle.std.proofs.Common.{◌++◌, length, ap, refl, sym, ◌∙◌, subst, List, string_bytes}
+use Rattle.std.proofs.Common.{length, refl, sym, subst, List, string_bytes}
 use Rattle.std.proofs.lemmas.Result.{on_ok_weaker}
 use Rattle.report_core.specs.MovedRows.{Moves, AreMoved}
-use Rattle.report_core.specs.ActTexts.{after_unwind}
 use Rattle.report_core.specs.Shown.{rows_to}
 use Rattle.report_core.proofs.MovedRows.{told_changes}
 use Rattle.report_core.proofs.Printed.{unwound_bench, unwound_text}
