@@ -119,7 +119,7 @@ fn extract<A: Allocator>(rt: &impl Abort, name: u16) -> Step<A> {
 }
 
 /// A bench of the nodes `a` and `b`.
-pub fn open<'a, B: Allocator>(rt: &impl Abort, alloc: &'a B, limits: Limits) -> Bench<'a, B> {
+pub fn open<'a, B: Allocator>(alloc: &'a B, limits: Limits, rt: &impl Abort) -> Bench<'a, B> {
     let names = Names::new(alloc, &["a", "b"]).expect(rt, "names");
     Bench::new(alloc, names, limits).expect(rt, "a bench")
 }
@@ -131,11 +131,11 @@ pub fn limits_of(rt: &impl Abort, limits: [u64; 4], name: &str) -> Limits {
 
 /// Makes one call, which gets its reply.
 pub fn answers<'a, B: Allocator>(
-    rt: &impl Abort,
-    alloc: &'a B,
     bench: &mut Bench<'a, B>,
     row: &Row,
     name: &str,
+    alloc: &'a B,
+    rt: &impl Abort,
 ) {
     let (actor, call, reply) = *row;
     let act = call.act(rt, alloc);
@@ -146,15 +146,15 @@ pub fn answers<'a, B: Allocator>(
 
 /// A bench that was asked these calls in turn, each of which got its reply.
 pub fn played<'a, B: Allocator>(
-    rt: &impl Abort,
     alloc: &'a B,
     limits: Limits,
     rows: &[Row],
     name: &str,
+    rt: &impl Abort,
 ) -> Bench<'a, B> {
-    let mut bench = open(rt, alloc, limits);
+    let mut bench = open(alloc, limits, rt);
     for row in rows {
-        answers(rt, alloc, &mut bench, row, name);
+        answers(&mut bench, row, name, alloc, rt);
     }
     bench
 }

@@ -235,32 +235,32 @@ const CASES: &[Case] = &[
 
 /// The online list of a node.
 fn list<'a, B: Allocator>(
-    rt: &impl Abort,
-    alloc: &'a B,
     bench: &Bench<'a, B>,
     node: u16,
+    alloc: &'a B,
+    rt: &impl Abort,
 ) -> Vec<OnlineRow<&'a B>, &'a B>
     ensures { AreInOrder result.items }
 {
     let place = bench.node(node).expect(rt, "a node");
-    list_of(rt, alloc, place.replica())
+    list_of(place.replica(), alloc, rt)
 }
 
 /// Whether the list of the node differs so from what it was, and the other way round on the way back.
 fn changes<'a, B: Allocator>(
-    rt: &impl Abort,
-    alloc: &'a B,
     bench: &Bench<'a, B>,
     node: u16,
     before: &[OnlineRow<&'a B>],
     rows: Rows,
+    alloc: &'a B,
+    rt: &impl Abort,
 ) -> bool
     requires { AreInOrder before.now }
 {
-    let after = list(rt, alloc, bench, node);
+    let after = list(bench, node, alloc, rt);
     let (left, joined) = rows;
-    let there = differ(rt, alloc, before, &after, rows);
-    let back = differ(rt, alloc, &after, before, (joined, left));
+    let there = differ(before, &after, rows, alloc, rt);
+    let back = differ(&after, before, (joined, left), alloc, rt);
     drop(after);
     there && back
 }
@@ -276,34 +276,34 @@ fn has_way_back<'a, B: Allocator>(bench: &Bench<'a, B>, reply: Reply) -> bool {
 
 /// Makes the call, which changes each list as its row says.
 fn shows<'a, B: Allocator>(
-    rt: &impl Abort,
-    alloc: &'a B,
     bench: &mut Bench<'a, B>,
     turn: &Turn,
     name: &str,
+    alloc: &'a B,
+    rt: &impl Abort,
 ) {
     let (row, at_a, at_b) = turn;
-    let a = list(rt, alloc, bench, 0);
-    let b = list(rt, alloc, bench, 1);
-    answers(rt, alloc, bench, row, name);
+    let a = list(bench, 0, alloc, rt);
+    let b = list(bench, 1, alloc, rt);
+    answers(bench, row, name, alloc, rt);
     holds(rt, has_way_back(bench, row.2), name);
-    holds(rt, changes(rt, alloc, bench, 0, &a, *at_a), name);
-    holds(rt, changes(rt, alloc, bench, 1, &b, *at_b), name);
+    holds(rt, changes(bench, 0, &a, *at_a, alloc, rt), name);
+    holds(rt, changes(bench, 1, &b, *at_b, alloc, rt), name);
     drop(a);
     drop(b);
 }
 
 /// A bench that was asked these calls, each of which changed the lists so.
 fn shown<'a, B: Allocator>(
-    rt: &impl Abort,
     alloc: &'a B,
     limits: Limits,
     turns: &[Turn],
     name: &str,
+    rt: &impl Abort,
 ) -> Bench<'a, B> {
-    let mut bench = open(rt, alloc, limits);
+    let mut bench = open(alloc, limits, rt);
     for turn in turns {
-        shows(rt, alloc, &mut bench, turn, name);
+        shows(&mut bench, turn, name, alloc, rt);
     }
     bench
 }
@@ -313,7 +313,7 @@ fn each_call_changes_the_lists_so(rt: HostRuntime) {
     let heap = rt.alloc();
     for case in CASES {
         let limits = limits_of(&rt, case.limits, case.name);
-        drop(shown(&rt, &heap, limits, case.turns, case.name));
+        drop(shown(&heap, limits, case.turns, case.name, &rt));
     }
 }
 
@@ -342,12 +342,12 @@ fn unwinds<'a, B: Allocator>(bench: &mut Bench<'a, B>, expected: &[u64]) -> bool
 }
 
 /// Whether the unwind takes what was joined, at both nodes, off the lists.
-fn is_unwound<'a, B: Allocator>(rt: &impl Abort, alloc: &'a B, bench: &mut Bench<'a, B>) -> bool {
-    let a = list(rt, alloc, bench, 0);
-    let b = list(rt, alloc, bench, 1);
+fn is_unwound<'a, B: Allocator>(bench: &mut Bench<'a, B>, alloc: &'a B, rt: &impl Abort) -> bool {
+    let a = list(bench, 0, alloc, rt);
+    let b = list(bench, 1, alloc, rt);
     let is_done = unwinds(bench, &[5, 4, 3, 1]);
-    let at_a = changes(rt, alloc, bench, 0, &a, (&[ALICE], &[]));
-    let at_b = changes(rt, alloc, bench, 1, &b, (&[ALICE, BOB], &[]));
+    let at_a = changes(bench, 0, &a, (&[ALICE], &[]), alloc, rt);
+    let at_b = changes(bench, 1, &b, (&[ALICE, BOB], &[]), alloc, rt);
     drop(a);
     drop(b);
     is_done && at_a && at_b
@@ -356,7 +356,7 @@ fn is_unwound<'a, B: Allocator>(rt: &impl Abort, alloc: &'a B, bench: &mut Bench
 #[test]
 fn an_unwind_changes_the_list_of_each_node(rt: HostRuntime) {
     let heap = rt.alloc();
-    let mut bench = shown(&rt, &heap, Limits::usual(), &FIVE_STEPS, "five steps");
-    holds!(&rt, is_unwound(&rt, &heap, &mut bench));
+    let mut bench = shown(&heap, Limits::usual(), &FIVE_STEPS, "five steps", &rt);
+    holds!(&rt, is_unwound(&mut bench, &heap, &rt));
     drop(bench);
 }

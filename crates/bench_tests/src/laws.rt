@@ -65,7 +65,7 @@ fn laws_hold<'a, B: Allocator>(bench: &Bench<'a, B>) -> bool {
 #[test]
 fn laws_hold_of_a_bench(rt: HostRuntime) {
     let heap = rt.alloc();
-    let bench = open(&rt, &heap, Limits::usual());
+    let bench = open(&heap, Limits::usual(), &rt);
     holds!(&rt, laws_hold(&bench));
     drop(bench);
 }

@@ -309,6 +309,6 @@ const CASES: &[Case] = &[
 fn leaves_and_statuses_get_their_replies(rt: HostRuntime) {
     let heap = rt.alloc();
     for case in CASES {
-        plays(&rt, &heap, case);
+        plays(&heap, case, &rt);
     }
 }

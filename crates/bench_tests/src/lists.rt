@@ -54,9 +54,9 @@ fn are<'a, B: Allocator>(rows: &[OnlineRow<&'a B>], expected: &[Seen]) -> bool {
 
 /// The online list of a replica.
 pub fn list_of<'a, B: Allocator>(
-    rt: &impl Abort,
-    alloc: &'a B,
     replica: &Replica<&'a B>,
+    alloc: &'a B,
+    rt: &impl Abort,
 ) -> Vec<OnlineRow<&'a B>, &'a B>
     ensures { AreInOrder result.items }
 {
@@ -71,11 +71,11 @@ fn has_rows<'a, B: Allocator>(diff: &Diff<&'a B>, rows: Rows) -> bool {
 
 /// Whether exactly these rows leave and join between the two lists.
 pub fn differ<'a, B: Allocator>(
-    rt: &impl Abort,
-    alloc: &'a B,
     before: &[OnlineRow<&'a B>],
     after: &[OnlineRow<&'a B>],
     rows: Rows,
+    alloc: &'a B,
+    rt: &impl Abort,
 ) -> bool
     requires before { AreInOrder before.now }
     requires after { AreInOrder after.now }
@@ -107,7 +107,7 @@ struct Words<A: Allocator> {
     metadata: Word<A>,
 }
 
-fn words_of<'a, B: Allocator>(rt: &impl Abort, alloc: &'a B, shown: Shown) -> Words<&'a B> {
+fn words_of<'a, B: Allocator>(alloc: &'a B, shown: Shown, rt: &impl Abort) -> Words<&'a B> {
     let (topic, key, metadata) = shown.texts();
     Words {
         topic: word(rt, alloc, topic),
@@ -117,42 +117,42 @@ fn words_of<'a, B: Allocator>(rt: &impl Abort, alloc: &'a B, shown: Shown) -> Wo
 }
 
 fn joins<'a, B: Allocator>(
-    rt: &impl Abort,
-    alloc: &'a B,
     replica: &mut Replica<&'a B>,
     shown: Shown,
+    alloc: &'a B,
+    rt: &impl Abort,
 ) -> Result<Change<&'a B>, ReplicaFault>
     ensures { IfOk result (λ change. ChangeLeadsBack (plain_change change) replica.new replica.old) }
 {
-    let words = words_of(rt, alloc, shown);
+    let words = words_of(alloc, shown, rt);
     let made = replica.join(1, &words.topic, &words.key, &words.metadata);
     drop(words);
     made
 }
 
 fn updates<'a, B: Allocator>(
-    rt: &impl Abort,
-    alloc: &'a B,
     replica: &mut Replica<&'a B>,
     shown: Shown,
+    alloc: &'a B,
+    rt: &impl Abort,
 ) -> Result<Change<&'a B>, ReplicaFault>
     ensures { IfOk result (λ change. ChangeLeadsBack (plain_change change) replica.new replica.old) }
 {
-    let words = words_of(rt, alloc, shown);
+    let words = words_of(alloc, shown, rt);
     let made = replica.update(1, &words.topic, &words.key, &words.metadata);
     drop(words);
     made
 }
 
 fn leaves<'a, B: Allocator>(
-    rt: &impl Abort,
-    alloc: &'a B,
     replica: &mut Replica<&'a B>,
     shown: Shown,
+    alloc: &'a B,
+    rt: &impl Abort,
 ) -> Result<Change<&'a B>, ReplicaFault>
     ensures { IfOk result (λ change. ChangeLeadsBack (plain_change change) replica.new replica.old) }
 {
-    let words = words_of(rt, alloc, shown);
+    let words = words_of(alloc, shown, rt);
     let made = replica.leave(1, &words.topic, &words.key);
     drop(words);
     made
@@ -160,18 +160,18 @@ fn leaves<'a, B: Allocator>(
 
 /// The call is asked; of a message that isn't there, or is a request, nothing is.
 fn asked<'a, B: Allocator>(
-    rt: &impl Abort,
-    alloc: &'a B,
     replica: &mut Replica<&'a B>,
     messages: &[Payload<&'a B>],
     call: Call,
+    alloc: &'a B,
+    rt: &impl Abort,
 ) -> Result<Change<&'a B>, ReplicaFault>
     ensures { IfOk result (λ change. ChangeLeadsBack (plain_change change) replica.new replica.old) }
 {
     match call {
-        Call::Join(shown) => joins(rt, alloc, replica, shown),
-        Call::Leave(shown) => leaves(rt, alloc, replica, shown),
-        Call::Update(shown) => updates(rt, alloc, replica, shown),
+        Call::Join(shown) => joins(replica, shown, alloc, rt),
+        Call::Leave(shown) => leaves(replica, shown, alloc, rt),
+        Call::Update(shown) => updates(replica, shown, alloc, rt),
         Call::Merge(place) => match messages.get(place) {
             Some(message) if message.asked().is_none() => replica.merge(message),
             _ => Err(ReplicaFault::OutOfMemory),
@@ -185,23 +185,23 @@ fn asked<'a, B: Allocator>(
 
 /// The call is made; what is kept of it.
 fn made<'a, B: Allocator>(
-    rt: &impl Abort,
-    alloc: &'a B,
     replica: &mut Replica<&'a B>,
     messages: &[Payload<&'a B>],
     call: Call,
+    alloc: &'a B,
+    rt: &impl Abort,
 ) -> Change<&'a B>
     ensures { ChangeLeadsBack (plain_change result) replica.new replica.old }
 {
-    asked(rt, alloc, replica, messages, call).expect(rt, "a call")
+    asked(replica, messages, call, alloc, rt).expect(rt, "a call")
 }
 
 /// Whether what is kept of the last call tells that exactly these rows left and joined.
 fn tells<'a, B: Allocator>(
-    alloc: &'a B,
     change: &Change<&'a B>,
     replica: &Replica<&'a B>,
     rows: Rows,
+    alloc: &'a B,
 ) -> bool
     requires { ChangeLeadsSomewhere (plain_change change.now) replica.now }
 {
@@ -228,21 +228,21 @@ fn opening<'a, B: Allocator>(alloc: &'a B, own: u16) -> Replica<&'a B>
 
 /// Whether the call changes the list so, the other way round on the way back, and what is kept of it tells the same.
 fn shows<'a, B: Allocator>(
-    rt: &impl Abort,
-    alloc: &'a B,
     replica: &mut Replica<&'a B>,
     messages: &[Payload<&'a B>],
     row: &(Call, Rows),
+    alloc: &'a B,
+    rt: &impl Abort,
 ) -> bool {
     let (call, rows) = *row;
-    let before = list_of(rt, alloc, replica);
-    let change = made(rt, alloc, replica, messages, call);
-    let after = list_of(rt, alloc, replica);
+    let before = list_of(replica, alloc, rt);
+    let change = made(replica, messages, call, alloc, rt);
+    let after = list_of(replica, alloc, rt);
     let (left, joined) = rows;
-    let is_told = tells(alloc, &change, replica, rows);
+    let is_told = tells(&change, replica, rows, alloc);
     drop(change);
-    let there = differ(rt, alloc, &before, &after, rows);
-    let back = differ(rt, alloc, &after, &before, (joined, left));
+    let there = differ(&before, &after, rows, alloc, rt);
+    let back = differ(&after, &before, (joined, left), alloc, rt);
     drop(before);
     drop(after);
     is_told && there && back
@@ -296,48 +296,48 @@ const CASES: &[Case] = &[
 
 /// What the replica tells of the call alone.
 fn told<'a, B: Allocator>(
-    rt: &impl Abort,
-    alloc: &'a B,
     replica: &mut Replica<&'a B>,
     call: Call,
+    alloc: &'a B,
+    rt: &impl Abort,
 ) -> Payload<&'a B> {
-    drop(made(rt, alloc, replica, &[], call));
+    drop(made(replica, &[], call, alloc, rt));
     replica.take_delta().expect(rt, "a message")
 }
 
 /// All that the replica of name 0 tells after the call.
 fn told_in_all<'a, B: Allocator>(
-    rt: &impl Abort,
-    alloc: &'a B,
     replica: &mut Replica<&'a B>,
     call: Call,
+    alloc: &'a B,
+    rt: &impl Abort,
 ) -> Payload<&'a B> {
-    drop(made(rt, alloc, replica, &[], call));
+    drop(made(replica, &[], call, alloc, rt));
     replica
         .extract(NameSet::empty().with(0))
         .expect(rt, "a message")
 }
 
 /// What name 0 tells of a join alone, of an update after it alone, and of all after a leave.
-fn messages<'a, B: Allocator>(rt: &impl Abort, alloc: &'a B) -> [Payload<&'a B>; 3] {
+fn messages<'a, B: Allocator>(alloc: &'a B, rt: &impl Abort) -> [Payload<&'a B>; 3] {
     let mut replica = opening(alloc, 0);
-    let joined = told(rt, alloc, &mut replica, Call::Join(Shown::Alice));
-    let updated = told(rt, alloc, &mut replica, Call::Update(Shown::Away));
-    let left = told_in_all(rt, alloc, &mut replica, Call::Leave(Shown::Away));
+    let joined = told(&mut replica, Call::Join(Shown::Alice), alloc, rt);
+    let updated = told(&mut replica, Call::Update(Shown::Away), alloc, rt);
+    let left = told_in_all(&mut replica, Call::Leave(Shown::Away), alloc, rt);
     drop(replica);
     [joined, updated, left]
 }
 
 fn plays<'a, B: Allocator>(
-    rt: &impl Abort,
-    alloc: &'a B,
     messages: &[Payload<&'a B>],
     case: &Case,
+    alloc: &'a B,
+    rt: &impl Abort,
 ) {
     assert!(rt; case.own < 32);
     let mut replica = opening(alloc, case.own);
     for row in case.rows {
-        holds(rt, shows(rt, alloc, &mut replica, messages, row), case.name);
+        holds(rt, shows(&mut replica, messages, row, alloc, rt), case.name);
     }
     drop(replica);
 }
@@ -345,15 +345,15 @@ fn plays<'a, B: Allocator>(
 #[test]
 fn calls_are_shown(rt: HostRuntime) {
     let heap = rt.alloc();
-    let messages = messages(&rt, &heap);
+    let messages = messages(&heap, &rt);
     for case in CASES {
-        plays(&rt, &heap, &messages, case);
+        plays(&messages, case, &heap, &rt);
     }
     drop(messages);
 }
 
 /// Whether two rows that follow one another do so in order, and a copy of the first is the same.
-fn are_in_order<'a, B: Allocator>(rt: &impl Abort, rows: &[OnlineRow<&'a B>]) -> bool {
+fn are_in_order<'a, B: Allocator>(rows: &[OnlineRow<&'a B>], rt: &impl Abort) -> bool {
     let [first, second, ..] = rows else {
         return false;
     };
@@ -364,10 +364,10 @@ fn are_in_order<'a, B: Allocator>(rt: &impl Abort, rows: &[OnlineRow<&'a B>]) ->
 }
 
 /// A replica of name 0 whose process 1 joined so.
-fn joined<'a, B: Allocator>(rt: &impl Abort, alloc: &'a B, all: &[Shown]) -> Replica<&'a B> {
+fn joined<'a, B: Allocator>(alloc: &'a B, all: &[Shown], rt: &impl Abort) -> Replica<&'a B> {
     let mut replica = opening(alloc, 0);
     for shown in all {
-        drop(made(rt, alloc, &mut replica, &[], Call::Join(*shown)));
+        drop(made(&mut replica, &[], Call::Join(*shown), alloc, rt));
     }
     replica
 }
@@ -375,32 +375,32 @@ fn joined<'a, B: Allocator>(rt: &impl Abort, alloc: &'a B, all: &[Shown]) -> Rep
 #[test]
 fn rows_stand_in_order(rt: HostRuntime) {
     let heap = rt.alloc();
-    let replica = joined(&rt, &heap, &[Shown::AliceUnderS, Shown::Bob, Shown::Alice]);
-    let rows = list_of(&rt, &heap, &replica);
+    let replica = joined(&heap, &[Shown::AliceUnderS, Shown::Bob, Shown::Alice], &rt);
+    let rows = list_of(&replica, &heap, &rt);
     holds!(&rt, are(&rows, &[ALICE, (0, 1, Shown::Bob), ALICE_UNDER_S]));
-    holds!(&rt, are_in_order(&rt, &rows));
+    holds!(&rt, are_in_order(&rows, &rt));
     drop(rows);
     drop(replica);
 }
 
 /// Whether a list and its difference from another, with this request for memory refused, are had where none met the refusal.
 fn fails_where_refused<'a>(
-    heap: &'a Heap,
     replica: &Replica<&'a Heap>,
     other: &Replica<&'a Heap>,
     number: u64,
+    heap: &'a Heap,
 ) -> bool {
     heap.refuse_only(number);
-    let is_had = is_compared(heap, replica, other).is_ok();
+    let is_had = is_compared(replica, other, heap).is_ok();
     let requests = heap.requests();
     is_had == (requests < number)
 }
 
 /// The difference from the list of the other.
 fn compared<'a, B: Allocator>(
-    alloc: &'a B,
     rows: &[OnlineRow<&'a B>],
     other: &Replica<&'a B>,
+    alloc: &'a B,
 ) -> Result<(), Oom>
     requires { AreInOrder rows.now }
 {
@@ -414,33 +414,33 @@ fn compared<'a, B: Allocator>(
 }
 
 fn is_compared<'a, B: Allocator>(
-    alloc: &'a B,
     replica: &Replica<&'a B>,
     other: &Replica<&'a B>,
+    alloc: &'a B,
 ) -> Result<(), Oom> {
     let rows = online_list(alloc, replica)?;
-    let answer = compared(alloc, &rows, other);
+    let answer = compared(&rows, other, alloc);
     drop(rows);
     answer
 }
 
 fn fail_where_refused<'a>(
-    rt: &impl Abort,
-    heap: &'a Heap,
     replica: &Replica<&'a Heap>,
     other: &Replica<&'a Heap>,
+    heap: &'a Heap,
+    rt: &impl Abort,
 ) {
     for number in 1..16 {
-        holds!(rt, fails_where_refused(heap, replica, other, number));
+        holds!(rt, fails_where_refused(replica, other, number, heap));
     }
 }
 
 #[test]
 fn refused_memory_is_told(rt: HostRuntime) {
     let heap = Refusing::new(rt.alloc());
-    let replica = joined(&rt, &heap, &[Shown::Alice]);
+    let replica = joined(&heap, &[Shown::Alice], &rt);
     let other = opening(&heap, 1);
-    fail_where_refused(&rt, &heap, &replica, &other);
+    fail_where_refused(&replica, &other, &heap, &rt);
     drop(other);
     drop(replica);
 }

@@ -22,7 +22,7 @@ fn a_run_of_calls_gives_their_replies(rt: HostRuntime) {
     let unknown = Reply::Refused(Fault::UnknownNode);
     let never = Reply::Refused(Fault::NoSuchStep);
     let expected = [unknown, unknown, unknown, unknown, never];
-    let mut bench = open(&rt, &heap, Limits::usual());
+    let mut bench = open(&heap, Limits::usual(), &rt);
     let replies = bench.run(&calls).expect(&rt, "replies");
     holds!(&rt, replies.as_slice() == expected.as_slice());
     drop(replies);
@@ -56,7 +56,7 @@ fn is_usual<'a, B: Allocator>(bench: &Bench<'a, B>) -> bool {
 #[test]
 fn a_bench_has_its_names_and_limits(rt: HostRuntime) {
     let heap = rt.alloc();
-    let bench = open(&rt, &heap, Limits::usual());
+    let bench = open(&heap, Limits::usual(), &rt);
     holds!(&rt, is_usual(&bench));
     drop(bench);
 }
@@ -212,8 +212,8 @@ fn has<'a, B: Allocator>(bench: &Bench<'a, B>, look: Look) -> bool {
     }
 }
 
-fn plays<'a, B: Allocator>(rt: &impl Abort, alloc: &'a B, case: &Case) {
-    let bench = played(rt, alloc, Limits::usual(), case.rows, case.name);
+fn plays<'a, B: Allocator>(alloc: &'a B, case: &Case, rt: &impl Abort) {
+    let bench = played(alloc, Limits::usual(), case.rows, case.name, rt);
     holds(rt, has(&bench, case.look), case.name);
     drop(bench);
 }
@@ -222,6 +222,6 @@ fn plays<'a, B: Allocator>(rt: &impl Abort, alloc: &'a B, case: &Case) {
 fn a_bench_has_what_its_calls_left(rt: HostRuntime) {
     let heap = rt.alloc();
     for case in CASES {
-        plays(&rt, &heap, case);
+        plays(&heap, case, &rt);
     }
 }

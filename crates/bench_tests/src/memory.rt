@@ -77,11 +77,11 @@ fn is_as_before<'a>(bench: &Bench<'a, Heap>, held: &Held<'a>) -> bool {
 
 /// Makes the call with this request for memory refused alone.
 fn answer_refused<'a>(
-    heap: &'a Heap,
     bench: &mut Bench<'a, Heap>,
     actor: u16,
     act: &Act<&'a Heap>,
     number: u64,
+    heap: &'a Heap,
 ) -> Reply {
     heap.refuse_only(number);
     let answer = bench.act(actor, act);
@@ -92,15 +92,15 @@ fn answer_refused<'a>(
 /// Makes the call with its first, second, .. request for memory refused, until it meets none and gives this reply. Each
 /// refused call leaves all as it was. Gives the number of refused calls.
 fn refused_until<'a>(
-    rt: &impl Abort,
-    heap: &'a Heap,
     bench: &mut Bench<'a, Heap>,
     call: (u16, &Act<&'a Heap>, Reply),
     held: &Held<'a>,
+    heap: &'a Heap,
+    rt: &impl Abort,
 ) -> u64 {
     let (actor, act, reply) = call;
     for number in 1..100 {
-        let answer = answer_refused(heap, bench, actor, act, number);
+        let answer = answer_refused(bench, actor, act, number, heap);
         if answer == reply {
             return number - 1;
         }
@@ -112,15 +112,15 @@ fn refused_until<'a>(
 
 /// Makes the call of a row so.
 fn refused_in_turn<'a>(
-    rt: &impl Abort,
-    heap: &'a Heap,
     bench: &mut Bench<'a, Heap>,
     row: &Row,
+    heap: &'a Heap,
+    rt: &impl Abort,
 ) -> u64 {
     let (actor, call, reply) = *row;
     let act = call.act(rt, heap);
     let held = copied(bench);
-    let refused = refused_until(rt, heap, bench, (actor, &act, reply), &held);
+    let refused = refused_until(bench, (actor, &act, reply), &held, heap, rt);
     drop(held);
     drop(act);
     refused
@@ -198,11 +198,11 @@ const ANSWERS: [Row; 7] = [
 ];
 
 /// Makes the calls of a table so. Gives how often one was refused memory, at most.
-fn all_refused_in_turn<'a>(rt: &impl Abort, heap: &'a Heap, rows: &[Row]) -> u64 {
-    let mut bench = open(rt, heap, Limits::usual());
+fn all_refused_in_turn<'a>(heap: &'a Heap, rows: &[Row], rt: &impl Abort) -> u64 {
+    let mut bench = open(heap, Limits::usual(), rt);
     let mut most = 0;
     for row in rows {
-        let refused = refused_in_turn(rt, heap, &mut bench, row);
+        let refused = refused_in_turn(&mut bench, row, heap, rt);
         most = most.max(refused);
     }
     drop(bench);
@@ -213,7 +213,7 @@ fn all_refused_in_turn<'a>(rt: &impl Abort, heap: &'a Heap, rows: &[Row]) -> u64
 fn a_call_that_is_refused_memory_changes_nothing(rt: HostRuntime) {
     let heap = Refusing::new(rt.alloc());
     for rows in [MESSAGES.as_slice(), &LEAVES, &REFUSED, &ANSWERS] {
-        let most = all_refused_in_turn(&rt, &heap, rows);
+        let most = all_refused_in_turn(&heap, rows, &rt);
         holds!(&rt, 0 < most && most < 100);
     }
 }
@@ -231,7 +231,7 @@ fn gives_up_for_memory(rt: HostRuntime) {
         (0, Call::Join(1, Shown::Alice), Reply::Taken(1)),
         (1, Call::Undo(1), Reply::Undone(1)),
     ];
-    let mut bench = played(&rt, &heap, Limits::usual(), &rows, "a join undone");
+    let mut bench = played(&heap, Limits::usual(), &rows, "a join undone", &rt);
     heap.refuse_from(1);
     holds!(&rt, !runs(&mut bench));
     drop(bench);
@@ -318,7 +318,7 @@ const FULL: &[Full] = &[
 ];
 
 /// Whether the call gets its reply with all memory refused, and asks for none.
-fn is_free<'a>(rt: &impl Abort, heap: &'a Heap, bench: &mut Bench<'a, Heap>, row: &Row) -> bool {
+fn is_free<'a>(bench: &mut Bench<'a, Heap>, row: &Row, heap: &'a Heap, rt: &impl Abort) -> bool {
     let (actor, call, reply) = *row;
     let act = call.act(rt, heap);
     heap.refuse_from(1);
@@ -330,18 +330,18 @@ fn is_free<'a>(rt: &impl Abort, heap: &'a Heap, bench: &mut Bench<'a, Heap>, row
 }
 
 /// Makes the calls that are refused, each of which is recorded nowhere.
-fn are_free<'a>(rt: &impl Abort, heap: &'a Heap, bench: &mut Bench<'a, Heap>, full: &Full) {
+fn are_free<'a>(bench: &mut Bench<'a, Heap>, full: &Full, heap: &'a Heap, rt: &impl Abort) {
     let counts = counts_of(bench);
     for row in full.refused {
-        holds(rt, is_free(rt, heap, bench, row), full.name);
+        holds(rt, is_free(bench, row, heap, rt), full.name);
         holds(rt, counts_of(bench) == counts, full.name);
     }
 }
 
-fn refuses_all<'a>(rt: &impl Abort, heap: &'a Heap, full: &Full) {
+fn refuses_all<'a>(heap: &'a Heap, full: &Full, rt: &impl Abort) {
     let limits = limits_of(rt, full.limits, full.name);
-    let mut bench = played(rt, heap, limits, full.rows, full.name);
-    are_free(rt, heap, &mut bench, full);
+    let mut bench = played(heap, limits, full.rows, full.name, rt);
+    are_free(&mut bench, full, heap, rt);
     drop(bench);
 }
 
@@ -349,16 +349,16 @@ fn refuses_all<'a>(rt: &impl Abort, heap: &'a Heap, full: &Full) {
 fn a_refusal_without_a_place_takes_no_memory(rt: HostRuntime) {
     let heap = Refusing::new(rt.alloc());
     for full in FULL {
-        refuses_all(&rt, &heap, full);
+        refuses_all(&heap, full, &rt);
     }
 }
 
 /// A bench whose node `a` joined a thousand processes, of which nothing was sent.
-fn joined<'a>(rt: &impl Abort, heap: &'a Heap) -> Bench<'a, Heap> {
-    let mut bench = open(rt, heap, Limits::usual());
+fn joined<'a>(heap: &'a Heap, rt: &impl Abort) -> Bench<'a, Heap> {
+    let mut bench = open(heap, Limits::usual(), rt);
     for pid in 1..1_001 {
         let row = (0, Call::Join(pid, Shown::Alice), Reply::Taken(pid));
-        answers(rt, heap, &mut bench, &row, "a join");
+        answers(&mut bench, &row, "a join", heap, rt);
     }
     bench
 }
@@ -367,13 +367,13 @@ fn joined<'a>(rt: &impl Abort, heap: &'a Heap) -> Bench<'a, Heap> {
 #[test]
 fn a_join_and_its_undo_ask_for_memory_a_few_times(rt: HostRuntime) {
     let heap = Refusing::new(rt.alloc());
-    let mut bench = joined(&rt, &heap);
+    let mut bench = joined(&heap, &rt);
     let join = Call::Join(1_001, Shown::Alice).act(&rt, &heap);
-    let taken = answer_refused(&heap, &mut bench, 0, &join, 65);
+    let taken = answer_refused(&mut bench, 0, &join, 65, &heap);
     drop(join);
     holds!(&rt, taken == Reply::Taken(1_001));
     let undo = Act::Undo(1_001);
-    let undone = answer_refused(&heap, &mut bench, 0, &undo, 65);
+    let undone = answer_refused(&mut bench, 0, &undo, 65, &heap);
     drop(undo);
     holds!(&rt, undone == Reply::Undone(1_001));
     drop(bench);

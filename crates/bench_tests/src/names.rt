@@ -78,7 +78,7 @@ fn refused_names(rt: &impl Abort, heap: &Refusing<Global>) -> u64 {
 }
 
 /// Copies names so.
-fn refused_copies<'a>(heap: &'a Refusing<Global>, names: &Names<&'a Refusing<Global>>) -> u64 {
+fn refused_copies<'a>(names: &Names<&'a Refusing<Global>>, heap: &'a Refusing<Global>) -> u64 {
     for number in 1..100 {
         heap.refuse_only(number);
         if names.try_copy().err().is_none() {
@@ -95,7 +95,7 @@ fn a_refused_request_is_out_of_memory(rt: HostRuntime) {
     holds!(&rt, 2 <= refused && refused < 99);
     heap.refuse_none();
     let names = named(&rt, &heap, &["a", "b"]);
-    let unmade = refused_copies(&heap, &names);
+    let unmade = refused_copies(&names, &heap);
     holds!(&rt, 2 <= unmade && unmade < 99);
     drop(names);
 }

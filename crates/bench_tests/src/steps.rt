@@ -554,10 +554,10 @@ fn has<'a, B: Allocator>(bench: &Bench<'a, B>, case: &Case) -> bool {
     has_node(bench, case) && has_counts(bench, case)
 }
 
-pub fn plays<'a, B: Allocator>(rt: &impl Abort, alloc: &'a B, case: &Case) {
+pub fn plays<'a, B: Allocator>(alloc: &'a B, case: &Case, rt: &impl Abort) {
     let limits = limits_of(rt, case.limits, case.name);
     let rows = case.rows.get(..case.asked).expect(rt, case.name);
-    let bench = played(rt, alloc, limits, rows, case.name);
+    let bench = played(alloc, limits, rows, case.name, rt);
     holds(rt, has(&bench, case), case.name);
     drop(bench);
 }
@@ -566,18 +566,18 @@ pub fn plays<'a, B: Allocator>(rt: &impl Abort, alloc: &'a B, case: &Case) {
 fn calls_get_their_replies(rt: HostRuntime) {
     let heap = rt.alloc();
     for case in CASES {
-        plays(&rt, &heap, case);
+        plays(&heap, case, &rt);
     }
 }
 
 /// What the meter shows after the call.
 fn meter_after<'a, B: Allocator>(
-    rt: &impl Abort,
-    alloc: &'a B,
     bench: &mut Bench<'a, B>,
     row: &Row,
+    alloc: &'a B,
+    rt: &impl Abort,
 ) -> u64 {
-    answers(rt, alloc, bench, row, "steps and undos");
+    answers(bench, row, "steps and undos", alloc, rt);
     bench.meter()
 }
 
@@ -585,9 +585,9 @@ fn meter_after<'a, B: Allocator>(
 #[test]
 fn the_meter_counts_the_steps_that_were_taken(rt: HostRuntime) {
     let heap = rt.alloc();
-    let mut bench = open(&rt, &heap, limits_of(&rt, USUAL, "the usual"));
+    let mut bench = open(&heap, limits_of(&rt, USUAL, "the usual"), &rt);
     for (place, row) in DELIVERED_AND_UNDONE.iter().enumerate() {
-        let meter = meter_after(&rt, &heap, &mut bench, row);
+        let meter = meter_after(&mut bench, row, &heap, &rt);
         holds!(&rt, meter == (place + 1).min(4) as u64);
     }
     drop(bench);

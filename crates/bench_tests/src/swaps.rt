@@ -113,21 +113,21 @@ const SWAPS: &[Swaps] = &[
 
 /// What the steps of the one bench come to, beside those of the other.
 fn answer_of<'a, B: Allocator>(
-    rt: &impl Abort,
-    alloc: &'a B,
     one: &Bench<'a, B>,
     swaps: &Swaps,
+    alloc: &'a B,
+    rt: &impl Abort,
 ) -> Result<(), SwapFault> {
     let limits = limits_of(rt, swaps.limits, swaps.name);
-    let other = played(rt, alloc, limits, swaps.other, swaps.name);
+    let other = played(alloc, limits, swaps.other, swaps.name, rt);
     let answer = same_cluster(one, &other, swaps.places);
     drop(other);
     answer
 }
 
-fn answers<'a, B: Allocator>(rt: &impl Abort, alloc: &'a B, swaps: &Swaps) {
-    let one = played(rt, alloc, Limits::usual(), swaps.one, swaps.name);
-    let answer = answer_of(rt, alloc, &one, swaps);
+fn answers<'a, B: Allocator>(alloc: &'a B, swaps: &Swaps, rt: &impl Abort) {
+    let one = played(alloc, Limits::usual(), swaps.one, swaps.name, rt);
+    let answer = answer_of(&one, swaps, alloc, rt);
     drop(one);
     holds(rt, answer == swaps.answer, swaps.name);
 }
@@ -136,16 +136,16 @@ fn answers<'a, B: Allocator>(rt: &impl Abort, alloc: &'a B, swaps: &Swaps) {
 fn swaps_lead_from_one_bench_to_another(rt: HostRuntime) {
     let heap = rt.alloc();
     for swaps in SWAPS {
-        answers(&rt, &heap, swaps);
+        answers(&heap, swaps, &rt);
     }
 }
 
 /// Answers with the first, second, .. request for memory refused alone, until none is met. Gives how many were refused.
 fn refused_in_turn<'a>(
-    rt: &impl Abort,
-    heap: &'a Refusing<Global>,
     one: &Bench<'a, Refusing<Global>>,
     other: &Bench<'a, Refusing<Global>>,
+    heap: &'a Refusing<Global>,
+    rt: &impl Abort,
 ) -> u64 {
     for number in 1..10 {
         heap.refuse_only(number);
@@ -161,12 +161,12 @@ fn refused_in_turn<'a>(
 
 /// How many were refused between this bench and one of the other order.
 fn refused_before_the_other<'a>(
-    rt: &impl Abort,
-    heap: &'a Refusing<Global>,
     one: &Bench<'a, Refusing<Global>>,
+    heap: &'a Refusing<Global>,
+    rt: &impl Abort,
 ) -> u64 {
-    let other = played(rt, heap, Limits::usual(), &BOB_FIRST, "the other order");
-    let refused = refused_in_turn(rt, heap, one, &other);
+    let other = played(heap, Limits::usual(), &BOB_FIRST, "the other order", rt);
+    let refused = refused_in_turn(one, &other, heap, rt);
     drop(other);
     refused
 }
@@ -174,8 +174,8 @@ fn refused_before_the_other<'a>(
 #[test]
 fn swaps_are_told_from_want_of_memory(rt: HostRuntime) {
     let heap = Refusing::new(rt.alloc());
-    let one = played(&rt, &heap, Limits::usual(), &ALICE_FIRST, "one order");
-    let refused = refused_before_the_other(&rt, &heap, &one);
+    let one = played(&heap, Limits::usual(), &ALICE_FIRST, "one order", &rt);
+    let refused = refused_before_the_other(&one, &heap, &rt);
     drop(one);
     holds!(&rt, 0 < refused && refused < 9);
 }
@@ -214,12 +214,12 @@ fn has_same_node<'a, B: Allocator>(one: &Bench<'a, B>, other: &Bench<'a, B>, num
 
 /// Whether the second node is the same in a bench to which the second message came first.
 fn has_node_of_the_other<'a, B: Allocator>(
-    rt: &impl Abort,
-    alloc: &'a B,
     one: &Bench<'a, B>,
+    alloc: &'a B,
+    rt: &impl Abort,
 ) -> bool {
     let rows = &SECOND_MESSAGE_FIRST;
-    let other = played(rt, alloc, Limits::usual(), rows, "the second first");
+    let other = played(alloc, Limits::usual(), rows, "the second first", rt);
     let is_same = has_same_node(one, &other, 1);
     drop(other);
     is_same
@@ -229,12 +229,12 @@ fn has_node_of_the_other<'a, B: Allocator>(
 fn two_messages_come_in_either_order_and_twice(rt: HostRuntime) {
     let heap = rt.alloc();
     let one = played(
-        &rt,
         &heap,
         Limits::usual(),
         &FIRST_MESSAGE_FIRST,
         "in order",
+        &rt,
     );
-    holds!(&rt, has_node_of_the_other(&rt, &heap, &one));
+    holds!(&rt, has_node_of_the_other(&one, &heap, &rt));
     drop(one);
 }

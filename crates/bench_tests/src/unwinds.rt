@@ -70,7 +70,7 @@ fn leaves_the_second<'a, B: Allocator>(bench: &mut Bench<'a, B>) -> bool {
 #[test]
 fn a_step_is_undone_with_all_that_follows(rt: HostRuntime) {
     let heap = rt.alloc();
-    let mut bench = played(&rt, &heap, Limits::usual(), &FIVE_STEPS, "five steps");
+    let mut bench = played(&heap, Limits::usual(), &FIVE_STEPS, "five steps", &rt);
     holds!(&rt, leaves_the_second(&mut bench));
     drop(bench);
 }
@@ -78,7 +78,7 @@ fn a_step_is_undone_with_all_that_follows(rt: HostRuntime) {
 #[test]
 fn other_steps_stay(rt: HostRuntime) {
     let heap = rt.alloc();
-    let mut bench = played(&rt, &heap, Limits::usual(), &DELIVERED, "a delivery");
+    let mut bench = played(&heap, Limits::usual(), &DELIVERED, "a delivery", &rt);
     holds!(&rt, unwinds(&mut bench, 2, &[4, 2], (6, 2)));
     drop(bench);
 }
@@ -117,7 +117,7 @@ fn has_faults<'a, B: Allocator>(bench: &mut Bench<'a, B>) -> bool {
 #[test]
 fn no_step_that_is_gone_has_a_future(rt: HostRuntime) {
     let heap = rt.alloc();
-    let mut bench = played(&rt, &heap, Limits::usual(), &JOINED_AND_UNDONE, "undone");
+    let mut bench = played(&heap, Limits::usual(), &JOINED_AND_UNDONE, "undone", &rt);
     holds!(&rt, has_faults(&mut bench));
     drop(bench);
 }
@@ -137,10 +137,10 @@ fn so_many(numbers: &[u64]) -> Option<usize> {
 /// Unwinds step 1 of five with this request for memory refused. Gives how many steps were undone, and whether the request was
 /// met: just then the unwind is told as refused, or done in part.
 fn undone_in_part<'a>(
-    rt: &impl Abort,
-    heap: &'a Heap,
     bench: &mut Bench<'a, Heap>,
     number: u64,
+    heap: &'a Heap,
+    rt: &impl Abort,
 ) -> (usize, bool) {
     heap.refuse_only(number);
     let unwound = bench.unwind(2, 1);
@@ -175,21 +175,21 @@ fn undoes_the_rest<'a>(bench: &mut Bench<'a, Heap>, undone: usize) -> bool {
 /// Unwinds step 1 of five so, and then the rest of it with memory. Gives how many steps were undone first, where the request
 /// was met.
 fn undone_first<'a>(
-    rt: &impl Abort,
-    heap: &'a Heap,
     bench: &mut Bench<'a, Heap>,
     number: u64,
+    heap: &'a Heap,
+    rt: &impl Abort,
 ) -> Option<usize> {
-    let (undone, is_met) = undone_in_part(rt, heap, bench, number);
+    let (undone, is_met) = undone_in_part(bench, number, heap, rt);
     holds!(rt, has_undone(bench, undone));
     holds!(rt, undoes_the_rest(bench, undone));
     if is_met { Some(undone) } else { None }
 }
 
 /// The same of a new bench.
-fn goes_on<'a>(rt: &impl Abort, heap: &'a Heap, number: u64) -> Option<usize> {
-    let mut bench = played(rt, heap, Limits::usual(), &FIVE_STEPS, "five steps");
-    let undone = undone_first(rt, heap, &mut bench, number);
+fn goes_on<'a>(heap: &'a Heap, number: u64, rt: &impl Abort) -> Option<usize> {
+    let mut bench = played(heap, Limits::usual(), &FIVE_STEPS, "five steps", rt);
+    let undone = undone_first(&mut bench, number, heap, rt);
     drop(bench);
     undone
 }
@@ -199,7 +199,7 @@ fn an_unwind_that_is_refused_memory_can_go_on(rt: HostRuntime) {
     let heap = Refusing::new(rt.alloc());
     let mut most = 0;
     for number in 1..100 {
-        let Some(undone) = goes_on(&rt, &heap, number) else {
+        let Some(undone) = goes_on(&heap, number, &rt) else {
             break;
         };
         most = most.max(undone);

@@ -247,12 +247,12 @@ type Heap = Refusing<Global>;
 
 /// Makes the edit with one request for memory refused. Says whether it was made, and then, that it met no refusal.
 fn is_made<'a>(
-    rt: &impl Abort,
-    heap: &'a Heap,
     dots: &mut DotSet<&'a Heap>,
     far: &DotSet<&'a Heap>,
     edit: Edit,
     number: u64,
+    heap: &'a Heap,
+    rt: &impl Abort,
 ) -> bool {
     heap.refuse_only(number);
     let answer = edits(rt, dots, far, edit);
@@ -289,16 +289,16 @@ const REFUSALS: [Refusal; 3] = [
 /// Makes the edit with its first, second, .. request for memory refused, until it meets none. Each refused one leaves the
 /// set as it was. Gives how many were refused.
 fn refused_in_turn<'a>(
-    rt: &impl Abort,
-    heap: &'a Heap,
     dots: &mut DotSet<&'a Heap>,
     far: &DotSet<&'a Heap>,
     edit: Edit,
+    heap: &'a Heap,
+    rt: &impl Abort,
 ) -> u64 {
     let before = dots.try_copy().expect(rt, "a copy");
     let mut refused = 0;
     for number in 1..100 {
-        if is_made(rt, heap, dots, far, edit, number) {
+        if is_made(dots, far, edit, number, heap, rt) {
             break;
         }
         holds_at(rt, dots.same(&before), number);
@@ -313,21 +313,21 @@ fn a_refused_edit_changes_nothing(rt: HostRuntime) {
     let heap = Refusing::new(rt.alloc());
     let far = set_of(&rt, &heap, &FAR);
     for refusal in REFUSALS {
-        holds!(&rt, is_refused_in_turn(&rt, &heap, &far, refusal));
+        holds!(&rt, is_refused_in_turn(&far, refusal, &heap, &rt));
     }
     drop(far);
 }
 
 /// Whether the edit is refused so often, and then leaves these dots.
 fn is_refused_in_turn<'a>(
-    rt: &impl Abort,
-    heap: &'a Heap,
     far: &DotSet<&'a Heap>,
     refusal: Refusal,
+    heap: &'a Heap,
+    rt: &impl Abort,
 ) -> bool {
     let (before, edit, refusals, after) = refusal;
     let mut dots = set_of(rt, heap, before);
-    let refused = refused_in_turn(rt, heap, &mut dots, far, edit);
+    let refused = refused_in_turn(&mut dots, far, edit, heap, rt);
     let expected = set_of(rt, heap, after);
     let is_edited = dots.same(&expected);
     drop(expected);

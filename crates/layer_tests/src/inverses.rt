@@ -287,12 +287,12 @@ const STEPS: [(Sent, &[(Ask, Told)]); 5] = [
 
 /// Takes a step, and says whether its inverse has what is told.
 fn keeps<'a>(
-    rt: &impl Abort,
-    heap: &'a Heap,
     node: &mut Node<'a, Heap>,
     ask: Ask,
     message: &Payload<&'a Heap>,
     told: Told,
+    heap: &'a Heap,
+    rt: &impl Abort,
 ) -> bool {
     let step = ask.step(rt, heap);
     let mut meter = Meter::new();
@@ -306,15 +306,15 @@ fn keeps<'a>(
 }
 
 fn each_keeps<'a>(
-    rt: &impl Abort,
-    heap: &'a Heap,
     node: &mut Node<'a, Heap>,
     sent: Sent,
     rows: &[(Ask, Told)],
+    heap: &'a Heap,
+    rt: &impl Abort,
 ) {
     let message = sent.message(rt, heap);
     for (ask, told) in rows {
-        holds!(rt, keeps(rt, heap, node, *ask, &message, *told));
+        holds!(rt, keeps(node, *ask, &message, *told, heap, rt));
     }
     drop(message);
 }
@@ -324,7 +324,7 @@ fn each_inverse_keeps_what_its_step_destroyed(rt: HostRuntime) {
     let heap = Refusing::new(rt.alloc());
     let mut node = Node::new(&heap, 0, USUAL);
     for (sent, rows) in &STEPS {
-        each_keeps(&rt, &heap, &mut node, *sent, rows);
+        each_keeps(&mut node, *sent, rows, &heap, &rt);
     }
     drop(node);
 }

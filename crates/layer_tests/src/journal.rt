@@ -18,7 +18,7 @@ use test_alloc::Refusing;
 type Heap = Refusing<Global>;
 
 /// A journal of so many nodes, without a step.
-fn opened<'a, B: Allocator>(rt: &impl Abort, alloc: &'a B, nodes: u16) -> Journal<'a, B>
+fn opened<'a, B: Allocator>(alloc: &'a B, nodes: u16, rt: &impl Abort) -> Journal<'a, B>
     requires { nodes ≤ 32 }
     ensures nodes { result.nodes ≡ nodes }
     ensures steps { result.steps ≡ [] }
@@ -26,7 +26,7 @@ fn opened<'a, B: Allocator>(rt: &impl Abort, alloc: &'a B, nodes: u16) -> Journa
     Journal::new(alloc, nodes).expect(rt, "a journal")
 }
 
-fn join<'a, B: Allocator>(rt: &impl Abort, alloc: &'a B) -> Step<&'a B>
+fn join<'a, B: Allocator>(alloc: &'a B, rt: &impl Abort) -> Step<&'a B>
     ensures delivers { delivers (plain result) ≡ None }
     ensures sends { sends (plain result) ≡ false }
 {
@@ -39,7 +39,7 @@ fn join<'a, B: Allocator>(rt: &impl Abort, alloc: &'a B) -> Step<&'a B>
 }
 
 /// The inverse of a step that some node took.
-fn inverse<'a, B: Allocator>(rt: &impl Abort, alloc: &'a B) -> Inverse<&'a B> {
+fn inverse<'a, B: Allocator>(alloc: &'a B, rt: &impl Abort) -> Inverse<&'a B> {
     let limits = NodeLimits {
         entries: 10,
         clock: 10,
@@ -55,12 +55,12 @@ fn inverse<'a, B: Allocator>(rt: &impl Abort, alloc: &'a B) -> Inverse<&'a B> {
 }
 
 fn keeps<'a, B: Allocator>(
-    rt: &impl Abort,
     journal: &mut Journal<'a, B>,
     number: u64,
     node: u16,
     step: Step<&'a B>,
     inverse: Inverse<&'a B>,
+    rt: &impl Abort,
 )
     requires { CanBeKept journal.old number node (plain step) }
     ensures nodes { journal.new.nodes ≡ journal.old.nodes }
@@ -82,19 +82,19 @@ fn keeps<'a, B: Allocator>(
 }
 
 /// A join of node 0, an up of node 1, a broadcast of node 0, and its delivery to node 1.
-fn four_steps<'a, B: Allocator>(rt: &impl Abort, alloc: &'a B) -> Journal<'a, B>
+fn four_steps<'a, B: Allocator>(alloc: &'a B, rt: &impl Abort) -> Journal<'a, B>
     ensures { result.nodes ≡ 2 }
 {
-    let mut journal = opened(rt, alloc, 2);
-    keeps(rt, &mut journal, 1, 0, join(rt, alloc), inverse(rt, alloc));
+    let mut journal = opened(alloc, 2, rt);
+    keeps(&mut journal, 1, 0, join(alloc, rt), inverse(alloc, rt), rt);
     let up = Step::Up { name: 0 };
-    keeps(rt, &mut journal, 2, 1, up, inverse(rt, alloc));
-    keeps(rt, &mut journal, 3, 0, Step::Broadcast, inverse(rt, alloc));
+    keeps(&mut journal, 2, 1, up, inverse(alloc, rt), rt);
+    keeps(&mut journal, 3, 0, Step::Broadcast, inverse(alloc, rt), rt);
     let delivery = Step::Deliver {
         sender: 0,
         number: 1,
     };
-    keeps(rt, &mut journal, 4, 1, delivery, inverse(rt, alloc));
+    keeps(&mut journal, 4, 1, delivery, inverse(alloc, rt), rt);
     journal
 }
 
@@ -115,7 +115,7 @@ fn follow<'a, B: Allocator>(journal: &Journal<'a, B>) -> bool
 #[test]
 fn a_delivery_follows_from_its_send(rt: HostRuntime) {
     let heap = rt.alloc();
-    let journal = four_steps(&rt, &heap);
+    let journal = four_steps(&heap, &rt);
     holds!(&rt, follow(&journal));
     drop(journal);
 }
@@ -134,7 +134,7 @@ fn has_future<'a, B: Allocator>(journal: &Journal<'a, B>, number: u64, expected:
     }
 }
 
-fn has_futures<'a, B: Allocator>(rt: &impl Abort, journal: &Journal<'a, B>) {
+fn has_futures<'a, B: Allocator>(journal: &Journal<'a, B>, rt: &impl Abort) {
     for (number, expected) in &FUTURES {
         holds_at(rt, has_future(journal, *number, expected), *number);
     }
@@ -143,13 +143,13 @@ fn has_futures<'a, B: Allocator>(rt: &impl Abort, journal: &Journal<'a, B>) {
 #[test]
 fn a_future_goes_all_the_way(rt: HostRuntime) {
     let heap = rt.alloc();
-    let journal = four_steps(&rt, &heap);
-    has_futures(&rt, &journal);
+    let journal = four_steps(&heap, &rt);
+    has_futures(&journal, &rt);
     drop(journal);
 }
 
 /// Whether the future of step 1, with this request for memory refused, is had where it met no refusal.
-fn is_told<'a>(heap: &'a Heap, journal: &Journal<'a, Heap>, number: u64) -> bool {
+fn is_told<'a>(journal: &Journal<'a, Heap>, number: u64, heap: &'a Heap) -> bool {
     heap.refuse_only(number);
     let is_had = journal.future(1).err().is_none();
     let requests = heap.requests();
@@ -157,22 +157,22 @@ fn is_told<'a>(heap: &'a Heap, journal: &Journal<'a, Heap>, number: u64) -> bool
     0 < requests && is_had == (requests < number)
 }
 
-fn is_told_each<'a>(rt: &impl Abort, heap: &'a Heap, journal: &Journal<'a, Heap>) {
+fn is_told_each<'a>(journal: &Journal<'a, Heap>, heap: &'a Heap, rt: &impl Abort) {
     for number in 1..8 {
-        holds_at(rt, is_told(heap, journal, number), number);
+        holds_at(rt, is_told(journal, number, heap), number);
     }
 }
 
 #[test]
 fn a_future_that_is_refused_memory_is_an_error(rt: HostRuntime) {
     let heap = Refusing::new(rt.alloc());
-    let journal = four_steps(&rt, &heap);
-    is_told_each(&rt, &heap, &journal);
+    let journal = four_steps(&heap, &rt);
+    is_told_each(&journal, &heap, &rt);
     holds!(&rt, has_future(&journal, 1, &[4, 3, 1]));
     drop(journal);
 }
 
-fn lends_and_puts_back<'a, B: Allocator>(rt: &impl Abort, journal: &mut Journal<'a, B>, number: u64)
+fn lends_and_puts_back<'a, B: Allocator>(journal: &mut Journal<'a, B>, number: u64, rt: &impl Abort)
     requires { AreAllHeld journal.old.steps }
     ensures { journal.new ≡ journal.old }
 {
@@ -181,7 +181,7 @@ fn lends_and_puts_back<'a, B: Allocator>(rt: &impl Abort, journal: &mut Journal<
     journal.put_back(number, inverse);
 }
 
-fn lends_and_takes_out<'a, B: Allocator>(rt: &impl Abort, journal: &mut Journal<'a, B>, number: u64)
+fn lends_and_takes_out<'a, B: Allocator>(journal: &mut Journal<'a, B>, number: u64, rt: &impl Abort)
     requires held { AreAllHeld journal.old.steps }
     requires free { first_consequence (kepts journal.old.steps) number ≡ None }
     ensures nodes { journal.new.nodes ≡ journal.old.nodes }
@@ -194,41 +194,41 @@ fn lends_and_takes_out<'a, B: Allocator>(rt: &impl Abort, journal: &mut Journal<
 }
 
 /// A send, whose inverse is lent and put back.
-fn one_send<'a, B: Allocator>(rt: &impl Abort, alloc: &'a B) -> Journal<'a, B> {
-    let mut journal = opened(rt, alloc, 2);
+fn one_send<'a, B: Allocator>(alloc: &'a B, rt: &impl Abort) -> Journal<'a, B> {
+    let mut journal = opened(alloc, 2, rt);
     let send = Step::Extract {
         names: NameSet::empty(),
     };
-    keeps(rt, &mut journal, 1, 0, send, inverse(rt, alloc));
-    lends_and_puts_back(rt, &mut journal, 1);
+    keeps(&mut journal, 1, 0, send, inverse(alloc, rt), rt);
+    lends_and_puts_back(&mut journal, 1, rt);
     journal
 }
 
 /// A send that is taken out again.
-fn an_undone_send<'a, B: Allocator>(rt: &impl Abort, alloc: &'a B) -> Journal<'a, B>
+fn an_undone_send<'a, B: Allocator>(alloc: &'a B, rt: &impl Abort) -> Journal<'a, B>
     ensures nodes { result.nodes ≡ 2 }
     ensures steps { result.steps ≡ [] }
 {
-    let mut journal = opened(rt, alloc, 2);
+    let mut journal = opened(alloc, 2, rt);
     let send = Step::Extract {
         names: NameSet::empty(),
     };
-    keeps(rt, &mut journal, 1, 0, send, inverse(rt, alloc));
-    lends_and_takes_out(rt, &mut journal, 1);
+    keeps(&mut journal, 1, 0, send, inverse(alloc, rt), rt);
+    lends_and_takes_out(&mut journal, 1, rt);
     journal
 }
 
 /// After a send that was taken out: another send, and a delivery of its node's first message.
-fn a_second_send<'a, B: Allocator>(rt: &impl Abort, alloc: &'a B) -> Journal<'a, B> {
-    let mut journal = an_undone_send(rt, alloc);
-    keeps(rt, &mut journal, 2, 0, Step::Broadcast, inverse(rt, alloc));
+fn a_second_send<'a, B: Allocator>(alloc: &'a B, rt: &impl Abort) -> Journal<'a, B> {
+    let mut journal = an_undone_send(alloc, rt);
+    keeps(&mut journal, 2, 0, Step::Broadcast, inverse(alloc, rt), rt);
     let up = Step::Up { name: 0 };
-    keeps(rt, &mut journal, 3, 1, up, inverse(rt, alloc));
+    keeps(&mut journal, 3, 1, up, inverse(alloc, rt), rt);
     let delivery = Step::Deliver {
         sender: 0,
         number: 1,
     };
-    keeps(rt, &mut journal, 4, 1, delivery, inverse(rt, alloc));
+    keeps(&mut journal, 4, 1, delivery, inverse(alloc, rt), rt);
     journal
 }
 
@@ -240,7 +240,7 @@ fn follows_from_the_second<'a, B: Allocator>(journal: &Journal<'a, B>) -> bool {
 #[test]
 fn an_undone_send_frees_its_number(rt: HostRuntime) {
     let heap = rt.alloc();
-    let journal = a_second_send(&rt, &heap);
+    let journal = a_second_send(&heap, &rt);
     holds!(&rt, follows_from_the_second(&journal));
     drop(journal);
 }
@@ -260,27 +260,27 @@ fn is_empty<'a, B: Allocator>(journal: &Journal<'a, B>) -> bool {
 #[test]
 fn a_loan_ends_in_two_ways(rt: HostRuntime) {
     let heap = rt.alloc();
-    let journal = one_send(&rt, &heap);
+    let journal = one_send(&heap, &rt);
     holds!(&rt, has_first(&journal));
     drop(journal);
-    let journal = an_undone_send(&rt, &heap);
+    let journal = an_undone_send(&heap, &rt);
     holds!(&rt, is_empty(&journal));
     drop(journal);
 }
 
 /// Two steps, of which the first is taken out.
 fn a_step_taken_out_before_another<'a, B: Allocator>(
-    rt: &impl Abort,
     alloc: &'a B,
+    rt: &impl Abort,
 ) -> Journal<'a, B> {
-    let mut journal = opened(rt, alloc, 2);
+    let mut journal = opened(alloc, 2, rt);
     let up = Step::Up { name: 1 };
-    keeps(rt, &mut journal, 1, 0, up, inverse(rt, alloc));
+    keeps(&mut journal, 1, 0, up, inverse(alloc, rt), rt);
     let up = Step::Up { name: 0 };
-    keeps(rt, &mut journal, 2, 1, up, inverse(rt, alloc));
+    keeps(&mut journal, 2, 1, up, inverse(alloc, rt), rt);
     let is_free = journal.first_consequence(1) == None;
     assert!(rt; is_free);
-    lends_and_takes_out(rt, &mut journal, 1);
+    lends_and_takes_out(&mut journal, 1, rt);
     journal
 }
 
@@ -299,20 +299,20 @@ fn are_numbers<'a, B: Allocator>(journal: &Journal<'a, B>, expected: &[u64]) -> 
 #[test]
 fn a_walk_meets_the_steps_that_remain(rt: HostRuntime) {
     let heap = rt.alloc();
-    let journal = four_steps(&rt, &heap);
+    let journal = four_steps(&heap, &rt);
     holds!(&rt, are_numbers(&journal, &[1, 2, 3, 4]));
     drop(journal);
-    let journal = a_step_taken_out_before_another(&rt, &heap);
+    let journal = a_step_taken_out_before_another(&heap, &rt);
     holds!(&rt, are_numbers(&journal, &[2]));
     drop(journal);
 }
 
 /// A step of the last of 32 nodes.
-fn one_of_the_last<'a, B: Allocator>(rt: &impl Abort, alloc: &'a B) -> Journal<'a, B>
+fn one_of_the_last<'a, B: Allocator>(alloc: &'a B, rt: &impl Abort) -> Journal<'a, B>
     ensures { result.nodes ≡ 32 }
 {
-    let mut journal = opened(rt, alloc, 32);
-    keeps(rt, &mut journal, 1, 31, Step::Broadcast, inverse(rt, alloc));
+    let mut journal = opened(alloc, 32, rt);
+    keeps(&mut journal, 1, 31, Step::Broadcast, inverse(alloc, rt), rt);
     journal
 }
 
@@ -320,7 +320,7 @@ fn one_of_the_last<'a, B: Allocator>(rt: &impl Abort, alloc: &'a B) -> Journal<'
 #[test]
 fn each_of_32_nodes_has_its_steps(rt: HostRuntime) {
     let heap = rt.alloc();
-    let journal = one_of_the_last(&rt, &heap);
+    let journal = one_of_the_last(&heap, &rt);
     holds!(&rt, journal.last_of(31) == Some(1));
     drop(journal);
 }
@@ -328,8 +328,8 @@ fn each_of_32_nodes_has_its_steps(rt: HostRuntime) {
 #[test]
 fn a_step_that_is_refused_memory_is_not_kept(rt: HostRuntime) {
     let heap = Refusing::new(rt.alloc());
-    let mut journal = opened(&rt, &heap, 2);
-    let inverse = inverse(&rt, &heap);
+    let mut journal = opened(&heap, 2, &rt);
+    let inverse = inverse(&heap, &rt);
     heap.refuse_from(1);
     holds!(
         &rt,
@@ -348,8 +348,8 @@ fn a_step_that_is_refused_memory_is_not_kept(rt: HostRuntime) {
 #[test]
 fn a_step_with_room_needs_no_memory(rt: HostRuntime) {
     let heap = Refusing::new(rt.alloc());
-    let mut journal = opened(&rt, &heap, 2);
-    let inverse = inverse(&rt, &heap);
+    let mut journal = opened(&heap, 2, &rt);
+    let inverse = inverse(&heap, &rt);
     holds!(&rt, journal.make_room(0, &Step::Broadcast).is_ok());
     holds!(&rt, journal.make_room(1, &Step::Up { name: 0 }).is_ok());
     heap.refuse_from(1);

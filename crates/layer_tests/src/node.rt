@@ -246,7 +246,7 @@ const KINDS: [Ask; 12] = [
 ];
 
 /// Whether the step is copied with all memory refused.
-fn is_copied<'a>(heap: &'a Heap, step: &Step<&'a Heap>) -> bool {
+fn is_copied<'a>(step: &Step<&'a Heap>, heap: &'a Heap) -> bool {
     heap.refuse_from(1);
     let copy = step.try_copy();
     let requests = heap.requests();
@@ -267,12 +267,12 @@ fn a_step_is_copied_without_memory(rt: HostRuntime) {
     let heap = Refusing::new(rt.alloc());
     for ask in KINDS {
         let step = ask.step(&rt, &heap);
-        holds!(&rt, is_copied(&heap, &step));
+        holds!(&rt, is_copied(&step, &heap));
         drop(step);
     }
 }
 
-fn in_range(rt: &impl Abort, limits: NodeLimits) -> NodeLimits
+fn in_range(limits: NodeLimits, rt: &impl Abort) -> NodeLimits
     ensures { AreNodeLimits result }
 {
     assert!(rt; 1 <= limits.entries && limits.entries <= 100_000);
@@ -283,10 +283,10 @@ fn in_range(rt: &impl Abort, limits: NodeLimits) -> NodeLimits
 
 /// The fault of a step, which counts where it is accepted.
 fn fault_of<'a, B: Allocator>(
-    rt: &impl Abort,
-    alloc: &'a B,
     node: &mut Node<'a, B>,
     ask: Ask,
+    alloc: &'a B,
+    rt: &impl Abort,
 ) -> Option<StepFault> {
     let step = ask.step(rt, alloc);
     let mut meter = Meter::new();
@@ -296,10 +296,10 @@ fn fault_of<'a, B: Allocator>(
     fault
 }
 
-fn has_faults<'a, B: Allocator>(rt: &impl Abort, alloc: &'a B, case: &Case) {
-    let mut node = Node::new(alloc, 0, in_range(rt, case.limits));
+fn has_faults<'a, B: Allocator>(alloc: &'a B, case: &Case, rt: &impl Abort) {
+    let mut node = Node::new(alloc, 0, in_range(case.limits, rt));
     for (ask, expected) in case.rows {
-        let fault = fault_of(rt, alloc, &mut node, *ask);
+        let fault = fault_of(&mut node, *ask, alloc, rt);
         holds(rt, fault == *expected, case.name);
     }
     drop(node);
@@ -309,11 +309,11 @@ fn has_faults<'a, B: Allocator>(rt: &impl Abort, alloc: &'a B, case: &Case) {
 fn steps_have_their_faults(rt: HostRuntime) {
     let heap = rt.alloc();
     for case in &CASES {
-        has_faults(&rt, &heap, case);
+        has_faults(&heap, case, &rt);
     }
 }
 
-fn joins<'a, B: Allocator>(rt: &impl Abort, alloc: &'a B, replica: &mut Replica<&'a B>) {
+fn joins<'a, B: Allocator>(replica: &mut Replica<&'a B>, alloc: &'a B, rt: &impl Abort) {
     let word = word(rt, alloc, "r");
     let change = replica.join(1, &word, &word, &word).expect(rt, "a join");
     drop(change);
@@ -321,9 +321,9 @@ fn joins<'a, B: Allocator>(rt: &impl Abort, alloc: &'a B, replica: &mut Replica<
 }
 
 /// The message of the node there that tells of its process 1.
-fn message<'a, B: Allocator>(rt: &impl Abort, alloc: &'a B) -> Payload<&'a B> {
+fn message<'a, B: Allocator>(alloc: &'a B, rt: &impl Abort) -> Payload<&'a B> {
     let mut replica = Replica::opening(alloc, Side::There.name(), USUAL);
-    joins(rt, alloc, &mut replica);
+    joins(&mut replica, alloc, rt);
     let message = replica.take_delta().expect(rt, "a message");
     drop(replica);
     message
@@ -338,16 +338,16 @@ fn request<'a, B: Allocator>(alloc: &'a B) -> Payload<&'a B> {
 }
 
 /// What the node there sends after its process 1 has left.
-fn left_message<'a, B: Allocator>(rt: &impl Abort, alloc: &'a B) -> Payload<&'a B> {
+fn left_message<'a, B: Allocator>(alloc: &'a B, rt: &impl Abort) -> Payload<&'a B> {
     let mut replica = Replica::opening(alloc, Side::There.name(), USUAL);
-    joins(rt, alloc, &mut replica);
-    leaves(rt, alloc, &mut replica);
+    joins(&mut replica, alloc, rt);
+    leaves(&mut replica, alloc, rt);
     let message = replica.take_delta().expect(rt, "a message");
     drop(replica);
     message
 }
 
-fn leaves<'a, B: Allocator>(rt: &impl Abort, alloc: &'a B, replica: &mut Replica<&'a B>) {
+fn leaves<'a, B: Allocator>(replica: &mut Replica<&'a B>, alloc: &'a B, rt: &impl Abort) {
     let word = word(rt, alloc, "r");
     let change = replica.leave(1, &word, &word).expect(rt, "a leave");
     drop(change);
@@ -367,8 +367,8 @@ pub enum Sent {
 impl Sent {
     pub fn message<'a, B: Allocator>(self, rt: &impl Abort, alloc: &'a B) -> Payload<&'a B> {
         match self {
-            Sent::Joined => message(rt, alloc),
-            Sent::Left => left_message(rt, alloc),
+            Sent::Joined => message(alloc, rt),
+            Sent::Left => left_message(alloc, rt),
             Sent::Request => request(alloc),
         }
     }
@@ -376,10 +376,10 @@ impl Sent {
 
 /// The fault of a step that is given this message.
 fn fault_given<'a, B: Allocator>(
-    rt: &impl Abort,
     alloc: &'a B,
     ask: Ask,
     sent: Sent,
+    rt: &impl Abort,
 ) -> Option<StepFault> {
     let step = ask.step(rt, alloc);
     let message = sent.message(rt, alloc);
@@ -412,17 +412,17 @@ const GIVEN: [(Ask, Sent, Option<StepFault>); 4] = [
 fn a_request_alone_is_answered(rt: HostRuntime) {
     let heap = rt.alloc();
     for (ask, sent, expected) in &GIVEN {
-        holds!(&rt, fault_given(&rt, &heap, *ask, *sent) == *expected);
+        holds!(&rt, fault_given(&heap, *ask, *sent, &rt) == *expected);
     }
 }
 
 /// Takes a step for which memory and the message are there.
 fn takes<'a>(
-    rt: &impl Abort,
-    heap: &'a Heap,
     node: &mut Node<'a, Heap>,
     ask: Ask,
     message: &Payload<&'a Heap>,
+    heap: &'a Heap,
+    rt: &impl Abort,
 ) {
     let step = ask.step(rt, heap);
     let mut meter = Meter::new();
@@ -433,12 +433,12 @@ fn takes<'a>(
 
 /// Takes the step, and takes it back, with this request for memory and all later ones refused first: the node is as it was.
 fn taken_back<'a>(
-    rt: &impl Abort,
-    heap: &'a Heap,
     node: &mut Node<'a, Heap>,
     ask: Ask,
     message: &Payload<&'a Heap>,
     number: u64,
+    heap: &'a Heap,
+    rt: &impl Abort,
 ) {
     let step = ask.step(rt, heap);
     let before = node.try_copy().expect(rt, "a copy");
@@ -446,7 +446,7 @@ fn taken_back<'a>(
     let taken = node.take(&step, Some(message), &mut meter);
     let inverse = taken.expect(rt, "an inverse");
     holds!(rt, !node.same(&before));
-    gives_back(rt, heap, node, inverse, number);
+    gives_back(node, inverse, number, heap, rt);
     holds!(rt, node.same(&before));
     drop(before);
     drop(step);
@@ -454,11 +454,11 @@ fn taken_back<'a>(
 
 /// Takes a step back with this request for memory and all later ones refused; where that is refused, with memory.
 fn gives_back<'a>(
-    rt: &impl Abort,
-    heap: &'a Heap,
     node: &mut Node<'a, Heap>,
     inverse: Inverse<&'a Heap>,
     number: u64,
+    heap: &'a Heap,
+    rt: &impl Abort,
 )
     requires { LeadsSomewhere (plain_inverse inverse) node.old }
 {
@@ -533,53 +533,53 @@ const ANSWERS: [Turn; 4] = [
 
 /// What a node that is given this message is asked in turn.
 fn turns_back<'a>(
-    rt: &impl Abort,
-    heap: &'a Heap,
     node: &mut Node<'a, Heap>,
     message: &Payload<&'a Heap>,
     turns: &[Turn],
     number: u64,
+    heap: &'a Heap,
+    rt: &impl Abort,
 ) {
     for turn in turns {
         match turn {
-            Turn::There(ask) => takes(rt, heap, node, *ask, message),
-            Turn::Back(ask) => taken_back(rt, heap, node, *ask, message, number),
+            Turn::There(ask) => takes(node, *ask, message, heap, rt),
+            Turn::Back(ask) => taken_back(node, *ask, message, number, heap, rt),
         }
     }
 }
 
-fn are_taken_back<'a>(rt: &impl Abort, heap: &'a Heap, sent: Sent, turns: &[Turn], number: u64) {
+fn are_taken_back<'a>(heap: &'a Heap, sent: Sent, turns: &[Turn], number: u64, rt: &impl Abort) {
     let message = sent.message(rt, heap);
     let mut node = Node::new(heap, 0, USUAL);
-    turns_back(rt, heap, &mut node, &message, turns, number);
+    turns_back(&mut node, &message, turns, number, heap, rt);
     drop(node);
     drop(message);
 }
 
-fn each_is_taken_back<'a>(rt: &impl Abort, heap: &'a Heap, number: u64) {
-    are_taken_back(rt, heap, Sent::Joined, &TURNS, number);
-    are_taken_back(rt, heap, Sent::Request, &ANSWERS, number);
+fn each_is_taken_back<'a>(heap: &'a Heap, number: u64, rt: &impl Abort) {
+    are_taken_back(heap, Sent::Joined, &TURNS, number, rt);
+    are_taken_back(heap, Sent::Request, &ANSWERS, number, rt);
 }
 
 #[test]
 fn each_step_is_taken_back(rt: HostRuntime) {
     let heap = Refusing::new(rt.alloc());
-    each_is_taken_back(&rt, &heap, u64::MAX);
+    each_is_taken_back(&heap, u64::MAX, &rt);
 }
 
 #[test]
 fn a_step_back_that_is_refused_memory_changes_nothing(rt: HostRuntime) {
     let heap = Refusing::new(rt.alloc());
-    each_is_taken_back(&rt, &heap, 1);
+    each_is_taken_back(&heap, 1, &rt);
 }
 
 /// The fault of the step with this request for memory refused.
 fn fault_without<'a>(
-    heap: &'a Heap,
     node: &mut Node<'a, Heap>,
     step: &Step<&'a Heap>,
     message: &Payload<&'a Heap>,
     number: u64,
+    heap: &'a Heap,
 ) -> Option<StepFault>
     requires { AreNames (plain step.now) }
 {
@@ -593,17 +593,17 @@ fn fault_without<'a>(
 /// Takes the step with its first, second, .. request for memory refused, until it meets none: each refused one leaves the
 /// node as it was.
 fn is_refused_in_turn<'a>(
-    rt: &impl Abort,
-    heap: &'a Heap,
     node: &mut Node<'a, Heap>,
     step: &Step<&'a Heap>,
     message: &Payload<&'a Heap>,
     before: &Node<'a, Heap>,
+    heap: &'a Heap,
+    rt: &impl Abort,
 ) -> bool
     requires { AreNames (plain step.now) }
 {
     for number in 1..100 {
-        match fault_without(heap, node, step, message, number) {
+        match fault_without(node, step, message, number, heap) {
             Some(fault) => holds!(rt, fault == StepFault::OutOfMemory),
             None => return true,
         }
@@ -629,15 +629,15 @@ const REFUSED: [Ask; 12] = [
 
 /// Makes what is asked, refused in turn.
 fn refuses<'a>(
-    rt: &impl Abort,
-    heap: &'a Heap,
     node: &mut Node<'a, Heap>,
     message: &Payload<&'a Heap>,
     ask: Ask,
+    heap: &'a Heap,
+    rt: &impl Abort,
 ) -> bool {
     let step = ask.step(rt, heap);
     let before = node.try_copy().expect(rt, "a copy");
-    let is_refused = is_refused_in_turn(rt, heap, node, &step, message, &before);
+    let is_refused = is_refused_in_turn(node, &step, message, &before, heap, rt);
     drop(before);
     drop(step);
     is_refused
@@ -645,15 +645,15 @@ fn refuses<'a>(
 
 /// Makes each of these, refused in turn, with this message.
 fn refuses_each<'a>(
-    rt: &impl Abort,
-    heap: &'a Heap,
     node: &mut Node<'a, Heap>,
     sent: Sent,
     asks: &[Ask],
+    heap: &'a Heap,
+    rt: &impl Abort,
 ) {
     let message = sent.message(rt, heap);
     for ask in asks {
-        holds!(rt, refuses(rt, heap, node, &message, *ask));
+        holds!(rt, refuses(node, &message, *ask, heap, rt));
     }
     drop(message);
 }
@@ -662,9 +662,9 @@ fn refuses_each<'a>(
 fn a_step_that_is_refused_memory_changes_nothing(rt: HostRuntime) {
     let heap = Refusing::new(rt.alloc());
     let mut node = Node::new(&heap, 0, USUAL);
-    refuses_each(&rt, &heap, &mut node, Sent::Joined, &REFUSED);
+    refuses_each(&mut node, Sent::Joined, &REFUSED, &heap, &rt);
     let answers = [Ask::Answer(Side::There)];
-    refuses_each(&rt, &heap, &mut node, Sent::Request, &answers);
+    refuses_each(&mut node, Sent::Request, &answers, &heap, &rt);
     holds!(&rt, node.outbox().len() == 4);
     drop(node);
 }

@@ -39,7 +39,7 @@ struct Words<A: Allocator> {
     metadata: Word<A>,
 }
 
-fn words_of<'a, B: Allocator>(rt: &impl Abort, alloc: &'a B, key: &str) -> Words<&'a B> {
+fn words_of<'a, B: Allocator>(alloc: &'a B, key: &str, rt: &impl Abort) -> Words<&'a B> {
     Words {
         topic: word(rt, alloc, "r"),
         key: word(rt, alloc, key),
@@ -48,10 +48,10 @@ fn words_of<'a, B: Allocator>(rt: &impl Abort, alloc: &'a B, key: &str) -> Words
 }
 
 fn joins<'a, B: Allocator>(
-    rt: &impl Abort,
     replica: &mut Replica<&'a B>,
     words: &Words<&'a B>,
     pid: u64,
+    rt: &impl Abort,
 ) {
     let made = replica.join(pid, &words.topic, &words.key, &words.metadata);
     drop(made.expect(rt, "a join"));
@@ -59,14 +59,14 @@ fn joins<'a, B: Allocator>(
 
 /// Joins the process, and gives the message of that join alone.
 fn sent<'a, B: Allocator>(
-    rt: &impl Abort,
     replica: &mut Replica<&'a B>,
     words: &Words<&'a B>,
     pid: u64,
+    rt: &impl Abort,
 ) -> Payload<&'a B>
     ensures { result.asked ≡ None }
 {
-    joins(rt, replica, words, pid);
+    joins(replica, words, pid, rt);
     replica.take_delta().expect(rt, "a message")
 }
 
@@ -112,20 +112,20 @@ struct Inputs<A: Allocator> {
     ghost no_requests: { (is_none first.asked ≡ true) × (is_none second.asked ≡ true) × (is_none left.asked ≡ true) × (is_none foreign.asked ≡ true) },
 }
 
-fn inputs_of<'a, B: Allocator>(rt: &impl Abort, alloc: &'a B, pair: Pair) -> Inputs<&'a B> {
-    let words = words_of(rt, alloc, "alice");
+fn inputs_of<'a, B: Allocator>(alloc: &'a B, pair: Pair, rt: &impl Abort) -> Inputs<&'a B> {
+    let words = words_of(alloc, "alice", rt);
     let (sender, receiver) = (pair.sender(), pair.receiver());
     let mut replica = opening(alloc, sender);
-    let first = sent(rt, &mut replica, &words, 1);
-    let second = sent(rt, &mut replica, &words, 2);
+    let first = sent(&mut replica, &words, 1, rt);
+    let second = sent(&mut replica, &words, 2, rt);
     drop(replica);
     Inputs {
         pair,
         words,
         first,
         second,
-        left: seen_alone(rt, alloc, &[(sender, 1), (sender, 2)]),
-        foreign: seen_alone(rt, alloc, &[(sender, 1), (receiver, 1), (receiver, 5)]),
+        left: seen_alone(alloc, &[(sender, 1), (sender, 2)], rt),
+        foreign: seen_alone(alloc, &[(sender, 1), (receiver, 1), (receiver, 5)], rt),
     }
 }
 
@@ -229,7 +229,7 @@ fn leaves<'a, B: Allocator>(
 }
 
 /// A new receiver makes the calls in turn, and each leaves what its row says.
-fn plays<'a, B: Allocator>(rt: &impl Abort, alloc: &'a B, inputs: &Inputs<&'a B>, rows: &[Row]) {
+fn plays<'a, B: Allocator>(inputs: &Inputs<&'a B>, rows: &[Row], alloc: &'a B, rt: &impl Abort) {
     let mut replica = opening(alloc, inputs.pair.receiver());
     for row in rows {
         holds!(rt, leaves(&mut replica, inputs, row));
@@ -262,10 +262,10 @@ const DELIVERIES: [&[Row]; 4] = [
     ],
 ];
 
-fn plays_all<'a, B: Allocator>(rt: &impl Abort, alloc: &'a B, pair: Pair) {
-    let inputs = inputs_of(rt, alloc, pair);
+fn plays_all<'a, B: Allocator>(alloc: &'a B, pair: Pair, rt: &impl Abort) {
+    let inputs = inputs_of(alloc, pair, rt);
     for rows in DELIVERIES {
-        plays(rt, alloc, &inputs, rows);
+        plays(&inputs, rows, alloc, rt);
     }
     drop(inputs);
 }
@@ -274,19 +274,19 @@ fn plays_all<'a, B: Allocator>(rt: &impl Abort, alloc: &'a B, pair: Pair) {
 fn deliveries_meet_in_context_and_cloud(rt: HostRuntime) {
     let heap = rt.alloc();
     for pair in PAIRS {
-        plays_all(&rt, &heap, pair);
+        plays_all(&heap, pair, &rt);
     }
 }
 
 /// Makes the call with each request for memory refused in turn, which leaves the replica as it was, and then with none. Gives
 /// how many were refused.
 fn refuses_in_turn<'a>(
-    rt: &impl Abort,
-    heap: &'a Heap,
     replica: &mut Replica<&'a Heap>,
     inputs: &Inputs<&'a Heap>,
     call: Call,
     before: &Replica<&'a Heap>,
+    heap: &'a Heap,
+    rt: &impl Abort,
 ) -> u64 {
     for number in 1..100 {
         heap.refuse_only(number);
@@ -304,16 +304,16 @@ fn refuses_in_turn<'a>(
 /// Makes the call and undoes it, makes it with each request for memory refused in turn, and then with none. Gives how many
 /// were refused.
 fn refuses<'a>(
-    rt: &impl Abort,
-    heap: &'a Heap,
     replica: &mut Replica<&'a Heap>,
     inputs: &Inputs<&'a Heap>,
     call: Call,
+    heap: &'a Heap,
+    rt: &impl Abort,
 ) -> u64 {
     let before = replica.try_copy().expect(rt, "a copy");
     holds!(rt, call.is_made(replica, inputs, true));
     holds!(rt, replica.same(&before));
-    let refused = refuses_in_turn(rt, heap, replica, inputs, call, &before);
+    let refused = refuses_in_turn(replica, inputs, call, &before, heap, rt);
     drop(before);
     refused
 }
@@ -339,16 +339,16 @@ fn has_own<'a, B: Allocator>(replica: &Replica<&'a B>, name: u16, clock: u64, li
 
 /// Knows the sender, and makes these calls, each undone and refused memory first, which some of them ask for.
 fn refuses_calls<'a>(
-    rt: &impl Abort,
-    heap: &'a Heap,
     replica: &mut Replica<&'a Heap>,
     inputs: &Inputs<&'a Heap>,
     calls: &[Call],
+    heap: &'a Heap,
+    rt: &impl Abort,
 ) {
     holds!(rt, Call::Up.is_made(replica, inputs, false));
     let mut is_asked = false;
     for call in calls {
-        let refusals = refuses(rt, heap, replica, inputs, *call);
+        let refusals = refuses(replica, inputs, *call, heap, rt);
         holds!(rt, refusals < 100);
         is_asked |= refusals > 0;
     }
@@ -368,15 +368,15 @@ fn is_left<'a, B: Allocator>(
 /// Makes these calls of a new receiver so, which leaves it this own clock, the live entries of these clocks, and this status
 /// of the sender.
 fn refuses_each<'a>(
-    rt: &impl Abort,
     heap: &'a Heap,
     pair: Pair,
     calls: &[Call],
     after: (u64, &[u64], Option<Status>),
+    rt: &impl Abort,
 ) {
-    let inputs = inputs_of(rt, heap, pair);
+    let inputs = inputs_of(heap, pair, rt);
     let mut b = opening(heap, pair.receiver());
-    refuses_calls(rt, heap, &mut b, &inputs, calls);
+    refuses_calls(&mut b, &inputs, calls, heap, rt);
     drop(inputs);
     holds!(rt, is_left(&b, pair, after));
     drop(b);
@@ -386,7 +386,7 @@ fn refuses_each<'a>(
 fn a_call_undone_or_refused_memory_changes_nothing(rt: HostRuntime) {
     let heap = Refusing::new(rt.alloc());
     for pair in PAIRS {
-        refuses_each(&rt, &heap, pair, &CALLS, (5, &[], None));
+        refuses_each(&heap, pair, &CALLS, (5, &[], None), &rt);
     }
 }
 
@@ -396,15 +396,15 @@ fn a_delivery_may_have_the_receivers_dots(rt: HostRuntime) {
     let heap = Refusing::new(rt.alloc());
     for pair in PAIRS {
         let after: (u64, &[u64], Option<Status>) = (1, &[1], Some(Status::Up));
-        refuses_each(&rt, &heap, pair, &[Call::Join, Call::Foreign], after);
+        refuses_each(&heap, pair, &[Call::Join, Call::Foreign], after, &rt);
     }
 }
 
 /// A node 1 with three entries of process 1 and one of process 2.
-fn four_joined<'a>(rt: &impl Abort, heap: &'a Heap) -> Replica<&'a Heap> {
+fn four_joined<'a>(heap: &'a Heap, rt: &impl Abort) -> Replica<&'a Heap> {
     let mut replica = opening(heap, 1);
     for (pid, key) in [(1, "alice"), (1, "bob"), (1, "carl"), (2, "alice")] {
-        joins_under(rt, heap, &mut replica, key, pid);
+        joins_under(&mut replica, key, pid, heap, rt);
     }
     replica
 }
@@ -413,36 +413,36 @@ fn four_joined<'a>(rt: &impl Abort, heap: &'a Heap) -> Replica<&'a Heap> {
 #[test]
 fn a_process_leaves_under_all_its_keys(rt: HostRuntime) {
     let heap = Refusing::new(rt.alloc());
-    let mut b = four_joined(&rt, &heap);
-    leaves_refused(&rt, &heap, &mut b);
+    let mut b = four_joined(&heap, &rt);
+    leaves_refused(&mut b, &heap, &rt);
     holds!(&rt, has_own(&b, 1, 7, &[4]));
     drop(b);
 }
 
-fn leaves_refused<'a>(rt: &impl Abort, heap: &'a Heap, replica: &mut Replica<&'a Heap>) {
-    let inputs = inputs_of(rt, heap, Pair::First);
-    let refusals = refuses(rt, heap, replica, &inputs, Call::LeaveAll);
+fn leaves_refused<'a>(replica: &mut Replica<&'a Heap>, heap: &'a Heap, rt: &impl Abort) {
+    let inputs = inputs_of(heap, Pair::First, rt);
+    let refusals = refuses(replica, &inputs, Call::LeaveAll, heap, rt);
     holds!(rt, 0 < refusals && refusals < 100);
     drop(inputs);
 }
 
 /// Joins the process under the topic `r` and this key.
 fn joins_under<'a, B: Allocator>(
-    rt: &impl Abort,
-    alloc: &'a B,
     replica: &mut Replica<&'a B>,
     key: &str,
     pid: u64,
+    alloc: &'a B,
+    rt: &impl Abort,
 ) {
-    let words = words_of(rt, alloc, key);
-    joins(rt, replica, &words, pid);
+    let words = words_of(alloc, key, rt);
+    joins(replica, &words, pid, rt);
     drop(words);
 }
 
 /// A node 0 with one join, of which nothing was sent.
-fn joined<'a, B: Allocator>(rt: &impl Abort, alloc: &'a B) -> Replica<&'a B> {
+fn joined<'a, B: Allocator>(alloc: &'a B, rt: &impl Abort) -> Replica<&'a B> {
     let mut replica = opening(alloc, 0);
-    joins_under(rt, alloc, &mut replica, "alice", 1);
+    joins_under(&mut replica, "alice", 1, alloc, rt);
     replica
 }
 
@@ -490,7 +490,7 @@ fn extracts_nothing<'a, B: Allocator>(replica: &Replica<&'a B>) -> bool {
 #[test]
 fn an_extract_has_the_named_alone(rt: HostRuntime) {
     let heap = rt.alloc();
-    let mut a = joined(&rt, &heap);
+    let mut a = joined(&heap, &rt);
     holds!(&rt, extracts_nothing(&a));
     holds!(&rt, extracts_the_delta(&mut a));
     drop(a);
@@ -529,7 +529,7 @@ fn extracts_what_came<'a, B: Allocator>(
 #[test]
 fn an_extract_has_foreign_names_too(rt: HostRuntime) {
     let heap = rt.alloc();
-    let inputs = inputs_of(&rt, &heap, Pair::Last);
+    let inputs = inputs_of(&heap, Pair::Last, &rt);
     let mut b = opening(&heap, 30);
     holds!(&rt, extracts_what_came(&mut b, &inputs));
     drop(b);
@@ -545,7 +545,7 @@ fn extracts<'a, B: Allocator>(replica: &Replica<&'a B>) -> bool {
 }
 
 /// A copy and an extract are errors where they meet the refused request, and there alone.
-fn fail_where_refused<'a>(rt: &impl Abort, heap: &'a Heap, replica: &Replica<&'a Heap>) {
+fn fail_where_refused<'a>(replica: &Replica<&'a Heap>, heap: &'a Heap, rt: &impl Abort) {
     for number in 1..40 {
         heap.refuse_only(number);
         let is_copied = copies(replica);
@@ -559,8 +559,8 @@ fn fail_where_refused<'a>(rt: &impl Abort, heap: &'a Heap, replica: &Replica<&'a
 #[test]
 fn a_refused_copy_or_extract_is_an_error(rt: HostRuntime) {
     let heap = Refusing::new(rt.alloc());
-    let a = joined(&rt, &heap);
-    fail_where_refused(&rt, &heap, &a);
+    let a = joined(&heap, &rt);
+    fail_where_refused(&a, &heap, &rt);
     drop(a);
 }
 
@@ -598,7 +598,7 @@ fn reads_and_sends<'a, B: Allocator>(
 #[test]
 fn reads_and_sends_take_no_memory(rt: HostRuntime) {
     let heap = Refusing::new(rt.alloc());
-    let mut a = joined(&rt, &heap);
+    let mut a = joined(&heap, &rt);
     let before = a.try_copy().expect(&rt, "a copy");
     heap.refuse_from(1);
     let is_as_before = reads_and_sends(&mut a, &before);

@@ -226,9 +226,9 @@ fn a_removal_takes_one_entry_out(rt: HostRuntime) {
 
 /// A message of node 0 that has seen these dots and has no entry.
 pub fn seen_alone<'a, B: Allocator>(
-    rt: &impl Abort,
     alloc: &'a B,
     pairs: &[(u16, u64)],
+    rt: &impl Abort,
 ) -> Payload<&'a B>
     ensures { result.asked ≡ None }
 {
@@ -237,14 +237,14 @@ pub fn seen_alone<'a, B: Allocator>(
 }
 
 /// A message of node 0 that has seen the dot of this clock.
-fn message<'a, B: Allocator>(rt: &impl Abort, alloc: &'a B, clock: u64) -> Payload<&'a B> {
-    seen_alone(rt, alloc, &[(0, clock)])
+fn message<'a, B: Allocator>(alloc: &'a B, clock: u64, rt: &impl Abort) -> Payload<&'a B> {
+    seen_alone(alloc, &[(0, clock)], rt)
 }
 
 #[test]
 fn a_message_gives_its_parts(rt: HostRuntime) {
     let heap = rt.alloc();
-    let message = message(&rt, &heap, 4);
+    let message = message(&heap, 4, &rt);
     let copy = message.try_copy().expect(&rt, "a copy");
     holds!(&rt, copy.same(&message));
     holds!(&rt, message.seen().contains(Dot { name: 0, clock: 4 }));
@@ -269,7 +269,7 @@ fn a_request_gives_its_names(rt: HostRuntime) {
     let names = NameSet::empty().with(0).with(31);
     let request = Payload::request(&heap, 0, names);
     let other = Payload::request(&heap, 0, NameSet::empty().with(31));
-    let none = seen_alone(&rt, &heap, &[]);
+    let none = seen_alone(&heap, &[], &rt);
     let copy = request.try_copy().expect(&rt, "a copy");
     holds!(&rt, is_told_from(&request, &copy, &other, &none));
     holds!(&rt, copy.asked().is_some_and(|asked| asked.same(names)));
@@ -300,12 +300,12 @@ fn are_parts<'a, B: Allocator>(message: Payload<&'a B>, other: &Payload<&'a B>) 
 
 /// Pushes the message of this clock, which is refused, and comes back: gives the fault. Only the messages take memory.
 fn refused<'a, B: Allocator>(
-    rt: &impl Abort,
-    alloc: &'a B,
     outbox: &mut Outbox<'a, B>,
     clock: u64,
+    alloc: &'a B,
+    rt: &impl Abort,
 ) -> OutboxFault {
-    let message = message(rt, alloc, clock);
+    let message = message(alloc, clock, rt);
     let copy = message.try_copy().expect(rt, "a copy");
     let (given_back, fault) = outbox.push(message).err().expect(rt, "a refusal");
     holds!(rt, given_back.same(&copy));
@@ -316,12 +316,12 @@ fn refused<'a, B: Allocator>(
 
 /// Pushes the message of this clock, and gives its number.
 fn pushes<'a, B: Allocator>(
-    rt: &impl Abort,
-    alloc: &'a B,
     outbox: &mut Outbox<'a, B>,
     clock: u64,
+    alloc: &'a B,
+    rt: &impl Abort,
 ) -> u64 {
-    let message = message(rt, alloc, clock);
+    let message = message(alloc, clock, rt);
     outbox.push(message).ok().expect(rt, "a number")
 }
 
@@ -330,17 +330,17 @@ fn an_outbox_holds_as_many_messages_as_its_limit(rt: HostRuntime) {
     let heap = rt.alloc();
     let mut outbox = Outbox::new(&heap, 1);
     holds!(&rt, outbox.is_empty() && !outbox.is_full());
-    holds!(&rt, pushes(&rt, &heap, &mut outbox, 1) == 1);
+    holds!(&rt, pushes(&mut outbox, 1, &heap, &rt) == 1);
     holds!(&rt, outbox.is_full());
     holds!(
         &rt,
-        refused(&rt, &heap, &mut outbox, 2) == OutboxFault::OutboxFull
+        refused(&mut outbox, 2, &heap, &rt) == OutboxFault::OutboxFull
     );
     drop(outbox);
 }
 
 /// Takes the last message out, which has seen the dot of this clock.
-fn pops<'a, B: Allocator>(rt: &impl Abort, outbox: &mut Outbox<'a, B>, clock: u64) {
+fn pops<'a, B: Allocator>(outbox: &mut Outbox<'a, B>, clock: u64, rt: &impl Abort) {
     let last = outbox.pop().expect(rt, "a message");
     holds!(rt, last.seen().contains(Dot { name: 0, clock }));
     drop(last);
@@ -368,11 +368,11 @@ fn are_numbered<'a, B: Allocator>(outbox: &Outbox<'a, B>) -> bool {
 fn messages_are_numbered_from_1_and_popped_from_the_end(rt: HostRuntime) {
     let heap = rt.alloc();
     let mut outbox = Outbox::new(&heap, 2);
-    holds!(&rt, pushes(&rt, &heap, &mut outbox, 1) == 1);
-    holds!(&rt, pushes(&rt, &heap, &mut outbox, 2) == 2);
+    holds!(&rt, pushes(&mut outbox, 1, &heap, &rt) == 1);
+    holds!(&rt, pushes(&mut outbox, 2, &heap, &rt) == 2);
     holds!(&rt, are_numbered(&outbox));
-    pops(&rt, &mut outbox, 2);
-    pops(&rt, &mut outbox, 1);
+    pops(&mut outbox, 2, &rt);
+    pops(&mut outbox, 1, &rt);
     holds!(&rt, outbox.len() == 0);
     drop(outbox);
 }
@@ -499,7 +499,7 @@ fn a_refused_push_gives_the_message_back(rt: HostRuntime) {
     heap.refuse_from(1);
     holds!(
         &rt,
-        refused(&rt, &heap, &mut outbox, 1) == OutboxFault::OutOfMemory
+        refused(&mut outbox, 1, &heap, &rt) == OutboxFault::OutOfMemory
     );
     holds!(&rt, outbox.is_empty() && outbox.make_room().is_err());
     drop(outbox);
@@ -511,7 +511,7 @@ fn a_push_into_room_takes_no_memory(rt: HostRuntime) {
     let mut outbox = Outbox::new(&heap, 2);
     holds!(&rt, outbox.make_room().is_ok());
     heap.refuse_from(1);
-    holds!(&rt, pushes(&rt, &heap, &mut outbox, 1) == 1);
+    holds!(&rt, pushes(&mut outbox, 1, &heap, &rt) == 1);
     holds!(&rt, heap.requests() == 0);
     holds!(&rt, outbox.try_copy().err().is_some());
     drop(outbox);

@@ -446,12 +446,12 @@ const CASES: [Case; 33] = [
 
 /// The status with which the program ends, and what it wrote to its output and to its errors, each a writer of so much room.
 fn ended<T: Threads + Wait + Sync + Abort, B: Allocator + Sync>(
-    rt: &T,
     heap: Global,
     alloc: &B,
     words: &[&str],
     reader: &mut FakeReader<'_>,
     rooms: [usize; 2],
+    rt: &T,
 ) -> (u8, FakeWriter, FakeWriter) {
     let [room, errors_room] = rooms;
     let mut writer = FakeWriter::new(heap, room);
@@ -472,13 +472,13 @@ fn ended<T: Threads + Wait + Sync + Abort, B: Allocator + Sync>(
 
 /// Whether the program ends as the case says.
 fn ends_so<T: Threads + Wait + Sync + Abort>(
-    rt: &T,
     heap: Global,
     case: &Case,
     reader: &mut FakeReader<'_>,
+    rt: &T,
 ) -> bool {
     let rooms = [case.room, 1000];
-    let (status, writer, errors) = ended(rt, heap, &heap, case.words, reader, rooms);
+    let (status, writer, errors) = ended(heap, &heap, case.words, reader, rooms, rt);
     status == case.status
         && writer.taken() == case.printed.as_bytes()
         && errors.taken() == case.told.as_bytes()
@@ -489,9 +489,9 @@ fn each_end_has_its_status_and_its_line(rt: HostRuntime) {
     for case in &CASES {
         let script = case.script.as_bytes();
         let is_so = if case.fails {
-            ends_so(&rt, rt.alloc(), case, &mut FakeReader::failing(script))
+            ends_so(rt.alloc(), case, &mut FakeReader::failing(script), &rt)
         } else {
-            ends_so(&rt, rt.alloc(), case, &mut FakeReader::ending(script))
+            ends_so(rt.alloc(), case, &mut FakeReader::ending(script), &rt)
         };
         assert!(rt; is_so, "{:?} {}", case.words, case.told);
     }
@@ -508,12 +508,12 @@ fn a_status_stands_where_its_line_cannot_be_written(rt: HostRuntime) {
     ] {
         let mut reader = FakeReader::ending(script.as_bytes());
         let (ended, writer, errors) = ended(
-            &rt,
             rt.alloc(),
             &rt.alloc(),
             words,
             &mut reader,
             [0, 0],
+            &rt,
         );
         assert_eq!(rt; ended, status);
         assert!(rt; writer.taken().is_empty() && errors.taken().is_empty());
@@ -531,12 +531,12 @@ fn refused_words_are_told_and_help_is_printed(rt: HostRuntime) {
         let mut reader = FakeReader::failing(b"");
         let rooms = [100_000, 100_000];
         let (ended, writer, errors) = ended(
-            &rt,
             rt.alloc(),
             &rt.alloc(),
             words,
             &mut reader,
             rooms,
+            &rt,
         );
         assert_eq!(rt; ended, status);
         assert_eq!(rt; writer.taken().is_empty(), status == 2);
@@ -573,7 +573,7 @@ fn refused<T: Threads + Wait + Sync + Abort>(
     let (words, input, printed) = answered;
     heap.refuse_only(number);
     let mut reader = FakeReader::ending(input.as_bytes());
-    let (status, writer, errors) = ended(rt, global, heap, words, &mut reader, [1000, 1000]);
+    let (status, writer, errors) = ended(global, heap, words, &mut reader, [1000, 1000], rt);
     let (out, told) = match status {
         0 => (printed, ""),
         _ => ("", "presence_bench: out of memory\n"),
@@ -609,12 +609,12 @@ fn a_race_is_saved_and_loads_again(rt: HostRuntime) {
     let mut reader = FakeReader::ending(script.as_bytes());
     let words = ["race", "--as", "session"];
     let (status, writer, errors) = ended(
-        &rt,
         rt.alloc(),
         &rt.alloc(),
         &words,
         &mut reader,
         [10_000, 1000],
+        &rt,
     );
     assert!(rt; status == 0 && errors.taken().is_empty());
     let heap = rt.alloc();

@@ -129,7 +129,7 @@ b answer a 1
 <text dy=\"-18\">4</text><text dy=\"30\">answer</text></g>",
 };
 
-fn played<'a, B: Allocator>(rt: &impl Abort, alloc: &'a B, script: &str) -> Played<'a, B> {
+fn played<'a, B: Allocator>(alloc: &'a B, script: &str, rt: &impl Abort) -> Played<'a, B> {
     let script = parse_script(alloc, script.as_bytes()).expect(rt, "a script");
     let played = run_script(alloc, &script, Limits::usual()).expect(rt, "memory");
     drop(script);
@@ -137,8 +137,8 @@ fn played<'a, B: Allocator>(rt: &impl Abort, alloc: &'a B, script: &str) -> Play
 }
 
 /// Whether the script of the case has its picture.
-fn has_its_picture<'a, B: Allocator>(rt: &impl Abort, alloc: &'a B, case: Case) -> bool {
-    let played = played(rt, alloc, case.script);
+fn has_its_picture<'a, B: Allocator>(alloc: &'a B, case: Case, rt: &impl Abort) -> bool {
+    let played = played(alloc, case.script, rt);
     let picture = draw(alloc, &played.bench, case.why).expect(rt, "memory");
     drop(played);
     let Case {
@@ -158,7 +158,7 @@ fn has_its_picture<'a, B: Allocator>(rt: &impl Abort, alloc: &'a B, case: Case) 
 fn each_run_has_its_picture(rt: HostRuntime) {
     let alloc = rt.alloc();
     for case in [SENT, MARKED_UP, PAINTED] {
-        assert!(rt; has_its_picture(&rt, &alloc, case));
+        assert!(rt; has_its_picture(&alloc, case, &rt));
     }
 }
 
@@ -167,7 +167,7 @@ fn thirty_two_nodes_stand_below_one_another(rt: HostRuntime) {
     let alloc = rt.alloc();
     let script =
         "nodes n0 n1 n2 n3 n4 n5 n6 n7 n8 n9 n10 n11 n12 n13 n14 n15 n16 n17 n18 n19 n20 n21 n22 n23 n24 n25 n26 n27 n28 n29 n30 n31\n";
-    let played = played(&rt, &alloc, script);
+    let played = played(&alloc, script, &rt);
     let picture = draw(&alloc, &played.bench, Some(1)).expect(&rt, "memory");
     drop(played);
     let text = str::from_utf8(&picture).expect(&rt, "text");
@@ -178,7 +178,7 @@ fn thirty_two_nodes_stand_below_one_another(rt: HostRuntime) {
 }
 
 /// The fault of a picture with this request for memory refused, if it has one.
-fn fault_without<'a>(heap: &'a Heap, bench: &Bench<'a, Heap>, number: u64) -> Option<AllocError> {
+fn fault_without<'a>(bench: &Bench<'a, Heap>, number: u64, heap: &'a Heap) -> Option<AllocError> {
     heap.refuse_only(number);
     draw(heap, bench, Some(2)).err()
 }
@@ -186,9 +186,9 @@ fn fault_without<'a>(heap: &'a Heap, bench: &Bench<'a, Heap>, number: u64) -> Op
 #[test]
 fn refused_memory_is_told(rt: HostRuntime) {
     let heap = Refusing::new(rt.alloc());
-    let played = played(&rt, &heap, SENT.script);
+    let played = played(&heap, SENT.script, &rt);
     for number in 1..1_000 {
-        let fault = fault_without(&heap, &played.bench, number);
+        let fault = fault_without(&played.bench, number, &heap);
         if heap.requests() < number {
             assert!(rt; fault.is_none());
             break;

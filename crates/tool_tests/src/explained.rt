@@ -340,7 +340,7 @@ const CASES: [Case; 14] = [
     NONE,
 ];
 
-fn played<'a, B: Allocator, R: Abort>(rt: &R, alloc: &'a B, script: &str) -> Played<'a, B> {
+fn played<'a, B: Allocator, R: Abort>(alloc: &'a B, script: &str, rt: &R) -> Played<'a, B> {
     let script = parse_script(alloc, script.as_bytes()).ok();
     let script = script.expect(rt, "the script is one");
     let played = run_script(alloc, &script, Limits::usual()).ok();
@@ -348,10 +348,10 @@ fn played<'a, B: Allocator, R: Abort>(rt: &R, alloc: &'a B, script: &str) -> Pla
 }
 
 fn told<'a, B: Allocator, R: Abort>(
-    rt: &R,
-    alloc: &'a B,
     played: &Played<'a, B>,
     node: u16,
+    alloc: &'a B,
+    rt: &R,
 ) -> Result<String<&'a B>, AllocError> {
     let topic = Word::new(alloc, "lobby").ok().expect(rt, "a word");
     let key = Word::new(alloc, "alice").ok().expect(rt, "a word");
@@ -362,8 +362,8 @@ fn told<'a, B: Allocator, R: Abort>(
 fn explains_each(rt: HostRuntime) {
     let alloc = rt.alloc();
     for case in CASES {
-        let played = played(&rt, &alloc, case.script);
-        let text = told(&rt, &alloc, &played, case.node).expect(&rt, "there is memory");
+        let played = played(&alloc, case.script, &rt);
+        let text = told(&played, case.node, &alloc, &rt).expect(&rt, "there is memory");
         assert_eq!(rt; text.as_str(), case.text);
     }
 }
@@ -371,7 +371,7 @@ fn explains_each(rt: HostRuntime) {
 #[test]
 fn refuses_what_is_no_node_and_no_word(rt: HostRuntime) {
     let alloc = rt.alloc();
-    let played = played(&rt, &alloc, OWN.script);
+    let played = played(&alloc, OWN.script, &rt);
     for (node, topic, key, fault) in [
         ("c", "lobby", "alice", AskFault::NoSuchNode),
         ("a", "", "alice", AskFault::NoWord),

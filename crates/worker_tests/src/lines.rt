@@ -8,7 +8,7 @@ use std::process::Abort;
 pub type Lines<'a, B> = Vec<(u16, Act<&'a B>), &'a B>;
 
 /// The act lines of a script.
-pub fn lines_of<'a, B: Allocator>(rt: &impl Abort, alloc: &'a B, script: &str) -> Lines<'a, B> {
+pub fn lines_of<'a, B: Allocator>(alloc: &'a B, script: &str, rt: &impl Abort) -> Lines<'a, B> {
     let script = parse_script(alloc, script.as_bytes()).expect(rt, "a script");
     let lines = acts(alloc, &script).expect(rt, "act lines");
     drop(script);
@@ -21,7 +21,7 @@ pub fn let_go_of_lines<'a, B: Allocator>(lines: Lines<'a, B>) {
 }
 
 /// A bench of the nodes `a` and `b`, with this limit on acts.
-pub fn open<'a, B: Allocator>(rt: &impl Abort, alloc: &'a B, acts: u64) -> Bench<'a, B> {
+pub fn open<'a, B: Allocator>(alloc: &'a B, acts: u64, rt: &impl Abort) -> Bench<'a, B> {
     let names = Names::new(alloc, &["a", "b"]).expect(rt, "names");
     let limits = Limits::new(acts, 10_000, 1_000_000, 10_000).expect(rt, "limits");
     Bench::new(alloc, names, limits).expect(rt, "a bench")

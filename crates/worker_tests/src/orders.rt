@@ -104,7 +104,7 @@ fn is_told<'a, B: Allocator>(
 }
 
 /// How many entries the node of this number has.
-fn entries_of<'a, B: Allocator>(rt: &impl Abort, bench: &Bench<'a, B>, number: u16) -> usize {
+fn entries_of<'a, B: Allocator>(bench: &Bench<'a, B>, number: u16, rt: &impl Abort) -> usize {
     let node = bench.node(number).expect(rt, "a node");
     node.replica().entries().len()
 }
@@ -116,9 +116,9 @@ fn is_raced_so<R: Threads + Wait + Clock + Abort + Sync + Copy>(
     order: &Order,
 ) -> bool {
     let gate = InOrder::new(*rt, order.lines);
-    let bench = bench_raced(rt, heap, UNDONE_BESIDE, 3, &gate);
-    let lines = lines_of(rt, heap, UNDONE_BESIDE);
-    let is_so = is_told(&bench, order, &lines) && entries_of(rt, &bench, 1) == order.entries;
+    let bench = bench_raced(heap, UNDONE_BESIDE, 3, &gate, rt);
+    let lines = lines_of(heap, UNDONE_BESIDE, rt);
+    let is_so = is_told(&bench, order, &lines) && entries_of(&bench, 1, rt) == order.entries;
     let_go_of_lines(lines);
     drop(bench);
     is_so && gate.has_passed_each_once()
@@ -159,7 +159,7 @@ const ALTERATIONS: [Alteration; 9] = [
 ];
 
 /// The last receipt of an actor, again.
-fn last_again<'a, B: Allocator>(rt: &impl Abort, receipts: &[Receipt<&'a B>]) -> Receipt<&'a B> {
+fn last_again<'a, B: Allocator>(receipts: &[Receipt<&'a B>], rt: &impl Abort) -> Receipt<&'a B> {
     let last = receipts.last().expect(rt, "a receipt");
     Receipt {
         actor: last.actor,
@@ -172,14 +172,14 @@ fn last_again<'a, B: Allocator>(rt: &impl Abort, receipts: &[Receipt<&'a B>]) ->
 
 /// Alters a list of receipts by what it has alone.
 fn alter_list<'a, B: Allocator>(
-    rt: &impl Abort,
     alteration: Alteration,
     list: &mut Vec<Receipt<&'a B>, &'a B>,
+    rt: &impl Abort,
 ) {
     match alteration {
         Alteration::OneDropped => drop(list.pop()),
         Alteration::OneDoubled => {
-            let again = last_again(rt, list);
+            let again = last_again(list, rt);
             list.push(again).expect(rt, "memory");
         }
         Alteration::TwoExchanged => {
@@ -206,24 +206,24 @@ fn alter_receipt<A: Allocator>(alteration: Alteration, receipt: &mut Receipt<A>)
 }
 
 /// Alters the receipts of node `a`, of its lines 1 and 3.
-fn alter<'a, B: Allocator>(rt: &impl Abort, alteration: Alteration, lists: &mut Receipts<&'a B>) {
+fn alter<'a, B: Allocator>(alteration: Alteration, lists: &mut Receipts<&'a B>, rt: &impl Abort) {
     let list = lists.get_mut(0).expect(rt, "a list");
     if let Alteration::OneMoved = alteration {
         let moved = list.pop().expect(rt, "a receipt");
         let other = lists.get_mut(1).expect(rt, "a list");
         other.push(moved).expect(rt, "memory");
     } else {
-        alter_list(rt, alteration, list);
+        alter_list(alteration, list, rt);
     }
 }
 
 /// A race in the order of the lines, and its receipts.
 fn raced_in_turn<'a, R: Threads + Wait + Clock + Abort + Sync + Copy>(
-    rt: &R,
     heap: &'a Global,
+    rt: &R,
 ) -> (Bench<'a, Global>, Receipts<&'a Global>) {
     let gate = InOrder::new(*rt, &[1, 2, 3, 4, 5]);
-    raced(rt, heap, UNDONE_BESIDE, 3, &gate)
+    raced(heap, UNDONE_BESIDE, 3, &gate, rt)
 }
 
 /// Whether the receipts of such a race agree with its history once they are altered.
@@ -232,10 +232,10 @@ fn agrees_altered<R: Threads + Wait + Clock + Abort + Sync + Copy>(
     heap: &Global,
     alteration: Alteration,
 ) -> bool {
-    let opening = open(rt, heap, 100);
-    let (bench, mut receipts) = raced_in_turn(rt, heap);
-    alter(rt, alteration, &mut receipts);
-    let agrees = agrees(rt, heap, &opening, &bench, UNDONE_BESIDE, &receipts);
+    let opening = open(heap, 100, rt);
+    let (bench, mut receipts) = raced_in_turn(heap, rt);
+    alter(alteration, &mut receipts, rt);
+    let agrees = agrees(&opening, &bench, UNDONE_BESIDE, &receipts, heap, rt);
     let_go_of_receipts(receipts);
     drop(bench);
     drop(opening);
@@ -255,9 +255,9 @@ fn agrees_backwards<R: Threads + Wait + Clock + Abort + Sync + Copy>(
     rt: &R,
     heap: &Global,
 ) -> bool {
-    let opening = open(rt, heap, 100);
-    let (bench, receipts) = raced_in_turn(rt, heap);
-    let agrees = agrees(rt, heap, &bench, &opening, UNDONE_BESIDE, &receipts);
+    let opening = open(heap, 100, rt);
+    let (bench, receipts) = raced_in_turn(heap, rt);
+    let agrees = agrees(&bench, &opening, UNDONE_BESIDE, &receipts, heap, rt);
     let_go_of_receipts(receipts);
     drop(bench);
     drop(opening);

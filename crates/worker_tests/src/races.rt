@@ -41,15 +41,15 @@ pub fn let_go_of_receipts<A: Allocator>(receipts: Receipts<A>) {
 
 /// A race of the lines of a script, over a bench just opened.
 pub fn raced_in<'a, B: Allocator + Sync, G: Gate + Sync, R: Threads + Wait + Sync + Abort>(
-    rt: &R,
     heap: &'a B,
     script: &str,
     acts: u64,
     actors: u16,
     gate: &G,
+    rt: &R,
 ) -> Raced<'a, B> {
-    let lines = lines_of(rt, heap, script);
-    let bench = open(rt, heap, acts);
+    let lines = lines_of(heap, script, rt);
+    let bench = open(heap, acts, rt);
     race(rt, heap, bench, actors, lines, gate)
 }
 
@@ -61,39 +61,39 @@ fn fault_of<'a, B: Allocator>(refused: (RaceFault, Bench<'a, B>)) -> RaceFault {
 
 /// What a race that is vouched for leaves.
 pub fn raced<'a, B: Allocator + Sync, G: Gate + Sync, R: Threads + Wait + Sync + Abort>(
-    rt: &R,
     heap: &'a B,
     script: &str,
     actors: u16,
     gate: &G,
+    rt: &R,
 ) -> (Bench<'a, B>, Receipts<&'a B>) {
-    let raced = raced_in(rt, heap, script, 100, actors, gate).map_err(fault_of);
+    let raced = raced_in(heap, script, 100, actors, gate, rt).map_err(fault_of);
     raced.expect(rt, "a race")
 }
 
 /// The bench that such a race leaves.
 pub fn bench_raced<'a, B: Allocator + Sync, G: Gate + Sync, R: Threads + Wait + Sync + Abort>(
-    rt: &R,
     heap: &'a B,
     script: &str,
     actors: u16,
     gate: &G,
+    rt: &R,
 ) -> Bench<'a, B> {
-    let (bench, receipts) = raced(rt, heap, script, actors, gate);
+    let (bench, receipts) = raced(heap, script, actors, gate, rt);
     let_go_of_receipts(receipts);
     bench
 }
 
 /// Whether the receipts account for what the calls of a script's lines added to the history of a bench.
 pub fn agrees<'a, B: Allocator>(
-    rt: &impl Abort,
-    heap: &'a B,
     before: &Bench<'a, B>,
     after: &Bench<'a, B>,
     script: &str,
     receipts: &[Vec<Receipt<&'a B>, &'a B>],
+    heap: &'a B,
+    rt: &impl Abort,
 ) -> bool {
-    let lines = lines_of(rt, heap, script);
+    let lines = lines_of(heap, script, rt);
     let agrees = agree(heap, before.history(), after.history(), &lines, receipts);
     let_go_of_lines(lines);
     agrees.expect(rt, "memory")
@@ -127,11 +127,11 @@ fn same_nodes<'a, B: Allocator>(one: &Bench<'a, B>, other: &Bench<'a, B>) -> boo
 
 /// Whether the nodes are what the recorded calls give, asked of a bench just opened.
 fn is_what_its_history_gives<'a, B: Allocator>(
-    rt: &impl Abort,
-    alloc: &'a B,
     bench: &Bench<'a, B>,
+    alloc: &'a B,
+    rt: &impl Abort,
 ) -> bool {
-    let mut again = open(rt, alloc, bench.limits().acts());
+    let mut again = open(alloc, bench.limits().acts(), rt);
     let is_so = replies_so(&mut again, bench) && same_nodes(&again, bench);
     drop(again);
     is_so
@@ -148,22 +148,22 @@ fn are_so_many<A: Allocator>(lists: &[Vec<Receipt<A>, A>], lengths: &[usize]) ->
 
 /// Whether what a race left has so many receipts, which agree with its history, and the nodes that this history gives.
 fn are_vouched_for<'a, B: Allocator>(
-    rt: &impl Abort,
-    heap: &'a B,
     bench: &Bench<'a, B>,
     receipts: &[Vec<Receipt<&'a B>, &'a B>],
+    heap: &'a B,
+    rt: &impl Abort,
 ) -> bool {
-    let opening = open(rt, heap, 100);
-    let are_so = agrees(rt, heap, &opening, bench, DELIVERED, receipts);
+    let opening = open(heap, 100, rt);
+    let are_so = agrees(&opening, bench, DELIVERED, receipts, heap, rt);
     drop(opening);
-    are_so && are_so_many(receipts, &[2, 2, 0]) && is_what_its_history_gives(rt, heap, bench)
+    are_so && are_so_many(receipts, &[2, 2, 0]) && is_what_its_history_gives(bench, heap, rt)
 }
 
 #[test]
 fn a_race_is_vouched_for(rt: HostRuntime) {
     let heap = rt.alloc();
-    let (bench, receipts) = raced(&rt, &heap, DELIVERED, 3, &Idle);
-    let is_so = are_vouched_for(&rt, &heap, &bench, &receipts);
+    let (bench, receipts) = raced(&heap, DELIVERED, 3, &Idle, &rt);
+    let is_so = are_vouched_for(&bench, &receipts, &heap, &rt);
     let_go_of_receipts(receipts);
     drop(bench);
     assert!(rt; is_so);
@@ -188,7 +188,7 @@ fn turns<R: Threads + Wait + Clock + Abort + Sync + Copy>(
     later: u16,
 ) -> bool {
     let gate = InOrder::new(*rt, order);
-    let bench = bench_raced(rt, heap, TWO_JOINS, 2, &gate);
+    let bench = bench_raced(heap, TWO_JOINS, 2, &gate, rt);
     let is_so = is_last(&bench, later);
     drop(bench);
     is_so && gate.has_passed_each_once()
@@ -209,7 +209,7 @@ const REFUSED: [(&str, u64, u16, RaceFault); 3] = [
 ];
 
 /// Whether a race has this fault, and gives back its bench as it was opened, with this limit on acts.
-fn is_refused<'a>(rt: &impl Abort, raced: Raced<'a, Global>, fault: RaceFault, acts: u64) -> bool {
+fn is_refused<'a>(raced: Raced<'a, Global>, fault: RaceFault, acts: u64, rt: &impl Abort) -> bool {
     let (refused, bench) = raced.err().expect(rt, "a refusal");
     let is_as_opened = bench.history().len() == 0 && bench.limits().acts() == acts;
     drop(bench);
@@ -220,8 +220,8 @@ fn is_refused<'a>(rt: &impl Abort, raced: Raced<'a, Global>, fault: RaceFault, a
 fn a_race_is_refused_before_it_begins(rt: HostRuntime) {
     let heap = rt.alloc();
     for (script, acts, actors, fault) in REFUSED {
-        let raced = raced_in(&rt, &heap, script, acts, actors, &Idle);
-        assert!(rt; is_refused(&rt, raced, fault, acts));
+        let raced = raced_in(&heap, script, acts, actors, &Idle, &rt);
+        assert!(rt; is_refused(raced, fault, acts, &rt));
     }
 }
 
@@ -249,8 +249,8 @@ const TOLD: [(Reply, Option<u64>); 4] = [
 #[test]
 fn a_call_is_told_with_its_place(rt: HostRuntime) {
     let heap = rt.alloc();
-    let mut bench = open(&rt, &heap, 3);
-    let mut lines = lines_of(&rt, &heap, TWO_JOINS);
+    let mut bench = open(&heap, 3, &rt);
+    let mut lines = lines_of(&heap, TWO_JOINS, &rt);
     let (_, second) = lines.pop().expect(&rt, "a line");
     let (_, first) = lines.pop().expect(&rt, "a line");
     let_go_of_lines(lines);

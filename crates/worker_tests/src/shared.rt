@@ -34,8 +34,8 @@ fn ended<'a>(raced: Raced<'a, Heap>) -> (bool, bool) {
 
 /// Whether a race meets this request for memory, which is refused. Then it says so, and the bench comes back; else it is vouched for.
 fn refused<R: Threads + Wait + Abort + Sync>(rt: &R, heap: &Heap, number: u64) -> bool {
-    let lines = lines_of(rt, heap, UNDONE_BESIDE);
-    let bench = open(rt, heap, 100);
+    let lines = lines_of(heap, UNDONE_BESIDE, rt);
+    let bench = open(heap, 100, rt);
     heap.refuse_only(number);
     let raced = race(rt, heap, bench, 3, lines, &Idle);
     let is_met = number <= heap.requests();
@@ -127,9 +127,9 @@ fn ask_both<
 }
 
 /// A thousand joins of one node.
-fn joins_of<'a>(rt: &impl Abort, heap: &'a Global, node: &str) -> Lines<'a, Global> {
+fn joins_of<'a>(heap: &'a Global, node: &str, rt: &impl Abort) -> Lines<'a, Global> {
     let script = joins(rt, heap, &[node]);
-    lines_of(rt, heap, script.as_str())
+    lines_of(heap, script.as_str(), rt)
 }
 
 /// How many of the receipts tell of a step that was taken.
@@ -144,7 +144,7 @@ fn taken_of<A: Allocator>(receipts: &[Receipt<A>]) -> usize {
 }
 
 /// The own clock of a node.
-fn clock_of<'a>(rt: &impl Abort, bench: &Bench<'a, Global>, node: u16) -> u64 {
+fn clock_of<'a>(bench: &Bench<'a, Global>, node: u16, rt: &impl Abort) -> u64 {
     assert!(rt; node < 32);
     let replica = bench.node(node).expect(rt, "a node").replica();
     replica.seen().clock_of(node)
@@ -152,12 +152,12 @@ fn clock_of<'a>(rt: &impl Abort, bench: &Bench<'a, Global>, node: u16) -> u64 {
 
 /// A bench that two threads have asked a thousand joins each, and their receipts.
 fn shared_by_two<'a, R: Threads + Wait + Abort + Sync>(
-    rt: &R,
     heap: &'a Global,
+    rt: &R,
 ) -> (Bench<'a, Global>, Receipts<&'a Global>) {
-    let shared = Mutex::new(open(rt, heap, 10_000));
-    let first = joins_of(rt, heap, "a");
-    let second = joins_of(rt, heap, "b");
+    let shared = Mutex::new(open(heap, 10_000, rt));
+    let first = joins_of(heap, "a", rt);
+    let second = joins_of(heap, "b", rt);
     let (of_a, of_b) = ask_both(rt, heap, &shared, first, second);
     let mut receipts = Vec::new(heap);
     receipts.push(of_a).expect(rt, "memory");
@@ -167,29 +167,29 @@ fn shared_by_two<'a, R: Threads + Wait + Abort + Sync>(
 
 /// Whether the bench has taken a thousand joins of this node, and the receipts tell of each.
 fn are_all_taken<'a>(
-    rt: &impl Abort,
     bench: &Bench<'a, Global>,
     receipts: &[Vec<Receipt<&'a Global>, &'a Global>],
     node: u16,
+    rt: &impl Abort,
 ) -> bool {
     let list = receipts.get(usize::from(node)).expect(rt, "a list");
-    taken_of(list) == 1_000 && clock_of(rt, bench, node) == 1_000
+    taken_of(list) == 1_000 && clock_of(bench, node, rt) == 1_000
 }
 
 /// Whether the bench has taken a thousand joins of both nodes, and the receipts account for its history.
 fn are_all_told<'a>(
-    rt: &impl Abort,
-    heap: &'a Global,
     bench: &Bench<'a, Global>,
     receipts: &[Vec<Receipt<&'a Global>, &'a Global>],
+    heap: &'a Global,
+    rt: &impl Abort,
 ) -> bool {
     let script = joins(rt, heap, &["a", "b"]);
-    let opening = open(rt, heap, 10_000);
-    let agrees = agrees(rt, heap, &opening, bench, script.as_str(), receipts);
+    let opening = open(heap, 10_000, rt);
+    let agrees = agrees(&opening, bench, script.as_str(), receipts, heap, rt);
     drop(opening);
     agrees
-        && are_all_taken(rt, bench, receipts, 0)
-        && are_all_taken(rt, bench, receipts, 1)
+        && are_all_taken(bench, receipts, 0, rt)
+        && are_all_taken(bench, receipts, 1, rt)
         && bench.history().len() == 2_000
         && bench.remaining().len() == 2_000
 }
@@ -197,8 +197,8 @@ fn are_all_told<'a>(
 #[test]
 fn two_threads_share_a_bench(rt: HostRuntime) {
     let heap = rt.alloc();
-    let (bench, receipts) = shared_by_two(&rt, &heap);
-    let is_so = are_all_told(&rt, &heap, &bench, &receipts);
+    let (bench, receipts) = shared_by_two(&heap, &rt);
+    let is_so = are_all_told(&bench, &receipts, &heap, &rt);
     let_go_of_receipts(receipts);
     drop(bench);
     assert!(rt; is_so);

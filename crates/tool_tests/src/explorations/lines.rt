@@ -17,18 +17,18 @@ pub enum Line {
     Back(u16),
 }
 
-fn word<'a, B: Allocator>(rt: &impl Abort, alloc: &'a B, text: &str) -> Word<&'a B> {
+fn word<'a, B: Allocator>(alloc: &'a B, text: &str, rt: &impl Abort) -> Word<&'a B> {
     Word::new(alloc, text).expect(rt, "a word")
 }
 
 /// What the line asks.
-fn act_of<'a, B: Allocator>(rt: &impl Abort, alloc: &'a B, line: Line) -> Act<&'a B> {
+fn act_of<'a, B: Allocator>(alloc: &'a B, line: Line, rt: &impl Abort) -> Act<&'a B> {
     match line {
         Line::Join(pid) => Act::Do(Step::Join {
             pid,
-            topic: word(rt, alloc, "r"),
-            key: word(rt, alloc, "alice"),
-            metadata: word(rt, alloc, "phone"),
+            topic: word(alloc, "r", rt),
+            key: word(alloc, "alice", rt),
+            metadata: word(alloc, "phone", rt),
         }),
         Line::Broadcast => Act::Do(Step::Broadcast),
         Line::Deliver(sender, number) => Act::Do(Step::Deliver { sender, number }),
@@ -48,12 +48,12 @@ fn let_go<A: Allocator>(lists: Vec<Vec<(u16, Act<A>), A>, A>) {
 
 /// What all orders of the lists lead to.
 pub fn explored<'a, B: Allocator>(
-    heap: &'a B,
     names: Names<&'a B>,
     limits: Limits,
     reading: Reading,
     lists: Lists<'a, B>,
     most: usize,
+    heap: &'a B,
 ) -> Result<Explored<'a, B>, ExploreFault> {
     let explored = explore(heap, names, limits, reading, &lists, most);
     let_go(lists);
@@ -69,16 +69,16 @@ pub fn fault_of<'a, B: Allocator>(
 
 /// For each actor a list of its lines.
 pub fn lists_of<'a, B: Allocator>(
-    rt: &impl Abort,
     alloc: &'a B,
     lists: &[&[Line]],
+    rt: &impl Abort,
 ) -> Lists<'a, B> {
     let mut all = Vec::new(alloc);
     for (actor, lines) in lists.iter().enumerate() {
         let mut calls = Vec::new(alloc);
         for line in *lines {
             calls
-                .push((number_of(rt, actor), act_of(rt, alloc, *line)))
+                .push((number_of(rt, actor), act_of(alloc, *line, rt)))
                 .expect(rt, "room for a line");
         }
         all.push(calls).expect(rt, "room for an actor");
@@ -92,15 +92,15 @@ fn number_of(rt: &impl Abort, actor: usize) -> u16 {
 
 /// For each line, with its actor, a list of its own.
 pub fn lines_alone<'a, B: Allocator>(
-    rt: &impl Abort,
     alloc: &'a B,
     lines: &[(u16, Line)],
+    rt: &impl Abort,
 ) -> Lists<'a, B> {
     let mut all = Vec::new(alloc);
     for (actor, line) in lines {
         let mut calls = Vec::new(alloc);
         calls
-            .push((*actor, act_of(rt, alloc, *line)))
+            .push((*actor, act_of(alloc, *line, rt)))
             .expect(rt, "room for a line");
         all.push(calls).expect(rt, "room for a list");
     }
@@ -108,7 +108,7 @@ pub fn lines_alone<'a, B: Allocator>(
 }
 
 /// The names `a` and `b`.
-pub fn names_of<'a, B: Allocator>(rt: &impl Abort, alloc: &'a B) -> Names<&'a B> {
+pub fn names_of<'a, B: Allocator>(alloc: &'a B, rt: &impl Abort) -> Names<&'a B> {
     Names::new(alloc, &["a", "b"]).expect(rt, "names")
 }
 

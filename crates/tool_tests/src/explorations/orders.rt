@@ -286,28 +286,28 @@ const CASES: [Case; 9] = [
 ];
 
 /// How many entries the node of this number has.
-fn entries_of<'a, B: Allocator>(rt: &impl Abort, bench: &Bench<'a, B>, number: u16) -> usize {
+fn entries_of<'a, B: Allocator>(bench: &Bench<'a, B>, number: u16, rt: &impl Abort) -> usize {
     let node = bench.node(number).expect(rt, "a node");
     node.replica().entries().len()
 }
 
 /// Whether the outcome is this one.
-fn is_told<'a, B: Allocator>(rt: &impl Abort, told: &Outcome<'a, B>, ends: &Ends) -> bool {
+fn is_told<'a, B: Allocator>(told: &Outcome<'a, B>, ends: &Ends, rt: &impl Abort) -> bool {
     let [of_a, of_b] = ends.entries;
     told.order.as_slice() == ends.order
         && told.orders == Some(ends.orders)
-        && entries_of(rt, &told.bench, 0) == of_a
-        && entries_of(rt, &told.bench, 1) == of_b
+        && entries_of(&told.bench, 0, rt) == of_a
+        && entries_of(&told.bench, 1, rt) == of_b
 }
 
 fn check_outcomes<'a, B: Allocator>(
-    rt: &impl Abort,
     outcomes: &[Outcome<'a, B>],
     expected: &[Ends],
+    rt: &impl Abort,
 ) {
     assert!(rt; outcomes.len() == expected.len());
     for (told, ends) in outcomes.iter().zip(expected) {
-        assert!(rt; is_told(rt, told, ends));
+        assert!(rt; is_told(told, ends, rt));
     }
 }
 
@@ -320,9 +320,9 @@ fn is_refused<'a, B: Allocator>(told: &Refusal<'a, B>, refused: &Refused) -> boo
 }
 
 fn check_refusals<'a, B: Allocator>(
-    rt: &impl Abort,
     refusals: &[Refusal<'a, B>],
     expected: &[Refused],
+    rt: &impl Abort,
 ) {
     assert!(rt; refusals.len() == expected.len());
     for (told, refused) in refusals.iter().zip(expected) {
@@ -331,10 +331,10 @@ fn check_refusals<'a, B: Allocator>(
 }
 
 /// The calls of these lines in lists.
-fn lists_in<'a, B: Allocator>(rt: &impl Abort, heap: &'a B, lines: &Lines) -> Lists<'a, B> {
+fn lists_in<'a, B: Allocator>(heap: &'a B, lines: &Lines, rt: &impl Abort) -> Lists<'a, B> {
     match lines {
-        Lines::OfActors(lists) => lists_of(rt, heap, lists),
-        Lines::InTurn(lines) => lines_alone(rt, heap, lines),
+        Lines::OfActors(lists) => lists_of(heap, lists, rt),
+        Lines::InTurn(lines) => lines_alone(heap, lines, rt),
     }
 }
 
@@ -348,27 +348,27 @@ fn reading_of(lines: &Lines) -> Reading {
 
 /// All orders of the lines of a case, of at most so many states.
 fn explored_in<'a, B: Allocator>(
-    rt: &impl Abort,
     heap: &'a B,
     case: &Case,
     most: usize,
+    rt: &impl Abort,
 ) -> Result<Explored<'a, B>, ExploreFault> {
-    let names = names_of(rt, heap);
+    let names = names_of(heap, rt);
     let limits = limits_of(rt, case.acts);
-    let lists = lists_in(rt, heap, &case.lines);
-    explored(heap, names, limits, reading_of(&case.lines), lists, most)
+    let lists = lists_in(heap, &case.lines, rt);
+    explored(names, limits, reading_of(&case.lines), lists, most, heap)
 }
 
 /// Stops where anything else is told of a case.
-fn check<'a, B: Allocator>(rt: &impl Abort, explored: &Explored<'a, B>, case: &Case) {
+fn check<'a, B: Allocator>(explored: &Explored<'a, B>, case: &Case, rt: &impl Abort) {
     assert!(rt; explored.states == case.states && explored.orders == Some(case.orders));
-    check_outcomes(rt, &explored.outcomes, case.outcomes);
-    check_refusals(rt, &explored.refusals, case.refusals);
+    check_outcomes(&explored.outcomes, case.outcomes, rt);
+    check_refusals(&explored.refusals, case.refusals, rt);
 }
 
-fn check_case<'a, B: Allocator>(rt: &impl Abort, heap: &'a B, case: &Case) {
-    let told = explored_in(rt, heap, case, case.states).expect(rt, "all orders");
-    check(rt, &told, case);
+fn check_case<'a, B: Allocator>(heap: &'a B, case: &Case, rt: &impl Abort) {
+    let told = explored_in(heap, case, case.states, rt).expect(rt, "all orders");
+    check(&told, case, rt);
     drop(told);
 }
 
@@ -376,7 +376,7 @@ fn check_case<'a, B: Allocator>(rt: &impl Abort, heap: &'a B, case: &Case) {
 fn each_order_is_told(rt: HostRuntime) {
     let heap = rt.alloc();
     for case in &CASES {
-        check_case(&rt, &heap, case);
+        check_case(&heap, case, &rt);
     }
 }
 
@@ -386,7 +386,7 @@ fn too_many_states_are_refused(rt: HostRuntime) {
     for case in &CASES {
         let most = case.states.saturating_sub(1);
         let states = case.states as u128;
-        let fault = fault_of(explored_in(&rt, &heap, case, most));
+        let fault = fault_of(explored_in(&heap, case, most, &rt));
         assert!(rt; fault == Some(ExploreFault::TooMany { states }));
     }
 }
@@ -420,11 +420,11 @@ const SIX_LINES: [&[Line]; 3] = [
 ];
 
 /// How many orders those lines have, if the walk is told to its end.
-fn orders_of_six_lines<'a, B: Allocator>(rt: &impl Abort, heap: &'a B) -> Option<u128> {
+fn orders_of_six_lines<'a, B: Allocator>(heap: &'a B, rt: &impl Abort) -> Option<u128> {
     let names = Names::new(heap, &["a", "b", "c"]).expect(rt, "names");
     let limits = limits_of(rt, 100);
-    let lists = lists_of(rt, heap, &SIX_LINES);
-    let told = explored(heap, names, limits, Reading::EveryOrder, lists, 10_000);
+    let lists = lists_of(heap, &SIX_LINES, rt);
+    let told = explored(names, limits, Reading::EveryOrder, lists, 10_000, heap);
     let told = told.expect(rt, "all orders");
     let orders = told.orders;
     drop(told);
@@ -434,5 +434,5 @@ fn orders_of_six_lines<'a, B: Allocator>(rt: &impl Abort, heap: &'a B) -> Option
 /// 18! / 6!³ orders, which no walk could go through one by one.
 #[test]
 fn orders_of_three_nodes_of_six_lines_are_told(rt: HostRuntime) {
-    assert!(rt; orders_of_six_lines(&rt, &rt.alloc()) == Some(17_153_136));
+    assert!(rt; orders_of_six_lines(&rt.alloc(), &rt) == Some(17_153_136));
 }

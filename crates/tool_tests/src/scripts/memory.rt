@@ -69,10 +69,10 @@ fn a_play_that_is_refused_memory_writes_nothing(rt: HostRuntime) {
 /// Whether the history of the bench, with this request for memory refused, is reported so where it is reported, and whether
 /// it is.
 fn reported_without<'a>(
-    heap: &'a Heap,
     bench: &Bench<'a, Heap>,
     number: u64,
     recorded: &[u8],
+    heap: &'a Heap,
 ) -> (bool, bool) {
     heap.refuse_only(number);
     match report_history(heap, bench) {
@@ -84,14 +84,14 @@ fn reported_without<'a>(
 #[test]
 fn a_history_whose_report_is_refused_memory_is_told_later(rt: HostRuntime) {
     let heap = Refusing::new(rt.alloc());
-    let played = played_on(&rt, &heap, TAKEN_BACK_STEP_BY_STEP.script);
+    let played = played_on(&heap, TAKEN_BACK_STEP_BY_STEP.script, &rt);
     let recorded = TAKEN_BACK_STEP_BY_STEP
         .report
         .strip_suffix("journal 1\n2 b up a\n");
     let recorded = recorded.expect(&rt, "an end").as_bytes();
     let mut requests = u64::MAX;
     for number in 1..10_000 {
-        let (is_so, is_reported) = reported_without(&heap, &played.bench, number, recorded);
+        let (is_so, is_reported) = reported_without(&played.bench, number, recorded, &heap);
         holds_at(&rt, is_so, number);
         if heap.requests() < number {
             holds_at(&rt, is_reported, number);

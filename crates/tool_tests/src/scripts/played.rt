@@ -50,17 +50,17 @@ fn each_script_prints_its_report(rt: HostRuntime) {
 }
 
 /// The script of this text.
-fn parsed<'a, B: Allocator>(rt: &impl Abort, alloc: &'a B, script: &str) -> Script<&'a B> {
+fn parsed<'a, B: Allocator>(alloc: &'a B, script: &str, rt: &impl Abort) -> Script<&'a B> {
     parse_script(alloc, script.as_bytes()).expect(rt, "a script")
 }
 
 /// The bench that the script leaves, and its report.
 pub(crate) fn played_on<'a, B: Allocator>(
-    rt: &impl Abort,
     alloc: &'a B,
     script: &str,
+    rt: &impl Abort,
 ) -> Played<'a, B> {
-    let script = parsed(rt, alloc, script);
+    let script = parsed(alloc, script, rt);
     let played = run_script(alloc, &script, Limits::usual()).expect(rt, "memory");
     drop(script);
     played
@@ -75,7 +75,7 @@ const UNRECORDED: [(Case, &str); 3] = [
 
 /// Whether the history of the script is reported so.
 fn is_reported_as(rt: &impl Abort, heap: Global, script: &str, recorded: &[u8]) -> bool {
-    let played = played_on(rt, &heap, script);
+    let played = played_on(&heap, script, rt);
     let again = report_history(&heap, &played.bench).expect(rt, "memory");
     drop(played);
     again.as_slice() == recorded
@@ -91,7 +91,7 @@ fn a_history_is_reported_as_its_acts_were(rt: HostRuntime) {
 }
 
 /// Whether the acts of the script are these: an up of the first node, an undo, and a back.
-fn are_acts<'a, B: Allocator>(rt: &impl Abort, alloc: &'a B, script: &Script<&'a B>) -> bool {
+fn are_acts<'a, B: Allocator>(script: &Script<&'a B>, alloc: &'a B, rt: &impl Abort) -> bool {
     let calls = acts(alloc, script).expect(rt, "acts");
     let [first, second, third] = calls.as_slice() else {
         return false;
@@ -105,10 +105,10 @@ fn are_acts<'a, B: Allocator>(rt: &impl Abort, alloc: &'a B, script: &Script<&'a
 fn the_acts_of_a_script_are_told_with_their_actors(rt: HostRuntime) {
     let heap = rt.alloc();
     let script = "nodes a b\nconsoles c1 c2\nb up a\nc2 undo 1\nb back b\n";
-    let script = parsed(&rt, &heap, script);
+    let script = parsed(&heap, script, &rt);
     assert!(rt; node_names(&script).len() == 2);
     assert!(rt; actors(&script) == 4);
-    assert!(rt; are_acts(&rt, &heap, &script));
+    assert!(rt; are_acts(&script, &heap, &rt));
     drop(script);
 }
 
@@ -123,7 +123,7 @@ const NO_ACTS: [(&str, u64); 5] = [
 
 /// The fault of the script's acts, if they have one.
 fn fault_of_acts(rt: &impl Abort, heap: Global, script: &str) -> Option<ScriptFault> {
-    let script = parsed(rt, &heap, script);
+    let script = parsed(&heap, script, rt);
     let fault = acts(&heap, &script).err();
     drop(script);
     fault

@@ -24,10 +24,10 @@ const LINES: [(&str, Result<&str, FaultKind>); 14] = [
 
 /// Whether the line is answered so: with what is printed, or its fault.
 fn is_answered<'a, B: Allocator>(
-    alloc: &'a B,
     prompt: &mut Prompt<'a, B>,
     line: &str,
     answer: Result<&str, FaultKind>,
+    alloc: &'a B,
 ) -> bool {
     let mut text = String::new(alloc);
     match prompt.take(&mut text, line.as_bytes()) {
@@ -42,7 +42,7 @@ fn each_line_is_answered_at_once(rt: HostRuntime) {
     let mut prompt = Prompt::new(&alloc, Limits::usual());
     assert!(rt; prompt.bench().is_none());
     for (line, answer) in LINES {
-        holds(&rt, is_answered(&alloc, &mut prompt, line, answer), line);
+        holds(&rt, is_answered(&mut prompt, line, answer, &alloc), line);
     }
     assert!(rt; prompt.bench().is_some());
     drop(prompt);

@@ -18,7 +18,7 @@ fn fault_without(
     let requests = heap.requests();
     match loaded {
         Ok(bench) => {
-            assert!(rt; is_saved_as(rt, json, &bench, EVERY_ACT_SAVED));
+            assert!(rt; is_saved_as(json, &bench, EVERY_ACT_SAVED, rt));
             drop(bench);
             (None, requests)
         }

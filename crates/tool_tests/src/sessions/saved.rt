@@ -196,10 +196,10 @@ fn limits_of(rt: &impl Abort, numbers: [u64; 4]) -> Limits {
 
 /// What a script leaves.
 fn played<'a, B: Allocator>(
-    rt: &impl Abort,
     alloc: &'a B,
     script: &str,
     limits: Limits,
+    rt: &impl Abort,
 ) -> Played<'a, B> {
     let script = parse_script(alloc, script.as_bytes()).expect(rt, "a script");
     let played = run_script(alloc, &script, limits).expect(rt, "memory");
@@ -254,10 +254,10 @@ pub(crate) fn comes_to<'a, B: Allocator>(one: &Bench<'a, B>, other: &Bench<'a, B
 
 /// Whether this is the text of the bench.
 pub(crate) fn is_saved_as<'a, B: Allocator>(
-    rt: &impl Abort,
     heap: Global,
     bench: &Bench<'a, B>,
     saved: &str,
+    rt: &impl Abort,
 ) -> bool {
     let text = save(heap, bench).expect(rt, "a text");
     text.as_slice() == saved.as_bytes()
@@ -265,10 +265,10 @@ pub(crate) fn is_saved_as<'a, B: Allocator>(
 
 /// Whether the bench comes back from its text as it was.
 fn comes_back<'a, B: Allocator>(
-    rt: &impl Abort,
     heap: Global,
-    alloc: &'a B,
     bench: &Bench<'a, B>,
+    alloc: &'a B,
+    rt: &impl Abort,
 ) -> bool {
     let text = save(heap, bench).expect(rt, "a text");
     let again = load(heap, alloc, &text).expect(rt, "a bench");
@@ -285,9 +285,9 @@ fn is_kept(
     limits: Limits,
     saved: Option<&str>,
 ) -> bool {
-    let played = played(rt, &heap, script, limits);
-    let is_saved = saved.is_none_or(|saved| is_saved_as(rt, heap, &played.bench, saved));
-    let is_kept = is_saved && comes_back(rt, heap, &heap, &played.bench);
+    let played = played(&heap, script, limits, rt);
+    let is_saved = saved.is_none_or(|saved| is_saved_as(heap, &played.bench, saved, rt));
+    let is_kept = is_saved && comes_back(heap, &played.bench, &heap, rt);
     drop(played);
     is_kept
 }
@@ -343,7 +343,7 @@ fn a_loaded_session_prints_its_calls(rt: HostRuntime) {
 
 /// Whether the session of what the script leaves prints the script's report.
 fn is_printed_again(rt: &impl Abort, heap: Global, script: &str) -> bool {
-    let played = played(rt, &heap, script, Limits::usual());
+    let played = played(&heap, script, Limits::usual(), rt);
     let text = save(heap, &played.bench).expect(rt, "a text");
     let is_printed = prints(rt, heap, &text, &played.report);
     drop(played);
@@ -359,13 +359,13 @@ fn what_was_played_is_printed_again(rt: HostRuntime) {
 }
 
 /// A bench of the nodes `a` and `b`.
-fn opening<'a, B: Allocator>(rt: &impl Abort, alloc: &'a B) -> Bench<'a, B> {
+fn opening<'a, B: Allocator>(alloc: &'a B, rt: &impl Abort) -> Bench<'a, B> {
     let names = Names::new(alloc, &["a", "b"]).expect(rt, "names");
     Bench::new(alloc, names, Limits::usual()).expect(rt, "memory")
 }
 
 /// Makes calls of actors and of nodes that there are none of. Gives how many replies come.
-fn asks_nobody<'a, B: Allocator>(rt: &impl Abort, bench: &mut Bench<'a, B>) -> usize {
+fn asks_nobody<'a, B: Allocator>(bench: &mut Bench<'a, B>, rt: &impl Abort) -> usize {
     let names = NameSet::empty().with(5);
     let calls = [
         (7, Act::Do(Step::Broadcast)),
@@ -380,8 +380,8 @@ fn asks_nobody<'a, B: Allocator>(rt: &impl Abort, bench: &mut Bench<'a, B>) -> u
 #[test]
 fn calls_that_name_no_node_come_back(rt: HostRuntime) {
     let heap = rt.alloc();
-    let mut bench = opening(&rt, &heap);
-    assert!(rt; asks_nobody(&rt, &mut bench) == 5);
-    assert!(rt; comes_back(&rt, rt.alloc(), &heap, &bench));
+    let mut bench = opening(&heap, &rt);
+    assert!(rt; asks_nobody(&mut bench, &rt) == 5);
+    assert!(rt; comes_back(rt.alloc(), &bench, &heap, &rt));
     drop(bench);
 }

@@ -38,7 +38,7 @@ const SPELLED: [&str; 5] = [
 /// Whether the text gives the session of a join and its undo.
 fn gives_the_session(rt: &impl Abort, heap: Global, spelled: &str) -> bool {
     let bench = load(heap, &heap, spelled.as_bytes()).expect(rt, "a session");
-    let is_saved = is_saved_as(rt, heap, &bench, JOINED_AND_UNDONE);
+    let is_saved = is_saved_as(heap, &bench, JOINED_AND_UNDONE, rt);
     drop(bench);
     is_saved
 }
