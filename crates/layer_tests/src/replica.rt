@@ -54,7 +54,7 @@ fn joins<'a, B: Allocator>(
     rt: &impl Abort,
 ) {
     let made = replica.join(pid, &words.topic, &words.key, &words.metadata);
-    drop(made.expect(rt, "a join"));
+    holds!(rt, made.err().is_none());
 }
 
 /// Joins the process, and gives the message of that join alone.
@@ -170,6 +170,15 @@ impl Call {
         }
     }
 
+    /// The fault of the call, if it has one.
+    fn fault<'a, B: Allocator>(
+        self,
+        replica: &mut Replica<&'a B>,
+        inputs: &Inputs<&'a B>,
+    ) -> Option<ReplicaFault> {
+        self.act(replica, inputs).err()
+    }
+
     /// Whether the call is made, and undone at once.
     fn is_taken_back<'a, B: Allocator>(
         self,
@@ -192,7 +201,7 @@ impl Call {
         if is_undone {
             return self.is_taken_back(replica, inputs);
         }
-        self.act(replica, inputs).err().is_none()
+        self.fault(replica, inputs).is_none()
     }
 }
 
@@ -290,7 +299,7 @@ fn refuses_in_turn<'a>(
 ) -> u64 {
     for number in 1..100 {
         heap.refuse_only(number);
-        let fault = call.act(replica, inputs).err();
+        let fault = call.fault(replica, inputs);
         heap.refuse_none();
         if fault.is_none() {
             return number - 1;

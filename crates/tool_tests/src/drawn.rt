@@ -129,6 +129,7 @@ b answer a 1
 <text dy=\"-18\">4</text><text dy=\"30\">answer</text></g>",
 };
 
+/// What a script leaves.
 fn played<'a, B: Allocator>(alloc: &'a B, script: &str, rt: &impl Abort) -> Played<'a, B> {
     let script = parse_script(alloc, script.as_bytes()).expect(rt, "a script");
     let played = run_script(alloc, &script, Limits::usual()).expect(rt, "memory");
@@ -137,7 +138,7 @@ fn played<'a, B: Allocator>(alloc: &'a B, script: &str, rt: &impl Abort) -> Play
 }
 
 /// Whether the script of the case has its picture.
-fn has_its_picture<'a, B: Allocator>(alloc: &'a B, case: Case, rt: &impl Abort) -> bool {
+fn has_its_picture<'a, B: Allocator>(alloc: &'a B, case: &Case, rt: &impl Abort) -> bool {
     let played = played(alloc, case.script, rt);
     let picture = draw(alloc, &played.bench, case.why).expect(rt, "memory");
     drop(played);
@@ -154,11 +155,25 @@ fn has_its_picture<'a, B: Allocator>(alloc: &'a B, case: Case, rt: &impl Abort) 
     picture.as_slice() == expected.as_bytes()
 }
 
+const CASES: &[Case] = &[SENT, MARKED_UP, PAINTED];
+
 #[test]
 fn each_run_has_its_picture(rt: HostRuntime) {
-    let alloc = rt.alloc();
-    for case in [SENT, MARKED_UP, PAINTED] {
-        assert!(rt; has_its_picture(&alloc, case, &rt));
+    for case in CASES {
+        assert!(rt; has_its_picture(&rt.alloc(), case, &rt));
+    }
+}
+
+/// Whether the picture is so high, and ends with the last of thirty-two lanes.
+fn is_of_thirty_two_lanes(picture: &[u8]) -> bool {
+    match str::from_utf8(picture) {
+        Ok(text) => {
+            text.contains(r#" width="300" height="3200">"#)
+                && text.ends_with(
+                    r#"<text class="name" x="-30" y="3100" dy="5">n31</text></g></svg>"#,
+                )
+        }
+        Err(_) => false,
     }
 }
 
@@ -170,15 +185,11 @@ fn thirty_two_nodes_stand_below_one_another(rt: HostRuntime) {
     let played = played(&alloc, script, &rt);
     let picture = draw(&alloc, &played.bench, Some(1)).expect(&rt, "memory");
     drop(played);
-    let text = str::from_utf8(&picture).expect(&rt, "text");
-    assert!(rt; text.contains(r#" width="300" height="3200">"#));
-    assert!(rt;
-        text.ends_with(r#"<text class="name" x="-30" y="3100" dy="5">n31</text></g></svg>"#)
-    );
+    assert!(rt; is_of_thirty_two_lanes(&picture));
 }
 
 /// The fault of a picture with this request for memory refused, if it has one.
-fn fault_without<'a>(bench: &Bench<'a, Heap>, number: u64, heap: &'a Heap) -> Option<AllocError> {
+fn fault_without<'a>(heap: &'a Heap, bench: &Bench<'a, Heap>, number: u64) -> Option<AllocError> {
     heap.refuse_only(number);
     draw(heap, bench, Some(2)).err()
 }
@@ -188,7 +199,7 @@ fn refused_memory_is_told(rt: HostRuntime) {
     let heap = Refusing::new(rt.alloc());
     let played = played(&heap, SENT.script, &rt);
     for number in 1..1_000 {
-        let fault = fault_without(&played.bench, number, &heap);
+        let fault = fault_without(&heap, &played.bench, number);
         if heap.requests() < number {
             assert!(rt; fault.is_none());
             break;

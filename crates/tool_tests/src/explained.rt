@@ -3,9 +3,8 @@ use bench_core::Limits;
 use explain_core::{AskFault, Question, explain, explain_asked};
 use payload_core::Word;
 use script_core::{Played, parse_script, run_script};
-use std::alloc::{AllocError, Allocator};
+use std::alloc::Allocator;
 use std::process::Abort;
-use test_alloc::Refusing;
 
 /// A script, the node that is asked about, and why alice is online there under the lobby, or why not.
 #[derive(Clone, Copy)]
@@ -323,7 +322,7 @@ const NONE: Case = Case {
     text: "explain a lobby alice 0\n",
 };
 
-const CASES: [Case; 14] = [
+const CASES: &[Case] = &[
     OWN,
     UNSENT,
     UPDATED,
@@ -340,31 +339,69 @@ const CASES: [Case; 14] = [
     NONE,
 ];
 
+/// What a script leaves.
 fn played<'a, B: Allocator, R: Abort>(alloc: &'a B, script: &str, rt: &R) -> Played<'a, B> {
-    let script = parse_script(alloc, script.as_bytes()).ok();
-    let script = script.expect(rt, "the script is one");
-    let played = run_script(alloc, &script, Limits::usual()).ok();
-    played.expect(rt, "it was played")
+    let script = parse_script(alloc, script.as_bytes()).expect(rt, "a script");
+    let played = run_script(alloc, &script, Limits::usual()).expect(rt, "memory");
+    drop(script);
+    played
 }
 
+/// What is told of alice under the lobby at this node.
 fn told<'a, B: Allocator, R: Abort>(
+    alloc: &'a B,
     played: &Played<'a, B>,
     node: u16,
-    alloc: &'a B,
     rt: &R,
-) -> Result<String<&'a B>, AllocError> {
-    let topic = Word::new(alloc, "lobby").ok().expect(rt, "a word");
-    let key = Word::new(alloc, "alice").ok().expect(rt, "a word");
-    explain(alloc, &played.bench, node, &topic, &key)
+) -> String<&'a B> {
+    let topic = Word::new(alloc, "lobby").expect(rt, "a word");
+    let key = Word::new(alloc, "alice").expect(rt, "a word");
+    explain(alloc, &played.bench, node, &topic, &key).expect(rt, "memory")
+}
+
+/// Whether that is told of alice which the case has.
+fn is_explained<'a, B: Allocator, R: Abort>(alloc: &'a B, case: &Case, rt: &R) -> bool {
+    let played = played(alloc, case.script, rt);
+    let text = told(alloc, &played, case.node, rt);
+    drop(played);
+    text.as_str() == case.text
 }
 
 #[test]
 fn explains_each(rt: HostRuntime) {
-    let alloc = rt.alloc();
     for case in CASES {
-        let played = played(&alloc, case.script, &rt);
-        let text = told(&played, case.node, &alloc, &rt).expect(&rt, "there is memory");
-        assert_eq!(rt; text.as_str(), case.text);
+        assert!(rt; is_explained(&rt.alloc(), case, &rt));
+    }
+}
+
+/// Questions about a node, a topic and a key that there are none of.
+const REFUSED: &[([&str; 3], AskFault)] = &[
+    (["c", "lobby", "alice"], AskFault::NoSuchNode),
+    (["a", "", "alice"], AskFault::NoWord),
+    (["a", "lobby", "al ice"], AskFault::NoWord),
+];
+
+/// What is told of a node, a topic and a key.
+fn asked<'a, B: Allocator>(
+    alloc: &'a B,
+    played: &Played<'a, B>,
+    words: [&str; 3],
+) -> Result<String<&'a B>, AskFault> {
+    let [node, topic, key] = words;
+    let question = Question { node, topic, key };
+    explain_asked(alloc, &played.bench, question)
+}
+
+/// Whether the question is answered so.
+fn is_answered<'a, B: Allocator>(
+    alloc: &'a B,
+    played: &Played<'a, B>,
+    words: [&str; 3],
+    text: &str,
+) -> bool {
+    match asked(alloc, played, words) {
+        Ok(told) => told.as_str() == text,
+        Err(_) => false,
     }
 }
 
@@ -372,20 +409,9 @@ fn explains_each(rt: HostRuntime) {
 fn refuses_what_is_no_node_and_no_word(rt: HostRuntime) {
     let alloc = rt.alloc();
     let played = played(&alloc, OWN.script, &rt);
-    for (node, topic, key, fault) in [
-        ("c", "lobby", "alice", AskFault::NoSuchNode),
-        ("a", "", "alice", AskFault::NoWord),
-        ("a", "lobby", "al ice", AskFault::NoWord),
-    ] {
-        let question = Question { node, topic, key };
-        let refused = explain_asked(&alloc, &played.bench, question).err();
-        assert_eq!(rt; refused, Some(fault));
+    for (words, fault) in REFUSED {
+        assert!(rt; asked(&alloc, &played, *words).err() == Some(*fault));
     }
-    let question = Question {
-        node: "a",
-        topic: "lobby",
-        key: "alice",
-    };
-    let text = explain_asked(&alloc, &played.bench, question).expect(&rt, "there is memory");
-    assert_eq!(rt; text.as_str(), OWN.text);
+    assert!(rt; is_answered(&alloc, &played, ["a", "lobby", "alice"], OWN.text));
+    drop(played);
 }

@@ -6,12 +6,12 @@ use std::alloc::Global;
 use std::process::Abort;
 use test_alloc::Refusing;
 
-const LISTS: [&[Line]; 2] = [&[Join(1), Broadcast], &[Up(0), Deliver(0, 1)]];
+const LISTS: &[&[Line]] = &[&[Join(1), Broadcast], &[Up(0), Deliver(0, 1)]];
 
 /// The fault of all orders of the lines with this request for memory refused, if they have one.
 fn fault_without(rt: &impl Abort, heap: &Refusing<Global>, number: u64) -> Option<ExploreFault> {
     heap.refuse_none();
-    let lists = lists_of(heap, &LISTS, rt);
+    let lists = lists_of(heap, LISTS, rt);
     let names = names_of(heap, rt);
     let limits = limits_of(rt, 100);
     heap.refuse_only(number);

@@ -38,7 +38,7 @@ struct Case {
     states: usize,
 }
 
-const CASES: [Case; 9] = [
+const CASES: &[Case] = &[
     // A delivery before the broadcast is refused, in three of six orders.
     Case {
         acts: 100,
@@ -375,7 +375,7 @@ fn check_case<'a, B: Allocator>(heap: &'a B, case: &Case, rt: &impl Abort) {
 #[test]
 fn each_order_is_told(rt: HostRuntime) {
     let heap = rt.alloc();
-    for case in &CASES {
+    for case in CASES {
         check_case(&heap, case, &rt);
     }
 }
@@ -383,7 +383,7 @@ fn each_order_is_told(rt: HostRuntime) {
 #[test]
 fn too_many_states_are_refused(rt: HostRuntime) {
     let heap = rt.alloc();
-    for case in &CASES {
+    for case in CASES {
         let most = case.states.saturating_sub(1);
         let states = case.states as u128;
         let fault = fault_of(explored_in(&heap, case, most, &rt));
@@ -392,7 +392,7 @@ fn too_many_states_are_refused(rt: HostRuntime) {
 }
 
 /// Six lines of each of three nodes, of which each hears of the two others.
-const SIX_LINES: [&[Line]; 3] = [
+const SIX_LINES: &[&[Line]] = &[
     &[
         Up(1),
         Up(2),
@@ -423,7 +423,7 @@ const SIX_LINES: [&[Line]; 3] = [
 fn orders_of_six_lines<'a, B: Allocator>(heap: &'a B, rt: &impl Abort) -> Option<u128> {
     let names = Names::new(heap, &["a", "b", "c"]).expect(rt, "names");
     let limits = limits_of(rt, 100);
-    let lists = lists_of(heap, &SIX_LINES, rt);
+    let lists = lists_of(heap, SIX_LINES, rt);
     let told = explored(names, limits, Reading::EveryOrder, lists, 10_000, heap);
     let told = told.expect(rt, "all orders");
     let orders = told.orders;

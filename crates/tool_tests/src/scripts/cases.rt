@@ -619,7 +619,7 @@ b deliver a 1
 ",
 };
 
-pub(crate) const CASES: [Case; 21] = [
+pub(crate) const CASES: &[Case] = &[
     JOINED_AND_UNDONE,
     NOTHING_ASKED,
     TAKEN_BACK_STEP_BY_STEP,

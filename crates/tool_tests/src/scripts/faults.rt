@@ -1,14 +1,14 @@
 //! The first fault of each script that is refused.
+use crate::rows::{holds, holds_at};
 use crate::scripts::cases::TAKEN_BACK_STEP_BY_STEP;
 use crate::scripts::played::played_from;
-use crate::scripts::rows::{holds, holds_at};
 use bench_core::Limits;
 use script_core::{FaultKind, PlayFault, ScriptFault, parse_script};
 use std::alloc::Global;
 use std::process::Abort;
 
 /// Scripts, and the line and the kind of the fault of each.
-const REFUSED: [(&str, u64, FaultKind); 33] = [
+const REFUSED: &[(&str, u64, FaultKind)] = &[
     ("a broadcast", 1, FaultKind::NoNodes),
     ("", 0, FaultKind::NoNodes),
     ("# x", 0, FaultKind::NoNodes),
@@ -55,16 +55,18 @@ const REFUSED: [(&str, u64, FaultKind); 33] = [
 /// The script is refused with this fault, and nothing is written.
 fn is_refused(heap: Global, script: &[u8], line: u64, kind: FaultKind) -> bool {
     let (answer, writer) = played_from(heap, script, Limits::usual());
-    answer == Err(PlayFault::Script(ScriptFault { line, kind })) && writer.taken().is_empty()
+    let is_unwritten = writer.taken().is_empty();
+    drop(writer);
+    is_unwritten && answer == Err(PlayFault::Script(ScriptFault { line, kind }))
 }
 
 /// Scripts whose second line has bytes that are no text.
-const NO_TEXTS: [&[u8]; 3] = [b"nodes a\n\x80", b"nodes a\n# x\r", b"nodes a\n# x\x80"];
+const NO_TEXTS: &[&[u8]] = &[b"nodes a\n\x80", b"nodes a\n# x\r", b"nodes a\n# x\x80"];
 
 #[test]
 fn the_first_fault_is_told(rt: HostRuntime) {
     for (script, line, kind) in REFUSED {
-        let is_told = is_refused(rt.alloc(), script.as_bytes(), line, kind);
+        let is_told = is_refused(rt.alloc(), script.as_bytes(), *line, *kind);
         holds(&rt, is_told, script);
     }
     for script in NO_TEXTS {
@@ -137,7 +139,7 @@ fn a_script_that_is_cut_is_played_or_told(rt: HostRuntime) {
 type Repeated = (&'static str, usize, &'static str, &'static str);
 
 /// Texts of scripts, and the line and the kind of the fault of each that has one.
-const REPEATED: [(Repeated, Option<(u64, FaultKind)>); 10] = [
+const REPEATED: &[(Repeated, Option<(u64, FaultKind)>)] = &[
     (("nodes a\na join 1 ", 200, "t", " k m\n"), None),
     (
         ("nodes a\na join 1 ", 201, "t", " k m\n"),
@@ -182,13 +184,13 @@ fn fault_of(rt: &impl Abort, heap: Global, script: Repeated) -> Option<ScriptFau
 fn what_is_too_long_or_too_many_is_refused(rt: HostRuntime) {
     for (script, fault) in REPEATED {
         let fault = fault.map(|(line, kind)| ScriptFault { line, kind });
-        let is_told = fault_of(&rt, rt.alloc(), script) == fault;
+        let is_told = fault_of(&rt, rt.alloc(), *script) == fault;
         holds(&rt, is_told, script.0);
     }
 }
 
 /// Kinds of faults, each with the text of one in line 7.
-const KINDS: [(FaultKind, &str); 10] = [
+const KINDS: &[(FaultKind, &str)] = &[
     (FaultKind::NotText, "line 7: NotText"),
     (FaultKind::TooLong, "line 7: TooLong"),
     (FaultKind::NoNodes, "line 7: NoNodes"),
@@ -202,7 +204,7 @@ const KINDS: [(FaultKind, &str); 10] = [
 ];
 
 /// Other faults of a play, with their texts.
-const OTHERS: [(PlayFault, &str); 3] = [
+const OTHERS: &[(PlayFault, &str)] = &[
     (PlayFault::ReadFault, "read fault"),
     (PlayFault::WriteFault { written: 7 }, "write fault"),
     (PlayFault::OutOfMemory, "out of memory"),
@@ -218,10 +220,13 @@ fn is_told_as(rt: &impl Abort, heap: Global, fault: PlayFault, text: &str) -> bo
 #[test]
 fn each_fault_has_its_text(rt: HostRuntime) {
     for (kind, text) in KINDS {
-        let fault = PlayFault::Script(ScriptFault { line: 7, kind });
+        let fault = PlayFault::Script(ScriptFault {
+            line: 7,
+            kind: *kind,
+        });
         holds(&rt, is_told_as(&rt, rt.alloc(), fault, text), text);
     }
     for (fault, text) in OTHERS {
-        holds(&rt, is_told_as(&rt, rt.alloc(), fault, text), text);
+        holds(&rt, is_told_as(&rt, rt.alloc(), *fault, text), text);
     }
 }

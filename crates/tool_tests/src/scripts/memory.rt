@@ -1,7 +1,7 @@
 //! Want of memory at each request in turn.
+use crate::rows::holds_at;
 use crate::scripts::cases::TAKEN_BACK_STEP_BY_STEP;
 use crate::scripts::played::played_on;
-use crate::scripts::rows::holds_at;
 use bench_core::{Bench, Limits};
 use script_core::{FakeReader, FakeWriter, PlayFault, play, report_history};
 use std::alloc::Global;
@@ -69,10 +69,10 @@ fn a_play_that_is_refused_memory_writes_nothing(rt: HostRuntime) {
 /// Whether the history of the bench, with this request for memory refused, is reported so where it is reported, and whether
 /// it is.
 fn reported_without<'a>(
+    heap: &'a Heap,
     bench: &Bench<'a, Heap>,
     number: u64,
     recorded: &[u8],
-    heap: &'a Heap,
 ) -> (bool, bool) {
     heap.refuse_only(number);
     match report_history(heap, bench) {
@@ -91,7 +91,7 @@ fn a_history_whose_report_is_refused_memory_is_told_later(rt: HostRuntime) {
     let recorded = recorded.expect(&rt, "an end").as_bytes();
     let mut requests = u64::MAX;
     for number in 1..10_000 {
-        let (is_so, is_reported) = reported_without(&played.bench, number, recorded, &heap);
+        let (is_so, is_reported) = reported_without(&heap, &played.bench, number, recorded);
         holds_at(&rt, is_so, number);
         if heap.requests() < number {
             holds_at(&rt, is_reported, number);

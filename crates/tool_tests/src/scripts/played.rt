@@ -1,6 +1,6 @@
 //! Scripts, the reports that are printed of them, and the reports of what was recorded.
+use crate::rows::holds;
 use crate::scripts::cases::{CASES, JOINED_AND_UNDONE, REFUSED, TAKEN_BACK_STEP_BY_STEP};
-use crate::scripts::rows::holds;
 use bench_core::{Act, Limits, Step};
 use script_core::{
     FakeReader, FakeWriter, FaultKind, PlayFault, Played, Script, ScriptFault, actors, acts,
@@ -38,12 +38,14 @@ pub(crate) fn played_from(
 /// Whether the script prints its report.
 fn prints_its_report(heap: Global, case: &Case, limits: Limits) -> bool {
     let (answer, writer) = played_from(heap, case.script.as_bytes(), limits);
-    answer == Ok(()) && writer.taken() == case.report.as_bytes()
+    let is_so = answer == Ok(()) && writer.taken() == case.report.as_bytes();
+    drop(writer);
+    is_so
 }
 
 #[test]
 fn each_script_prints_its_report(rt: HostRuntime) {
-    for case in &CASES {
+    for case in CASES {
         let limits = limits_of(&rt, case.limits);
         holds(&rt, prints_its_report(rt.alloc(), case, limits), case.name);
     }
@@ -67,7 +69,7 @@ pub(crate) fn played_on<'a, B: Allocator>(
 }
 
 /// Scripts, each with the end of its report that tells of no act.
-const UNRECORDED: [(Case, &str); 3] = [
+const UNRECORDED: &[(Case, &str)] = &[
     (JOINED_AND_UNDONE, "online a 0\n"),
     (TAKEN_BACK_STEP_BY_STEP, "journal 1\n2 b up a\n"),
     (REFUSED, ""),
@@ -113,7 +115,7 @@ fn the_acts_of_a_script_are_told_with_their_actors(rt: HostRuntime) {
 }
 
 /// Scripts with a line that is no act, and the number of that line.
-const NO_ACTS: [(&str, u64); 5] = [
+const NO_ACTS: &[(&str, u64)] = &[
     ("nodes a\na broadcast\nshow a\na unwind 1\n", 3),
     ("nodes a\na unwind 1\njournal\n", 2),
     ("nodes a\n# acts\n\nwhy 1\n", 4),
@@ -132,8 +134,11 @@ fn fault_of_acts(rt: &impl Abort, heap: Global, script: &str) -> Option<ScriptFa
 #[test]
 fn a_line_that_is_no_act_is_told(rt: HostRuntime) {
     for (script, line) in NO_ACTS {
-        let kind = FaultKind::NotAllowed;
+        let expected = ScriptFault {
+            line: *line,
+            kind: FaultKind::NotAllowed,
+        };
         let fault = fault_of_acts(&rt, rt.alloc(), script);
-        holds(&rt, fault == Some(ScriptFault { line, kind }), script);
+        holds(&rt, fault == Some(expected), script);
     }
 }

@@ -1,11 +1,11 @@
 //! Lines at a prompt, one by one, with faults between.
-use crate::scripts::rows::holds;
+use crate::rows::holds;
 use bench_core::Limits;
 use script_core::{FaultKind, Prompt};
 use std::alloc::Allocator;
 
 /// A line, and what is printed of it, or its fault. Of a refused `consoles` line no name stays.
-const LINES: [(&str, Result<&str, FaultKind>); 14] = [
+const LINES: &[(&str, Result<&str, FaultKind>)] = &[
     ("# nothing is named yet", Ok("")),
     ("a join 1 r alice phone", Err(FaultKind::NoNodes)),
     ("nodes a b", Ok("")),
@@ -42,7 +42,7 @@ fn each_line_is_answered_at_once(rt: HostRuntime) {
     let mut prompt = Prompt::new(&alloc, Limits::usual());
     assert!(rt; prompt.bench().is_none());
     for (line, answer) in LINES {
-        holds(&rt, is_answered(&mut prompt, line, answer, &alloc), line);
+        holds(&rt, is_answered(&mut prompt, line, *answer, &alloc), line);
     }
     assert!(rt; prompt.bench().is_some());
     drop(prompt);

@@ -1,6 +1,6 @@
 //! How input is read and reports are written.
+use crate::rows::{holds, holds_at};
 use crate::scripts::cases::JOINED_AND_UNDONE;
-use crate::scripts::rows::{holds, holds_at};
 use bench_core::Limits;
 use script_core::{
     FakeReader, FakeWriter, InputFault, PlayFault, WriteFault, play, read_all, write_out,
@@ -26,7 +26,7 @@ fn is_read(
 }
 
 /// How much is read at most, in how many calls, and the fault, if there is one.
-const READS: [(usize, usize, Option<InputFault>); 4] = [
+const READS: &[(usize, usize, Option<InputFault>)] = &[
     (4, 6, None),
     (3, 5, None),
     (2, 4, Some(InputFault::TooLong)),
@@ -36,8 +36,8 @@ const READS: [(usize, usize, Option<InputFault>); 4] = [
 #[test]
 fn input_is_read_whole_or_refused(rt: HostRuntime) {
     for (limit, calls, fault) in READS {
-        let is_so = is_read(&rt, rt.alloc(), limit, calls, fault);
-        holds_at(&rt, is_so, limit as u64);
+        let is_so = is_read(&rt, rt.alloc(), *limit, *calls, *fault);
+        holds_at(&rt, is_so, *limit as u64);
     }
 }
 

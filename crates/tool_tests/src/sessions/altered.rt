@@ -1,6 +1,7 @@
 //! Texts that are no sessions, each with its fault, and some that still are.
+use crate::rows::holds;
 use crate::sessions::saved::JOINED_AND_UNDONE;
-use crate::sessions::texts::{altered, fault_of, holds, is_at_fault, nested};
+use crate::sessions::texts::{altered, fault_of, is_at_fault, nested};
 use session_core::SessionFault;
 use std::alloc::Global;
 use std::process::Abort;

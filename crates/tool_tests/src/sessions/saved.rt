@@ -1,5 +1,5 @@
 //! Benches that are saved and come back.
-use crate::sessions::texts::holds;
+use crate::rows::holds;
 use bench_core::{Act, Bench, Limits, Names, Step};
 use dots_core::NameSet;
 use script_core::{Played, parse_script, report_history, run_script};
@@ -182,7 +182,7 @@ a undo 1
 const USUAL: [u64; 4] = [100_000, 10_000, 1_000_000, 10_000];
 
 /// Scripts, each with the limits of its bench: of acts, entries, clocks and messages.
-const KEPT: [(&str, [u64; 4]); 4] = [
+const KEPT: &[(&str, [u64; 4])] = &[
     (TAKEN_BACK, USUAL),
     (REFUSED, USUAL),
     (FORGOTTEN, USUAL),
@@ -292,14 +292,17 @@ fn is_kept(
     is_kept
 }
 
+/// Scripts, and the sessions that are saved of them.
+const SAVED: &[(&str, &str)] = &[
+    (JOINED, JOINED_AND_UNDONE),
+    (EVERY_ACT, EVERY_ACT_SAVED),
+    (UNWOUND, UNWOUND_SAVED),
+    (ANSWERED, ANSWERED_SAVED),
+];
+
 #[test]
 fn a_bench_is_saved_as_its_text_and_comes_back(rt: HostRuntime) {
-    for (script, saved) in [
-        (JOINED, JOINED_AND_UNDONE),
-        (EVERY_ACT, EVERY_ACT_SAVED),
-        (UNWOUND, UNWOUND_SAVED),
-        (ANSWERED, ANSWERED_SAVED),
-    ] {
+    for (script, saved) in SAVED {
         holds(
             &rt,
             is_kept(&rt, rt.alloc(), script, Limits::usual(), Some(saved)),
@@ -311,7 +314,7 @@ fn a_bench_is_saved_as_its_text_and_comes_back(rt: HostRuntime) {
 #[test]
 fn benches_come_back(rt: HostRuntime) {
     for (script, limits) in KEPT {
-        let limits = limits_of(&rt, limits);
+        let limits = limits_of(&rt, *limits);
         holds(&rt, is_kept(&rt, rt.alloc(), script, limits, None), script);
     }
 }
@@ -327,12 +330,15 @@ fn prints(rt: &impl Abort, heap: Global, saved: &[u8], report: &[u8]) -> bool {
     is_told && printed.as_slice() == report
 }
 
+/// Sessions, and the reports of their calls.
+const PRINTED: &[(&str, &str)] = &[
+    (JOINED_AND_UNDONE, JOINED_REPORT),
+    (UNWOUND_SAVED, UNWOUND_REPORT),
+];
+
 #[test]
 fn a_loaded_session_prints_its_calls(rt: HostRuntime) {
-    for (saved, report) in [
-        (JOINED_AND_UNDONE, JOINED_REPORT),
-        (UNWOUND_SAVED, UNWOUND_REPORT),
-    ] {
+    for (saved, report) in PRINTED {
         holds(
             &rt,
             prints(&rt, rt.alloc(), saved.as_bytes(), report.as_bytes()),
@@ -346,14 +352,17 @@ fn is_printed_again(rt: &impl Abort, heap: Global, script: &str) -> bool {
     let played = played(&heap, script, Limits::usual(), rt);
     let text = save(heap, &played.bench).expect(rt, "a text");
     let is_printed = prints(rt, heap, &text, &played.report);
+    drop(text);
     drop(played);
     is_printed
 }
 
-/// What was played of acts alone, each recorded, is printed again by the bench that was loaded.
+/// Scripts of acts alone, each recorded.
+const OF_ACTS: &[&str] = &[TAKEN_BACK, REFUSED, FORGOTTEN, EVERY_ACT];
+
 #[test]
 fn what_was_played_is_printed_again(rt: HostRuntime) {
-    for script in [TAKEN_BACK, REFUSED, FORGOTTEN, EVERY_ACT] {
+    for script in OF_ACTS {
         holds(&rt, is_printed_again(&rt, rt.alloc(), script), script);
     }
 }

@@ -1,11 +1,11 @@
 //! Other spellings of one session.
+use crate::rows::holds;
 use crate::sessions::saved::{JOINED_AND_UNDONE, is_saved_as};
-use crate::sessions::texts::holds;
 use session_core::load;
 use std::alloc::Global;
 use std::process::Abort;
 
-const SPELLED: [&str; 5] = [
+const SPELLED: &[&str] = &[
     // other keys first
     concat!(
         r#"{"version":2,"nodes":["a","b"],"acts":[[0,["do","join",1,"r","alice","phone"],["ok",1]],"#,

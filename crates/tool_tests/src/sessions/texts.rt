@@ -1,14 +1,8 @@
-//! Texts made from texts of sessions, the faults of texts, and an assertion in loops over tables, which names its row. They
-//! stand here, and not in the loops, since an assertion with a message is dear to prove where much is live.
+//! Texts made from texts of sessions, and the faults of texts.
 use session_core::{SessionFault, load};
 use session_report::report_session;
 use std::alloc::Global;
 use std::process::Abort;
-
-/// Stops where it is not so, and names the row.
-pub(crate) fn holds(rt: &impl Abort, is_so: bool, row: &str) {
-    assert!(rt; is_so, "{row}");
-}
 
 /// The fault of a text, if it has one.
 pub(crate) fn fault_of(heap: Global, text: &[u8]) -> Option<SessionFault> {

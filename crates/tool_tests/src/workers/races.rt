@@ -1,6 +1,6 @@
 //! Races, single calls, and what refuses a race.
-use crate::gates::{Idle, InOrder};
-use crate::lines::{let_go_of_lines, lines_of, open};
+use crate::workers::gates::{Idle, InOrder};
+use crate::workers::lines::{let_go_of_lines, lines_of, open};
 use bench_core::{Act, Bench, Fault, Reply};
 use std::alloc::{Allocator, Global};
 use std::process::Abort;
@@ -170,7 +170,7 @@ fn a_race_is_vouched_for(rt: HostRuntime) {
 }
 
 /// Each of the two lines in turn waits at the gate until the other was asked.
-const TURNS: [(&[u64], u16); 2] = [(&[2, 1], 0), (&[1, 2], 1)];
+const TURNS: &[(&[u64], u16)] = &[(&[2, 1], 0), (&[1, 2], 1)];
 
 /// Whether the second call that the history has is the join of this node.
 fn is_last<'a, B: Allocator>(bench: &Bench<'a, B>, node: u16) -> bool {
@@ -197,12 +197,12 @@ fn turns<R: Threads + Wait + Clock + Abort + Sync + Copy>(
 #[test]
 fn a_gate_turns_the_order(rt: HostRuntime) {
     for (order, later) in TURNS {
-        assert!(rt; turns(&rt, &rt.alloc(), order, later));
+        assert!(rt; turns(&rt, &rt.alloc(), order, *later));
     }
 }
 
 /// Races that are refused before they begin: their script, the limit on acts, the number of actors, and the fault.
-const REFUSED: [(&str, u64, u16, RaceFault); 3] = [
+const REFUSED: &[(&str, u64, u16, RaceFault)] = &[
     (UNKNOWN_ACTOR, 100, 2, RaceFault::UnknownActor),
     (TWO_JOINS, 3, 2, RaceFault::NoRoom),
     (UNKNOWN_ACTOR, 1, 2, RaceFault::UnknownActor),
@@ -220,8 +220,8 @@ fn is_refused<'a>(raced: Raced<'a, Global>, fault: RaceFault, acts: u64, rt: &im
 fn a_race_is_refused_before_it_begins(rt: HostRuntime) {
     let heap = rt.alloc();
     for (script, acts, actors, fault) in REFUSED {
-        let raced = raced_in(&heap, script, acts, actors, &Idle, &rt);
-        assert!(rt; is_refused(raced, fault, acts, &rt));
+        let raced = raced_in(&heap, script, *acts, *actors, &Idle, &rt);
+        assert!(rt; is_refused(raced, *fault, *acts, &rt));
     }
 }
 

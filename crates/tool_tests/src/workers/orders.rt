@@ -1,7 +1,7 @@
 //! Consoles that undo against running nodes in orders that a gate fixes, and receipts of such a race that were altered.
-use crate::gates::InOrder;
-use crate::lines::{let_go_of_lines, lines_of, open};
-use crate::races::{agrees, bench_raced, let_go_of_receipts, raced};
+use crate::workers::gates::InOrder;
+use crate::workers::lines::{let_go_of_lines, lines_of, open};
+use crate::workers::races::{agrees, bench_raced, let_go_of_receipts, raced};
 use bench_core::{Act, Bench, Fault, Reply};
 use std::alloc::{Allocator, Global};
 use std::process::Abort;
@@ -33,7 +33,7 @@ const HELD: Reply = Reply::Refused(Fault::HasConsequence {
     held_by: 4,
 });
 
-const ORDERS: [Order; 4] = [
+const ORDERS: &[Order] = &[
     Order {
         lines: &[1, 2, 3, 4, 5],
         replies: [
@@ -126,7 +126,7 @@ fn is_raced_so<R: Threads + Wait + Clock + Abort + Sync + Copy>(
 
 #[test]
 fn consoles_undo_beside_running_nodes(rt: HostRuntime) {
-    for order in &ORDERS {
+    for order in ORDERS {
         assert!(rt; is_raced_so(&rt, &rt.alloc(), order));
     }
 }
@@ -146,7 +146,7 @@ enum Alteration {
     NoPlace,
 }
 
-const ALTERATIONS: [Alteration; 9] = [
+const ALTERATIONS: &[Alteration] = &[
     Alteration::OneDropped,
     Alteration::OneDoubled,
     Alteration::OneMoved,
@@ -246,7 +246,7 @@ fn agrees_altered<R: Threads + Wait + Clock + Abort + Sync + Copy>(
 fn altered_receipts_disagree(rt: HostRuntime) {
     assert!(rt; agrees_altered(&rt, &rt.alloc(), Alteration::Nothing));
     for alteration in ALTERATIONS {
-        assert!(rt; !agrees_altered(&rt, &rt.alloc(), alteration));
+        assert!(rt; !agrees_altered(&rt, &rt.alloc(), *alteration));
     }
 }
 

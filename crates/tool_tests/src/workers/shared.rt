@@ -1,8 +1,8 @@
 //! A race that is refused memory, and threads of a test's own that share a bench.
-use crate::gates::Idle;
-use crate::lines::{Lines, lines_of, open};
-use crate::orders::UNDONE_BESIDE;
-use crate::races::{Raced, agrees, let_go_of_receipts};
+use crate::workers::gates::Idle;
+use crate::workers::lines::{Lines, lines_of, open};
+use crate::workers::orders::UNDONE_BESIDE;
+use crate::workers::races::{Raced, agrees, let_go_of_receipts};
 use bench_core::{Act, Bench, Fault, Reply};
 use std::alloc::{Allocator, Global};
 use std::process::Abort;

@@ -67,7 +67,7 @@ const ALL_ORDERS: Subcommand = Subcommand::Explore {
 };
 
 /// The words that choose something, and what they choose.
-const CHOSEN: [(&[&str], Subcommand, Form); 17] = [
+const CHOSEN: &[(&[&str], Subcommand, Form)] = &[
     (&["play"], Subcommand::Play, Form::Report),
     (&["play", "--as", "report"], Subcommand::Play, Form::Report),
     (&["play", "--as=session"], Subcommand::Play, Form::Session),
@@ -131,63 +131,48 @@ const CHOSEN: [(&[&str], Subcommand, Form); 17] = [
     ),
 ];
 
+/// Words that choose nothing, and why.
+const REFUSED: &[(&[&str], ErrorKind)] = &[
+    (&[], ErrorKind::MissingSubcommand),
+    (&["jump"], ErrorKind::InvalidSubcommand),
+    (&["play", "--as", "x"], ErrorKind::InvalidValue),
+    (&["load", "--as"], ErrorKind::InvalidValue),
+    (&["draw", "--why", "x"], ErrorKind::InvalidValue),
+    (&["step", "--as", "report"], ErrorKind::UnknownArgument),
+    (&["explore", "--states", "x"], ErrorKind::InvalidValue),
+    (&["explore", "--script", "-1"], ErrorKind::UnknownArgument),
+    (&["explore", "--script="], ErrorKind::InvalidValue),
+    (&["play", "--states", "7"], ErrorKind::UnknownArgument),
+    (&["draw", "--script", "1"], ErrorKind::UnknownArgument),
+    (&["draw", "--as", "session"], ErrorKind::UnknownArgument),
+    (&["explore", "--as", "session"], ErrorKind::InvalidValue),
+    (
+        &["explain", "b", "lobby"],
+        ErrorKind::MissingRequiredArgument,
+    ),
+    (
+        &["explain", "b", "lobby", "alice", "x"],
+        ErrorKind::UnknownArgument,
+    ),
+    (&["play", "x"], ErrorKind::UnknownArgument),
+    (&["--as", "report"], ErrorKind::UnknownArgument),
+    (&["--help"], ErrorKind::DisplayHelp),
+    (&["--version"], ErrorKind::DisplayVersion),
+];
+
 #[test]
 fn words_choose_a_subcommand_and_a_form(rt: HostRuntime) {
     for (words, command, form) in CHOSEN {
         let given = choice(rt.alloc(), words).expect(&rt, "a choice");
-        assert_eq!(rt; given, Choice { command, form });
+        assert!(rt; given.command == *command && given.form == *form);
     }
-    let none: [&str; 0] = [];
-    for (words, kind) in [
-        (none.as_slice(), ErrorKind::MissingSubcommand),
-        (["jump"].as_slice(), ErrorKind::InvalidSubcommand),
-        (["play", "--as", "x"].as_slice(), ErrorKind::InvalidValue),
-        (["load", "--as"].as_slice(), ErrorKind::InvalidValue),
-        (["draw", "--why", "x"].as_slice(), ErrorKind::InvalidValue),
-        (
-            ["step", "--as", "report"].as_slice(),
-            ErrorKind::UnknownArgument,
-        ),
-        (
-            ["explore", "--states", "x"].as_slice(),
-            ErrorKind::InvalidValue,
-        ),
-        (
-            ["explore", "--script", "-1"].as_slice(),
-            ErrorKind::UnknownArgument,
-        ),
-        (["explore", "--script="].as_slice(), ErrorKind::InvalidValue),
-        (
-            ["play", "--states", "7"].as_slice(),
-            ErrorKind::UnknownArgument,
-        ),
-        (
-            ["draw", "--script", "1"].as_slice(),
-            ErrorKind::UnknownArgument,
-        ),
-        (
-            ["draw", "--as", "session"].as_slice(),
-            ErrorKind::UnknownArgument,
-        ),
-        (
-            ["explore", "--as", "session"].as_slice(),
-            ErrorKind::InvalidValue,
-        ),
-        (
-            ["explain", "b", "lobby"].as_slice(),
-            ErrorKind::MissingRequiredArgument,
-        ),
-        (
-            ["explain", "b", "lobby", "alice", "x"].as_slice(),
-            ErrorKind::UnknownArgument,
-        ),
-        (["play", "x"].as_slice(), ErrorKind::UnknownArgument),
-        (["--as", "report"].as_slice(), ErrorKind::UnknownArgument),
-        (["--help"].as_slice(), ErrorKind::DisplayHelp),
-        (["--version"].as_slice(), ErrorKind::DisplayVersion),
-    ] {
+}
+
+#[test]
+fn other_words_are_refused(rt: HostRuntime) {
+    for (words, kind) in REFUSED {
         let refused = choice(rt.alloc(), words).err().expect(&rt, "a refusal");
-        assert!(rt; refused.kind() == kind);
+        assert!(rt; refused.kind() == *kind);
     }
 }
 
@@ -270,7 +255,7 @@ const EXPLAINED: Case = Case {
     ..PLAYED
 };
 
-const CASES: [Case; 33] = [
+const CASES: &[Case] = &[
     PLAYED,
     DRAWN,
     EXPLAINED,
@@ -479,14 +464,17 @@ fn ends_so<T: Threads + Wait + Sync + Abort>(
 ) -> bool {
     let rooms = [case.room, 1000];
     let (status, writer, errors) = ended(heap, &heap, case.words, reader, rooms, rt);
-    status == case.status
+    let is_so = status == case.status
         && writer.taken() == case.printed.as_bytes()
-        && errors.taken() == case.told.as_bytes()
+        && errors.taken() == case.told.as_bytes();
+    drop(errors);
+    drop(writer);
+    is_so
 }
 
 #[test]
 fn each_end_has_its_status_and_its_line(rt: HostRuntime) {
-    for case in &CASES {
+    for case in CASES {
         let script = case.script.as_bytes();
         let is_so = if case.fails {
             ends_so(rt.alloc(), case, &mut FakeReader::failing(script), &rt)
@@ -497,56 +485,74 @@ fn each_end_has_its_status_and_its_line(rt: HostRuntime) {
     }
 }
 
+/// Words, an input, and the status where nothing can be written.
+const UNWRITTEN: &[(&[&str], &str, u8)] = &[
+    (&["play"], "nodes", 1),
+    (&["jump"], "", 2),
+    (&["play"], JOINED, 3),
+    (&["load"], "", 1),
+    (&["--help"], "", 3),
+];
+
+/// Whether the program ends with this status and writes nothing where it can't.
+fn ends_unwritten<T: Threads + Wait + Sync + Abort>(
+    heap: Global,
+    words: &[&str],
+    input: &str,
+    expected: u8,
+    rt: &T,
+) -> bool {
+    let mut reader = FakeReader::ending(input.as_bytes());
+    let (status, writer, errors) = ended(heap, &heap, words, &mut reader, [0, 0], rt);
+    let is_so = status == expected && writer.taken().is_empty() && errors.taken().is_empty();
+    drop(errors);
+    drop(writer);
+    is_so
+}
+
 #[test]
 fn a_status_stands_where_its_line_cannot_be_written(rt: HostRuntime) {
-    for (words, script, status) in [
-        (["play"].as_slice(), "nodes", 1),
-        (["jump"].as_slice(), "", 2),
-        (["play"].as_slice(), JOINED, 3),
-        (["load"].as_slice(), "", 1),
-        (["--help"].as_slice(), "", 3),
-    ] {
-        let mut reader = FakeReader::ending(script.as_bytes());
-        let (ended, writer, errors) = ended(
-            rt.alloc(),
-            &rt.alloc(),
-            words,
-            &mut reader,
-            [0, 0],
-            &rt,
-        );
-        assert_eq!(rt; ended, status);
-        assert!(rt; writer.taken().is_empty() && errors.taken().is_empty());
+    for (words, input, status) in UNWRITTEN {
+        assert!(rt; ends_unwritten(rt.alloc(), words, input, *status, &rt));
     }
+}
+
+/// Words that are told of in the errors, and those that ask for help, each with the status.
+const TOLD: &[(&[&str], u8)] = &[
+    (&["jump"], 2),
+    (&["play", "x"], 2),
+    (&["--help"], 0),
+    (&["play", "--help"], 0),
+];
+
+/// Whether the program ends with this status without a look at its input, and writes to its errors alone, or where it helps to
+/// its output alone.
+fn tells_words<T: Threads + Wait + Sync + Abort>(
+    heap: Global,
+    words: &[&str],
+    expected: u8,
+    rt: &T,
+) -> bool {
+    let mut reader = FakeReader::failing(b"");
+    let rooms = [100_000, 100_000];
+    let (status, writer, errors) = ended(heap, &heap, words, &mut reader, rooms, rt);
+    let is_so = status == expected
+        && writer.taken().is_empty() == (expected == 2)
+        && errors.taken().is_empty() == (expected == 0);
+    drop(errors);
+    drop(writer);
+    is_so && reader.calls() == 0
 }
 
 #[test]
 fn refused_words_are_told_and_help_is_printed(rt: HostRuntime) {
-    for (words, status) in [
-        (["jump"].as_slice(), 2),
-        (["play", "x"].as_slice(), 2),
-        (["--help"].as_slice(), 0),
-        (["play", "--help"].as_slice(), 0),
-    ] {
-        let mut reader = FakeReader::failing(b"");
-        let rooms = [100_000, 100_000];
-        let (ended, writer, errors) = ended(
-            rt.alloc(),
-            &rt.alloc(),
-            words,
-            &mut reader,
-            rooms,
-            &rt,
-        );
-        assert_eq!(rt; ended, status);
-        assert_eq!(rt; writer.taken().is_empty(), status == 2);
-        assert_eq!(rt; errors.taken().is_empty(), status == 0);
-        assert_eq!(rt; reader.calls(), 0);
+    for (words, status) in TOLD {
+        assert!(rt; tells_words(rt.alloc(), words, *status, &rt));
     }
 }
 
 /// Words, an input, and what is printed of it.
-const ANSWERED: [(&[&str], &str, &str); 8] = [
+const ANSWERED: &[(&[&str], &str, &str)] = &[
     (&["play"], JOINED, REPORT),
     (&["play", "--as", "session"], JOINED, SESSION),
     (&["race"], JOINED, REPORT),
@@ -579,27 +585,47 @@ fn refused<T: Threads + Wait + Sync + Abort>(
         _ => ("", "presence_bench: out of memory\n"),
     };
     let is_met = number <= heap.requests();
-    assert!(rt; status == 0 || is_met && status == 4, "request {number}");
-    assert!(rt; writer.taken() == out.as_bytes(), "request {number}");
-    assert!(rt; errors.taken() == told.as_bytes(), "request {number}");
+    let is_so = (status == 0 || is_met && status == 4)
+        && writer.taken() == out.as_bytes()
+        && errors.taken() == told.as_bytes();
+    drop(errors);
+    drop(writer);
+    assert!(rt; is_so, "request {number}");
     (is_met, status == 4)
+}
+
+/// Runs the program with each request for memory refused in turn; how often it ended early.
+fn early_ends<T: Threads + Wait + Sync + Abort>(
+    rt: &T,
+    global: Global,
+    heap: &Refusing<Global>,
+    answered: (&[&str], &str, &str),
+) -> u64 {
+    let mut ended_early = 0u64;
+    for number in 1..10_000 {
+        let (is_met, is_early) = refused(rt, global, heap, answered, number);
+        ended_early = ended_early.saturating_add(u64::from(is_early));
+        if !is_met {
+            return ended_early;
+        }
+    }
+    0
 }
 
 #[test]
 fn want_of_memory_prints_nothing(rt: HostRuntime) {
     let heap = Refusing::new(rt.alloc());
     for answered in ANSWERED {
-        let mut ended_early = 0u64;
-        for number in 1..10_000 {
-            let (is_met, is_early) = refused(&rt, rt.alloc(), &heap, answered, number);
-            ended_early = ended_early.saturating_add(u64::from(is_early));
-            if !is_met {
-                break;
-            }
-            assert!(rt; number < 9_999);
-        }
-        assert!(rt; 10 <= ended_early);
+        assert!(rt; 10 <= early_ends(&rt, rt.alloc(), &heap, *answered));
     }
+}
+
+/// How many calls the saved session has.
+fn calls_of(heap: Global, session: &[u8], rt: &impl Abort) -> usize {
+    let bench = load(heap, &heap, session).expect(rt, "a session");
+    let count = bench.history().len();
+    drop(bench);
+    count
 }
 
 /// Lines of two nodes, in whatever order they are asked: a session with an event for each.
@@ -608,34 +634,33 @@ fn a_race_is_saved_and_loads_again(rt: HostRuntime) {
     let script = "nodes a b\na join 1 r alice phone\nb up a\na broadcast\nb deliver a 1\n";
     let mut reader = FakeReader::ending(script.as_bytes());
     let words = ["race", "--as", "session"];
-    let (status, writer, errors) = ended(
-        rt.alloc(),
-        &rt.alloc(),
-        &words,
-        &mut reader,
-        [10_000, 1000],
-        &rt,
-    );
-    assert!(rt; status == 0 && errors.taken().is_empty());
     let heap = rt.alloc();
-    let bench = load(rt.alloc(), &heap, writer.taken()).expect(&rt, "a session");
-    assert_eq!(rt; bench.history().len(), 4);
+    let rooms = [10_000, 1000];
+    let (status, writer, errors) = ended(heap, &heap, &words, &mut reader, rooms, &rt);
+    let is_so = status == 0
+        && errors.taken().is_empty()
+        && calls_of(heap, writer.taken(), &rt) == 4;
+    drop(errors);
+    drop(writer);
+    assert!(rt; is_so);
 }
 
 /// The status and the line of each fault of a race.
+const RACE_FAULTS: &[(RaceFault, u8, &str)] = &[
+    (RaceFault::UnknownActor, 1, "race: UnknownActor"),
+    (RaceFault::NoRoom, 1, "race: NoRoom"),
+    (RaceFault::WorkerRefused, 5, "race: WorkerRefused"),
+    (RaceFault::LogsDisagree, 5, "race: LogsDisagree"),
+];
+
 #[test]
 fn the_faults_of_a_race_have_their_status(rt: HostRuntime) {
-    for (fault, status, line) in [
-        (RaceFault::UnknownActor, 1, "race: UnknownActor"),
-        (RaceFault::NoRoom, 1, "race: NoRoom"),
-        (RaceFault::WorkerRefused, 5, "race: WorkerRefused"),
-        (RaceFault::LogsDisagree, 5, "race: LogsDisagree"),
-    ] {
-        let fault = Fault::Race(fault);
-        assert_eq!(rt; fault.status(), status);
+    for (fault, status, line) in RACE_FAULTS {
+        let fault = Fault::Race(*fault);
         let mut text = String::new(rt.alloc());
-        assert!(rt; write!(text, "{fault}").is_ok());
-        assert!(rt; text.as_str() == line);
+        let is_told = write!(text, "{fault}").is_ok() && text.as_str() == *line;
+        drop(text);
+        assert!(rt; is_told && fault.status() == *status);
     }
 }
 
