@@ -17,3 +17,4 @@ pub mod StoreMerges
 pub mod TrackedDots
 pub mod Undelivered
 pub mod PlacesFrom
+pub mod Refused

@@ -1,4 +1,5 @@
 use Rattle.std.proofs.Common.{refl, arith}
+use Rattle.std.proofs.lemmas.Grind.{common_steps}
 use Rattle.payload_core.proofs.LeftTogether.{left_none, left_some}
 use Rattle.payload_core.proofs.PutBack.{drop_next, step_map}
 use Rattle.payload_core.proofs.leaves_together.take_lefts.Goals as goal
@@ -37,3 +38,12 @@ loop-dot-preserved g c =
         room = omega (arith, c.loop-dot.invariant.room, c.loop-dot-test.true);
       })
     ]
+
+pub returns-clause-entries : goal.returns-clause-entries
+returns-clause-entries g c = grind (arith, common_steps)
+
+pub returns-clause-delta_entries : goal.returns-clause-delta_entries
+returns-clause-delta_entries g c = grind (arith, common_steps)
+
+pub returns-clause-left : goal.returns-clause-left
+returns-clause-left g c = grind (arith, common_steps)

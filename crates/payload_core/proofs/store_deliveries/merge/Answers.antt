@@ -1,4 +1,4 @@
-use Rattle.std.proofs.Common.{List, ◌++◌, ap, subst₂, ◌∙◌}
+use Rattle.std.proofs.Common.{List, ◌++◌, ap, refl, subst₂, ◌∙◌}
 use Rattle.std.specs.FinSet as set
 use Rattle.payload_core.specs.EntryLists.{pairs}
 use Rattle.payload_core.specs.Presences.{Entry}
@@ -6,6 +6,7 @@ use Rattle.payload_core.specs.Delivered.{AreOldParts}
 use Rattle.payload_core.specs.EntryMoves.{dots_of_pairs, picked}
 use Rattle.payload_core.specs.Stores.{Store, store_of}
 use Rattle.payload_core.proofs.Undelivered.{entries_after, entries_back, joining_new, left_are_departures, left_new, seen_after, seen_back}
+use Rattle.payload_core.proofs.Refused.{none_given, store_stays}
 use Rattle.payload_core.proofs.store_deliveries.merge.Goals as goal
 
 pub put_each-requires-clause-new : goal.put_each-requires-clause-new
@@ -63,3 +64,38 @@ returns-clause-new g c =
     (c.in_ok-joined.ensures ∙ ap (λ (es : List Entry). dots_of_pairs (pairs es)) c.deref.ensures.value)
     (c.move_each.ensures.taken ∙ ap (λ (es : List Entry). pairs es ++ picked c.args.leaving.now c.make_ready.new.entries.map)
     c.in_ok-left.ensures.items)
+
+pub returns-in_err-joined-clause-ok : goal.returns-in_err-joined-clause-ok
+returns-in_err-joined-clause-ok g c = none_given _ _ c.from_residual.ensures.0
+
+pub returns-in_err-joined-clause-destroyed : goal.returns-in_err-joined-clause-destroyed
+returns-in_err-joined-clause-destroyed g c = none_given _ _ c.from_residual.ensures.0
+
+pub returns-in_err-joined-clause-back : goal.returns-in_err-joined-clause-back
+returns-in_err-joined-clause-back g c = none_given _ _ c.from_residual.ensures.0
+
+pub returns-in_err-joined-clause-new : goal.returns-in_err-joined-clause-new
+returns-in_err-joined-clause-new g c = none_given _ _ c.from_residual.ensures.0
+
+pub returns-in_err-joined-clause-err : goal.returns-in_err-joined-clause-err
+returns-in_err-joined-clause-err g c = store_stays c.from_residual.result _ _ c.args.store.now refl refl refl
+
+pub returns-in_err-left-clause-ok : goal.returns-in_err-left-clause-ok
+returns-in_err-left-clause-ok g c = none_given _ _ c.from_residual-in_err-left.ensures.0
+
+pub returns-in_err-left-clause-destroyed : goal.returns-in_err-left-clause-destroyed
+returns-in_err-left-clause-destroyed g c = none_given _ _ c.from_residual-in_err-left.ensures.0
+
+pub returns-in_err-left-clause-back : goal.returns-in_err-left-clause-back
+returns-in_err-left-clause-back g c = none_given _ _ c.from_residual-in_err-left.ensures.0
+
+pub returns-in_err-left-clause-new : goal.returns-in_err-left-clause-new
+returns-in_err-left-clause-new g c = none_given _ _ c.from_residual-in_err-left.ensures.0
+
+pub returns-in_err-left-clause-err : goal.returns-in_err-left-clause-err
+returns-in_err-left-clause-err g c = store_stays c.from_residual-in_err-left.result _ _ c.args.store.now refl refl refl
+
+pub returns-in_err-make_ready-clause-err : goal.returns-in_err-make_ready-clause-err
+returns-in_err-make_ready-clause-err g c =
+    store_stays c.from_residual-in_err-make_ready.result _ _ c.args.store.now c.in_err-make_ready.ensures.seen_stay
+    c.in_err-make_ready.ensures.entries c.store.view_is

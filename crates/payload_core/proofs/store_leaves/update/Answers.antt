@@ -1,10 +1,11 @@
-use Rattle.std.proofs.Common.{◌≡◌, ap, false, rules, subst, subst₂, sym, ◌∙◌}
+use Rattle.std.proofs.Common.{◌≡◌, ap, false, refl, rules, subst, subst₂, sym, ◌∙◌}
 use Rattle.std.specs.FinMap as fin
 use Rattle.std.specs.FinSet as set
 use Rattle.dots_core.specs.Contexts.{IsLast, IsNext}
 use Rattle.payload_core.specs.Presences.{Entry}
 use Rattle.payload_core.specs.Stores.{Store}
 use Rattle.payload_core.proofs.StoreEdits.{never_absent, absent_after}
+use Rattle.payload_core.proofs.Refused.{store_stays}
 use Rattle.payload_core.proofs.store_leaves.update.Goals as goal
 
 pub ready_copy-requires : goal.ready_copy-requires
@@ -41,3 +42,11 @@ insert-requires-3 g c =
     ap (λ (e : Entry). fin.get c.remove-unsent.new.self.map e.dot) c.in_ok-copy.ensures.copy
     ∙ absent_after c.ready_copy.new.delta_entries.map c.remove-unsent.new.self.map c.args.delta.now c.args.dot c.args.entry.dot
     (c.in_ok-copy.ensures.delta_entries ∙ ap (λ (s : Store). s.entries) c.delta.view_is) c.remove-unsent.ensures.map c.requires.absent_in_delta
+
+pub returns-in_err-copy-clause-store_stays : goal.returns-in_err-copy-clause-store_stays
+returns-in_err-copy-clause-store_stays g c =
+    store_stays c.from_residual.result _ _ c.args.store.now refl c.in_err-copy.ensures.entries c.store.view_is
+
+pub returns-in_err-copy-clause-delta_stays : goal.returns-in_err-copy-clause-delta_stays
+returns-in_err-copy-clause-delta_stays g c =
+    store_stays c.from_residual.result _ _ c.args.delta.now c.in_err-copy.ensures.seen_stay c.in_err-copy.ensures.delta_entries c.delta.view_is
