@@ -1,4 +1,5 @@
-use Rattle.std.proofs.Common.{length, rules}
+use Rattle.std.proofs.Common.{length, rules, subst}
+use Rattle.replica_core.specs.Invariant.{IsReplica}
 use Rattle.replica_core.proofs.ProcessLeft.{all_gone_is, all_valid, clock_here, clock_room, kept_all_gone}
 use Rattle.replica_core.proofs.replica.Replica.let_all_go.Goals as goal
 
@@ -36,3 +37,9 @@ returns-clause-left g c =
 
 pub invariant_of-self : goal.invariant_of-self
 invariant_of-self g c = rw c.in_err-lefts.ensures.store_stays (rw c.in_err-lefts.ensures.delta_stays c.self.invariant)
+
+pub returns-clause-earlier : goal.returns-clause-earlier
+returns-clause-earlier g c = subst IsReplica c.self.view_is c.self.invariant
+
+pub returns-in_err-lefts-clause-earlier : goal.returns-in_err-lefts-clause-earlier
+returns-in_err-lefts-clause-earlier g c = subst IsReplica c.self.view_is c.self.invariant

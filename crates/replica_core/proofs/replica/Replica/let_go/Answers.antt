@@ -1,5 +1,6 @@
-use Rattle.std.proofs.Common.{ap, rules, ◌∙◌}
+use Rattle.std.proofs.Common.{ap, rules, subst, ◌∙◌}
 use Rattle.std.specs.FinMap as fin
+use Rattle.replica_core.specs.Invariant.{IsReplica}
 use Rattle.replica_core.specs.Replicas.{Replica}
 use Rattle.replica_core.proofs.Left.{go_valid, go_fresh, go_next, go_last, go_unsent, go_is, go_kept}
 use Rattle.replica_core.proofs.replica.Replica.let_go.Goals as goal
@@ -35,3 +36,12 @@ pub returns-clause-left : goal.returns-clause-left
 returns-clause-left g c =
     go_is _ c.args.self.now c.args.dot c.self.view_is c.self.invariant c.requires.own c.requires.free c.own_clock.result
     c.own_clock.ensures.clock c.leave.new.store c.leave.new.delta c.in_ok-left.ensures.store c.in_ok-left.ensures.delta
+
+pub invariant_of-self : goal.invariant_of-self
+invariant_of-self g c = rw c.in_err-left.ensures.store_stays (rw c.in_err-left.ensures.delta_stays c.self.invariant)
+
+pub returns-clause-earlier : goal.returns-clause-earlier
+returns-clause-earlier g c = subst IsReplica c.self.view_is c.self.invariant
+
+pub returns-in_err-left-clause-earlier : goal.returns-in_err-left-clause-earlier
+returns-in_err-left-clause-earlier g c = subst IsReplica c.self.view_is c.self.invariant

@@ -1,4 +1,4 @@
-use Rattle.std.proofs.Common.{ap, subst, ◌∙◌}
+use Rattle.std.proofs.Common.{ap, rules, subst, sym, ◌∙◌}
 use Rattle.dots_core.specs.Dots.{Dots}
 use Rattle.dots_core.specs.Contexts.{IsContext}
 use Rattle.replica_core.specs.Replicas.{own_clock}
@@ -9,3 +9,12 @@ pub returns-clause-clock : goal.returns-clause-clock
 returns-clause-clock g c =
     own_context c.self.inside.own c.clock_of.result c.self.inside.store.seen c.self.invariant.clocks
     (subst (λ (s : Dots). IsContext s c.self.inside.own c.clock_of.result) c.seen.ensures c.clock_of.ensures) ∙ ap own_clock c.self.view_is
+
+pub returns-clause-within : goal.returns-clause-within
+returns-clause-within g c = rw (sym c.self.view_is) c.self.invariant.clock
+
+pub returns-clause-last : goal.returns-clause-last
+returns-clause-last g c = rw (sym c.self.view_is) c.self.invariant.limits.clock_few
+
+pub clock_of-requires : goal.clock_of-requires
+clock_of-requires g c = (search rules, c.self.invariant.name)

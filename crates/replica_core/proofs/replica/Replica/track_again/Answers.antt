@@ -1,4 +1,5 @@
-use Rattle.std.proofs.Common.{rules}
+use Rattle.std.proofs.Common.{rules, subst}
+use Rattle.replica_core.specs.Invariant.{IsReplica}
 use Rattle.replica_core.proofs.Left.{kept_update, old_valid, old_live, new_valid, new_next, new_absent, new_absent_in_delta, new_last, new_unsent, updated_is}
 use Rattle.replica_core.proofs.replica.Replica.track_again.Goals as goal
 
@@ -38,3 +39,12 @@ pub returns-clause-updated : goal.returns-clause-updated
 returns-clause-updated g c =
     updated_is _ c.args.self.now c.args.entry c.args.old c.self.view_is c.self.invariant c.requires.old c.requires.fresh
     c.requires.free c.update.new.store c.update.new.delta c.in_ok-left.ensures.store c.in_ok-left.ensures.delta
+
+pub invariant_of-self : goal.invariant_of-self
+invariant_of-self g c = rw c.in_err-left.ensures.store_stays (rw c.in_err-left.ensures.delta_stays c.self.invariant)
+
+pub returns-clause-earlier : goal.returns-clause-earlier
+returns-clause-earlier g c = subst IsReplica c.self.view_is c.self.invariant
+
+pub returns-in_err-left-clause-earlier : goal.returns-in_err-left-clause-earlier
+returns-in_err-left-clause-earlier g c = subst IsReplica c.self.view_is c.self.invariant
