@@ -1,4 +1,4 @@
-use Rattle.std.proofs.Common.{ap, sym, slice_get, ◌∙◌}
+use Rattle.std.proofs.Common.{rules, ap, sym, slice_get, ◌∙◌}
 use Rattle.payload_core.specs.Presences.{Entries, dots_of, is_tracked_as}
 use Rattle.replica_core.proofs.Calls.{leave_accepted, leave_full, leave_untracked}
 use Rattle.replica_core.proofs.Left.{found_dot, found_live}
@@ -40,3 +40,7 @@ returns-in_default-clause-refused g c =
     λ _. leave_untracked _ c.args.self.now c.args.pid c.args.topic.now c.args.key.now c.self.view_is
     (sym c.in_default.is ∙ c.find.ensures ∙ ap (λ (m : Entries). slice_get (dots_of c.self.inside.own
     (is_tracked_as c.args.pid c.args.topic.now c.args.key.now) m) 0) c.entries.ensures)
+
+-- its own requirement is that of the call
+pub is_clock_full-requires : goal.is_clock_full-requires
+is_clock_full-requires g c = (search tt, search rules)

@@ -43,3 +43,7 @@ returns-clause-earlier g c = subst IsReplica c.self.view_is c.self.invariant
 
 pub returns-in_err-lefts-clause-earlier : goal.returns-in_err-lefts-clause-earlier
 returns-in_err-lefts-clause-earlier g c = subst IsReplica c.self.view_is c.self.invariant
+
+-- its own requirement is that of the call
+pub own_clock-clock-requires : goal.own_clock-clock-requires
+own_clock-clock-requires g c = search tt

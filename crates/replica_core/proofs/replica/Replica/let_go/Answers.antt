@@ -45,3 +45,7 @@ returns-clause-earlier g c = subst IsReplica c.self.view_is c.self.invariant
 
 pub returns-in_err-left-clause-earlier : goal.returns-in_err-left-clause-earlier
 returns-in_err-left-clause-earlier g c = subst IsReplica c.self.view_is c.self.invariant
+
+-- its own requirement is that of the call
+pub own_clock-requires : goal.own_clock-requires
+own_clock-requires g c = search tt

@@ -38,3 +38,7 @@ invariant_of-self-2 g c =
     subst IsReplica (sym (restored_is _ c.args.self.now c.last-last.result c.self.view_is c.self.invariant c.last-last.ensures
     c.args.left c.restore.new.store c.restore.new.delta c.in_default.ensures.store c.in_default.ensures.delta
     ∙ (c.requires.1).back)) (c.requires.1).earlier
+
+-- its own requirement is that of the call
+pub last-last-requires : goal.last-last-requires
+last-last-requires g c = search tt

@@ -61,3 +61,7 @@ invariant_of-self-2 g c =
     subst IsReplica (sym (lefts_back c.args.lefts.items _ c.args.self.now c.self.view_is c.own_clock.result c.len.result
     c.own_clock.ensures.clock (c.len.ensures ∙ c.args.lefts.ok.0) c.restore_each.new.store c.restore_each.new.delta
     c.in_default.ensures.store c.in_default.ensures.delta ∙ (c.requires.1).back)) (c.requires.1).earlier
+
+-- its own requirement is that of the call
+pub own_clock-requires : goal.own_clock-requires
+own_clock-requires g c = search tt
