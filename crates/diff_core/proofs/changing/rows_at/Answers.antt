@@ -22,3 +22,7 @@ loop-dot-preserved g c =
           (one_on r (λ ds. found_each ds r.store.entries) (λ d. found_at d (fin.get r.store.entries d)) (λ d ds. refl) ds i _ _ _ _ at
           (none_put r c.entries.result.now.map _ c.loop-dot.rows.items c.entries.ensures w.in_default.ensures) c.loop-dot.invariant)
     ]
+
+-- its own requirement is that of the call
+pub put_row-requires : goal.put_row-requires
+put_row-requires g c = search tt

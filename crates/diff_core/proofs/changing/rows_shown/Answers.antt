@@ -7,3 +7,7 @@ pub loop-entry-preserved : goal.loop-entry-preserved
 loop-entry-preserved g c =
     one_on c.args.replica.now pairs (λ e. pair_of e ∷ []) (λ e es. refl) c.args.entries.now c.loop-entry.entry-index _ _ _ _
     (next_is c.args.entries.now c.loop-entry.entry-index c.entry-item.result c.loop-entry-test.true c.entry-item.is) c.in_ok-put_row.ensures c.loop-entry.invariant
+
+-- its own requirement is that of the call
+pub put_row-requires : goal.put_row-requires
+put_row-requires g c = search tt
