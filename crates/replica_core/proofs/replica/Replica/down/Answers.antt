@@ -26,3 +26,7 @@ returns-clause-leads_back g c = record {
   };
   earlier = subst IsReplica c.self.view_is c.self.invariant;
 }
+
+-- its own requirement is that of the call
+pub down_refusal-requires : goal.down_refusal-requires
+down_refusal-requires g c = search tt

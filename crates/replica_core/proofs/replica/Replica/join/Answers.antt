@@ -15,3 +15,10 @@ returns-clause-leads_back g c =
       };
       earlier = c.in_ok-track.ensures.earlier;
     }
+
+-- the requirements of the calls are its own
+pub join_refusal-requires : goal.join_refusal-requires
+join_refusal-requires g c = search tt
+
+pub fresh_entry-requires : goal.fresh_entry-requires
+fresh_entry-requires g c = search tt

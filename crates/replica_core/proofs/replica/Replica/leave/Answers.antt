@@ -36,3 +36,7 @@ pub returns-in_err-dot-clause-refused : goal.returns-in_err-dot-clause-refused
 returns-in_err-dot-clause-refused g c =
     let failed = err_from_is_err_and c.from_residual.result c.from_residual.ensures.1 in
     rw (failed.1, failed.2) c.in_err-dot.ensures.refused
+
+-- its own requirement is that of the call
+pub leaving_dot-requires : goal.leaving_dot-requires
+leaving_dot-requires g c = search tt

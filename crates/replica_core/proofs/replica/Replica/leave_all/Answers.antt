@@ -67,3 +67,7 @@ returns-clause-leads_back g c =
       };
       earlier = c.in_ok-lefts.ensures.earlier;
     }
+
+-- its own requirement is that of the call
+pub dots_of_process-requires : goal.dots_of_process-requires
+dots_of_process-requires g c = search tt

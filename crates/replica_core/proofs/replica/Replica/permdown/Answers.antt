@@ -27,3 +27,7 @@ returns-clause-leads_back g c = record {
   };
   earlier = subst IsReplica c.self.view_is c.self.invariant;
 }
+
+-- its own requirement is that of the call
+pub permdown_refusal-requires : goal.permdown_refusal-requires
+permdown_refusal-requires g c = search tt

@@ -35,3 +35,10 @@ pub returns-in_err-dot-clause-refused : goal.returns-in_err-dot-clause-refused
 returns-in_err-dot-clause-refused g c =
     let failed = err_from_is_err_and c.from_residual.result c.from_residual.ensures.1 in
     rw (failed.1, failed.2) c.in_err-dot.ensures.refused
+
+-- the requirements of the calls are its own
+pub leaving_dot-requires : goal.leaving_dot-requires
+leaving_dot-requires g c = search tt
+
+pub fresh_entry-requires : goal.fresh_entry-requires
+fresh_entry-requires g c = search tt
