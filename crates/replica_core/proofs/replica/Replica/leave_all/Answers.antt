@@ -68,6 +68,9 @@ returns-clause-leads_back g c =
       earlier = c.in_ok-lefts.ensures.earlier;
     }
 
--- its own requirement is that of the call
+-- the requirements of the calls are its own
 pub dots_of_process-requires : goal.dots_of_process-requires
 dots_of_process-requires g c = search tt
+
+pub is_clock_full-requires : goal.is_clock_full-requires
+is_clock_full-requires g c = (search tt, search rules)

@@ -79,3 +79,7 @@ returns-clause-leads_back g c = record {
   };
   earlier = c.in_ok-delivered.ensures.earlier;
 }
+
+-- its own requirement is that of the call
+pub others-names-requires : goal.others-names-requires
+others-names-requires g c = search tt
