@@ -469,6 +469,18 @@ same_bench names limits h mid nodes d j next taken longer stays same old =
     (subst₂ (λ (h : List Event) (d : Cluster). IsBench (config names limits) (record { history = h; remaining = kepts j.steps }) d j.steps
     taken × (j.nodes ≡ length names)) (sym longer) (sym stays) old)
 
+-- so does one whose nodes took no step, whatever room was made
+pub unstepped : (names : Texts) (limits : Limits) (h mid : List Event) (nodes d : Cluster) (j next : Journal) (taken count : ℕ) → mid ≡ h →
+    d ≡ nodes → next.steps ≡ j.steps → next.nodes ≡ j.nodes → count ≡ taken →
+    IsBench (config names limits) (record { history = h; remaining = kepts j.steps }) nodes j.steps taken × (j.nodes ≡ length names) →
+    IsBench (config names limits) (record { history = mid; remaining = kepts next.steps }) d next.steps count × (next.nodes ≡ length names)
+unstepped names limits h mid nodes d j next taken count longer stays steps size counts old = (
+  subst₂ (λ (hs : List Held) n. IsBench (config names limits) (record { history = mid; remaining = kepts hs }) d hs n) (sym steps) (sym counts)
+      (subst₂ (λ (h : List Event) (d : Cluster). IsBench (config names limits) (record { history = h; remaining = kepts j.steps }) d j.steps
+      taken) (sym longer) (sym stays) old.0),
+  size ∙ old.1,
+)
+
 -- a step that was taken back, as the code comes to it
 pub undone : (names : Texts) (limits : Limits) (h later : List Event) (nodes d : Cluster) (hs next : List Held) (taken actor n node : ℕ)
     (act : Action) (k : Kept) (m : Machine) → machine names limits h (kepts hs) ≡ m →

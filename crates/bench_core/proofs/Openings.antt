@@ -3,6 +3,8 @@ use Rattle.std.proofs.Common.{◌≡◌, ℕ, zero, suc, ◌+◌, ◌<◌, ◌�
 use Rattle.std.proofs.Common.{add-zero, take, get_or}
 use Rattle.std.proofs.lemmas.List.{take_more}
 use Rattle.replica_core.specs.declared.node_limits.NodeLimits.{NodeLimits}
+use Rattle.replica_core.specs.Limits.{AreNodeLimits}
+use Rattle.replica_core.proofs.Invariant.{kept_opening}
 use Rattle.node_core.specs.Nodes.{Node, opening_node}
 use Rattle.node_core.specs.Invariant.{IsNode}
 use Rattle.bench_core.specs.declared.act.Act.{Act}
@@ -30,6 +32,10 @@ opening_push l count =
 opening_from_length : (l : NodeLimits) (first count : ℕ) → length (opening_from l first count) ≡ count
 opening_from_length l first zero = refl
 opening_from_length l first (suc count) = let e = opening_from_length l (first + 1) count in omega (arith, e)
+
+-- a node as it opens is such as steps make them
+pub opening_kept : (own : ℕ) (l : NodeLimits) → own < 32 → AreNodeLimits l → IsNode (opening_node own l)
+opening_kept own l name limits = record { replica = kept_opening own l name limits; few = omega arith; messages = tt }
 
 -- one node more
 pub nodes_push : (c : Cluster) (x : Node) → AreNodes c → IsNode x → AreNodes (c ++ x ∷ [])

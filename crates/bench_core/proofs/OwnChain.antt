@@ -1,15 +1,19 @@
 -- From the chain along the run to the chain of each node.
-use Rattle.std.proofs.Common.{◌≡◌, ℕ, ◌==◌, Bool, true, false, if◌then◌else◌, List, [], ◌∷◌, ◌++◌, set, slice_get, Some, Ok, refl, sym, ap, ◌∙◌, subst}
+use Rattle.std.proofs.Common.{◌≡◌, ℕ, ◌==◌, Bool, true, false, if◌then◌else◌, List, [], ◌∷◌, ◌++◌, set, slice_get, Some, Result, Ok, refl, sym, ap, ◌∙◌, subst}
 use Rattle.std.proofs.lemmas.Bool.{eqb-true, eqb-false}
+use Rattle.std.proofs.lemmas.Option.{same_Some}
 use Rattle.replica_core.specs.declared.node_limits.NodeLimits.{NodeLimits}
 use Rattle.node_core.specs.Inverses.{Inverse, LeadsBack}
-use Rattle.node_core.specs.Nodes.{Node, opening_node}
+use Rattle.node_core.specs.Nodes.{Node, opening_node, take}
 use Rattle.journal_core.specs.Holdings.{Held, kepts}
-use Rattle.bench_core.specs.Clusters.{Cluster, opening_of, step}
+use Rattle.bench_core.specs.Clusters.{Cluster, message_for, opening_of, step}
 use Rattle.bench_core.specs.Runs.{then_runs, runs}
 use Rattle.bench_core.specs.Chains.{Link, Chain, Passed, own_back, LeadBack, OwnChains}
 use Rattle.bench_core.proofs.Clusters.{get-set_same, get-set_other, Stepped, stepped}
 use Rattle.bench_core.proofs.Runs.{run_one, run_from_opening}
+
+same_Ok : {X E : Type 0} (x y : X) → ◌≡◌ {A = Result X E} (Ok x) (Ok y) → x ≡ y
+same_Ok x y e = cc
 
 lead_more : (n : ℕ) (b mid a : Node) (ps : List Passed) (p : Passed) (i : Inverse) → LeadBack n b ps mid → p.held.inverse ≡ Some i →
     LeadsBack i mid a → slice_get p.before n ≡ Some a → LeadBack n b (ps ++ p ∷ []) a
@@ -19,7 +23,7 @@ lead_more n b mid a (q ∷ ps) p i more is leads at =
 
 own : (c d : Cluster) (hs : List Held) (n : ℕ) (x : Node) → Chain (Ok c) hs → then_runs (Ok c) (kepts hs) ≡ Ok d → slice_get c n ≡ Some x →
     (y : Node) × ((slice_get d n ≡ Some y) × LeadBack n y (own_back (Ok c) hs n) x)
-own c d [] n x chain run at = (x, (subst (λ (d : Cluster). slice_get d n ≡ Some x) (cc) at, refl))
+own c d [] n x chain run at = (x, (subst (λ (d : Cluster). slice_get d n ≡ Some x) (same_Ok c d run) at, refl))
 own c d (h ∷ hs) n x chain run at =
     let one = run_one c d h.kept (kepts hs) run in
     go one.0 (stepped c h.kept.node h.kept.step one.0 one.1) chain.0 (h.kept.node == n) refl
@@ -38,9 +42,10 @@ own c d (h ∷ hs) n x chain run at =
     go b s link true is more =
         let node : h.kept.node ≡ n = eqb-true h.kept.node n is in
         let here : slice_get c n ≡ Some link.earlier = subst (λ m. slice_get c m ≡ Some link.earlier) node link.at in
-        let from_is : link.earlier ≡ x = cc (here, at) in
-        let same : s.from ≡ link.earlier = cc (s.at, link.at) in
-        let to_is : s.to ≡ link.later = cc (s.taken, link.taken, same) in
+        let from_is : link.earlier ≡ x = same_Some link.earlier x (sym here ∙ at) in
+        let same : s.from ≡ link.earlier = same_Some s.from link.earlier (sym s.at ∙ link.at) in
+        let to_is : s.to ≡ link.later = same_Ok s.to link.later
+        (sym s.taken ∙ ap (λ (z : Node). take z h.kept.step (message_for c h.kept.step)) same ∙ link.taken) in
         let there : slice_get b n ≡ Some link.later = ap (λ (d : Cluster). slice_get d n) s.gives
         ∙ subst (λ m. slice_get (set c m s.to) n ≡ Some s.to) (sym node) (get-set_same c n link.earlier s.to here) ∙ ap Some to_is in
         let rest = more link.later there in
@@ -60,5 +65,5 @@ pub own_chains : (l : NodeLimits) (count : ℕ) (hs : List Held) (c : Cluster) �
     runs l count (kepts hs) ≡ Ok c → OwnChains l count c hs
 own_chains l count hs c chain run n x at =
     let o = own (opening_of l count) c hs n (opening_node n l) chain run (run_from_opening l count (kepts hs) c n x run at) in
-    let same : o.0 ≡ x = cc (o.1.0, at) in
+    let same : o.0 ≡ x = same_Some o.0 x (sym o.1.0 ∙ at) in
     subst (λ (y : Node). LeadBack n y (own_back (Ok (opening_of l count)) hs n) (opening_node n l)) same o.1.1

@@ -151,8 +151,15 @@ impl<'a, B: Allocator> Bench<'a, B> {
     pub fn new(alloc: &'a B, names: Names<&'a B>, limits: Limits) -> Result<Self, Oom>
         ensures { IfOk result (λ b. b ≡ opening_machine names.entry limits) }
     {
-        let nodes = open_nodes(alloc, names.len(), limits.of_node())?;
-        let journal = Journal::new(alloc, names.len() as u16)?;
+        let Ok(nodes) = open_nodes(alloc, names.len(), limits.of_node()) else {
+            drop(names);
+            return Err(Oom);
+        };
+        let Ok(journal) = Journal::new(alloc, names.len() as u16) else {
+            drop(names);
+            drop(nodes);
+            return Err(Oom);
+        };
         Ok(Bench {
             names,
             limits,
@@ -284,18 +291,17 @@ impl<'a, B: Allocator> Bench<'a, B> {
         if self.free() < 2 {
             return Reply::Refused(Fault::HistoryFull);
         }
-        let Ok(step) = step.try_copy() else {
-            return Reply::Refused(Fault::OutOfMemory);
-        };
-        if self.journal.make_room(actor, &step).is_err() {
-            drop(step);
-            return Reply::Refused(Fault::OutOfMemory);
-        }
         let unmade = Reply::Refused(Fault::OutOfMemory);
-        if self.history.record(actor, act, unmade).is_err() {
-            drop(step);
+        if self.journal.make_room(actor, step).is_err() {
             return unmade;
         }
+        if self.history.record(actor, act, unmade).is_err() {
+            return unmade;
+        }
+        let Ok(step) = step.try_copy() else {
+            self.history.forget_last();
+            return unmade;
+        };
         match step_node(&mut self.nodes, actor, &step, &mut self.meter) {
             Err(fault) => {
                 drop(step);
@@ -454,9 +460,7 @@ fn open_nodes<'a, B: Allocator>(
 {
     let mut nodes = Vec::with_capacity(alloc, count)?;
     for number in 0..count as u16 {
-        let node = Node::new(alloc, number, limits);
-        node.node_law();
-        nodes.push(node)?;
+        nodes.push_reserved(Node::new(alloc, number, limits));
     }
     Ok(nodes)
 }

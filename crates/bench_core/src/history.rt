@@ -90,7 +90,11 @@ impl<'a, B: Allocator> History<'a, B> {
     {
         let mut events = Vec::with_capacity(*self.events.allocator(), self.len())?;
         for event in &self.events {
-            events.push(event.try_copy()?)?;
+            let Ok(copy) = event.try_copy() else {
+                drop(events);
+                return Err(Oom);
+            };
+            events.push_reserved(copy);
         }
         Ok(History { events })
     }

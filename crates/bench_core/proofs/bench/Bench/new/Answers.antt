@@ -10,15 +10,15 @@ use Rattle.bench_core.proofs.bench.Bench.new.Goals as goal
 
 pub invariant_of-result : goal.invariant_of-result
 invariant_of-result g c =
-    let nodes : c.in_ok-nodes.nodes.items ≡ opening_of (node_limits c.args.limits) (length c.args.names) = c.in_ok-nodes.ensures.opening
+    let nodes : c.in-Ok.nodes.items ≡ opening_of (node_limits c.args.limits) (length c.args.names) = c.in-Ok.ensures.opening
     ∙ ap (λ l. opening_of l c.len.result) c.of_node.ensures.value ∙ ap (opening_of (node_limits c.args.limits)) c.len.ensures.len in
-    let opened = opens (config c.args.names c.args.limits) c.in_ok-nodes.nodes.items c.of_node.ensures.range (omega arith) nodes
-    c.in_ok-nodes.ensures.kept in (
+    let opened = opens (config c.args.names c.args.limits) c.in-Ok.nodes.items c.of_node.ensures.range (omega arith) nodes
+    c.in-Ok.ensures.kept in (
       subst (IsBench (config c.args.names c.args.limits)
-          (record { history = c.new-2.result; remaining = kepts c.in_ok-journal.journal.steps }) c.in_ok-nodes.nodes.items
-          c.in_ok-journal.journal.steps) (sym c.new-3.ensures)
+          (record { history = c.new-2.result; remaining = kepts c.in-Ok-new.journal.steps }) c.in-Ok.nodes.items
+          c.in-Ok-new.journal.steps) (sym c.new-3.ensures)
           (subst₂ (λ (j : Journal) (h : List Event). IsBench (config c.args.names c.args.limits)
-          (record { history = h; remaining = kepts j.steps }) c.in_ok-nodes.nodes.items j.steps 0) (sym c.in_ok-journal.ensures)
+          (record { history = h; remaining = kepts j.steps }) c.in-Ok.nodes.items j.steps 0) (sym c.in-Ok-new.ensures)
           (sym c.new-2.ensures) opened),
-      ap (λ (j : Journal). j.nodes) c.in_ok-journal.ensures ∙ c.len-2.ensures.len,
+      ap (λ (j : Journal). j.nodes) c.in-Ok-new.ensures ∙ c.len-2.ensures.len,
     )

@@ -1,8 +1,8 @@
-use Rattle.std.proofs.Common.{◌≡◌, ◌≢◌, ◌≤◌, ◌++◌, ◌∷◌, [], ◌∙◌, List, sym, ap, subst, true, arith, rules}
+use Rattle.std.proofs.Common.{◌≡◌, ◌≢◌, ◌≤◌, ◌++◌, ◌∷◌, [], ◌∙◌, List, refl, sym, ap, subst, true, arith, rules}
 use Rattle.std.specs.List.{Contains}
 use Rattle.std.proofs.lemmas.List.Elements.{Contains-push}
 use Rattle.node_core.specs.declared.step_fault.StepFault.TheVariants as step_faults
-use Rattle.node_core.specs.Operations.{plain}
+use Rattle.node_core.specs.Operations.{Operation, plain}
 use Rattle.node_core.specs.Inverses.{plain_inverse}
 use Rattle.journal_core.specs.Holdings.{Held, Journal, Room, kepts, room_for}
 use Rattle.bench_core.specs.declared.reply.Reply.TheVariants.{Refused}
@@ -10,7 +10,7 @@ use Rattle.bench_core.specs.declared.fault.Fault.TheVariants.{OutOfMemory}
 use Rattle.bench_core.specs.Acts.{plain_act}
 use Rattle.bench_core.specs.Histories.{note}
 use Rattle.bench_core.specs.Machine.{Event, config_of, free_places, knows}
-use Rattle.bench_core.proofs.Invariant.{machine, added, can_step, can_keep, taken_asked, refused_asked, unmade_step}
+use Rattle.bench_core.proofs.Invariant.{machine, added, can_step, can_keep, taken_asked, refused_asked, unmade_step, unstepped}
 use Rattle.bench_core.proofs.bench.Bench.take.Goals as goal
 
 pub step_node-requires : goal.step_node-requires
@@ -110,8 +110,10 @@ returns-in-Ok-step_node g c =
 
 pub unwrap-requires : goal.unwrap-requires
 unwrap-requires g c =
-    let made : c.make_room.new.self.room ≡ c.self.inside.journal.room ++ room_for c.args.actor (plain c.in-Ok.step) ∷ [] = search rules in
-    c.keep.ensures.succeeds (subst (λ (l : List Room). Contains l (room_for c.args.actor (plain c.in-Ok.step))) (sym made)
+    let made : c.make_room.new.self.room ≡ c.self.inside.journal.room ++ room_for c.args.actor (plain c.args.step.now) ∷ [] = search rules in
+    let same : c.make_room.new.self.room ≡ c.self.inside.journal.room ++ room_for c.args.actor (plain c.in-Ok.step) ∷ [] = made
+    ∙ ap (λ (s : Operation). c.self.inside.journal.room ++ room_for c.args.actor s ∷ []) (sym c.in-Ok.ensures) in
+    c.keep.ensures.succeeds (subst (λ (l : List Room). Contains l (room_for c.args.actor (plain c.in-Ok.step))) (sym same)
     (Contains-push c.self.inside.journal.room (room_for c.args.actor (plain c.in-Ok.step))))
 
 pub returns-then-is_err : goal.returns-then-is_err
@@ -126,6 +128,20 @@ returns-then-is_err g c =
 
 pub returns-then-eq : goal.returns-then-eq
 returns-then-eq g c =
+    let noted : c.record.new.self ≡ note c.args.actor (plain_act c.args.act.now) (Refused OutOfMemory) c.self.inside.history = search rules in
+    let is : knows (config_of c.args.self.now) c.args.actor (plain c.args.step.now) ≡ true = search rules in
+    let room : 2 ≤ free_places (config_of c.args.self.now) c.args.self.now.state = omega arith in
+    unmade_step c.self.inside.names c.self.inside.limits c.self.inside.history c.self.inside.nodes.items c.self.inside.journal.steps
+    c.self.inside.meter.count c.args.actor (plain c.args.step.now) (plain_act c.args.act.now) c.args.self.now _ c.self.view_is
+    c.self.invariant.0 c.requires is room
+    (ap (λ (h : List Event). machine c.self.inside.names c.self.inside.limits h (kepts c.make_room.new.self.steps))
+    (c.forget_last-then-eq.ensures c.args.actor (plain_act c.args.act.now) (Refused OutOfMemory) c.self.inside.history noted)
+    ∙ ap (λ (hs : List Held). machine c.self.inside.names c.self.inside.limits c.self.inside.history (kepts hs))
+    c.make_room.ensures.steps
+    ∙ c.self.view_is)
+
+pub returns-in_default : goal.returns-in_default
+returns-in_default g c =
     let noted : c.record.new.self ≡ note c.args.actor (plain_act c.args.act.now) (Refused OutOfMemory) c.self.inside.history = search rules in
     let is : knows (config_of c.args.self.now) c.args.actor (plain c.args.step.now) ≡ true = search rules in
     let room : 2 ≤ free_places (config_of c.args.self.now) c.args.self.now.state = omega arith in
@@ -150,3 +166,31 @@ returns-then-is_err-2 g c =
     ∙ ap (λ (hs : List Held). machine c.self.inside.names c.self.inside.limits c.self.inside.history (kepts hs))
     c.make_room.ensures.steps
     ∙ c.self.view_is)
+
+pub invariant_of-self : goal.invariant_of-self
+invariant_of-self g c =
+    unstepped c.self.inside.names c.self.inside.limits c.self.inside.history _ c.self.inside.nodes.items _ c.self.inside.journal
+    c.make_room.new.self c.self.inside.meter.count _ refl refl c.make_room.ensures.steps c.make_room.ensures.nodes refl c.self.invariant
+
+pub invariant_of-self-then-is_err-2 : goal.invariant_of-self-then-is_err-2
+invariant_of-self-then-is_err-2 g c =
+    let stays : c.record.new.self ≡ c.self.inside.history = search rules in
+    unstepped c.self.inside.names c.self.inside.limits c.self.inside.history c.record.new.self c.self.inside.nodes.items _
+    c.self.inside.journal c.make_room.new.self c.self.inside.meter.count _ stays refl c.make_room.ensures.steps c.make_room.ensures.nodes refl
+    c.self.invariant
+
+pub invariant_of-self-in_default : goal.invariant_of-self-in_default
+invariant_of-self-in_default g c =
+    let noted : c.record.new.self ≡ note c.args.actor (plain_act c.args.act.now) (Refused OutOfMemory) c.self.inside.history = search rules in
+    unstepped c.self.inside.names c.self.inside.limits c.self.inside.history c.forget_last.new.self c.self.inside.nodes.items _
+    c.self.inside.journal c.make_room.new.self c.self.inside.meter.count _
+    (c.forget_last.ensures c.args.actor (plain_act c.args.act.now) (Refused OutOfMemory) c.self.inside.history noted) refl
+    c.make_room.ensures.steps c.make_room.ensures.nodes refl c.self.invariant
+
+pub invariant_of-self-then-eq : goal.invariant_of-self-then-eq
+invariant_of-self-then-eq g c =
+    let noted : c.record.new.self ≡ note c.args.actor (plain_act c.args.act.now) (Refused OutOfMemory) c.self.inside.history = search rules in
+    unstepped c.self.inside.names c.self.inside.limits c.self.inside.history c.forget_last-then-eq.new.self c.self.inside.nodes.items
+    c.step_node.new.nodes.items c.self.inside.journal c.make_room.new.self c.self.inside.meter.count c.step_node.new.meter.count
+    (c.forget_last-then-eq.ensures c.args.actor (plain_act c.args.act.now) (Refused OutOfMemory) c.self.inside.history noted)
+    c.in-Err.ensures.steps.0 c.make_room.ensures.steps c.make_room.ensures.nodes c.in-Err.ensures.no_tick c.self.invariant
