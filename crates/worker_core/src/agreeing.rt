@@ -124,6 +124,26 @@ fn are_known<A: Allocator>(lines: &[(u16, Act<A>)], lists: usize) -> bool
     true
 }
 
+/// Whether the receipts account for what was added to the history `before`, as `agree` tells.
+pub(crate) fn account<'a, B: Allocator>(
+    before: &History<'a, B>,
+    after: &History<'a, B>,
+    lines: &[(u16, Act<&'a B>)],
+    receipts: &[Vec<Receipt<&'a B>, &'a B>],
+    alloc: &'a B,
+) -> Result<bool, Oom>
+    ensures { IfOk result (λ b. IsTrue b ↔ Agrees before.now after.now (calls_of lines.now) (map (λ v. v.items) receipts.now)) }
+{
+    if !are_known(lines, receipts.len())
+        || !begins(before, after)
+        || after.len() - before.len() != lines.len()
+        || !are_all_answered(after, before.len() as u64, lines, receipts)
+    {
+        return Ok(false);
+    }
+    none_twice(alloc, after.len(), receipts)
+}
+
 /// Whether the receipts account for what was added to the history `before`: it begins `after`, which has one event more for
 /// each line; list `i` of the receipts, from 0, has one for each line of actor `i` and no other, in order, with that line's
 /// actor, number and act, at rising places past the end of `before`, where `after` has the event that the receipt tells of;
@@ -137,12 +157,5 @@ pub fn agree<'a, B: Allocator>(
 ) -> Result<bool, Oom>
     ensures { IfOk result (λ b. IsTrue b ↔ Agrees before.now after.now (calls_of lines.now) (map (λ v. v.items) receipts.now)) }
 {
-    if !are_known(lines, receipts.len())
-        || !begins(before, after)
-        || after.len() - before.len() != lines.len()
-        || !are_all_answered(after, before.len() as u64, lines, receipts)
-    {
-        return Ok(false);
-    }
-    none_twice(alloc, after.len(), receipts)
+    account(before, after, lines, receipts, alloc)
 }

@@ -181,17 +181,54 @@ fn station_of<L: Drop, T: Drop, A: Allocator + Copy>(
     Ok((station, way))
 }
 
-/// Nobody's quarters, with room for so many.
-fn empty_quarters<L: Drop, T: Drop, A: Allocator + Copy>(
+/// The station of an actor with so many lines, and the way to it; none where there is no line.
+fn place_of<L: Drop, T: Drop, A: Allocator + Copy>(
     alloc: A,
+    actor: u16,
+    count: usize,
+) -> Result<(Option<Station<L, T, A>>, Option<Sender<Line<L>, A>>), Oom> {
+    if count == 0 {
+        return Ok((None, None));
+    }
+    let (station, way) = station_of(alloc, actor, count)?;
+    Ok((Some(station), Some(way)))
+}
+
+/// Makes room for the workers of so many actors and for their lists.
+fn make_room<L: Drop, T: Drop, A: Allocator + Copy>(
+    quarters: &mut Quarters<L, T, A>,
     actors: usize,
-) -> Result<Quarters<L, T, A>, Oom> {
-    Ok(Quarters {
-        stations: Vec::with_capacity(alloc, actors)?,
-        ways: Vec::with_capacity(alloc, actors)?,
-        workers: Vec::with_capacity(alloc, actors)?,
-        lists: Vec::with_capacity(alloc, actors)?,
-    })
+) -> Result<(), Oom> {
+    quarters.workers.reserve(actors)?;
+    quarters.lists.reserve(actors)?;
+    Ok(())
+}
+
+/// Adds the station of an actor with so many lines, and the way to it.
+fn add_station<L: Drop, T: Drop, A: Allocator + Copy>(
+    quarters: &mut Quarters<L, T, A>,
+    alloc: A,
+    actor: u16,
+    count: usize,
+) -> Result<(), Oom> {
+    let (station, way) = place_of(alloc, actor, count)?;
+    quarters.stations.push(station)?;
+    quarters.ways.push(way)?;
+    Ok(())
+}
+
+/// Makes room for all actors, with a station for each that has a line.
+fn fill<L: Drop, T: Drop, A: Allocator + Copy>(
+    quarters: &mut Quarters<L, T, A>,
+    alloc: A,
+    actors: u16,
+    lines: &[(u16, L)],
+) -> Result<(), Oom> {
+    make_room(quarters, usize::from(actors))?;
+    for actor in 0..actors {
+        add_station(quarters, alloc, actor, count_lines(lines, actor))?;
+    }
+    Ok(())
 }
 
 /// A station for each actor that has a line, with room for all its lines and receipts, and the way to it.
@@ -200,17 +237,15 @@ fn quarters_of<L: Drop, T: Drop, A: Allocator + Copy>(
     actors: u16,
     lines: &[(u16, L)],
 ) -> Result<Quarters<L, T, A>, Oom> {
-    let mut quarters = empty_quarters(alloc, usize::from(actors))?;
-    for actor in 0..actors {
-        let count = count_lines(lines, actor);
-        if count == 0 {
-            quarters.stations.push(None)?;
-            quarters.ways.push(None)?;
-        } else {
-            let (station, way) = station_of(alloc, actor, count)?;
-            quarters.stations.push(Some(station))?;
-            quarters.ways.push(Some(way))?;
-        }
+    let mut quarters = Quarters {
+        stations: Vec::new(alloc),
+        ways: Vec::new(alloc),
+        workers: Vec::new(alloc),
+        lists: Vec::new(alloc),
+    };
+    if fill(&mut quarters, alloc, actors, lines).is_err() {
+        drop(quarters);
+        return Err(Oom);
     }
     Ok(quarters)
 }

@@ -8,10 +8,10 @@ ghost use Rattle.worker_core.specs.Interleaving.{IsInterleaving, all_told};
 ghost use Rattle.worker_core.specs.Races.{IsLate, has_room, are_known, refusal_of};
 ghost use Rattle.worker_core.specs.Replies.{AreMachineReplies};
 
-use crate::agreeing::agree;
+use crate::agreeing::account;
 use crate::crew::ask_all;
 use crate::gate::Gate;
-use crate::race_fault::RaceFault;
+use crate::race_fault::{CrewFault, RaceFault};
 use crate::receipt::{Receipt, Receipts};
 use bench_core::laws::replay_law;
 use bench_core::{Act, Bench, Fault, History, Limits, Names, Reply};
@@ -98,7 +98,7 @@ fn vouch<'a, B: Allocator>(
     if met_want(receipts) {
         return Err(RaceFault::OutOfMemory);
     }
-    let Ok(agrees) = agree(alloc, &before.history, bench.history(), lines, receipts) else {
+    let Ok(agrees) = account(&before.history, bench.history(), lines, receipts, alloc) else {
         return Err(RaceFault::OutOfMemory);
     };
     let is_same = bench.names().same(&before.names) && bench.limits() == before.limits;
@@ -144,6 +144,61 @@ fn discard<A: Allocator>(receipts: Receipts<A>) {
     drop(receipts);
 }
 
+/// Has each line asked by a crew on the bench, which comes back with what the workers tell.
+fn asked<'a, B: Allocator + Sync, G: Gate + Sync, R: Threads + Wait + Sync>(
+    rt: &R,
+    alloc: &'a B,
+    bench: Bench<'a, B>,
+    actors: u16,
+    lines: &[(u16, Act<&'a B>)],
+    gate: &G,
+) -> (Bench<'a, B>, Result<Receipts<&'a B>, CrewFault>) {
+    let Ok(copies) = copied(alloc, lines) else {
+        return (bench, Err(CrewFault::OutOfMemory));
+    };
+    let shared = Mutex::new(bench);
+    let told = ask_all(rt, alloc, &shared, actors, copies, gate);
+    (shared.into_inner(), told)
+}
+
+/// What the workers told, if a race can be vouched for.
+fn vouched<'a, B: Allocator>(
+    bench: &Bench<'a, B>,
+    before: Known<'a, B>,
+    actors: u16,
+    lines: Vec<(u16, Act<&'a B>), &'a B>,
+    told: Result<Receipts<&'a B>, CrewFault>,
+    alloc: &'a B,
+) -> Result<Receipts<&'a B>, RaceFault>
+    ensures agrees { IfOk result (λ r. Agrees before.entry.history bench.now.state.history (calls_of lines.entry.items) (map (λ v. v.items) r.items)) }
+    ensures interleaving { IfOk result (λ r. IsInterleaving (drop (length before.entry.history) bench.now.state.history) (all_told (map (λ v. v.items) r.items))) }
+    ensures replies { IfOk result (λ r. AreMachineReplies (config_of bench.now) bench.now.state.history (map (λ v. v.items) r.items)) }
+    ensures names { OnOk result (bench.now.names ≡ before.entry.names) }
+    ensures limits { OnOk result (bench.now.limits ≡ before.entry.limits) }
+    ensures lists { IfOk result (λ r. vec_len r ≡ actors) }
+    ensures machine { OnOk result (IsMachine bench.now) }
+    ensures late { IfErr result IsLate }
+{
+    let receipts = match told {
+        Ok(receipts) => receipts,
+        Err(fault) => {
+            drop(before);
+            drop(lines);
+            return Err(fault.of_race());
+        }
+    };
+    let answer = vouch(&before, bench, actors, &lines, &receipts, alloc);
+    drop(before);
+    drop(lines);
+    match answer {
+        Ok(()) => Ok(receipts),
+        Err(fault) => {
+            discard(receipts);
+            Err(fault)
+        }
+    }
+}
+
 /// Has each line asked on the one bench by a thread of its actor's own, in the actor's order, and compares what the workers
 /// tell with the history. Lines are numbered from 1. The faults, in their order: `UnknownActor` and `NoRoom`, before anything
 /// is done; `WorkerRefused`, and then no line was asked; `OutOfMemory`; `LogsDisagree`. All that is promised holds if it returns.
@@ -172,30 +227,9 @@ pub fn race<'a, B: Allocator + Sync, G: Gate + Sync, R: Threads + Wait + Sync>(
         drop(lines);
         return Err((RaceFault::OutOfMemory, bench));
     };
-    let Ok(copies) = copied(alloc, &lines) else {
-        drop(before);
-        drop(lines);
-        return Err((RaceFault::OutOfMemory, bench));
-    };
-    let shared = Mutex::new(bench);
-    let asked = ask_all(rt, alloc, &shared, actors, copies, gate);
-    let bench = shared.into_inner();
-    let receipts = match asked {
-        Ok(receipts) => receipts,
-        Err(fault) => {
-            drop(before);
-            drop(lines);
-            return Err((fault.of_race(), bench));
-        }
-    };
-    let vouched = vouch(&before, &bench, actors, &lines, &receipts, alloc);
-    drop(before);
-    drop(lines);
-    match vouched {
-        Ok(()) => Ok((bench, receipts)),
-        Err(fault) => {
-            discard(receipts);
-            Err((fault, bench))
-        }
+    let (bench, told) = asked(rt, alloc, bench, actors, &lines, gate);
+    match vouched(&bench, before, actors, lines, told, alloc) {
+        Ok(receipts) => Ok((bench, receipts)),
+        Err(fault) => Err((fault, bench)),
     }
 }
