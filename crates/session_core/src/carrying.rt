@@ -5,7 +5,25 @@ ghost use Rattle.session_core.specs.Sessions.{IsCarried, Refuses};
 use crate::loading::load;
 use crate::saving::save;
 use crate::session_fault::SessionFault;
-use std::alloc::Global;
+use std::alloc::{Allocator, Global};
+
+/// The text of the bench that `load` gives with this allocator.
+fn carry_over<'a, B: Allocator>(
+    bytes: &[u8],
+    alloc: &'a B,
+    heap: Global,
+) -> Result<Vec<u8>, SessionFault>
+    ensures carried { IfOk result (λ text. IsCarried bytes.now text.items) }
+    ensures refused { IfErr result (Refuses bytes.now) }
+{
+    let bench = load(heap, alloc, bytes)?;
+    let saved = save(heap, &bench);
+    drop(bench);
+    match saved {
+        Ok(text) => Ok(text),
+        Err(_) => Err(SessionFault::OutOfMemory),
+    }
+}
 
 /// The compact text, in the form of the second version, of the bench that the text is a session of: of the same names,
 /// limits and recorded calls, so with the same remaining steps and the same cluster. It refuses what `load` refuses, in its
@@ -14,11 +32,5 @@ pub fn carry(heap: Global, bytes: &[u8]) -> Result<Vec<u8>, SessionFault>
     ensures carried { IfOk result (λ text. IsCarried bytes.now text.items) }
     ensures refused { IfErr result (Refuses bytes.now) }
 {
-    let bench = load(heap, &heap, bytes)?;
-    let saved = save(heap, &bench);
-    drop(bench);
-    match saved {
-        Ok(text) => Ok(text),
-        Err(_) => Err(SessionFault::OutOfMemory),
-    }
+    carry_over(bytes, &heap, heap)
 }

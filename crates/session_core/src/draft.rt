@@ -1,9 +1,9 @@
 //! `Draft`: a session's text, read before its calls are asked.
-ghost use Rattle.std.specs.Prelude.{◌≡◌, ◌<◌, ◌∷◌, length, Some, None, Err, IfOk, OnOk};
+ghost use Rattle.std.specs.Prelude.{◌≡◌, ◌<◌, ◌∷◌, [], length, Some, None, Err, IfOk, OnOk};
 ghost use Rattle.std.specs.Bool.{MatchBool};
 ghost use Rattle.json.specs.Json.{value};
 ghost use Rattle.json.specs.Token.{begin_object};
-ghost use Rattle.serde_json.specs.Data.{Data, Members, no_members};
+ghost use Rattle.serde_json.specs.Data.{Data, Members, no_members, object};
 ghost use Rattle.serde_json.specs.Read.{read, of_json, of_members, converted};
 ghost use Rattle.serde_json.specs.View.{view, members_view};
 ghost use Rattle.session_core.specs.Decoding.{are_acts, items_in, acts_members};
@@ -78,6 +78,29 @@ fn member<'a, B: Allocator>(
     }
 }
 
+/// Puts the members up to the brace that closes the outermost object into `found`, and the events of their acts into `acts`.
+fn read_members<'a, B: Allocator>(
+    found: &mut Map<String, Value>,
+    acts: &mut Acts<&'a B>,
+    heap: Global,
+    alloc: &'a B,
+    reader: &mut Reader<'_>,
+) -> Result<(), Unread>
+    requires no_member { members_view found.old.entries ≡ no_members }
+    requires no_event { AreRead [] acts.old.events.items acts.old.is_cut }
+    ensures ok { OnOk result ((d : Data)
+        × (converted of_json (value 127 (begin_object ∷ reader.old)) ≡ Some (d, reader.new))
+        × IsDraft d (object (members_view found.new.entries)) acts.new.events.items acts.new.is_cut) }
+    ensures err { result ≡ Err Shape → converted of_json (value 127 (begin_object ∷ reader.old)) ≡ None }
+{
+    'members: while let Some(name) = reader.next_key()? {
+        let key = String::from_str(heap, name)?;
+        let value = member(heap, alloc, reader, name, acts)?;
+        drop(found.insert(key, value)?);
+    }
+    Ok(())
+}
+
 /// The members up to the brace that closes the outermost object.
 fn members_of<'a, B: Allocator>(
     heap: Global,
@@ -91,15 +114,17 @@ fn members_of<'a, B: Allocator>(
 {
     let mut found = Map::new(heap);
     let mut acts = Acts::none(heap);
-    'members: while let Some(name) = reader.next_key()? {
-        let key = String::from_str(heap, name)?;
-        let value = member(heap, alloc, reader, name, &mut acts)?;
-        drop(found.insert(key, value)?);
+    match read_members(&mut found, &mut acts, heap, alloc, reader) {
+        Ok(()) => Ok(Draft {
+            head: Value::Object(found),
+            acts,
+        }),
+        Err(fault) => {
+            drop(found);
+            drop(acts);
+            Err(fault)
+        }
     }
-    Ok(Draft {
-        head: Value::Object(found),
-        acts,
-    })
 }
 
 /// The next value of the reader.

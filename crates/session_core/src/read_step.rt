@@ -34,8 +34,21 @@ fn presence_at<'a, B: Allocator>(alloc: &'a B, list: &Value) -> Result<Presence<
     }
     let pid = number_in(list, 2)?;
     let topic = word_in(alloc, list, 3)?;
-    let key = word_in(alloc, list, 4)?;
-    let metadata = word_in(alloc, list, 5)?;
+    let key = match word_in(alloc, list, 4) {
+        Ok(key) => key,
+        Err(fault) => {
+            drop(topic);
+            return Err(fault);
+        }
+    };
+    let metadata = match word_in(alloc, list, 5) {
+        Ok(metadata) => metadata,
+        Err(fault) => {
+            drop(topic);
+            drop(key);
+            return Err(fault);
+        }
+    };
     Ok(Presence {
         pid,
         topic,

@@ -1,10 +1,10 @@
 //! `save`: a bench as the text of its session.
-ghost use Rattle.std.specs.Prelude.{◌≡◌, IfOk, IsUtf8, Some, map};
+ghost use Rattle.std.specs.Prelude.{◌≡◌, IfOk, IsUtf8, Some, codes, map};
 ghost use Rattle.std.specs.List.{AllByRecursion};
-ghost use Rattle.serde_json.specs.Data.{string};
+ghost use Rattle.serde_json.specs.Data.{string, object, member, no_members};
 ghost use Rattle.serde_json.specs.View.{view};
 ghost use Rattle.serde_json.specs.Written.{compact_text};
-ghost use Rattle.session_core.specs.Format.{list, event_json, limits_json, session};
+ghost use Rattle.session_core.specs.Format.{list, whole, event_json, limits_json, session};
 ghost use Rattle.session_core.specs.Sessions.{IsEvent, IsSaved};
 
 use crate::write_act::act_value;
@@ -53,14 +53,29 @@ fn limits_value(heap: Global, limits: Limits) -> Result<Value, Oom>
     json!(in heap; [limits.acts(), limits.entries(), limits.clock(), limits.messages()])
 }
 
+/// A session of the second version, of these values.
+fn members_value(heap: Global, acts: Value, limits: Value, nodes: Value) -> Result<Value, Oom>
+    ensures { IfOk result (λ v. view v ≡ object (member (codes "acts") (view acts) (member (codes "limits") (view limits)
+        (member (codes "nodes") (view nodes) (member (codes "version") (whole 2) no_members))))) }
+{
+    json!(in heap; {"acts": acts, "limits": limits, "nodes": nodes, "version": 2u64})
+}
+
 fn session_value<'a, B: Allocator>(heap: Global, bench: &Bench<'a, B>) -> Result<Value, Oom>
     ensures json { IfOk result (λ v. view v ≡ session 2 bench.now.names bench.now.limits bench.now.state.history) }
     ensures told { IfOk result (λ _. AllByRecursion IsEvent bench.now.state.history) }
 {
     let acts = events_value(heap, bench.history())?;
-    let limits = limits_value(heap, bench.limits())?;
-    let nodes = nodes_value(heap, bench.names())?;
-    json!(in heap; {"acts": acts, "limits": limits, "nodes": nodes, "version": 2u64})
+    let Ok(limits) = limits_value(heap, bench.limits()) else {
+        drop(acts);
+        return Err(Oom);
+    };
+    let Ok(nodes) = nodes_value(heap, bench.names()) else {
+        drop(acts);
+        drop(limits);
+        return Err(Oom);
+    };
+    members_value(heap, acts, limits, nodes)
 }
 
 /// The compact text of the bench's session: its names, its limits, and each recorded call with its reply. JSON values take

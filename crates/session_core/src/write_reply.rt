@@ -1,7 +1,8 @@
 //! A reply as JSON.
-ghost use Rattle.std.specs.Prelude.{◌≡◌, IfOk};
+ghost use Rattle.std.specs.Prelude.{◌≡◌, ◌∷◌, [], IfOk, codes};
+ghost use Rattle.serde_json.specs.Data.{string};
 ghost use Rattle.serde_json.specs.View.{view};
-ghost use Rattle.session_core.specs.Format.{code_of, reply_json};
+ghost use Rattle.session_core.specs.Format.{list, whole, code_of, reply_json};
 
 use bench_core::{Fault, Reply};
 use serde_json::{Value, json};
@@ -35,15 +36,36 @@ pub(crate) fn code_of(fault: Fault) -> u8
     }
 }
 
+/// A reply that gives a step's number.
+fn numbered_value(heap: Global, word: &str, number: u64) -> Result<Value, AllocError>
+    ensures { IfOk result (λ v. view v ≡ list (string word.now ∷ whole number ∷ [])) }
+{
+    json!(in heap; [word, number])
+}
+
+/// A refusal for a consequence.
+fn consequence_value(heap: Global, step: u64, held_by: u64) -> Result<Value, AllocError>
+    ensures { IfOk result (λ v. view v ≡ list (string (codes "no") ∷ whole 16 ∷ whole step ∷ whole held_by ∷ [])) }
+{
+    json!(in heap; ["no", 16u8, step, held_by])
+}
+
+/// A refusal for a fault with no more to it.
+fn refusal_value(heap: Global, fault: Fault) -> Result<Value, AllocError>
+    ensures { IfOk result (λ v. view v ≡ list (string (codes "no") ∷ whole (code_of fault) ∷ [])) }
+{
+    json!(in heap; ["no", code_of(fault)])
+}
+
 pub(crate) fn reply_value(heap: Global, reply: &Reply) -> Result<Value, AllocError>
     ensures { IfOk result (λ v. view v ≡ reply_json reply.now) }
 {
     match reply {
-        Reply::Taken(number) => json!(in heap; ["ok", *number]),
-        Reply::Undone(number) => json!(in heap; ["undone", *number]),
+        Reply::Taken(number) => numbered_value(heap, "ok", *number),
+        Reply::Undone(number) => numbered_value(heap, "undone", *number),
         Reply::Refused(Fault::HasConsequence { step, held_by }) => {
-            json!(in heap; ["no", 16u8, *step, *held_by])
+            consequence_value(heap, *step, *held_by)
         }
-        Reply::Refused(fault) => json!(in heap; ["no", code_of(*fault)]),
+        Reply::Refused(fault) => refusal_value(heap, *fault),
     }
 }

@@ -6,7 +6,7 @@ use Rattle.serde_json.specs.View.{members_view}
 use Rattle.session_core.specs.Decoding.{acts_members}
 use Rattle.session_core.specs.Drafts.{AreRead, head_members}
 use Rattle.session_core.specs.Sessions.{data_of}
-use Rattle.session_core.proofs.draft.members_of.Given as goal
+use Rattle.session_core.proofs.draft.read_members.Given as goal
 
 -- the members read so far, their head and their acts
 abbrev pub invariant-members : goal.invariant-members
