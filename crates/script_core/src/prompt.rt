@@ -12,6 +12,7 @@ use grammar_core::{Cast, FaultKind, Line, Reading, read_line};
 use payload_core::Oom;
 use std::alloc::Allocator;
 use std::marker::Model;
+use std::mem::replace;
 
 /// Who may act, and the bench, once the nodes are named.
 #[derive(Drop)]
@@ -80,6 +81,15 @@ impl<'a, B: Allocator> Prompt<'a, B> {
         }
     }
 
+    /// What the bench does of these lines, opened before it if the nodes are named, and prints.
+    fn obey(&mut self, text: &mut String<&'a B>, lines: &[Line<&'a B>]) -> Result<(), Oom>
+        ensures { OnOk result ((self.new, string_bytes text.new) ≡
+            asked self.old.limits self.old.cast (opened self.old.limits self.old.cast self.old.machine) (string_bytes text.old) (commands_of (plain_lines lines.now))) }
+    {
+        self.open()?;
+        self.ask(text, lines)
+    }
+
     /// Reads a line, does what it asks, and puts what is printed of it behind the text; or answers its fault, which changes
     /// nothing, want of memory apart.
     #[tactic(auto, unfolding(crate::specs::Prompts::taken))]
@@ -94,9 +104,17 @@ impl<'a, B: Allocator> Prompt<'a, B> {
         };
         let answer = read_line(self.alloc, &mut reading, 0, line);
         let Reading { cast, lines } = reading;
-        self.cast = cast;
-        answer?;
-        self.open()?;
-        Ok(self.ask(text, &lines)?)
+        drop(replace(&mut self.cast, cast));
+        match answer {
+            Ok(()) => {
+                let obeyed = self.obey(text, &lines);
+                drop(lines);
+                Ok(obeyed?)
+            }
+            Err(kind) => {
+                drop(lines);
+                Err(kind)
+            }
+        }
     }
 }
