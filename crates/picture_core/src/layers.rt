@@ -34,14 +34,14 @@ fn put_event<'a, B: Allocator>(
         text_of (mark_of (kepts remaining.now.steps) painted.now event.now (title_of asked.old event.now))) }
 {
     put_arrow_of(
-        &mut layers.arrows,
         remaining,
+        &mut layers.arrows,
         painted,
         asked.remaining(),
         event,
     )?;
     let title = title_of(asked, event, alloc)?;
-    put_mark_of(&mut layers.marks, remaining, painted, event, &title)
+    put_mark_of(remaining, &mut layers.marks, painted, event, &title)
 }
 
 /// What is drawn of recorded calls, which are asked again on another bench.

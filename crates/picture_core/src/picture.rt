@@ -215,6 +215,20 @@ fn painted_of<'a, B: Allocator>(
     }
 }
 
+/// The picture of a bench, with the step and its future painted.
+fn picture_of<'a, B: Allocator>(
+    bench: &Bench<'a, B>,
+    why: Option<u64>,
+    alloc: &'a B,
+) -> Result<String<&'a B>, Oom>
+    ensures { IfOk result (λ text. string_bytes text ≡ text_of (picture bench.now (painted_of bench.now.state why))) }
+{
+    let painted = painted_of(bench, why, alloc)?;
+    let mut text = String::new(alloc);
+    put_picture(bench, &mut text, painted.as_slice(), alloc)?;
+    Ok(text)
+}
+
 /// The picture of a bench: a line for each node from left to right, on it a mark for each step that was taken, an arrow from
 /// each step that sent a message to each that delivered it. What was undone is pale and has a cross; the step `why` and all that
 /// follows from it, if it remains, have rings. Beside each mark its step and what it printed stand as a title.
@@ -227,8 +241,6 @@ pub fn draw<'a, B: Allocator>(
     ensures document { IfOk result (λ text. IsDocument text.items) }
 {
     document_law();
-    let painted = painted_of(bench, why, alloc)?;
-    let mut text = String::new(alloc);
-    put_picture(bench, &mut text, painted.as_slice(), alloc)?;
+    let text = picture_of(bench, why, alloc)?;
     Ok(text.into_bytes())
 }

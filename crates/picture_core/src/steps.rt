@@ -19,11 +19,11 @@ use std::alloc::Allocator;
 /// The arrow to a step, before which these steps remained.
 #[tactic(auto, using(crate::proofs::Texts::nothing_end), unfolding(crate::specs::Steps::arrow_to))]
 fn put_arrow_to<'a, A: Allocator, B: Allocator>(
+    steps: &Journal<'a, B>,
     text: &mut String<A>,
     standing: Standing,
     number: u64,
     node: u16,
-    steps: &Journal<'a, B>,
     step: &Step<&'a B>,
 ) -> Result<(), Oom>
     ensures { OnOk result (string_bytes text.new ≡ string_bytes text.old ++
@@ -41,8 +41,8 @@ fn put_arrow_to<'a, A: Allocator, B: Allocator>(
 /// The arrow to the step that a recorded call took.
 #[tactic(auto, using(crate::proofs::Texts::nothing_end), unfolding(crate::specs::Steps::arrow_of))]
 pub fn put_arrow_of<'a, A: Allocator, B: Allocator>(
-    text: &mut String<A>,
     remaining: &Journal<'a, B>,
+    text: &mut String<A>,
     painted: &[u64],
     steps: &Journal<'a, B>,
     event: &Event<&'a B>,
@@ -54,7 +54,7 @@ pub fn put_arrow_of<'a, A: Allocator, B: Allocator>(
         Reply::Taken(number) => match &event.act {
             Act::Do(step) => {
                 let standing = standing_of(remaining, painted, number);
-                put_arrow_to(text, standing, number, event.actor, steps, step)
+                put_arrow_to(steps, text, standing, number, event.actor, step)
             }
             Act::Undo(_) | Act::Back(_) => Ok(()),
         },
@@ -97,8 +97,8 @@ pub fn title_of<'a, B: Allocator>(
 /// The mark of the step that a recorded call took.
 #[tactic(auto, using(crate::proofs::Texts::nothing_end), unfolding(crate::specs::Steps::mark_of))]
 pub fn put_mark_of<'a, A: Allocator, B: Allocator>(
-    text: &mut String<A>,
     remaining: &Journal<'a, B>,
+    text: &mut String<A>,
     painted: &[u64],
     event: &Event<&'a B>,
     title: &str,
