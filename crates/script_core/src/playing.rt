@@ -35,15 +35,21 @@ pub fn play<B: Allocator, R: Read, W: Write>(
         }
         Err(InputFault::OutOfMemory) => return Err(PlayFault::OutOfMemory),
     };
-    let script = match parse_script(alloc, &input) {
+    let parsed = parse_script(alloc, &input);
+    drop(input);
+    let script = match parsed {
         Ok(script) => script,
         Err(fault) if fault.kind == FaultKind::OutOfMemory => return Err(PlayFault::OutOfMemory),
         Err(fault) => return Err(PlayFault::Script(fault)),
     };
-    let Ok(played) = run_script(alloc, &script, limits) else {
+    let run = run_script(alloc, &script, limits);
+    drop(script);
+    let Ok(played) = run else {
         return Err(PlayFault::OutOfMemory);
     };
-    match write_out(writer, &played.report) {
+    let written = write_out(writer, &played.report);
+    drop(played);
+    match written {
         Ok(()) => Ok(()),
         Err(fault) => Err(PlayFault::WriteFault {
             written: fault.written,
