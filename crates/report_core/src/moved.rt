@@ -110,6 +110,16 @@ fn node_of_step<'a, B: Allocator>(bench: &Bench<'a, B>, number: u64) -> Option<u
     }
 }
 
+/// Undoes a step, unless memory is wanting.
+fn undo<'a, B: Allocator>(bench: &mut Bench<'a, B>, actor: u16, number: u64) -> Result<(), Oom>
+    ensures { OnOk result (bench.new ≡ after_act bench.old actor (Undo number)) }
+{
+    let act = Act::Undo(number);
+    let answered = answer(bench, actor, &act);
+    drop(act);
+    answered.map(drop)
+}
+
 /// Undoes a step, and notes how that changes the online list of its node.
 fn undo_one<'a, B: Allocator>(
     bench: &mut Bench<'a, B>,
@@ -127,7 +137,7 @@ fn undo_one<'a, B: Allocator>(
     online_law();
     let node = node_of_step(bench, number);
     let step = step_diff(bench, number, alloc)?;
-    answer(bench, actor, &Act::Undo(number))?;
+    undo(bench, actor, number)?;
     add_at(moved, node, step)
 }
 
