@@ -34,7 +34,7 @@ fn put_online<'a, B: Allocator>(
     ensures { OnOk result (string_bytes text.new ≡ string_bytes text.old ++ online_below bench.now (length bench.now.names)) }
 {
     for node in 0..bench.names().len() as u16 {
-        show(alloc, text, bench, node)?;
+        show(text, bench, node, alloc)?;
     }
     Ok(())
 }

@@ -102,29 +102,20 @@ fn put_names<A: Allocator, N: Allocator, R: Allocator>(
     Ok(())
 }
 
-/// The statuses, clocks and clouds at a node.
-fn put_dots_at<'a, A: Allocator, N: Allocator, B: Allocator>(
-    node: &Node<'a, B>,
-    text: &mut String<A>,
-    names: &Names<N>,
-) -> Result<(), Oom>
-    ensures { OnOk result (string_bytes text.new ≡ string_bytes text.old ++ name_lines node.now.replica 0 names.now) }
-{
-    node.node_law();
-    put_names(text, names, node.replica())
-}
-
 /// The statuses, clocks and clouds at a node; nothing where there is none.
 #[tactic(auto, unfolding(crate::specs::Dots::dots_text))]
 pub fn put_dots<'a, A: Allocator, N: Allocator, B: Allocator>(
+    node: Option<&Node<'a, B>>,
     text: &mut String<A>,
     names: &Names<N>,
-    node: Option<&Node<'a, B>>,
 ) -> Result<(), Oom>
     ensures { OnOk result (string_bytes text.new ≡ string_bytes text.old ++ dots_text names.now (option_map (λ n. n.now) node.entry)) }
 {
     match node {
-        Some(node) => put_dots_at(node, text, names),
+        Some(node) => {
+            node.node_law();
+            put_names(text, names, node.replica())
+        }
         None => Ok(()),
     }
 }

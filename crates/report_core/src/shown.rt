@@ -79,8 +79,8 @@ pub fn rows_at<'a, B: Allocator>(
     }
 }
 
-/// Prints the rows of the online list of a node, and their count.
-fn put_rows_at<'a, B: Allocator>(
+/// Prints the online list of a node.
+pub fn show<'a, B: Allocator>(
     text: &mut String<&'a B>,
     bench: &Bench<'a, B>,
     node: u16,
@@ -92,16 +92,4 @@ fn put_rows_at<'a, B: Allocator>(
     let answer = put_online(text, bench.names(), node, rows.rows());
     drop(rows);
     answer
-}
-
-/// Prints the online list of a node.
-pub fn show<'a, B: Allocator>(
-    alloc: &'a B,
-    text: &mut String<&'a B>,
-    bench: &Bench<'a, B>,
-    node: u16,
-) -> Result<(), Oom>
-    ensures { OnOk result (string_bytes text.new ≡ string_bytes text.old ++ online_text bench.now.names node (rows_at bench.now node)) }
-{
-    put_rows_at(text, bench, node, alloc)
 }

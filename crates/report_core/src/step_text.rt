@@ -165,9 +165,9 @@ fn put_kept<A: Allocator, N: Allocator, W: Allocator>(
 /// Each kept step on a line.
 #[tactic(auto, unfolding(crate::specs::StepText::kept_lines))]
 fn put_kepts<'a, A: Allocator, N: Allocator, B: Allocator>(
+    journal: &Journal<'a, B>,
     text: &mut String<A>,
     names: &Names<N>,
-    journal: &Journal<'a, B>,
 ) -> Result<(), Oom>
     ensures { OnOk result (string_bytes text.new ≡ string_bytes text.old ++ kept_lines names.now (kepts journal.now.steps)) }
 {
@@ -181,13 +181,13 @@ fn put_kepts<'a, A: Allocator, N: Allocator, B: Allocator>(
 /// `journal COUNT`, and each kept step on a line.
 #[tactic(auto, unfolding(crate::specs::StepText::journal_text))]
 pub fn put_journal<'a, A: Allocator, N: Allocator, B: Allocator>(
+    journal: &Journal<'a, B>,
     text: &mut String<A>,
     names: &Names<N>,
-    journal: &Journal<'a, B>,
 ) -> Result<(), Oom>
     ensures { OnOk result (string_bytes text.new ≡ string_bytes text.old ++ journal_text names.now (kepts journal.now.steps)) }
 {
     let count = journal.len();
     writeln!(text, "journal {count}")?;
-    put_kepts(text, names, journal)
+    put_kepts(journal, text, names)
 }

@@ -23,10 +23,10 @@ fn command<'a, B: Allocator>(
     match command {
         Command::Call(actor, call) => act(alloc, text, bench, *actor, call),
         Command::Unwind(actor, number) => unwind(alloc, text, bench, *actor, *number),
-        Command::Show(node) => show(alloc, text, bench, *node),
-        Command::Dots(at) => put_dots(text, bench.names(), node(bench, *at)),
+        Command::Show(node) => show(text, bench, *node, alloc),
+        Command::Dots(at) => put_dots(node(bench, *at), text, bench.names()),
         Command::Why(number) => why(text, bench, *number),
-        Command::Journal => put_journal(text, bench.names(), bench.remaining()),
+        Command::Journal => put_journal(bench.remaining(), text, bench.names()),
     }
 }
 
