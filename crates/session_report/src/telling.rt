@@ -29,10 +29,10 @@ fn has_reply<'a, B: Allocator>(history: &History<'a, B>, place: usize, reply: Re
 /// Asks the event's call, prints it, and says whether the bench gave its reply and recorded it.
 #[tactic(auto, unfolding(script_core::specs::Report::command_text, script_core::specs::Report::after_command))]
 fn tell_next<'a, B: Allocator>(
-    alloc: &'a B,
     text: &mut String<&'a B>,
     bench: &mut Bench<'a, B>,
     event: &Event<&'a B>,
+    alloc: &'a B,
 ) -> Result<bool, Oom>
     ensures asked { IfOk result (Asked event.now bench.old bench.new) }
     ensures bench { OnOk result (bench.new ≡ after_command bench.old (call_of event.now)) }
@@ -45,12 +45,12 @@ fn tell_next<'a, B: Allocator>(
 
 /// Asks the call of act `number`, if the text of this version can tell it, prints it, and compares the reply.
 fn tell_event<'a, B: Allocator>(
-    alloc: &'a B,
     text: &mut String<&'a B>,
     bench: &mut Bench<'a, B>,
     event: &Event<&'a B>,
     version: Version,
     number: u64,
+    alloc: &'a B,
 ) -> Result<(), SessionFault>
     ensures steps { (d : Data) → event_at d ≡ Some event.now → Steps (number_of version) number bench.old d result bench.new }
     ensures bench { OnOk result (bench.new ≡ after_command bench.old (call_of event.now)) }
@@ -59,7 +59,7 @@ fn tell_event<'a, B: Allocator>(
     if !version.tells(event) {
         return Err(SessionFault::BadShape { act: number });
     }
-    match tell_next(alloc, text, bench, event) {
+    match tell_next(text, bench, event, alloc) {
         Ok(true) => Ok(()),
         Ok(false) => Err(SessionFault::Disagrees { act: number }),
         Err(_) => Err(SessionFault::OutOfMemory),
@@ -68,11 +68,11 @@ fn tell_event<'a, B: Allocator>(
 
 /// Asks the calls of the acts, in order, and prints them.
 fn tell_events<'a, B: Allocator>(
-    alloc: &'a B,
     text: &mut String<&'a B>,
     bench: &mut Bench<'a, B>,
     acts: &Acts<&'a B>,
     version: Version,
+    alloc: &'a B,
 ) -> Result<(), SessionFault>
     ensures ok { OnOk result ((ds : List Data) → AreRead ds acts.now.events.items acts.now.is_cut →
         Reads (number_of version) bench.old ds bench.new) }
@@ -81,7 +81,7 @@ fn tell_events<'a, B: Allocator>(
         Faults (number_of version) 1 bench.old ds fault) }
 {
     for (place, event) in acts.events.iter().enumerate() {
-        tell_event(alloc, text, bench, event, version, place as u64 + 1)?;
+        tell_event(text, bench, event, version, place as u64 + 1, alloc)?;
     }
     if acts.is_cut {
         let act = acts.events.len() as u64 + 1;
@@ -108,11 +108,11 @@ pub fn report_session<'a, B: Allocator>(
     };
     let mut text = String::new(alloc);
     tell_events(
-        alloc,
         &mut text,
         &mut bench,
         &recording.acts,
         recording.version,
+        alloc,
     )?;
     Ok(Played {
         bench,
