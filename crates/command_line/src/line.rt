@@ -60,14 +60,20 @@ fn word_place<'a>(alloc: Global, name: &'a str, about: &'a str) -> Arg<'a>
     Arg::new(alloc, name).required(true).help(about)
 }
 
+/// A subcommand with neither options nor words.
+fn bare_subcommand<'a>(alloc: Global, name: &'a str, about: &'a str) -> Command<'a>
+    ensures app { app_of result ≡ new_app name.entry.now }
+    ensures local { (fields_of result).has_globals ≡ false }
+{
+    Command::new(alloc, name).about(about)
+}
+
 /// A subcommand with the option of a form.
 fn form_line<'a>(alloc: Global, name: &'a str, about: &'a str) -> Result<Command<'a>, AllocError>
     ensures app { IfOk result (λ line. app_of line ≡ with_rule (new_app name.entry.now) as_rule) }
     ensures local { IfOk result (λ line. (fields_of line).has_globals ≡ false) }
 {
-    Command::new(alloc, name)
-        .about(about)
-        .arg(form_option(alloc))
+    bare_subcommand(alloc, name, about).arg(form_option(alloc))
 }
 
 /// The subcommand that tries all orders.
@@ -86,7 +92,7 @@ fn step_line<'a>(alloc: Global) -> Command<'a>
     ensures app { app_of result ≡ step_app }
     ensures local { (fields_of result).has_globals ≡ false }
 {
-    Command::new(alloc, "step").about(STEP)
+    bare_subcommand(alloc, "step", STEP)
 }
 
 /// The subcommand that draws.
@@ -94,9 +100,7 @@ fn draw_line<'a>(alloc: Global) -> Result<Command<'a>, AllocError>
     ensures app { IfOk result (λ line. app_of line ≡ draw_app) }
     ensures local { IfOk result (λ line. (fields_of line).has_globals ≡ false) }
 {
-    Command::new(alloc, "draw")
-        .about(DRAW)
-        .arg(number_option(alloc, "why", WHY))
+    bare_subcommand(alloc, "draw", DRAW).arg(number_option(alloc, "why", WHY))
 }
 
 /// The subcommand that explains.
@@ -104,8 +108,7 @@ fn explain_line<'a>(alloc: Global) -> Result<Command<'a>, AllocError>
     ensures app { IfOk result (λ line. app_of line ≡ explain_app) }
     ensures local { IfOk result (λ line. (fields_of line).has_globals ≡ false) }
 {
-    Command::new(alloc, "explain")
-        .about(EXPLAIN)
+    bare_subcommand(alloc, "explain", EXPLAIN)
         .arg(word_place(alloc, "NODE", NODE))?
         .arg(word_place(alloc, "TOPIC", TOPIC))?
         .arg(word_place(alloc, "KEY", KEY))
@@ -284,17 +287,30 @@ fn chosen<'a>(name: &str, matches: &ArgMatches<'a>) -> Result<Choice<'a>, &'stat
     Ok(Choice { command, form })
 }
 
+/// What the words choose by this line.
+fn choice_by<'a, S: AsStr>(line: &mut Command<'a>, words: &'a [S]) -> Result<Choice<'a>, Error>
+    requires { app_of line.old ≡ app }
+    ensures { IfOk result (Chooses (map S.text words.entry.now)) }
+{
+    let matches = line.try_get_matches_from_mut(words)?;
+    let Some((name, entered)) = matches.subcommand() else {
+        drop(matches);
+        return Err(line.error(ErrorKind::MissingSubcommand, "a subcommand is required")?);
+    };
+    let choice = chosen(name, entered);
+    drop(matches);
+    match choice {
+        Ok(choice) => Ok(choice),
+        Err(told) => Err(line.error(ErrorKind::InvalidValue, told)?),
+    }
+}
+
 /// What the words after the program's name choose.
 pub fn choice<'a, S: AsStr>(alloc: Global, words: &'a [S]) -> Result<Choice<'a>, Error>
     ensures { IfOk result (Chooses (map S.text words.entry.now)) }
 {
     let mut line = line(alloc)?;
-    let matches = line.try_get_matches_from_mut(words)?;
-    let Some((name, entered)) = matches.subcommand() else {
-        return Err(line.error(ErrorKind::MissingSubcommand, "a subcommand is required")?);
-    };
-    match chosen(name, entered) {
-        Ok(choice) => Ok(choice),
-        Err(told) => Err(line.error(ErrorKind::InvalidValue, told)?),
-    }
+    let choice = choice_by(&mut line, words);
+    drop(line);
+    choice
 }
