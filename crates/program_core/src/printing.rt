@@ -55,9 +55,9 @@ fn play_report<B: Allocator, R: Read, W: Write>(
 
 /// The session of the bench that a script was played on.
 fn play_session<B: Allocator, R: Read, W: Write>(
+    reader: &mut R,
     heap: Global,
     alloc: &B,
-    reader: &mut R,
     writer: &mut W,
     limits: Limits,
 ) -> Result<(), Fault>
@@ -67,10 +67,14 @@ fn play_session<B: Allocator, R: Read, W: Write>(
     ensures memory { IfErr result TellsMemory }
 {
     let script = read_script(alloc, reader)?;
-    let Ok(played) = run_script(alloc, &script, limits) else {
+    let played = run_script(alloc, &script, limits);
+    drop(script);
+    let Ok(played) = played else {
         return Err(Fault::OutOfMemory);
     };
-    let Ok(text) = session_line(heap, &played.bench) else {
+    let text = session_line(heap, &played.bench);
+    drop(played);
+    let Ok(text) = text else {
         return Err(Fault::OutOfMemory);
     };
     print(writer, &text)
@@ -78,11 +82,11 @@ fn play_session<B: Allocator, R: Read, W: Write>(
 
 /// What the calls print in a report that a race of a script's lines recorded.
 fn race_report<B: Allocator + Sync, T: Threads + Wait + Sync, R: Read, W: Write>(
-    rt: &T,
     alloc: &B,
     reader: &mut R,
     writer: &mut W,
     limits: Limits,
+    rt: &T,
 ) -> Result<(), Fault>
     ensures ends { EndsAt subcommands.Race forms.Report limits (R.remaining reader.old) result (W.contents writer.old) (W.contents writer.new) }
     ensures read { OnOk result (IsAtEnd (R.remaining reader.new)) }
@@ -90,8 +94,12 @@ fn race_report<B: Allocator + Sync, T: Threads + Wait + Sync, R: Read, W: Write>
     ensures memory { IfErr result TellsMemory }
 {
     let script = read_script(alloc, reader)?;
-    let bench = race_script(rt, alloc, &script, limits)?;
-    let Ok(text) = report_history(alloc, &bench) else {
+    let bench = race_script(rt, alloc, &script, limits);
+    drop(script);
+    let bench = bench?;
+    let text = report_history(alloc, &bench);
+    drop(bench);
+    let Ok(text) = text else {
         return Err(Fault::OutOfMemory);
     };
     print(writer, &text)
@@ -112,8 +120,12 @@ fn race_session<B: Allocator + Sync, T: Threads + Wait + Sync, R: Read, W: Write
     ensures memory { IfErr result TellsMemory }
 {
     let script = read_script(alloc, reader)?;
-    let bench = race_script(rt, alloc, &script, limits)?;
-    let Ok(text) = session_line(heap, &bench) else {
+    let bench = race_script(rt, alloc, &script, limits);
+    drop(script);
+    let bench = bench?;
+    let text = session_line(heap, &bench);
+    drop(bench);
+    let Ok(text) = text else {
         return Err(Fault::OutOfMemory);
     };
     print(writer, &text)
@@ -133,14 +145,16 @@ fn load_report<B: Allocator, R: Read, W: Write>(
     ensures memory { IfErr result TellsMemory }
 {
     let told = tell_session(heap, alloc, reader)?;
-    print(writer, &told.report)
+    let printed = print(writer, &told.report);
+    drop(told);
+    printed
 }
 
 /// A session, once it was played again.
 fn load_session<B: Allocator, R: Read, W: Write>(
+    reader: &mut R,
     heap: Global,
     alloc: &B,
-    reader: &mut R,
     writer: &mut W,
     limits: Limits,
 ) -> Result<(), Fault>
@@ -150,7 +164,9 @@ fn load_session<B: Allocator, R: Read, W: Write>(
     ensures memory { IfErr result TellsMemory }
 {
     let bench = read_session(heap, alloc, reader)?;
-    let Ok(text) = session_line(heap, &bench) else {
+    let text = session_line(heap, &bench);
+    drop(bench);
+    let Ok(text) = text else {
         return Err(Fault::OutOfMemory);
     };
     print(writer, &text)
@@ -172,7 +188,9 @@ fn explore_orders<B: Allocator, R: Read, W: Write>(
     ensures memory { IfErr result TellsMemory }
 {
     let script = read_script(alloc, reader)?;
-    let text = explore_script(alloc, &script, limits, reading, states, outcome)?;
+    let text = explore_script(alloc, &script, limits, reading, states, outcome);
+    drop(script);
+    let text = text?;
     print(writer, &text)
 }
 
@@ -192,7 +210,9 @@ fn draw_session<B: Allocator, R: Read, W: Write>(
     ensures memory { IfErr result TellsMemory }
 {
     let bench = read_session(heap, alloc, reader)?;
-    let Ok(text) = draw(alloc, &bench, why) else {
+    let picture = draw(alloc, &bench, why);
+    drop(bench);
+    let Ok(text) = picture else {
         return Err(Fault::OutOfMemory);
     };
     print(writer, &text)
@@ -214,7 +234,9 @@ fn explain_session<B: Allocator, R: Read, W: Write>(
     ensures memory { IfErr result TellsMemory }
 {
     let bench = read_session(heap, alloc, reader)?;
-    let text = match explain_asked(alloc, &bench, question) {
+    let told = explain_asked(alloc, &bench, question);
+    drop(bench);
+    let text = match told {
         Ok(text) => text,
         Err(fault) => return Err(Fault::from(fault)),
     };
@@ -241,11 +263,11 @@ pub fn answer<B: Allocator + Sync, T: Threads + Wait + Sync, R: BufRead, W: Writ
 {
     match (choice.command, choice.form) {
         (Subcommand::Play, Form::Report) => play_report(alloc, reader, writer, limits),
-        (Subcommand::Play, Form::Session) => play_session(heap, alloc, reader, writer, limits),
-        (Subcommand::Race, Form::Report) => race_report(rt, alloc, reader, writer, limits),
+        (Subcommand::Play, Form::Session) => play_session(reader, heap, alloc, writer, limits),
+        (Subcommand::Race, Form::Report) => race_report(alloc, reader, writer, limits, rt),
         (Subcommand::Race, Form::Session) => race_session(rt, heap, alloc, reader, writer, limits),
         (Subcommand::Load, Form::Report) => load_report(heap, alloc, reader, writer, limits),
-        (Subcommand::Load, Form::Session) => load_session(heap, alloc, reader, writer, limits),
+        (Subcommand::Load, Form::Session) => load_session(reader, heap, alloc, writer, limits),
         (Subcommand::Step, _) => step_script(heap, alloc, reader, writer, limits),
         (
             Subcommand::Explore {

@@ -48,7 +48,10 @@ fn outcome<'a, B: Allocator>(
             discard(receipts);
             Ok(bench)
         }
-        Err((fault, _bench)) => Err(fault_of(fault)),
+        Err((fault, bench)) => {
+            drop(bench);
+            Err(fault_of(fault))
+        }
     }
 }
 

@@ -5,5 +5,5 @@ use Rattle.program_core.proofs.printing.load_report.Goals as goal
 
 pub returns-clause-ends : goal.returns-clause-ends
 returns-clause-ends g c =
-    ends_load forms.Report c.args.limits c.deref.result.now _ _ _ _ c.print.result c.in_ok-told.ensures.session
-    (c.deref.ensures.value ∙ c.in_ok-told.ensures.report) c.print.ensures
+    ends_load forms.Report c.args.limits c.deref.result.now _ _ _ _ c.print-printed.result c.in_ok-told.ensures.session
+    (c.deref.ensures.value ∙ c.in_ok-told.ensures.report) c.print-printed.ensures

@@ -7,7 +7,7 @@ use Rattle.program_core.proofs.printing.play_session.Goals as goal
 pub returns-clause-ends : goal.returns-clause-ends
 returns-clause-ends g c =
     ends_play forms.Session c.args.limits c.deref.result.now _ _ _ _ c.print.result c.in_ok-script.ensures.script
-    (c.deref.ensures.value ∙ c.in-Ok-session_line.ensures ∙ ap session_text c.in-Ok.ensures.bench) c.print.ensures
+    (c.deref.ensures.value ∙ c.in-Ok-text.ensures ∙ ap session_text c.in-Ok.ensures.bench) c.print.ensures
 
 pub returns-clause-read : goal.returns-clause-read
 returns-clause-read g c = always c.print.result _ c.in_ok-script.ensures.read
