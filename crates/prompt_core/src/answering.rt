@@ -27,7 +27,7 @@ pub fn answer<'a, B: Allocator>(
         Err(FaultKind::OutOfMemory) => Err(Oom),
         Err(kind) => {
             let mut answer = Vec::new(alloc);
-            put_own(heap, alloc, &mut answer, prompt, help, number, line, kind)?;
+            put_own(prompt, heap, alloc, &mut answer, help, number, line, kind)?;
             Ok(answer)
         }
     }

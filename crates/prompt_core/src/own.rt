@@ -53,10 +53,10 @@ fn put_fault<A: Allocator + Copy>(
 
 /// The session so far, once the nodes are named.
 fn put_saved<'a, B: Allocator>(
+    prompt: &Prompt<'a, B>,
     heap: Global,
     alloc: &'a B,
     answer: &mut Vec<u8, &'a B>,
-    prompt: &Prompt<'a, B>,
     number: u64,
 ) -> Result<(), Oom>
     ensures { OnOk result (answer.new.items ≡ answer.old.items ++ saved number prompt.now.machine) }
@@ -71,9 +71,9 @@ fn put_saved<'a, B: Allocator>(
 
 /// The explanation that is asked for, or what is wrong with the question.
 fn put_explanation<'a, B: Allocator>(
+    bench: &Bench<'a, B>,
     alloc: &'a B,
     answer: &mut Vec<u8, &'a B>,
-    bench: &Bench<'a, B>,
     number: u64,
     question: Question<'_>,
 ) -> Result<(), Oom>
@@ -91,9 +91,9 @@ fn put_explanation<'a, B: Allocator>(
 /// What the words behind `:explain` ask for, once the nodes are named.
 #[tactic(auto, unfolding(crate::specs::Answers::explained))]
 fn put_explained<'a, B: Allocator>(
+    prompt: &Prompt<'a, B>,
     alloc: &'a B,
     answer: &mut Vec<u8, &'a B>,
-    prompt: &Prompt<'a, B>,
     number: u64,
     words: &[&str],
 ) -> Result<(), Oom>
@@ -106,15 +106,15 @@ fn put_explained<'a, B: Allocator>(
         return put_fault(alloc, answer, number, FaultKind::WrongCount);
     };
     let question = Question { node, topic, key };
-    put_explanation(alloc, answer, bench, number, question)
+    put_explanation(bench, alloc, answer, number, question)
 }
 
 /// The answer to the words of a line of which a script doesn't know the first.
 #[tactic(auto, unfolding(crate::specs::Answers::worded))]
 fn put_worded<'a, B: Allocator>(
+    prompt: &Prompt<'a, B>,
     alloc: &'a B,
     answer: &mut Vec<u8, &'a B>,
-    prompt: &Prompt<'a, B>,
     number: u64,
     words: &[&str],
 ) -> Result<(), Oom>
@@ -126,7 +126,7 @@ fn put_worded<'a, B: Allocator>(
     if *first != ":explain" {
         return put_fault(alloc, answer, number, FaultKind::UnknownWord);
     }
-    put_explained(alloc, answer, prompt, number, rest)
+    put_explained(prompt, alloc, answer, number, rest)
 }
 
 fn is_unknown(kind: FaultKind) -> bool
@@ -138,9 +138,9 @@ fn is_unknown(kind: FaultKind) -> bool
 /// The answer to a line that has this fault in a script. Where a script doesn't know its first word, it is text.
 #[tactic(auto, unfolding(crate::specs::Answers::faulty))]
 fn put_faulty<'a, B: Allocator>(
+    prompt: &Prompt<'a, B>,
     alloc: &'a B,
     answer: &mut Vec<u8, &'a B>,
-    prompt: &Prompt<'a, B>,
     number: u64,
     line: &[u8],
     kind: FaultKind,
@@ -155,16 +155,16 @@ fn put_faulty<'a, B: Allocator>(
         unreachable!()
     };
     let words = words_of(alloc, text)?;
-    put_worded(alloc, answer, prompt, number, &words)
+    put_worded(prompt, alloc, answer, number, &words)
 }
 
 /// The answer to a line that is none of a script, which has this fault there.
 #[tactic(auto, unfolding(crate::specs::Answers::own_answer))]
 pub fn put_own<'a, B: Allocator>(
+    prompt: &Prompt<'a, B>,
     heap: Global,
     alloc: &'a B,
     answer: &mut Vec<u8, &'a B>,
-    prompt: &Prompt<'a, B>,
     help: &str,
     number: u64,
     line: &[u8],
@@ -178,7 +178,7 @@ pub fn put_own<'a, B: Allocator>(
         return put_text(answer, "\n");
     }
     if line == b":save".as_slice() {
-        return put_saved(heap, alloc, answer, prompt, number);
+        return put_saved(prompt, heap, alloc, answer, number);
     }
-    put_faulty(alloc, answer, prompt, number, line, kind)
+    put_faulty(prompt, alloc, answer, number, line, kind)
 }
