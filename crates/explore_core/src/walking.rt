@@ -1,5 +1,5 @@
 //! One call more: from the waypoints of so many calls to those of one call more.
-ghost use Rattle.std.specs.Prelude.{◌≡◌, ◌≤◌, ◌<◌, ◌^◌, ◌*◌, ◌+◌, ◌↔◌, ℕ, OnOk, IfErr, IfOk, IsTrue, MatchOption, length, nat_eq};
+ghost use Rattle.std.specs.Prelude.{◌≡◌, [], ◌≤◌, ◌<◌, ◌^◌, ◌*◌, ◌+◌, ◌↔◌, ℕ, OnOk, IfErr, IfOk, IsTrue, MatchOption, length, nat_eq};
 ghost use Rattle.explore_core.specs.Orders.{plain_lists};
 ghost use Rattle.explore_core.specs.Waypoints.{after_call, IsAsGood, IsKeptAt, IsOther, IsTold, AddsKept, AddsTold, TellsReply, Advances, AdvancesBelow, AreMoreDeeper, Deepens};
 ghost use Rattle.indexmap.specs.IndexMap.{get};
@@ -227,6 +227,39 @@ fn advance_all<'a, B: Allocator>(
     Ok(())
 }
 
+/// Asks the next calls at each of these waypoints, where nothing is kept yet of what they lead to, so many past waypoints are
+/// kept, and so many may be in all.
+fn advance_each<'a, B: Allocator>(
+    plan: &Plan<'a, '_, B>,
+    waypoints: &[Waypoint<'a, B>],
+    counts: &[Option<u128>],
+    past: usize,
+    most: usize,
+    found: &mut Found<'a, B>,
+) -> Result<(), ExploreFault>
+    requires room { past ≤ most }
+    requires none { found.old.kept.items ≡ [] }
+    requires uncounted { found.old.counts.items ≡ [] }
+    requires indexed { IsIndexed found.old.kept.items (get nat_eq found.old.places.last) found.old.places.earlier.items }
+    ensures deepens { OnOk result (Deepens (plain_lists plan.now.reading plan.now.lists.now) plan.now.steps_alone
+        waypoints.now found.old.told.items found.new.kept.items found.new.told.items) }
+    ensures orders { OnOk result (DeepensOrders (plain_lists plan.now.reading plan.now.lists.now) plan.now.steps_alone
+        waypoints.now counts.now found.new.kept.items found.new.counts.items) }
+    ensures room { OnOk result (past + length found.new.kept.items ≤ most) }
+    ensures too_many { IfErr result (λ fault. (states : ℕ) → fault ≡ ExploreFault.TooMany states →
+        AreMoreDeeper (plain_lists plan.now.reading plan.now.lists.now) plan.now.steps_alone waypoints.now past most states) }
+{
+    for (place, waypoint) in waypoints.iter().enumerate() {
+        let orders = number_at(counts, place);
+        advance_all(plan, waypoint, orders, found)?;
+        let states = past as u128 + found.kept.len() as u128;
+        if states > most as u128 {
+            return Err(ExploreFault::TooMany { states });
+        }
+    }
+    Ok(())
+}
+
 /// The waypoints of one call more, where so many past ones are kept, and so many may be in all.
 pub(crate) fn deepened<'a, B: Allocator>(
     plan: &Plan<'a, '_, B>,
@@ -246,22 +279,29 @@ pub(crate) fn deepened<'a, B: Allocator>(
     let Found {
         kept: waypoints,
         counts,
+        places,
         told,
-        ..
     } = before;
+    drop(places);
     let mut found = Found {
         kept: Vec::new(plan.alloc),
         counts: Vec::new(plan.alloc),
         places: Places::new(plan.alloc),
         told,
     };
-    for (place, waypoint) in waypoints.iter().enumerate() {
-        let orders = number_at(counts.as_slice(), place);
-        advance_all(plan, waypoint, orders, &mut found)?;
-        let states = past as u128 + found.kept.len() as u128;
-        if states > most as u128 {
-            return Err(ExploreFault::TooMany { states });
-        }
+    let answer = advance_each(
+        plan,
+        waypoints.as_slice(),
+        counts.as_slice(),
+        past,
+        most,
+        &mut found,
+    );
+    drop(waypoints);
+    drop(counts);
+    if let Err(fault) = answer {
+        drop(found);
+        return Err(fault);
     }
     Ok(found)
 }
