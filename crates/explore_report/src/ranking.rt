@@ -1,7 +1,7 @@
 //! Outcomes by how many orders lead to them.
 ghost use Rattle.std.specs.Prelude.{◌≡◌, OnOk, nat_lt};
 ghost use Rattle.std.specs.Ordering.{is_lt};
-ghost use Rattle.explore_report.specs.Ranks.{rank, has_more, IsRanked};
+ghost use Rattle.explore_report.specs.Ranks.{rank, IsRanked};
 
 use explore_core::Outcome;
 use payload_core::Oom;
@@ -20,19 +20,12 @@ fn compare_numbers(one: Option<u128>, other: Option<u128>) -> Ordering
     }
 }
 
-/// Less, where more orders lead to the first.
-fn compare<'a, B: Allocator>(one: &Outcome<'a, B>, other: &Outcome<'a, B>) -> Ordering
-    ensures { is_lt result ≡ has_more one.now other.now }
-{
-    compare_numbers(one.orders, other.orders)
-}
-
 /// Puts those of most orders first.
 pub(crate) fn rank_outcomes<'a, B: Allocator>(
     outcomes: &mut Vec<Outcome<'a, B>, &'a B>,
 ) -> Result<(), Oom>
     ensures { OnOk result (IsRanked outcomes.old.items outcomes.new.items) }
 {
-    outcomes.sort_by(|one, other| compare(one, other))?;
+    outcomes.sort_by(|one, other| compare_numbers(one.orders, other.orders))?;
     Ok(())
 }
