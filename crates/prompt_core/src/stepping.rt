@@ -1,6 +1,7 @@
 //! A prompt from a reader to a writer.
 ghost use Rattle.std.specs.Prelude.{◌≡◌, ℕ, IfErr, OnErr, OnOk, take};
 ghost use Rattle.std.specs.Io.KnownBytes.{Appends, IsAtEnd};
+ghost use Rattle.script_core.specs.Prompts.{new_prompt};
 ghost use Rattle.prompt_core.specs.Ends.{Answers, EndsEarly, IsEndless, Reports};
 ghost use Rattle.prompt_core.specs.declared.prompt_fault.PromptFault.TheVariants.{TooLong, WriteFault};
 
@@ -28,6 +29,31 @@ fn put_out<W: Write>(writer: &mut W, answer: &[u8]) -> Result<(), PromptFault>
     }
 }
 
+/// Answers line by line, each before the next is read, to the end of the input, at a prompt that took none.
+fn answer_each<'a, B: Allocator, R: BufRead, W: Write>(
+    prompt: &mut Prompt<'a, B>,
+    heap: Global,
+    alloc: &'a B,
+    reader: &mut R,
+    writer: &mut W,
+    help: &str,
+) -> Result<(), PromptFault>
+    requires { prompt.old ≡ new_prompt prompt.old.limits }
+    ensures answers { OnOk result (Answers help.now prompt.old.limits (R.remaining reader.old) (W.contents writer.old) (W.contents writer.new)) }
+    ensures read { OnOk result (IsAtEnd (R.remaining reader.new)) }
+    ensures endless { result ≡ Err TooLong → IsEndless (R.remaining reader.old) }
+    ensures early { IfErr result (λ fault. EndsEarly help.now prompt.old.limits fault (R.remaining reader.old) (R.remaining reader.new) (W.contents writer.old) (W.contents writer.new)) }
+{
+    for number in 1..u64::MAX {
+        let Some(line) = next_line(alloc, reader)? else {
+            return Ok(());
+        };
+        let answer = answer(heap, alloc, prompt, help, number, &line)?;
+        put_out(writer, &answer)?;
+    }
+    Err(PromptFault::TooLong)
+}
+
 /// Reads line by line to the end of the input, and answers each before the next is read. What a script has is done as in a
 /// script; `:help` prints this help, `:save` the session so far, `:explain` with a node, a topic and a key the explanation of
 /// these, and any other line its fault, which changes nothing.
@@ -47,12 +73,7 @@ pub fn step<B: Allocator, R: BufRead, W: Write>(
 {
     report_law();
     let mut prompt = Prompt::new(alloc, limits);
-    for number in 1..u64::MAX {
-        let Some(line) = next_line(alloc, reader)? else {
-            return Ok(());
-        };
-        let answer = answer(heap, alloc, &mut prompt, help, number, &line)?;
-        put_out(writer, &answer)?;
-    }
-    Err(PromptFault::TooLong)
+    let ended = answer_each(&mut prompt, heap, alloc, reader, writer, help);
+    drop(prompt);
+    ended
 }

@@ -1,70 +1,17 @@
-use Rattle.std.proofs.Common.{◌≡◌, ◌∙◌, Ok, Err, ap, List, ℕ, arith}
-use Rattle.std.proofs.lemmas.Result.{err_from_is_err_and}
-use Rattle.prompt_core.specs.Answers.{answer}
-use Rattle.prompt_core.specs.declared.prompt_fault.PromptFault.TheVariants.{TooLong}
-use Rattle.prompt_core.proofs.Turns.{begins, cut_before, cut_short, cut_writing, ended, long_line, many, of_each, reports, turned}
+use Rattle.std.proofs.Common.{ap, refl, subst}
+use Rattle.std.specs.Result.{OnOk}
+use Rattle.bench_core.specs.Limits.{Limits}
+use Rattle.script_core.specs.Prompts.{Prompt}
+use Rattle.prompt_core.specs.Ends.{Answers}
 use Rattle.prompt_core.proofs.stepping.step.Goals as goal
 
-pub loop-number-init : goal.loop-number-init
-loop-number-init g c = rw c.new-prompt.ensures (begins c.args.help.now c.args.limits _ _)
+pub answer_each-ended-requires : goal.answer_each-ended-requires
+answer_each-ended-requires g c = rw c.new-prompt.ensures refl
 
-pub returns-in_err-line-clause-early : goal.returns-in_err-line-clause-early
-returns-in_err-line-clause-early g c =
-    of_each c.from_residual.result _
-    (λ fault. cut_short c.args.help.now c.args.limits fault _ _ _ _ _ _ _ c.loop-number.invariant c.next_line.ensures.line)
-
-pub returns-in_err-line-clause-endless : goal.returns-in_err-line-clause-endless
-returns-in_err-line-clause-endless g c = λ is.
-    let p = err_from_is_err_and c.from_residual.result c.from_residual.ensures.1 in
-    let same : c.in_err-line.field-0.0 ≡ TooLong = cc in
-    long_line c.args.help.now c.args.limits _ _ _ _ _ _ c.loop-number.invariant (c.in_err-line.ensures.endless (ap Err same))
-
--- the input is at its end
-
-pub returns-in_default-clause-answers : goal.returns-in_default-clause-answers
-returns-in_default-clause-answers g c =
-    ended c.args.help.now c.args.limits _ _ (g.R.Read.remaining c.next_line.new.reader) _ _ _ _ c.loop-number.invariant (rw c.in_default.is at c.in_ok-line.ensures.next)
-
-pub returns-in_default-clause-report : goal.returns-in_default-clause-report
-returns-in_default-clause-report g c =
-    reports c.report_law.ensures c.args.help.now c.args.limits _ _ _
-    (ended c.args.help.now c.args.limits _ _ (g.R.Read.remaining c.next_line.new.reader) _ _ _ _ c.loop-number.invariant (rw c.in_default.is at c.in_ok-line.ensures.next))
-
-pub returns-in_default-clause-read : goal.returns-in_default-clause-read
-returns-in_default-clause-read g c = c.in_ok-line.ensures.end (ap Ok c.in_default.is)
-
--- a line was taken in
-
-pub returns-in_err-answer-clause-early : goal.returns-in_err-answer-clause-early
-returns-in_err-answer-clause-early g c =
-    of_each c.from_residual-in_err-answer.result _
-    (λ fault. cut_short c.args.help.now c.args.limits fault _ _ _ _ _ _ _ c.loop-number.invariant c.next_line.ensures.line)
-
-pub returns-in_err-put_out-clause-early : goal.returns-in_err-put_out-clause-early
-returns-in_err-put_out-clause-early g c =
-    let line = c.in-Some.line.items in
-    let text_is : c.deref-in-loop-number.result.now ≡ (answer c.args.help.now c.loop-number.prompt c.loop-number.number line).1 =
-    c.deref-in-loop-number.ensures.value ∙ c.in_ok-answer.ensures.text
-    ∙ ap (λ (l : List ℕ). (answer c.args.help.now c.loop-number.prompt c.loop-number.number l).1) c.deref.ensures.value in
-    let p = err_from_is_err_and c.from_residual-in_err-put_out.result c.from_residual-in_err-put_out.ensures.1 in
-    rw (p.1, p.2, c.in_err-put_out.ensures.fault)
-    (cut_writing c.args.help.now c.args.limits _ (g.R.Read.remaining c.loop-number.reader) (g.R.Read.remaining c.next_line.new.reader) c.loop-number.prompt
-    c.loop-number.number _ (g.W.Write.contents c.loop-number.writer) _ line c.deref-in-loop-number.result.now c.in_err-put_out.ensures.err.0
-    c.loop-number.invariant (rw c.in-Some.is at c.in_ok-line.ensures.next) text_is c.in_err-put_out.ensures.err.1)
-
-pub loop-number-preserved : goal.loop-number-preserved
-loop-number-preserved g c =
-    let line = c.in-Some.line.items in
-    turned c.args.help.now c.args.limits _ (g.R.Read.remaining c.loop-number.reader) (g.R.Read.remaining c.next_line.new.reader) c.loop-number.prompt
-    c.answer.new.prompt c.loop-number.number _ (g.W.Write.contents c.loop-number.writer) _ line c.deref-in-loop-number.result.now c.loop-number.invariant
-    (rw c.in-Some.is at c.in_ok-line.ensures.next)
-    (c.deref-in-loop-number.ensures.value ∙ c.in_ok-answer.ensures.text
-    ∙ ap (λ (l : List ℕ). (answer c.args.help.now c.loop-number.prompt c.loop-number.number l).1) c.deref.ensures.value)
-    (c.in_ok-answer.ensures.prompt ∙ ap (λ (l : List ℕ). (answer c.args.help.now c.loop-number.prompt c.loop-number.number l).0) c.deref.ensures.value)
-    c.in_ok-put_out.ensures.ok
-
-pub returns-clause-endless : goal.returns-clause-endless
-returns-clause-endless g c = λ is. many c.args.help.now c.args.limits _ _ _ _ _ _ c.loop-number.invariant (omega arith)
-
-pub returns-clause-early : goal.returns-clause-early
-returns-clause-early g c = cut_before c.args.help.now c.args.limits _ _ _ _ _ _ _ c.loop-number.invariant
+pub returns-clause-answers : goal.returns-clause-answers
+returns-clause-answers g c =
+    let input = g.R.Read.remaining c.args.reader.now in
+    let output = g.W.Write.contents c.args.writer.now in
+    let written = g.W.Write.contents c.answer_each-ended.new.writer in
+    subst (λ (l : Limits). OnOk c.answer_each-ended.result (Answers c.args.help.now l input output written))
+    (ap (λ (p : Prompt). p.limits) c.new-prompt.ensures) c.answer_each-ended.ensures.answers

@@ -1,8 +1,8 @@
 use Rattle.prompt_core.proofs.Turns.{HasComeSo}
-use Rattle.prompt_core.proofs.stepping.step.Given as goal
+use Rattle.prompt_core.proofs.stepping.answer_each.Given as goal
 
 -- how far the prompt has come
 abbrev pub invariant-loop-number : goal.invariant-loop-number
 invariant-loop-number g l =
-    HasComeSo l.help l.fn.limits (g.R.Read.remaining l.fn.reader) (g.R.Read.remaining l.reader) l.prompt l.number
+    HasComeSo l.help l.fn.prompt.limits (g.R.Read.remaining l.fn.reader) (g.R.Read.remaining l.reader) l.prompt l.number
     (g.W.Write.contents l.fn.writer) (g.W.Write.contents l.writer)
