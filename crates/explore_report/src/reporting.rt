@@ -1,5 +1,5 @@
 //! From a script to the text of what all orders of its act lines lead to, or of the order of one outcome.
-ghost use Rattle.std.specs.Prelude.{◌≡◌, ℕ, ◌<◌, ◌^◌, [], Ok, IfOk, IfErr, length, option_map};
+ghost use Rattle.std.specs.Prelude.{◌≡◌, ℕ, ◌<◌, ◌^◌, [], Ok, IfOk, IfErr, option_map};
 ghost use Rattle.bench_core.specs.Acts.{calls_of};
 ghost use Rattle.bench_core.specs.Limits.{Limits as Four};
 ghost use Rattle.grammar_core.specs.Grammar.{with_calls};

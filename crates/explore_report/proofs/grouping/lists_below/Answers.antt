@@ -1,4 +1,4 @@
-use Rattle.std.proofs.Common.{◌≡◌, ◌∙◌, ℕ, ◌∷◌, [], ◌++◌, ap, ap₂, subst, sym, List, arith}
+use Rattle.std.proofs.Common.{◌∙◌, ◌∷◌, [], ◌++◌, ap, ap₂, sym, List}
 use Rattle.std.proofs.lemmas.List.{map-append}
 use Rattle.bench_core.specs.Acts.{calls_of}
 use Rattle.explore_core.specs.Orders.{Call, plain_each}

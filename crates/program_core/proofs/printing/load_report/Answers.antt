@@ -1,4 +1,4 @@
-use Rattle.std.proofs.Common.{◌≡◌, ◌∙◌}
+use Rattle.std.proofs.Common.{◌∙◌}
 use Rattle.command_line.specs.declared.chosen.Form.TheVariants as forms
 use Rattle.program_core.proofs.Printed.{ends_load}
 use Rattle.program_core.proofs.printing.load_report.Goals as goal
