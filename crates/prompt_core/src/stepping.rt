@@ -42,7 +42,8 @@ fn answer_each<'a, B: Allocator, R: BufRead, W: Write>(
     ensures answers { OnOk result (Answers help.now prompt.old.limits (R.remaining reader.old) (W.contents writer.old) (W.contents writer.new)) }
     ensures read { OnOk result (IsAtEnd (R.remaining reader.new)) }
     ensures endless { result ≡ Err TooLong → IsEndless (R.remaining reader.old) }
-    ensures early { IfErr result (λ fault. EndsEarly help.now prompt.old.limits fault (R.remaining reader.old) (R.remaining reader.new) (W.contents writer.old) (W.contents writer.new)) }
+    ensures early { IfErr result (λ fault. EndsEarly help.now prompt.old.limits fault (R.remaining reader.old) (R.remaining reader.new)
+        (W.contents writer.old) (W.contents writer.new)) }
 {
     for number in 1..u64::MAX {
         let Some(line) = next_line(alloc, reader)? else {

@@ -84,7 +84,8 @@ impl<'a, B: Allocator> Prompt<'a, B> {
     /// What the bench does of these lines, opened before it if the nodes are named, and prints.
     fn obey(&mut self, text: &mut String<&'a B>, lines: &[Line<&'a B>]) -> Result<(), Oom>
         ensures { OnOk result ((self.new, string_bytes text.new) ≡
-            asked self.old.limits self.old.cast (opened self.old.limits self.old.cast self.old.machine) (string_bytes text.old) (commands_of (plain_lines lines.now))) }
+            asked self.old.limits self.old.cast (opened self.old.limits self.old.cast self.old.machine) (string_bytes text.old)
+            (commands_of (plain_lines lines.now))) }
     {
         self.open()?;
         self.ask(text, lines)

@@ -28,7 +28,8 @@ returns-in_err-line-clause-endless g c = λ is.
 
 pub returns-in_default-clause-answers : goal.returns-in_default-clause-answers
 returns-in_default-clause-answers g c =
-    ended c.args.help.now c.args.prompt.now.limits _ _ (g.R.Read.remaining c.next_line.new.reader) _ _ _ _ c.loop-number.invariant (rw c.in_default.is at c.in_ok-line.ensures.next)
+    ended c.args.help.now c.args.prompt.now.limits _ _ (g.R.Read.remaining c.next_line.new.reader) _ _ _ _ c.loop-number.invariant
+    (rw c.in_default.is at c.in_ok-line.ensures.next)
 
 pub returns-in_default-clause-read : goal.returns-in_default-clause-read
 returns-in_default-clause-read g c = c.in_ok-line.ensures.end (ap Ok c.in_default.is)
@@ -48,7 +49,8 @@ returns-in_err-put_out-clause-early g c =
     ∙ ap (λ (l : List ℕ). (answer c.args.help.now c.loop-number.prompt c.loop-number.number l).1) c.deref.ensures.value in
     let p = err_from_is_err_and c.from_residual-in_err-put_out.result c.from_residual-in_err-put_out.ensures.1 in
     rw (p.1, p.2, c.in_err-put_out.ensures.fault)
-    (cut_writing c.args.help.now c.args.prompt.now.limits _ (g.R.Read.remaining c.loop-number.reader) (g.R.Read.remaining c.next_line.new.reader) c.loop-number.prompt
+    (cut_writing c.args.help.now c.args.prompt.now.limits _ (g.R.Read.remaining c.loop-number.reader)
+    (g.R.Read.remaining c.next_line.new.reader) c.loop-number.prompt
     c.loop-number.number _ (g.W.Write.contents c.loop-number.writer) _ line c.deref-in-loop-number.result.now c.in_err-put_out.ensures.err.0
     c.loop-number.invariant (rw c.in-Some.is at c.in_ok-line.ensures.next) text_is c.in_err-put_out.ensures.err.1)
 
