@@ -5,9 +5,10 @@
 use bench_core::Limits;
 use explore_core::Reading;
 use explore_report::report_orders;
-use script_core::{FakeReader, FakeWriter, parse_script, play};
+use script_core::{parse_script, play};
 use std::process::ExitCode;
 use std::{env, fs, io};
+use stream_core::{FakeReader, FakeWriter};
 
 const EXAMPLES: [&str; 8] = [
     "comes-back",

@@ -7,7 +7,7 @@ use Rattle.bench_core.specs.Machine.{Machine}
 use Rattle.explain_core.specs.Questions.{IsAnswer}
 use Rattle.explain_core.specs.declared.asking.Question.{Question}
 use Rattle.grammar_core.specs.Grammar.{script_of}
-use Rattle.script_core.specs.Play.{IsLonger}
+use Rattle.stream_core.specs.Inputs.{IsLonger}
 use Rattle.script_core.specs.Report.{history_text, played, report_of}
 use Rattle.grammar_core.specs.Scripts.{Script}
 use Rattle.grammar_core.specs.declared.fault.FaultKind.TheVariants.{TooLong}

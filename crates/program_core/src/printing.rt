@@ -16,11 +16,12 @@ use command_line::{Choice, Form, Subcommand};
 use explain_core::{Question, explain_asked};
 use explore_core::Reading;
 use picture_core::draw;
-use script_core::{play, report_history, run_script, write_out};
+use script_core::{play, report_history, run_script};
 use std::alloc::{Allocator, Global};
 use std::io::{BufRead, Read, Write};
 use std::sync::Wait;
 use std::thread::Threads;
+use stream_core::write_out;
 
 /// Writes the text.
 fn print<W: Write>(writer: &mut W, text: &[u8]) -> Result<(), Fault>

@@ -1,7 +1,7 @@
 //! What is read, and what is printed of a bench besides the report of a play.
 ghost use Rattle.std.specs.Prelude.{◌≡◌, IfOk, IfErr, OnOk};
 ghost use Rattle.std.specs.Io.KnownBytes.{IsAtEnd};
-ghost use Rattle.script_core.specs.Play.{IsWhole};
+ghost use Rattle.stream_core.specs.Inputs.{IsWhole};
 ghost use Rattle.script_core.specs.Report.{history_text};
 ghost use Rattle.grammar_core.specs.Scripts.{plain_script};
 ghost use Rattle.program_core.specs.Program.{IsCauseAt, IsScriptAt, IsSessionAt, IsUnwritten, TellsMemory, session_text};
@@ -9,11 +9,12 @@ ghost use Rattle.program_core.specs.Program.{IsCauseAt, IsScriptAt, IsSessionAt,
 use crate::fault::Fault;
 use bench_core::Bench;
 use grammar_core::{FaultKind, Script, ScriptFault, parse_script};
-use script_core::{InputFault, Played, read_all};
+use script_core::Played;
 use session_core::{SessionFault, load, save};
 use session_report::report_session;
 use std::alloc::{AllocError, Allocator, Global};
 use std::io::Read;
+use stream_core::{InputFault, read_all};
 
 /// The most bytes of a script.
 const LONGEST_SCRIPT: usize = 1_048_576;

@@ -7,9 +7,9 @@ use Rattle.std.specs.Str.{bytes_eq}
 use Rattle.grammar_core.specs.Grammar.{Reading, with_line}
 use Rattle.script_core.specs.Prompts.{Prompt, answered, taken}
 use Rattle.grammar_core.specs.declared.fault.FaultKind.TheVariants.{TooLong}
-use Rattle.prompt_core.specs.declared.reading.TheConstants.{KEPT}
+use Rattle.prompt_core.specs.declared.stepping.TheConstants.{KEPT}
 use Rattle.prompt_core.specs.Answers.{answer, answer_by, fault_line, faulty, own_answer}
-use Rattle.prompt_core.specs.Ends.{kept}
+use Rattle.stream_core.specs.NextLines.{kept}
 
 -- the answer to a line that is too long
 
@@ -39,20 +39,20 @@ long_answer help prompt number line long =
     ap (answer_by help prompt number line) (not_taken prompt line long) ∙ ap (λ (text : List ℕ). (prompt, text)) (told help prompt number line long)
 
 -- of a line that is too long enough is kept to tell that it is
-long_kept : (line : List ℕ) → 4096 < length line → 4096 < length (kept line)
+long_kept : (line : List ℕ) → 4096 < length line → 4096 < length (kept KEPT line)
 unfolding kept
 long_kept line long = omega (arith, length-take-le KEPT line (omega arith))
 
-short_kept : (line : List ℕ) → length line ≤ 4096 → kept line ≡ line
+short_kept : (line : List ℕ) → length line ≤ 4096 → kept KEPT line ≡ line
 unfolding kept
 short_kept line few = take_all KEPT line (omega arith)
 
 pub kept_answer : (help : List ℕ) (prompt : Prompt) (number : ℕ) (line : List ℕ) →
-    answer help prompt number (kept line) ≡ answer help prompt number line
+    answer help prompt number (kept KEPT line) ≡ answer help prompt number line
 kept_answer help prompt number line = go (nat_lt 4096 (length line)) refl
   where
-    go : (b : Bool) → nat_lt 4096 (length line) ≡ b → answer help prompt number (kept line) ≡ answer help prompt number line
+    go : (b : Bool) → nat_lt 4096 (length line) ≡ b → answer help prompt number (kept KEPT line) ≡ answer help prompt number line
     go true is =
         let long = ltb-true 4096 (length line) is in
-        long_answer help prompt number (kept line) (long_kept line long) ∙ sym (long_answer help prompt number line long)
+        long_answer help prompt number (kept KEPT line) (long_kept line long) ∙ sym (long_answer help prompt number line long)
     go false is = ap (answer help prompt number) (short_kept line (ltb-false 4096 (length line) is))

@@ -1,6 +1,5 @@
 pub mod Kept
-pub mod Pieces
+pub mod Split
 pub mod Printed
-pub mod Taken
 pub mod Texts
 pub mod Turns

@@ -15,11 +15,16 @@ use Rattle.grammar_core.specs.Scripts.{Script}
 use Rattle.grammar_core.specs.declared.fault.ScriptFault.{ScriptFault}
 use Rattle.grammar_core.specs.Words.{lines_of}
 use Rattle.prompt_core.specs.Answers.{answer, answers}
-use Rattle.prompt_core.specs.Ends.{Answers, EndsEarly, IsCutShort, IsEndless, IsNext, ReportLaw, Reports, TakesLine, kept, printed}
+use Rattle.stream_core.specs.NextLines.{IsEndless, IsNext, TakesLine, kept}
+use Rattle.prompt_core.specs.Ends.{Answers, EndsEarly, IsCutShort, ReportLaw, Reports, of_input, printed}
+use Rattle.prompt_core.specs.declared.stepping.TheConstants.{KEPT}
 use Rattle.prompt_core.specs.declared.prompt_fault.PromptFault.{PromptFault}
+use Rattle.prompt_core.specs.declared.prompt_fault.PromptFault.TheVariants as prompts
 use Rattle.prompt_core.specs.declared.prompt_fault.PromptFault.TheVariants.{WriteFault}
+use Rattle.stream_core.specs.declared.stream_fault.InputFault.{InputFault}
+use Rattle.stream_core.specs.declared.stream_fault.InputFault.TheVariants as inputs
 use Rattle.prompt_core.proofs.Kept.{kept_answer}
-use Rattle.prompt_core.proofs.Pieces.{first_stays, is_line, rest_stays, some_taken, taken_whole}
+use Rattle.stream_core.proofs.Pieces.{first_stays, is_line, rest_stays, some_taken, taken_whole}
 use Rattle.prompt_core.proofs.Printed.{next_answered, none_left}
 
 appends_as : (old new : Option (List ℕ)) (a b : List ℕ) → a ≡ b → Appends old new a → Appends old new b
@@ -147,12 +152,12 @@ module _ (help : List ℕ) (limits : Limits) where
 
   -- the same, where the reader's bytes are known
 
-  answer_is : (prompt : Prompt) (number : ℕ) (left line : List ℕ) → line ≡ kept (first_piece 10 left) →
+  answer_is : (prompt : Prompt) (number : ℕ) (left line : List ℕ) → line ≡ kept KEPT (first_piece 10 left) →
       answer help prompt number line ≡ answer help prompt number (first_piece 10 left)
   answer_is prompt number left line is = ap (answer help prompt number) is ∙ kept_answer help prompt number (first_piece 10 left)
 
   pub turned : (input left rest : Option (List ℕ)) (prompt after : Prompt) (number : ℕ) (old middle new : Option (List ℕ)) (line text : List ℕ) →
-      HasComeSo help limits input left prompt number old middle → IsNext left rest (Some line) → text ≡ (answer help prompt number line).1 →
+      HasComeSo help limits input left prompt number old middle → IsNext KEPT left rest (Some line) → text ≡ (answer help prompt number line).1 →
       after ≡ (answer help prompt number line).0 → Appends middle new text → HasComeSo help limits input rest after (number + 1) old new
   turned None left rest prompt after number old middle new line text come next told moved out = tt
   turned (Some input) None rest prompt after number old middle new line text come next told moved out = absurd come
@@ -163,7 +168,7 @@ module _ (help : List ℕ) (limits : Limits) where
       (moved ∙ ap (λ (a : Prompt × List ℕ). a.0) (answer_is prompt number left line next.1)) out)
 
   pub ended : (input left rest : Option (List ℕ)) (prompt : Prompt) (number : ℕ) (old new : Option (List ℕ)) →
-      HasComeSo help limits input left prompt number old new → IsNext left rest None → Answers help limits input old new
+      HasComeSo help limits input left prompt number old new → IsNext KEPT left rest None → Answers help limits input old new
   ended None left rest prompt number old new come next = tt
   ended (Some input) None rest prompt number old new come next = absurd come
   ended (Some input) (Some left) rest prompt number old new come next = end input left prompt number old new come next.0
@@ -185,7 +190,7 @@ module _ (help : List ℕ) (limits : Limits) where
       cut input left prompt number old new fault [] left come refl (All-nil (λ b. b ≢ 10))
 
   pub cut_writing : (input left rest : Option (List ℕ)) (prompt : Prompt) (number : ℕ) (old middle new : Option (List ℕ)) (line text : List ℕ) (count : ℕ) →
-      HasComeSo help limits input left prompt number old middle → IsNext left rest (Some line) → text ≡ (answer help prompt number line).1 →
+      HasComeSo help limits input left prompt number old middle → IsNext KEPT left rest (Some line) → text ≡ (answer help prompt number line).1 →
       Appends middle new (take count text) → EndsEarly help limits WriteFault input rest old new
   cut_writing None left rest prompt number old middle new line text count come next told out = tt
   cut_writing (Some input) None rest prompt number old middle new line text count come next told out = absurd come
@@ -211,6 +216,12 @@ module _ (help : List ℕ) (limits : Limits) where
   long_line (Some input) (Some left) prompt number old new come more =
       let whole : length input ≡ length come.answered + length left = ap length come.taken ∙ length-append come.answered left in
       omega arith
+
+-- what is told as too long is a line without end
+pub too_long : (fault : InputFault) → of_input fault ≡ prompts.TooLong → fault ≡ inputs.TooLong
+too_long inputs.ReadFault is = absurd (cc)
+too_long inputs.TooLong is = refl
+too_long inputs.OutOfMemory is = absurd (cc)
 
 -- a script without faults has its report
 pub reports : ReportLaw → (help : List ℕ) (limits : Limits) (input old new : Option (List ℕ)) → Answers help limits input old new →

@@ -1,8 +1,7 @@
 -- What a prompt reads and writes, until its input ends or a fault ends it early.
-use Rattle.std.specs.Prelude.{◌≡◌, ◌≢◌, ℕ, ◌-◌, ◌^◌, ◌≤◌, List, [], ◌++◌, length, take, ⊤, Option, None, Some, Ok, IfOk}
+use Rattle.std.specs.Prelude.{◌≡◌, ◌≢◌, ℕ, List, [], ◌++◌, ⊤, Option, None, Some, Ok, IfOk}
 use Rattle.std.specs.Io.{StartsWith, StopsAt}
-use Rattle.std.specs.Io.KnownBytes.{Appends, Consumes}
-use Rattle.std.specs.Io.BufRead.{drop_through, first_piece}
+use Rattle.std.specs.Io.KnownBytes.{Appends}
 use Rattle.bench_core.specs.Limits.{Limits}
 use Rattle.grammar_core.specs.Grammar.{script_of}
 use Rattle.script_core.specs.Prompts.{new_prompt}
@@ -10,28 +9,17 @@ use Rattle.script_core.specs.Report.{report_of}
 use Rattle.grammar_core.specs.Scripts.{Script}
 use Rattle.grammar_core.specs.Words.{lines_of}
 use Rattle.prompt_core.specs.Answers.{answers}
-use Rattle.prompt_core.specs.declared.reading.TheConstants.{KEPT}
+use Rattle.stream_core.specs.declared.stream_fault.InputFault.{InputFault}
+use Rattle.stream_core.specs.declared.stream_fault.InputFault.TheVariants as inputs
 use Rattle.prompt_core.specs.declared.prompt_fault.PromptFault.{PromptFault}
+use Rattle.prompt_core.specs.declared.prompt_fault.PromptFault.TheVariants as prompts
 use Rattle.prompt_core.specs.declared.prompt_fault.PromptFault.TheVariants.{WriteFault}
 
--- what is kept of a line: all of one that a script may have, and of a longer one a byte more than that
-unfoldable pub kept : List ℕ → List ℕ
-kept line = take KEPT line
-
--- the next line of what a reader has left, or nothing at its end
-abbrev pub IsNext : Option (List ℕ) → Option (List ℕ) → Option (List ℕ) → Type 0
-IsNext None new line = ⊤
-IsNext (Some left) new None = (left ≡ []) × (new ≡ Some [])
-IsNext (Some left) new (Some line) = (left ≢ []) × (line ≡ kept (first_piece 10 left)) × (new ≡ Some (drop_through 10 left))
-
--- there are as many bytes as there are numbers for lines
-abbrev pub IsEndless : Option (List ℕ) → Type 0
-IsEndless None = ⊤
-IsEndless (Some input) = 2 ^ 64 - 2 ≤ length input
-
--- no more than a line was taken in
-abbrev pub TakesLine : Option (List ℕ) → Option (List ℕ) → Type 0
-TakesLine old new = (bytes : List ℕ) × Consumes old new bytes × StopsAt bytes 10
+-- why the next line could not be had, as a prompt tells it
+abbrev pub of_input : InputFault → PromptFault
+of_input inputs.ReadFault = prompts.ReadFault
+of_input inputs.TooLong = prompts.TooLong
+of_input inputs.OutOfMemory = prompts.OutOfMemory
 
 -- all that is printed of an input
 abbrev pub printed : List ℕ → Limits → List ℕ → List ℕ

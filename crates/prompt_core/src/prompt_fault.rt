@@ -1,6 +1,6 @@
 //! `PromptFault`: why a prompt ends before its input does.
 use payload_core::Oom;
-use std::alloc::AllocFailed;
+use stream_core::InputFault;
 use thiserror::Error;
 
 /// Why a prompt ends before its input does.
@@ -31,13 +31,17 @@ impl From<Oom> for PromptFault {
     }
 }
 
-impl<T: Drop> From<AllocFailed<T>> for PromptFault {
+impl From<InputFault> for PromptFault {
     ghost use Rattle.std.specs.Prelude.{◌≡◌};
-    ghost use Rattle.prompt_core.specs.declared.prompt_fault.PromptFault.TheVariants.{OutOfMemory};
+    ghost use Rattle.prompt_core.specs.Ends.{of_input};
 
-    ghost from_gives = { λ _ fault. fault ≡ OutOfMemory };
+    ghost from_gives = { λ given fault. fault ≡ of_input given };
 
-    fn from(_refused: AllocFailed<T>) -> PromptFault {
-        PromptFault::OutOfMemory
+    fn from(fault: InputFault) -> PromptFault {
+        match fault {
+            InputFault::ReadFault => PromptFault::ReadFault,
+            InputFault::TooLong => PromptFault::TooLong,
+            InputFault::OutOfMemory => PromptFault::OutOfMemory,
+        }
     }
 }

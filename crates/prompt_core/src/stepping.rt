@@ -2,17 +2,21 @@
 ghost use Rattle.std.specs.Prelude.{◌≡◌, ℕ, IfErr, OnErr, OnOk, take};
 ghost use Rattle.std.specs.Io.KnownBytes.{Appends, IsAtEnd};
 ghost use Rattle.script_core.specs.Prompts.{new_prompt};
-ghost use Rattle.prompt_core.specs.Ends.{Answers, EndsEarly, IsEndless, Reports};
+ghost use Rattle.stream_core.specs.NextLines.{IsEndless};
+ghost use Rattle.prompt_core.specs.Ends.{Answers, EndsEarly, Reports};
 ghost use Rattle.prompt_core.specs.declared.prompt_fault.PromptFault.TheVariants.{TooLong, WriteFault};
 
 use crate::answering::answer;
 use crate::laws::report_law;
 use crate::prompt_fault::PromptFault;
-use crate::reading::next_line;
 use bench_core::Limits;
-use script_core::{Prompt, write_out};
+use script_core::Prompt;
 use std::alloc::{Allocator, Global};
 use std::io::{BufRead, Write};
+use stream_core::{next_line, write_out};
+
+/// The most bytes that are kept of a line. A line of a script has one less, so of a longer one this tells that it is too long.
+const KEPT: usize = 4097;
 
 /// Writes an answer, and flushes it.
 fn put_out<W: Write>(writer: &mut W, answer: &[u8]) -> Result<(), PromptFault>
@@ -46,7 +50,7 @@ fn answer_each<'a, B: Allocator, R: BufRead, W: Write>(
         (W.contents writer.old) (W.contents writer.new)) }
 {
     for number in 1..u64::MAX {
-        let Some(line) = next_line(alloc, reader)? else {
+        let Some(line) = next_line(alloc, reader, KEPT)? else {
             return Ok(());
         };
         let answer = answer(heap, alloc, prompt, help, number, &line)?;

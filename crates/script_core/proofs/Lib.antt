@@ -1,5 +1,5 @@
 pub mod Printed
-pub mod Bytes
+pub mod LongInput
 pub mod Spaced
 pub mod ReadNumbers
 pub mod ReadNames

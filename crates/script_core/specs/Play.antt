@@ -1,26 +1,12 @@
--- What a play reads and writes.
-use Rattle.std.specs.Prelude.{◌≡◌, ◌≢◌, ℕ, ◌<◌, ◌≤◌, List, length, take, ⊤, Option, None, Some, Result, Ok, Err, IsOkAnd}
-use Rattle.std.specs.Io.KnownBytes.{Appends, Consumes, Keeps}
+-- What a play writes.
+use Rattle.std.specs.Prelude.{◌≡◌, ◌≢◌, ℕ, ◌<◌, List, length, take, ⊤, Option, None, Some, Result, Ok, Err, IsOkAnd}
+use Rattle.std.specs.Io.KnownBytes.{Appends, Keeps}
 use Rattle.bench_core.specs.Limits.{Limits}
 use Rattle.grammar_core.specs.Grammar.{script_of}
 use Rattle.script_core.specs.Report.{report_of}
 use Rattle.grammar_core.specs.declared.fault.FaultKind.TheVariants.{OutOfMemory}
 use Rattle.script_core.specs.declared.fault.PlayFault.{PlayFault}
 use Rattle.script_core.specs.declared.fault.PlayFault.TheVariants as faults
-
--- these are all the bytes that a reader had, where they are known
-abbrev pub IsWhole : Option (List ℕ) → List ℕ → Type 0
-IsWhole None bytes = ⊤
-IsWhole (Some input) bytes = bytes ≡ input
-
--- a reader had more than that many bytes, where they are known
-abbrev pub IsLonger : Option (List ℕ) → ℕ → Type 0
-IsLonger None limit = ⊤
-IsLonger (Some input) limit = limit < length input
-
--- at most that many bytes were taken from a reader, where they are known
-abbrev pub TakesAtMost : Option (List ℕ) → Option (List ℕ) → ℕ → Type 0
-TakesAtMost old new most = (bytes : List ℕ) × Consumes old new bytes × (length bytes ≤ most)
 
 -- what went out, by the answer: the report of the input; nothing, for the first fault of the input; the first `written` bytes of the report; and else nothing
 abbrev pub Ends : List ℕ → Limits → Result (Unit {0}) PlayFault → Option (List ℕ) → Option (List ℕ) → Type 0

@@ -3,13 +3,13 @@ ghost use Rattle.std.specs.Prelude.{OnOk, IfErr};
 ghost use Rattle.std.specs.Io.KnownBytes.{IsAtEnd};
 ghost use Rattle.script_core.specs.Play.{EndsAt, KeepsBefore, TellsMemory};
 
-use crate::fault::{InputFault, PlayFault};
+use crate::fault::PlayFault;
 use crate::run::run_script;
-use crate::streams::{read_all, write_out};
 use bench_core::Limits;
 use grammar_core::{FaultKind, LONGEST_SCRIPT, ScriptFault, parse_script};
 use std::alloc::Allocator;
 use std::io::{Read, Write};
+use stream_core::{InputFault, read_all, write_out};
 
 /// Reads the whole input, plays it as a script on a bench with these limits, and then writes the report. Nothing
 /// is written before the whole report stands.

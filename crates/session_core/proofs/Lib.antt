@@ -11,9 +11,7 @@ pub mod Again
 pub mod Asked
 pub mod ComesBack
 pub mod Told
-pub mod Reading
 pub mod Heads
 pub mod Drafting
 pub mod Plain
-pub mod WholeNumbers
 pub mod Recorded

@@ -11,7 +11,7 @@ use Rattle.serde_json.specs.Data.{Num, Data, null, boolean, number, string, arra
 use Rattle.serde_json.specs.Read.{number_of, of_json, of_items, of_members, converted}
 use Rattle.session_core.specs.Decoding.{items_in, acts_of}
 use Rattle.session_core.specs.Drafts.{emptied, head}
-use Rattle.session_core.proofs.Reading.{converted-array, converted-object}
+use Rattle.json_core.proofs.Reading.{converted-array, converted-object}
 
 abbrev both_of : Data → List spec.Token → Data × List spec.Token
 both_of d r = (d, r)

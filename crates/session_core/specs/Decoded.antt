@@ -1,7 +1,7 @@
 -- What a reading of the code gives, against what is meant.
 use Rattle.std.specs.Prelude.{◌≡◌, Result, Ok, Err, Option, Some, None}
-use Rattle.session_core.specs.declared.unread.Unread.{Unread}
-use Rattle.session_core.specs.declared.unread.Unread.TheVariants as unread
+use Rattle.json_core.specs.declared.unread.Unread.{Unread}
+use Rattle.json_core.specs.declared.unread.Unread.TheVariants as unread
 
 abbrev pub Fails : {Y : Type 0} → Unread → Option Y → Type 0
 Fails unread.Memory meant = Unit {0}

@@ -6,13 +6,12 @@ ghost use Rattle.serde_json.specs.Read.{of_items, converted};
 ghost use Rattle.serde_json.specs.View.{view};
 ghost use Rattle.session_core.specs.Drafts.{AreRead};
 ghost use Rattle.session_core.specs.Sessions.{data_of};
-ghost use Rattle.session_core.specs.declared.unread.Unread.TheVariants.{Shape};
+ghost use Rattle.json_core.specs.declared.unread.Unread.TheVariants.{Shape};
 
-use crate::one_value::value_of;
 use crate::read_event::event_at;
-use crate::unread::Unread;
 use bench_core::Event;
 use json::Reader;
+use json_core::{Unread, value_of};
 use serde_json::Value;
 use std::alloc::{AllocError, Allocator, Global};
 

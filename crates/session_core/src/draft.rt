@@ -9,12 +9,11 @@ ghost use Rattle.serde_json.specs.View.{view, members_view};
 ghost use Rattle.session_core.specs.Decoding.{are_acts, items_in, acts_members};
 ghost use Rattle.session_core.specs.Drafts.{AreRead, IsDraft, emptied, emptied_at, head_members};
 ghost use Rattle.session_core.specs.Sessions.{data_of};
-ghost use Rattle.session_core.specs.declared.unread.Unread.TheVariants.{Shape};
+ghost use Rattle.json_core.specs.declared.unread.Unread.TheVariants.{Shape};
 
 use crate::acts::Acts;
-use crate::one_value::{value_from, value_of};
-use crate::unread::Unread;
 use json::{Reader, Scratch, Token};
+use json_core::{Unread, value_from, value_of};
 use serde_json::{Map, Value};
 use std::alloc::{Allocator, Global};
 

@@ -4,7 +4,7 @@ ghost use Rattle.serde_json.specs.View.{view};
 ghost use Rattle.session_core.specs.Decoded.{Gives};
 ghost use Rattle.session_core.specs.Decoding.{number_in, node_in, text_in, word_in, ends_at};
 
-use crate::unread::Unread;
+use json_core::Unread;
 use payload_core::{Word, WordFault};
 use serde_json::Value;
 use std::alloc::Allocator;

@@ -7,8 +7,8 @@ ghost use Rattle.session_core.specs.Decoding.{undo_at, back_at, act_at};
 
 use crate::places::{ends_at, node_in, number_in, text_in};
 use crate::read_step::step_at;
-use crate::unread::Unread;
 use bench_core::Act;
+use json_core::Unread;
 use serde_json::Value;
 use std::alloc::Allocator;
 

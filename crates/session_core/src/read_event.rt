@@ -7,8 +7,8 @@ ghost use Rattle.session_core.specs.Decoding.{event_at};
 use crate::places::{ends_at, node_in};
 use crate::read_act::act_at;
 use crate::read_reply::reply_at;
-use crate::unread::Unread;
 use bench_core::Event;
+use json_core::Unread;
 use serde_json::Value;
 use std::alloc::Allocator;
 

@@ -5,8 +5,8 @@ ghost use Rattle.session_core.specs.Decoded.{Gives};
 ghost use Rattle.session_core.specs.Decoding.{limits_at, texts_of, names_at, are_keys, values_at, parts_at, version_of};
 
 use crate::places::{ends_at, number_in};
-use crate::unread::Unread;
 use bench_core::{Limits, Names, NamesFault};
+use json_core::Unread;
 use serde_json::{Map, Value};
 use std::alloc::{Allocator, Global};
 

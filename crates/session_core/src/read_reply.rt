@@ -5,8 +5,8 @@ ghost use Rattle.session_core.specs.Decoded.{Gives};
 ghost use Rattle.session_core.specs.Decoding.{fault_of, consequence_at, fault_at, counted_at, reply_at};
 
 use crate::places::{ends_at, number_in, text_in};
-use crate::unread::Unread;
 use bench_core::{Fault, Reply};
+use json_core::Unread;
 use serde_json::Value;
 
 /// The fault of a number, of those with no more to them that are recorded.

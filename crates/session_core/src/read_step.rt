@@ -9,9 +9,9 @@ ghost use Rattle.session_core.specs.Decoding.{status_at, message_at, tracking_at
 ghost use Rattle.std.specs.FinSet as set;
 
 use crate::places::{ends_at, node_in, number_in, text_in, word_in};
-use crate::unread::Unread;
 use bench_core::Step;
 use dots_core::NameSet;
+use json_core::Unread;
 use payload_core::Word;
 use serde_json::Value;
 use std::alloc::Allocator;

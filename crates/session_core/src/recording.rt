@@ -12,9 +12,9 @@ use crate::acts::Acts;
 use crate::draft::{Draft, draft_of};
 use crate::read_parts::{parts_at, version_of};
 use crate::session_fault::SessionFault;
-use crate::unread::Unread;
 use crate::version::Version;
 use bench_core::{Limits, Names};
+use json_core::Unread;
 use std::alloc::{Allocator, Global};
 
 /// What a session's text says: what its bench is opened with, and the calls that the bench recorded, up to the first act

@@ -5,13 +5,13 @@ use command_line::{Choice, Form, Subcommand, choice};
 use explain_core::Question;
 use explore_core::Reading;
 use program_core::{Fault, program, run};
-use script_core::{FakeReader, FakeWriter};
 use session_core::load;
 use std::alloc::{Allocator, Global};
 use std::io::BufReader;
 use std::process::{Abort, Termination};
 use std::sync::Wait;
 use std::thread::Threads;
+use stream_core::{FakeReader, FakeWriter};
 use test_alloc::Refusing;
 use worker_core::RaceFault;
 

@@ -3,8 +3,9 @@ use crate::rows::holds_at;
 use crate::scripts::cases::TAKEN_BACK_STEP_BY_STEP;
 use crate::scripts::played::played_on;
 use bench_core::{Bench, Limits};
-use script_core::{FakeReader, FakeWriter, PlayFault, play, report_history};
+use script_core::{PlayFault, play, report_history};
 use std::alloc::Global;
+use stream_core::{FakeReader, FakeWriter};
 use test_alloc::Refusing;
 
 type Heap = Refusing<Global>;

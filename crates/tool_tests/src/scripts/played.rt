@@ -3,11 +3,12 @@ use crate::rows::holds;
 use crate::scripts::cases::{CASES, JOINED_AND_UNDONE, REFUSED, TAKEN_BACK_STEP_BY_STEP};
 use bench_core::{Act, Limits, Step};
 use script_core::{
-    FakeReader, FakeWriter, FaultKind, PlayFault, Played, Script, ScriptFault, actors, acts,
-    node_names, parse_script, play, report_history, run_script,
+    FaultKind, PlayFault, Played, Script, ScriptFault, actors, acts, node_names, parse_script,
+    play, report_history, run_script,
 };
 use std::alloc::{Allocator, Global};
 use std::process::Abort;
+use stream_core::{FakeReader, FakeWriter};
 
 /// A script and its report, on a bench with these limits: of acts, entries, clocks and messages.
 #[derive(Clone, Copy)]

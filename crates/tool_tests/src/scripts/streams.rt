@@ -2,11 +2,10 @@
 use crate::rows::{holds, holds_at};
 use crate::scripts::cases::JOINED_AND_UNDONE;
 use bench_core::Limits;
-use script_core::{
-    FakeReader, FakeWriter, InputFault, PlayFault, WriteFault, play, read_all, write_out,
-};
+use script_core::{PlayFault, play};
 use std::alloc::Global;
 use std::process::Abort;
+use stream_core::{FakeReader, FakeWriter, InputFault, WriteFault, read_all, write_out};
 
 /// Whether so much of `abc` is read at most: it all is, or this is the fault; and no more calls than these are made.
 fn is_read(

@@ -2,8 +2,9 @@ use Rattle.std.proofs.Common.{◌≡◌, ◌∙◌, Ok, Err, ap, List, ℕ, subs
 use Rattle.std.proofs.lemmas.Result.{err_from_is_err_and}
 use Rattle.script_core.specs.Prompts.{Prompt}
 use Rattle.prompt_core.specs.Answers.{answer}
+use Rattle.prompt_core.specs.Ends.{of_input}
 use Rattle.prompt_core.specs.declared.prompt_fault.PromptFault.TheVariants.{TooLong}
-use Rattle.prompt_core.proofs.Turns.{HasComeSo, begins, cut_before, cut_short, cut_writing, ended, long_line, many, of_each, turned}
+use Rattle.prompt_core.proofs.Turns.{HasComeSo, begins, cut_before, cut_short, cut_writing, ended, long_line, many, of_each, too_long, turned}
 use Rattle.prompt_core.proofs.stepping.answer_each.Goals as goal
 
 pub loop-number-init : goal.loop-number-init
@@ -21,8 +22,8 @@ returns-in_err-line-clause-early g c =
 pub returns-in_err-line-clause-endless : goal.returns-in_err-line-clause-endless
 returns-in_err-line-clause-endless g c = λ is.
     let p = err_from_is_err_and c.from_residual.result c.from_residual.ensures.1 in
-    let same : c.in_err-line.field-0.0 ≡ TooLong = cc in
-    long_line c.args.help.now c.args.prompt.now.limits _ _ _ _ _ _ c.loop-number.invariant (c.in_err-line.ensures.endless (ap Err same))
+    let same : of_input c.in_err-line.field-0.0 ≡ TooLong = cc in
+    long_line c.args.help.now c.args.prompt.now.limits _ _ _ _ _ _ c.loop-number.invariant (c.in_err-line.ensures.endless (ap Err (too_long c.in_err-line.field-0.0 same)))
 
 -- the input is at its end
 

@@ -1,6 +1,6 @@
 use Rattle.std.proofs.Common.{refl, rules}
 use Rattle.std.proofs.KnownBytes.{Keeps-refl}
-use Rattle.script_core.proofs.Bytes.{ends_too_long}
+use Rattle.script_core.proofs.LongInput.{ends_too_long}
 use Rattle.script_core.proofs.playing.play.Goals as goal
 
 pub returns-in-Err-TooLong-clause-ends : goal.returns-in-Err-TooLong-clause-ends

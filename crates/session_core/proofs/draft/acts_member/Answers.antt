@@ -7,7 +7,7 @@ use Rattle.serde_json.specs.Read.{of_json, converted}
 use Rattle.serde_json.specs.View.{view, items_view}
 use Rattle.serde_json.proofs.Views.{view-Array}
 use Rattle.session_core.proofs.Plain.{no_array}
-use Rattle.session_core.proofs.Reading.{converted-array}
+use Rattle.json_core.proofs.Reading.{converted-array}
 use Rattle.session_core.proofs.draft.acts_member.Goals as goal
 
 pub returns-in_err-token-clause-err : goal.returns-in_err-token-clause-err

@@ -8,7 +8,7 @@ use Rattle.serde_json.proofs.Views.{members_view-insert_entry}
 use Rattle.session_core.specs.Drafts.{AreRead, emptied_at, head_members}
 use Rattle.session_core.specs.Sessions.{data_of}
 use Rattle.session_core.proofs.Heads.{head_put, added}
-use Rattle.session_core.proofs.Reading.{converted-object, member_read, member_refused, key_refused, members_over}
+use Rattle.json_core.proofs.Reading.{converted-object, member_read, member_refused, key_refused, members_over}
 use Rattle.session_core.proofs.draft.read_members.Goals as goal
 
 pub members-init : goal.members-init

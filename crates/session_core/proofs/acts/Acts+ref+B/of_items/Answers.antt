@@ -2,7 +2,7 @@ use Rattle.std.proofs.Common.{◌≡◌, ◌-◌, ◌<◌, [], ◌∷◌, ◌++�
 use Rattle.json.specs.Json.{parse_map, after_end_array, value}
 use Rattle.serde_json.specs.View.{view, items_of}
 use Rattle.session_core.specs.Drafts.{AreRead}
-use Rattle.session_core.proofs.Reading.{item_refused, items_over, items_after, items_after-no_items, next_item}
+use Rattle.json_core.proofs.Reading.{item_refused, items_over, items_after, items_after-no_items, next_item}
 use Rattle.session_core.proofs.Replayed.{data_of-items_of}
 use Rattle.session_core.proofs.acts.Acts+ref+B.of_items.Goals as goal
 

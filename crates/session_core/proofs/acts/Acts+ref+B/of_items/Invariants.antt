@@ -3,7 +3,7 @@ use Rattle.json.specs.Json.{items, value, parse_map}
 use Rattle.serde_json.specs.Data.{Data}
 use Rattle.serde_json.specs.Read.{of_items, converted}
 use Rattle.session_core.specs.Drafts.{AreRead}
-use Rattle.session_core.proofs.Reading.{items_after}
+use Rattle.json_core.proofs.Reading.{items_after}
 use Rattle.session_core.proofs.acts.Acts+ref+B.of_items.Given as goal
 
 -- the values read so far stand before those to come, and are the events

@@ -1,0 +1,17 @@
+-- What is read of a whole input.
+use Rattle.std.specs.Prelude.{◌≡◌, ℕ, ◌<◌, ◌≤◌, List, length, ⊤, Option, None, Some}
+use Rattle.std.specs.Io.KnownBytes.{Consumes}
+
+-- these are all the bytes that a reader had, where they are known
+abbrev pub IsWhole : Option (List ℕ) → List ℕ → Type 0
+IsWhole None bytes = ⊤
+IsWhole (Some input) bytes = bytes ≡ input
+
+-- a reader had more than that many bytes, where they are known
+abbrev pub IsLonger : Option (List ℕ) → ℕ → Type 0
+IsLonger None limit = ⊤
+IsLonger (Some input) limit = limit < length input
+
+-- at most that many bytes were taken from a reader, where they are known
+abbrev pub TakesAtMost : Option (List ℕ) → Option (List ℕ) → ℕ → Type 0
+TakesAtMost old new most = (bytes : List ℕ) × Consumes old new bytes × (length bytes ≤ most)

@@ -1,0 +1,16 @@
+//! What the crates above read with and write to: all bytes of a reader, its next line, and all bytes to a writer.
+//!
+//! It uses std alone, and `thiserror` for the texts of faults. In the order to read them: `stream_fault`, why bytes could not
+//! be read or written; `streams`, whole inputs and outputs; `lines`, one line after another; `fakes`, a reader and a writer
+//! that fail, for tests.
+#![tactic(auto)]
+
+mod fakes;
+mod lines;
+mod stream_fault;
+mod streams;
+
+pub use fakes::{FakeReader, FakeWriter};
+pub use lines::next_line;
+pub use stream_fault::{InputFault, WriteFault};
+pub use streams::{read_all, write_out};
