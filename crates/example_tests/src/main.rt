@@ -5,7 +5,8 @@
 use bench_core::Limits;
 use explore_core::Reading;
 use explore_report::report_orders;
-use script_core::{parse_script, play};
+use play_core::play;
+use script_core::parse_script;
 use std::process::ExitCode;
 use std::{env, fs, io};
 use stream_core::{FakeReader, FakeWriter};

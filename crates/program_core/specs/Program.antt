@@ -14,8 +14,8 @@ use Rattle.grammar_core.specs.Grammar.{script_of}
 use Rattle.script_core.specs.Report.{history_text, played, report_of}
 use Rattle.grammar_core.specs.Scripts.{Script}
 use Rattle.grammar_core.specs.declared.fault.FaultKind.TheVariants as kinds
-use Rattle.script_core.specs.declared.fault.PlayFault.{PlayFault}
-use Rattle.script_core.specs.declared.fault.PlayFault.TheVariants as plays
+use Rattle.play_core.specs.declared.play_fault.PlayFault.{PlayFault}
+use Rattle.play_core.specs.declared.play_fault.PlayFault.TheVariants as plays
 use Rattle.session_core.specs.Format.{session}
 use Rattle.session_core.specs.Sessions.{IsSession, Refuses}
 use Rattle.session_core.specs.declared.session_fault.SessionFault.TheVariants as sessions

@@ -1,5 +1,4 @@
 pub mod Printed
-pub mod LongInput
 pub mod Spaced
 pub mod ReadNumbers
 pub mod ReadNames

@@ -1,4 +1,3 @@
 pub mod Report
-pub mod Play
 pub mod ReadSteps
 pub mod Prompts

@@ -1,26 +1,21 @@
 //! Scripts that are played on a bench, and the reports of what it answered.
 //!
-//! It stands on `grammar_core` (scripts as they are read), `report_core` (what is printed of a bench), `bench_core` (the
-//! machine) and `stream_core` (whole inputs and outputs); it names the plain types of the crates below.
+//! It stands on `grammar_core` (scripts as they are read), `report_core` (what is printed of a bench) and `bench_core` (the
+//! machine); it names the plain types of the crates below.
 //!
-//! `run` plays a script on a bench; `history` does the same for recorded acts; `playing` goes from a reader to a writer, or ends
-//! early by a `fault`; `prompt` takes lines one by one. `laws` says that what is printed of a step is read as that step, and that
-//! a prompt prints what a play prints.
+//! `run` plays a script on a bench; `history` does the same for recorded acts; `prompt` takes lines one by one. `laws` says that
+//! what is printed of a step is read as that step, and that a prompt prints what a play prints.
 #![tactic(auto)]
 
-mod fault;
 mod history;
 pub mod laws;
-mod playing;
 mod prompt;
 mod run;
 
-pub use fault::PlayFault;
 pub use grammar_core::{
     Command, FaultKind, Line, Script, ScriptFault, actors, acts, console_names, line_number,
     node_names, parse_script,
 };
 pub use history::report_history;
-pub use playing::play;
 pub use prompt::Prompt;
 pub use run::{Played, run_script};

@@ -3,7 +3,8 @@ use crate::rows::{holds, holds_at};
 use crate::scripts::cases::TAKEN_BACK_STEP_BY_STEP;
 use crate::scripts::played::played_from;
 use bench_core::Limits;
-use script_core::{FaultKind, PlayFault, ScriptFault, parse_script};
+use play_core::PlayFault;
+use script_core::{FaultKind, ScriptFault, parse_script};
 use std::alloc::Global;
 use std::process::Abort;
 

@@ -2,9 +2,10 @@
 use crate::rows::holds;
 use crate::scripts::cases::{CASES, JOINED_AND_UNDONE, REFUSED, TAKEN_BACK_STEP_BY_STEP};
 use bench_core::{Act, Limits, Step};
+use play_core::{PlayFault, play};
 use script_core::{
-    FaultKind, PlayFault, Played, Script, ScriptFault, actors, acts, node_names, parse_script,
-    play, report_history, run_script,
+    FaultKind, Played, Script, ScriptFault, actors, acts, node_names, parse_script, report_history,
+    run_script,
 };
 use std::alloc::{Allocator, Global};
 use std::process::Abort;

@@ -2,7 +2,7 @@
 use crate::rows::{holds, holds_at};
 use crate::scripts::cases::JOINED_AND_UNDONE;
 use bench_core::Limits;
-use script_core::{PlayFault, play};
+use play_core::{PlayFault, play};
 use std::alloc::Global;
 use std::process::Abort;
 use stream_core::{FakeReader, FakeWriter, InputFault, WriteFault, read_all, write_out};

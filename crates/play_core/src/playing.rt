@@ -1,12 +1,12 @@
 //! A script played from a reader to a writer.
 ghost use Rattle.std.specs.Prelude.{OnOk, IfErr};
 ghost use Rattle.std.specs.Io.KnownBytes.{IsAtEnd};
-ghost use Rattle.script_core.specs.Play.{EndsAt, KeepsBefore, TellsMemory};
+ghost use Rattle.play_core.specs.Play.{EndsAt, KeepsBefore, TellsMemory};
 
-use crate::fault::PlayFault;
-use crate::run::run_script;
+use crate::play_fault::PlayFault;
 use bench_core::Limits;
 use grammar_core::{FaultKind, LONGEST_SCRIPT, ScriptFault, parse_script};
+use script_core::run_script;
 use std::alloc::Allocator;
 use std::io::{Read, Write};
 use stream_core::{InputFault, read_all, write_out};

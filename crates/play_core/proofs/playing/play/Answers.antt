@@ -1,7 +1,7 @@
 use Rattle.std.proofs.Common.{refl, rules}
 use Rattle.std.proofs.KnownBytes.{Keeps-refl}
-use Rattle.script_core.proofs.LongInput.{ends_too_long}
-use Rattle.script_core.proofs.playing.play.Goals as goal
+use Rattle.play_core.proofs.LongInput.{ends_too_long}
+use Rattle.play_core.proofs.playing.play.Goals as goal
 
 pub returns-in-Err-TooLong-clause-ends : goal.returns-in-Err-TooLong-clause-ends
 returns-in-Err-TooLong-clause-ends g c = ends_too_long _ _ _ (c.in-Err-TooLong.ensures.longer (rw c.in-Err-TooLong.field-0-is refl))

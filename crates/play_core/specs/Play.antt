@@ -5,8 +5,8 @@ use Rattle.bench_core.specs.Limits.{Limits}
 use Rattle.grammar_core.specs.Grammar.{script_of}
 use Rattle.script_core.specs.Report.{report_of}
 use Rattle.grammar_core.specs.declared.fault.FaultKind.TheVariants.{OutOfMemory}
-use Rattle.script_core.specs.declared.fault.PlayFault.{PlayFault}
-use Rattle.script_core.specs.declared.fault.PlayFault.TheVariants as faults
+use Rattle.play_core.specs.declared.play_fault.PlayFault.{PlayFault}
+use Rattle.play_core.specs.declared.play_fault.PlayFault.TheVariants as faults
 
 -- what went out, by the answer: the report of the input; nothing, for the first fault of the input; the first `written` bytes of the report; and else nothing
 abbrev pub Ends : List ℕ → Limits → Result (Unit {0}) PlayFault → Option (List ℕ) → Option (List ℕ) → Type 0

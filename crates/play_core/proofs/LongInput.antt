@@ -5,8 +5,8 @@ use Rattle.std.proofs.lemmas.Bool.Decides.{nat_tests}
 use Rattle.bench_core.specs.Limits.{Limits}
 use Rattle.grammar_core.specs.Grammar.{script_of}
 use Rattle.grammar_core.specs.declared.fault.FaultKind.TheVariants.{TooLong}
-use Rattle.script_core.specs.declared.fault.PlayFault.TheVariants as faults
-use Rattle.script_core.specs.Play.{EndsAt}
+use Rattle.play_core.specs.declared.play_fault.PlayFault.TheVariants as faults
+use Rattle.play_core.specs.Play.{EndsAt}
 use Rattle.stream_core.specs.Inputs.{IsLonger}
 
 -- an input past the limit has that fault
