@@ -6,10 +6,12 @@ use Rattle.bench_core.specs.Machine.{State, Event, Machine, opening_machine, con
 use Rattle.bench_core.specs.Replays.{Replays}
 use Rattle.session_core.specs.declared.session_fault.SessionFault.{SessionFault}
 use Rattle.session_core.specs.declared.session_fault.SessionFault.TheVariants.{NotJson, BadShape, BadVersion, Disagrees, OutOfMemory}
-use Rattle.session_core.specs.Format.{event_json, session}
+use Rattle.event_core.specs.Format.{event_json}
+use Rattle.session_core.specs.Format.{session}
 use Rattle.session_core.specs.Decoding.{Parts, version_of, parts_at, acts_of}
 use Rattle.session_core.specs.Versions.{event_in}
-use Rattle.session_core.specs.Sessions.{with_event, RecordsNext, Reads, Steps, Faults, data_of, first_bench, HasHead, IsJson, Answers, IsSaved, ComesBack, IsTold}
+use Rattle.event_core.specs.Told.{IsTold}
+use Rattle.session_core.specs.Sessions.{with_event, RecordsNext, Reads, Steps, Faults, data_of, first_bench, HasHead, IsJson, Answers, IsSaved, ComesBack}
 use Rattle.session_core.proofs.Again.{event_in_again, parts, parts_again}
 use Rattle.session_core.proofs.Replayed.{data_of-items_of}
 

@@ -2,7 +2,7 @@
 use Rattle.std.proofs.Common.{◌≡◌, List, [], ◌∷◌, ◌++◌, Bool, true, false, Some, None, refl}
 use Rattle.serde_json.specs.Data.{Data}
 use Rattle.bench_core.specs.Machine.{Event}
-use Rattle.session_core.specs.Decoding.{event_at}
+use Rattle.event_core.specs.Decoding.{event_at}
 use Rattle.session_core.specs.Drafts.{AreRead}
 
 pub one_more : (ds : List Data) (es : List Event) (d : Data) (e : Event) → AreRead ds es false → event_at d ≡ Some e →

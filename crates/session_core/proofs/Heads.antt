@@ -7,11 +7,12 @@ use Rattle.std.specs.Bool.{MatchBool}
 use Rattle.std.specs.Ordering.{match_ordering}
 use Rattle.serde_json.specs.Data.{Data, null, boolean, number, string, array, object, Items, Members, no_members, member, put}
 use Rattle.serde_json.specs.Find.{get_member, as_array}
-use Rattle.session_core.specs.Decoding.{◌>>=◌, kept_if, Parts, version_of, limits_at, names_at, are_keys, values_at, parts_at, items_in, are_acts, acts_members}
+use Rattle.event_core.specs.Decoding.{◌>>=◌, kept_if}
+use Rattle.session_core.specs.Decoding.{Parts, version_of, limits_at, names_at, are_keys, values_at, parts_at, items_in, are_acts, acts_members}
 use Rattle.bench_core.specs.Limits.{Limits}
 use Rattle.bench_core.specs.NameList.{Texts}
 use Rattle.session_core.specs.Drafts.{emptied, emptied_at, head_members, head}
-use Rattle.session_core.proofs.Lists.{both, same_text}
+use Rattle.event_core.proofs.Lists.{both, same_text}
 
 -- a member that is put, under the head
 

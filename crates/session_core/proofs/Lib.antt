@@ -1,8 +1,4 @@
-pub mod Lists
 pub mod Versions
-pub mod Numbers
-pub mod Steps
-pub mod Events
 pub mod Parts
 pub mod Shape
 pub mod Loops

@@ -7,10 +7,13 @@ use Rattle.serde_json.specs.View.{items_of}
 use Rattle.bench_core.specs.Limits.{Limits}
 use Rattle.bench_core.specs.declared.names_fault.NamesFault.{NamesFault}
 use Rattle.bench_core.specs.NameList.{Texts, names_of, with_names}
-use Rattle.session_core.specs.Format.{list, whole, limits_json}
-use Rattle.session_core.specs.Decoding.{◌>>=◌, kept_if, number_in, ends_at, Parts, version_of, are_limits, limits_at, texts_of, if_ok, names_at, are_keys}
+use Rattle.event_core.specs.Format.{list, whole}
+use Rattle.session_core.specs.Format.{limits_json}
+use Rattle.event_core.specs.Decoding.{◌>>=◌, kept_if}
+use Rattle.json_core.specs.InLists.{number_in, ends_at}
+use Rattle.session_core.specs.Decoding.{Parts, version_of, are_limits, limits_at, texts_of, if_ok, names_at, are_keys}
 use Rattle.session_core.specs.Decoding.{values_at, parts_at, items_in, acts_members, acts_of}
-use Rattle.session_core.proofs.Lists.{HasItems, bind_some, then_some, tested, both, same_text, string_is, whole_is, array_is, object_is, number_there, list_is}
+use Rattle.event_core.proofs.Lists.{HasItems, bind_some, then_some, tested, both, same_text, string_is, whole_is, array_is, object_is, number_there, list_is}
 use Rattle.bench_core.proofs.TextLists.{with_names_ok}
 
 texts_are : (ds : Items) (texts : Texts) → texts_of ds ≡ Some texts → ds ≡ items_of (map string texts)

@@ -11,14 +11,15 @@ use Rattle.bench_core.specs.Machine.{Config, State, Event, Machine, opening_stat
 use Rattle.bench_core.specs.Replays.{Records, Replays}
 use Rattle.session_core.specs.declared.session_fault.SessionFault.{SessionFault}
 use Rattle.session_core.specs.declared.session_fault.SessionFault.TheVariants.{NotJson, BadShape, BadVersion, Disagrees, OutOfMemory}
-use Rattle.session_core.specs.Format.{list, whole, limits_json, event_json, session}
+use Rattle.event_core.specs.Format.{list, whole, event_json}
+use Rattle.session_core.specs.Format.{limits_json, session}
 use Rattle.session_core.specs.Decoding.{Parts, version_of, parts_at, acts_of}
 use Rattle.session_core.specs.Versions.{IsVersion, tells}
 use Rattle.session_core.specs.Sessions.{with_event, first_bench, Reads, Faults, data_of, HasHead, LeadsTo, HasFault, IsRefused, IsJson, Answers, Refuses, IsSession}
 use Rattle.session_core.specs.Drafts.{head}
 use Rattle.session_core.proofs.Heads.{head_version, head_parts}
 use Rattle.session_core.proofs.Versions.{event_told}
-use Rattle.session_core.proofs.Events.{event_is}
+use Rattle.event_core.proofs.Events.{event_is}
 use Rattle.session_core.proofs.Parts.{four, parts_are}
 
 pub data_of-items_of : (ds : List Data) → data_of (items_of ds) ≡ ds

@@ -7,7 +7,7 @@ use Rattle.bench_core.specs.declared.fault.Fault.{Fault}
 use Rattle.bench_core.specs.declared.fault.Fault.TheVariants.{HistoryFull, OutOfMemory}
 use Rattle.bench_core.specs.Machine.{Config, State, Event, is_recorded, after, reply_to}
 use Rattle.bench_core.specs.Replays.{Replays, NoMemoryLaw}
-use Rattle.session_core.specs.Sessions.{IsEvent, IsRecordedFault, IsRecordedReply, IsTold}
+use Rattle.event_core.specs.Told.{IsEvent, IsRecordedFault, IsRecordedReply, IsTold}
 
 module _ (none : NoMemoryLaw) where
   fault_told : (c : Config) (s : State) (e : Event) (fault : Fault) → reply_to c s e.actor e.act ≡ Refused fault →

@@ -5,9 +5,9 @@ use Rattle.serde_json.specs.Data.{Data}
 use Rattle.bench_core.specs.Machine.{Event}
 use Rattle.session_core.specs.declared.version.Version.{Version}
 use Rattle.session_core.specs.declared.version.Version.TheVariants.{First, Second}
-use Rattle.session_core.specs.Decoding.{◌>>=◌, kept_if, event_at}
+use Rattle.event_core.specs.Decoding.{◌>>=◌, kept_if, event_at}
 use Rattle.session_core.specs.Versions.{IsVersion, number_of, tells, event_in}
-use Rattle.session_core.proofs.Lists.{bind_some}
+use Rattle.event_core.proofs.Lists.{bind_some}
 
 pub is_version : (version : Version) → IsVersion (number_of version)
 is_version First = inl refl

@@ -2,7 +2,8 @@
 use Rattle.std.specs.Prelude.{◌≡◌, ℕ, List, [], ◌∷◌, Bool, true, false, if◌then◌else◌, Some, None}
 use Rattle.serde_json.specs.Data.{Data, null, boolean, number, string, array, object, no_items, Members, no_members, member}
 use Rattle.bench_core.specs.Machine.{Event}
-use Rattle.session_core.specs.Decoding.{event_at, are_acts, acts_of}
+use Rattle.event_core.specs.Decoding.{event_at}
+use Rattle.session_core.specs.Decoding.{are_acts, acts_of}
 use Rattle.session_core.specs.Sessions.{data_of}
 
 -- an array without its items

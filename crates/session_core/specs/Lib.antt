@@ -1,6 +1,5 @@
 pub mod Format
 pub mod Decoding
-pub mod Decoded
 pub mod Versions
 pub mod Sessions
 pub mod Drafts

@@ -120,48 +120,6 @@ pub record IsSessionIn (version : ℕ) (bytes : List ℕ) (m : Machine) : Type 0
 abbrev pub IsSession : List ℕ → Machine → Type 0
 IsSession bytes m = (version : ℕ) × IsVersion version × IsSessionIn version bytes m
 
--- what the parts of a bench keep by their types
-
-abbrev pub IsPresence : Presence → Type 0
-IsPresence p = (is_word p.topic ≡ true) × (is_word p.key ≡ true) × (is_word p.metadata ≡ true)
-
-abbrev pub IsOperation : Operation → Type 0
-IsOperation (Join p) = IsPresence p
-IsOperation (Leave pid topic key) = (is_word topic ≡ true) × (is_word key ≡ true)
-IsOperation (LeaveAll pid) = Unit {0}
-IsOperation (Update p) = IsPresence p
-IsOperation Broadcast = Unit {0}
-IsOperation (Extract names) = AreNamesBelow 32 names
-IsOperation (Deliver sender number) = nat_lt sender 65536 ≡ true
-IsOperation Request = Unit {0}
-IsOperation (Answer sender number) = nat_lt sender 65536 ≡ true
-IsOperation (Up name) = nat_lt name 65536 ≡ true
-IsOperation (Down name) = nat_lt name 65536 ≡ true
-IsOperation (Permdown name) = nat_lt name 65536 ≡ true
-
-abbrev pub IsAction : Action → Type 0
-IsAction (Do operation) = IsOperation operation
-IsAction (Undo k) = Unit {0}
-IsAction (Back node) = nat_lt node 65536 ≡ true
-
--- its actor and the nodes that it names are numbers below 65,536, and its words are words
-abbrev pub IsEvent : Event → Type 0
-IsEvent e = (nat_lt e.actor 65536 ≡ true) × IsAction e.act
-
--- the faults that a bench records
-abbrev pub IsRecordedFault : Fault → Type 0
-IsRecordedFault faults.HistoryFull = ⊥
-IsRecordedFault faults.OutOfMemory = ⊥
-IsRecordedFault _ = Unit {0}
-
-abbrev pub IsRecordedReply : Reply → Type 0
-IsRecordedReply (Refused fault) = IsRecordedFault fault
-IsRecordedReply _ = Unit {0}
-
--- the event can be told by its JSON
-abbrev pub IsTold : Event → Type 0
-IsTold e = IsEvent e × IsRecordedReply e.reply
-
 -- the session of a bench, as it is saved
 pub record IsSaved (bytes : List ℕ) (m : Machine) : Type 0 where
   pub session : IsSessionIn 2 bytes m

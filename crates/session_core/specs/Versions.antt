@@ -10,7 +10,7 @@ use Rattle.bench_core.specs.Acts.{Action, Do}
 use Rattle.bench_core.specs.Machine.{Event}
 use Rattle.session_core.specs.declared.version.Version.{Version}
 use Rattle.session_core.specs.declared.version.Version.TheVariants.{First, Second}
-use Rattle.session_core.specs.Decoding.{◌>>=◌, kept_if, event_at}
+use Rattle.event_core.specs.Decoding.{◌>>=◌, kept_if, event_at}
 
 -- the versions that are read
 abbrev pub IsVersion : ℕ → Type 0

@@ -8,8 +8,8 @@ ghost use Rattle.session_core.specs.Drafts.{AreRead};
 ghost use Rattle.session_core.specs.Sessions.{data_of};
 ghost use Rattle.json_core.specs.declared.unread.Unread.TheVariants.{Shape};
 
-use crate::read_event::event_at;
 use bench_core::Event;
+use event_core::event_at;
 use json::Reader;
 use json_core::{Unread, value_of};
 use serde_json::Value;

@@ -2,18 +2,18 @@
 ghost use Rattle.std.specs.Prelude.{◌≡◌, List, Some, IfOk, OnOk, IfErr};
 ghost use Rattle.serde_json.specs.Data.{Data};
 ghost use Rattle.bench_core.specs.Machine.{Machine};
-ghost use Rattle.session_core.specs.Decoding.{event_at};
+ghost use Rattle.event_core.specs.Decoding.{event_at};
 ghost use Rattle.session_core.specs.Drafts.{AreRead};
 ghost use Rattle.session_core.specs.Versions.{number_of};
 ghost use Rattle.session_core.specs.Sessions.{Asked, Steps, Reads, Faults, Refuses, ComesBack, IsSaved, IsSession};
 
 use crate::acts::Acts;
 use crate::recording::{Recording, read_session};
-use crate::same_reply::same_reply;
 use crate::session_fault::SessionFault;
 use crate::version::Version;
 use bench_core::{Bench, Event, Fault, Reply};
 use dots_core::Oom;
+use event_core::same_reply;
 use std::alloc::{Allocator, Global};
 
 /// Asks the event's call, and says whether the bench gave its reply and recorded it.

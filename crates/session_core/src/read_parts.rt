@@ -1,12 +1,11 @@
 //! The parts of a session's head: its version, its names and its limits.
 ghost use Rattle.std.specs.Prelude.{◌≡◌, map};
 ghost use Rattle.serde_json.specs.View.{view, items_view, members_view};
-ghost use Rattle.session_core.specs.Decoded.{Gives};
+ghost use Rattle.json_core.specs.Decoded.{Gives};
 ghost use Rattle.session_core.specs.Decoding.{limits_at, texts_of, names_at, are_keys, values_at, parts_at, version_of};
 
-use crate::places::{ends_at, number_in};
 use bench_core::{Limits, Names, NamesFault};
-use json_core::Unread;
+use json_core::{Unread, ends_at, number_in};
 use serde_json::{Map, Value};
 use std::alloc::{Allocator, Global};
 

@@ -4,25 +4,17 @@ ghost use Rattle.std.specs.List.{AllByRecursion};
 ghost use Rattle.serde_json.specs.Data.{string, object, member, no_members};
 ghost use Rattle.serde_json.specs.View.{view};
 ghost use Rattle.serde_json.specs.Written.{compact_text};
-ghost use Rattle.session_core.specs.Format.{list, whole, event_json, limits_json, session};
-ghost use Rattle.session_core.specs.Sessions.{IsEvent, IsSaved};
+ghost use Rattle.event_core.specs.Format.{list, whole, event_json};
+ghost use Rattle.session_core.specs.Format.{limits_json, session};
+ghost use Rattle.event_core.specs.Told.{IsEvent};
+ghost use Rattle.session_core.specs.Sessions.{IsSaved};
 
-use crate::write_act::act_value;
-use crate::write_reply::reply_value;
 use bench_core::laws::replay_law;
-use bench_core::{Bench, Event, History, Limits, Names};
+use bench_core::{Bench, History, Limits, Names};
 use dots_core::Oom;
+use event_core::event_value;
 use serde_json::{Value, json};
 use std::alloc::{Allocator, Global};
-
-fn event_value<A: Allocator>(heap: Global, event: &Event<A>) -> Result<Value, Oom>
-    ensures json { IfOk result (λ v. view v ≡ event_json event.now) }
-    ensures told { IfOk result (λ _. IsEvent event.now) }
-{
-    let act = act_value(heap, &event.act)?;
-    let reply = reply_value(heap, &event.reply)?;
-    json!(in heap; [event.actor, act, reply])
-}
 
 fn events_value<'a, B: Allocator>(heap: Global, history: &History<'a, B>) -> Result<Value, Oom>
     ensures json { IfOk result (λ v. view v ≡ list (map event_json history.now)) }

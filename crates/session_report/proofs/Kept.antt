@@ -5,7 +5,8 @@ use Rattle.bench_core.specs.Limits.{Limits}
 use Rattle.bench_core.specs.NameList.{Texts}
 use Rattle.bench_core.specs.Machine.{Event, Machine, opening_machine}
 use Rattle.script_core.specs.Report.{call_of, commands_text, history_text}
-use Rattle.session_core.specs.Decoding.{Parts, acts_of, event_at}
+use Rattle.event_core.specs.Decoding.{event_at}
+use Rattle.session_core.specs.Decoding.{Parts, acts_of}
 use Rattle.session_core.specs.Drafts.{AreRead}
 use Rattle.session_core.specs.Recordings.{IsRecording}
 use Rattle.session_core.specs.Sessions.{Reads, data_of, first_bench, with_event}

@@ -3,7 +3,7 @@ ghost use Rattle.std.specs.Prelude.{◌≡◌, ◌↔◌, ◌++◌, List, Some, 
 ghost use Rattle.serde_json.specs.Data.{Data};
 ghost use Rattle.bench_core.specs.Machine.{Machine};
 ghost use Rattle.script_core.specs.Report.{after_command, call_of, command_text, commands_text, history_text};
-ghost use Rattle.session_core.specs.Decoding.{event_at};
+ghost use Rattle.event_core.specs.Decoding.{event_at};
 ghost use Rattle.session_core.specs.Drafts.{AreRead};
 ghost use Rattle.session_core.specs.Sessions.{Asked, Faults, IsSaved, IsSession, Reads, Refuses, Steps};
 ghost use Rattle.session_core.specs.Versions.{number_of};

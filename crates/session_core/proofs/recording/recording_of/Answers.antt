@@ -2,7 +2,7 @@ use Rattle.std.proofs.Common.{◌≡◌, Option, Some, None, inl, inr, refl, sym
 use Rattle.std.specs.Prelude.{MatchOption}
 use Rattle.serde_json.specs.View.{view}
 use Rattle.session_core.specs.declared.version.Version.{Version}
-use Rattle.session_core.specs.Decoded.{Fails}
+use Rattle.json_core.specs.Decoded.{Fails}
 use Rattle.session_core.specs.Decoding.{Parts, version_of, parts_at}
 use Rattle.session_core.specs.Drafts.{head}
 use Rattle.session_core.specs.Versions.{IsVersion, number_of}

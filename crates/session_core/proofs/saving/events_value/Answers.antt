@@ -3,8 +3,8 @@ use Rattle.std.specs.Prelude.{slice_get}
 use Rattle.std.proofs.lemmas.List.{map-append}
 use Rattle.serde_json.specs.View.{view}
 use Rattle.serde_json.proofs.Views.{view-Array}
-use Rattle.session_core.specs.Format.{list, event_json}
-use Rattle.session_core.specs.Sessions.{IsEvent}
+use Rattle.event_core.specs.Format.{list, event_json}
+use Rattle.event_core.specs.Told.{IsEvent}
 use Rattle.session_core.proofs.Loops.{front_more, front_all, each_more, each_all}
 use Rattle.session_core.proofs.saving.events_value.Goals as goal
 

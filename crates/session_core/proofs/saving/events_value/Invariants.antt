@@ -1,8 +1,8 @@
 use Rattle.std.proofs.Common.{◌≡◌, map, take}
 use Rattle.std.specs.List.{AllByRecursion}
 use Rattle.serde_json.specs.View.{view}
-use Rattle.session_core.specs.Format.{event_json}
-use Rattle.session_core.specs.Sessions.{IsEvent}
+use Rattle.event_core.specs.Format.{event_json}
+use Rattle.event_core.specs.Told.{IsEvent}
 use Rattle.session_core.proofs.saving.events_value.Given as goal
 
 -- the values so far are those of the front, whose events can be told

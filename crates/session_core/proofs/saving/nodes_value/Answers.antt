@@ -4,7 +4,7 @@ use Rattle.std.proofs.lemmas.List.{map-append}
 use Rattle.serde_json.specs.Data.{string}
 use Rattle.serde_json.specs.View.{view}
 use Rattle.serde_json.proofs.Views.{view-Array}
-use Rattle.session_core.specs.Format.{list}
+use Rattle.event_core.specs.Format.{list}
 use Rattle.session_core.proofs.Loops.{front_more, front_all}
 use Rattle.session_core.proofs.saving.nodes_value.Goals as goal
 

@@ -1,7 +1,7 @@
 use Rattle.std.proofs.Common.{◌≡◌, ◌∷◌, [], ◌++◌, false, None, subst, sym}
 use Rattle.serde_json.specs.View.{view}
-use Rattle.session_core.specs.Decoded.{Fails}
-use Rattle.session_core.specs.Decoding.{event_at}
+use Rattle.json_core.specs.Decoded.{Fails}
+use Rattle.event_core.specs.Decoding.{event_at}
 use Rattle.session_core.specs.Drafts.{AreRead}
 use Rattle.session_core.proofs.Drafting.{one_more, cut_here, cut_before}
 use Rattle.session_core.proofs.acts.Acts+ref+B.add.Goals as goal

@@ -21,7 +21,7 @@ fn same_fault(one: Fault, other: Fault) -> bool
     }
 }
 
-pub(crate) fn same_reply(one: Reply, other: Reply) -> bool
+pub fn same_reply(one: Reply, other: Reply) -> bool
     ensures { IsTrue result ↔ (one ≡ other) }
 {
     match (one, other) {

@@ -7,8 +7,9 @@ use Rattle.serde_json.specs.Data.{unsigned, negative, float, Data, null, boolean
 use Rattle.serde_json.specs.Find.{at, get_item, as_str, as_number, as_u64, as_array, as_object}
 use Rattle.serde_json.specs.View.{items_of}
 use Rattle.payload_core.specs.Words.{is_word}
-use Rattle.session_core.specs.Format.{list, whole}
-use Rattle.session_core.specs.Decoding.{◌>>=◌, kept_if, number_in, node_in, text_in, word_in, number_of}
+use Rattle.event_core.specs.Format.{list, whole}
+use Rattle.event_core.specs.Decoding.{◌>>=◌, kept_if, node_in, word_in, number_of}
+use Rattle.json_core.specs.InLists.{number_in, text_in}
 
 -- the items from place i on are these and no more
 abbrev pub HasItems : ℕ → Data → List Data → Type 0

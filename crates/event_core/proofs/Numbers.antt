@@ -10,9 +10,9 @@ use Rattle.std.specs.FinSet.{nat_cmp-IsAntisymmetric}
 use Rattle.serde_json.specs.Data.{Data, Items, no_items, item}
 use Rattle.serde_json.specs.View.{items_of}
 use Rattle.dots_core.specs.Names.{Names, AreNamesBelow}
-use Rattle.session_core.specs.Format.{whole, numbers_from, numbers_of}
-use Rattle.session_core.specs.Decoding.{number_of, names_from}
-use Rattle.session_core.proofs.Lists.{bind_some, tested, both, whole_is}
+use Rattle.event_core.specs.Format.{whole, numbers_from, numbers_of}
+use Rattle.event_core.specs.Decoding.{number_of, names_from}
+use Rattle.event_core.proofs.Lists.{bind_some, tested, both, whole_is}
 
 -- another number is in the set with n exactly where it is in the set
 contains_other : (names : Names) (n q : ℕ) → q ≢ n → set.contains (set.insert names n) q ≡ set.contains names q

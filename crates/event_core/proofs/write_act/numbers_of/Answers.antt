@@ -1,9 +1,9 @@
 use Rattle.std.proofs.Common.{◌≡◌, ◌≤◌, ◌++◌, ◌∷◌, [], true, false, rules}
 use Rattle.std.specs.FinSet as set
-use Rattle.session_core.specs.Format.{numbers_of}
-use Rattle.session_core.proofs.Numbers.{number_taken, number_passed, numbers_end}
-use Rattle.session_core.proofs.write_act.numbers_of.Goals.{then-has+in_ok-push, else-has}
-use Rattle.session_core.proofs.write_act.numbers_of.Goals as goal
+use Rattle.event_core.specs.Format.{numbers_of}
+use Rattle.event_core.proofs.Numbers.{number_taken, number_passed, numbers_end}
+use Rattle.event_core.proofs.write_act.numbers_of.Goals.{then-has+in_ok-push, else-has}
+use Rattle.event_core.proofs.write_act.numbers_of.Goals as goal
 
 pub loop-number-preserved : goal.loop-number-preserved
 loop-number-preserved c =

@@ -2,7 +2,7 @@
 ghost use Rattle.std.specs.Prelude.{◌≡◌, ◌∷◌, [], IfOk, codes};
 ghost use Rattle.serde_json.specs.Data.{string};
 ghost use Rattle.serde_json.specs.View.{view};
-ghost use Rattle.session_core.specs.Format.{list, whole, code_of, reply_json};
+ghost use Rattle.event_core.specs.Format.{list, whole, code_of, reply_json};
 
 use bench_core::{Fault, Reply};
 use serde_json::{Value, json};

@@ -2,13 +2,13 @@
 ghost use Rattle.std.specs.Prelude.{◌≡◌};
 ghost use Rattle.serde_json.specs.View.{view};
 ghost use Rattle.bench_core.specs.Acts.{plain_act};
-ghost use Rattle.session_core.specs.Decoded.{Gives};
-ghost use Rattle.session_core.specs.Decoding.{undo_at, back_at, act_at};
+ghost use Rattle.json_core.specs.Decoded.{Gives};
+ghost use Rattle.event_core.specs.Decoding.{undo_at, back_at, act_at};
 
-use crate::places::{ends_at, node_in, number_in, text_in};
+use crate::places::node_in;
 use crate::read_step::step_at;
 use bench_core::Act;
-use json_core::Unread;
+use json_core::{Unread, ends_at, number_in, text_in};
 use serde_json::Value;
 use std::alloc::Allocator;
 

@@ -1,12 +1,11 @@
 //! The reply that a JSON list gives.
 ghost use Rattle.std.specs.Prelude.{◌≡◌};
 ghost use Rattle.serde_json.specs.View.{view};
-ghost use Rattle.session_core.specs.Decoded.{Gives};
-ghost use Rattle.session_core.specs.Decoding.{fault_of, consequence_at, fault_at, counted_at, reply_at};
+ghost use Rattle.json_core.specs.Decoded.{Gives};
+ghost use Rattle.event_core.specs.Decoding.{fault_of, consequence_at, fault_at, counted_at, reply_at};
 
-use crate::places::{ends_at, number_in, text_in};
 use bench_core::{Fault, Reply};
-use json_core::Unread;
+use json_core::{Unread, ends_at, number_in, text_in};
 use serde_json::Value;
 
 /// The fault of a number, of those with no more to them that are recorded.

@@ -10,11 +10,12 @@ use Rattle.bench_core.specs.declared.fault.Fault.{Fault}
 use Rattle.bench_core.specs.declared.fault.Fault.TheVariants.{HasConsequence}
 use Rattle.bench_core.specs.Acts.{Action, Do, Undo, Back}
 use Rattle.bench_core.specs.Machine.{Event}
-use Rattle.session_core.specs.Format.{list, whole, step_data, act_json, code_of, fault_rest, reply_json, event_json}
-use Rattle.session_core.specs.Decoding.{◌>>=◌, kept_if, number_in, node_in, text_in, ends_at, step_at, undo_at, back_at, act_at, numbered_from, plain_faults, request_faults, fault_of, consequence_at}
-use Rattle.session_core.specs.Decoding.{fault_at, counted_at, reply_at, event_at}
-use Rattle.session_core.proofs.Lists.{HasItems, list_is, bind_some, then_some, map_some, chosen, tested, number_there, node_there, verb_there}
-use Rattle.session_core.proofs.Steps.{step_there}
+use Rattle.event_core.specs.Format.{list, whole, step_data, act_json, code_of, fault_rest, reply_json, event_json}
+use Rattle.event_core.specs.Decoding.{◌>>=◌, kept_if, node_in, step_at, undo_at, back_at, act_at, numbered_from, plain_faults, request_faults, fault_of, consequence_at}
+use Rattle.json_core.specs.InLists.{number_in, text_in, ends_at}
+use Rattle.event_core.specs.Decoding.{fault_at, counted_at, reply_at, event_at}
+use Rattle.event_core.proofs.Lists.{HasItems, list_is, bind_some, then_some, map_some, chosen, tested, number_there, node_there, verb_there}
+use Rattle.event_core.proofs.Steps.{step_there}
 
 -- acts
 

@@ -5,8 +5,8 @@ ghost use Rattle.serde_json.specs.View.{view};
 ghost use Rattle.dots_core.specs.Names.{AreNamesBelow};
 ghost use Rattle.node_core.specs.Operations.{plain, Extract};
 ghost use Rattle.bench_core.specs.Acts.{plain_act, Do};
-ghost use Rattle.session_core.specs.Format.{list, whole, numbers_of, act_json};
-ghost use Rattle.session_core.specs.Sessions.{IsAction, IsOperation};
+ghost use Rattle.event_core.specs.Format.{list, whole, numbers_of, act_json};
+ghost use Rattle.event_core.specs.Told.{IsAction, IsOperation};
 
 use bench_core::{Act, Step};
 use dots_core::NameSet;

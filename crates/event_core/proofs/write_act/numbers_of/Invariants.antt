@@ -1,6 +1,6 @@
 use Rattle.std.proofs.Common.{◌≡◌, ◌-◌, ◌++◌}
-use Rattle.session_core.specs.Format.{numbers_from, numbers_of}
-use Rattle.session_core.proofs.write_act.numbers_of.Given as goal
+use Rattle.event_core.specs.Format.{numbers_from, numbers_of}
+use Rattle.event_core.proofs.write_act.numbers_of.Given as goal
 
 -- the numbers so far, and then those that are left
 abbrev pub invariant-loop-number : goal.invariant-loop-number

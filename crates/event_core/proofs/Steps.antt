@@ -6,11 +6,12 @@ use Rattle.serde_json.specs.Data.{Data, string, array}
 use Rattle.serde_json.specs.Find.{at, as_array}
 use Rattle.payload_core.specs.Presences.{Presence}
 use Rattle.node_core.specs.Operations.{Operation, Join, Leave, LeaveAll, Update, Broadcast, Extract, Deliver, Request, Answer, Up, Down, Permdown}
-use Rattle.session_core.specs.Format.{list, whole, numbers_of, step_data}
-use Rattle.session_core.specs.Decoding.{◌>>=◌, kept_if, number_in, node_in, text_in, word_in, ends_at, names_from, presence_at, leave_at, leave_all_at}
-use Rattle.session_core.specs.Decoding.{extract_at, sent_at, deliver_at, answer_at, name_at, status_at, message_at, tracking_at, step_at}
-use Rattle.session_core.proofs.Lists.{HasItems, bind_some, then_some, map_some, chosen, tested, array_is, number_there, node_there, word_there, verb_there}
-use Rattle.session_core.proofs.Numbers.{names_are}
+use Rattle.event_core.specs.Format.{list, whole, numbers_of, step_data}
+use Rattle.event_core.specs.Decoding.{◌>>=◌, kept_if, node_in, word_in, names_from, presence_at, leave_at, leave_all_at}
+use Rattle.json_core.specs.InLists.{number_in, text_in, ends_at}
+use Rattle.event_core.specs.Decoding.{extract_at, sent_at, deliver_at, answer_at, name_at, status_at, message_at, tracking_at, step_at}
+use Rattle.event_core.proofs.Lists.{HasItems, bind_some, then_some, map_some, chosen, tested, array_is, number_there, node_there, word_there, verb_there}
+use Rattle.event_core.proofs.Numbers.{names_are}
 
 -- from place 1 on stands what the step asks
 abbrev Asks : Data → Operation → Type 0

@@ -1,19 +1,19 @@
 //! The recorded call that a JSON list is: its actor, its act and its reply.
 ghost use Rattle.std.specs.Prelude.{◌≡◌};
 ghost use Rattle.serde_json.specs.View.{view};
-ghost use Rattle.session_core.specs.Decoded.{Gives};
-ghost use Rattle.session_core.specs.Decoding.{event_at};
+ghost use Rattle.json_core.specs.Decoded.{Gives};
+ghost use Rattle.event_core.specs.Decoding.{event_at};
 
-use crate::places::{ends_at, node_in};
+use crate::places::node_in;
 use crate::read_act::act_at;
 use crate::read_reply::reply_at;
 use bench_core::Event;
-use json_core::Unread;
+use json_core::{Unread, ends_at};
 use serde_json::Value;
 use std::alloc::Allocator;
 
 #[tactic(auto, unfolding(crate::specs::Decoding::event_at))]
-pub(crate) fn event_at<'a, B: Allocator>(alloc: &'a B, list: &Value) -> Result<Event<&'a B>, Unread>
+pub fn event_at<'a, B: Allocator>(alloc: &'a B, list: &Value) -> Result<Event<&'a B>, Unread>
     ensures { Gives (λ e. e) result (event_at (view list.now)) }
 {
     let actor = node_in(list, 0)?;

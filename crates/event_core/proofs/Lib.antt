@@ -1,0 +1,6 @@
+pub mod Lists
+pub mod Numbers
+pub mod Steps
+pub mod Events
+pub mod Shape
+pub mod Again

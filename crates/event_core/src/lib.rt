@@ -1,0 +1,20 @@
+//! Recorded calls as JSON values, and back.
+//!
+//! Stands on `bench_core`, whose calls and replies these are, on `json_core`, and on the kit's `serde_json`, whose values take
+//! their memory from the global heap. In the order to read them: `write_act`, `write_reply` and `write_event`, from a call to its
+//! value; `places`, `read_step`, `read_act`, `read_reply` and `read_event`, from a value to what it says; `same_reply`.
+#![tactic(auto)]
+
+mod places;
+mod read_act;
+mod read_event;
+mod read_reply;
+mod read_step;
+mod same_reply;
+mod write_act;
+mod write_event;
+mod write_reply;
+
+pub use read_event::event_at;
+pub use same_reply::same_reply;
+pub use write_event::event_value;
