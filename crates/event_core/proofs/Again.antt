@@ -1,9 +1,5 @@
 -- The JSON of an event is read as that event.
-use Rattle.std.proofs.Common.{◌≡◌, List, [], ◌∷◌, map, true, Some, Ok, refl, ap, ◌∙◌}
-use Rattle.std.specs.Prelude.{option_and_then}
-use Rattle.std.proofs.lemmas.Bool.{le-leb}
-use Rattle.serde_json.specs.Data.{string}
-use Rattle.serde_json.specs.View.{items_of}
+use Rattle.std.proofs.Common.{◌≡◌, Some, refl}
 use Rattle.node_core.specs.Operations.{Join, Leave, LeaveAll, Update, Broadcast, Extract, Deliver, Request, Answer, Up, Down, Permdown}
 use Rattle.bench_core.specs.declared.reply.Reply.{Reply}
 use Rattle.bench_core.specs.declared.reply.Reply.TheVariants.{Taken, Undone, Refused}
@@ -12,15 +8,12 @@ use Rattle.bench_core.specs.declared.fault.Fault.TheVariants.{OwnReplica, NotKno
 use Rattle.bench_core.specs.declared.fault.Fault.TheVariants.{ClockFull, OwnMessage, NoSuchMessage, NotRequest, IsRequest, OutboxFull, UnknownNode, NoSuchStep, AlreadyUndone}
 use Rattle.bench_core.specs.declared.fault.Fault.TheVariants.{NothingToUndo, HasConsequence, HistoryFull, OutOfMemory}
 use Rattle.bench_core.specs.Acts.{Action, Do, Undo, Back}
-use Rattle.bench_core.specs.Limits.{Limits, AreLimits}
 use Rattle.bench_core.specs.Machine.{Event}
-use Rattle.bench_core.specs.NameList.{Texts, names_of}
 use Rattle.event_core.specs.Format.{act_json, reply_json, event_json}
-use Rattle.event_core.specs.Decoding.{◌>>=◌, presence_at, leave_at, leave_all_at, extract_at, sent_at, name_at, status_at, message_at, tracking_at, step_at}
+use Rattle.event_core.specs.Decoding.{presence_at, leave_at, leave_all_at, extract_at, sent_at, name_at, status_at, message_at, tracking_at, step_at}
 use Rattle.event_core.specs.Decoding.{undo_at, back_at, act_at, consequence_at, fault_at, counted_at, reply_at, event_at}
 use Rattle.event_core.specs.Told.{IsAction, IsRecordedFault, IsRecordedReply, IsTold}
 use Rattle.event_core.proofs.Numbers.{names_again}
-use Rattle.std.specs.List.{AllByRecursion}
 
 act_again : (a : Action) → IsAction a → act_at (act_json a) ≡ Some a
 unfolding act_at step_at tracking_at message_at status_at presence_at leave_at leave_all_at extract_at sent_at name_at undo_at back_at

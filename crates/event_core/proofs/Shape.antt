@@ -1,8 +1,7 @@
 -- The JSON of an event has no float, and is not deep.
 use Rattle.std.proofs.Common.{◌≡◌, ℕ, ◌≤◌, List, [], ◌∷◌, map, false, refl, arith}
-use Rattle.serde_json.specs.Data.{Data, depth, items_depth, string}
+use Rattle.serde_json.specs.Data.{Data, depth, items_depth}
 use Rattle.serde_json.specs.View.{items_of}
-use Rattle.serde_json.specs.Read.{max_depth}
 use Rattle.serde_json.specs.Written.{has_float, items_have_float}
 use Rattle.node_core.specs.Operations.{Operation, Join, Leave, LeaveAll, Update, Broadcast, Extract, Deliver, Request, Answer, Up, Down, Permdown}
 use Rattle.bench_core.specs.declared.reply.Reply.{Reply}
@@ -12,9 +11,7 @@ use Rattle.bench_core.specs.declared.fault.Fault.TheVariants.{OwnReplica, NotKno
 use Rattle.bench_core.specs.declared.fault.Fault.TheVariants.{ClockFull, OwnMessage, NoSuchMessage, NotRequest, IsRequest, OutboxFull, UnknownNode, NoSuchStep, AlreadyUndone}
 use Rattle.bench_core.specs.declared.fault.Fault.TheVariants.{NothingToUndo, HasConsequence, HistoryFull, OutOfMemory}
 use Rattle.bench_core.specs.Acts.{Action, Do, Undo, Back}
-use Rattle.bench_core.specs.Limits.{Limits}
 use Rattle.bench_core.specs.Machine.{Event}
-use Rattle.bench_core.specs.NameList.{Texts}
 use Rattle.event_core.specs.Format.{whole, numbers_of, step_data, act_json, fault_rest, reply_json, event_json}
 
 module _ {A : Type 0} (f : A → Data) where

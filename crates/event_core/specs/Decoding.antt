@@ -1,10 +1,10 @@
 -- A recorded call read from left to right: what it asks and what was answered.
-use Rattle.std.specs.Prelude.{ℕ, suc, ◌+◌, ◌==◌, ◌&&◌, if◌then◌else◌, nat_lt, nat_le, List, [], ◌∷◌, codes, Bool, true, false}
-use Rattle.std.specs.Prelude.{Option, Some, None, option_and_then, option_map, Result, Ok, Err, is_none}
+use Rattle.std.specs.Prelude.{ℕ, suc, ◌+◌, ◌==◌, ◌&&◌, if◌then◌else◌, nat_lt, nat_le, List, [], ◌∷◌, codes, Bool}
+use Rattle.std.specs.Prelude.{Option, Some, None, option_and_then, option_map}
 use Rattle.std.specs.Str.{bytes_eq}
 use Rattle.std.specs.FinSet as set
-use Rattle.serde_json.specs.Data.{Data, null, boolean, number, string, array, object, Items, no_items, item, Members, no_members, member}
-use Rattle.serde_json.specs.Find.{at, get, as_object, as_array, as_str, as_number, as_u64}
+use Rattle.serde_json.specs.Data.{Data, number, Items, no_items, item}
+use Rattle.serde_json.specs.Find.{at, as_array, as_number, as_u64}
 use Rattle.dots_core.specs.Names.{Names}
 use Rattle.payload_core.specs.Presences.{Presence}
 use Rattle.payload_core.specs.Words.{is_word}
@@ -14,9 +14,7 @@ use Rattle.bench_core.specs.declared.reply.Reply.TheVariants.{Taken, Undone, Ref
 use Rattle.bench_core.specs.declared.fault.Fault.{Fault}
 use Rattle.bench_core.specs.declared.fault.Fault.TheVariants as faults
 use Rattle.bench_core.specs.Acts.{Action, Do, Undo, Back}
-use Rattle.bench_core.specs.Limits.{Limits}
 use Rattle.bench_core.specs.Machine.{Event}
-use Rattle.bench_core.specs.NameList.{Texts, names_of}
 use Rattle.json_core.specs.InLists.{number_in, text_in, ends_at}
 
 -- the next step of a reading in `do`, where the step before gave a value

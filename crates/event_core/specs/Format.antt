@@ -1,7 +1,7 @@
 -- The JSON value of a recorded call.
 use Rattle.std.specs.Prelude.{ℕ, ◌+◌, zero, suc, List, [], ◌∷◌, map, codes, if◌then◌else◌}
 use Rattle.std.specs.FinSet as set
-use Rattle.serde_json.specs.Data.{Data, number, unsigned, string, array, object, no_members, member}
+use Rattle.serde_json.specs.Data.{Data, number, unsigned, string, array}
 use Rattle.serde_json.specs.View.{items_of}
 use Rattle.dots_core.specs.Names.{Names}
 use Rattle.node_core.specs.Operations.{Operation, Join, Leave, LeaveAll, Update, Broadcast, Extract, Deliver, Request, Answer, Up, Down, Permdown}
@@ -10,9 +10,7 @@ use Rattle.bench_core.specs.declared.reply.Reply.TheVariants.{Taken, Undone, Ref
 use Rattle.bench_core.specs.declared.fault.Fault.{Fault}
 use Rattle.bench_core.specs.declared.fault.Fault.TheVariants as faults
 use Rattle.bench_core.specs.Acts.{Action, Do, Undo, Back}
-use Rattle.bench_core.specs.Limits.{Limits}
 use Rattle.bench_core.specs.Machine.{Event}
-use Rattle.bench_core.specs.NameList.{Texts}
 
 -- a JSON array
 abbrev pub list : List Data → Data

@@ -3,7 +3,7 @@ use Rattle.std.proofs.Common.{◌≡◌, ℕ, zero, suc, ◌-◌, ◌<◌, ◌�
 use Rattle.std.specs.Prelude.{Result, Ok, Err, IfOk}
 use Rattle.json.specs.Token.{Token}
 use Rattle.json.specs.Json as json
-use Rattle.json.specs.Json.{Parse, parse_map, after_end_array, read_key, items_step, items, members, value_with, value, if_last}
+use Rattle.json.specs.Json.{Parse, parse_map, after_end_array, read_key, items_step, items, members, value, if_last}
 use Rattle.json.specs.Lex.{tokens}
 use Rattle.json.specs.Print.{print, print_from, IsNumber, ArePrintable}
 use Rattle.json.proofs.Grammar.{items_end, items_more, members_end, members_no_key, members_more, value_is}

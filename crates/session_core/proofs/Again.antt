@@ -4,26 +4,16 @@ use Rattle.std.specs.Prelude.{option_and_then}
 use Rattle.std.proofs.lemmas.Bool.{le-leb}
 use Rattle.serde_json.specs.Data.{string}
 use Rattle.serde_json.specs.View.{items_of}
-use Rattle.node_core.specs.Operations.{Join, Leave, LeaveAll, Update, Broadcast, Extract, Deliver, Request, Answer, Up, Down, Permdown}
-use Rattle.bench_core.specs.declared.reply.Reply.{Reply}
-use Rattle.bench_core.specs.declared.reply.Reply.TheVariants.{Taken, Undone, Refused}
-use Rattle.bench_core.specs.declared.fault.Fault.{Fault}
-use Rattle.bench_core.specs.declared.fault.Fault.TheVariants.{OwnReplica, NotKnown, NotDown, AlreadyTracked, NotTracked, NothingToSend, EntriesFull}
-use Rattle.bench_core.specs.declared.fault.Fault.TheVariants.{ClockFull, OwnMessage, NoSuchMessage, NotRequest, IsRequest, OutboxFull, UnknownNode, NoSuchStep, AlreadyUndone}
-use Rattle.bench_core.specs.declared.fault.Fault.TheVariants.{NothingToUndo, HasConsequence, HistoryFull, OutOfMemory}
-use Rattle.bench_core.specs.Acts.{Action, Do, Undo, Back}
 use Rattle.bench_core.specs.Limits.{Limits, AreLimits}
 use Rattle.bench_core.specs.Machine.{Event}
 use Rattle.bench_core.specs.NameList.{Texts, names_of}
-use Rattle.event_core.specs.Format.{act_json, reply_json, event_json}
+use Rattle.event_core.specs.Format.{event_json}
 use Rattle.session_core.specs.Format.{limits_json, session}
-use Rattle.event_core.specs.Decoding.{◌>>=◌, presence_at, leave_at, leave_all_at, extract_at, sent_at, name_at, status_at, message_at, tracking_at, step_at}
-use Rattle.event_core.specs.Decoding.{undo_at, back_at, act_at, consequence_at, fault_at, counted_at, reply_at, event_at}
+use Rattle.event_core.specs.Decoding.{◌>>=◌}
 use Rattle.session_core.specs.Decoding.{are_limits, limits_at, texts_of}
 use Rattle.session_core.specs.Decoding.{if_ok, names_at, values_at, Parts, parts_at}
-use Rattle.event_core.specs.Told.{IsAction, IsRecordedFault, IsRecordedReply, IsTold}
+use Rattle.event_core.specs.Told.{IsTold}
 use Rattle.session_core.specs.Versions.{tells, event_in}
-use Rattle.event_core.proofs.Numbers.{names_again}
 use Rattle.session_core.proofs.Versions.{told_event}
 use Rattle.std.specs.List.{AllByRecursion}
 use Rattle.event_core.proofs.Again.{event_again}

@@ -1,18 +1,9 @@
 -- What a load answers, and what a saved text is.
-use Rattle.std.specs.Prelude.{◌≡◌, ◌⊎◌, ℕ, ◌+◌, nat_lt, Bool, true, false, List, [], ◌∷◌, Some, None, Result, Ok, Err, IsUtf8}
+use Rattle.std.specs.Prelude.{◌≡◌, ◌⊎◌, ℕ, ◌+◌, Bool, true, false, List, [], ◌∷◌, Some, None, Result, Ok, Err, IsUtf8}
 use Rattle.std.specs.List.{AllByRecursion}
 use Rattle.serde_json.specs.Data.{Data, Items, no_items, item}
 use Rattle.serde_json.specs.Read.{read}
 use Rattle.serde_json.specs.Written.{compact_text}
-use Rattle.payload_core.specs.Words.{is_word}
-use Rattle.payload_core.specs.Presences.{Presence}
-use Rattle.node_core.specs.Operations.{Operation, Join, Leave, LeaveAll, Update, Broadcast, Extract, Deliver, Request, Answer, Up, Down, Permdown}
-use Rattle.dots_core.specs.Names.{AreNamesBelow}
-use Rattle.bench_core.specs.declared.reply.Reply.{Reply}
-use Rattle.bench_core.specs.declared.reply.Reply.TheVariants.{Refused}
-use Rattle.bench_core.specs.declared.fault.Fault.{Fault}
-use Rattle.bench_core.specs.declared.fault.Fault.TheVariants as faults
-use Rattle.bench_core.specs.Acts.{Action, Do, Undo, Back}
 use Rattle.bench_core.specs.Limits.{AreLimits}
 use Rattle.bench_core.specs.Machine.{Event, Machine, opening_state, opening_machine, config_of, with_state, after}
 use Rattle.bench_core.specs.NameList.{names_of}
