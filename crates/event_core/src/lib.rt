@@ -2,7 +2,7 @@
 //!
 //! Stands on `bench_core`, whose calls and replies these are, on `json_core`, and on the kit's `serde_json`, whose values take
 //! their memory from the global heap. In the order to read them: `write_act`, `write_reply` and `write_event`, from a call to its
-//! value; `places`, `read_step`, `read_act`, `read_reply` and `read_event`, from a value to what it says; `same_reply`.
+//! value; `places`, `read_step`, `read_act`, `read_reply` and `read_event`, from a value to what it says; `replies`, whether two are one.
 #![tactic(auto)]
 
 mod places;
@@ -10,11 +10,11 @@ mod read_act;
 mod read_event;
 mod read_reply;
 mod read_step;
-mod same_reply;
+mod replies;
 mod write_act;
 mod write_event;
 mod write_reply;
 
 pub use read_event::event_at;
-pub use same_reply::same_reply;
+pub use replies::same_reply;
 pub use write_event::event_value;
