@@ -3,7 +3,7 @@ use Rattle.std.specs.Prelude.{ℕ, ◌&&◌, if◌then◌else◌, nat_le, List, 
 use Rattle.std.specs.Prelude.{Option, Some, None, option_and_then, Result, Ok, Err}
 use Rattle.std.specs.Str.{bytes_eq}
 use Rattle.serde_json.specs.Data.{Data, null, boolean, number, string, array, object, Items, no_items, item, Members, no_members, member}
-use Rattle.serde_json.specs.Find.{at, get, as_object, as_array, as_str, as_number, as_u64}
+use Rattle.serde_json.specs.Find.{get, as_object, as_array, as_str, as_number, as_u64}
 use Rattle.bench_core.specs.Limits.{Limits}
 use Rattle.bench_core.specs.NameList.{Texts, names_of}
 use Rattle.json_core.specs.InLists.{number_in, ends_at}

@@ -10,6 +10,7 @@ use Rattle.bench_core.specs.NameList.{names_of}
 use Rattle.bench_core.specs.Replays.{Records, Replays}
 use Rattle.session_core.specs.declared.session_fault.SessionFault.{SessionFault}
 use Rattle.session_core.specs.declared.session_fault.SessionFault.TheVariants.{NotJson, BadShape, BadVersion, Disagrees, OutOfMemory}
+use Rattle.event_core.specs.Told.{IsTold}
 use Rattle.session_core.specs.Format.{session}
 use Rattle.session_core.specs.Decoding.{Parts, version_of, parts_at, acts_of}
 use Rattle.session_core.specs.Versions.{IsVersion, tells, event_in}
