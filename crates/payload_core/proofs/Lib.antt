@@ -14,6 +14,7 @@ pub mod Skipped
 pub mod StoreBack
 pub mod StoreEdits
 pub mod StoreMerges
+pub mod Told
 pub mod TrackedDots
 pub mod Undelivered
 pub mod PlacesFrom

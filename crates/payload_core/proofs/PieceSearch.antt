@@ -11,9 +11,10 @@ use Rattle.dots_core.specs.Dots.{dot_cmp}
 use Rattle.dots_core.proofs.Order.{dot_total, less}
 use Rattle.payload_core.specs.Presences.{Entry}
 use Rattle.payload_core.specs.EntryLists.{pairs, Rises, one_later, spot}
-use Rattle.payload_core.specs.Pieces.{IsFilled, IsPassed, ends_below, is_entry_below, joined}
+use Rattle.payload_core.specs.Pieces.{IsFilled, IsPassed, ends_below, is_entry_below, joined, place_in}
+use Rattle.payload_core.specs.declared.spot.Spot.{Spot}
 use Rattle.payload_core.proofs.EntryLists.{at_equal, at_greater, at_less, later_err, later_ok, turned}
-use Rattle.payload_core.proofs.Pieces.{at_read, joined-around}
+use Rattle.payload_core.proofs.Pieces.{at_read, first-spot, joined-around}
 
 -- parts of a list that rises
 
@@ -217,3 +218,8 @@ module _ (d : Dot) where
   pub missed-past : (es : List Entry) → AllByRecursion (IsPassed d) es → spot d es ≡ Err (length es)
   missed-past [] all = refl
   missed-past (e ∷ es) all = at_greater d e es all.0 ∙ ap one_later (missed-past es all.1)
+
+-- what is missing among no pieces would be the first
+pub missing-first : (d : Dot) (ps : List (List Entry)) (s : Spot) → spot d (joined ps) ≡ Err (place_in ps s) → length ps ≡ 0 → s.inner ≡ 0
+missing-first d [] s missing none = let place : place_in [] s ≡ 0 = cc in first-spot [] s place none
+missing-first d (p ∷ ps) s missing none = absurd (omega (arith, none))

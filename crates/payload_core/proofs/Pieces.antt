@@ -2,7 +2,7 @@
 use Rattle.std.proofs.Common.{◌≡◌, ℕ, zero, suc, ◌+◌, ◌-◌, ◌<◌, ◌≤◌, List, [], ◌∷◌, ◌++◌, length, take, drop, slice_get, slice_set, get_or, nat_le, if◌then◌else◌, Bool, true, false, None, Some, filter, option_map, refl, sym, ap, subst, ◌∙◌, arith}
 use Rattle.std.specs.List.{insert, remove, find, AllByRecursion}
 use Rattle.std.proofs.lemmas.Bool.{leb-true, leb-false}
-use Rattle.std.proofs.lemmas.List.{append_assoc, append-nil, drop_more, length-append}
+use Rattle.std.proofs.lemmas.List.{append_assoc, append-nil, drop_all, drop_more, length-append, take_more}
 use Rattle.payload_core.specs.Presences.{Entry}
 use Rattle.payload_core.specs.Pieces.{joined, beyond_half, crowd_of, IsFilled, IsHalved, IsOpenBelow, once_halved, place_in}
 use Rattle.payload_core.specs.declared.spot.Spot.{Spot}
@@ -463,3 +463,60 @@ pub entry-read : (es : List Entry) (i : ℕ) (e d : Entry) → slice_get es i �
 entry-read [] i e d at = absurd (cc)
 entry-read (x ∷ es) zero e d at = let same : x ≡ e = cc in same
 entry-read (x ∷ es) (suc i) e d at = entry-read es i e d at
+
+-- what a list has at a place, where it is read
+pub entry-at : (es : List Entry) (i : ℕ) (e : Entry) → i < length es → e ≡ get_or es i e → Some e ≡ slice_get es i
+entry-at [] i e within read = absurd (omega arith)
+entry-at (x ∷ es) zero e within read = ap Some read
+entry-at (x ∷ es) (suc i) e within read = entry-at es i e (omega arith) read
+
+-- one more is put behind those that were copied so far
+pub pushed-next : {X : Type 0} (old so_far now xs : List X) (i : ℕ) (x y : X) → i < length xs → x ≡ get_or xs i x → y ≡ x →
+    so_far ≡ old ++ take i xs → now ≡ so_far ++ y ∷ [] → now ≡ old ++ take (i + 1) xs
+pushed-next old so_far now xs i x y within read same before pushed =
+    pushed ∙ ap (λ ys. ys ++ y ∷ []) before ∙ append_assoc old (take i xs) (y ∷ [])
+    ∙ ap (λ z. old ++ (take i xs ++ z ∷ [])) (same ∙ read) ∙ ap (λ ys. old ++ ys) (sym (take_more xs i x within))
+
+pub joined-here : (ps : List (List Entry)) (i : ℕ) (p : List Entry) → i < length ps → p ≡ get_or ps i p →
+    joined (drop i ps) ≡ p ++ joined (drop (i + 1) ps)
+joined-here ps i p within read = ap joined (drop_more ps i p within ∙ ap (λ x. x ∷ drop (i + 1) ps) (sym read))
+
+-- no piece is left
+pub none-left : {X : Type 0} (f : List Entry → List X) (xs all : List X) (ps : List (List Entry)) (i : ℕ) → f [] ≡ [] → length ps ≤ i →
+    xs ++ f (joined (drop i ps)) ≡ all → xs ≡ all
+none-left f xs all ps i none past so_far =
+    sym (append-nil xs) ∙ ap (λ ys. xs ++ ys) (sym (ap (λ qs. f (joined qs)) (drop_all i ps past) ∙ none)) ∙ so_far
+
+-- what is counted beyond the halves, one piece on and at the end
+pub counted-next : (ps : List (List Entry)) (i : ℕ) (p : List Entry) (count more long : ℕ) → i < length ps → p ≡ get_or ps i p →
+    long ≡ length p → more ≡ long - 64 → count + beyond_half (drop i ps) ≡ beyond_half ps →
+    (count + more) + beyond_half (drop (i + 1) ps) ≡ beyond_half ps
+counted-next ps i p count more long within read is less so_far =
+    let next = ap beyond_half (drop_more ps i p within ∙ ap (λ x. x ∷ drop (i + 1) ps) (sym read)) in
+    omega (arith, next, is, less, so_far)
+
+pub counted-all : (ps : List (List Entry)) (i count : ℕ) → length ps ≤ i → count + beyond_half (drop i ps) ≡ beyond_half ps →
+    count ≡ beyond_half ps
+counted-all ps i count past so_far = let none = ap beyond_half (drop_all i ps past) in omega (arith, none, so_far)
+
+pub crowd-none : (ps : List (List Entry)) → length ps ≡ 0 → 64 ≡ crowd_of ps
+crowd-none [] none = refl
+crowd-none (p ∷ ps) none = absurd (omega (arith, none))
+
+-- where there is no piece, a spot is the first one
+pub first-spot : (ps : List (List Entry)) (s : Spot) → place_in ps s ≡ length (joined ps) → length ps ≡ 0 → s.inner ≡ 0
+first-spot [] s place none = let first = nothing_before s.piece in omega (arith, place, first)
+  where
+    nothing_before : (i : ℕ) → length (joined (take i [])) ≡ 0
+    nothing_before zero = refl
+    nothing_before (suc i) = refl
+first-spot (p ∷ ps) s place none = absurd (omega (arith, none))
+
+pub last-none : (ps : List (List Entry)) → slice_get ps (length ps - 1) ≡ None → 0 ≡ length (joined ps)
+last-none [] none = refl
+last-none (p ∷ ps) none = absurd (some-there (p ∷ ps) (length (p ∷ ps) - 1) (omega arith) none)
+  where
+    some-there : (ps : List (List Entry)) (i : ℕ) → i < length ps → slice_get ps i ≡ None → ⊥
+    some-there [] i within none = omega arith
+    some-there (q ∷ ps) zero within none = absurd (cc)
+    some-there (q ∷ ps) (suc i) within none = some-there ps i (omega arith) none

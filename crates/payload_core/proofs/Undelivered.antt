@@ -1,5 +1,5 @@
 -- A delivery's edits give the store of the definition, and are taken back.
-use Rattle.std.proofs.Common.{◌≡◌, ◌↔◌, ℕ, ◌+◌, ◌<◌, ◌≤◌, ◌==◌, ◌&&◌, ◌||◌, ◌⊎◌, inl, inr, not, T, Bool, true, false, cond, List, [], ◌∷◌, ◌++◌}
+use Rattle.std.proofs.Common.{◌≡◌, ◌↔◌, ℕ, ◌+◌, ◌<◌, ◌≤◌, ◌==◌, ◌&&◌, ◌||◌, ◌⊎◌, inl, inr, not, T, Bool, true, false, cond, List, [], ◌∷◌, ◌++◌, length}
 use Rattle.std.proofs.Common.{Option, Some, None, is_some, refl, sym, ap, subst, ◌∙◌, arith, true≢false}
 use Rattle.std.proofs.Math.Bool.{or-false, or-true}
 use Rattle.std.proofs.Math.Facts.{and_yes}
@@ -330,3 +330,8 @@ module _ (named : ℕ → Bool) (other s : Dots) where
         ∙ ap (cond (is_old ps q.name) (set.contains s q)) (contains-union s (of_names named other) q
         ∙ ap (λ b. set.contains s q || b) (contains-retain other (λ d. named d.name) q))
         ∙ whole (is_old ps q.name) (set.contains s q) (set.contains other q) (named q.name) (covered q))
+
+-- no part is left to be put in its place
+pub none_to_put : (ps : List OldPart) (n : ℕ) (s : Dots) → n ≡ 0 → n ≡ length ps → with_parts ps s ≡ s
+none_to_put [] n s none long = refl
+none_to_put (p ∷ ps) n s none long = absurd (omega (arith, none, long))

@@ -1,10 +1,10 @@
-use Rattle.std.proofs.Common.{◌≡◌, ◌==◌, ◌&&◌, ◌++◌, ◌+◌, ◌∙◌, Bool, List, drop, filter, map, sym, ap}
+use Rattle.std.proofs.Common.{◌≡◌, ◌==◌, ◌&&◌, ◌++◌, ◌+◌, ◌∙◌, Bool, List, drop, filter, map, sym, ap, refl}
 use Rattle.std.proofs.lemmas.List.{append_assoc, map-append}
 use Rattle.dots_core.specs.declared.dot.Dot.{Dot}
 use Rattle.payload_core.specs.Presences.{Entry}
 use Rattle.payload_core.specs.Pieces.{joined}
 use Rattle.payload_core.specs.RisingEntries.{dots_in}
-use Rattle.payload_core.proofs.Pieces.{filter-here}
+use Rattle.payload_core.proofs.Pieces.{filter-here, none-left}
 use Rattle.payload_core.proofs.piece_edits.push_dots.Goals as goal
 
 pub loop-piece-preserved : goal.loop-piece-preserved
@@ -19,3 +19,8 @@ loop-piece-preserved g c =
     ∙ append_assoc c.loop-piece.dots.items (dots c.piece-item.result) (dots rest)
     ∙ ap (λ ds. c.loop-piece.dots.items ++ ds) (sym here)
     ∙ c.loop-piece.invariant
+
+pub returns : goal.returns
+returns g c = 
+    none-left (dots_in c.args.name c.args.pid) c.loop-piece.dots.items _ c.args.pieces.now c.loop-piece.piece-index refl c.loop-piece-test.false
+    c.loop-piece.invariant

@@ -1,7 +1,7 @@
 use Rattle.std.proofs.Common.{◌≤◌, ◌+◌, refl, ◌<◌, ◌∙◌, length, insert, slice_set, sym, ap, subst}
 use Rattle.payload_core.specs.Pieces.{IsFilled, joined, crowd_of, place_in}
 use Rattle.std.specs.List.{AllByRecursion}
-use Rattle.payload_core.proofs.Pieces.{crowd-put, filled-put, joined-insert, read_is}
+use Rattle.payload_core.proofs.Pieces.{crowd-put, filled-put, joined-insert, read_is, some_at}
 use Rattle.payload_core.proofs.piece_edits.put_at.Goals as goal
 
 pub insert-requires-clause-within : goal.insert-requires-clause-within
@@ -34,3 +34,8 @@ returns-clause-crowd g c =
     subst (λ p. crowd_of (slice_set c.args.pieces.now.items c.args.spot.piece p) ≤ crowd_of c.args.pieces.now.items + 1)
     (sym (c.insert.ensures ∙ ap (λ p. insert p c.args.spot.inner c.args.entry) here))
     (crowd-put c.args.pieces.now.items c.args.spot c.args.entry c.requires.open)
+
+pub index_mut-requires : goal.index_mut-requires
+index_mut-requires g c =
+    subst (λ n. c.args.spot.piece < n) (sym c.args.pieces.now.ok.0)
+    (some_at c.args.pieces.now.items c.args.spot.piece c.requires.open.piece c.requires.open.at)

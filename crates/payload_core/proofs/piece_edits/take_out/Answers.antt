@@ -1,7 +1,7 @@
-use Rattle.std.proofs.Common.{◌∙◌, remove, slice_get, slice_set, refl, sym, ap, subst, arith}
+use Rattle.std.proofs.Common.{◌∙◌, remove, slice_get, slice_set, refl, sym, ap, subst, arith, ◌<◌, length}
 use Rattle.std.specs.List.{AllByRecursion}
 use Rattle.payload_core.specs.Pieces.{IsFilled, joined, crowd_of, place_in}
-use Rattle.payload_core.proofs.Pieces.{crowd-less, filled-without, joined-get, joined-remove, read_is, remove-set}
+use Rattle.payload_core.proofs.Pieces.{crowd-less, filled-without, joined-get, joined-remove, read_is, remove-set, length-set, some_at}
 use Rattle.payload_core.proofs.piece_edits.take_out.Goals as goal
 
 pub give_back-requires-clause-filled : goal.give_back-requires-clause-filled
@@ -36,3 +36,14 @@ returns-clause-enough g c =
     (c.remove-entry.ensures.rest ∙ ap (λ p. remove p c.args.spot.inner) here) in
     let enough = c.give_back.ensures.enough in
     omega (arith, less, same, enough)
+
+pub give_back-requires-clause-here : goal.give_back-requires-clause-here
+give_back-requires-clause-here g c = 
+    subst (λ n. c.args.spot.piece < n) (sym (length-set c.args.pieces.now.items c.args.spot.piece c.remove-entry.new.self))
+    (some_at c.args.pieces.now.items c.args.spot.piece c.requires.held.piece c.requires.held.at)
+
+pub remove-entry-requires : goal.remove-entry-requires
+remove-entry-requires g c = 
+    let here = read_is c.args.pieces.now.items c.args.spot.piece c.requires.held.piece c.index_mut.result.now c.requires.held.at
+    c.index_mut.ensures.value in
+    subst (λ p. c.args.spot.inner < length p) (sym here) c.requires.held.within

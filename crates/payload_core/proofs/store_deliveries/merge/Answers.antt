@@ -6,7 +6,7 @@ use Rattle.payload_core.specs.Delivered.{AreOldParts}
 use Rattle.payload_core.specs.EntryMoves.{dots_of_pairs, picked}
 use Rattle.payload_core.specs.Stores.{Store, store_of}
 use Rattle.payload_core.proofs.Undelivered.{entries_after, entries_back, joining_new, left_are_departures, left_new, seen_after, seen_back}
-use Rattle.payload_core.proofs.Refused.{none_given, store_stays}
+use Rattle.payload_core.proofs.Refused.{none_given, store_stays, room_left}
 use Rattle.payload_core.proofs.store_deliveries.merge.Goals as goal
 
 pub put_each-requires-clause-new : goal.put_each-requires-clause-new
@@ -99,3 +99,6 @@ pub returns-in_err-make_ready-clause-err : goal.returns-in_err-make_ready-clause
 returns-in_err-make_ready-clause-err g c =
     store_stays c.from_residual-in_err-make_ready.result _ _ c.args.store.now c.in_err-make_ready.ensures.seen_stay
     c.in_err-make_ready.ensures.entries c.store.view_is
+
+pub put_each-requires-clause-room : goal.put_each-requires-clause-room
+put_each-requires-clause-room g c = room_left _ _ _ _ (c.len.ensures ∙ c.args.joining.ok.0) c.in_ok-make_ready.ensures.room c.move_each.ensures.room

@@ -1,8 +1,10 @@
-use Rattle.std.proofs.Common.{refl, subst₂, sym}
+use Rattle.std.proofs.Common.{refl, subst₂, sym, ◌≡◌, ◌∙◌, ap, rules, subst}
 use Rattle.dots_core.specs.Contexts.{IsNext}
 use Rattle.payload_core.specs.Presences.{Entry}
 use Rattle.payload_core.specs.Stores.{Store}
 use Rattle.payload_core.proofs.Refused.{store_stays}
+use Rattle.std.specs.FinMap as fin
+use Rattle.dots_core.specs.Dots.{IsValid}
 use Rattle.payload_core.proofs.store_joins.join.Goals as goal
 
 pub unwrap-requires : goal.unwrap-requires
@@ -16,3 +18,16 @@ returns-in_err-copy-clause-store_stays g c =
 pub returns-in_err-copy-clause-delta_stays : goal.returns-in_err-copy-clause-delta_stays
 returns-in_err-copy-clause-delta_stays g c =
     store_stays c.from_residual.result _ _ c.args.delta.now c.in_err-copy.ensures.seen_stay c.in_err-copy.ensures.delta_entries c.delta.view_is
+
+pub insert-requires : goal.insert-requires
+insert-requires g c = (search rules, subst (λ (e : Entry). IsValid e.dot) (sym c.entry.view_is) c.requires.valid)
+
+pub put-requires-clause-new : goal.put-requires-clause-new
+put-requires-clause-new g c = 
+    ap (λ m. fin.get m c.args.entry.dot) (c.in_ok-copy.ensures.entries ∙ ap (λ (s : Store). s.entries) c.store.view_is) ∙ c.requires.absent
+
+pub put-requires-2-clause-new : goal.put-requires-2-clause-new
+put-requires-2-clause-new g c = 
+    ap (λ (e : Entry). fin.get c.ready_copy.new.delta_entries.map e.dot) c.in_ok-copy.ensures.copy
+    ∙ ap (λ m. fin.get m c.args.entry.dot) (c.in_ok-copy.ensures.delta_entries ∙ ap (λ (s : Store). s.entries) c.delta.view_is)
+    ∙ c.requires.absent_in_delta

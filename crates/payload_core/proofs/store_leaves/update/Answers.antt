@@ -6,6 +6,7 @@ use Rattle.payload_core.specs.Presences.{Entry}
 use Rattle.payload_core.specs.Stores.{Store}
 use Rattle.payload_core.proofs.StoreEdits.{never_absent, absent_after}
 use Rattle.payload_core.proofs.Refused.{store_stays}
+use Rattle.dots_core.specs.Dots.{IsValid}
 use Rattle.payload_core.proofs.store_leaves.update.Goals as goal
 
 pub ready_copy-requires : goal.ready_copy-requires
@@ -50,3 +51,6 @@ returns-in_err-copy-clause-store_stays g c =
 pub returns-in_err-copy-clause-delta_stays : goal.returns-in_err-copy-clause-delta_stays
 returns-in_err-copy-clause-delta_stays g c =
     store_stays c.from_residual.result _ _ c.args.delta.now c.in_err-copy.ensures.seen_stay c.in_err-copy.ensures.delta_entries c.delta.view_is
+
+pub insert-requires : goal.insert-requires
+insert-requires g c = (search rules, subst (λ (e : Entry). IsValid e.dot) (sym c.entry.view_is) c.requires.valid_fresh)

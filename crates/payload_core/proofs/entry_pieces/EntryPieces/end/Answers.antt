@@ -1,6 +1,6 @@
-use Rattle.std.proofs.Common.{◌≡◌, ◌∙◌, ◌-◌, length, slice_get, Some, ap, sym, arith}
+use Rattle.std.proofs.Common.{◌≡◌, ◌∙◌, ◌-◌, length, slice_get, Some, ap, sym, arith, None}
 use Rattle.payload_core.specs.Pieces.{place_in, Pieces}
-use Rattle.payload_core.proofs.Pieces.{before-last, some_at}
+use Rattle.payload_core.proofs.Pieces.{before-last, some_at, last-none}
 use Rattle.payload_core.proofs.entry_pieces.EntryPieces.end.Goals as goal
 
 pub returns-in-Some-clause-place : goal.returns-in-Some-clause-place
@@ -17,3 +17,8 @@ returns-in-Some-clause-place g c =
     ap (λ i. place_in c.args.self.now.pieces (record { piece = i; inner = c.len-in-Some.result })) place
     ∙ ap (λ j. place_in c.args.self.now.pieces (record { piece = length c.args.self.now.pieces - 1; inner = j })) c.len-in-Some.ensures.len
     ∙ whole
+
+pub returns-in-None-clause-place : goal.returns-in-None-clause-place
+returns-in-None-clause-place g c = 
+    let same = c.deref.ensures.value ∙ ap (λ (s : Pieces). s.pieces) c.self.view_is in
+    last-none c.args.self.now.pieces (ap (λ ps. slice_get ps (length ps - 1)) (sym same) ∙ sym c.in-None.ensures.value)
