@@ -8,6 +8,7 @@ pub mod PieceSearch
 pub mod Pieces
 pub mod PutBack
 pub mod RisingEntries
+pub mod Rooms
 pub mod SeenEntries
 pub mod SeenTogether
 pub mod Skipped

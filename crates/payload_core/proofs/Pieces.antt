@@ -1,10 +1,10 @@
 -- A list of entries in pieces: what an edit of a piece is for the whole.
-use Rattle.std.proofs.Common.{◌≡◌, ℕ, zero, suc, ◌+◌, ◌-◌, ◌<◌, ◌≤◌, List, [], ◌∷◌, ◌++◌, length, take, drop, slice_get, slice_set, get_or, nat_le, if◌then◌else◌, Bool, true, false, None, Some, filter, option_map, refl, sym, ap, subst, ◌∙◌, arith}
+use Rattle.std.proofs.Common.{◌≡◌, ℕ, zero, suc, ◌+◌, ◌-◌, ◌*◌, ◌<◌, ◌≤◌, List, [], ◌∷◌, ◌++◌, length, take, drop, slice_get, slice_set, get_or, nat_le, nat_eq, true≢false, if◌then◌else◌, Bool, true, false, None, Some, filter, option_map, refl, sym, ap, subst, ◌∙◌, arith}
 use Rattle.std.specs.List.{insert, remove, find, AllByRecursion}
 use Rattle.std.proofs.lemmas.Bool.{leb-true, leb-false}
 use Rattle.std.proofs.lemmas.List.{append_assoc, append-nil, drop_all, drop_more, length-append, take_more}
 use Rattle.payload_core.specs.Presences.{Entry}
-use Rattle.payload_core.specs.Pieces.{joined, beyond_half, crowd_of, IsFilled, IsHalved, IsOpenBelow, once_halved, place_in}
+use Rattle.payload_core.specs.Pieces.{joined, beyond_half, crowd_of, IsFilled, IsHalved, IsOpen, IsOpenBelow, once_halved, place_in}
 use Rattle.payload_core.specs.declared.spot.Spot.{Spot}
 
 -- the entry at a place of the first of two lists, or of the second
@@ -499,17 +499,21 @@ pub counted-all : (ps : List (List Entry)) (i count : ℕ) → length ps ≤ i �
     count ≡ beyond_half ps
 counted-all ps i count past so_far = let none = ap beyond_half (drop_all i ps past) in omega (arith, none, so_far)
 
+pub crowd-tested : (ps : List (List Entry)) → nat_eq (length ps) 0 ≡ false → crowd_of ps ≡ beyond_half ps
+crowd-tested [] tested = absurd (true≢false tested)
+crowd-tested (p ∷ ps) tested = refl
+
 pub crowd-none : (ps : List (List Entry)) → length ps ≡ 0 → 64 ≡ crowd_of ps
 crowd-none [] none = refl
 crowd-none (p ∷ ps) none = absurd (omega (arith, none))
 
+nothing_before : (i : ℕ) → length (joined (take i [])) ≡ 0
+nothing_before zero = refl
+nothing_before (suc i) = refl
+
 -- where there is no piece, a spot is the first one
 pub first-spot : (ps : List (List Entry)) (s : Spot) → place_in ps s ≡ length (joined ps) → length ps ≡ 0 → s.inner ≡ 0
 first-spot [] s place none = let first = nothing_before s.piece in omega (arith, place, first)
-  where
-    nothing_before : (i : ℕ) → length (joined (take i [])) ≡ 0
-    nothing_before zero = refl
-    nothing_before (suc i) = refl
 first-spot (p ∷ ps) s place none = absurd (omega (arith, none))
 
 pub last-none : (ps : List (List Entry)) → slice_get ps (length ps - 1) ≡ None → 0 ≡ length (joined ps)
@@ -520,3 +524,42 @@ last-none (p ∷ ps) none = absurd (some-there (p ∷ ps) (length (p ∷ ps) - 1
     some-there [] i within none = omega arith
     some-there (q ∷ ps) zero within none = absurd (cc)
     some-there (q ∷ ps) (suc i) within none = some-there ps i (omega arith) none
+
+-- one more stands behind the others
+pub one-longer : {X : Type 0} (now between before : List X) (x : X) (n : ℕ) → now ≡ between ++ x ∷ [] → between ≡ before → length before ≡ n →
+    length now ≡ n + 1
+one-longer now between before x n pushed same long =
+    let more = ap length (pushed ∙ ap (λ xs. xs ++ x ∷ []) same) in let both = length-append before (x ∷ []) in omega (arith, more, both, long)
+
+pub more-last : {X : Type 0} (now between before : List X) (x : X) (n : ℕ) → now ≡ between ++ x ∷ [] → between ≡ before → n ≤ length before →
+    n ≤ length now
+more-last now between before x n pushed same least =
+    let more = ap length (pushed ∙ ap (λ xs. xs ++ x ∷ []) same) in let both = length-append before (x ∷ []) in omega (arith, more, both, least)
+
+pub all-last : {X : Type 0} (P : X → Type 0) (now between before : List X) (x : X) → now ≡ between ++ x ∷ [] → between ≡ before →
+    AllByRecursion P before → P x → AllByRecursion P now
+all-last P now between before x pushed same all last = subst (AllByRecursion P) (sym (pushed ∙ ap (λ xs. xs ++ x ∷ []) same)) (go before all)
+  where
+    go : (xs : List _) → AllByRecursion P xs → AllByRecursion P (xs ++ x ∷ [])
+    go [] none = (last, tt)
+    go (y ∷ xs) some = (some.0, go xs some.1)
+
+-- an entry was put in at a spot
+pub once-put : (ps : List (List Entry)) (s : Spot) (e : Entry) (count : ℕ) (now : List Entry) → (0 < length ps → IsOpen ps s) →
+    (length ps ≡ 0 → s.inner ≡ 0) → count ≡ length (joined ps) → now ≡ insert (joined ps) (place_in ps s) e → count + 1 ≡ length now
+once-put ps s e count now gap first counted put =
+    let long = length-insert (joined ps) (place_in ps s) e (within ps gap first) in let same = ap length put in omega (arith, long, same, counted)
+  where
+    within : (ps : List (List Entry)) → (0 < length ps → IsOpen ps s) → (length ps ≡ 0 → s.inner ≡ 0) → place_in ps s ≤ length (joined ps)
+    within [] gap first = let none = nothing_before s.piece in let inner = first refl in omega (arith, none, inner)
+    within (p ∷ ps) gap first =
+        let here = gap (omega arith) in
+        let around = length-around (p ∷ ps) s.piece here.piece here.at in
+        let inner = here.within in omega (arith, around, inner)
+
+pub room-used : (count left : ℕ) → 0 < left → count + left ≤ 4611686018427387904 → (count + 1) + (left - 1) ≤ 4611686018427387904
+room-used count left some few = omega (arith, some, few)
+
+pub spares-enough : (left spares now crowd after : ℕ) → 0 < left → left + crowd ≤ 64 * spares → 64 * spares + after ≤ 64 * now + crowd + 1 →
+    (left - 1) + after ≤ 64 * now
+spares-enough left spares now crowd after some enough kept = omega (arith, some, enough, kept)

@@ -6,6 +6,7 @@ use Rattle.std.specs.FinMap as fin
 use Rattle.std.specs.FinSet as set
 use Rattle.dots_core.specs.declared.dot.Dot.{Dot}
 use Rattle.payload_core.specs.Presences.{Entry, Entries, entry_of}
+use Rattle.payload_core.specs.Messages.{Message}
 use Rattle.payload_core.specs.Stores.{Store, leaves}
 
 -- two stores of the same dots are the same where their entries are
@@ -22,6 +23,17 @@ module _ (r : Bool) (one second s t : Store) (one_is : one ≡ s) (second_is : s
     λ yes. absurd (true≢false (sym yes ∙ none)),
     λ same. seen.1 (ap (λ (x : Store). x.seen) (one_is ∙ same ∙ sym second_is)),
   )
+
+-- two messages of the same sender, dots and entries are the same where they ask for the same
+pub messages_same : (r : Bool) (one second m n : Message) → one ≡ m → second ≡ n → second.sender ≡ one.sender → one.seen ≡ second.seen →
+    one.entries ≡ second.entries → IsTrue r ↔ (one.asked ≡ second.asked) → IsTrue r ↔ (m ≡ n)
+messages_same r one second m n one_is second_is sender seen entries asked = (
+  λ yes. sym one_is ∙ (λ i. record { sender = sym sender i; seen = seen i; entries = entries i; asked = asked.0 yes i }) ∙ second_is,
+  λ same. asked.1 (ap (λ (x : Message). x.asked) (one_is ∙ same ∙ sym second_is)),
+)
+
+pub not_same : {X : Type 0} (r : Bool) (m n : X) → r ≡ false → (m ≡ n → ⊥) → IsTrue r ↔ (m ≡ n)
+not_same r m n none never = (λ yes. absurd (true≢false (sym yes ∙ none)), λ same. absurd (never same))
 
 -- one thing holds, and a test tells whether another doesn't
 pub and_not : {N H : Type 0} (r : Bool) → N → IsTrue r ↔ H → IsTrue (not r) ↔ (N × (H → ⊥))

@@ -1,8 +1,9 @@
 -- A delivery's edits give the store of the definition, and are taken back.
-use Rattle.std.proofs.Common.{◌≡◌, ◌↔◌, ℕ, ◌+◌, ◌<◌, ◌≤◌, ◌==◌, ◌&&◌, ◌||◌, ◌⊎◌, inl, inr, not, T, Bool, true, false, cond, List, [], ◌∷◌, ◌++◌, length}
+use Rattle.std.proofs.Common.{◌≡◌, ◌↔◌, ℕ, ◌+◌, ◌<◌, ◌≤◌, ◌==◌, ◌&&◌, ◌||◌, ◌⊎◌, inl, inr, not, T, Bool, true, false, cond, List, [], ◌∷◌, ◌++◌, length, take, get_or}
 use Rattle.std.proofs.Common.{Option, Some, None, is_some, refl, sym, ap, subst, ◌∙◌, arith, true≢false}
 use Rattle.std.proofs.Math.Bool.{or-false, or-true}
 use Rattle.std.proofs.Math.Facts.{and_yes}
+use Rattle.std.proofs.lemmas.List.{take_more}
 use Rattle.std.proofs.lemmas.Bool.{cases_lt, eq-eqb, ne_eqb, or_cases}
 use Rattle.std.specs.List.{AllByRecursion, list_any}
 use Rattle.std.specs.Option.{option_or}
@@ -335,3 +336,14 @@ module _ (named : ℕ → Bool) (other s : Dots) where
 pub none_to_put : (ps : List OldPart) (n : ℕ) (s : Dots) → n ≡ 0 → n ≡ length ps → with_parts ps s ≡ s
 none_to_put [] n s none long = refl
 none_to_put (p ∷ ps) n s none long = absurd (omega (arith, none, long))
+
+-- the dots of the entries so far, and of one more
+pub dots_next : (ds now : List Dot) (es : List Entry) (i : ℕ) (e : Entry) (d : Dot) → i < length es → e ≡ get_or es i e → d ≡ e.dot →
+    ds ≡ dots_of_pairs (pairs (take i es)) → now ≡ ds ++ d ∷ [] → now ≡ dots_of_pairs (pairs (take (i + 1) es))
+dots_next ds now es i e d within read same before pushed =
+    pushed ∙ ap (λ xs. xs ++ d ∷ []) before ∙ ap (λ x. dots_of_pairs (pairs (take i es)) ++ x ∷ []) (same ∙ ap (λ (x : Entry). x.dot) read)
+    ∙ sym (go (take i es) (get_or es i e)) ∙ ap (λ xs. dots_of_pairs (pairs xs)) (sym (take_more es i e within))
+  where
+    go : (xs : List Entry) (x : Entry) → dots_of_pairs (pairs (xs ++ x ∷ [])) ≡ dots_of_pairs (pairs xs) ++ x.dot ∷ []
+    go [] x = refl
+    go (y ∷ xs) x = ap (λ zs. y.dot ∷ zs) (go xs x)
