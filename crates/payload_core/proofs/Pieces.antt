@@ -1,5 +1,5 @@
 -- A list of entries in pieces: what an edit of a piece is for the whole.
-use Rattle.std.proofs.Common.{◌≡◌, ℕ, zero, suc, ◌+◌, ◌-◌, ◌*◌, ◌<◌, ◌≤◌, List, [], ◌∷◌, ◌++◌, length, take, drop, slice_get, slice_set, get_or, nat_le, nat_eq, true≢false, if◌then◌else◌, Bool, true, false, None, Some, filter, option_map, refl, sym, ap, subst, ◌∙◌, arith}
+use Rattle.std.proofs.Common.{◌≡◌, ℕ, zero, suc, ◌+◌, ◌-◌, ◌*◌, ◌<◌, ◌≤◌, List, [], ◌∷◌, ◌++◌, length, take, drop, slice_get, slice_set, get_or, nat_le, nat_eq, true≢false, if◌then◌else◌, Bool, true, false, Option, None, Some, filter, option_map, refl, sym, ap, subst, ◌∙◌, arith}
 use Rattle.std.specs.List.{insert, remove, find, AllByRecursion}
 use Rattle.std.proofs.lemmas.Bool.{leb-true, leb-false}
 use Rattle.std.proofs.lemmas.List.{append_assoc, append-nil, drop_all, drop_more, length-append, take_more}
@@ -394,6 +394,9 @@ get-behind ps i j p within read inner =
     ap (λ x. slice_get (joined x) j) (drop_more ps i p within ∙ ap (λ x. x ∷ drop (i + 1) ps) (sym read))
     ∙ get_second p (joined (drop (i + 1) ps)) (j - length p) j (omega (arith, inner))
 
+pub one_piece : {o : Option (List Entry)} {p q : List Entry} → Some p ≡ o → o ≡ Some q → p ≡ q
+one_piece here there = cc
+
 pub read_at : (ps : List (List Entry)) (i : ℕ) (p x : List Entry) → slice_get ps i ≡ Some p → get_or ps i x ≡ p
 read_at [] i p x at = absurd (cc)
 read_at (q ∷ ps) zero p x at = let same : q ≡ p = cc in same
@@ -543,6 +546,15 @@ all-last P now between before x pushed same all last = subst (AllByRecursion P) 
     go : (xs : List _) → AllByRecursion P xs → AllByRecursion P (xs ++ x ∷ [])
     go [] none = (last, tt)
     go (y ∷ xs) some = (some.0, go xs some.1)
+
+-- one more stands among the spare pieces, for which there is room
+pub fits-more : (pieces now spares now_spares room : ℕ) → now ≡ pieces → now_spares ≡ spares + 1 → pieces + (spares + 1) ≤ room →
+    now + now_spares ≤ room
+fits-more pieces now spares now_spares room same more fits = omega (arith, same, more, fits)
+
+pub fits-spares : (pieces now spares now_spares room now_room : ℕ) → now ≡ pieces → now_spares ≡ spares + 1 → spares + (pieces + 1) ≤ room →
+    now_room ≡ room → now + now_spares ≤ now_room
+fits-spares pieces now spares now_spares room now_room same more fits stays = omega (arith, same, more, fits, stays)
 
 -- an entry was put in at a spot
 pub once-put : (ps : List (List Entry)) (s : Spot) (e : Entry) (count : ℕ) (now : List Entry) → (0 < length ps → IsOpen ps s) →

@@ -1,6 +1,7 @@
 -- What a test of each part tells of a whole.
-use Rattle.std.proofs.Common.{◌≡◌, ◌∙◌, ℕ, ◌&&◌, not, Bool, true, false, Bor, Option, Some, None, is_some, refl, sym, ap, true≢false}
-use Rattle.std.specs.Prelude.{IsTrue, ◌↔◌}
+use Rattle.std.proofs.Common.{◌≡◌, ◌∙◌, ℕ, zero, suc, ◌<◌, ◌≤◌, ◌&&◌, not, Bool, true, false, Bor, Option, Some, None, is_some, Result, Ok}
+use Rattle.std.proofs.Common.{List, [], ◌∷◌, length, take, take_all, slice_get, refl, sym, ap, subst, arith, true≢false}
+use Rattle.std.specs.Prelude.{IsTrue, OnOk, ◌↔◌}
 use Rattle.std.specs.Option.{option_copied, option_map}
 use Rattle.std.specs.FinMap as fin
 use Rattle.std.specs.FinSet as set
@@ -8,6 +9,35 @@ use Rattle.dots_core.specs.declared.dot.Dot.{Dot}
 use Rattle.payload_core.specs.Presences.{Entry, Entries, entry_of}
 use Rattle.payload_core.specs.Messages.{Message}
 use Rattle.payload_core.specs.Stores.{Store, leaves}
+
+pub store_is : (s t : Store) → s.seen ≡ t.seen → s.entries ≡ t.entries → s ≡ t
+store_is s t seen entries = λ i. record { seen = seen i; entries = entries i }
+
+-- what a call ensures where it gives this
+pub ok_of : {X E P : Type 0} (r : Result X E) (x : X) → r ≡ Ok x → OnOk r P → P
+ok_of {P = P} r x is ensured = subst (λ s. OnOk s P) is ensured
+
+-- nothing is left
+pub none_left : {X Y : Type 0} (f : List X → Y) (xs : List X) (n : ℕ) → n ≡ 0 → n ≡ length xs → f xs ≡ f []
+none_left f [] n none long = refl
+none_left f (x ∷ xs) n none long = absurd (omega (arith, none, long))
+
+-- an entry stands at each place of a list
+pub never_same : (es : List Entry) {fs : List Entry} (i n : ℕ) → i < n → n ≡ length es → None ≡ slice_get es i → IsTrue false ↔ (es ≡ fs)
+never_same es i n within long none = absurd (go es i (omega (arith, within, long)) none)
+  where
+    go : (es : List Entry) (i : ℕ) → i < length es → None ≡ slice_get es i → ⊥
+    go [] i within none = omega arith
+    go (e ∷ es) zero within none = absurd (cc)
+    go (e ∷ es) (suc i) within none = go es i (omega arith) none
+
+-- two lists of one length are the same where so many of them are
+pub whole_same : (es fs : List Entry) (i end n m : ℕ) → end ≡ length es → n ≡ length es → m ≡ length fs → n ≡ m → end ≤ i →
+    take i es ≡ take i fs → IsTrue true ↔ (es ≡ fs)
+whole_same es fs i end n m end_is n_is m_is same past so_far = (
+  λ yes. sym (take_all i es (omega (arith, end_is, past))) ∙ so_far ∙ take_all i fs (omega (arith, end_is, n_is, m_is, same, past)),
+  λ whole. refl,
+)
 
 -- two stores of the same dots are the same where their entries are
 module _ (r : Bool) (one second s t : Store) (one_is : one ≡ s) (second_is : second ≡ t) where

@@ -1,4 +1,4 @@
-use Rattle.std.proofs.Common.{◌≡◌, ◌∷◌, length, ap, sym, subst, ◌∙◌, arith}
+use Rattle.std.proofs.Common.{◌≡◌, ◌∷◌, length, ap, sym, subst, ◌∙◌, arith, List}
 use Rattle.std.specs.Vec.Iter.{into_iter_items}
 use Rattle.payload_core.specs.EntryLists.{pairs}
 use Rattle.payload_core.specs.LeftEntries.{IsFree, Left}
@@ -6,6 +6,7 @@ use Rattle.payload_core.specs.EntryMoves.{AreNew, with_each}
 use Rattle.payload_core.specs.LeavesTogether.{entries_left, unsent_left}
 use Rattle.payload_core.proofs.StoreEdits.{on_ok}
 use Rattle.payload_core.proofs.LeftTogether.{entry_first, entry_with, unsent_first, unsent_with}
+use Rattle.payload_core.proofs.Told.{none_left}
 use Rattle.payload_core.proofs.leaves_together.put_lefts.Goals as goal
 
 pub put_back-requires-clause-absent : goal.put_back-requires-clause-absent
@@ -36,3 +37,15 @@ loop-left-preserved g c =
           ap (with_each (pairs (unsent_left rest))) c.put_back.ensures.map
           ∙ sym (unsent_with _ rest left at c.loop-left.delta_entries.map) ∙ c.loop-left.invariant.delta_rest;
     }
+
+pub returns-clause-entries : goal.returns-clause-entries
+returns-clause-entries g c = 
+    sym (none_left (λ (ls : List Left). with_each (pairs (entries_left ls)) c.loop-left.entries.map) _ _ c.in-None.ensures.steps.0
+    c.loop-left.left-iterator.rest.ok.0)
+    ∙ c.loop-left.invariant.rest
+
+pub returns-clause-delta_entries : goal.returns-clause-delta_entries
+returns-clause-delta_entries g c = 
+    sym (none_left (λ (ls : List Left). with_each (pairs (unsent_left ls)) c.loop-left.delta_entries.map) _ _ c.in-None.ensures.steps.0
+    c.loop-left.left-iterator.rest.ok.0)
+    ∙ c.loop-left.invariant.delta_rest

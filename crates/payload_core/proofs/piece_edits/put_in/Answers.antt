@@ -1,7 +1,7 @@
 use Rattle.std.proofs.Common.{◌≡◌, ◌∙◌, ℕ, length, insert, sym, ap, subst, arith}
 use Rattle.std.proofs.lemmas.Grind.{common_steps, elements}
 use Rattle.payload_core.specs.Pieces.{IsOpenBelow, joined, place_in}
-use Rattle.payload_core.proofs.Pieces.{halved-crowd, halved-joined, halved-open, halved-place, some_at}
+use Rattle.payload_core.proofs.Pieces.{one_piece, halved-crowd, halved-joined, halved-open, halved-place, some_at}
 use Rattle.payload_core.proofs.piece_edits.put_in.Goals as goal
 
 pub put_at-requires-2-clause-open : goal.put_at-requires-2-clause-open
@@ -9,7 +9,7 @@ put_at-requires-2-clause-open g c =
     let halved = c.halve_at.ensures.halved in
     let here = some_at c.args.pieces.now.items c.args.spot.piece halved.piece halved.at in
     let gap = c.requires.open (omega (arith, here)) in
-    let same : gap.piece ≡ halved.piece = cc (gap.at, halved.at) in
+    let same : gap.piece ≡ halved.piece = one_piece (sym gap.at) halved.at in
     let long = ap length same in
     let full = halved.full in
     let within = gap.within in

@@ -2,11 +2,12 @@ use Rattle.std.proofs.Common.{◌≡◌, ap, false, refl, rules, subst, subst₂
 use Rattle.std.specs.FinMap as fin
 use Rattle.std.specs.FinSet as set
 use Rattle.dots_core.specs.Contexts.{IsLast, IsNext}
-use Rattle.payload_core.specs.Presences.{Entry}
+use Rattle.payload_core.specs.Presences.{Entry, presence_of}
 use Rattle.payload_core.specs.Stores.{Store}
 use Rattle.payload_core.proofs.StoreEdits.{never_absent, absent_after}
 use Rattle.payload_core.proofs.Refused.{store_stays}
 use Rattle.dots_core.specs.Dots.{IsValid}
+use Rattle.payload_core.proofs.Told.{ok_of, store_is}
 use Rattle.payload_core.proofs.store_leaves.update.Goals as goal
 
 pub ready_copy-requires : goal.ready_copy-requires
@@ -54,3 +55,21 @@ returns-in_err-copy-clause-delta_stays g c =
 
 pub insert-requires : goal.insert-requires
 insert-requires g c = (search rules, subst (λ (e : Entry). IsValid e.dot) (sym c.entry.view_is) c.requires.valid_fresh)
+
+pub returns-clause-store : goal.returns-clause-store
+returns-clause-store g c = 
+    store_is _ _
+    (ok_of c.insert.result _ c.unwrap.ensures c.insert.ensures.ok ∙ ap (λ (s : Store). set.insert s.seen c.entry.inside.dot) c.store.view_is
+    ∙ ap (λ (e : Entry). set.insert c.args.store.now.seen e.dot) c.entry.view_is)
+    (ok_of c.insert-2.result _ c.unwrap-2.ensures c.insert-2.ensures.ok
+    ∙ ap (λ m. fin.insert m c.args.entry.dot (presence_of c.args.entry))
+    (c.remove.ensures.map ∙ ap (λ m. fin.remove m c.args.dot) (c.in_ok-copy.ensures.entries ∙ ap (λ (s : Store). s.entries) c.store.view_is)))
+
+pub returns-clause-delta : goal.returns-clause-delta
+returns-clause-delta g c = 
+    store_is _ _
+    (c.in_ok-copy.ensures.seen ∙ ap (λ (s : Store). set.insert (set.insert s.seen c.args.dot) c.args.entry.dot) c.delta.view_is)
+    (ok_of c.insert-3.result _ c.unwrap-3.ensures c.insert-3.ensures.ok
+    ∙ ap (λ (e : Entry). fin.insert c.remove-unsent.new.self.map e.dot (presence_of e)) c.in_ok-copy.ensures.copy
+    ∙ ap (λ m. fin.insert m c.args.entry.dot (presence_of c.args.entry))
+    (c.remove-unsent.ensures.map ∙ ap (λ m. fin.remove m c.args.dot) (c.in_ok-copy.ensures.delta_entries ∙ ap (λ (s : Store). s.entries) c.delta.view_is)))
