@@ -7,7 +7,7 @@ returns g c =
     c.loop-entry.invariant ∙ ap (λ es. c.args.list.now.items ++ es) (take_all c.loop-entry.entry-index c.args.entries.now c.loop-entry-test.false)
 
 pub loop-entry-preserved : goal.loop-entry-preserved
-loop-entry-preserved g c = 
+loop-entry-preserved g c =
     pushed-next c.args.list.now.items c.loop-entry.list.items c.push.new.self.items c.args.entries.now c.loop-entry.entry-index
     c.entry-item.result c.in_ok-try_copy.field-0 c.loop-entry-test.true c.entry-item.is c.in_ok-try_copy.ensures c.loop-entry.invariant
     c.in_ok-push.ensures.items

@@ -6,6 +6,6 @@ use Rattle.payload_core.proofs.Told.{none_left}
 use Rattle.payload_core.proofs.entry_moves.put_each.Goals as goal
 
 pub returns : goal.returns
-returns g c = 
+returns g c =
     sym (none_left (λ (es : List Entry). with_each (pairs es) c.loop-entry.entries.map) _ _ c.in-None.ensures.steps.0 c.loop-entry.entry-iterator.rest.ok.0)
     ∙ c.loop-entry.invariant.rest

@@ -6,6 +6,6 @@ pub see_each-requires : goal.see_each-requires
 see_each-requires g c = (search rules, c.requires.valid)
 
 pub returns : goal.returns
-returns g c = 
+returns g c =
     c.in_ok-see_next.ensures.seen
     ∙ ap (with_next c.args.name c.args.clock (length c.args.dots.now)) (c.in_ok-see_each.ensures ∙ ap (with_dots c.args.dots.now) c.in_ok-copy.ensures)

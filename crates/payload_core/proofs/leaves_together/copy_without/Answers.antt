@@ -6,7 +6,7 @@ pub unsee_each-requires : goal.unsee_each-requires
 unsee_each-requires g c = (search rules, c.requires.valid)
 
 pub returns : goal.returns
-returns g c = 
+returns g c =
     c.in_ok-unsee_each.ensures
     ∙ ap (dots_before_each c.args.lefts.now) (c.in_ok-unsee_next.ensures.seen
     ∙ ap (without_next c.args.name c.args.clock (length c.args.lefts.now)) c.in_ok-copy.ensures)

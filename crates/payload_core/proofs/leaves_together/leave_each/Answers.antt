@@ -15,14 +15,14 @@ pub make_ready_to_leave-requires : goal.make_ready_to_leave-requires
 make_ready_to_leave-requires g c = (search rules, (c.requires.valid, (c.requires.name, c.requires.fits)))
 
 pub returns-clause-store : goal.returns-clause-store
-returns-clause-store g c = 
+returns-clause-store g c =
     store_is _ _
     (ok_of c.see_next.result _ c.unwrap.ensures c.see_next.ensures.seen
     ∙ ap (λ (s : Store). with_next c.args.name c.args.clock (length c.args.dots.now) s.seen) c.store.view_is)
     (c.take_lefts-lefts.ensures.entries ∙ ap (λ (s : Store). without_each c.args.dots.now s.entries) c.store.view_is)
 
 pub returns-clause-delta : goal.returns-clause-delta
-returns-clause-delta g c = 
+returns-clause-delta g c =
     store_is _ _
     (c.in_ok-lefts.ensures.seen
     ∙ ap (λ (s : Store). with_next c.args.name c.args.clock (length c.args.dots.now) (with_dots c.args.dots.now s.seen)) c.delta.view_is)

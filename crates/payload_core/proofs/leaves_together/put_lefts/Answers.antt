@@ -39,13 +39,13 @@ loop-left-preserved g c =
     }
 
 pub returns-clause-entries : goal.returns-clause-entries
-returns-clause-entries g c = 
+returns-clause-entries g c =
     sym (none_left (λ (ls : List Left). with_each (pairs (entries_left ls)) c.loop-left.entries.map) _ _ c.in-None.ensures.steps.0
     c.loop-left.left-iterator.rest.ok.0)
     ∙ c.loop-left.invariant.rest
 
 pub returns-clause-delta_entries : goal.returns-clause-delta_entries
-returns-clause-delta_entries g c = 
+returns-clause-delta_entries g c =
     sym (none_left (λ (ls : List Left). with_each (pairs (unsent_left ls)) c.loop-left.delta_entries.map) _ _ c.in-None.ensures.steps.0
     c.loop-left.left-iterator.rest.ok.0)
     ∙ c.loop-left.invariant.delta_rest

@@ -26,17 +26,17 @@ unwrap-requires g c =
     c.requires.last))
 
 pub put_lefts-requires-clause-new : goal.put_lefts-requires-clause-new
-put_lefts-requires-clause-new g c = 
+put_lefts-requires-clause-new g c =
     subst (AreNew (pairs (entries_left c.args.lefts.items))) (sym (c.in-Ok.ensures.entries ∙ ap (λ (s : Store). s.entries) c.store.view_is))
     c.requires.new
 
 pub put_lefts-requires-clause-new_in_delta : goal.put_lefts-requires-clause-new_in_delta
-put_lefts-requires-clause-new_in_delta g c = 
+put_lefts-requires-clause-new_in_delta g c =
     subst (AreNew (pairs (unsent_left c.args.lefts.items))) (sym (c.in-Ok.ensures.delta_entries ∙ ap (λ (s : Store). s.entries) c.delta.view_is))
     c.requires.new_in_delta
 
 pub returns-in-Ok-clause-store : goal.returns-in-Ok-clause-store
-returns-in-Ok-clause-store g c = 
+returns-in-Ok-clause-store g c =
     store_is _ _
     (ok_of c.unsee_next.result _ c.unwrap.ensures c.unsee_next.ensures.seen
     ∙ ap (λ n. without_next c.args.name c.args.clock n c.store.inside.seen) (c.len.ensures ∙ c.args.lefts.ok.0)
@@ -45,7 +45,7 @@ returns-in-Ok-clause-store g c =
     ∙ ap (with_each (pairs (entries_left c.args.lefts.items))) (c.in-Ok.ensures.entries ∙ ap (λ (s : Store). s.entries) c.store.view_is))
 
 pub returns-in-Ok-clause-delta : goal.returns-in-Ok-clause-delta
-returns-in-Ok-clause-delta g c = 
+returns-in-Ok-clause-delta g c =
     store_is _ _
     (c.in-Ok.ensures.seen
     ∙ ap (λ (ls : List Left). dots_before_each ls (without_next c.args.name c.args.clock (length ls) c.delta.inside.seen)) c.deref.ensures.value

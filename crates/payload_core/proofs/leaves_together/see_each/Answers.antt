@@ -8,12 +8,12 @@ pub insert-requires : goal.insert-requires
 insert-requires g c = (search rules, c.requires c.loop-dot.dot-index _ c.loop-dot-test.true)
 
 pub loop-dot-preserved : goal.loop-dot-preserved
-loop-dot-preserved g c = 
+loop-dot-preserved g c =
     ap (with_dots (drop (c.loop-dot.dot-index + 1) c.args.dots.now)) c.in_ok-insert.ensures.ok
     ∙ sym (at_drop_more (λ (ds : List Dot). with_dots ds c.loop-dot.seen) c.args.dots.now c.loop-dot.dot-index _ c.loop-dot-test.true)
     ∙ c.loop-dot.invariant
 
 pub returns : goal.returns
-returns g c = 
+returns g c =
     sym (at_drop_all (λ (ds : List Dot). with_dots ds c.loop-dot.seen) c.args.dots.now c.loop-dot.dot-index c.loop-dot-test.false)
     ∙ c.loop-dot.invariant

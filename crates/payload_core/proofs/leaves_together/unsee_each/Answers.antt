@@ -12,7 +12,7 @@ unsee-requires g c = (
 )
 
 pub loop-left-preserved : goal.loop-left-preserved
-loop-left-preserved g c = 
+loop-left-preserved g c =
     let rest = drop (c.loop-left.left-index + 1) c.args.lefts.now in
     ap (dots_before_each rest) c.in_ok-unsee.ensures
     ∙ ap (λ (l : Left). dots_before_each (l ∷ rest) c.loop-left.seen) c.left-item.is
@@ -20,6 +20,6 @@ loop-left-preserved g c =
     ∙ c.loop-left.invariant
 
 pub returns : goal.returns
-returns g c = 
+returns g c =
     sym (at_drop_all (λ (ls : List Left). dots_before_each ls c.loop-left.seen) c.args.lefts.now c.loop-left.left-index c.loop-left-test.false)
     ∙ c.loop-left.invariant

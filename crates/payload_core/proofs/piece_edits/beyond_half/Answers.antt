@@ -13,7 +13,7 @@ overflow_add-count g c =
     omega (arith, next, most, so_far, few, less, long)
 
 pub loop-piece-preserved : goal.loop-piece-preserved
-loop-piece-preserved g c = 
+loop-piece-preserved g c =
     counted-next c.args.pieces.now c.loop-piece.piece-index c.piece-item.result c.loop-piece.count c.saturating_sub-count.result c.len.result
     c.loop-piece-test.true c.piece-item.is c.len.ensures.len c.saturating_sub-count.ensures c.loop-piece.invariant
 

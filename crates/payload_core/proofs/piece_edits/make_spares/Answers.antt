@@ -3,7 +3,7 @@ use Rattle.payload_core.proofs.Pieces.{all-last, more-last, fits-more, fits-spar
 use Rattle.payload_core.proofs.piece_edits.make_spares.Goals as goal
 
 pub loop-preserved : goal.loop-preserved
-loop-preserved g c = 
+loop-preserved g c =
     let spares = c.push_reserved.ensures.items in
     let before = c.reserve-in-loop.ensures.items in
     record {

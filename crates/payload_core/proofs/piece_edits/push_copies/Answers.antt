@@ -6,7 +6,7 @@ use Rattle.payload_core.proofs.Pieces.{joined-here, none-left}
 use Rattle.payload_core.proofs.piece_edits.push_copies.Goals as goal
 
 pub loop-piece-preserved : goal.loop-piece-preserved
-loop-piece-preserved g c = 
+loop-piece-preserved g c =
     let rest = joined (drop (c.loop-piece.piece-index + 1) c.args.pieces.now) in
     ap (λ es. es ++ rest) (c.in_ok-push_copies.ensures ∙ ap (λ es. c.loop-piece.list.items ++ es) c.as_slice.ensures)
     ∙ append_assoc c.loop-piece.list.items c.piece-item.result rest
@@ -15,6 +15,6 @@ loop-piece-preserved g c =
     ∙ c.loop-piece.invariant
 
 pub returns : goal.returns
-returns g c = 
+returns g c =
     none-left (λ (es : List Entry). es) c.loop-piece.list.items _ c.args.pieces.now c.loop-piece.piece-index refl c.loop-piece-test.false
     c.loop-piece.invariant

@@ -21,6 +21,6 @@ loop-piece-preserved g c =
     ∙ c.loop-piece.invariant
 
 pub returns : goal.returns
-returns g c = 
+returns g c =
     none-left (dots_in c.args.name c.args.pid) c.loop-piece.dots.items _ c.args.pieces.now c.loop-piece.piece-index refl c.loop-piece-test.false
     c.loop-piece.invariant

@@ -17,6 +17,6 @@ loop-piece-preserved g c =
     ∙ c.loop-piece.invariant
 
 pub returns : goal.returns
-returns g c = 
+returns g c =
     none-left (filter (λ (e : Entry). set.contains c.args.names e.dot.name)) c.loop-piece.list.items _ c.args.pieces.now c.loop-piece.piece-index refl
     c.loop-piece-test.false c.loop-piece.invariant

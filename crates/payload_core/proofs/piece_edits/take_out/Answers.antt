@@ -38,12 +38,12 @@ returns-clause-enough g c =
     omega (arith, less, same, enough)
 
 pub give_back-requires-clause-here : goal.give_back-requires-clause-here
-give_back-requires-clause-here g c = 
+give_back-requires-clause-here g c =
     subst (λ n. c.args.spot.piece < n) (sym (length-set c.args.pieces.now.items c.args.spot.piece c.remove-entry.new.self))
     (some_at c.args.pieces.now.items c.args.spot.piece c.requires.held.piece c.requires.held.at)
 
 pub remove-entry-requires : goal.remove-entry-requires
-remove-entry-requires g c = 
+remove-entry-requires g c =
     let here = read_is c.args.pieces.now.items c.args.spot.piece c.requires.held.piece c.index_mut.result.now c.requires.held.at
     c.index_mut.ensures.value in
     subst (λ p. c.args.spot.inner < length p) (sym here) c.requires.held.within

@@ -6,11 +6,11 @@ use Rattle.payload_core.proofs.Undelivered.{dots_next}
 use Rattle.payload_core.proofs.store_deliveries.dots_of.Goals as goal
 
 pub loop-entry-preserved : goal.loop-entry-preserved
-loop-entry-preserved g c = 
+loop-entry-preserved g c =
     dots_next c.loop-entry.dots.items _ c.args.entries.now c.loop-entry.entry-index c.entry-item.result c.entry.inside.dot
     c.loop-entry-test.true c.entry-item.is (ap (λ (e : Entry). e.dot) c.entry.view_is) c.loop-entry.invariant c.in_ok-push.ensures.items
 
 pub returns : goal.returns
-returns g c = 
+returns g c =
     c.loop-entry.invariant
     ∙ ap (λ (es : List Entry). dots_of_pairs (pairs es)) (take_all c.loop-entry.entry-index c.args.entries.now c.loop-entry-test.false)

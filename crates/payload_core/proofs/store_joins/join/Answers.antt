@@ -1,4 +1,4 @@
-use Rattle.std.proofs.Common.{refl, subst₂, sym, ◌≡◌, ◌∙◌, ap, rules, subst}
+use Rattle.std.proofs.Common.{refl, subst₂, sym, ◌∙◌, ap, rules, subst}
 use Rattle.dots_core.specs.Contexts.{IsNext}
 use Rattle.payload_core.specs.Presences.{Entry, presence_of}
 use Rattle.payload_core.specs.Stores.{Store}
@@ -25,17 +25,17 @@ pub insert-requires : goal.insert-requires
 insert-requires g c = (search rules, subst (λ (e : Entry). IsValid e.dot) (sym c.entry.view_is) c.requires.valid)
 
 pub put-requires-clause-new : goal.put-requires-clause-new
-put-requires-clause-new g c = 
+put-requires-clause-new g c =
     ap (λ m. fin.get m c.args.entry.dot) (c.in_ok-copy.ensures.entries ∙ ap (λ (s : Store). s.entries) c.store.view_is) ∙ c.requires.absent
 
 pub put-requires-2-clause-new : goal.put-requires-2-clause-new
-put-requires-2-clause-new g c = 
+put-requires-2-clause-new g c =
     ap (λ (e : Entry). fin.get c.ready_copy.new.delta_entries.map e.dot) c.in_ok-copy.ensures.copy
     ∙ ap (λ m. fin.get m c.args.entry.dot) (c.in_ok-copy.ensures.delta_entries ∙ ap (λ (s : Store). s.entries) c.delta.view_is)
     ∙ c.requires.absent_in_delta
 
 pub returns-clause-store : goal.returns-clause-store
-returns-clause-store g c = 
+returns-clause-store g c =
     store_is _ _
     (ok_of c.insert.result _ c.unwrap.ensures c.insert.ensures.ok ∙ ap (λ (s : Store). set.insert s.seen c.entry.inside.dot) c.store.view_is
     ∙ ap (λ (e : Entry). set.insert c.args.store.now.seen e.dot) c.entry.view_is)
@@ -43,7 +43,7 @@ returns-clause-store g c =
     ∙ ap (λ m. fin.insert m c.args.entry.dot (presence_of c.args.entry)) (c.in_ok-copy.ensures.entries ∙ ap (λ (s : Store). s.entries) c.store.view_is))
 
 pub returns-clause-delta : goal.returns-clause-delta
-returns-clause-delta g c = 
+returns-clause-delta g c =
     store_is _ _ (c.in_ok-copy.ensures.seen ∙ ap (λ (s : Store). set.insert s.seen c.args.entry.dot) c.delta.view_is)
     (c.put-2.ensures ∙ ap (λ (e : Entry). fin.insert c.ready_copy.new.delta_entries.map e.dot (presence_of e)) c.in_ok-copy.ensures.copy
     ∙ ap (λ m. fin.insert m c.args.entry.dot (presence_of c.args.entry))

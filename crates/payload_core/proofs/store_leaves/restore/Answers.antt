@@ -5,7 +5,7 @@ use Rattle.payload_core.specs.LeftEntries.{IsFree, Left, dots_before}
 use Rattle.payload_core.specs.Stores.{Store}
 use Rattle.payload_core.proofs.StoreEdits.{absent_after, delta_back, free_after, last_readied}
 use Rattle.std.specs.FinSet as set
-use Rattle.payload_core.specs.Presences.{Entry, presence_of}
+use Rattle.payload_core.specs.Presences.{presence_of}
 use Rattle.payload_core.proofs.Told.{ok_of, store_is}
 use Rattle.payload_core.proofs.store_leaves.restore.Goals as goal
 
@@ -50,7 +50,7 @@ pub returns-in-Err-clause-delta_stays : goal.returns-in-Err-clause-delta_stays
 returns-in-Err-clause-delta_stays g c = store_is _ _ c.in-Err.ensures.seen_stay c.in-Err.ensures.delta_entries ∙ c.delta.view_is
 
 pub returns-clause-store : goal.returns-clause-store
-returns-clause-store g c = 
+returns-clause-store g c =
     store_is _ _ (c.take_out.ensures.seen ∙ ap (λ (s : Store). set.remove s.seen c.args.last) c.store.view_is)
     (ok_of c.insert.result _ c.unwrap.ensures c.insert.ensures.ok
     ∙ ap (λ m. fin.insert m c.left.inside.entry.dot (presence_of c.left.inside.entry))

@@ -57,7 +57,7 @@ pub insert-requires : goal.insert-requires
 insert-requires g c = (search rules, subst (λ (e : Entry). IsValid e.dot) (sym c.entry.view_is) c.requires.valid_fresh)
 
 pub returns-clause-store : goal.returns-clause-store
-returns-clause-store g c = 
+returns-clause-store g c =
     store_is _ _
     (ok_of c.insert.result _ c.unwrap.ensures c.insert.ensures.ok ∙ ap (λ (s : Store). set.insert s.seen c.entry.inside.dot) c.store.view_is
     ∙ ap (λ (e : Entry). set.insert c.args.store.now.seen e.dot) c.entry.view_is)
@@ -66,7 +66,7 @@ returns-clause-store g c =
     (c.remove.ensures.map ∙ ap (λ m. fin.remove m c.args.dot) (c.in_ok-copy.ensures.entries ∙ ap (λ (s : Store). s.entries) c.store.view_is)))
 
 pub returns-clause-delta : goal.returns-clause-delta
-returns-clause-delta g c = 
+returns-clause-delta g c =
     store_is _ _
     (c.in_ok-copy.ensures.seen ∙ ap (λ (s : Store). set.insert (set.insert s.seen c.args.dot) c.args.entry.dot) c.delta.view_is)
     (ok_of c.insert-3.result _ c.unwrap-3.ensures c.insert-3.ensures.ok

@@ -1,4 +1,4 @@
-use Rattle.std.proofs.Common.{◌≡◌, ◌∙◌, ◌-◌, length, slice_get, Some, ap, sym, arith, None}
+use Rattle.std.proofs.Common.{◌≡◌, ◌∙◌, ◌-◌, length, slice_get, Some, ap, sym, arith}
 use Rattle.payload_core.specs.Pieces.{place_in, Pieces}
 use Rattle.payload_core.proofs.Pieces.{before-last, some_at, last-none}
 use Rattle.payload_core.proofs.entry_pieces.EntryPieces.end.Goals as goal
@@ -19,6 +19,6 @@ returns-in-Some-clause-place g c =
     ∙ whole
 
 pub returns-in-None-clause-place : goal.returns-in-None-clause-place
-returns-in-None-clause-place g c = 
+returns-in-None-clause-place g c =
     let same = c.deref.ensures.value ∙ ap (λ (s : Pieces). s.pieces) c.self.view_is in
     last-none c.args.self.now.pieces (ap (λ ps. slice_get ps (length ps - 1)) (sym same) ∙ sym c.in-None.ensures.value)

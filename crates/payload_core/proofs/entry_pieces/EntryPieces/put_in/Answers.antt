@@ -1,11 +1,11 @@
-use Rattle.std.proofs.Common.{◌∙◌, ◌≡◌, ◌<◌, List, ap, length, subst, sym}
+use Rattle.std.proofs.Common.{◌≡◌, ◌<◌, List, ap, length, subst, sym}
 use Rattle.payload_core.specs.Presences.{Entry}
-use Rattle.payload_core.specs.Pieces.{Pieces, IsOpen, joined}
+use Rattle.payload_core.specs.Pieces.{Pieces, IsOpen}
 use Rattle.payload_core.proofs.Pieces.{once-put, room-used, spares-enough}
 use Rattle.payload_core.proofs.entry_pieces.EntryPieces.put_in.Goals as goal
 
 pub invariant_of-self : goal.invariant_of-self
-invariant_of-self g c = 
+invariant_of-self g c =
     let pieces = ap (λ (s : Pieces). s.pieces) (sym c.self.view_is) in
     let left = subst (λ (s : Pieces). 0 < s.room) (sym c.self.view_is) c.requires.room in
     record {

@@ -22,6 +22,6 @@ pub returns-clause-limit : goal.returns-clause-limit
 returns-clause-limit g c = ap (λ (o : Outbox). o.limit) c.self.view_is
 
 pub returns-clause-messages : goal.returns-clause-messages
-returns-clause-messages g c = 
+returns-clause-messages g c =
     c.loop-message.invariant ∙ take_all c.loop-message.message-index c.deref-message-items.result.now c.loop-message-test.false
     ∙ c.deref-message-items.ensures.value ∙ ap (λ (o : Outbox). o.messages) c.self.view_is

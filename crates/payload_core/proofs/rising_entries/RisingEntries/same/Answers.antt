@@ -1,4 +1,4 @@
-use Rattle.std.proofs.Common.{◌∙◌, sym, ◌<◌, subst, refl}
+use Rattle.std.proofs.Common.{◌∙◌, sym}
 use Rattle.std.proofs.lemmas.List.{take_more_same}
 use Rattle.payload_core.proofs.Pieces.{entry-read, entry-within}
 use Rattle.payload_core.proofs.Told.{never_same, whole_same}
@@ -19,6 +19,6 @@ pub returns-in_default-2 : goal.returns-in_default-2
 returns-in_default-2 g c = never_same c.args.self.now.entries c.loop-place.place c.len-place-end.result c.loop-place-test.true c.len-place-end.ensures.len c.in_default.ensures
 
 pub returns : goal.returns
-returns g c = 
+returns g c =
     whole_same c.args.self.now.entries c.args.other.now.entries c.loop-place.place _ _ _ c.len-place-end.ensures.len c.len.ensures.len c.len-2.ensures.len
     c.if-len.false c.loop-place-test.false c.loop-place.invariant
