@@ -10,3 +10,4 @@ pub mod Calls
 pub mod Delivered
 pub mod Back
 pub mod Undone
+pub mod Sizes

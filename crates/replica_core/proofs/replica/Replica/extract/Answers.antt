@@ -1,6 +1,7 @@
 use Rattle.std.proofs.Common.{rules, ap, ◌∙◌}
 use Rattle.std.specs.FinSet as set
 use Rattle.payload_core.specs.Stores.{Store}
+use Rattle.replica_core.proofs.Sizes.{store_fits}
 use Rattle.replica_core.proofs.Invariant.{parts_seen}
 use Rattle.replica_core.proofs.replica.Replica.extract.Goals as goal
 
@@ -14,3 +15,6 @@ new-requires g c = (
         (c.into_parts-seen.ensures.entries ∙ ap (λ (s : Store). s.entries) c.in_ok-only.ensures),
   ),
 )
+
+pub only-requires : goal.only-requires
+only-requires g c = store_fits g.row.A g.A.Allocator (search tt)

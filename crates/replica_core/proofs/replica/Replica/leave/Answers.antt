@@ -1,11 +1,10 @@
-use Rattle.std.proofs.Common.{rules}
 use Rattle.std.proofs.lemmas.Result.{err_from_is_err_and}
 use Rattle.replica_core.proofs.Calls.{leave_free}
 use Rattle.replica_core.proofs.replica.Replica.leave.Goals as goal
 
 pub let_go-requires : goal.let_go-requires
 let_go-requires g c = (
-  search rules,
+  search tt,
   (
     c.in_ok-dot.ensures.own,
     (

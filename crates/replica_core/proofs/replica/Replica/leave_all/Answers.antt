@@ -38,7 +38,7 @@ returns-then-is_clock_full-clause-refused g c =
 pub let_all_go-requires : goal.let_all_go-requires
 let_all_go-requires g c =
     let dots = c.deref.ensures.value in (
-      search rules,
+      search tt,
       (
         subst (λ ds. AreOwnSeen ds c.args.self.now) (sym dots) c.in_ok-leaving.ensures.own,
         ap (λ (ds : List Dot). is_clock_full c.args.self.now (length ds)) dots

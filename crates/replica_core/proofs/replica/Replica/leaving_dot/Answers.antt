@@ -1,5 +1,6 @@
 use Rattle.std.proofs.Common.{rules, ap, sym, slice_get, ◌∙◌}
 use Rattle.payload_core.specs.Presences.{Entries, dots_of, is_tracked_as}
+use Rattle.replica_core.proofs.Sizes.{store_fits}
 use Rattle.replica_core.proofs.Calls.{leave_accepted, leave_full, leave_untracked}
 use Rattle.replica_core.proofs.Left.{found_dot, found_live}
 use Rattle.replica_core.proofs.replica.Replica.leaving_dot.Goals as goal
@@ -44,3 +45,9 @@ returns-in_default-clause-refused g c =
 -- its own requirement is that of the call
 pub is_clock_full-requires : goal.is_clock_full-requires
 is_clock_full-requires g c = (search tt, search rules)
+
+pub entries-requires : goal.entries-requires
+entries-requires g c = store_fits g.row.A g.A.Allocator (search tt)
+
+pub find-requires : goal.find-requires
+find-requires g c = search rules

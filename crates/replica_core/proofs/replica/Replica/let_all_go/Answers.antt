@@ -1,13 +1,14 @@
-use Rattle.std.proofs.Common.{length, rules, subst}
+use Rattle.std.proofs.Common.{length, subst}
 use Rattle.replica_core.specs.Invariant.{IsReplica}
 use Rattle.replica_core.proofs.ProcessLeft.{all_gone_is, all_valid, clock_here, clock_room, kept_all_gone}
+use Rattle.replica_core.proofs.Sizes.{store_fits}
 use Rattle.replica_core.proofs.replica.Replica.let_all_go.Goals as goal
 
 pub leave_each-requires : goal.leave_each-requires
 leave_each-requires g c =
     let ds = c.args.dots.now in
     let clock = c.own_clock-clock.result in (
-      search rules,
+      store_fits g.row.A g.A.Allocator (search tt),
       (
         all_valid ds _ c.args.self.now c.self.view_is c.self.invariant c.requires.own c.requires.free,
         (

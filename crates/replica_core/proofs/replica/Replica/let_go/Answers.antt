@@ -1,14 +1,15 @@
-use Rattle.std.proofs.Common.{ap, rules, subst, ◌∙◌}
+use Rattle.std.proofs.Common.{ap, subst, ◌∙◌}
 use Rattle.std.specs.FinMap as fin
 use Rattle.replica_core.specs.Invariant.{IsReplica}
 use Rattle.replica_core.specs.Replicas.{Replica}
 use Rattle.replica_core.proofs.Left.{go_valid, go_fresh, go_next, go_last, go_unsent, go_is, go_kept}
+use Rattle.replica_core.proofs.Sizes.{store_fits}
 use Rattle.replica_core.proofs.replica.Replica.let_go.Goals as goal
 
 pub leave-requires : goal.leave-requires
 leave-requires g c =
     let at = c.own_clock.ensures.clock in (
-      search rules,
+      store_fits g.row.A g.A.Allocator (search tt),
       (
         go_valid _ c.args.self.now c.args.dot c.self.view_is c.self.invariant c.requires.own c.requires.free,
         (

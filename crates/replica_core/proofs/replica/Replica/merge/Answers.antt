@@ -1,4 +1,4 @@
-use Rattle.std.proofs.Common.{rules, true, false, refl, ap, subst, ◌∙◌}
+use Rattle.std.proofs.Common.{true, false, refl, ap, subst, ◌∙◌}
 use Rattle.std.specs.FinMap as fin
 use Rattle.std.specs.FinSet as set
 use Rattle.payload_core.specs.Presences.{Entries}
@@ -8,13 +8,14 @@ use Rattle.payload_core.proofs.MergedCounts.{len-merged}
 use Rattle.replica_core.specs.Replicas.{Replica}
 use Rattle.replica_core.proofs.Deliveries.{standing_holds}
 use Rattle.replica_core.proofs.Delivered.{merge_asked, store_after}
+use Rattle.replica_core.proofs.Sizes.{store_fits}
 use Rattle.replica_core.proofs.replica.Replica.merge.Goals as goal
 
 pub joining-requires : goal.joining-requires
-joining-requires g c = (search rules, search rules)
+joining-requires g c = (store_fits g.row.A g.A.Allocator (search tt), search tt)
 
 pub leaving-requires : goal.leaving-requires
-leaving-requires g c = (search rules, search rules)
+leaving-requires g c = (store_fits g.row.A g.A.Allocator (search tt), search tt)
 
 pub overflow_sub-len : goal.overflow_sub-len
 overflow_sub-len g c =
@@ -58,7 +59,7 @@ exchange-requires g c =
     let named = set.contains c.others-names.result in
     let joins = c.in_ok-joining.ensures ∙ ap (λ (s : Store). fin.entries (arrivals named (store_of c.args.message.now) s)) store in
     let leaves = c.in_ok-leaving.ensures ∙ ap (λ (s : Store). fin.keys (departures named (store_of c.args.message.now) s)) store in
-    (search rules, (search rules, (c.entries.ensures.are_seen, (c.others-names.ensures, (joins, (c.deref.ensures.value ∙ leaves, free))))))
+    (search tt, (search tt, (c.entries.ensures.are_seen, (c.others-names.ensures, (joins, (c.deref.ensures.value ∙ leaves, free))))))
 
 pub returns-clause-greater_standings : goal.returns-clause-greater_standings
 returns-clause-greater_standings g c =
@@ -83,3 +84,12 @@ returns-clause-leads_back g c = record {
 -- its own requirement is that of the call
 pub others-names-requires : goal.others-names-requires
 others-names-requires g c = search tt
+
+pub entries-requires-2 : goal.entries-requires-2
+entries-requires-2 g c = store_fits g.row.A g.A.Allocator (search tt)
+
+pub are_too_many-requires : goal.are_too_many-requires
+are_too_many-requires g c = search tt
+
+pub entries-requires : goal.entries-requires
+entries-requires g c = search tt

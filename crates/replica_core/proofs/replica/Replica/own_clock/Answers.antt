@@ -1,8 +1,9 @@
-use Rattle.std.proofs.Common.{ap, rules, subst, sym, ◌∙◌}
+use Rattle.std.proofs.Common.{ap, subst, sym, ◌∙◌}
 use Rattle.dots_core.specs.Dots.{Dots}
 use Rattle.dots_core.specs.Contexts.{IsContext}
 use Rattle.replica_core.specs.Replicas.{own_clock}
 use Rattle.replica_core.proofs.Dots.{own_context}
+use Rattle.replica_core.proofs.Sizes.{store_fits, seen_fits}
 use Rattle.replica_core.proofs.replica.Replica.own_clock.Goals as goal
 
 pub returns-clause-clock : goal.returns-clause-clock
@@ -17,4 +18,7 @@ pub returns-clause-last : goal.returns-clause-last
 returns-clause-last g c = rw (sym c.self.view_is) c.self.invariant.limits.clock_few
 
 pub clock_of-requires : goal.clock_of-requires
-clock_of-requires g c = (search rules, c.self.invariant.name)
+clock_of-requires g c = (seen_fits g.row.A g.A.Allocator (search tt), c.self.invariant.name)
+
+pub seen-requires : goal.seen-requires
+seen-requires g c = (store_fits g.row.A g.A.Allocator (search tt), seen_fits g.row.A g.A.Allocator (search tt))

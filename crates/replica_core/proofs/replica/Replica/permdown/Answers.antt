@@ -1,7 +1,8 @@
-use Rattle.std.proofs.Common.{sym, subst, ap, ◌∙◌}
+use Rattle.std.proofs.Common.{rules, sym, subst, ap, ◌∙◌}
 use Rattle.payload_core.specs.ForgottenNames.{Holds}
 use Rattle.replica_core.specs.Replicas.{Replica}
 use Rattle.replica_core.specs.Invariant.{IsReplica}
+use Rattle.replica_core.proofs.Sizes.{store_fits}
 use Rattle.replica_core.proofs.Calls.{permdown_other}
 use Rattle.replica_core.proofs.Forgotten.{forget_is, kept_forget_store}
 use Rattle.replica_core.proofs.replica.Replica.permdown.Goals as goal
@@ -31,3 +32,15 @@ returns-clause-leads_back g c = record {
 -- its own requirement is that of the call
 pub permdown_refusal-requires : goal.permdown_refusal-requires
 permdown_refusal-requires g c = search tt
+
+pub forget-requires-2 : goal.forget-requires-2
+forget-requires-2 g c = search rules
+
+pub forget-requires : goal.forget-requires
+forget-requires g c = (store_fits g.row.A g.A.Allocator (search tt), c.requires)
+
+pub invariant_of-self : goal.invariant_of-self
+invariant_of-self g c = rw c.in_err-forgotten.ensures.err c.self.invariant
+
+pub returns-clause-refused : goal.returns-clause-refused
+returns-clause-refused g c = sym c.permdown_refusal.ensures ∙ c.in_default.is

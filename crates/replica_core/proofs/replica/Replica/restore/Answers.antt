@@ -1,12 +1,13 @@
-use Rattle.std.proofs.Common.{rules, subst, sym, ◌∙◌}
+use Rattle.std.proofs.Common.{subst, sym, ◌∙◌}
 use Rattle.replica_core.specs.Invariant.{IsReplica}
 use Rattle.replica_core.proofs.Undone.{restored_is, undo_valid, undo_last, undo_last_in_delta, undo_place}
+use Rattle.replica_core.proofs.Sizes.{store_fits}
 use Rattle.replica_core.proofs.replica.Replica.restore.Goals as goal
 
 pub restore-requires : goal.restore-requires
 restore-requires g c =
     let can = c.requires.1 in (
-      search rules,
+      store_fits g.row.A g.A.Allocator (search tt),
       (
         can.valid,
         (

@@ -1,4 +1,4 @@
-use Rattle.std.proofs.Common.{◌≡◌, ℕ, ◌-◌, List, length, ap, rules, subst, sym, ◌∙◌}
+use Rattle.std.proofs.Common.{◌≡◌, ℕ, ◌-◌, List, length, ap, subst, sym, ◌∙◌}
 use Rattle.payload_core.specs.LeavesTogether.{restored_delta_each, restored_each}
 use Rattle.payload_core.specs.LeftEntries.{Left}
 use Rattle.payload_core.specs.Stores.{Store}
@@ -6,6 +6,7 @@ use Rattle.replica_core.specs.Invariant.{IsReplica}
 use Rattle.replica_core.specs.ProcessLeaves.{with_lefts}
 use Rattle.replica_core.specs.Replicas.{Replica, own_clock}
 use Rattle.replica_core.proofs.ProcessLeft.{lefts_fit, lefts_last, lefts_new, lefts_new_in_delta}
+use Rattle.replica_core.proofs.Sizes.{store_fits}
 use Rattle.replica_core.proofs.replica.Replica.restore_each.Goals as goal
 
 -- the replica with what left, where `r` is the replica as its fields say it
@@ -25,7 +26,7 @@ restore_each-requires g c =
     let clock = c.own_clock.result in
     let len = c.len.result in
     let len_is = c.len.ensures ∙ c.args.lefts.ok.0 in (
-      search rules,
+      store_fits g.row.A g.A.Allocator (search tt),
       (
         (c.requires.1).valid,
         (

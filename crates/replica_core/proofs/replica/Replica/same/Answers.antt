@@ -2,8 +2,9 @@ use Rattle.std.proofs.Common.{◌≡◌, ◌==◌, ◌&&◌, true, refl, sym, ap
 use Rattle.std.proofs.lemmas.Bool.{and_parts, eq-eqb, eqb-true}
 use Rattle.replica_core.specs.declared.node_limits.NodeLimits.{NodeLimits}
 use Rattle.replica_core.specs.Replicas.{Replica}
-use Rattle.replica_core.proofs.replica.Replica.same.Goals as goal
+use Rattle.replica_core.proofs.Sizes.{store_fits}
 use Rattle.replica_core.proofs.replica.Replica.same.Goals.{then-self-other, else-self-other, then-eq, else-eq, then-same, else-same}
+use Rattle.replica_core.proofs.replica.Replica.same.Goals as goal
 
 same_limits : (a b : NodeLimits) → (a.entries == b.entries && (a.clock == b.clock && a.messages == b.messages)) ≡ true → a ≡ b
 same_limits a b e =
@@ -69,3 +70,6 @@ returns-else-same-2 g c = (
         ]
       ],
 )
+
+pub same-requires : goal.same-requires
+same-requires g c = store_fits g.row.A g.A.Allocator (search tt)

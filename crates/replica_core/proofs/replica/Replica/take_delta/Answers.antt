@@ -18,3 +18,6 @@ new-requires-2 g c = (
 
 pub invariant_of-self : goal.invariant_of-self
 invariant_of-self g c = kept_sent _ c.replace.new.dest c.self.invariant (c.replace.ensures.after ∙ c.new.ensures)
+
+pub has_delta-requires : goal.has_delta-requires
+has_delta-requires g c = search tt

@@ -1,15 +1,16 @@
-use Rattle.std.proofs.Common.{◌≡◌, None, sym, subst, rules}
+use Rattle.std.proofs.Common.{◌≡◌, None, sym, subst}
 use Rattle.replica_core.specs.Invariant.{IsReplica}
 use Rattle.replica_core.specs.Replicas.{Replica, fresh}
 use Rattle.replica_core.specs.Refusals.{join_refusal}
 use Rattle.replica_core.proofs.Calls.{entry_valid, entry_absent, entry_absent_in_delta, entry_next, kept_join}
+use Rattle.replica_core.proofs.Sizes.{store_fits}
 use Rattle.replica_core.proofs.replica.Replica.track.Goals as goal
 
 pub join-requires : goal.join-requires
 join-requires g c =
     let fresh_is = subst (λ (r : Replica). c.args.entry.dot ≡ fresh r) (sym c.self.view_is) c.requires.fresh in
     let free = subst (λ (r : Replica). join_refusal r c.args.entry.pid c.args.entry.topic c.args.entry.key ≡ None) (sym c.self.view_is) c.requires.free in (
-      search rules,
+      store_fits g.row.A g.A.Allocator (search tt),
       (
         entry_valid _ c.args.entry c.self.invariant fresh_is free,
         (

@@ -1,11 +1,12 @@
-use Rattle.std.proofs.Common.{rules, subst}
+use Rattle.std.proofs.Common.{subst}
 use Rattle.replica_core.specs.Invariant.{IsReplica}
 use Rattle.replica_core.proofs.Left.{kept_update, old_valid, old_live, new_valid, new_next, new_absent, new_absent_in_delta, new_last, new_unsent, updated_is}
+use Rattle.replica_core.proofs.Sizes.{store_fits}
 use Rattle.replica_core.proofs.replica.Replica.track_again.Goals as goal
 
 pub update-requires : goal.update-requires
 update-requires g c = (
-  search rules,
+  store_fits g.row.A g.A.Allocator (search tt),
   (
     old_valid _ c.args.self.now c.args.entry c.args.old c.self.view_is c.self.invariant c.requires.old c.requires.fresh c.requires.free,
     (

@@ -1,14 +1,15 @@
-use Rattle.std.proofs.Common.{rules, ap, subst, sym}
+use Rattle.std.proofs.Common.{ap, subst, sym}
 use Rattle.payload_core.specs.EntryLists.{pairs}
 use Rattle.payload_core.specs.EntryMoves.{AreNew, without_each}
 use Rattle.replica_core.specs.Delivered.{with_undelivered}
 use Rattle.replica_core.specs.Invariant.{IsReplica}
 use Rattle.replica_core.specs.Replicas.{Replica}
+use Rattle.replica_core.proofs.Sizes.{store_fits}
 use Rattle.replica_core.proofs.replica.Replica.undeliver.Goals as goal
 
 pub undeliver-requires : goal.undeliver-requires
 undeliver-requires g c = (
-  search rules,
+  store_fits g.row.A g.A.Allocator (search tt),
   subst (λ (r : Replica). AreNew (pairs c.args.delivered.left) (without_each c.args.delivered.joined r.store.entries)) (sym c.self.view_is) c.requires.new,
 )
 

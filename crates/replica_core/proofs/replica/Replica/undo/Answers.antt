@@ -1,4 +1,4 @@
-use Rattle.std.proofs.Common.{rules, sym, subst}
+use Rattle.std.proofs.Common.{sym, subst}
 use Rattle.replica_core.specs.Invariant.{IsReplica}
 use Rattle.replica_core.specs.Changes.{ChangeGivesBack, ChangeLeadsBack, ChangeLeadsSomewhere, OfJoin, OfLeave, OfUpdate, OfUp, OfDown}
 use Rattle.replica_core.specs.Changes.{OfPermdown, OfDeliver, plain_change, OfLeaveAll}
@@ -7,11 +7,11 @@ use Rattle.replica_core.proofs.ProcessLeft.{restorable_all}
 use Rattle.replica_core.proofs.replica.Replica.undo.Goals as goal
 
 pub unjoin-requires : goal.unjoin-requires
-unjoin-requires g c = (search rules, subst (λ change. ChangeLeadsSomewhere (plain_change change) c.args.self.now) c.in-Join.is c.requires)
+unjoin-requires g c = (search tt, subst (λ change. ChangeLeadsSomewhere (plain_change change) c.args.self.now) c.in-Join.is c.requires)
 
 pub restore-requires : goal.restore-requires
 restore-requires g c = (
-  search rules,
+  search tt,
   (
     c.requires.0,
     restorable_leave c.in-Leave.left c.args.self.now c.requires.0
@@ -21,7 +21,7 @@ restore-requires g c = (
 
 pub restore-requires-in-Update : goal.restore-requires-in-Update
 restore-requires-in-Update g c = (
-  search rules,
+  search tt,
   (
     c.requires.0,
     restorable_update c.in-Update.left c.args.self.now c.requires.0
@@ -32,12 +32,12 @@ restore-requires-in-Update g c = (
 pub put_status-requires : goal.put_status-requires
 put_status-requires g c =
     let h = subst (λ change. ChangeLeadsBack (plain_change change) c.args.self.now c.requires.0) c.in-Up.is c.requires.1 in
-    (search rules, ((h.call).number, subst IsReplica (sym (back_holds (OfUp c.in-Up.name c.in-Up.before) c.args.self.now c.requires.0 h)) h.earlier))
+    (search tt, ((h.call).number, subst IsReplica (sym (back_holds (OfUp c.in-Up.name c.in-Up.before) c.args.self.now c.requires.0 h)) h.earlier))
 
 pub put_status-requires-in-Down : goal.put_status-requires-in-Down
 put_status-requires-in-Down g c =
     let h = subst (λ change. ChangeLeadsBack (plain_change change) c.args.self.now c.requires.0) c.in-Down.is c.requires.1 in
-    (search rules, ((h.call).number, subst IsReplica (sym (back_holds (OfDown c.in-Down.name c.in-Down.before) c.args.self.now c.requires.0 h)) h.earlier))
+    (search tt, ((h.call).number, subst IsReplica (sym (back_holds (OfDown c.in-Down.name c.in-Down.before) c.args.self.now c.requires.0 h)) h.earlier))
 
 pub returns-in-Join-clause-ok : goal.returns-in-Join-clause-ok
 returns-in-Join-clause-ok g c =
@@ -67,7 +67,7 @@ returns-in-Down-clause-ok g c =
 pub remember-requires : goal.remember-requires
 remember-requires g c =
     let h = subst (λ change. ChangeLeadsBack (plain_change change) c.args.self.now c.requires.0) c.in-Permdown.is c.requires.1 in (
-      search rules,
+      search tt,
       (
         (h.call).number,
         (
@@ -86,7 +86,7 @@ returns-in_default-remember-clause-ok g c =
 pub undeliver-requires : goal.undeliver-requires
 undeliver-requires g c =
     let h = subst (λ change. ChangeLeadsBack (plain_change change) c.args.self.now c.requires.0) c.in-Deliver.is c.requires.1 in
-    (search rules, ((h.call).new, subst IsReplica (sym (back_holds (OfDeliver c.in-Deliver.delivered) c.args.self.now c.requires.0 h)) h.earlier))
+    (search tt, ((h.call).new, subst IsReplica (sym (back_holds (OfDeliver c.in-Deliver.delivered) c.args.self.now c.requires.0 h)) h.earlier))
 
 pub returns-in_default-undeliver-clause-ok : goal.returns-in_default-undeliver-clause-ok
 returns-in_default-undeliver-clause-ok g c =
@@ -96,7 +96,7 @@ returns-in_default-undeliver-clause-ok g c =
 pub restore_each-requires : goal.restore_each-requires
 restore_each-requires g c =
     let h = subst (λ change. ChangeLeadsBack (plain_change change) c.args.self.now c.requires.0) c.in-LeaveAll.is c.requires.1 in
-    (search rules, (c.requires.0, restorable_all c.in-LeaveAll.lefts.items c.args.self.now c.requires.0 h.earlier h.call))
+    (search tt, (c.requires.0, restorable_all c.in-LeaveAll.lefts.items c.args.self.now c.requires.0 h.earlier h.call))
 
 pub returns-in_default-restore_each-clause-ok : goal.returns-in_default-restore_each-clause-ok
 returns-in_default-restore_each-clause-ok g c =

@@ -1,4 +1,4 @@
-use Rattle.std.proofs.Common.{rules, ap, ◌∙◌}
+use Rattle.std.proofs.Common.{ap, ◌∙◌}
 use Rattle.std.proofs.lemmas.Result.{err_from_is_err_and}
 use Rattle.payload_core.specs.Presences.{Presence, Entry, presence_of}
 use Rattle.replica_core.specs.Replicas.{tracked_dots, updated}
@@ -8,7 +8,7 @@ use Rattle.replica_core.proofs.replica.Replica.update.Goals as goal
 
 pub track_again-requires : goal.track_again-requires
 track_again-requires g c = (
-  search rules,
+  search tt,
   (
     ap (λ (e : Entry). tracked_dots c.args.self.now e.pid e.topic e.key) c.in_ok-entry.ensures ∙ c.in_ok-dot.ensures.dot,
     (ap (λ (e : Entry). e.dot) c.in_ok-entry.ensures, leave_free c.args.self.now c.args.pid c.args.topic.now c.args.key.now c.in_ok-dot.ensures.refused),

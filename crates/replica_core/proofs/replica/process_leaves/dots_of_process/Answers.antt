@@ -15,3 +15,9 @@ pub returns-clause-own : goal.returns-clause-own
 returns-clause-own g c =
     subst (λ ds. AreOwnSeen ds c.args.replica.now) (sym (returns-clause-dots g c))
     (own_dots_seen c.args.replica.now (λ (p : Presence). p.pid == c.args.pid) c.replica_law.ensures)
+
+pub replica_law-requires : goal.replica_law-requires
+replica_law-requires g c = search tt
+
+pub entries-requires : goal.entries-requires
+entries-requires g c = search tt

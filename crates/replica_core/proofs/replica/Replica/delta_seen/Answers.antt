@@ -1,0 +1,10 @@
+use Rattle.std.proofs.Common.{◌∙◌, ap}
+use Rattle.replica_core.specs.Replicas.{Replica}
+use Rattle.replica_core.proofs.Sizes.{seen_fits, store_fits}
+use Rattle.replica_core.proofs.replica.Replica.delta_seen.Goals as goal
+
+pub returns : goal.returns
+returns g c = c.seen.ensures ∙ ap (λ (r : Replica). r.delta.seen) c.self.view_is
+
+pub seen-requires : goal.seen-requires
+seen-requires g c = (store_fits g.row.A g.A.Allocator (search tt), seen_fits g.row.A g.A.Allocator (search tt))

@@ -1,0 +1,4 @@
+use Rattle.replica_core.proofs.replica.Replica.is_clock_full.Goals as goal
+
+pub own_clock-requires : goal.own_clock-requires
+own_clock-requires g c = search tt
