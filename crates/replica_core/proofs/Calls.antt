@@ -1,6 +1,9 @@
 -- What a call does, where it is not refused, and when it is.
 use Rattle.std.proofs.Common.{◌≡◌, ◌≢◌, ℕ, ◌+◌, ◌==◌, not, Bool, true, false, Option, None, Some, List, [], ◌∷◌, length, slice_get, refl, ap, sym, subst, ◌∙◌, true≢false}
 use Rattle.std.proofs.lemmas.Bool.{eq-eqb, ne_eqb}
+use Rattle.std.specs.Option.{is_some}
+use Rattle.std.specs.Prelude.{Result, Ok, Err, OnErr}
+use Rattle.std.specs.Result.{IsErrAnd}
 use Rattle.std.specs.FinMap as fin
 use Rattle.dots_core.specs.declared.dot.Dot.{Dot}
 use Rattle.dots_core.specs.Contexts.{IsNext}
@@ -8,12 +11,12 @@ use Rattle.dots_core.specs.Dots.{IsValid}
 use Rattle.payload_core.specs.Presences.{Entry, presence_of}
 use Rattle.replica_core.specs.declared.replica_fault.ReplicaFault.{ReplicaFault}
 use Rattle.replica_core.specs.declared.replica_fault.ReplicaFault.TheVariants.{OwnReplica, NotKnown, NotDown, AlreadyTracked}
-use Rattle.replica_core.specs.declared.replica_fault.ReplicaFault.TheVariants.{NotTracked, EntriesFull, ClockFull}
+use Rattle.replica_core.specs.declared.replica_fault.ReplicaFault.TheVariants.{NotTracked, EntriesFull, ClockFull, OutOfMemory}
 use Rattle.replica_core.specs.declared.status.Status.{Status}
-use Rattle.payload_core.specs.Stores.{Store, with_entry}
+use Rattle.payload_core.specs.Stores.{Store, nothing, with_entry}
 use Rattle.replica_core.specs.Views.{View}
-use Rattle.replica_core.specs.Replicas.{Replica, fresh, dots_of_process, tracked_dots, is_known, is_online, joined, with_status}
-use Rattle.replica_core.specs.Refusals.{first_of, is_some_dot, is_tracked, are_too_many, is_clock_full, join_refusal, leave_refusal}
+use Rattle.replica_core.specs.Replicas.{Replica, fresh, dots_of_process, tracked_dots, is_known, is_online, joined, with_status, without_delta}
+use Rattle.replica_core.specs.Refusals.{IsRefusedFor, first_of, is_some_dot, is_tracked, are_too_many, is_clock_full, join_refusal, leave_refusal}
 use Rattle.replica_core.specs.Refusals.{leave_all_refusal, up_refusal, down_refusal, permdown_refusal}
 use Rattle.replica_core.specs.Invariant.{IsReplica}
 use Rattle.replica_core.proofs.Invariant.{fresh_valid, fresh_next, fresh_absent, fresh_absent_in_delta, kept_joined}
@@ -56,6 +59,33 @@ permdown_other r now name asked same is free = go (name == r.own) refl (ap (λ (
         (is_online r name, NotDown) ∷ []) ≡ None → (name == r.own) ≡ false
     go true at h = absurd (cc)
     go false at h = at
+
+-- a down is refused by these two tests, in this order
+pub down_is : (r now : Replica) (name : ℕ) (own known : Bool) → r ≡ now → (name == r.own) ≡ own → is_known r name ≡ known →
+    first_of ((own, OwnReplica) ∷ (not known, NotKnown) ∷ []) ≡ down_refusal now name
+down_is r now name own known same own_is known_is =
+    (λ i. first_of ((sym own_is i, OwnReplica) ∷ (not (sym known_is i), NotKnown) ∷ [])) ∙ ap (λ (r : Replica). down_refusal r name) same
+
+-- a permdown is refused as a down is, and besides where the name is up
+
+pub permdown_some : (now : Replica) (name : ℕ) (fault : ReplicaFault) → down_refusal now name ≡ Some fault → permdown_refusal now name ≡ Some fault
+permdown_some now name fault = go (name == now.own) (is_known now name)
+  where
+    go : (own known : Bool) → first_of ((own, OwnReplica) ∷ (not known, NotKnown) ∷ []) ≡ Some fault →
+        first_of ((own, OwnReplica) ∷ (not known, NotKnown) ∷ (is_online now name, NotDown) ∷ []) ≡ Some fault
+    go true known h = h
+    go false false h = h
+    go false true h = absurd (cc)
+
+pub permdown_none : (now : Replica) (name : ℕ) (up : Bool) → down_refusal now name ≡ None → is_online now name ≡ up →
+    first_of ((up, NotDown) ∷ []) ≡ permdown_refusal now name
+permdown_none now name up free is = go (name == now.own) (is_known now name) free
+  where
+    go : (own known : Bool) → first_of ((own, OwnReplica) ∷ (not known, NotKnown) ∷ []) ≡ None →
+        first_of ((up, NotDown) ∷ []) ≡ first_of ((own, OwnReplica) ∷ (not known, NotKnown) ∷ (is_online now name, NotDown) ∷ [])
+    go true known h = absurd (cc)
+    go false false h = absurd (cc)
+    go false true h = ap (λ b. first_of ((b, NotDown) ∷ [])) (sym is)
 
 -- a leave that isn't refused has room for its fresh dot
 pub leave_free : (r : Replica) (pid : ℕ) (topic key : List ℕ) → leave_refusal r pid topic key ≡ None → is_clock_full r 1 ≡ false
@@ -130,3 +160,29 @@ module _ (r : Replica) (e : Entry) (kept : IsReplica r) (fresh_is : e.dot ≡ fr
 
     pub kept_join : IsReplica (record r { store = store; delta = delta })
     kept_join = subst IsReplica (sym joined_is) (kept_joined r kept (presence_of e) tests.0 tests.1 tests.2)
+
+-- what took the delta out
+pub sent_is : (r now : Replica) (delta : Store) → r ≡ now → delta ≡ nothing → record r { delta = delta } ≡ without_delta now
+sent_is r now delta same none = ap (λ (d : Store). record r { delta = d }) none ∙ ap without_delta same
+
+-- what has the same parts
+pub copy_is : (r now : Replica) (store : Store) (view : View) (delta : Store) → r ≡ now → store ≡ r.store → view ≡ r.view →
+    delta ≡ r.delta → record r { store = store; view = view; delta = delta } ≡ now
+copy_is r now store view delta same store_is view_is delta_is =
+    (λ i. record r { store = store_is i; view = view_is i; delta = delta_is i }) ∙ same
+
+-- whether a search found one
+pub is_some_first : (ds : List Dot) → is_some (slice_get ds 0) ≡ is_some_dot ds
+is_some_first [] = refl
+is_some_first (d ∷ ds) = refl
+
+-- a call that memory was refused to
+
+pub refused_memory : {X : Type 0} (cause : Option ReplicaFault) (result : Result X ReplicaFault) →
+    IsErrAnd result (λ fault. fault ≡ OutOfMemory) → IsRefusedFor cause result
+refused_memory cause (Ok x) h = absurd h
+refused_memory cause (Err fault) h = λ other. absurd (other h)
+
+pub on_err : {X F : Type 0} {P : Type 0} (result : Result X F) → P → OnErr result P
+on_err (Ok x) p = tt
+on_err (Err fault) p = p

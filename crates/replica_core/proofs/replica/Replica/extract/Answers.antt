@@ -1,6 +1,8 @@
 use Rattle.std.proofs.Common.{rules, ap, ◌∙◌}
 use Rattle.std.specs.FinSet as set
+use Rattle.payload_core.specs.Messages.{message_of_names, store_message}
 use Rattle.payload_core.specs.Stores.{Store}
+use Rattle.replica_core.specs.Replicas.{Replica}
 use Rattle.replica_core.proofs.Sizes.{store_fits}
 use Rattle.replica_core.proofs.Invariant.{parts_seen}
 use Rattle.replica_core.proofs.replica.Replica.extract.Goals as goal
@@ -18,3 +20,6 @@ new-requires g c = (
 
 pub only-requires : goal.only-requires
 only-requires g c = store_fits g.row.A g.A.Allocator (search tt)
+
+pub returns : goal.returns
+returns g c = c.new.ensures ∙ (λ i. store_message c.self.inside.own ((c.into_parts-seen.ensures.seen ∙ ap (λ (s : Store). s.seen) c.in_ok-only.ensures) i) ((c.into_parts-seen.ensures.entries ∙ ap (λ (s : Store). s.entries) c.in_ok-only.ensures) i)) ∙ ap (λ (r : Replica). message_of_names (set.contains c.args.names) r.own r.store.seen r.store.entries) c.self.view_is

@@ -1,6 +1,7 @@
 use Rattle.std.proofs.Common.{ap, sym, ◌∙◌}
 use Rattle.payload_core.specs.Presences.{Presence, Entry, presence_of}
 use Rattle.replica_core.specs.Replicas.{joined}
+use Rattle.replica_core.proofs.Calls.{refused_memory}
 use Rattle.replica_core.proofs.replica.Replica.join.Goals as goal
 
 pub returns-clause-leads_back : goal.returns-clause-leads_back
@@ -22,3 +23,9 @@ join_refusal-requires g c = search tt
 
 pub fresh_entry-requires : goal.fresh_entry-requires
 fresh_entry-requires g c = search tt
+
+pub returns-in_err-entry-clause-refused : goal.returns-in_err-entry-clause-refused
+returns-in_err-entry-clause-refused g c = refused_memory _ c.from_residual.result c.from_residual.ensures.1
+
+pub returns-in_err-track-clause-refused : goal.returns-in_err-track-clause-refused
+returns-in_err-track-clause-refused g c = refused_memory _ c.from_residual-in_err-track.result c.from_residual-in_err-track.ensures.1

@@ -1,5 +1,5 @@
 use Rattle.std.proofs.lemmas.Result.{err_from_is_err_and}
-use Rattle.replica_core.proofs.Calls.{leave_free}
+use Rattle.replica_core.proofs.Calls.{refused_memory, leave_free}
 use Rattle.replica_core.proofs.replica.Replica.leave.Goals as goal
 
 pub let_go-requires : goal.let_go-requires
@@ -39,3 +39,6 @@ returns-in_err-dot-clause-refused g c =
 -- its own requirement is that of the call
 pub leaving_dot-requires : goal.leaving_dot-requires
 leaving_dot-requires g c = search tt
+
+pub returns-in_err-left-clause-refused : goal.returns-in_err-left-clause-refused
+returns-in_err-left-clause-refused g c = refused_memory _ c.from_residual-in_err-left.result c.from_residual-in_err-left.ensures.1

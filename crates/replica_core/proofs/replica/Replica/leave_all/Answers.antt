@@ -6,7 +6,7 @@ use Rattle.replica_core.specs.declared.replica_fault.ReplicaFault.TheVariants.{N
 use Rattle.replica_core.specs.Leaves.{AreOwnSeen}
 use Rattle.replica_core.specs.Replicas.{Replica, dots_of_process, left_each}
 use Rattle.replica_core.specs.Refusals.{first_of, is_clock_full, is_some_dot, leave_all_refusal}
-use Rattle.replica_core.proofs.Calls.{leave_all_free}
+use Rattle.replica_core.proofs.Calls.{refused_memory, leave_all_free}
 use Rattle.replica_core.proofs.replica.Replica.leave_all.Goals as goal
 
 -- where no entry is of the process
@@ -74,3 +74,9 @@ dots_of_process-requires g c = search tt
 
 pub is_clock_full-requires : goal.is_clock_full-requires
 is_clock_full-requires g c = (search tt, search rules)
+
+pub returns-in_err-leaving-clause-refused : goal.returns-in_err-leaving-clause-refused
+returns-in_err-leaving-clause-refused g c = refused_memory _ c.from_residual.result c.from_residual.ensures.1
+
+pub returns-in_err-lefts-clause-refused : goal.returns-in_err-lefts-clause-refused
+returns-in_err-lefts-clause-refused g c = refused_memory _ c.from_residual-in_err-lefts.result c.from_residual-in_err-lefts.ensures.1

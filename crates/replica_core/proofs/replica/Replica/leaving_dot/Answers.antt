@@ -51,3 +51,9 @@ entries-requires g c = store_fits g.row.A g.A.Allocator (search tt)
 
 pub find-requires : goal.find-requires
 find-requires g c = search rules
+
+pub returns-in_default-clause-fault : goal.returns-in_default-clause-fault
+returns-in_default-clause-fault g c = λ e. absurd (cc)
+
+pub returns-then-is_clock_full-clause-fault : goal.returns-then-is_clock_full-clause-fault
+returns-then-is_clock_full-clause-fault g c = λ e. absurd (cc)

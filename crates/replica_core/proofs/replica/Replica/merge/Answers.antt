@@ -6,6 +6,7 @@ use Rattle.payload_core.specs.Stores.{Store, arrivals, departures, store_of}
 use Rattle.payload_core.specs.Laws.{IsStore}
 use Rattle.payload_core.proofs.MergedCounts.{len-merged}
 use Rattle.replica_core.specs.Replicas.{Replica}
+use Rattle.replica_core.proofs.Calls.{on_err, refused_memory}
 use Rattle.replica_core.proofs.Deliveries.{standing_holds}
 use Rattle.replica_core.proofs.Delivered.{merge_asked, store_after}
 use Rattle.replica_core.proofs.Sizes.{store_fits}
@@ -93,3 +94,21 @@ are_too_many-requires g c = search tt
 
 pub entries-requires : goal.entries-requires
 entries-requires g c = search tt
+
+pub returns-clause-merged : goal.returns-clause-merged
+returns-clause-merged g c = c.in_ok-delivered.ensures.merged
+
+pub returns-in_err-joining-clause-err : goal.returns-in_err-joining-clause-err
+returns-in_err-joining-clause-err g c = on_err c.from_residual.result refl
+
+pub returns-in_err-joining-clause-refused : goal.returns-in_err-joining-clause-refused
+returns-in_err-joining-clause-refused g c = refused_memory _ c.from_residual.result c.from_residual.ensures.1
+
+pub returns-in_err-leaving-clause-refused : goal.returns-in_err-leaving-clause-refused
+returns-in_err-leaving-clause-refused g c = refused_memory _ c.from_residual-in_err-leaving.result c.from_residual-in_err-leaving.ensures.1
+
+pub returns-in_err-delivered-clause-refused : goal.returns-in_err-delivered-clause-refused
+returns-in_err-delivered-clause-refused g c = refused_memory _ c.from_residual-in_err-delivered.result c.from_residual-in_err-delivered.ensures.1
+
+pub returns-in_err-leaving-clause-err : goal.returns-in_err-leaving-clause-err
+returns-in_err-leaving-clause-err g c = on_err c.from_residual-in_err-leaving.result refl

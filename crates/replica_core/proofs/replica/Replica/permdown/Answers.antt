@@ -3,7 +3,7 @@ use Rattle.payload_core.specs.ForgottenNames.{Holds}
 use Rattle.replica_core.specs.Replicas.{Replica}
 use Rattle.replica_core.specs.Invariant.{IsReplica}
 use Rattle.replica_core.proofs.Sizes.{store_fits}
-use Rattle.replica_core.proofs.Calls.{permdown_other}
+use Rattle.replica_core.proofs.Calls.{refused_memory, permdown_other}
 use Rattle.replica_core.proofs.Forgotten.{forget_is, kept_forget_store}
 use Rattle.replica_core.proofs.replica.Replica.permdown.Goals as goal
 
@@ -44,3 +44,6 @@ invariant_of-self g c = rw c.in_err-forgotten.ensures.err c.self.invariant
 
 pub returns-clause-refused : goal.returns-clause-refused
 returns-clause-refused g c = sym c.permdown_refusal.ensures ∙ c.in_default.is
+
+pub returns-in_err-forgotten-clause-refused : goal.returns-in_err-forgotten-clause-refused
+returns-in_err-forgotten-clause-refused g c = refused_memory _ c.from_residual.result c.from_residual.ensures.1

@@ -1,4 +1,4 @@
-use Rattle.std.proofs.Common.{◌≡◌, ◌==◌, ◌&&◌, true, refl, sym, ap, subst, ◌∙◌, true≢false}
+use Rattle.std.proofs.Common.{rules, ◌≡◌, ◌==◌, ◌&&◌, true, refl, sym, ap, subst, ◌∙◌, true≢false}
 use Rattle.std.proofs.lemmas.Bool.{and_parts, eq-eqb, eqb-true}
 use Rattle.replica_core.specs.declared.node_limits.NodeLimits.{NodeLimits}
 use Rattle.replica_core.specs.Replicas.{Replica}
@@ -73,3 +73,12 @@ returns-else-same-2 g c = (
 
 pub same-requires : goal.same-requires
 same-requires g c = store_fits g.row.A g.A.Allocator (search tt)
+
+pub same-requires-then-same-2 : goal.same-requires-then-same-2
+same-requires-then-same-2 g c = store_fits g.row.A g.A.Allocator (search tt)
+
+pub same-requires-then-same : goal.same-requires-then-same
+same-requires-then-same g c = search rules
+
+pub eq-requires : goal.eq-requires
+eq-requires g c = search rules

@@ -1,6 +1,8 @@
 use Rattle.std.proofs.Common.{rules, sym, ap, ◌∙◌, subst₂}
-use Rattle.payload_core.specs.Messages.{AreSeen}
+use Rattle.payload_core.specs.Messages.{store_message, AreSeen}
 use Rattle.payload_core.specs.Stores.{Store}
+use Rattle.replica_core.specs.Replicas.{delta_message}
+use Rattle.replica_core.proofs.Calls.{sent_is}
 use Rattle.replica_core.proofs.Invariant.{kept_sent}
 use Rattle.replica_core.proofs.replica.Replica.take_delta.Goals as goal
 
@@ -21,3 +23,9 @@ invariant_of-self g c = kept_sent _ c.replace.new.dest c.self.invariant (c.repla
 
 pub has_delta-requires : goal.has_delta-requires
 has_delta-requires g c = search tt
+
+pub returns-clause-message : goal.returns-clause-message
+returns-clause-message g c = c.new-2.ensures ∙ (λ i. store_message c.self.inside.own ((c.into_parts-seen.ensures.seen ∙ ap (λ (s : Store). s.seen) c.replace.ensures.value) i) ((c.into_parts-seen.ensures.entries ∙ ap (λ (s : Store). s.entries) c.replace.ensures.value) i)) ∙ ap delta_message c.self.view_is
+
+pub returns-clause-taken : goal.returns-clause-taken
+returns-clause-taken g c = sent_is _ c.args.self.now c.replace.new.dest c.self.view_is (c.replace.ensures.after ∙ c.new.ensures)

@@ -2,7 +2,7 @@ use Rattle.std.proofs.Common.{ap, ◌∙◌}
 use Rattle.std.proofs.lemmas.Result.{err_from_is_err_and}
 use Rattle.payload_core.specs.Presences.{Presence, Entry, presence_of}
 use Rattle.replica_core.specs.Replicas.{tracked_dots, updated}
-use Rattle.replica_core.proofs.Calls.{leave_free}
+use Rattle.replica_core.proofs.Calls.{refused_memory, leave_free}
 use Rattle.replica_core.proofs.Left.{updated_at}
 use Rattle.replica_core.proofs.replica.Replica.update.Goals as goal
 
@@ -42,3 +42,9 @@ leaving_dot-requires g c = search tt
 
 pub fresh_entry-requires : goal.fresh_entry-requires
 fresh_entry-requires g c = search tt
+
+pub returns-in_err-entry-clause-refused : goal.returns-in_err-entry-clause-refused
+returns-in_err-entry-clause-refused g c = refused_memory _ c.from_residual-in_err-entry.result c.from_residual-in_err-entry.ensures.1
+
+pub returns-in_err-left-clause-refused : goal.returns-in_err-left-clause-refused
+returns-in_err-left-clause-refused g c = refused_memory _ c.from_residual-in_err-left.result c.from_residual-in_err-left.ensures.1
