@@ -22,4 +22,8 @@ pub only-requires : goal.only-requires
 only-requires g c = store_fits g.row.A g.A.Allocator (search tt)
 
 pub returns : goal.returns
-returns g c = c.new.ensures ∙ (λ i. store_message c.self.inside.own ((c.into_parts-seen.ensures.seen ∙ ap (λ (s : Store). s.seen) c.in_ok-only.ensures) i) ((c.into_parts-seen.ensures.entries ∙ ap (λ (s : Store). s.entries) c.in_ok-only.ensures) i)) ∙ ap (λ (r : Replica). message_of_names (set.contains c.args.names) r.own r.store.seen r.store.entries) c.self.view_is
+returns g c =
+    let seen = c.into_parts-seen.ensures.seen ∙ ap (λ (s : Store). s.seen) c.in_ok-only.ensures in
+    let entries = c.into_parts-seen.ensures.entries ∙ ap (λ (s : Store). s.entries) c.in_ok-only.ensures in
+    c.new.ensures ∙ (λ i. store_message c.self.inside.own (seen i) (entries i))
+    ∙ ap (λ (r : Replica). message_of_names (set.contains c.args.names) r.own r.store.seen r.store.entries) c.self.view_is

@@ -17,4 +17,7 @@ pub is_some-requires : goal.is_some-requires
 is_some-requires g c = search rules
 
 pub returns : goal.returns
-returns g c = c.is_some.ensures ∙ ap is_some (c.find.ensures ∙ ap (λ (es : Entries). slice_get (dots_of c.self.inside.own (is_tracked_as c.args.pid c.args.topic.now c.args.key.now) es) 0) c.entries.ensures) ∙ is_some_first _ ∙ ap (λ (r : Replica). is_tracked r c.args.pid c.args.topic.now c.args.key.now) c.self.view_is
+returns g c =
+    let own = dots_of c.self.inside.own (is_tracked_as c.args.pid c.args.topic.now c.args.key.now) in
+    c.is_some.ensures ∙ ap is_some (c.find.ensures ∙ ap (λ (es : Entries). slice_get (own es) 0) c.entries.ensures) ∙ is_some_first _
+    ∙ ap (λ (r : Replica). is_tracked r c.args.pid c.args.topic.now c.args.key.now) c.self.view_is

@@ -11,7 +11,13 @@ pub put-requires : goal.put-requires
 put-requires g c = search rules
 
 pub remember-requires : goal.remember-requires
-remember-requires g c = (store_fits g.row.A g.A.Allocator (search tt), (c.requires.name, subst (λ (r : Replica). AreNew (pairs c.args.forgotten.entries) r.store.entries) (sym c.self.view_is) c.requires.new))
+remember-requires g c = (
+  store_fits g.row.A g.A.Allocator (search tt),
+  (
+    c.requires.name,
+    subst (λ (r : Replica). AreNew (pairs c.args.forgotten.entries) r.store.entries) (sym c.self.view_is) c.requires.new,
+  ),
+)
 
 pub invariant_of-self : goal.invariant_of-self
 invariant_of-self g c = rw c.in-Err.ensures.err c.self.invariant
@@ -23,7 +29,9 @@ pub returns-in-Err-clause-given_back : goal.returns-in-Err-clause-given_back
 returns-in-Err-clause-given_back g c = c.in-Err.ensures.given_back
 
 pub invariant_of-self-2 : goal.invariant_of-self-2
-invariant_of-self-2 g c = rw (c.in_default.ensures.ok, c.put.ensures) (subst (λ (r : Replica). IsReplica (with_remembered c.args.name c.args.forgotten r)) (sym c.self.view_is) c.requires.earlier)
+invariant_of-self-2 g c =
+    rw (c.in_default.ensures.ok, c.put.ensures)
+    (subst (λ (r : Replica). IsReplica (with_remembered c.args.name c.args.forgotten r)) (sym c.self.view_is) c.requires.earlier)
 
 pub returns-clause-ok : goal.returns-clause-ok
 returns-clause-ok g c = rw (c.in_default.ensures.ok, c.put.ensures) (ap (with_remembered c.args.name c.args.forgotten) c.self.view_is)

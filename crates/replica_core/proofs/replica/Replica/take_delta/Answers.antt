@@ -25,7 +25,11 @@ pub has_delta-requires : goal.has_delta-requires
 has_delta-requires g c = search tt
 
 pub returns-clause-message : goal.returns-clause-message
-returns-clause-message g c = c.new-2.ensures ∙ (λ i. store_message c.self.inside.own ((c.into_parts-seen.ensures.seen ∙ ap (λ (s : Store). s.seen) c.replace.ensures.value) i) ((c.into_parts-seen.ensures.entries ∙ ap (λ (s : Store). s.entries) c.replace.ensures.value) i)) ∙ ap delta_message c.self.view_is
+returns-clause-message g c =
+    let seen = c.into_parts-seen.ensures.seen ∙ ap (λ (s : Store). s.seen) c.replace.ensures.value in
+    let entries = c.into_parts-seen.ensures.entries ∙ ap (λ (s : Store). s.entries) c.replace.ensures.value in
+    c.new-2.ensures ∙ (λ i. store_message c.self.inside.own (seen i) (entries i))
+    ∙ ap delta_message c.self.view_is
 
 pub returns-clause-taken : goal.returns-clause-taken
 returns-clause-taken g c = sent_is _ c.args.self.now c.replace.new.dest c.self.view_is (c.replace.ensures.after ∙ c.new.ensures)

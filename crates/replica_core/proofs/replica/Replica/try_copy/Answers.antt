@@ -14,7 +14,11 @@ pub copy-requires : goal.copy-requires
 copy-requires g c = search rules
 
 pub returns : goal.returns
-returns g c = copy_is _ c.args.self.now c.in_ok-try_copy.field-0 c.copy.result c.in_ok-try_copy-2.field-0 c.self.view_is c.in_ok-try_copy.ensures c.copy.ensures c.in_ok-try_copy-2.ensures
+returns g c =
+    copy_is _ c.args.self.now c.in_ok-try_copy.field-0 c.copy.result c.in_ok-try_copy-2.field-0 c.self.view_is
+    c.in_ok-try_copy.ensures c.copy.ensures c.in_ok-try_copy-2.ensures
 
 pub invariant_of-result : goal.invariant_of-result
-invariant_of-result g c = subst IsReplica (sym (copy_is _ _ c.in_ok-try_copy.field-0 c.copy.result c.in_ok-try_copy-2.field-0 refl c.in_ok-try_copy.ensures c.copy.ensures c.in_ok-try_copy-2.ensures)) c.self.invariant
+invariant_of-result g c =
+    subst IsReplica (sym (copy_is _ _ c.in_ok-try_copy.field-0 c.copy.result c.in_ok-try_copy-2.field-0 refl
+    c.in_ok-try_copy.ensures c.copy.ensures c.in_ok-try_copy-2.ensures)) c.self.invariant

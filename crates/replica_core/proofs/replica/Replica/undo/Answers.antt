@@ -105,16 +105,36 @@ returns-in_default-restore_each-clause-ok g c =
     (gives_back (OfLeaveAll c.in-LeaveAll.lefts.items) c.args.self.now c.restore_each.new.self c.in_default-restore_each.ensures.ok)
 
 pub returns-in-Err : goal.returns-in-Err
-returns-in-Err g c = record { ok = tt; err = c.in-Err.ensures.err; given_back = ap Leave c.in-Err.ensures.given_back ∙ sym c.in-Leave.is }
+returns-in-Err g c = record {
+  ok = tt;
+  err = c.in-Err.ensures.err;
+  given_back = ap Leave c.in-Err.ensures.given_back ∙ sym c.in-Leave.is;
+}
 
 pub returns-in-Err-restore : goal.returns-in-Err-restore
-returns-in-Err-restore g c = record { ok = tt; err = c.in-Err-restore.ensures.err; given_back = ap Update c.in-Err-restore.ensures.given_back ∙ sym c.in-Update.is }
+returns-in-Err-restore g c = record {
+  ok = tt;
+  err = c.in-Err-restore.ensures.err;
+  given_back = ap Update c.in-Err-restore.ensures.given_back ∙ sym c.in-Update.is;
+}
 
 pub returns-in-Err-restore_each : goal.returns-in-Err-restore_each
-returns-in-Err-restore_each g c = record { ok = tt; err = c.in-Err-restore_each.ensures.err; given_back = ap LeaveAll c.in-Err-restore_each.ensures.given_back ∙ sym c.in-LeaveAll.is }
+returns-in-Err-restore_each g c = record {
+  ok = tt;
+  err = c.in-Err-restore_each.ensures.err;
+  given_back = ap LeaveAll c.in-Err-restore_each.ensures.given_back ∙ sym c.in-LeaveAll.is;
+}
 
 pub returns-in-Err-remember : goal.returns-in-Err-remember
-returns-in-Err-remember g c = record { ok = tt; err = c.in-Err-remember.ensures.err; given_back = ap (Permdown c.in-Permdown.name) c.in-Err-remember.ensures.given_back ∙ sym c.in-Permdown.is }
+returns-in-Err-remember g c = record {
+  ok = tt;
+  err = c.in-Err-remember.ensures.err;
+  given_back = ap (Permdown c.in-Permdown.name) c.in-Err-remember.ensures.given_back ∙ sym c.in-Permdown.is;
+}
 
 pub returns-in-Err-undeliver : goal.returns-in-Err-undeliver
-returns-in-Err-undeliver g c = record { ok = tt; err = c.in-Err-undeliver.ensures.err; given_back = ap Deliver c.in-Err-undeliver.ensures.given_back ∙ sym c.in-Deliver.is }
+returns-in-Err-undeliver g c = record {
+  ok = tt;
+  err = c.in-Err-undeliver.ensures.err;
+  given_back = ap Deliver c.in-Err-undeliver.ensures.given_back ∙ sym c.in-Deliver.is;
+}
