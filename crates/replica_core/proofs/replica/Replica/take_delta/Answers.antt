@@ -2,6 +2,7 @@ use Rattle.std.proofs.Common.{rules, sym, ap, ◌∙◌, subst₂}
 use Rattle.payload_core.specs.Messages.{store_message, AreSeen}
 use Rattle.payload_core.specs.Stores.{Store}
 use Rattle.replica_core.specs.Replicas.{delta_message}
+use Rattle.replica_core.proofs.Sizes.{seen_fits, store_fits}
 use Rattle.replica_core.proofs.Calls.{sent_is}
 use Rattle.replica_core.proofs.Invariant.{kept_sent}
 use Rattle.replica_core.proofs.replica.Replica.take_delta.Goals as goal
@@ -33,3 +34,6 @@ returns-clause-message g c =
 
 pub returns-clause-taken : goal.returns-clause-taken
 returns-clause-taken g c = sent_is _ c.args.self.now c.replace.new.dest c.self.view_is (c.replace.ensures.after ∙ c.new.ensures)
+
+pub into_parts-seen-requires : goal.into_parts-seen-requires
+into_parts-seen-requires g c = (store_fits g.row.A g.A.Allocator (search tt), seen_fits g.row.A g.A.Allocator (search tt))
