@@ -12,6 +12,7 @@ pub mod Lowered
 pub mod NextStep
 pub mod NumberLists
 pub mod Numbered
+pub mod OneEdited
 pub mod Promises
 pub mod Rising
 pub mod Rooms

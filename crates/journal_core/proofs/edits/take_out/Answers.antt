@@ -8,6 +8,7 @@ use Rattle.journal_core.proofs.Each.{each_find}
 use Rattle.journal_core.proofs.Split.{found_kept, kepts_out}
 use Rattle.journal_core.proofs.Filled.{none_out}
 use Rattle.journal_core.proofs.Indexed.{out_all, found_there, edits_length}
+use Rattle.journal_core.proofs.OneEdited.{keeps_both}
 use Rattle.journal_core.proofs.edits.take_out.Goals as goal
 
 pub returns-in_default-clause-steps : goal.returns-in_default-clause-steps
@@ -62,3 +63,13 @@ returns-clause-indexed g c =
     ap kepts c.take_out.ensures.steps ∙ kepts_out 0 c.args.slots.now.steps n c.in-Some.held.now c.requires.indexed.0.0 held in
     subst (λ (l : List Kept). IsIndexed l es) (sym steps)
     (out_all ks n k cs ds es c.requires.indexed found c.requires.free edits others drops)
+
+pub returns-clause-nodes : goal.returns-clause-nodes
+returns-clause-nodes g c =
+    c.drop_step.ensures.others.0 ∙ edits_length (all_but c.args.number) c.of-room.result.delivers c.args.causes.now.items
+    c.drop_delivery.new.causes.items c.drop_delivery.ensures.edits
+
+pub returns-clause-keeps : goal.returns-clause-keeps
+returns-clause-keeps g c =
+    keeps_both c.args.causes.now.items c.drop_delivery.new.causes.items c.drop_step.new.causes.items c.drop_delivery.ensures.keeps
+    c.drop_step.ensures.keeps
