@@ -1,5 +1,6 @@
 use Rattle.std.proofs.Common.{◌≡◌, ◌∙◌, ◌<◌, ◌-◌, [], replicate, slice_set, length, sym, ap, subst, Option, option_map, option_copied, List, ℕ}
 use Rattle.std.proofs.Common.{Some, None}
+use Rattle.std.proofs.lemmas.List.{length-set, length-replicate}
 use Rattle.journal_core.specs.Journals.{Kept, find_number}
 use Rattle.journal_core.specs.Futures.{IsFuture}
 use Rattle.journal_core.specs.Holdings.{Held, kepts}
@@ -36,3 +37,10 @@ gather_back-requires-clause-starts g c =
     (sym (c.as_mut_slice.ensures.value ∙ c.in_ok-bounds.ensures
     ∙ ap (λ node. slice_set (replicate nodes None) node (Some (n - 1))) c.node-node.ensures))
     (starts ks n k nodes c.requires.order.0 c.requires.known found)
+
+pub gather_back-requires-clause-long : goal.gather_back-requires-clause-long
+gather_back-requires-clause-long g c =
+    let none : Option ℕ = None in
+    let nodes = length c.args.causes.now in
+    ap length (c.as_mut_slice.ensures.value ∙ c.in_ok-bounds.ensures)
+    ∙ length-set (replicate nodes none) c.node-node.result (Some (c.args.number - 1)) ∙ length-replicate nodes none

@@ -1,4 +1,4 @@
-use Rattle.std.proofs.Common.{◌≡◌, ◌∙◌, ◌<◌, ◌++◌, ◌∷◌, [], ◌&&◌, nat_lt, length, sym, ap, subst, Option, List, ℕ, Some}
+use Rattle.std.proofs.Common.{◌≡◌, ◌∙◌, ◌<◌, ◌++◌, ◌∷◌, [], ◌&&◌, nat_lt, length, refl, sym, ap, subst, Option, List, ℕ, Some}
 use Rattle.std.specs.List.{filter}
 use Rattle.journal_core.specs.Journals.{Kept, find_number, first_number, delivers_from, numbers}
 use Rattle.journal_core.specs.Holdings.{kepts}
@@ -52,3 +52,16 @@ loop-next-preserved g c =
           (subst (λ (bs : List (Option ℕ)). IsGatheredUpTo ks n (ns ++ m ∷ []) bs (first_number (λ j. reaches bs j && nat_lt m j.number) ks))
           (sym bounds) more));
     }
+
+pub loop-next-init : goal.loop-next-init
+loop-next-init g c =
+    record {
+      long = refl;
+      state = subst (λ (l : List ℕ). IsGatheredUpTo (kepts c.args.slots.now.steps) c.args.number l c.args.bounds.now (Some c.args.number))
+          (sym c.new-numbers.ensures.items) c.requires.starts;
+    }
+
+pub returns : goal.returns
+returns g c =
+    subst (IsGatheredUpTo (kepts c.args.slots.now.steps) c.args.number c.loop-next.numbers.items c.loop-next.bounds) c.in_default.is
+    c.loop-next.invariant.state

@@ -1,5 +1,7 @@
-use Rattle.std.proofs.Common.{◌<◌, length, map, sym, ap, subst}
-use Rattle.journal_core.specs.Holdings.{Room, Journal, plain_room}
+use Rattle.std.proofs.Common.{◌<◌, ◌∙◌, ◌++◌, ◌∷◌, [], length, map, sym, ap, subst}
+use Rattle.std.proofs.lemmas.List.{map-append}
+use Rattle.node_core.specs.Operations.{plain}
+use Rattle.journal_core.specs.Holdings.{Room, Journal, plain_room, room_for}
 use Rattle.journal_core.specs.Rooms.{ArePromised}
 use Rattle.journal_core.proofs.Promises.{promised_keeps, promised_push, same_journal}
 use Rattle.journal_core.proofs.journal.Journal.make_room.Goals as goal
@@ -39,3 +41,15 @@ invariant_of-self-in_err-push g c =
           (promised_keeps c.self.inside.causes.items cs c.self.inside.slots.room s (map plain_room c.self.inside.room.items)
           c.make_all_room.ensures.keeps c.make_all_room.ensures.more c.self.invariant.1),
     )
+
+pub returns-clause-ok : goal.returns-clause-ok
+returns-clause-ok g c =
+    ap (map plain_room) c.in_ok-push.ensures.items ∙ map-append plain_room c.self.inside.room.items (c.of-room.result ∷ [])
+    ∙ ap (λ (r : Room). map plain_room c.self.inside.room.items ++ r ∷ []) c.of-room.ensures
+    ∙ ap (λ (j : Journal). j.room ++ room_for c.args.node (plain c.args.step.now) ∷ []) c.self.view_is
+
+pub returns-clause-steps : goal.returns-clause-steps
+returns-clause-steps g c = c.make_all_room.ensures.steps ∙ ap (λ (j : Journal). j.steps) c.self.view_is
+
+pub returns-clause-nodes : goal.returns-clause-nodes
+returns-clause-nodes g c = c.make_all_room.ensures.same.0 ∙ ap (λ (j : Journal). j.nodes) c.self.view_is

@@ -27,3 +27,12 @@ invariant_of-result g c = (
   subst (λ hs. IsIndexed (kepts hs) c.loop.causes.items) (sym c.new-slots.ensures) ((tt, tt), tt, c.loop.invariant.indexed),
   subst (λ rs. ArePromised c.loop.causes.items c.new-slots.result.room (map plain_room rs)) (sym c.new-room.ensures.items) tt,
 )
+
+pub returns : goal.returns
+returns g c =
+    let all : c.loop.counter ≡ c.args.nodes = omega (arith, c.loop-test.false, c.loop.auto.counter-end) in
+    λ i. record {
+      nodes = (c.loop.invariant.long ∙ all) i;
+      steps = c.new-slots.ensures i;
+      room = map plain_room (c.new-room.ensures.items i);
+    }

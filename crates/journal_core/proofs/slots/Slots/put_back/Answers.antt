@@ -60,3 +60,6 @@ returns-clause-steps g c =
     let read : c.index_mut.result.now ≡ get_or os p None = get_or_read os p c.index_mut.result.now (omega arith) c.index_mut.ensures.value None in
     ap (λ (o : Option Held). steps_in (slice_set os p o)) (c.put_in.ensures ∙ ap (lent_in (i)) read)
     ∙ lent_at 0 n (i) ns os p c.self.invariant.0 c.self.invariant.1 at ∙ ap (λ (s : Slots). with_inverse s.steps n (i)) c.self.view_is
+
+pub returns-clause-room : goal.returns-clause-room
+returns-clause-room g c = ap (λ (s : Slots). s.room) c.self.view_is
