@@ -1,9 +1,9 @@
--- Of the indices of all nodes one is edited, or of an index the deliveries at one place.
-use Rattle.std.proofs.Common.{◌≡◌, ◌∙◌, ◌⊎◌, inl, inr, ℕ, ◌<◌, ◌≤◌, List, Option, None, Some, length, take, slice_set, refl, sym, ap, subst, arith}
+-- What is kept where the index of one node is edited.
+use Rattle.std.proofs.Common.{◌≡◌, ◌∙◌, ◌⊎◌, inl, inr, ℕ, ◌<◌, ◌≤◌, List, length, take, slice_set, refl, sym, ap, subst, arith}
 use Rattle.std.proofs.lemmas.Bool.{cases_eq}
-use Rattle.std.proofs.lemmas.List.{get_or-set_same, get_or-set_other, get_or-take, length-take, length-set}
+use Rattle.std.proofs.lemmas.List.{get_or-set_same, get_or-set_other, get_or-take, length-take}
 use Rattle.smallvec.specs.SmallVec.{HasRoomFor}
-use Rattle.journal_core.specs.Causes.{Causes, causes_at, no_causes, deliveries_at, IsSameIndex, AreSameIndices, SameBut, EditsDeliveries}
+use Rattle.journal_core.specs.Causes.{Causes, causes_at, no_causes, deliveries_at}
 use Rattle.journal_core.specs.Rooms.{KeepsRoom}
 
 -- no room of one index is less
@@ -28,12 +28,6 @@ module _ (cs : List Causes) (node : ℕ) (b c : Causes) (within : node < length 
       let all = each KeepsOne (λ a. (omega arith, omega arith, λ p low h. h)) one in
       record { nodes = λ n. (all n).0; shorter = λ n. (all n).1; messages = λ n. (all n).2 }
 
-  -- its messages stay
-  pub keeps_same : b.room ≤ c.room → c.deliveries ≡ b.deliveries → KeepsRoom cs (slice_set cs node c)
-  keeps_same more same =
-      keeps_one
-      (more, (let long = ap length same in omega arith), λ p low h. subst (λ vs. HasRoomFor (deliveries_at vs p) 1) (sym same) h)
-
   -- its last messages are gone
   pub keeps_less : (i : ℕ) → b.room ≤ c.room → c.deliveries ≡ take i b.deliveries → KeepsRoom cs (slice_set cs node c)
   keeps_less i more less =
@@ -49,36 +43,13 @@ module _ (cs : List Causes) (node : ℕ) (b c : Causes) (within : node < length 
       ((p : ℕ) → HasRoomFor (deliveries_at b.deliveries p) 1 → HasRoomFor (deliveries_at c.deliveries p) 1) → KeepsRoom cs (slice_set cs node c)
   keeps_many more long keeps = keeps_one (omega arith, omega arith, λ p low h. keeps p h)
 
-  -- and but for one as they were
-  pub keeps_but : (q : ℕ) → c.room ≡ b.room → SameBut q b.deliveries c.deliveries →
-      (HasRoomFor (deliveries_at b.deliveries q) 1 → HasRoomFor (deliveries_at c.deliveries q) 1) → KeepsRoom cs (slice_set cs node c)
-  keeps_but q more but keeps = keeps_many more but.0 (λ p. go p (cases_eq p q))
-    where
-      go : (p : ℕ) → (p ≡ q) ⊎ (p ≡ q → ⊥) → HasRoomFor (deliveries_at b.deliveries p) 1 → HasRoomFor (deliveries_at c.deliveries p) 1
-      go p (inl same) h =
-          subst (λ r. HasRoomFor (deliveries_at c.deliveries r) 1) (sym same)
-          (keeps (subst (λ r. HasRoomFor (deliveries_at b.deliveries r) 1) same h))
-      go p (inr apart) h = subst (λ v. HasRoomFor v 1) (sym (but.1 p apart)) h
-
-  pub same_indices : IsSameIndex b c → AreSameIndices cs (slice_set cs node c)
-  same_indices one = (length-set cs node c, each IsSameIndex (λ a. (refl, refl, (λ p. refl), refl)) one)
-
   pub same_room : c.room ≡ b.room → (n : ℕ) → (causes_at (slice_set cs node c) n).room ≡ (causes_at cs n).room
   same_room same = each (λ a d. d.room ≡ a.room) (λ a. refl) same
 
+-- of two edits
 pub keeps_both : (bs cs ds : List Causes) → KeepsRoom bs cs → KeepsRoom cs ds → KeepsRoom bs ds
 keeps_both bs cs ds one other = record {
   nodes = λ n. (let first = one.nodes n in let then = other.nodes n in omega arith);
   shorter = λ n. (let first = one.shorter n in let then = other.shorter n in omega arith);
   messages = λ n p low h. other.messages n p low (one.messages n p (let then = other.shorter n in omega arith) h);
 }
-
--- an edit of deliveries leaves room for steps
-pub edits_room : (edit : List ℕ → List ℕ) (d : Option (ℕ × ℕ)) (cs ds : List Causes) → EditsDeliveries edit d cs ds → (n : ℕ) →
-    (causes_at ds n).room ≡ (causes_at cs n).room
-edits_room edit None cs ds e n = ap (λ (cs : List Causes). (causes_at cs n).room) e
-edits_room edit (Some m) cs ds e n = go (cases_eq n m.0)
-  where
-    go : (n ≡ m.0) ⊎ (n ≡ m.0 → ⊥) → (causes_at ds n).room ≡ (causes_at cs n).room
-    go (inl same) = subst (λ i. (causes_at ds i).room ≡ (causes_at cs i).room) (sym same) e.3
-    go (inr apart) = ap (λ (c : Causes). c.room) (e.0.1 n apart)

@@ -1,4 +1,4 @@
-use Rattle.std.proofs.Common.{◌≡◌, ◌∙◌, ◌<◌, ◌++◌, ◌∷◌, [], List, Option, ℕ, length, sym, ap, subst}
+use Rattle.std.proofs.Common.{◌≡◌, ◌∙◌, ◌++◌, ◌∷◌, [], List, Option, ℕ, sym, ap, subst}
 use Rattle.node_core.specs.Operations.{delivers, sends}
 use Rattle.journal_core.specs.Numbers.{Rises, and_last}
 use Rattle.journal_core.specs.Journals.{Kept}
@@ -7,8 +7,7 @@ use Rattle.journal_core.specs.Causes.{Causes, causes_at, IsIndexed, HasMessage, 
 use Rattle.journal_core.specs.Causes.{AddsStep}
 use Rattle.journal_core.proofs.Rising.{kepts-append}
 use Rattle.journal_core.proofs.Deliveries.{message_there, rises_with}
-use Rattle.journal_core.proofs.Indexed.{kept_all, rises_both, below_held, edits_length}
-use Rattle.journal_core.proofs.OneEdited.{edits_room}
+use Rattle.journal_core.proofs.Indexed.{kept_all, rises_both, below_held}
 use Rattle.journal_core.proofs.Promises.{at_once}
 use Rattle.journal_core.proofs.edits.keep.Goals as goal
 
@@ -104,23 +103,3 @@ returns-clause-indexed g c =
     let steps : kepts c.push.new.self.steps ≡ ks ++ k ∷ [] = ap kepts c.push.ensures ∙ kepts-append c.args.slots.now.steps (c.args.held ∷ []) in
     subst (λ (l : List Kept). IsIndexed l es) (sym steps)
     (kept_all ks k cs ds es c.requires.indexed c.requires.positive c.requires.above c.requires.known c.requires.sender edits others adds)
-
-pub add_step-requires-clause-node : goal.add_step-requires-clause-node
-add_step-requires-clause-node g c =
-    let long = edits_length (and_last c.number-number.result) c.of-room.result.delivers c.args.causes.now.items c.add_delivery.new.causes.items
-    c.add_delivery.ensures in
-    let node : c.of-room.result.node ≡ c.args.held.kept.node = ap (λ (r : Room). r.node) c.of-room.ensures ∙ c.node.ensures in
-    subst (λ n. c.of-room.result.node < n) (sym long) (subst (λ n. n < length c.args.causes.now.items) (sym node) c.requires.known)
-
-pub add_step-requires-clause-room : goal.add_step-requires-clause-room
-add_step-requires-clause-room g c =
-    let ds = c.add_delivery.new.causes.items in
-    let node : c.of-room.result.node ≡ c.args.held.kept.node = ap (λ (r : Room). r.node) c.of-room.ensures ∙ c.node.ensures in
-    subst (λ n. 0 < (causes_at ds n).room) (sym node)
-    (subst (λ n. 0 < n) (sym (edits_room (and_last c.number-number.result) c.of-room.result.delivers c.args.causes.now.items ds c.add_delivery.ensures
-    c.args.held.kept.node)) c.requires.promised.own)
-
-pub returns-clause-nodes : goal.returns-clause-nodes
-returns-clause-nodes g c =
-    c.add_step.ensures.others.0 ∙ edits_length (and_last c.number-number.result) c.of-room.result.delivers c.args.causes.now.items
-    c.add_delivery.new.causes.items c.add_delivery.ensures

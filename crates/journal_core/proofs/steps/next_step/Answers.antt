@@ -8,8 +8,3 @@ pub returns-in-Some-slot : goal.returns-in-Some-slot
 returns-in-Some-slot g c =
     c.loop-slot.invariant ∙ ap steps_in c.in-Some.ensures.steps
     ∙ ap (λ (o : Option Held). steps_in (o ∷ iter_rest c.next.new.self)) c.in-Some-slot.is
-
-pub loop-slot-preserved : goal.loop-slot-preserved
-loop-slot-preserved g c =
-    c.loop-slot.invariant ∙ ap steps_in c.in-Some.ensures.steps
-    ∙ ap (λ (o : Option Held). steps_in (o ∷ iter_rest c.next.new.self)) c.in_default-slot.is

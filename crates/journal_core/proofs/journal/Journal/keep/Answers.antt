@@ -1,8 +1,7 @@
-use Rattle.std.proofs.Common.{◌≡◌, ◌∙◌, ℕ, ◌<◌, Bool, true, false, List, [], ◌∷◌, ◌++◌, length, Some, Result, Ok, Err, OnOk, is_err, map, sym, ap, subst, true≢false}
-use Rattle.node_core.specs.Operations.{Operation, plain, delivers}
+use Rattle.std.proofs.Common.{◌≡◌, ◌∙◌, ℕ, ◌<◌, Bool, false, List, length, Some, Result, Ok, Err, OnOk, is_err, map, sym, ap, subst, true≢false}
+use Rattle.node_core.specs.Operations.{Operation, plain}
 use Rattle.node_core.specs.Inverses.{Inverse, plain_inverse}
-use Rattle.journal_core.specs.Journals.{AreBelow}
-use Rattle.journal_core.specs.Holdings.{Held, Journal, kepts, plain_room, room_for, HasSender}
+use Rattle.journal_core.specs.Holdings.{Held, Journal, plain_room, room_for}
 use Rattle.journal_core.specs.Causes.{Causes}
 use Rattle.journal_core.specs.Rooms.{IsPromised, ArePromised}
 use Rattle.journal_core.proofs.Promises.{promised_keeps, same_journal}
@@ -15,31 +14,17 @@ ok_then (Err e) b is kept p = absurd (true≢false (sym is ∙ kept))
 abbrev held : ℕ → ℕ → Operation → Inverse → Held
 held number node step inverse = record { kept = record { number = number; node = node; step = step }; inverse = Some inverse }
 
--- what is asked of a step that is held is asked of its parts
+-- what is asked of a step that is held, by its parts
 
-positive_of : (h j : Held) → h ≡ j → 0 < j.kept.number → 0 < h.kept.number
-positive_of h j same p = subst (λ (h : Held). 0 < h.kept.number) (sym same) p
+positive_of : (m n : ℕ) → m ≡ n → 0 < n → 0 < m
+positive_of m n same h = subst (λ n. 0 < n) (sym same) h
 
-known_of : (h j : Held) (a b : ℕ) → h ≡ j → b ≡ a → j.kept.node < a → h.kept.node < b
-known_of h j a b same nodes p = subst (λ b. h.kept.node < b) (sym nodes) (subst (λ (h : Held). h.kept.node < a) (sym same) p)
+known_of : (m n a b : ℕ) → m ≡ n → b ≡ a → n < a → m < b
+known_of m n a b same nodes h = subst (λ b. m < b) (sym nodes) (subst (λ m. m < a) (sym same) h)
 
-above_of : (h j : Held) (hs js : List Held) → h ≡ j → hs ≡ js → AreBelow j.kept.number (kepts js) → AreBelow h.kept.number (kepts hs)
-above_of h j hs js same steps p =
-    subst (λ (l : List Held). AreBelow h.kept.number (kepts l)) (sym steps)
-    (subst (λ (h : Held). AreBelow h.kept.number (kepts js)) (sym same) p)
-
-sender_of : (h j : Held) (hs js : List Held) → h ≡ j → hs ≡ js → HasSender (kepts js) (delivers j.kept.step) →
-    HasSender (kepts hs) (delivers h.kept.step)
-sender_of h j hs js same steps p =
-    subst (λ (l : List Held). HasSender (kepts l) (delivers h.kept.step)) (sym steps)
-    (subst (λ (h : Held). HasSender (kepts js) (delivers h.kept.step)) (sym same) p)
-
-promised_of : (cs : List Causes) (s : ℕ) (h j : Held) → h ≡ j → IsPromised cs s (room_for j.kept.node j.kept.step) →
-    IsPromised cs s (room_for h.kept.node h.kept.step)
-promised_of cs s h j same p = subst (λ (h : Held). IsPromised cs s (room_for h.kept.node h.kept.step)) (sym same) p
-
-added_of : (h j : Held) (hs js : List Held) → h ≡ j → hs ≡ js → hs ++ h ∷ [] ≡ js ++ j ∷ []
-added_of h j hs js same steps = λ i. steps i ++ same i ∷ []
+promised_of : (cs : List Causes) (s m n : ℕ) (p q : Operation) → m ≡ n → p ≡ q → IsPromised cs s (room_for n q) → IsPromised cs s (room_for m p)
+promised_of cs s m n p q node step h =
+    subst (λ (p : Operation). IsPromised cs s (room_for m p)) (sym step) (subst (λ m. IsPromised cs s (room_for m q)) (sym node) h)
 
 pub invariant_of-self : goal.invariant_of-self
 invariant_of-self g c = (
@@ -63,48 +48,23 @@ keep-requires-clause-indexed g c =
 pub keep-requires-clause-positive : goal.keep-requires-clause-positive
 keep-requires-clause-positive g c =
     let this = held c.args.number c.args.node (plain c.args.step) (plain_inverse c.args.inverse) in
-    let of_step = λ (h : Held) (same : h ≡ this). positive_of h this same c.requires.positive in
-    search of_step
+    let number = λ (h : Held) (same : h ≡ this). ap (λ (h : Held). h.kept.number) same in
+    positive_of _ c.args.number (search number) c.requires.positive
 
 pub keep-requires-clause-known : goal.keep-requires-clause-known
 keep-requires-clause-known g c =
     let this = held c.args.number c.args.node (plain c.args.step) (plain_inverse c.args.inverse) in
-    let of_step = λ (h : Held) (same : h ≡ this). known_of h this (length c.self.inside.causes.items)
-    (length c.make_sure-made.new.causes.items) same c.make_sure-made.ensures.same.0
-    (subst (λ (j : Journal). c.args.node < j.nodes) (sym c.self.view_is) c.requires.known) in
-    search of_step
-
-pub keep-requires-clause-above : goal.keep-requires-clause-above
-keep-requires-clause-above g c =
-    let this = held c.args.number c.args.node (plain c.args.step) (plain_inverse c.args.inverse) in
-    let of_step = λ (h : Held) (same : h ≡ this). above_of h this c.make_sure-made.new.slots.steps c.args.self.now.steps same
-    (c.make_sure-made.ensures.steps ∙ ap (λ (j : Journal). j.steps) c.self.view_is) c.requires.above in
-    search of_step
-
-pub keep-requires-clause-sender : goal.keep-requires-clause-sender
-keep-requires-clause-sender g c =
-    let this = held c.args.number c.args.node (plain c.args.step) (plain_inverse c.args.inverse) in
-    let of_step = λ (h : Held) (same : h ≡ this). sender_of h this c.make_sure-made.new.slots.steps c.args.self.now.steps same
-    (c.make_sure-made.ensures.steps ∙ ap (λ (j : Journal). j.steps) c.self.view_is) c.requires.sender in
-    search of_step
+    let node = λ (h : Held) (same : h ≡ this). ap (λ (h : Held). h.kept.node) same in
+    known_of _ c.args.node (length c.self.inside.causes.items) (length c.make_sure-made.new.causes.items) (search node)
+    c.make_sure-made.ensures.same.0 (subst (λ (j : Journal). c.args.node < j.nodes) (sym c.self.view_is) c.requires.known)
 
 pub keep-requires-clause-promised : goal.keep-requires-clause-promised
 keep-requires-clause-promised g c =
     let this = held c.args.number c.args.node (plain c.args.step) (plain_inverse c.args.inverse) in
+    let node = λ (h : Held) (same : h ≡ this). ap (λ (h : Held). h.kept.node) same in
+    let step = λ (h : Held) (same : h ≡ this). ap (λ (h : Held). h.kept.step) same in
     let cs = c.make_sure-made.new.causes.items in
     let s = c.make_sure-made.new.slots.room in
-    let promised : IsPromised cs s (room_for c.args.node (plain c.args.step)) = subst (IsPromised cs s) c.of-room.ensures
-    (ok_then c.make_sure-made.result c.is_err.result c.is_err.ensures.value c.if-is_err.false c.make_sure-made.ensures.promised) in
-    let of_step = λ (h : Held) (same : h ≡ this). promised_of cs s h this same promised in
-    search of_step
-
-pub returns-clause-ok : goal.returns-clause-ok
-returns-clause-ok g c =
-    λ i. record {
-      nodes = (c.keep.ensures.nodes ∙ c.make_sure-made.ensures.same.0 ∙ ap (λ (j : Journal). j.nodes) c.self.view_is) i;
-      steps =
-          (c.keep.ensures.steps
-          ∙ added_of _ (held c.args.number c.args.node (plain c.args.step) (plain_inverse c.args.inverse)) c.make_sure-made.new.slots.steps
-          c.args.self.now.steps (search tt) (c.make_sure-made.ensures.steps ∙ ap (λ (j : Journal). j.steps) c.self.view_is)) i;
-      room = map plain_room (c.clear.ensures.items i);
-    }
+    promised_of cs s _ c.args.node _ (plain c.args.step) (search node) (search step)
+    (subst (IsPromised cs s) c.of-room.ensures
+    (ok_then c.make_sure-made.result c.is_err.result c.is_err.ensures.value c.if-is_err.false c.make_sure-made.ensures.promised))

@@ -1,12 +1,9 @@
-use Rattle.std.proofs.Common.{◌∙◌, ℕ, sym, ap, subst, map, length, None}
-use Rattle.journal_core.specs.Holdings.{Journal, kepts, plain_room, find_held, inverse_of, with_inverse}
+use Rattle.std.proofs.Common.{◌∙◌, sym, ap, subst, map, None}
+use Rattle.journal_core.specs.Holdings.{Journal, kepts, plain_room, find_held, inverse_of}
 use Rattle.journal_core.specs.Causes.{IsIndexed}
 use Rattle.journal_core.specs.Rooms.{ArePromised}
 use Rattle.journal_core.proofs.Rising.{kepts_with}
 use Rattle.journal_core.proofs.journal.Journal.lend.Goals as goal
-
-abbrev lent : ℕ → Journal → Journal
-lent n j = record { nodes = j.nodes; steps = with_inverse j.steps n None; room = j.room }
 
 pub invariant_of-self : goal.invariant_of-self
 invariant_of-self g c =
@@ -19,11 +16,3 @@ invariant_of-self g c =
 pub returns-clause-value : goal.returns-clause-value
 returns-clause-value g c =
     c.lend.ensures.value ∙ ap (λ (j : Journal). inverse_of (find_held j.steps c.args.number)) c.self.view_is
-
-pub returns-clause-after : goal.returns-clause-after
-returns-clause-after g c =
-    (λ i. record {
-      nodes = length c.self.inside.causes.items;
-      steps = c.lend.ensures.steps i;
-      room = map plain_room c.self.inside.room.items;
-    }) ∙ ap (lent c.args.number) c.self.view_is
