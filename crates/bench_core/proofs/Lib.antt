@@ -1,5 +1,7 @@
 pub mod Answers
 pub mod TextLists
+pub mod Tried
+pub mod Places
 pub mod Clusters
 pub mod Taken
 pub mod Runs
@@ -17,9 +19,11 @@ pub mod InTurn
 pub mod Others
 pub mod WaysBack
 pub mod Gone
+pub mod UnknownBack
 pub mod Swapped
 pub mod Noted
 pub mod Movables
+pub mod SameSteps
 pub mod Sound
 pub mod OneEntry
 pub mod Deliveries

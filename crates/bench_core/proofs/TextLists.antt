@@ -117,3 +117,14 @@ not_wrong_count (Err fault) view texts gives e =
   where
     other : WrongCount ≢ OutOfMemory
     other h = cc
+
+-- of 1 to 32 texts the count is no fault
+pub names_of_few : (texts : Texts) → 0 < length texts → length texts ≤ 32 → names_of texts ≡ with_names [] texts
+names_of_few texts some few = grind (arith, nat_tests)
+
+-- what a `?` gives of a fault
+pub gives_fault : {X : Type 0} (result : Result X NamesFault) (view : X → Texts) (meant : Result Texts NamesFault) (fault given : NamesFault) →
+    result ≡ Err given → given ≡ fault → (fault ≢ OutOfMemory → meant ≡ Err fault) → GivesUnless OutOfMemory view result meant
+gives_fault (Ok x) view meant fault given is same gives = absurd (cc)
+gives_fault (Err e) view meant fault given is same gives =
+    let here : e ≡ fault = cc in λ other. gives (λ h. other (here ∙ h)) ∙ ap (λ d. Err d) (sym here)

@@ -4,6 +4,7 @@ use Rattle.node_core.specs.Invariant.{IsNode}
 use Rattle.bench_core.specs.Clusters.{opening_of}
 use Rattle.bench_core.specs.Benches.{AreNodes}
 use Rattle.bench_core.proofs.Openings.{opening_kept, opening_push, nodes_push}
+use Rattle.bench_core.proofs.Tried.{met}
 use Rattle.bench_core.proofs.bench.open_nodes.Goals as goal
 
 pub loop-number-preserved : goal.loop-number-preserved
@@ -21,3 +22,7 @@ loop-number-preserved g c =
       count = omega arith;
       room = omega arith;
     }
+
+pub returns-clause-opening : goal.returns-clause-opening
+returns-clause-opening g c =
+    c.loop-number.invariant.opening ∙ ap (opening_of c.args.limits) (met _ _ c.loop-number.auto.number-end c.loop-number-test.false)

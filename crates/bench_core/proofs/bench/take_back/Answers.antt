@@ -1,4 +1,4 @@
-use Rattle.std.proofs.Common.{◌≡◌, ◌∙◌, sym, ap, subst, Some, None, set, option_map, arith}
+use Rattle.std.proofs.Common.{◌≡◌, ◌∙◌, sym, ap, subst, Some, None, set, option_map, arith, ◌<◌}
 use Rattle.node_core.specs.Invariant.{IsNode}
 use Rattle.node_core.specs.Inverses.{plain_inverse, LeadsSomewhere}
 use Rattle.journal_core.specs.Journals.{first_consequence}
@@ -6,6 +6,8 @@ use Rattle.journal_core.specs.Holdings.{Journal, find_held, inverse_of, kepts, w
 use Rattle.journal_core.proofs.Rising.{kepts_with}
 use Rattle.journal_core.proofs.Loans.{is_lent}
 use Rattle.bench_core.proofs.Invariant.{found_at}
+use Rattle.std.proofs.lemmas.List.{set-get_or}
+use Rattle.std.proofs.lemmas.Option.{slice_get_within}
 use Rattle.bench_core.proofs.bench.take_back.Goals as goal
 
 pub give_back-requires : goal.give_back-requires
@@ -75,3 +77,13 @@ returns-clause-journal g c =
     ∙ ap (λ (j : Journal). record { nodes = j.nodes; steps = without_held j.steps c.args.number; room = j.room }) c.lend.ensures.after
     ∙ ap (λ l. record { nodes = c.args.journal.now.nodes; steps = l; room = c.args.journal.now.room })
     (c.loan_law.ensures.taken_out c.args.journal.now.steps c.args.number)
+
+pub index_mut-place-requires : goal.index_mut-place-requires
+index_mut-place-requires g c =
+    subst (λ n. c.args.node < n) (sym c.args.nodes.now.ok.0)
+    (slice_get_within c.args.nodes.now.items c.args.node c.requires.later c.requires.at)
+
+pub returns-in-Err-clause-err : goal.returns-in-Err-clause-err
+returns-in-Err-clause-err g c =
+    ap (set c.args.nodes.now.items c.args.node) (c.in-Err.ensures.err ∙ c.index_mut-place.ensures.value)
+    ∙ set-get_or c.args.nodes.now.items c.args.node _

@@ -1,5 +1,5 @@
-use Rattle.std.proofs.Common.{◌≡◌, ◌+◌, ◌++◌, ◌∷◌, [], length, take, drop, slice_get, Some, List, ℕ, sym, ap, ◌∙◌, subst, subst₂, arith}
-use Rattle.std.proofs.lemmas.List.{length-take-le}
+use Rattle.std.proofs.Common.{◌≡◌, ◌+◌, ◌++◌, ◌∷◌, [], length, take, drop, slice_get, Some, List, ℕ, sym, ap, ◌∙◌, subst, subst₂, arith, ◌<◌, ◌≤◌}
+use Rattle.std.proofs.lemmas.List.{length-take-le, take_all}
 use Rattle.std.proofs.lemmas.Option.{slice_get_within}
 use Rattle.std.specs.Option.{option_copied}
 use Rattle.journal_core.specs.Journals.{Kept}
@@ -7,6 +7,7 @@ use Rattle.journal_core.specs.Holdings.{kepts}
 use Rattle.bench_core.specs.declared.movable.Movable.{Movable}
 use Rattle.bench_core.specs.Movables.{movable_after, movables_after, CountSent}
 use Rattle.bench_core.proofs.Noted.{counted_few, of_node_at, take_next, movables_push, written_back}
+use Rattle.bench_core.proofs.Places.{copied_some}
 use Rattle.bench_core.proofs.swaps.movables.Goals as goal
 
 pub noted-requires-clause-few : goal.noted-requires-clause-few
@@ -55,3 +56,22 @@ loop-place-preserved g c =
       nodes = ap (λ (l : List ℕ). length l) back ∙ c.noted.ensures.length ∙ nodes;
       room = omega arith;
     }
+
+pub noted-requires-clause-known : goal.noted-requires-clause-known
+noted-requires-clause-known g c =
+    let ks = kepts c.args.journal.now.steps in
+    let k : Kept = c.unwrap-kept.result.now in
+    let at : slice_get ks c.loop-place.place ≡ Some k = sym c.at.ensures ∙ ap option_copied c.unwrap-kept.ensures in
+    subst (λ n. k.node < n) (sym (ap (λ (l : List ℕ). length l) c.as_mut_slice.ensures.value ∙ c.loop-place.invariant.nodes))
+    (of_node_at c.args.nodes ks c.loop-place.place k c.requires at)
+
+pub returns : goal.returns
+returns g c =
+    let ks = kepts c.args.journal.now.steps in
+    c.loop-place.invariant.so_far
+    ∙ ap (movables_after []) (take_all c.loop-place.place ks (subst (λ n. n ≤ c.loop-place.place) c.len-place-end.ensures c.loop-place-test.false))
+
+pub unwrap-kept-requires : goal.unwrap-kept-requires
+unwrap-kept-requires g c =
+    copied_some c.at.result (kepts c.args.journal.now.steps) c.loop-place.place c.at.ensures
+    (subst (λ n. c.loop-place.place < n) c.len-place-end.ensures c.loop-place-test.true)

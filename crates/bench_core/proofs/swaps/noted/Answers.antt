@@ -1,4 +1,4 @@
-use Rattle.std.proofs.Common.{◌<◌, ◌++◌, ◌∷◌, [], length, slice_index_or, sym, ◌∙◌, subst}
+use Rattle.std.proofs.Common.{◌<◌, ◌++◌, ◌∷◌, [], length, slice_index_or, sym, ◌∙◌, subst, ◌≡◌, ℕ, Some, arith, slice_get}
 use Rattle.std.proofs.lemmas.Option.{slice_get-get_or}
 use Rattle.node_core.specs.Operations.{plain}
 use Rattle.journal_core.specs.Journals.{Kept}
@@ -22,3 +22,13 @@ returns-clause-counts g c first counted =
           (counted_silent first k counts (sym c.sends.ensures ∙ w.if-sends.false) counted)
     ] in
     subst (λ (k : Kept). CountSent (length counts) (first ++ k ∷ []) c.if-sends.sent) c.kept.view_is result
+
+pub overflow_add-number : goal.overflow_add-number
+overflow_add-number g c =
+    let counts = c.args.sent.now in
+    let k : Kept = record { number = c.kept.inside.number; node = c.kept.inside.node; step = plain c.kept.inside.step } in
+    let known : k.node < length counts = subst (λ (k : Kept). k.node < length counts) (sym c.kept.view_is) c.requires.known in
+    let few : (n : ℕ) → slice_get counts k.node ≡ Some n → n < 18446744073709551615 =
+    subst (λ (k : Kept). (n : ℕ) → slice_get counts k.node ≡ Some n → n < 18446744073709551615) (sym c.kept.view_is) c.requires.few in
+    let low = few (slice_index_or counts k.node 0) (slice_get-get_or counts k.node 0 known) in
+    omega (arith, low)

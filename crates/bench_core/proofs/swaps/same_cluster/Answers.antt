@@ -16,7 +16,7 @@ returns-in-Some-clause-answers g c =
     ends_bad c.args.one.now c.args.other.now c.args.places.now (kepts c.remaining-from.result.now.steps) (kepts c.remaining-to.result.now.steps)
     c.as_mut_slice.result.now c.first_bad.new.steps c.bench_law.ensures.reached c.remaining-from.ensures.steps c.remaining-to.ensures.steps
     (c.as_mut_slice.ensures.value ∙ c.in_ok-steps.ensures)
-    c.in-Some.at (search rules) (c.in-Some.ensures).bad
+    c.in-Some.at (c.are_of_one_kind.ensures.0 c.if-not-are_of_one_kind.false) (c.in-Some.ensures).bad
 
 pub returns-then-not-are_steps_of-clause-answers : goal.returns-then-not-are_steps_of-clause-answers
 returns-then-not-are_steps_of-clause-answers g c =
@@ -26,7 +26,7 @@ returns-then-not-are_steps_of-clause-answers g c =
     ends_away c.args.one.now c.args.other.now c.args.places.now (kepts c.remaining-from.result.now.steps) (kepts c.remaining-to.result.now.steps)
     c.as_mut_slice.result.now c.as_slice.result.now c.bench_law.ensures.reached c.remaining-from.ensures.steps c.remaining-to.ensures.steps
     (c.as_mut_slice.ensures.value ∙ c.in_ok-steps.ensures)
-    (search rules) (c.first_bad.ensures.none c.in_default.is ∙ ap Ok (sym (c.as_slice.ensures.value ∙ back))) (search rules)
+    (c.are_of_one_kind.ensures.0 c.if-not-are_of_one_kind.false) (c.first_bad.ensures.none c.in_default.is ∙ ap Ok (sym (c.as_slice.ensures.value ∙ back))) (search rules)
 
 pub returns-clause-answers : goal.returns-clause-answers
 returns-clause-answers g c =
@@ -36,7 +36,8 @@ returns-clause-answers g c =
     ends_well c.args.one.now c.args.other.now c.args.places.now (kepts c.remaining-from.result.now.steps) (kepts c.remaining-to.result.now.steps)
     c.as_mut_slice.result.now c.as_slice.result.now c.bench_law.ensures.reached c.remaining-from.ensures.steps c.remaining-to.ensures.steps
     (c.as_mut_slice.ensures.value ∙ c.in_ok-steps.ensures) tt
-    (search rules) (c.first_bad.ensures.none c.in_default.is ∙ ap Ok (sym (c.as_slice.ensures.value ∙ back))) (search rules)
+    (c.are_of_one_kind.ensures.0 c.if-not-are_of_one_kind.false) (c.first_bad.ensures.none c.in_default.is ∙ ap Ok (sym (c.as_slice.ensures.value ∙ back)))
+    (c.are_steps_of.ensures.0 c.if-not-are_steps_of.false)
 
 pub returns-clause-equal_clusters : goal.returns-clause-equal_clusters
 returns-clause-equal_clusters g c =
@@ -46,4 +47,5 @@ returns-clause-equal_clusters g c =
     equal_clusters c.args.one.now c.args.other.now c.args.places.now (kepts c.remaining-from.result.now.steps) (kepts c.remaining-to.result.now.steps)
     c.as_mut_slice.result.now c.as_slice.result.now c.bench_law.ensures.reached c.remaining-from.ensures.steps c.remaining-to.ensures.steps
     (c.as_mut_slice.ensures.value ∙ c.in_ok-steps.ensures)
-    (search rules) (c.first_bad.ensures.none c.in_default.is ∙ ap Ok (sym (c.as_slice.ensures.value ∙ back))) (search rules)
+    (c.are_of_one_kind.ensures.0 c.if-not-are_of_one_kind.false) (c.first_bad.ensures.none c.in_default.is ∙ ap Ok (sym (c.as_slice.ensures.value ∙ back)))
+    (c.are_steps_of.ensures.0 c.if-not-are_steps_of.false)

@@ -1,11 +1,11 @@
-use Rattle.std.proofs.Common.{◌≡◌, ◌∙◌, sym, ap, subst, subst₂, List, length, arith}
+use Rattle.std.proofs.Common.{◌≡◌, ◌∙◌, sym, ap, subst, subst₂, List, length, arith, []}
 use Rattle.journal_core.specs.Holdings.{Journal, kepts}
 use Rattle.bench_core.specs.Limits.{node_limits}
 use Rattle.bench_core.specs.Clusters.{opening_of}
 use Rattle.bench_core.specs.Machine.{Event}
 use Rattle.bench_core.specs.Benches.{IsBench}
 use Rattle.bench_core.proofs.Openings.{opens}
-use Rattle.bench_core.proofs.Invariant.{config}
+use Rattle.bench_core.proofs.Invariant.{config, machine}
 use Rattle.bench_core.proofs.bench.Bench.new.Goals as goal
 
 pub invariant_of-result : goal.invariant_of-result
@@ -22,3 +22,8 @@ invariant_of-result g c =
           (sym c.new-2.ensures) opened),
       ap (λ (j : Journal). j.nodes) c.in-Ok-new.ensures ∙ c.len-2.ensures.len,
     )
+
+pub returns : goal.returns
+returns g c =
+    ap (λ (h : List Event). machine c.args.names c.args.limits h (kepts c.in-Ok-new.journal.steps)) c.new-2.ensures
+    ∙ ap (λ (j : Journal). machine c.args.names c.args.limits [] (kepts j.steps)) c.in-Ok-new.ensures

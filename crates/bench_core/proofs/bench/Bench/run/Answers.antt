@@ -1,5 +1,8 @@
-use Rattle.std.proofs.Common.{arith}
+use Rattle.std.proofs.Common.{arith, List, ℕ, subst}
 use Rattle.bench_core.proofs.Openings.{answered_next}
+use Rattle.std.proofs.lemmas.List.{take_all}
+use Rattle.bench_core.specs.Acts.{calls_of}
+use Rattle.bench_core.specs.Machine.{AllAnswered}
 use Rattle.bench_core.proofs.bench.Bench.run.Goals as goal
 
 pub loop-actor-preserved : goal.loop-actor-preserved
@@ -10,3 +13,8 @@ loop-actor-preserved g c = record {
   count = omega arith;
   room = omega arith;
 }
+
+pub returns-clause-ok : goal.returns-clause-ok
+returns-clause-ok g c =
+    subst (λ calls. AllAnswered c.args.self.now (calls_of calls) c.loop-actor.replies.items c.loop-actor.self)
+    (take_all c.loop-actor.actor-index c.args.calls.now c.loop-actor-test.false) c.loop-actor.invariant.so_far

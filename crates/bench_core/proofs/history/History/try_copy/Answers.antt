@@ -1,5 +1,5 @@
 use Rattle.std.proofs.Common.{List, ◌++◌, ◌∷◌, [], take, ap, sym, ◌∙◌, arith}
-use Rattle.std.proofs.lemmas.List.{take_more}
+use Rattle.std.proofs.lemmas.List.{take_more, take_all}
 use Rattle.bench_core.specs.Machine.{Event}
 use Rattle.bench_core.proofs.history.History.try_copy.Goals as goal
 
@@ -17,3 +17,8 @@ loop-event-preserved g c =
       count = omega arith;
       room = omega arith;
     }
+
+pub returns : goal.returns
+returns g c =
+    c.loop-event.invariant.so_far ∙ take_all c.loop-event.event-index c.deref-event-items.result.now c.loop-event-test.false
+    ∙ c.deref-event-items.ensures.value ∙ c.self.view_is
