@@ -1,5 +1,5 @@
 use Rattle.std.proofs.Common.{◌≡◌, ◌+◌, ◌++◌, ◌∷◌, [], length, take, drop, slice_get, Some, List, ℕ, sym, ap, ◌∙◌, subst, subst₂, arith, ◌<◌, ◌≤◌}
-use Rattle.std.proofs.lemmas.List.{length-take-le, take_all}
+use Rattle.std.proofs.lemmas.List.{length-take-le, take_all, length-replicate}
 use Rattle.std.proofs.lemmas.Option.{slice_get_within}
 use Rattle.std.specs.Option.{option_copied}
 use Rattle.journal_core.specs.Journals.{Kept}
@@ -7,7 +7,8 @@ use Rattle.journal_core.specs.Holdings.{kepts}
 use Rattle.bench_core.specs.declared.movable.Movable.{Movable}
 use Rattle.bench_core.specs.Movables.{movable_after, movables_after, CountSent}
 use Rattle.bench_core.proofs.Noted.{counted_few, of_node_at, take_next, movables_push, written_back}
-use Rattle.bench_core.proofs.Places.{copied_some}
+use Rattle.bench_core.proofs.Places.{copied_some, at_replicate}
+use Rattle.std.specs.Prelude.{vec_capacity, replicate}
 use Rattle.bench_core.proofs.swaps.movables.Goals as goal
 
 pub noted-requires-clause-few : goal.noted-requires-clause-few
@@ -75,3 +76,14 @@ pub unwrap-kept-requires : goal.unwrap-kept-requires
 unwrap-kept-requires g c =
     copied_some c.at.result (kepts c.args.journal.now.steps) c.loop-place.place c.at.ensures
     (subst (λ n. c.loop-place.place < n) c.len-place-end.ensures c.loop-place-test.true)
+
+pub loop-place-init : goal.loop-place-init
+loop-place-init g c =
+    let zeros : c.in_ok-sent.sent.items ≡ replicate c.args.nodes 0 = c.in_ok-sent.ensures.items_if_clones_equal (λ y e. e) in
+    record {
+      so_far = c.in_ok-movables.ensures.items;
+      counts = λ node low. at_replicate c.args.nodes node 0 c.in_ok-sent.sent.items zeros low;
+      count = c.in_ok-movables.ensures.len;
+      nodes = ap (λ (l : List ℕ). length l) zeros ∙ length-replicate c.args.nodes 0;
+      room = subst (λ n. n ≤ vec_capacity c.in_ok-movables.movables) c.len.ensures c.in_ok-movables.ensures.capacity;
+    }
