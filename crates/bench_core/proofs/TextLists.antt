@@ -1,5 +1,5 @@
 -- Lists of texts, and the lists that are accepted as names.
-use Rattle.std.proofs.Common.{◌≡◌, ◌≢◌, Result, ℕ, ◌+◌, ◌<◌, ◌≤◌, Bool, true, false, List, [], ◌∷◌, ◌++◌, length, map, not, Ok, Err, position}
+use Rattle.std.proofs.Common.{◌≡◌, ◌≢◌, ◌⊎◌, inl, inr, Result, ℕ, ◌+◌, ◌<◌, ◌≤◌, Bool, true, false, List, [], ◌∷◌, ◌++◌, length, map, not, Ok, Err, position}
 use Rattle.std.proofs.Common.{if◌then◌else◌, String, refl, sym, ap, subst, true≢false, ◌∙◌, append_assoc, append-nil, arith}
 use Rattle.std.specs.Bool.{Decides}
 use Rattle.std.specs.Cmp.Derive.Mapped.{pointwise-map}
@@ -128,3 +128,10 @@ pub gives_fault : {X : Type 0} (result : Result X NamesFault) (view : X → Text
 gives_fault (Ok x) view meant fault given is same gives = absurd (cc)
 gives_fault (Err e) view meant fault given is same gives =
     let here : e ≡ fault = cc in λ other. gives (λ h. other (here ∙ h)) ∙ ap (λ d. Err d) (sym here)
+
+pub in_range : (n : ℕ) → 0 < n → n ≤ 32 → (n ≡ 0) ⊎ (32 < n) → ⊥
+in_range n some few (inl none) = omega arith
+in_range n some few (inr many) = omega arith
+
+pub ok_no_fault : {X : Type 0} (x : X) (fault : NamesFault) → Ok x ≡ Err fault → ⊥
+ok_no_fault x fault e = cc

@@ -2,7 +2,7 @@
 use Rattle.std.proofs.Common.{◌≡◌, ℕ, ◌≤◌, true, false, Result, Ok, Err, arith}
 use Rattle.std.specs.Prelude.{OnErr, OnOk, is_err}
 
-module _ {X E P : Type 0} where
+module _ {X E : Type 0} (P : Type 0) where
   pub was_made : (r : Result X E) → is_err r ≡ false → OnOk r P → P
   was_made (Ok x) made h = h
   was_made (Err e) made h = absurd (cc)

@@ -32,12 +32,12 @@ pub invariant_of-self : goal.invariant_of-self
 invariant_of-self g c =
     same_bench c.self.inside.names c.self.inside.limits c.self.inside.history c.record.new.self c.self.inside.nodes.items
     c.self.inside.nodes.items c.self.inside.journal c.self.inside.journal c.self.inside.meter.count
-    (was_refused c.record.result (sym c.is_err.ensures.value ∙ c.if-is_err.true) c.record.ensures.err) refl refl c.self.invariant
+    (was_refused (c.record.new.self ≡ c.self.inside.history) c.record.result (sym c.is_err.ensures.value ∙ c.if-is_err.true) c.record.ensures.err) refl refl c.self.invariant
 
 pub returns-then-is_err : goal.returns-then-is_err
 returns-then-is_err g c =
-    let stays : c.record.new.self ≡ c.self.inside.history =
-    was_refused c.record.result (sym c.is_err.ensures.value ∙ c.if-is_err.true) c.record.ensures.err in
+    let stays =
+    was_refused (c.record.new.self ≡ c.self.inside.history) c.record.result (sym c.is_err.ensures.value ∙ c.if-is_err.true) c.record.ensures.err in
     unmade_refusal c.args.actor (plain_act c.args.act.now) c.args.fault c.args.self.now _ c.requires.refused c.requires.recorded
     (λ e. c.if-free-eq0.false (c.free.ensures ∙ e))
     (ap (λ (h : List Event). machine c.self.inside.names c.self.inside.limits h (kepts c.self.inside.journal.steps)) stays ∙ c.self.view_is)

@@ -12,6 +12,8 @@ use Rattle.bench_core.specs.Histories.{note}
 use Rattle.bench_core.specs.Machine.{Event, config_of, free_places, knows}
 use Rattle.bench_core.proofs.Invariant.{machine, added, can_step, can_keep, taken_asked, refused_asked, unmade_step, unstepped}
 use Rattle.bench_core.proofs.Tried.{is_made, was_made, was_refused}
+use denote.Enum.Bare.{same_false}
+use Rattle.node_core.specs.contracts.step_fault.StepFault.{the_type}
 use Rattle.bench_core.proofs.bench.Bench.take.Goals as goal
 
 pub step_node-requires : goal.step_node-requires
@@ -24,11 +26,12 @@ step_node-requires g c =
 
 pub invariant_of-self-in-Err : goal.invariant_of-self-in-Err
 invariant_of-self-in-Err g c =
-    let noted : c.record.new.self ≡ note c.args.actor (plain_act c.args.act.now) (Refused OutOfMemory) c.self.inside.history =
-    was_made c.record.result (sym c.is_err-2.ensures.value ∙ c.if-is_err-2.false) c.record.ensures.ok in
+    let noted =
+    was_made (c.record.new.self ≡ note c.args.actor (plain_act c.args.act.now) (Refused OutOfMemory) c.self.inside.history) c.record.result (sym c.is_err-2.ensures.value ∙ c.if-is_err-2.false) c.record.ensures.ok in
     let is : knows (config_of c.args.self.now) c.args.actor (plain c.args.step.now) ≡ true = sym c.knows.ensures ∙ c.if-not-knows.false in
     let room : 2 ≤ free_places (config_of c.args.self.now) c.args.self.now.state = omega arith in
-    let other : c.in-Err.fault ≢ step_faults.OutOfMemory = search rules in (
+    let other : c.in-Err.fault ≢ step_faults.OutOfMemory =
+    same_false the_type c.in-Err.fault step_faults.OutOfMemory (sym c.if-eq.ensures) in (
       (refused_asked c.self.inside.names c.self.inside.limits c.self.inside.history c.answer_last.new.self
           c.self.inside.nodes.items c.step_node.new.nodes.items c.self.inside.journal.steps c.make_room.new.self.steps
           c.self.inside.meter.count c.step_node.new.meter.count c.args.actor (plain c.args.step.now) (plain c.in-Ok.step)
@@ -41,11 +44,12 @@ invariant_of-self-in-Err g c =
 
 pub returns-else-eq : goal.returns-else-eq
 returns-else-eq g c =
-    let noted : c.record.new.self ≡ note c.args.actor (plain_act c.args.act.now) (Refused OutOfMemory) c.self.inside.history =
-    was_made c.record.result (sym c.is_err-2.ensures.value ∙ c.if-is_err-2.false) c.record.ensures.ok in
+    let noted =
+    was_made (c.record.new.self ≡ note c.args.actor (plain_act c.args.act.now) (Refused OutOfMemory) c.self.inside.history) c.record.result (sym c.is_err-2.ensures.value ∙ c.if-is_err-2.false) c.record.ensures.ok in
     let is : knows (config_of c.args.self.now) c.args.actor (plain c.args.step.now) ≡ true = sym c.knows.ensures ∙ c.if-not-knows.false in
     let room : 2 ≤ free_places (config_of c.args.self.now) c.args.self.now.state = omega arith in
-    let other : c.in-Err.fault ≢ step_faults.OutOfMemory = search rules in
+    let other : c.in-Err.fault ≢ step_faults.OutOfMemory =
+    same_false the_type c.in-Err.fault step_faults.OutOfMemory (sym c.if-eq.ensures) in
     (refused_asked c.self.inside.names c.self.inside.limits c.self.inside.history c.answer_last.new.self c.self.inside.nodes.items
     c.step_node.new.nodes.items c.self.inside.journal.steps c.make_room.new.self.steps c.self.inside.meter.count
     c.step_node.new.meter.count c.args.actor (plain c.args.step.now) (plain c.in-Ok.step) (plain_act c.args.act.now) c.in-Err.fault
@@ -68,17 +72,17 @@ keep-requires g c =
 
 pub invariant_of-self-in-Ok-step_node : goal.invariant_of-self-in-Ok-step_node
 invariant_of-self-in-Ok-step_node g c =
-    let noted : c.record.new.self ≡ note c.args.actor (plain_act c.args.act.now) (Refused OutOfMemory) c.self.inside.history =
-    was_made c.record.result (sym c.is_err-2.ensures.value ∙ c.if-is_err-2.false) c.record.ensures.ok in
+    let noted =
+    was_made (c.record.new.self ≡ note c.args.actor (plain_act c.args.act.now) (Refused OutOfMemory) c.self.inside.history) c.record.result (sym c.is_err-2.ensures.value ∙ c.if-is_err-2.false) c.record.ensures.ok in
     let is : knows (config_of c.args.self.now) c.args.actor (plain c.args.step.now) ≡ true = sym c.knows.ensures ∙ c.if-not-knows.false in
     let room : 2 ≤ free_places (config_of c.args.self.now) c.args.self.now.state = omega arith in
-    let grown : c.keep.new.self ≡ record {
+    let grown =
+    is_made (c.keep.new.self ≡ record {
       nodes = c.make_room.new.self.nodes;
       steps = c.make_room.new.self.steps ++
           added c.count-number.result c.args.actor (plain c.in-Ok.step) (plain_inverse c.in-Ok-step_node.inverse) ∷ [];
       room = [];
-    } =
-    is_made c.keep.result c.unwrap.result c.unwrap.ensures c.keep.ensures.ok in (
+    }) c.keep.result c.unwrap.result c.unwrap.ensures c.keep.ensures.ok in (
       (taken_asked c.self.inside.names c.self.inside.limits c.self.inside.history c.answer_last-in-Ok-step_node.new.self
           c.self.inside.nodes.items c.step_node.new.nodes.items c.self.inside.journal.steps c.make_room.new.self.steps
           c.keep.new.self.steps c.self.inside.meter.count c.step_node.new.meter.count c.count-number.result c.args.actor
@@ -93,17 +97,17 @@ invariant_of-self-in-Ok-step_node g c =
 
 pub returns-in-Ok-step_node : goal.returns-in-Ok-step_node
 returns-in-Ok-step_node g c =
-    let noted : c.record.new.self ≡ note c.args.actor (plain_act c.args.act.now) (Refused OutOfMemory) c.self.inside.history =
-    was_made c.record.result (sym c.is_err-2.ensures.value ∙ c.if-is_err-2.false) c.record.ensures.ok in
+    let noted =
+    was_made (c.record.new.self ≡ note c.args.actor (plain_act c.args.act.now) (Refused OutOfMemory) c.self.inside.history) c.record.result (sym c.is_err-2.ensures.value ∙ c.if-is_err-2.false) c.record.ensures.ok in
     let is : knows (config_of c.args.self.now) c.args.actor (plain c.args.step.now) ≡ true = sym c.knows.ensures ∙ c.if-not-knows.false in
     let room : 2 ≤ free_places (config_of c.args.self.now) c.args.self.now.state = omega arith in
-    let grown : c.keep.new.self ≡ record {
+    let grown =
+    is_made (c.keep.new.self ≡ record {
       nodes = c.make_room.new.self.nodes;
       steps = c.make_room.new.self.steps ++
           added c.count-number.result c.args.actor (plain c.in-Ok.step) (plain_inverse c.in-Ok-step_node.inverse) ∷ [];
       room = [];
-    } =
-    is_made c.keep.result c.unwrap.result c.unwrap.ensures c.keep.ensures.ok in
+    }) c.keep.result c.unwrap.result c.unwrap.ensures c.keep.ensures.ok in
     (taken_asked c.self.inside.names c.self.inside.limits c.self.inside.history c.answer_last-in-Ok-step_node.new.self
     c.self.inside.nodes.items c.step_node.new.nodes.items c.self.inside.journal.steps c.make_room.new.self.steps c.keep.new.self.steps
     c.self.inside.meter.count c.step_node.new.meter.count c.count-number.result c.args.actor (plain c.args.step.now)
@@ -115,8 +119,8 @@ returns-in-Ok-step_node g c =
 
 pub unwrap-requires : goal.unwrap-requires
 unwrap-requires g c =
-    let made : c.make_room.new.self.room ≡ c.self.inside.journal.room ++ room_for c.args.actor (plain c.args.step.now) ∷ [] =
-    was_made c.make_room.result (sym c.is_err.ensures.value ∙ c.if-is_err.false) c.make_room.ensures.ok in
+    let made =
+    was_made (c.make_room.new.self.room ≡ c.self.inside.journal.room ++ room_for c.args.actor (plain c.args.step.now) ∷ []) c.make_room.result (sym c.is_err.ensures.value ∙ c.if-is_err.false) c.make_room.ensures.ok in
     let same : c.make_room.new.self.room ≡ c.self.inside.journal.room ++ room_for c.args.actor (plain c.in-Ok.step) ∷ [] = made
     ∙ ap (λ (s : Operation). c.self.inside.journal.room ++ room_for c.args.actor s ∷ []) (sym c.in-Ok.ensures) in
     c.keep.ensures.succeeds (subst (λ (l : List Room). Contains l (room_for c.args.actor (plain c.in-Ok.step))) (sym same)
@@ -134,8 +138,8 @@ returns-then-is_err g c =
 
 pub returns-then-eq : goal.returns-then-eq
 returns-then-eq g c =
-    let noted : c.record.new.self ≡ note c.args.actor (plain_act c.args.act.now) (Refused OutOfMemory) c.self.inside.history =
-    was_made c.record.result (sym c.is_err-2.ensures.value ∙ c.if-is_err-2.false) c.record.ensures.ok in
+    let noted =
+    was_made (c.record.new.self ≡ note c.args.actor (plain_act c.args.act.now) (Refused OutOfMemory) c.self.inside.history) c.record.result (sym c.is_err-2.ensures.value ∙ c.if-is_err-2.false) c.record.ensures.ok in
     let is : knows (config_of c.args.self.now) c.args.actor (plain c.args.step.now) ≡ true = sym c.knows.ensures ∙ c.if-not-knows.false in
     let room : 2 ≤ free_places (config_of c.args.self.now) c.args.self.now.state = omega arith in
     unmade_step c.self.inside.names c.self.inside.limits c.self.inside.history c.self.inside.nodes.items c.self.inside.journal.steps
@@ -149,8 +153,8 @@ returns-then-eq g c =
 
 pub returns-in_default : goal.returns-in_default
 returns-in_default g c =
-    let noted : c.record.new.self ≡ note c.args.actor (plain_act c.args.act.now) (Refused OutOfMemory) c.self.inside.history =
-    was_made c.record.result (sym c.is_err-2.ensures.value ∙ c.if-is_err-2.false) c.record.ensures.ok in
+    let noted =
+    was_made (c.record.new.self ≡ note c.args.actor (plain_act c.args.act.now) (Refused OutOfMemory) c.self.inside.history) c.record.result (sym c.is_err-2.ensures.value ∙ c.if-is_err-2.false) c.record.ensures.ok in
     let is : knows (config_of c.args.self.now) c.args.actor (plain c.args.step.now) ≡ true = sym c.knows.ensures ∙ c.if-not-knows.false in
     let room : 2 ≤ free_places (config_of c.args.self.now) c.args.self.now.state = omega arith in
     unmade_step c.self.inside.names c.self.inside.limits c.self.inside.history c.self.inside.nodes.items c.self.inside.journal.steps
@@ -166,8 +170,8 @@ pub returns-then-is_err-2 : goal.returns-then-is_err-2
 returns-then-is_err-2 g c =
     let is : knows (config_of c.args.self.now) c.args.actor (plain c.args.step.now) ≡ true = sym c.knows.ensures ∙ c.if-not-knows.false in
     let room : 2 ≤ free_places (config_of c.args.self.now) c.args.self.now.state = omega arith in
-    let stays : c.record.new.self ≡ c.self.inside.history =
-    was_refused c.record.result (sym c.is_err-2.ensures.value ∙ c.if-is_err-2.true) c.record.ensures.err in
+    let stays =
+    was_refused (c.record.new.self ≡ c.self.inside.history) c.record.result (sym c.is_err-2.ensures.value ∙ c.if-is_err-2.true) c.record.ensures.err in
     unmade_step c.self.inside.names c.self.inside.limits c.self.inside.history c.self.inside.nodes.items c.self.inside.journal.steps
     c.self.inside.meter.count c.args.actor (plain c.args.step.now) (plain_act c.args.act.now) c.args.self.now _ c.self.view_is
     c.self.invariant.0 c.requires is room
@@ -183,16 +187,16 @@ invariant_of-self g c =
 
 pub invariant_of-self-then-is_err-2 : goal.invariant_of-self-then-is_err-2
 invariant_of-self-then-is_err-2 g c =
-    let stays : c.record.new.self ≡ c.self.inside.history =
-    was_refused c.record.result (sym c.is_err-2.ensures.value ∙ c.if-is_err-2.true) c.record.ensures.err in
+    let stays =
+    was_refused (c.record.new.self ≡ c.self.inside.history) c.record.result (sym c.is_err-2.ensures.value ∙ c.if-is_err-2.true) c.record.ensures.err in
     unstepped c.self.inside.names c.self.inside.limits c.self.inside.history c.record.new.self c.self.inside.nodes.items _
     c.self.inside.journal c.make_room.new.self c.self.inside.meter.count _ stays refl c.make_room.ensures.steps c.make_room.ensures.nodes refl
     c.self.invariant
 
 pub invariant_of-self-in_default : goal.invariant_of-self-in_default
 invariant_of-self-in_default g c =
-    let noted : c.record.new.self ≡ note c.args.actor (plain_act c.args.act.now) (Refused OutOfMemory) c.self.inside.history =
-    was_made c.record.result (sym c.is_err-2.ensures.value ∙ c.if-is_err-2.false) c.record.ensures.ok in
+    let noted =
+    was_made (c.record.new.self ≡ note c.args.actor (plain_act c.args.act.now) (Refused OutOfMemory) c.self.inside.history) c.record.result (sym c.is_err-2.ensures.value ∙ c.if-is_err-2.false) c.record.ensures.ok in
     unstepped c.self.inside.names c.self.inside.limits c.self.inside.history c.forget_last.new.self c.self.inside.nodes.items _
     c.self.inside.journal c.make_room.new.self c.self.inside.meter.count _
     (c.forget_last.ensures c.args.actor (plain_act c.args.act.now) (Refused OutOfMemory) c.self.inside.history noted) refl
@@ -200,8 +204,8 @@ invariant_of-self-in_default g c =
 
 pub invariant_of-self-then-eq : goal.invariant_of-self-then-eq
 invariant_of-self-then-eq g c =
-    let noted : c.record.new.self ≡ note c.args.actor (plain_act c.args.act.now) (Refused OutOfMemory) c.self.inside.history =
-    was_made c.record.result (sym c.is_err-2.ensures.value ∙ c.if-is_err-2.false) c.record.ensures.ok in
+    let noted =
+    was_made (c.record.new.self ≡ note c.args.actor (plain_act c.args.act.now) (Refused OutOfMemory) c.self.inside.history) c.record.result (sym c.is_err-2.ensures.value ∙ c.if-is_err-2.false) c.record.ensures.ok in
     unstepped c.self.inside.names c.self.inside.limits c.self.inside.history c.forget_last-then-eq.new.self c.self.inside.nodes.items
     c.step_node.new.nodes.items c.self.inside.journal c.make_room.new.self c.self.inside.meter.count c.step_node.new.meter.count
     (c.forget_last-then-eq.ensures c.args.actor (plain_act c.args.act.now) (Refused OutOfMemory) c.self.inside.history noted)

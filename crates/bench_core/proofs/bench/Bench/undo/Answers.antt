@@ -25,8 +25,8 @@ take_back-requires g c =
 
 pub invariant_of-self-else-is_err-2 : goal.invariant_of-self-else-is_err-2
 invariant_of-self-else-is_err-2 g c =
-    let noted : c.record.new.self ≡ note c.args.actor (plain_act c.args.act.now) (Undone c.args.number) c.self.inside.history =
-    was_made c.record.result (sym c.is_err.ensures.value ∙ c.if-is_err.false) c.record.ensures.ok in
+    let noted =
+    was_made (c.record.new.self ≡ note c.args.actor (plain_act c.args.act.now) (Undone c.args.number) c.self.inside.history) c.record.result (sym c.is_err.ensures.value ∙ c.if-is_err.false) c.record.ensures.ok in
     let step = c.in-Ok.ensures.remains in
     let found : find_number (kepts c.self.inside.journal.steps) c.args.number ≡ Some step.0 =
     ap (λ (m : Machine). find_number m.state.remaining c.args.number) c.self.view_is ∙ step.1 in
@@ -34,15 +34,16 @@ invariant_of-self-else-is_err-2 g c =
     ∙ c.in_default.is in
     let u = undo_at (config c.self.inside.names c.self.inside.limits) c.self.inside.history c.self.inside.nodes.items
     c.self.inside.journal.steps c.self.inside.meter.count c.args.number c.in-Ok.node step.0 c.self.invariant.0 found step.2 free in
-    let goes : GoesBack c.self.inside.nodes.items c.self.inside.journal.steps c.args.number c.in-Ok.node c.take_back.new.nodes.items =
-    was_made c.take_back.result (sym c.is_err-2.ensures.value ∙ c.if-is_err-2.false) c.take_back.ensures.node in
-    let shorter : c.take_back.new.journal ≡
+    let goes =
+    was_made (GoesBack c.self.inside.nodes.items c.self.inside.journal.steps c.args.number c.in-Ok.node c.take_back.new.nodes.items) c.take_back.result (sym c.is_err-2.ensures.value ∙ c.if-is_err-2.false) c.take_back.ensures.node in
+    let shorter =
+    was_made (c.take_back.new.journal ≡
     record {
       nodes = c.self.inside.journal.nodes;
       steps = without_held c.self.inside.journal.steps c.args.number;
       room =
           c.self.inside.journal.room;
-    } = was_made c.take_back.result (sym c.is_err-2.ensures.value ∙ c.if-is_err-2.false) c.take_back.ensures.journal in (
+    }) c.take_back.result (sym c.is_err-2.ensures.value ∙ c.if-is_err-2.false) c.take_back.ensures.journal in (
       (undone c.self.inside.names c.self.inside.limits c.self.inside.history c.record.new.self c.self.inside.nodes.items
           c.take_back.new.nodes.items c.self.inside.journal.steps c.take_back.new.journal.steps c.self.inside.meter.count c.args.actor
           c.args.number c.in-Ok.node (plain_act c.args.act.now) step.0 c.args.self.now c.self.view_is
@@ -53,8 +54,8 @@ invariant_of-self-else-is_err-2 g c =
 
 pub returns : goal.returns
 returns g c =
-    let noted : c.record.new.self ≡ note c.args.actor (plain_act c.args.act.now) (Undone c.args.number) c.self.inside.history =
-    was_made c.record.result (sym c.is_err.ensures.value ∙ c.if-is_err.false) c.record.ensures.ok in
+    let noted =
+    was_made (c.record.new.self ≡ note c.args.actor (plain_act c.args.act.now) (Undone c.args.number) c.self.inside.history) c.record.result (sym c.is_err.ensures.value ∙ c.if-is_err.false) c.record.ensures.ok in
     let step = c.in-Ok.ensures.remains in
     let found : find_number (kepts c.self.inside.journal.steps) c.args.number ≡ Some step.0 =
     ap (λ (m : Machine). find_number m.state.remaining c.args.number) c.self.view_is ∙ step.1 in
@@ -62,15 +63,16 @@ returns g c =
     ∙ c.in_default.is in
     let u = undo_at (config c.self.inside.names c.self.inside.limits) c.self.inside.history c.self.inside.nodes.items
     c.self.inside.journal.steps c.self.inside.meter.count c.args.number c.in-Ok.node step.0 c.self.invariant.0 found step.2 free in
-    let goes : GoesBack c.self.inside.nodes.items c.self.inside.journal.steps c.args.number c.in-Ok.node c.take_back.new.nodes.items =
-    was_made c.take_back.result (sym c.is_err-2.ensures.value ∙ c.if-is_err-2.false) c.take_back.ensures.node in
-    let shorter : c.take_back.new.journal ≡
+    let goes =
+    was_made (GoesBack c.self.inside.nodes.items c.self.inside.journal.steps c.args.number c.in-Ok.node c.take_back.new.nodes.items) c.take_back.result (sym c.is_err-2.ensures.value ∙ c.if-is_err-2.false) c.take_back.ensures.node in
+    let shorter =
+    was_made (c.take_back.new.journal ≡
     record {
       nodes = c.self.inside.journal.nodes;
       steps = without_held c.self.inside.journal.steps c.args.number;
       room =
           c.self.inside.journal.room;
-    } = was_made c.take_back.result (sym c.is_err-2.ensures.value ∙ c.if-is_err-2.false) c.take_back.ensures.journal in
+    }) c.take_back.result (sym c.is_err-2.ensures.value ∙ c.if-is_err-2.false) c.take_back.ensures.journal in
     (undone c.self.inside.names c.self.inside.limits c.self.inside.history c.record.new.self c.self.inside.nodes.items
     c.take_back.new.nodes.items c.self.inside.journal.steps c.take_back.new.journal.steps c.self.inside.meter.count c.args.actor
     c.args.number c.in-Ok.node (plain_act c.args.act.now) step.0 c.args.self.now c.self.view_is
@@ -94,20 +96,20 @@ returns-then-is_err g c =
     let free : first_consequence c.args.self.now.state.remaining c.args.number ≡ None =
     ap (λ (m : Machine). first_consequence m.state.remaining c.args.number) (sym c.self.view_is) ∙ sym c.first_consequence.ensures
     ∙ c.in_default.is in
-    let stays : c.record.new.self ≡ c.self.inside.history =
-    was_refused c.record.result (sym c.is_err.ensures.value ∙ c.if-is_err.true) c.record.ensures.err in
+    let stays =
+    was_refused (c.record.new.self ≡ c.self.inside.history) c.record.result (sym c.is_err.ensures.value ∙ c.if-is_err.true) c.record.ensures.err in
     unmade_undo c.args.actor c.args.number (plain_act c.args.act.now) step.0 c.args.self.now _ reached c.requires step.1 free
     (ap (λ (h : List Event). machine c.self.inside.names c.self.inside.limits h (kepts c.self.inside.journal.steps))
     stays ∙ c.self.view_is)
 
 pub invariant_of-self-then-is_err-2 : goal.invariant_of-self-then-is_err-2
 invariant_of-self-then-is_err-2 g c =
-    let noted : c.record.new.self ≡ note c.args.actor (plain_act c.args.act.now) (Undone c.args.number) c.self.inside.history =
-    was_made c.record.result (sym c.is_err.ensures.value ∙ c.if-is_err.false) c.record.ensures.ok in
-    let stays : c.take_back.new.nodes.items ≡ c.self.inside.nodes.items =
-    was_refused c.take_back.result (sym c.is_err-2.ensures.value ∙ c.if-is_err-2.true) c.take_back.ensures.err in
-    let same : c.take_back.new.journal ≡ c.self.inside.journal =
-    was_refused c.take_back.result (sym c.is_err-2.ensures.value ∙ c.if-is_err-2.true) c.take_back.ensures.err_journal in
+    let noted =
+    was_made (c.record.new.self ≡ note c.args.actor (plain_act c.args.act.now) (Undone c.args.number) c.self.inside.history) c.record.result (sym c.is_err.ensures.value ∙ c.if-is_err.false) c.record.ensures.ok in
+    let stays =
+    was_refused (c.take_back.new.nodes.items ≡ c.self.inside.nodes.items) c.take_back.result (sym c.is_err-2.ensures.value ∙ c.if-is_err-2.true) c.take_back.ensures.err in
+    let same =
+    was_refused (c.take_back.new.journal ≡ c.self.inside.journal) c.take_back.result (sym c.is_err-2.ensures.value ∙ c.if-is_err-2.true) c.take_back.ensures.err_journal in
     same_bench c.self.inside.names c.self.inside.limits c.self.inside.history c.forget_last.new.self c.self.inside.nodes.items
     c.take_back.new.nodes.items c.self.inside.journal c.take_back.new.journal c.self.inside.meter.count
     (c.forget_last.ensures c.args.actor (plain_act c.args.act.now) (Undone c.args.number) c.self.inside.history noted) stays
@@ -115,15 +117,15 @@ invariant_of-self-then-is_err-2 g c =
 
 pub returns-then-is_err-2 : goal.returns-then-is_err-2
 returns-then-is_err-2 g c =
-    let noted : c.record.new.self ≡ note c.args.actor (plain_act c.args.act.now) (Undone c.args.number) c.self.inside.history =
-    was_made c.record.result (sym c.is_err.ensures.value ∙ c.if-is_err.false) c.record.ensures.ok in
+    let noted =
+    was_made (c.record.new.self ≡ note c.args.actor (plain_act c.args.act.now) (Undone c.args.number) c.self.inside.history) c.record.result (sym c.is_err.ensures.value ∙ c.if-is_err.false) c.record.ensures.ok in
     let step = c.in-Ok.ensures.remains in
     let reached = subst (λ (m : Machine). IsReached (config_of m) m.state) c.self.view_is c.self.invariant.0.reached in
     let free : first_consequence c.args.self.now.state.remaining c.args.number ≡ None =
     ap (λ (m : Machine). first_consequence m.state.remaining c.args.number) (sym c.self.view_is) ∙ sym c.first_consequence.ensures
     ∙ c.in_default.is in
-    let same : c.take_back.new.journal ≡ c.self.inside.journal =
-    was_refused c.take_back.result (sym c.is_err-2.ensures.value ∙ c.if-is_err-2.true) c.take_back.ensures.err_journal in
+    let same =
+    was_refused (c.take_back.new.journal ≡ c.self.inside.journal) c.take_back.result (sym c.is_err-2.ensures.value ∙ c.if-is_err-2.true) c.take_back.ensures.err_journal in
     unmade_undo c.args.actor c.args.number (plain_act c.args.act.now) step.0 c.args.self.now _ reached c.requires step.1 free
     (ap (λ (h : List Event). machine c.self.inside.names c.self.inside.limits h (kepts c.take_back.new.journal.steps))
     (c.forget_last.ensures c.args.actor (plain_act c.args.act.now) (Undone c.args.number) c.self.inside.history noted)
@@ -134,4 +136,4 @@ pub invariant_of-self : goal.invariant_of-self
 invariant_of-self g c =
     same_bench c.self.inside.names c.self.inside.limits c.self.inside.history c.record.new.self c.self.inside.nodes.items
     c.self.inside.nodes.items c.self.inside.journal c.self.inside.journal c.self.inside.meter.count
-    (was_refused c.record.result (sym c.is_err.ensures.value ∙ c.if-is_err.true) c.record.ensures.err) refl refl c.self.invariant
+    (was_refused (c.record.new.self ≡ c.self.inside.history) c.record.result (sym c.is_err.ensures.value ∙ c.if-is_err.true) c.record.ensures.err) refl refl c.self.invariant
