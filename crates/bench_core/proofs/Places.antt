@@ -1,5 +1,5 @@
 -- What stands at the places of a list.
-use Rattle.std.proofs.Common.{◌≡◌, ℕ, zero, suc, ◌<◌, List, [], ◌∷◌, ◌++◌, length, slice_get, Option, Some, None, get_or, nat_lt, refl, sym, ap, subst, ◌∙◌, true, false, ◌≤◌, arith}
+use Rattle.std.proofs.Common.{◌≡◌, ℕ, zero, suc, ◌<◌, List, [], ◌∷◌, ◌++◌, length, slice_get, Option, Some, None, get_or, nat_lt, refl, sym, ap, subst, ◌∙◌, true, arith}
 use Rattle.std.specs.Option.{is_some, option_copied, IfSome}
 use Rattle.std.specs.Prelude.{replicate}
 use Rattle.std.proofs.lemmas.List.{get_or-replicate, length-replicate}

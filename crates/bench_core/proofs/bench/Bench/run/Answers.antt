@@ -1,4 +1,4 @@
-use Rattle.std.proofs.Common.{arith, List, ℕ, subst}
+use Rattle.std.proofs.Common.{arith, subst}
 use Rattle.bench_core.proofs.Openings.{answered_next}
 use Rattle.std.proofs.lemmas.List.{take_all}
 use Rattle.bench_core.specs.Acts.{calls_of}

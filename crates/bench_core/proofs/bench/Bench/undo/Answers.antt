@@ -1,4 +1,4 @@
-use Rattle.std.proofs.Common.{◌≡◌, ◌∙◌, sym, ap, subst, List, Some, None, rules, arith, refl}
+use Rattle.std.proofs.Common.{◌≡◌, ◌∙◌, sym, ap, subst, List, Some, None, arith, refl}
 use Rattle.bench_core.specs.declared.reply.Reply.TheVariants.{Undone}
 use Rattle.bench_core.specs.Acts.{plain_act}
 use Rattle.journal_core.specs.Journals.{find_number, first_consequence}

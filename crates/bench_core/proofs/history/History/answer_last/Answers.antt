@@ -1,5 +1,4 @@
-use Rattle.std.proofs.Common.{List, ◌++◌, ◌∷◌, [], sym, ◌∙◌}
-use Rattle.bench_core.specs.Machine.{Event}
+use Rattle.std.proofs.Common.{◌++◌, ◌∷◌, [], sym, ◌∙◌}
 use Rattle.bench_core.proofs.Places.{last_is}
 use Rattle.bench_core.proofs.history.History.answer_last.Goals as goal
 

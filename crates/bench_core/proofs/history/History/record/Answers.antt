@@ -1,7 +1,6 @@
-use Rattle.std.proofs.Common.{List, ◌++◌, ◌∷◌, [], ◌∙◌, ap}
+use Rattle.std.proofs.Common.{◌∙◌, ap}
 use Rattle.bench_core.specs.Acts.{Action, plain_act}
 use Rattle.bench_core.specs.Histories.{note}
-use Rattle.bench_core.specs.Machine.{Event}
 use Rattle.bench_core.proofs.history.History.record.Goals as goal
 
 pub returns-clause-ok : goal.returns-clause-ok
