@@ -1,7 +1,6 @@
 pub mod Answers
 pub mod TextLists
 pub mod Tried
-pub mod Sizes
 pub mod Places
 pub mod Clusters
 pub mod Taken

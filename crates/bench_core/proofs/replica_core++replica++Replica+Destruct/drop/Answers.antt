@@ -1,4 +1,4 @@
-use Rattle.bench_core.proofs.Sizes.{store_fits}
+use Rattle.replica_core.proofs.Sizes.{store_fits}
 use Rattle.bench_core.proofs.replica_core++replica++Replica+Destruct.drop.Goals as goal
 
 -- the entries, and those of the delta
