@@ -2,7 +2,8 @@
 //!
 //! Stands on `bench_core`, whose calls and replies these are, on `json_core`, and on the kit's `serde_json`, whose values take
 //! their memory from the global heap. In the order to read them: `write_act`, `write_reply` and `write_event`, from a call to its
-//! value; `places`, `read_step`, `read_act`, `read_reply` and `read_event`, from a value to what it says; `replies`, whether two are one.
+//! value; `places`, `read_step`, `read_act`, `read_reply` and `read_event`, from a value to what it says; `replies`, whether two
+//! are one.
 #![tactic(auto)]
 
 mod places;
