@@ -1,7 +1,7 @@
 -- Walks that gather rows.
-use Rattle.std.proofs.Common.{◌≡◌, ℕ, suc, ◌+◌, ◌<◌, List, [], ◌∷◌, ◌++◌, map, filter, drop, length, slice_index_or, Option, Some, None}
+use Rattle.std.proofs.Common.{◌≡◌, ℕ, suc, ◌+◌, ◌<◌, ◌≤◌, List, [], ◌∷◌, ◌++◌, map, filter, drop, length, slice_index_or, Option, Some, None}
 use Rattle.std.proofs.Common.{refl, sym, ap, ◌∙◌, arith, append_assoc}
-use Rattle.std.proofs.lemmas.List.{append-nil, map-append}
+use Rattle.std.proofs.lemmas.List.{append-nil, drop_all, map-append}
 use Rattle.std.proofs.lemmas.List.Elements.{filter-append}
 use Rattle.std.proofs.Math.Seq.{drop-cons}
 use Rattle.std.specs.Option.{option_map}
@@ -35,6 +35,12 @@ one_on r all of cons xs i x done after whole front is so_far =
     ∙ ap (λ rs. done ++ rs) (sym (ap (λ l. rows_shown r (all l)) front ∙ ap (rows_shown r) (cons x (drop (i + 1) xs))
     ∙ both_shown r (of x) (all (drop (i + 1) xs))))
     ∙ so_far
+
+-- nothing is left of the list
+pub all_on : {X : Type 0} (r : Replica) (all : List X → List (Dot × Presence)) → all [] ≡ [] → (xs : List X) (i : ℕ) (done whole : List Row) →
+    length xs ≤ i → done ++ rows_shown r (all (drop i xs)) ≡ whole → done ≡ whole
+all_on r all none xs i done whole end so_far =
+    sym (append-nil done) ∙ ap (λ ps. done ++ rows_shown r ps) (sym (ap all (drop_all i xs end) ∙ none)) ∙ so_far
 
 -- what stands at a dot, as a read answers
 

@@ -1,9 +1,9 @@
-//! Tests of `test_alloc`, `dots_core`, `payload_core`, `replica_core`, `node_core` and `journal_core`, in a crate of their own, so
-//! that those crates are proved once. It has no code but these tests.
+//! Tests of `payload_core`, `replica_core`, `node_core` and `journal_core`, in a crate of their own, so that those crates are proved
+//! once. It has no code but these tests.
 //!
 //! Each says what no clause can: that calls succeed with memory, what a refusal of memory leaves, which calls take none, and
-//! whose memory is taken; and worked rows, for whether the clauses say what was meant. `refusing` tests the allocator of the
-//! others; `dots` and `words` come next, whose helpers the others use.
+//! whose memory is taken; and worked rows, for whether the clauses say what was meant. `words` comes first, whose helpers the
+//! others use.
 #![tactic(auto)]
 
 /// An assertion as a call: it is told by its own words. An `assert!` in its place is an exit more where much is live.
@@ -15,15 +15,11 @@ macro_rules! holds {
 }
 
 #[cfg(test)]
-mod dots;
-#[cfg(test)]
 mod inverses;
 #[cfg(test)]
 mod journal;
 #[cfg(test)]
 mod node;
-#[cfg(test)]
-mod refusing;
 #[cfg(test)]
 mod replica;
 #[cfg(test)]

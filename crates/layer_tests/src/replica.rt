@@ -3,10 +3,9 @@ ghost use Rattle.std.specs.Prelude.{◌≡◌, ◌<◌, IfOk, None, is_none, tru
 ghost use Rattle.replica_core.specs.Changes.{plain_change, ChangeLeadsBack};
 ghost use Rattle.replica_core.specs.Limits.{AreNodeLimits};
 
-use crate::dots::is_seen;
 use crate::rows::holds_at;
 use crate::words::{seen_alone, word};
-use dots_core::{Dot, NameSet};
+use dots_core::{Dot, DotSet, NameSet};
 use payload_core::{Payload, Word};
 use replica_core::{Change, NodeLimits, Replica, ReplicaFault, Status, laws};
 use std::alloc::{Allocator, Global};
@@ -222,6 +221,13 @@ fn are_live<'a, B: Allocator>(replica: &Replica<&'a B>, name: u16, clocks: &[u64
         }
     }
     entries.len() == clocks.len()
+}
+
+/// Whether these are the context clock and the cloud of the name.
+fn is_seen<A: Allocator>(dots: &DotSet<A>, name: u16, clock: u64, cloud: &[u64]) -> bool
+    requires { name < 32 }
+{
+    dots.clock_of(name) == clock && dots.cloud_of(name) == cloud
 }
 
 /// Whether the call is made, and leaves what its row says.

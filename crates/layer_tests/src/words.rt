@@ -1,7 +1,6 @@
 //! Words, entries, sets of entries, messages and outboxes.
 ghost use Rattle.std.specs.Prelude.{◌≡◌, None};
 
-use crate::dots::set_of;
 use crate::rows::{holds, holds_at};
 use dots_core::{Dot, DotSet, NameSet, Oom};
 use payload_core::{Entry, EntrySet, Outbox, OutboxFault, Payload, Word, WordFault};
@@ -222,6 +221,21 @@ fn a_removal_takes_one_entry_out(rt: HostRuntime) {
     holds!(&rt, entries.len() == 2);
     drop(before);
     drop(entries);
+}
+
+/// The set of the dots of these names and clocks, all different.
+fn set_of<A: Allocator + Copy>(rt: &impl Abort, alloc: A, pairs: &[(u16, u64)]) -> DotSet<A> {
+    let mut dots = DotSet::new(alloc);
+    for (name, clock) in pairs {
+        let dot = Dot {
+            name: *name,
+            clock: *clock,
+        };
+        assert!(rt; dot.ok());
+        let is_new = dots.insert(dot).expect(rt, "a dot");
+        holds!(rt, is_new);
+    }
+    dots
 }
 
 /// A message of node 0 that has seen these dots and has no entry.

@@ -11,3 +11,10 @@ pub returns-clause-joined : goal.returns-clause-joined
 returns-clause-joined g c =
     told_joined (plain_change c.args.change.now) c.args.after.now c.requires _ _ c.sort_unstable-2.ensures.permutation
     c.sort_unstable-2.ensures.sorted c.in_ok-joined.ensures
+
+-- the requirements of the calls are its own
+pub given-requires : goal.given-requires
+given-requires g c = search tt
+
+pub taken-requires : goal.taken-requires
+taken-requires g c = search tt

@@ -2,6 +2,7 @@ use Rattle.std.proofs.Common.{ℕ, ap, subst, ◌∙◌}
 use Rattle.dots_core.specs.Contexts.{IsContext}
 use Rattle.dots_core.specs.Dots.{Dots, dot}
 use Rattle.replica_core.proofs.Dots.{own_context}
+use Rattle.replica_core.proofs.Sizes.{seen_fits}
 use Rattle.diff_core.proofs.changing.last.Goals as goal
 
 pub returns : goal.returns
@@ -13,3 +14,16 @@ returns g c =
     (own_context own c.clock_of.result seen c.replica_law.ensures.clocks
     (subst (λ (n : ℕ). IsContext seen n c.clock_of.result) c.own-own.ensures
     (subst (λ (s : Dots). IsContext s c.own-own.result c.clock_of.result) c.seen.ensures c.clock_of.ensures)))
+
+-- the requirements of the calls are its own
+pub clock_of-requires : goal.clock_of-requires
+clock_of-requires g c = (seen_fits g.row.A g.A.Allocator (search tt), rw c.own-own.ensures c.replica_law.ensures.name)
+
+pub own-own-requires : goal.own-own-requires
+own-own-requires g c = search tt
+
+pub replica_law-requires : goal.replica_law-requires
+replica_law-requires g c = search tt
+
+pub seen-requires : goal.seen-requires
+seen-requires g c = (search tt, seen_fits g.row.A g.A.Allocator (search tt))

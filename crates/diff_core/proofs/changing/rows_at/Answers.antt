@@ -1,8 +1,9 @@
-use Rattle.std.proofs.Common.{refl}
+use Rattle.std.proofs.Common.{◌≤◌, List, length, refl, arith}
 use Rattle.std.specs.FinMap as fin
+use Rattle.dots_core.specs.declared.dot.Dot.{Dot}
 use Rattle.payload_core.specs.EntryMoves.{found_at}
 use Rattle.diff_core.specs.ChangedRows.{found_each}
-use Rattle.diff_core.proofs.Gathered.{next, none_put, one_on, some_put}
+use Rattle.diff_core.proofs.Gathered.{all_on, next, none_put, one_on, some_put}
 use Rattle.diff_core.proofs.changing.rows_at.Goals as goal
 use Rattle.diff_core.proofs.changing.rows_at.Goals.{in-Some+in_ok-put_row, in_default}
 
@@ -23,6 +24,16 @@ loop-dot-preserved g c =
           (none_put r c.entries.result.now.map _ c.loop-dot.rows.items c.entries.ensures w.in_default.ensures) c.loop-dot.invariant)
     ]
 
+pub returns : goal.returns
+returns g c =
+    let r = c.args.replica.now in
+    let ds = c.args.dots.now in
+    let end : length ds ≤ c.loop-dot.dot-index = omega arith in
+    all_on r (λ (ds : List Dot). found_each ds r.store.entries) refl ds _ _ _ end c.loop-dot.invariant
+
 -- its own requirement is that of the call
 pub put_row-requires : goal.put_row-requires
 put_row-requires g c = search tt
+
+pub entries-requires : goal.entries-requires
+entries-requires g c = search tt

@@ -32,3 +32,7 @@ returns g c =
     let end : length (fin.entries c.entries-entries.result.now.map) ≤ c.loop-place.place = omega arith in
     c.loop-place.invariant ∙ ap (map row_of) (all_walked test (fin.entries c.entries-entries.result.now.map) c.loop-place.place end)
     ∙ ap (λ (es : Entries). map row_of (filter test (fin.entries es))) c.entries-entries.ensures
+
+-- its own requirement is that of the call
+pub entries-entries-requires : goal.entries-entries-requires
+entries-entries-requires g c = search tt

@@ -45,3 +45,10 @@ returns-clause-rows g c = is_listed g c
 
 pub returns-clause-value : goal.returns-clause-value
 returns-clause-value g c = (online_holds c.args.replica.now c.sort_unstable.new.self.items).0 (is_listed g c)
+
+-- the requirements of the calls are its own
+pub entries-entries-requires : goal.entries-entries-requires
+entries-entries-requires g c = search tt
+
+pub online-requires : goal.online-requires
+online-requires g c = search tt

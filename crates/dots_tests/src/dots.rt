@@ -36,13 +36,13 @@ fn a_name_set_has_what_was_put_in(rt: HostRuntime) {
 }
 
 /// Puts the dot in, for which there is memory, and says whether it was new.
-pub fn puts_in<A: Allocator>(rt: &impl Abort, dots: &mut DotSet<A>, dot: Dot) -> bool {
+fn puts_in<A: Allocator>(rt: &impl Abort, dots: &mut DotSet<A>, dot: Dot) -> bool {
     assert!(rt; dot.ok());
     dots.insert(dot).expect(rt, "a dot")
 }
 
 /// A set of dots of these names and clocks.
-pub fn set_of<A: Allocator + Copy>(rt: &impl Abort, alloc: A, pairs: &[(u16, u64)]) -> DotSet<A> {
+fn set_of<A: Allocator + Copy>(rt: &impl Abort, alloc: A, pairs: &[(u16, u64)]) -> DotSet<A> {
     let mut dots = DotSet::new(alloc);
     for (name, clock) in pairs {
         let dot = Dot {
@@ -120,7 +120,7 @@ fn has_copy<A: Allocator + Copy>(rt: &impl Abort, dots: &DotSet<A>) -> bool {
 }
 
 /// Whether these are the context clock and the cloud of the name.
-pub fn is_seen<A: Allocator>(dots: &DotSet<A>, name: u16, clock: u64, cloud: &[u64]) -> bool
+fn is_seen<A: Allocator>(dots: &DotSet<A>, name: u16, clock: u64, cloud: &[u64]) -> bool
     requires { name < 32 }
 {
     dots.clock_of(name) == clock && dots.cloud_of(name) == cloud
