@@ -1,6 +1,7 @@
 use Rattle.std.proofs.Common.{arith, rules, sym, subst}
 use Rattle.std.proofs.lemmas.Grind.{common_steps}
 use Rattle.dots_core.specs.Dots.{AreValid}
+use Rattle.replica_core.proofs.Sizes.{seen_fits}
 use Rattle.report_core.proofs.dots_text.put_name.Goals as goal
 
 pub clock_of-clock-requires : goal.clock_of-clock-requires
@@ -11,3 +12,10 @@ cloud_of-cloud-requires g c = (search rules, (c.requires.name, subst AreValid (s
 
 pub returns-in_err-put_cloud : goal.returns-in_err-put_cloud
 returns-in_err-put_cloud g c = grind (arith, common_steps)
+
+pub seen-seen-requires : goal.seen-seen-requires
+seen-seen-requires g c = (search tt, seen_fits g.row.R g.R.Allocator (search tt))
+
+-- its own requirement is that of the call
+pub status-requires : goal.status-requires
+status-requires g c = search tt

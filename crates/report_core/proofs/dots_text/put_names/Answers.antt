@@ -1,4 +1,4 @@
-use Rattle.std.proofs.Common.{arith}
+use Rattle.std.proofs.Common.{arith, rules}
 use Rattle.report_core.proofs.Texts.{name_lines_more, name_lines_all}
 use Rattle.report_core.proofs.dots_text.put_names.Goals as goal
 
@@ -8,3 +8,6 @@ loop-number-preserved g c =
 
 pub returns : goal.returns
 returns g c = name_lines_all _ _ c.loop-number.number _ _ (omega arith) c.loop-number.invariant
+
+pub put_name-requires : goal.put_name-requires
+put_name-requires g c = (search tt, (search rules, c.requires))
