@@ -11,7 +11,7 @@ use bench_core::{Act, Event, History, Reply};
 use payload_core::Oom;
 use std::alloc::Allocator;
 
-/// Whether two replies are one.
+/// Whether two replies are one. That `==` says so is dear to prove, as it goes over all faults; so it is said here alone.
 fn same_reply(one: Reply, other: Reply) -> bool
     ensures { IsTrue result ↔ (one ≡ other) }
 {

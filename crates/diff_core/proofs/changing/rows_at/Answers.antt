@@ -31,7 +31,7 @@ returns g c =
     let end : length ds ≤ c.loop-dot.dot-index = omega arith in
     all_on r (λ (ds : List Dot). found_each ds r.store.entries) refl ds _ _ _ end c.loop-dot.invariant
 
--- its own requirement is that of the call
+-- the requirements of the calls are its own
 pub put_row-requires : goal.put_row-requires
 put_row-requires g c = search tt
 

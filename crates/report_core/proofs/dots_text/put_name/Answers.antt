@@ -13,6 +13,7 @@ cloud_of-cloud-requires g c = (search rules, (c.requires.name, subst AreValid (s
 pub returns-in_err-put_cloud : goal.returns-in_err-put_cloud
 returns-in_err-put_cloud g c = grind (arith, common_steps)
 
+-- the dots that it saw fit in memory where the replica does
 pub seen-seen-requires : goal.seen-seen-requires
 seen-seen-requires g c = (search tt, seen_fits g.row.R g.R.Allocator (search tt))
 
