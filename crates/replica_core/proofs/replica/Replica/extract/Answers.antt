@@ -12,7 +12,7 @@ new-requires g c = (
   search rules,
   (
     search rules,
-    parts_seen (set.contains c.args.names) _ _ _ c.self.invariant
+    parts_seen _ _ _ _ c.self.invariant
         (c.into_parts-seen.ensures.seen ∙ ap (λ (s : Store). s.seen) c.in_ok-only.ensures)
         (c.into_parts-seen.ensures.entries ∙ ap (λ (s : Store). s.entries) c.in_ok-only.ensures),
   ),
