@@ -31,6 +31,7 @@ use Rattle.replica_core.specs.Deliveries.{is_other_known}
 use Rattle.replica_core.specs.Changes.{Change, ChangeLeadsBack, ChangeLeadsSomewhere, back, OfJoin, OfLeave}
 use Rattle.replica_core.specs.Changes.{OfLeaveAll, OfUpdate, OfUp, OfDown, OfPermdown, OfDeliver}
 use Rattle.replica_core.proofs.Back.{back_holds, restorable_leave, restorable_update}
+use Rattle.replica_core.proofs.Destroyed.{undelivered_is, undelivered_new}
 use Rattle.replica_core.proofs.ProcessLeft.{restorable_all}
 use Rattle.replica_core.proofs.Views.{get_insert_view, get_remove_view}
 use Rattle.std.specs.List.Sorted.{IsPermutation, IsSorted}
@@ -180,7 +181,7 @@ deliver_told d b a h =
     (was_there (leaves named other q) (fin.get a.store.entries q) (ap is_some (sym (get-retain a.store.entries (leaves named other) q))
     ∙ fin.contains_key-keys (departures named other a.store) q ∙ among)) (h.earlier.live q live))) in
     edited (OfDeliver d) b a d.joined (pairs d.left) (ap (λ (r : Replica). r.view) (sym c.gives))
-    (ap (λ (s : Store). s.entries) (sym c.held)) c.new absent differ refl refl
+    (ap (λ (s : Store). s.entries) (sym (undelivered_is d a b h.earlier c))) (undelivered_new d a b h.earlier c) absent differ refl refl
 
 -- of some entries, those that pass one test are those that pass either of two others
 both_pass : (u n t : Test) → ((e : Dot × Presence) → one (u e) ≡ one (n e) + one (t e)) → (x : Row) (es : List (Dot × Presence)) →

@@ -21,6 +21,7 @@ use Rattle.replica_core.specs.Leaves.{AreOwnSeen}
 use Rattle.replica_core.specs.Invariant.{IsReplica}
 use Rattle.replica_core.specs.Changes.{BackLaw, Change, ChangeGivesBack, ChangeLeadsBack, OfJoin, OfLeave, OfUpdate, OfUp, OfDown}
 use Rattle.replica_core.specs.Changes.{OfPermdown, OfDeliver, Restorable, back, with_left, without_last, OfLeaveAll}
+use Rattle.replica_core.proofs.Destroyed.{remembered_is, undelivered_is}
 use Rattle.replica_core.proofs.Invariant.{fresh_absent, fresh_absent_in_delta, fresh_unseen, fresh_unsent, kept_dropped}
 use Rattle.replica_core.proofs.Left.{own_dots_seen}
 use Rattle.replica_core.proofs.ProcessLeft.{restorable_all}
@@ -119,12 +120,13 @@ back_holds (OfDown name before) b a h =
     let c = h.call in ap (back (OfDown name before)) c.gives ∙ (λ i. record a { view = old_again a.view name Down before c.stood i })
 back_holds (OfPermdown name f) b a h =
     let c = h.call in (λ i. record b {
-      store = c.held i;
+      store = remembered_is name f a b c i;
       view =
           (ap (λ (b : Replica). fin.insert b.view name Down) c.gives ∙ down_again a.view name (was_down a name c.accepted)) i;
     })
     ∙ (λ i. record (c.gives i) { store = a.store; view = a.view })
-back_holds (OfDeliver d) b a h = let c = h.call in (λ i. record b { store = c.held i }) ∙ (λ i. record (c.gives i) { store = a.store })
+back_holds (OfDeliver d) b a h =
+    let c = h.call in (λ i. record b { store = undelivered_is d a b h.earlier c i }) ∙ (λ i. record (c.gives i) { store = a.store })
 
 -- a join leaves an own dot
 pub some_after_join : (b a : Replica) → ChangeLeadsBack OfJoin b a → 0 < own_clock b

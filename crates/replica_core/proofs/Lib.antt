@@ -8,6 +8,7 @@ pub mod ProcessLeft
 pub mod Forgotten
 pub mod Calls
 pub mod Delivered
+pub mod Destroyed
 pub mod Back
 pub mod Undone
 pub mod Sizes

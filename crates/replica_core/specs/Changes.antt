@@ -4,11 +4,9 @@ use Rattle.std.specs.FinMap as fin
 use Rattle.dots_core.specs.declared.dot.Dot.{Dot}
 use Rattle.dots_core.specs.Dots.{IsValid}
 use Rattle.payload_core.specs.Presences.{Presence}
-use Rattle.payload_core.specs.EntryLists.{pairs}
 use Rattle.payload_core.specs.Stores.{without}
 use Rattle.payload_core.specs.Delivered.{Delivered}
 use Rattle.payload_core.specs.ForgottenNames.{Forgotten, Holds, remembered}
-use Rattle.payload_core.specs.EntryMoves.{AreNew}
 use Rattle.payload_core.specs.LeftEntries.{HasPlace, Left, Stood, restored, restored_delta}
 use Rattle.replica_core.specs.declared.change.Change as declared
 use Rattle.replica_core.specs.declared.change.Change.TheVariants as variants
@@ -116,8 +114,6 @@ pub record IsPermdown (name : ℕ) (f : Forgotten) (a b : Replica) : Type 0 wher
   pub number : name < 32
   pub accepted : permdown_refusal a name ≡ None
   pub holds : Holds name a.store f
-  pub held : remembered name f b.store ≡ a.store
-  pub new : AreNew (pairs f.entries) b.store.entries
   pub gives : b ≡ forgotten name a
 
 abbrev pub IsCallOf : Change → Replica → Replica → Type 0

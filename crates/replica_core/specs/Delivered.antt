@@ -2,10 +2,8 @@
 use Rattle.std.specs.Prelude.{◌≡◌, ℕ, None}
 use Rattle.std.specs.FinSet as set
 use Rattle.dots_core.specs.Names.{Names}
-use Rattle.payload_core.specs.EntryLists.{pairs}
 use Rattle.payload_core.specs.Messages.{Message}
 use Rattle.payload_core.specs.Delivered.{Delivered, Destroys, undelivered}
-use Rattle.payload_core.specs.EntryMoves.{AreNew, without_each}
 use Rattle.payload_core.specs.Stores.{store_of}
 use Rattle.replica_core.specs.Replicas.{Replica}
 use Rattle.replica_core.specs.Deliveries.{is_other_known, merged}
@@ -26,6 +24,4 @@ pub record IsDelivery (d : Delivered) (a b : Replica) : Type 0 where
   pub no_request : message.asked ≡ None
   pub accepted : merge_refusal a message ≡ None
   pub destroyed : Destroys (is_other_known a) (store_of message) a.store d
-  pub held : undelivered d b.store ≡ a.store
-  pub new : AreNew (pairs d.left) (without_each d.joined b.store.entries)
   pub gives : b ≡ merged message a

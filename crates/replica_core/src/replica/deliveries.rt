@@ -2,7 +2,7 @@
 ghost use Rattle.std.specs.Prelude.{◌≡◌, IfErr, IfOk, None, OnErr, OnOk};
 ghost use Rattle.std.specs.FinMap as fin;
 ghost use Rattle.std.specs.FinSet as set;
-ghost use Rattle.payload_core.specs.Delivered.{Destroys, undelivered};
+ghost use Rattle.payload_core.specs.Delivered.{Destroys};
 ghost use Rattle.payload_core.specs.EntryLists.{pairs};
 ghost use Rattle.payload_core.specs.EntryMoves.{AreNew, without_each};
 ghost use Rattle.payload_core.specs.Messages.{AreSeen};
@@ -76,8 +76,6 @@ impl<A: Allocator + Copy> Replica<A> {
         requires free { merge_refusal self.old message.now ≡ None }
         ensures merged { OnOk result (self.new ≡ merged message.now self.old) }
         ensures destroyed { IfOk result (Destroys (is_other_known self.old) (store_of message.now) self.old.store) }
-        ensures held { IfOk result (λ delivered. undelivered delivered self.new.store ≡ self.old.store) }
-        ensures new { IfOk result (λ delivered. AreNew (pairs delivered.left) (without_each delivered.joined self.new.store.entries)) }
         ensures earlier { IsReplica self.old }
         ensures err { OnErr result (self.new ≡ self.old) }
     {

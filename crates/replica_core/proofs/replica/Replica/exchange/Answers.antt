@@ -43,9 +43,3 @@ returns-in_err-delivered-clause-earlier g c = subst IsReplica c.self.view_is c.s
 
 pub returns-clause-earlier : goal.returns-clause-earlier
 returns-clause-earlier g c = subst IsReplica c.self.view_is c.self.invariant
-
-pub returns-clause-held : goal.returns-clause-held
-returns-clause-held g c = c.in_ok-delivered.ensures.back ∙ ap (λ (r : Replica). r.store) c.self.view_is
-
-pub returns-clause-new : goal.returns-clause-new
-returns-clause-new g c = c.in_ok-delivered.ensures.new

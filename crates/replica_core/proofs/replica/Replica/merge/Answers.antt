@@ -75,8 +75,6 @@ returns-clause-leads_back g c = record {
     no_request = c.requires;
     accepted = returns-clause-refused g c;
     destroyed = c.in_ok-delivered.ensures.destroyed;
-    held = c.in_ok-delivered.ensures.held;
-    new = c.in_ok-delivered.ensures.new;
     gives = c.in_ok-delivered.ensures.merged;
   };
   earlier = c.in_ok-delivered.ensures.earlier;

@@ -1,4 +1,4 @@
-use Rattle.std.proofs.Common.{rules, sym, subst, ap, ◌∙◌}
+use Rattle.std.proofs.Common.{rules, sym, subst, ◌∙◌}
 use Rattle.payload_core.specs.ForgottenNames.{Holds}
 use Rattle.replica_core.specs.Replicas.{Replica}
 use Rattle.replica_core.specs.Invariant.{IsReplica}
@@ -22,8 +22,6 @@ returns-clause-leads_back g c = record {
     number = c.requires;
     accepted = sym c.permdown_refusal.ensures ∙ c.in_default.is;
     holds = subst (λ (r : Replica). Holds c.args.name r.store c.in_ok-forgotten.forgotten) c.self.view_is c.in_ok-forgotten.ensures.held;
-    held = c.in_ok-forgotten.ensures.back ∙ ap (λ (r : Replica). r.store) c.self.view_is;
-    new = c.in_ok-forgotten.ensures.new;
     gives = forget_is _ c.args.self.now c.args.name c.forget.new.store c.forget-2.new.self c.self.view_is c.in_ok-forgotten.ensures.ok c.forget-2.ensures;
   };
   earlier = subst IsReplica c.self.view_is c.self.invariant;

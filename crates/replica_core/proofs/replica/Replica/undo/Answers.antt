@@ -4,6 +4,7 @@ use Rattle.replica_core.specs.Invariant.{IsReplica}
 use Rattle.replica_core.specs.Changes.{ChangeGivesBack, ChangeLeadsBack, ChangeLeadsSomewhere, OfJoin, OfLeave, OfUpdate, OfUp, OfDown}
 use Rattle.replica_core.specs.Changes.{OfPermdown, OfDeliver, plain_change, OfLeaveAll}
 use Rattle.replica_core.proofs.Back.{back_holds, gives_back, restorable_leave, restorable_update}
+use Rattle.replica_core.proofs.Destroyed.{remembered_new, undelivered_new}
 use Rattle.replica_core.proofs.ProcessLeft.{restorable_all}
 use Rattle.replica_core.proofs.replica.Replica.undo.Goals as goal
 
@@ -72,7 +73,7 @@ remember-requires g c =
       (
         (h.call).number,
         (
-          (h.call).new,
+          remembered_new c.in-Permdown.name c.in-Permdown.forgotten c.requires.0 c.args.self.now h.call,
           subst IsReplica
               (sym (back_holds (OfPermdown c.in-Permdown.name c.in-Permdown.forgotten) c.args.self.now c.requires.0 h)) h.earlier,
         ),
@@ -87,7 +88,7 @@ returns-in_default-remember-clause-ok g c =
 pub undeliver-requires : goal.undeliver-requires
 undeliver-requires g c =
     let h = subst (λ change. ChangeLeadsBack (plain_change change) c.args.self.now c.requires.0) c.in-Deliver.is c.requires.1 in
-    (search tt, ((h.call).new, subst IsReplica (sym (back_holds (OfDeliver c.in-Deliver.delivered) c.args.self.now c.requires.0 h)) h.earlier))
+    (search tt, (undelivered_new c.in-Deliver.delivered c.requires.0 c.args.self.now h.earlier h.call, subst IsReplica (sym (back_holds (OfDeliver c.in-Deliver.delivered) c.args.self.now c.requires.0 h)) h.earlier))
 
 pub returns-in_default-undeliver-clause-ok : goal.returns-in_default-undeliver-clause-ok
 returns-in_default-undeliver-clause-ok g c =
