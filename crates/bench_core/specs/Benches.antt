@@ -1,5 +1,5 @@
 -- What a bench keeps, and what a step of one of its nodes and a step back are answered.
-use Rattle.std.specs.Prelude.{◌≡◌, ◌≢◌, ℕ, ◌+◌, ◌≤◌, List, length, slice_get, slice_set, Option, Some, None, Result, Ok, Err}
+use Rattle.std.specs.Prelude.{◌≡◌, ◌≢◌, ℕ, ◌+◌, ◌≤◌, IsTrue, List, length, slice_get, slice_set, Option, Some, None, Result, Ok, Err}
 use Rattle.replica_core.specs.Replicas.{own_clock}
 use Rattle.node_core.specs.declared.inverse.Inverse as declared
 use Rattle.node_core.specs.declared.step_fault.StepFault.{StepFault}
@@ -7,7 +7,7 @@ use Rattle.node_core.specs.declared.step_fault.StepFault.TheVariants.{OutOfMemor
 use Rattle.node_core.specs.Operations.{Operation}
 use Rattle.node_core.specs.Nodes.{Node, take}
 use Rattle.node_core.specs.Invariant.{IsNode}
-use Rattle.node_core.specs.Inverses.{Inverse, plain_inverse, LeadsBack}
+use Rattle.node_core.specs.Inverses.{Inverse, plain_inverse, needs_no_memory, LeadsBack}
 use Rattle.journal_core.specs.Journals.{Kept, find_number, first_consequence, AreBelow}
 use Rattle.journal_core.specs.Holdings.{Held, kepts, find_held, inverse_of, AreAllHeld}
 use Rattle.bench_core.specs.declared.reply.Reply.TheVariants.{Refused}
@@ -91,6 +91,10 @@ pub record IsBackable (nodes : Cluster) (hs : List Held) (n node : ℕ) : Type 0
   pub later : Node
   pub at : slice_get nodes node ≡ Some later
   pub leads : LeadsBack inverse later earlier
+
+-- step n is taken back without memory
+abbrev pub NeedsNoMemory : List Held → ℕ → Type 0
+NeedsNoMemory hs n = (i : Inverse) × (inverse_of (find_held hs n) ≡ Some i) × IsTrue (needs_no_memory i)
 
 -- the node became what the inverse of step n leads back to
 abbrev pub GoesBack : Cluster → List Held → ℕ → ℕ → Cluster → Type 0

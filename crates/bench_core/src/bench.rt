@@ -1,5 +1,5 @@
 //! `Bench`: the machine over its nodes, its journal and its history.
-ghost use Rattle.std.specs.Prelude.{◌≡◌, ◌≢◌, ◌↔◌, ◌<◌, ◌≤◌, ◌+◌, ◌++◌, ◌∷◌, [], Ok, IfErr, IfOk, IfSome, IsSome, OnOk, OnErr, length, take, true, nat_lt, option_map};
+ghost use Rattle.std.specs.Prelude.{◌≡◌, ◌≢◌, ◌↔◌, ◌<◌, ◌≤◌, ◌+◌, ◌++◌, ◌∷◌, [], Ok, IfErr, IfOk, IfSome, IsOk, IsSome, OnOk, OnErr, length, take, true, nat_lt, option_map};
 ghost use Rattle.std.specs.List.{list_all};
 ghost use Rattle.replica_core.specs.Limits.{AreNodeLimits};
 ghost use Rattle.node_core.specs.Inverses.{plain_inverse};
@@ -19,7 +19,7 @@ ghost use Rattle.bench_core.specs.Machine.{config_of, free_places, given, knows,
 ghost use Rattle.bench_core.specs.Headline.{CanBeTakenBack, RefusedOnlyForConsequence};
 ghost use Rattle.bench_core.specs.Unwinds.{AreUndone, CanBeUndone, Explains, IsUnwound, IsWhole, Unexplained, undone_by};
 ghost use Rattle.bench_core.specs.WaysBack.{IsWayBack};
-ghost use Rattle.bench_core.specs.Benches.{AreNodes, GoesBack, IsBackable, IsGone, IsMachine, IsNodeOf, IsNumbered, IsStepOf, Steps};
+ghost use Rattle.bench_core.specs.Benches.{AreNodes, GoesBack, IsBackable, IsGone, IsMachine, IsNodeOf, IsNumbered, IsStepOf, NeedsNoMemory, Steps};
 
 use crate::act::Act;
 use crate::among::{Member, other, step_at};
@@ -91,7 +91,7 @@ fn step_node<'a, B: Allocator>(
     step_at(nodes.as_mut_slice(), actor as usize, step, meter)
 }
 
-/// Takes step `number`, of this node, back by its inverse.
+/// Takes step `number`, of this node, back by its inverse; a join, an up, a down and a send without memory.
 fn take_back<'a, B: Allocator>(
     nodes: &mut Vec<Node<'a, B>, &'a B>,
     journal: &mut Journal<'a, B>,
@@ -103,6 +103,7 @@ fn take_back<'a, B: Allocator>(
     ensures journal { OnOk result (journal.new ≡ record { nodes = journal.old.nodes; steps = without_held journal.old.steps number; room = journal.old.room }) }
     ensures err { OnErr result (nodes.new.items ≡ nodes.old.items) }
     ensures err_journal { OnErr result (journal.new ≡ journal.old) }
+    ensures needs_no_memory { NeedsNoMemory journal.old.steps number → IsOk result }
 {
     loan_law();
     let inverse = journal.lend(number).unwrap();

@@ -24,11 +24,11 @@ plain_inverse (variants.Change change) = OfChange (changes.plain_change change)
 plain_inverse variants.Broadcast = OfBroadcast
 plain_inverse variants.Sent = OfSent
 
--- whether it is the inverse of a step that sent a message
-abbrev pub is_of_send : Inverse → Bool
-is_of_send (OfChange change) = false
-is_of_send OfBroadcast = true
-is_of_send OfSent = true
+-- whether the step is taken back without memory: one that sent a message, and one whose change needs none
+abbrev pub needs_no_memory : Inverse → Bool
+needs_no_memory (OfChange change) = changes.needs_no_memory change
+needs_no_memory OfBroadcast = true
+needs_no_memory OfSent = true
 
 -- an inverse is stored as its change, if it has one, and whether it is of a broadcast
 abbrev stored : Inverse → Option changes.Change × Bool

@@ -6,7 +6,7 @@ ghost use Rattle.node_core.specs.declared.step_fault.StepFault.TheVariants.{OutO
 ghost use Rattle.node_core.specs.Operations.{plain, AreNames, Join, Leave, LeaveAll, Update, Broadcast, Extract, Deliver, Request, Answer, Up, Down, Permdown};
 ghost use Rattle.node_core.specs.Nodes.{opening_node, take};
 ghost use Rattle.node_core.specs.Invariant.{IsNode};
-ghost use Rattle.node_core.specs.Inverses.{plain_inverse, is_of_send, OfChange, OfBroadcast, OfSent, LeadsBack, LeadsSomewhere, GivesBack, Takes};
+ghost use Rattle.node_core.specs.Inverses.{plain_inverse, needs_no_memory, OfChange, OfBroadcast, OfSent, LeadsBack, LeadsSomewhere, GivesBack, Takes};
 
 use crate::inverse::Inverse;
 use crate::meter::Meter;
@@ -70,13 +70,14 @@ impl<'a, B: Allocator> Node<'a, B> {
     }
 
     /// The node as it was before the step that the inverse is of, its last one. Memory that is refused leaves the node as
-    /// it was and gives the inverse back; a step that sent a message is taken back without memory.
+    /// it was and gives the inverse back; a step that sent a message is taken back without memory, and so are a join, an
+    /// up and a down.
     pub fn give_back(&mut self, inverse: Inverse<&'a B>) -> Result<(), (Inverse<&'a B>, Oom)>
         requires { LeadsSomewhere (plain_inverse inverse) self.old }
         ensures ok { OnOk result (GivesBack (plain_inverse inverse.entry) self.old self.new) }
         ensures err { OnErr result (self.new ≡ self.old) }
         ensures given_back { IfErr result (λ failed. plain_inverse failed.0 ≡ plain_inverse inverse.entry) }
-        ensures a_send_needs_no_memory { IsTrue (is_of_send (plain_inverse inverse.entry)) → IsOk result }
+        ensures needs_no_memory { IsTrue (needs_no_memory (plain_inverse inverse.entry)) → IsOk result }
     {
         match inverse {
             Inverse::Change(change) => match self.undo(change) {
@@ -99,6 +100,7 @@ impl<'a, B: Allocator> Node<'a, B> {
         ensures ok { OnOk result (GivesBack (OfChange (plain_change change.entry)) self.old self.new) }
         ensures err { OnErr result (self.new ≡ self.old) }
         ensures given_back { IfErr result (λ failed. failed.0 ≡ change.entry) }
+        ensures needs_no_memory { IsTrue (needs_no_memory (OfChange (plain_change change.entry))) → IsOk result }
     {
         self.replica.undo(change)
     }

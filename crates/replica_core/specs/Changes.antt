@@ -1,5 +1,5 @@
 -- What is kept of a change to take it back (Danos and Krivine, as an inverse record).
-use Rattle.std.specs.Prelude.{◌≡◌, ◌<◌, ℕ, List, [], ◌∷◌, Option, None}
+use Rattle.std.specs.Prelude.{◌≡◌, ◌<◌, ℕ, Bool, true, false, List, [], ◌∷◌, Option, None}
 use Rattle.std.specs.FinMap as fin
 use Rattle.dots_core.specs.declared.dot.Dot.{Dot}
 use Rattle.dots_core.specs.Dots.{IsValid}
@@ -45,6 +45,17 @@ plain_change (variants.Up name before) = OfUp name before
 plain_change (variants.Down name before) = OfDown name before
 plain_change (variants.Permdown name forgotten) = OfPermdown name forgotten
 plain_change (variants.Deliver delivered) = OfDeliver delivered
+
+-- whether it is taken back without memory: that of a join, of an up and of a down
+abbrev pub needs_no_memory : Change → Bool
+needs_no_memory OfJoin = true
+needs_no_memory (OfLeave l) = false
+needs_no_memory (OfLeaveAll ls) = false
+needs_no_memory (OfUpdate l) = false
+needs_no_memory (OfUp name before) = true
+needs_no_memory (OfDown name before) = true
+needs_no_memory (OfPermdown name f) = false
+needs_no_memory (OfDeliver d) = false
 
 -- the replica without its last own dot, and without the entry there
 abbrev pub without_last : Replica → Replica

@@ -1,6 +1,6 @@
 //! A replica's last change taken back.
-ghost use Rattle.std.specs.Prelude.{◌≡◌, IfErr, OnErr, OnOk};
-ghost use Rattle.replica_core.specs.Changes.{ChangeGivesBack, ChangeLeadsSomewhere, plain_change};
+ghost use Rattle.std.specs.Prelude.{◌≡◌, IfErr, IsOk, IsTrue, OnErr, OnOk};
+ghost use Rattle.replica_core.specs.Changes.{ChangeGivesBack, ChangeLeadsSomewhere, needs_no_memory, plain_change};
 
 use crate::change::Change;
 use crate::replica::Replica;
@@ -9,7 +9,7 @@ use std::alloc::Allocator;
 
 impl<A: Allocator> Replica<A> {
     /// The replica that the change leads back to. The change is that of the last call: the replica is as that call left
-    /// it. Where memory is refused, the change comes back.
+    /// it. Where memory is refused, the change comes back; a join, an up and a down are taken back without memory.
     pub fn undo(&mut self, change: Change<A>) -> Result<(), (Change<A>, Oom)>
     where
         A: Copy,
@@ -17,6 +17,7 @@ impl<A: Allocator> Replica<A> {
         ensures ok { OnOk result (ChangeGivesBack (plain_change change) self.old self.new) }
         ensures err { OnErr result (self.new ≡ self.old) }
         ensures given_back { IfErr result (λ failed. failed.0 ≡ change) }
+        ensures needs_no_memory { IsTrue (needs_no_memory (plain_change change)) → IsOk result }
     {
         match change {
             Change::Join => {

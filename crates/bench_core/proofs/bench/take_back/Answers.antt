@@ -1,6 +1,6 @@
-use Rattle.std.proofs.Common.{◌≡◌, ◌∙◌, sym, ap, subst, Some, None, set, option_map, arith, ◌<◌}
+use Rattle.std.proofs.Common.{◌≡◌, ◌∙◌, IsTrue, sym, ap, subst, Some, None, set, option_map, arith, ◌<◌}
 use Rattle.node_core.specs.Invariant.{IsNode}
-use Rattle.node_core.specs.Inverses.{plain_inverse, LeadsSomewhere}
+use Rattle.node_core.specs.Inverses.{plain_inverse, needs_no_memory, LeadsSomewhere}
 use Rattle.journal_core.specs.Journals.{first_consequence}
 use Rattle.journal_core.specs.Holdings.{Journal, find_held, inverse_of, kepts, with_inverse, without_held, IsLent}
 use Rattle.journal_core.proofs.Rising.{kepts_with}
@@ -87,3 +87,10 @@ pub returns-in-Err-clause-err : goal.returns-in-Err-clause-err
 returns-in-Err-clause-err g c =
     ap (set c.args.nodes.now.items c.args.node) (c.in-Err.ensures.err ∙ c.index_mut-place.ensures.value)
     ∙ set-get_or c.args.nodes.now.items c.args.node _
+
+pub returns-in-Err-clause-needs_no_memory : goal.returns-in-Err-clause-needs_no_memory
+returns-in-Err-clause-needs_no_memory g c = λ none.
+    let lent : Some (plain_inverse c.unwrap-inverse.result) ≡ Some none.0 =
+    sym (ap (option_map plain_inverse) c.unwrap-inverse.ensures) ∙ c.lend.ensures.value ∙ none.1 in
+    let same : none.0 ≡ plain_inverse c.unwrap-inverse.result = cc in
+    c.in-Err.ensures.needs_no_memory (subst (λ i. IsTrue (needs_no_memory i)) same none.2)

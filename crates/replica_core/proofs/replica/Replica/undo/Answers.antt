@@ -1,8 +1,8 @@
-use Rattle.std.proofs.Common.{◌∙◌, ap, sym, subst}
+use Rattle.std.proofs.Common.{◌∙◌, IsTrue, ap, sym, subst, true≢false}
 use Rattle.replica_core.specs.declared.change.Change.TheVariants.{Deliver, Permdown, LeaveAll, Update, Leave}
 use Rattle.replica_core.specs.Invariant.{IsReplica}
 use Rattle.replica_core.specs.Changes.{ChangeGivesBack, ChangeLeadsBack, ChangeLeadsSomewhere, OfJoin, OfLeave, OfUpdate, OfUp, OfDown}
-use Rattle.replica_core.specs.Changes.{OfPermdown, OfDeliver, plain_change, OfLeaveAll}
+use Rattle.replica_core.specs.Changes.{OfPermdown, OfDeliver, needs_no_memory, plain_change, OfLeaveAll}
 use Rattle.replica_core.proofs.Back.{back_holds, gives_back, restorable_leave, restorable_update}
 use Rattle.replica_core.proofs.Destroyed.{remembered_new, undelivered_new}
 use Rattle.replica_core.proofs.ProcessLeft.{restorable_all}
@@ -110,6 +110,7 @@ returns-in-Err g c = record {
   ok = tt;
   err = c.in-Err.ensures.err;
   given_back = ap Leave c.in-Err.ensures.given_back ∙ sym c.in-Leave.is;
+  needs_no_memory = λ none. absurd (true≢false (sym (subst (λ change. IsTrue (needs_no_memory (plain_change change))) c.in-Leave.is none)));
 }
 
 pub returns-in-Err-restore : goal.returns-in-Err-restore
@@ -117,6 +118,7 @@ returns-in-Err-restore g c = record {
   ok = tt;
   err = c.in-Err-restore.ensures.err;
   given_back = ap Update c.in-Err-restore.ensures.given_back ∙ sym c.in-Update.is;
+  needs_no_memory = λ none. absurd (true≢false (sym (subst (λ change. IsTrue (needs_no_memory (plain_change change))) c.in-Update.is none)));
 }
 
 pub returns-in-Err-restore_each : goal.returns-in-Err-restore_each
@@ -124,6 +126,7 @@ returns-in-Err-restore_each g c = record {
   ok = tt;
   err = c.in-Err-restore_each.ensures.err;
   given_back = ap LeaveAll c.in-Err-restore_each.ensures.given_back ∙ sym c.in-LeaveAll.is;
+  needs_no_memory = λ none. absurd (true≢false (sym (subst (λ change. IsTrue (needs_no_memory (plain_change change))) c.in-LeaveAll.is none)));
 }
 
 pub returns-in-Err-remember : goal.returns-in-Err-remember
@@ -131,6 +134,7 @@ returns-in-Err-remember g c = record {
   ok = tt;
   err = c.in-Err-remember.ensures.err;
   given_back = ap (Permdown c.in-Permdown.name) c.in-Err-remember.ensures.given_back ∙ sym c.in-Permdown.is;
+  needs_no_memory = λ none. absurd (true≢false (sym (subst (λ change. IsTrue (needs_no_memory (plain_change change))) c.in-Permdown.is none)));
 }
 
 pub returns-in-Err-undeliver : goal.returns-in-Err-undeliver
@@ -138,4 +142,5 @@ returns-in-Err-undeliver g c = record {
   ok = tt;
   err = c.in-Err-undeliver.ensures.err;
   given_back = ap Deliver c.in-Err-undeliver.ensures.given_back ∙ sym c.in-Deliver.is;
+  needs_no_memory = λ none. absurd (true≢false (sym (subst (λ change. IsTrue (needs_no_memory (plain_change change))) c.in-Deliver.is none)));
 }
