@@ -1,22 +1,26 @@
 -- A step and what follows from it are undone in turn.
 use Rattle.std.proofs.Common.{◌≡◌, ◌≢◌, ◌⊎◌, inl, inr, ◌&&◌, is_some, is_none, Option, Bool, true, false, ℕ, ◌+◌, ◌<◌, ◌≤◌, ◌==◌, ◌||◌, nat_lt}
 use Rattle.std.proofs.Common.{if◌then◌else◌, List, [], ◌∷◌, ◌++◌, map, length, take, drop, get_or, Some, None, refl, sym, ap, ◌∙◌, subst, true≢false, arith}
-use Rattle.std.proofs.Common.{append-nil, append_assoc}
+use Rattle.std.proofs.Common.{append-nil, append_assoc, not, Result, Ok, Err}
 use Rattle.std.proofs.lemmas.Bool.{eq-eqb, ne_eqb, lt-ltb, le-ltb, or_from, or_right}
 use Rattle.std.proofs.lemmas.List.{take_more, drop_more, take-append-drop, map-append}
 use Rattle.bench_core.specs.declared.reply.Reply.{Reply}
 use Rattle.bench_core.specs.declared.reply.Reply.TheVariants.{Undone, Refused}
-use Rattle.bench_core.specs.declared.fault.Fault.TheVariants.{NoSuchStep, AlreadyUndone}
+use Rattle.bench_core.specs.declared.fault.Fault.{Fault}
+use Rattle.bench_core.specs.declared.fault.Fault.TheVariants.{UnknownNode, HistoryFull, NoSuchStep, AlreadyUndone}
 use Rattle.bench_core.specs.Limits.{node_limits}
-use Rattle.journal_core.specs.Journals.{Kept, find_number, first_consequence, without}
+use Rattle.journal_core.specs.Journals.{Kept, find_number, first_consequence, last_of, without}
+use Rattle.payload_core.specs.Answers.{◌>>=◌}
 use Rattle.journal_core.specs.Futures.{undo_all, without_all}
 use Rattle.journal_core.proofs.Each.{each_find, finds_all, find_itself}
 use Rattle.journal_core.proofs.InTurn.{taken_back, future_holds}
-use Rattle.bench_core.specs.Acts.{Action, Undo}
+use Rattle.bench_core.specs.Acts.{Action, Do, Undo, Back}
+use Rattle.bench_core.specs.Clusters.{Cluster, step}
+use Rattle.bench_core.specs.Machine.{back_reply, free_places, knows, now, step_reply}
 use Rattle.bench_core.specs.Machine.{Event, Config, State, Machine, with_state, config_of, given, unheld, undo_found, undo_reply, reply_to, remaining_after}
 use Rattle.bench_core.specs.Machine.{after, call, calls, replies_of, AnswersAs, Answered, Unmade}
 use Rattle.bench_core.specs.Headline.{IsReached}
-use Rattle.bench_core.specs.Unwinds.{undos, asked_undos, undone_event, CanBeUndone, AreUndone, UndoneInTurnLaw, LeastLaw}
+use Rattle.bench_core.specs.Unwinds.{undos, undone_event, CanBeUndone, AreUndone, UndoneInTurnLaw, LeastLaw}
 use Rattle.bench_core.proofs.Loop.{in_order}
 use Rattle.bench_core.proofs.Reached.{IsKept, kept_reached, undo_answers}
 use Rattle.bench_core.proofs.Invariant.{calls_append, reached_after}
@@ -184,26 +188,66 @@ undone_parts s n is = outer ((n == 0) || nat_lt (given s.history) n) is
     outer true h = absurd (cc)
     outer false h = found (find_number s.remaining n) refl h
 
+-- an undo that is made is that of its step
+same_undo : (s : State) (n k : ℕ) → undo_reply s n ≡ Undone k → n ≡ k
+same_undo s n k = outer ((n == 0) || nat_lt (given s.history) n)
+  where
+    held : (o : Option ℕ) → unheld n o ≡ Undone k → n ≡ k
+    held None h = cc
+    held (Some j) h = absurd (cc)
+
+    found : (o : Option Kept) → undo_found s.remaining n o ≡ Undone k → n ≡ k
+    found None h = absurd (cc)
+    found (Some x) h = held (first_consequence s.remaining n) h
+
+    outer : (b : Bool) → (if b then Refused NoSuchStep else undo_found s.remaining n (find_number s.remaining n)) ≡ Undone k → n ≡ k
+    outer true h = absurd (cc)
+    outer false h = found (find_number s.remaining n) h
+
+itself_undone : (s : State) (n k : ℕ) → undo_reply s n ≡ Undone k → undo_reply s k ≡ Undone k
+itself_undone s n k made = subst (λ m. undo_reply s m ≡ Undone k) (same_undo s n k made) made
+
+-- a call that is answered by the undo of a step, an undo or a step back, is answered as the undo of that step
+pub undo_of : (c : Config) (s : State) (actor : ℕ) (act : Action) (k : ℕ) → reply_to c s actor act ≡ Undone k → undo_reply s k ≡ Undone k
+undo_of c s actor (Do operation) k =
+    go (not (knows c actor operation)) (nat_lt (free_places c s) 2) (now c s >>= λ cluster. step cluster actor operation)
+  where
+    go : (a b : Bool) (r : Result Cluster Fault) →
+        (if a then Refused UnknownNode else if b then Refused HistoryFull else step_reply (given s.history + 1) r) ≡ Undone k →
+        undo_reply s k ≡ Undone k
+    go true b r h = absurd (cc)
+    go false true r h = absurd (cc)
+    go false false (Ok d) h = absurd (cc)
+    go false false (Err e) h = absurd (cc)
+undo_of c s actor (Undo n) k = itself_undone s n k
+undo_of c s actor (Back node) k = go (nat_lt node c.nodes) (last_of s.remaining node)
+  where
+    go : (b : Bool) (o : Option ℕ) → (if b then back_reply s o else Refused UnknownNode) ≡ Undone k → undo_reply s k ≡ Undone k
+    go true None h = absurd (cc)
+    go true (Some n) h = itself_undone s n k h
+    go false o h = absurd (cc)
+
 -- the journal accepts the undos that the machine makes
-made : (c : Config) (s : State) (asked : List (ℕ × ℕ)) → IsReached c s → replies_of c s (asked_undos asked) ≡ map (λ a. Undone a.1) asked →
-    undo_all s.remaining (map (λ a. a.1) asked) ≡ Some (calls c s (asked_undos asked)).remaining
-made c s [] reached h = refl
-made c s (a ∷ asked) reached h =
-    let reply : undo_reply s a.1 ≡ Undone a.1 = cc in
-    let next : State = call c s a.0 (Undo a.1) in
-    let others : replies_of c next (asked_undos asked) ≡ map (λ a. Undone a.1) asked = cc in
-    let parts = undone_parts s a.1 reply in
-    let out : next.remaining ≡ without s.remaining a.1 = ap (remaining_after s.remaining a.0 (Undo a.1)) reply in
-    ap (λ (o : Option Kept). if is_some o && is_none (first_consequence s.remaining a.1) then undo_all (without s.remaining a.1)
-    (map (λ a. a.1) asked) else None) parts.0.1
-    ∙ ap (λ (o : Option ℕ). if is_none o then undo_all (without s.remaining a.1) (map (λ a. a.1) asked) else None) parts.1
-    ∙ ap (λ (ks : List Kept). undo_all ks (map (λ a. a.1) asked)) (sym out)
-    ∙ made c next asked (reached_after c s a.0 (Undo a.1) (undo_reply s a.1) reached refl) others
+made : (c : Config) (s : State) (asked : List (ℕ × Action)) (undone : List ℕ) → IsReached c s → replies_of c s asked ≡ map Undone undone →
+    undo_all s.remaining undone ≡ Some (calls c s asked).remaining
+made c s [] [] reached h = refl
+made c s [] (k ∷ undone) reached h = absurd (cc)
+made c s (a ∷ asked) [] reached h = absurd (cc)
+made c s (a ∷ asked) (k ∷ undone) reached h =
+    let reply : reply_to c s a.0 a.1 ≡ Undone k = cc in
+    let next : State = call c s a.0 a.1 in
+    let others : replies_of c next asked ≡ map Undone undone = cc in
+    let parts = undone_parts s k (undo_of c s a.0 a.1 k reply) in
+    let out : next.remaining ≡ without s.remaining k = ap (remaining_after s.remaining a.0 a.1) reply in
+    ap (λ (o : Option Kept). if is_some o && is_none (first_consequence s.remaining k) then undo_all (without s.remaining k) undone else None) parts.0.1
+    ∙ ap (λ (o : Option ℕ). if is_none o then undo_all (without s.remaining k) undone else None) parts.1
+    ∙ ap (λ (ks : List Kept). undo_all ks undone) (sym out)
+    ∙ made c next asked undone (reached_after c s a.0 a.1 (reply_to c s a.0 a.1) reached refl) others
 
 pub least : LeastLaw
-least c s n asked reached replies gone j follows =
-    future_holds.least s.remaining (calls c s (asked_undos asked)).remaining n (map (λ a. a.1) asked) (kept_reached c s reached).rises
-    (made c s asked reached replies) gone j follows
+least c s n asked undone reached replies gone j follows =
+    future_holds.least s.remaining (calls c s asked).remaining n undone (kept_reached c s reached).rises
+    (made c s asked undone reached replies) gone j follows
 
 -- what is left of a list
 

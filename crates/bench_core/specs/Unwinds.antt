@@ -30,23 +30,20 @@ undos actor numbers = map (λ n. (actor, Undo n)) numbers
 abbrev pub undone_event : ℕ → ℕ → Event
 undone_event actor n = record { actor = actor; act = Undo n; reply = Undone n }
 
--- the undos of these steps in turn, each with who asks for it
-abbrev pub asked_undos : List (ℕ × ℕ) → List (ℕ × Action)
-asked_undos asked = map (λ a. (a.0, Undo a.1)) asked
-
 -- whoever asks for the undos of the future of a step, in turn, each is made
 abbrev pub UndoneInTurnLaw : Type 0
 UndoneInTurnLaw =
     (c : Config) (s : State) (actor n : ℕ) (numbers : List ℕ) → IsReached c s → IsFuture s.remaining n numbers →
     replies_of c s (undos actor numbers) ≡ map Undone numbers
 
--- whatever undos the machine makes, by whomever they are asked: where they take a step back, they take back all that follows from it
+-- whatever calls the machine answers each with the undo of a step, as it does undos and steps back, and by whomever they are
+-- asked: where they take a step back, they take back all that follows from it
 abbrev pub LeastLaw : Type 0
 LeastLaw =
-    (c : Config) (s : State) (n : ℕ) (asked : List (ℕ × ℕ)) → IsReached c s →
-    replies_of c s (asked_undos asked) ≡ map (λ a. Undone a.1) asked →
-    find_number (calls c s (asked_undos asked)).remaining n ≡ None → (j : ℕ) → Follows s.remaining n j →
-    find_number (calls c s (asked_undos asked)).remaining j ≡ None
+    (c : Config) (s : State) (n : ℕ) (asked : List (ℕ × Action)) (undone : List ℕ) → IsReached c s →
+    replies_of c s asked ≡ map Undone undone →
+    find_number (calls c s asked).remaining n ≡ None → (j : ℕ) → Follows s.remaining n j →
+    find_number (calls c s asked).remaining j ≡ None
 
 -- none of these steps is of this node
 abbrev pub HasNoneOf : List Kept → ℕ → List ℕ → Type 0

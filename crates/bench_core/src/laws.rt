@@ -32,8 +32,8 @@ pub fn chain_law()
     ensures { ChainLaw }
 {}
 
-/// Of a reached machine: the undos of the future of a step are all made, greatest number first; whatever undos take
-/// the step back take back all of it; and a node of which no step is undone stays as it was.
+/// Of a reached machine: the undos of the future of a step are all made, greatest number first; whatever undos and steps
+/// back take the step back take back all of it; and a node of which no step is undone stays as it was.
 pub fn unwind_law()
     ensures future { UndoneInTurnLaw }
     ensures least { LeastLaw }
