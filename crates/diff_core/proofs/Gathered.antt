@@ -1,9 +1,8 @@
 -- Walks that gather rows.
-use Rattle.std.proofs.Common.{◌≡◌, ℕ, suc, ◌+◌, ◌<◌, ◌≤◌, List, [], ◌∷◌, ◌++◌, map, filter, drop, length, slice_index_or, Option, Some, None}
+use Rattle.std.proofs.Common.{◌≡◌, ℕ, zero, suc, ◌+◌, ◌<◌, ◌≤◌, List, [], ◌∷◌, ◌++◌, map, filter, drop, length, slice_get, Option, Some, None}
 use Rattle.std.proofs.Common.{refl, sym, ap, ◌∙◌, arith, append_assoc}
 use Rattle.std.proofs.lemmas.List.{append-nil, drop_all, map-append}
 use Rattle.std.proofs.lemmas.List.Elements.{filter-append}
-use Rattle.std.proofs.Math.Seq.{drop-cons}
 use Rattle.std.specs.Option.{option_map}
 use Rattle.dots_core.specs.declared.dot.Dot.{Dot}
 use Rattle.std.specs.FinMap as fin
@@ -18,11 +17,20 @@ use Rattle.diff_core.specs.ChangedRows.{rows_shown}
 both_shown : (r : Replica) (es fs : List (Dot × Presence)) → rows_shown r (es ++ fs) ≡ rows_shown r es ++ rows_shown r fs
 both_shown r es fs = ap (map row_of) (filter-append (is_shown r) es fs) ∙ map-append row_of (filter (is_shown r) es) (filter (is_shown r) fs)
 
-pub next : {X : Type 0} (xs : List X) (i : ℕ) (x : X) → i < length xs → drop i xs ≡ slice_index_or xs i x ∷ drop (i + 1) xs
-next xs i x within = let e : suc i ≡ i + 1 = omega arith in drop-cons xs i x within ∙ ap (λ n. slice_index_or xs i x ∷ drop n xs) e
+-- what a read at a place gave is the next thing
+pub next_got : {X : Type 0} (xs : List X) (i : ℕ) (x : X) → Some x ≡ slice_get xs i → drop i xs ≡ x ∷ drop (i + 1) xs
+next_got xs i x got = let e : suc i ≡ i + 1 = omega arith in go xs i x got ∙ ap (λ n. x ∷ drop n xs) e
+  where
+    go : {X : Type 0} (xs : List X) (i : ℕ) (x : X) → Some x ≡ slice_get xs i → drop i xs ≡ x ∷ drop (suc i) xs
+    go [] i x got = absurd (cc)
+    go (y ∷ ys) zero x got = let same : x ≡ y = cc in ap (λ z. z ∷ ys) (sym same)
+    go (y ∷ ys) (suc i) x got = go ys i x got
 
-pub next_is : {X : Type 0} (xs : List X) (i : ℕ) (x : X) → i < length xs → x ≡ slice_index_or xs i x → drop i xs ≡ x ∷ drop (i + 1) xs
-next_is xs i x within is = next xs i x within ∙ ap (λ y. y ∷ drop (i + 1) xs) (sym is)
+-- a read within a list gives something
+pub none_got : {X : Type 0} (xs : List X) (i : ℕ) → None ≡ slice_get xs i → i < length xs → ⊥
+none_got [] i none within = omega arith
+none_got (x ∷ xs) zero none within = absurd (cc)
+none_got (x ∷ xs) (suc i) none within = none_got xs i none (omega arith)
 
 -- one thing on, where each thing of a list stands for some entries
 pub one_on : {X : Type 0} (r : Replica) (all : List X → List (Dot × Presence)) (of : X → List (Dot × Presence)) →

@@ -97,12 +97,16 @@ once_at d (e ∷ es) sorted = go (once_at d es (and_yes (below_all dot_cmp e.0 e
         let here = ap one h in
         omega (arith, dots, here, rest)
 
--- no row is shown twice
-pub once_shown : (r : Replica) (x : Row) → times x (shown r) ≤ 1
-once_shown r x =
-    let rows = row_le (is_shown r) x (fin.entries r.store.entries) in
+-- no row is that of two entries
+pub once_passed : (test : Dot × Presence → Bool) (r : Replica) (x : Row) → times x (map row_of (filter test (fin.entries r.store.entries))) ≤ 1
+once_passed test r x =
+    let rows = row_le test x (fin.entries r.store.entries) in
     let dots = once_at (dot_of x) (fin.entries r.store.entries) (fin.entries_sorted r.store.entries) in
     omega (arith, rows, dots)
+
+-- no row is shown twice
+pub once_shown : (r : Replica) (x : Row) → times x (shown r) ≤ 1
+once_shown r x = once_passed (is_shown r) r x
 
 -- a row that is none of these, and below none of them, is below each
 heads : (x : Row) (ys : List Row) → times x ys ≡ 0 →

@@ -1,15 +1,14 @@
--- The rows that the last call of a replica took from its online list, and those that it gave to it, by what is kept of the
--- call; in any order.
-use Rattle.std.specs.Prelude.{ℕ, ◌==◌, ◌&&◌, not, Bool, List, [], ◌∷◌, ◌++◌, map, filter}
+-- The rows that the last call of a replica took from its online list, and those that it gave to it, by what the call moved;
+-- in any order.
+use Rattle.std.specs.Prelude.{ℕ, ◌==◌, Bool, List, [], ◌∷◌, ◌++◌, map, filter, Option, None, Some}
 use Rattle.std.specs.FinMap as fin
 use Rattle.dots_core.specs.declared.dot.Dot.{Dot}
 use Rattle.payload_core.specs.Presences.{Presence, Entries}
-use Rattle.payload_core.specs.EntryLists.{pair_of, pairs}
+use Rattle.payload_core.specs.EntryLists.{pairs}
 use Rattle.payload_core.specs.EntryMoves.{found_at}
-use Rattle.payload_core.specs.LeavesTogether.{entries_left}
-use Rattle.replica_core.specs.Replicas.{Replica, last}
-use Rattle.replica_core.specs.Views.{is_some_up}
-use Rattle.replica_core.specs.Changes.{Change, OfJoin, OfLeave, OfLeaveAll, OfUpdate, OfUp, OfDown, OfPermdown, OfDeliver}
+use Rattle.replica_core.specs.Changes.{Change}
+use Rattle.replica_core.specs.Moves.{hidden_by, joined_by, left_by, shown_by}
+use Rattle.replica_core.specs.Replicas.{Replica}
 use Rattle.diff_core.specs.Rows.{Row, row_of}
 use Rattle.diff_core.specs.Online.{is_shown}
 
@@ -22,32 +21,23 @@ abbrev pub found_each : List Dot → Entries → List (Dot × Presence)
 found_each [] es = []
 found_each (d ∷ ds) es = found_at d (fin.get es d) ++ found_each ds es
 
--- whether an entry is of the name, if any is wanted
-abbrev pub is_of_name : ℕ → Bool → Dot × Presence → Bool
-is_of_name name wanted e = (e.0.name == name) && wanted
+-- whether an entry is of the name
+abbrev pub is_of_name : ℕ → Dot × Presence → Bool
+is_of_name name e = e.0.name == name
 
--- the rows of a name's entries, if they are wanted
-abbrev pub rows_of_name : ℕ → Bool → Replica → List Row
-rows_of_name name wanted r = map row_of (filter (is_of_name name wanted) (fin.entries r.store.entries))
+-- the rows of a name's entries
+abbrev pub rows_of_name : ℕ → Replica → List Row
+rows_of_name name r = map row_of (filter (is_of_name name) (fin.entries r.store.entries))
 
--- the rows that a call took, where it left this replica
+-- the rows of a name's entries, if there is a name; else these
+abbrev pub rows_or : Option ℕ → Replica → List Row → List Row
+rows_or None r rows = rows
+rows_or (Some name) r rows = rows_of_name name r
+
+-- the rows that a call took, where it left this replica: of a name that is up no more, or of what left
 abbrev pub taken_rows : Change → Replica → List Row
-taken_rows OfJoin r = []
-taken_rows (OfLeave l) r = rows_shown r (pair_of l.entry ∷ [])
-taken_rows (OfLeaveAll ls) r = rows_shown r (pairs (entries_left ls))
-taken_rows (OfUpdate l) r = rows_shown r (pair_of l.entry ∷ [])
-taken_rows (OfUp name before) r = []
-taken_rows (OfDown name before) r = rows_of_name name (is_some_up before) r
-taken_rows (OfPermdown name f) r = []
-taken_rows (OfDeliver d) r = rows_shown r (pairs d.left)
+taken_rows change r = rows_or (hidden_by change) r (rows_shown r (pairs (left_by change)))
 
--- the rows that a call gave, where it left this replica
+-- the rows that a call gave, where it left this replica: of a name that is up from then on, or of what joined
 abbrev pub given_rows : Change → Replica → List Row
-given_rows OfJoin r = rows_shown r (found_each (last r ∷ []) r.store.entries)
-given_rows (OfLeave l) r = []
-given_rows (OfLeaveAll ls) r = []
-given_rows (OfUpdate l) r = rows_shown r (found_each (last r ∷ []) r.store.entries)
-given_rows (OfUp name before) r = rows_of_name name (not (is_some_up before)) r
-given_rows (OfDown name before) r = []
-given_rows (OfPermdown name f) r = []
-given_rows (OfDeliver d) r = rows_shown r (found_each d.joined r.store.entries)
+given_rows change r = rows_or (shown_by change) r (rows_shown r (found_each (joined_by change r) r.store.entries))

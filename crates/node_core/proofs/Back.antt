@@ -1,13 +1,13 @@
 -- The way back from one step, by its inverse.
-use Rattle.std.proofs.Common.{◌≡◌, List, [], ◌∷◌, ◌++◌, Result, Ok, Err, OnOk, OnErr, refl, sym, ap, ◌∙◌, subst}
+use Rattle.std.proofs.Common.{◌≡◌, List, [], ◌∷◌, ◌++◌, None, Some, Result, Ok, Err, OnOk, OnErr, refl, sym, ap, ◌∙◌, subst}
 use Rattle.payload_core.specs.Messages.{Message}
 use Rattle.replica_core.specs.Replicas.{Replica, delta_message, without_delta, with_delta, CanBeDelta}
 use Rattle.replica_core.specs.Invariant.{IsReplica}
 use Rattle.replica_core.specs.Changes as changes
 use Rattle.node_core.specs.Nodes.{Node, with_replica, with_sent}
 use Rattle.node_core.specs.Invariant.{IsNode}
-use Rattle.node_core.specs.Inverses.{Inverse, OfChange, OfBroadcast, OfSent, LeadsSomewhere, GivesBack}
-use Rattle.node_core.specs.Laws.{OneWayBackLaw}
+use Rattle.node_core.specs.Inverses.{Inverse, OfChange, OfBroadcast, OfSent, LeadsBack, LeadsSomewhere, GivesBack, change_of}
+use Rattle.node_core.specs.Laws.{ChangeOfLaw, OneWayBackLaw}
 use Rattle.replica_core.proofs.Back.{back_holds}
 use Rattle.node_core.proofs.Changes.{limits_stay}
 
@@ -116,3 +116,23 @@ way_back OfSent now one other first second =
     let popped : now.outbox ≡ one.outbox ++ first.names.0 ∷ [] = ap (λ (n : Node). n.outbox) first.names.1 in
     let given = message_back now now refl one.outbox first.names.0 popped in
     sym (given one first) ∙ given other second
+
+-- the change of an inverse, if it has one
+
+change_leads_back : (inverse : Inverse) (change : changes.Change) (now earlier : Node) → LeadsBack inverse now earlier →
+    change_of inverse ≡ Some change → changes.ChangeLeadsBack change now.replica earlier.replica
+change_leads_back (OfChange change) other now earlier leads is =
+    let same : change ≡ other = cc in subst (λ c. changes.ChangeLeadsBack c now.replica earlier.replica) same leads.names.0
+change_leads_back OfBroadcast other now earlier leads is = absurd (cc)
+change_leads_back OfSent other now earlier leads is = absurd (cc)
+
+nothing_changed : (inverse : Inverse) (now earlier : Node) → LeadsBack inverse now earlier → change_of inverse ≡ None →
+    (earlier.replica.store.entries ≡ now.replica.store.entries) × (earlier.replica.view ≡ now.replica.view)
+nothing_changed (OfChange change) now earlier leads is = absurd (cc)
+nothing_changed OfBroadcast now earlier leads is =
+    (ap (λ (n : Node). n.replica.store.entries) (sym leads.names), ap (λ (n : Node). n.replica.view) (sym leads.names))
+nothing_changed OfSent now earlier leads is =
+    (ap (λ (n : Node). n.replica.store.entries) (sym leads.names.1), ap (λ (n : Node). n.replica.view) (sym leads.names.1))
+
+pub change_of_holds : ChangeOfLaw
+change_of_holds = record { some = change_leads_back; none = nothing_changed }

@@ -30,6 +30,12 @@ needs_no_memory (OfChange change) = changes.needs_no_memory change
 needs_no_memory OfBroadcast = true
 needs_no_memory OfSent = true
 
+-- the change of the replica, if it has one
+abbrev pub change_of : Inverse → Option changes.Change
+change_of (OfChange change) = Some change
+change_of OfBroadcast = None
+change_of OfSent = None
+
 -- an inverse is stored as its change, if it has one, and whether it is of a broadcast
 abbrev stored : Inverse → Option changes.Change × Bool
 stored (OfChange change) = (Some change, false)

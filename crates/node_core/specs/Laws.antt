@@ -1,8 +1,16 @@
--- The law of inverses (Danos and Krivine: a step back is determined by what is kept of the step).
-use Rattle.std.specs.Prelude.{◌≡◌}
+-- The laws of inverses (Danos and Krivine: a step back is determined by what is kept of the step).
+use Rattle.std.specs.Prelude.{◌≡◌, None, Some}
 use Rattle.node_core.specs.Nodes.{Node}
-use Rattle.node_core.specs.Inverses.{Inverse, LeadsBack}
+use Rattle.replica_core.specs.Changes.{Change, ChangeLeadsBack}
+use Rattle.node_core.specs.Inverses.{Inverse, LeadsBack, change_of}
 
 -- from one node, one inverse leads back to at most one node
 abbrev pub OneWayBackLaw : Type 0
 OneWayBackLaw = (inverse : Inverse) (now one other : Node) → LeadsBack inverse now one → LeadsBack inverse now other → one ≡ other
+
+-- the change of an inverse leads back as the inverse does; where it has none, entries and view are the same
+pub record ChangeOfLaw : Type 0 where
+  pub some : (inverse : Inverse) (change : Change) (now earlier : Node) → LeadsBack inverse now earlier → change_of inverse ≡ Some change →
+      ChangeLeadsBack change now.replica earlier.replica
+  pub none : (inverse : Inverse) (now earlier : Node) → LeadsBack inverse now earlier → change_of inverse ≡ None →
+      (earlier.replica.store.entries ≡ now.replica.store.entries) × (earlier.replica.view ≡ now.replica.view)

@@ -1,4 +1,8 @@
 //! `Inverse`: what a step of a node destroyed.
+ghost use Rattle.std.specs.Prelude.{◌≡◌, option_map};
+ghost use Rattle.replica_core.specs.Changes.{plain_change};
+ghost use Rattle.node_core.specs.Inverses.{change_of, plain_inverse};
+
 use replica_core::Change;
 use std::alloc::Allocator;
 
@@ -12,4 +16,16 @@ pub enum Inverse<A: Allocator> {
     Broadcast,
     /// The step sent the last message beside the delta: an extract, a request or an answer.
     Sent,
+}
+
+impl<A: Allocator> Inverse<A> {
+    /// The change of the replica, if the step made one; else the step sent a message.
+    pub fn change(&self) -> Option<&Change<A>>
+        ensures { option_map (λ c. plain_change c.now) result ≡ change_of (plain_inverse self.now) }
+    {
+        match self {
+            Inverse::Change(change) => Some(change),
+            Inverse::Broadcast | Inverse::Sent => None,
+        }
+    }
 }

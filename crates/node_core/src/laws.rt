@@ -1,9 +1,14 @@
-//! The law of the way back, as the contract of a function that does nothing.
+//! The laws of the way back, as contracts of functions that do nothing.
 //!
 //! A crate above uses a law by calling its function.
-ghost use Rattle.node_core.specs.Laws.{OneWayBackLaw};
+ghost use Rattle.node_core.specs.Laws.{ChangeOfLaw, OneWayBackLaw};
 
 /// From one node, one inverse leads back to at most one node.
 pub fn way_back_law()
     ensures { OneWayBackLaw }
+{}
+
+/// The change of an inverse leads back as the inverse does; where it has none, entries and view are the same.
+pub fn change_law()
+    ensures { ChangeOfLaw }
 {}

@@ -99,7 +99,7 @@ restorable_update l b a h =
     let p = c.presence in
     subst (λ b. Restorable l b a) (sym c.gives) (updated_restorable a h.earlier c.dot (own_tracked a h.earlier p.pid p.topic p.key c.dot c.tracked) l c.stood p)
 
-was_down : (a : Replica) (name : ℕ) → permdown_refusal a name ≡ None → fin.get a.view name ≡ Some Down
+pub was_down : (a : Replica) (name : ℕ) → permdown_refusal a name ≡ None → fin.get a.view name ≡ Some Down
 was_down a name free = go (name == a.own) (fin.get a.view name) refl free
   where
     go : (own : Bool) (o : Option Status) → fin.get a.view name ≡ o →

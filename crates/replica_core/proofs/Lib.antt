@@ -10,5 +10,6 @@ pub mod Calls
 pub mod Delivered
 pub mod Destroyed
 pub mod Back
+pub mod Moves
 pub mod Undone
 pub mod Sizes

@@ -1,6 +1,14 @@
-//! `Change`: what a call destroyed, kept to take the call back.
+//! `Change`: what a call destroyed, kept to take the call back; and what the call moved, told by it.
+ghost use Rattle.std.specs.Prelude.{◌≡◌, [], ◌∷◌, length, option_copied, slice_get};
+ghost use Rattle.payload_core.specs.LeavesTogether.{entries_left};
+ghost use Rattle.replica_core.specs.Changes.{plain_change};
+ghost use Rattle.replica_core.specs.Moves.{hidden_by, joined_by, left_by, shown_by};
+ghost use Rattle.replica_core.specs.Replicas.{Replica as PlainReplica};
+
+use crate::replica::Replica;
 use crate::status::Status;
-use payload_core::{Delivered, Forgotten, Left};
+use dots_core::Dot;
+use payload_core::{Delivered, Entry, Forgotten, Left};
 use std::alloc::Allocator;
 
 /// What one call of a replica destroyed, from which `Replica::undo` makes the replica as it was before the call (Danos
@@ -23,4 +31,98 @@ pub enum Change<A: Allocator> {
     Permdown { name: u16, forgotten: Forgotten<A> },
     /// What joined, what left, and the dots from before.
     Deliver(Delivered<A>),
+}
+
+impl<A: Allocator> Change<A> {
+    /// How many entries left.
+    pub fn left_len(&self) -> usize
+        ensures { result ≡ length (left_by (plain_change self.now)) }
+    {
+        match self {
+            Change::Leave(_) | Change::Update(_) => 1,
+            Change::LeaveAll(lefts) => lefts.len(),
+            Change::Permdown { forgotten, .. } => forgotten.entries.len(),
+            Change::Deliver(delivered) => delivered.left.len(),
+            Change::Join | Change::Up { .. } | Change::Down { .. } => 0,
+        }
+    }
+
+    /// The entry at this place, from 0, of those that left, by rising dot.
+    pub fn left_at(&self, place: usize) -> Option<&Entry<A>>
+        ensures { option_copied result ≡ slice_get (left_by (plain_change self.now)) place }
+    {
+        match self {
+            Change::Leave(left) | Change::Update(left) => first_of(&left.entry, place),
+            Change::LeaveAll(lefts) => entry_at(lefts, place),
+            Change::Permdown { forgotten, .. } => forgotten.entries.get(place),
+            Change::Deliver(delivered) => delivered.left.get(place),
+            Change::Join | Change::Up { .. } | Change::Down { .. } => None,
+        }
+    }
+
+    /// How many dots joined with their entries.
+    pub fn joined_len(&self) -> usize
+        ensures { (after : PlainReplica) → result ≡ length (joined_by (plain_change self.now) after) }
+    {
+        match self {
+            Change::Join | Change::Update(_) => 1,
+            Change::Deliver(delivered) => delivered.joined.len(),
+            _ => 0,
+        }
+    }
+
+    /// The dot at this place, from 0, of those that joined, where the call left this replica; by rising dot.
+    pub fn joined_at(&self, place: usize, after: &Replica<A>) -> Option<Dot>
+        ensures { result ≡ slice_get (joined_by (plain_change self.now) after.now) place }
+    {
+        match self {
+            Change::Join | Change::Update(_) => dot_at(&[after.last()], place),
+            Change::Deliver(delivered) => dot_at(&delivered.joined, place),
+            _ => None,
+        }
+    }
+
+    /// The name that is up from then on, and was not.
+    pub fn shown(&self) -> Option<u16>
+        ensures { result ≡ shown_by (plain_change self.now) }
+    {
+        match self {
+            Change::Up { name, before } if *before != Some(Status::Up) => Some(*name),
+            _ => None,
+        }
+    }
+
+    /// The name that was up, and is no more.
+    pub fn hidden(&self) -> Option<u16>
+        ensures { result ≡ hidden_by (plain_change self.now) }
+    {
+        match self {
+            Change::Down { name, before } if *before == Some(Status::Up) => Some(*name),
+            _ => None,
+        }
+    }
+}
+
+/// The dot at this place of these.
+fn dot_at(dots: &[Dot], place: usize) -> Option<Dot>
+    ensures { result ≡ slice_get dots.now place }
+{
+    dots.get(place).copied()
+}
+
+/// The entry, at place 0 alone.
+fn first_of<A: Allocator>(entry: &Entry<A>, place: usize) -> Option<&Entry<A>>
+    ensures { option_copied result ≡ slice_get (entry.now ∷ []) place }
+{
+    if place == 0 { Some(entry) } else { None }
+}
+
+/// The entry at this place of those that left.
+fn entry_at<A: Allocator>(lefts: &[Left<A>], place: usize) -> Option<&Entry<A>>
+    ensures { option_copied result ≡ slice_get (entries_left lefts.now) place }
+{
+    match lefts.get(place) {
+        Some(left) => Some(&left.entry),
+        None => None,
+    }
 }

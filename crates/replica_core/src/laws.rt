@@ -1,8 +1,9 @@
-//! The laws of deliveries and of the delta, as contracts of functions that do nothing.
+//! The laws of deliveries, of the delta and of changes, as contracts of functions that do nothing.
 //!
 //! A crate above uses a law by calling its function.
 ghost use Rattle.replica_core.specs.Changes.{BackLaw};
 ghost use Rattle.replica_core.specs.Laws.{AgainLaw, DeltaLaw, OrderLaw, StandingLaw};
+ghost use Rattle.replica_core.specs.Moves.{MovesLaw};
 
 /// A message merged again is accepted, and changes nothing.
 #[tactic(auto, using(crate::proofs::Deliveries::again_holds))]
@@ -32,4 +33,11 @@ pub fn delta_law()
 #[tactic(auto, using(crate::proofs::Back::back_holds))]
 pub fn back_law()
     ensures { BackLaw }
+{}
+
+/// What is kept of a call tells what the call moved: the entries that left, the dots that joined, and the name that is up
+/// from then on, or no more.
+#[tactic(auto, using(crate::proofs::Moves::moves_hold))]
+pub fn moves_law()
+    ensures { MovesLaw }
 {}

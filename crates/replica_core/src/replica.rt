@@ -147,8 +147,8 @@ impl<A: Allocator> Replica<A> {
         self.store.seen().clock_of(self.own)
     }
 
-    /// The last own dot.
-    fn last(&self) -> Dot
+    /// The last own dot; before the first, that with the clock 0.
+    pub fn last(&self) -> Dot
         ensures { result ≡ last self.now }
     {
         Dot {

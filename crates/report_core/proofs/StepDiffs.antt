@@ -1,15 +1,14 @@
 -- What the inverse of a step tells of the report of an act.
 use Rattle.std.proofs.Common.{◌≡◌, ◌==◌, ◌||◌, ℕ, ◌+◌, Bool, true, false, nat_lt, if◌then◌else◌, List, [], ◌∷◌, ◌++◌, length, slice_get, Option, Some, None}
-use Rattle.std.proofs.Common.{Result, Ok, Err, IfOk, refl, sym, ap, ap₂, ◌∙◌, subst, subst₂, not, option_map, append_assoc, ◌⊎◌, inl, inr}
+use Rattle.std.proofs.Common.{Result, Ok, Err, IfOk, refl, sym, ap, ap₂, ◌∙◌, subst, subst₂, not, option_map, append_assoc}
 use Rattle.std.proofs.lemmas.Bool.{eq-eqb}
 use Rattle.bench_core.specs.declared.fault.Fault.{Fault}
 use Rattle.bench_core.specs.declared.fault.Fault.TheVariants.{UnknownNode, HistoryFull, NoSuchStep}
 use Rattle.bench_core.specs.declared.reply.Reply.{Reply}
 use Rattle.bench_core.specs.declared.reply.Reply.TheVariants.{Taken, Undone, Refused}
 use Rattle.node_core.specs.Nodes.{Node}
-use Rattle.node_core.specs.declared.inverse.Inverse as declared
-use Rattle.node_core.specs.declared.inverse.Inverse.TheVariants as variants
-use Rattle.node_core.specs.Inverses.{Inverse, plain_inverse, OfChange, OfBroadcast, OfSent, Names, LeadsBack, LeadsSomewhere}
+use Rattle.node_core.specs.Inverses.{Inverse, LeadsBack, LeadsSomewhere, change_of}
+use Rattle.node_core.specs.Laws.{ChangeOfLaw}
 use Rattle.journal_core.specs.Journals.{Kept, find_number, first_consequence, last_of, without}
 use Rattle.journal_core.proofs.InTurn.{find_out}
 use Rattle.payload_core.specs.Answers.{◌>>=◌}
@@ -38,13 +37,13 @@ use Rattle.report_core.specs.StepDiffs.{Differ, without_step, TellsInverse, Tell
 
 -- an inverse
 
-pub tells_change : (law : BackLaw) (inverse : Inverse) (change : Change) (b : Node) (r : Replica) (left joined : List Row) →
-    inverse ≡ OfChange change → r ≡ b.replica →
+pub tells_change : (law : BackLaw) (of : ChangeOfLaw) (inverse : Inverse) (change : Change) (b : Node) (r : Replica) (left joined : List Row) →
+    Some change ≡ change_of inverse → r ≡ b.replica →
     left ≡ alone (online_of (back change r)) (online_of r) → joined ≡ alone (online_of r) (online_of (back change r)) →
     TellsInverse inverse b left joined
-tells_change law inverse change b r left joined is here left_is joined_is a leads =
-    let named : Names (OfChange change) b a = subst (λ i. Names i b a) is leads.names in
-    let same : back change r ≡ a.replica = ap (back change) here ∙ law change b.replica a.replica named.0 in record {
+tells_change law of inverse change b r left joined is here left_is joined_is a leads =
+    let led : ChangeLeadsBack change b.replica a.replica = of.some inverse change b a leads (sym is) in
+    let same : back change r ≡ a.replica = ap (back change) here ∙ law change b.replica a.replica led in record {
       left_is = left_is ∙ ap₂ (λ x y. alone (online_of x) (online_of y)) same here;
       joined_is = joined_is ∙ ap₂ (λ x y. alone (online_of y) (online_of x)) same here;
     }
@@ -55,11 +54,11 @@ both (Ok x) P Q R gives p q = gives x p q
 both (Err e) P Q R gives p q = tt
 
 -- the change of a step leads back, since its inverse does
-pub change_leads : (inverse : Inverse) (change : Change) (b : Node) (r : Replica) → inverse ≡ OfChange change → r ≡ b.replica →
-    LeadsSomewhere inverse b → ChangeLeadsSomewhere change r
-change_leads inverse change b r is same leads =
-    let named : Names (OfChange change) b leads.0 = subst (λ i. Names i b leads.0) is leads.1.names in
-    (leads.0.replica, subst (λ r. ChangeLeadsBack change r leads.0.replica) (sym same) named.0)
+pub change_leads : (of : ChangeOfLaw) (inverse : Inverse) (change : Change) (b : Node) (r : Replica) → Some change ≡ change_of inverse →
+    r ≡ b.replica → LeadsSomewhere inverse b → ChangeLeadsSomewhere change r
+change_leads of inverse change b r is same leads =
+    let led = of.some inverse change b leads.0 leads.1 (sym is) in
+    (leads.0.replica, subst (λ r. ChangeLeadsBack change r leads.0.replica) (sym same) led)
 
 -- replicas with the same entries and statuses differ in no row
 no_change : (law : DiffLaw) (one : OneListLaw) (online : OnlineLaw) (a b : Replica) → a.store.entries ≡ b.store.entries → a.view ≡ b.view
@@ -71,25 +70,13 @@ no_change law one online a b entries view =
       joined_is = sym (law.itself (online_of b)) ∙ ap (alone (online_of b)) (sym same);
     }
 
-pub is_send : {X : Type 0} (i : declared.Inverse X) → (i ≡ variants.Broadcast) ⊎ (i ≡ variants.Sent) →
-    (plain_inverse i ≡ OfBroadcast) ⊎ (plain_inverse i ≡ OfSent)
-is_send i (inl is) = inl (ap plain_inverse is)
-is_send i (inr is) = inr (ap plain_inverse is)
-
-pub tells_send : (law : DiffLaw) (one : OneListLaw) (online : OnlineLaw) (inverse : Inverse) (b : Node) (left joined : List Row) →
-    (inverse ≡ OfBroadcast) ⊎ (inverse ≡ OfSent) → left ≡ [] → joined ≡ [] → TellsInverse inverse b left joined
-tells_send law one online inverse b left joined is no_left no_joined a leads =
-    subst₂ (Differ (online_of a.replica) (online_of b.replica)) (sym no_left) (sym no_joined) (go is)
-  where
-    go : (inverse ≡ OfBroadcast) ⊎ (inverse ≡ OfSent) → Differ (online_of a.replica) (online_of b.replica) [] []
-    go (inl is) =
-        let named : Names OfBroadcast b a = subst (λ i. Names i b a) is leads.names in
-        no_change law one online a.replica b.replica (ap (λ (n : Node). n.replica.store.entries) (sym named))
-        (ap (λ (n : Node). n.replica.view) (sym named))
-    go (inr is) =
-        let named : Names OfSent b a = subst (λ i. Names i b a) is leads.names in
-        no_change law one online a.replica b.replica (ap (λ (n : Node). n.replica.store.entries) (sym named.1))
-        (ap (λ (n : Node). n.replica.view) (sym named.1))
+-- a step without a change differs in no row
+pub tells_none : (law : DiffLaw) (one : OneListLaw) (online : OnlineLaw) (of : ChangeOfLaw) (inverse : Inverse) (b : Node) (left joined : List Row) →
+    None ≡ change_of inverse → left ≡ [] → joined ≡ [] → TellsInverse inverse b left joined
+tells_none law one online of inverse b left joined is no_left no_joined a leads =
+    let stayed = of.none inverse b a leads (sym is) in
+    subst₂ (Differ (online_of a.replica) (online_of b.replica)) (sym no_left) (sym no_joined)
+    (no_change law one online a.replica b.replica stayed.0 stayed.1)
 
 -- a step
 

@@ -8,6 +8,7 @@ ghost use Rattle.report_core.specs.StepDiffs.{asked_undo, TellsInverse, TellsSte
 use bench_core::{Act, Bench, Inverse, Node};
 use diff_core::laws::{diff_law, one_list_law, online_law};
 use diff_core::{Diff, changed};
+use node_core::laws::change_law;
 use payload_core::Oom;
 use replica_core::laws::back_law;
 use std::alloc::Allocator;
@@ -36,9 +37,10 @@ fn inverse_diff<'a, B: Allocator>(
     diff_law();
     one_list_law();
     online_law();
-    match inverse {
-        Inverse::Change(change) => changed(alloc, change, node.replica()),
-        Inverse::Broadcast | Inverse::Sent => Ok(none(alloc)),
+    change_law();
+    match inverse.change() {
+        Some(change) => changed(alloc, change, node.replica()),
+        None => Ok(none(alloc)),
     }
 }
 

@@ -11,7 +11,7 @@ use Rattle.diff_core.proofs.changing.rows_of_name.Goals.{in-Some+then-is_of_name
 pub loop-place-preserved : goal.loop-place-preserved
 loop-place-preserved g c =
     let ps = fin.entries c.entries-entries.result.now.map in
-    let test = is_of_name c.args.name c.args.wanted in
+    let test = is_of_name c.args.name in
     elim c.match-at.branch [
       | in-Some+then-is_of_name+in_ok-of+in_ok-push w ↦
           rw w.rows-is
@@ -28,7 +28,7 @@ loop-place-preserved g c =
 pub returns : goal.returns
 returns g c =
     let len = fin.len-entries c.entries-entries.result.now.map in
-    let test = is_of_name c.args.name c.args.wanted in
+    let test = is_of_name c.args.name in
     let end : length (fin.entries c.entries-entries.result.now.map) ≤ c.loop-place.place = omega arith in
     c.loop-place.invariant ∙ ap (map row_of) (all_walked test (fin.entries c.entries-entries.result.now.map) c.loop-place.place end)
     ∙ ap (λ (es : Entries). map row_of (filter test (fin.entries es))) c.entries-entries.ensures

@@ -6,4 +6,4 @@ use Rattle.diff_core.proofs.changing.rows_of_name.Given as goal
 
 -- the rows of those of the entries so far that are of the name
 abbrev pub invariant-loop-place : goal.invariant-loop-place
-invariant-loop-place g l = l.rows.items ≡ map row_of (filter (is_of_name l.name l.wanted) (take l.place (fin.entries l.entries.map)))
+invariant-loop-place g l = l.rows.items ≡ map row_of (filter (is_of_name l.name) (take l.place (fin.entries l.entries.map)))

@@ -1,0 +1,70 @@
+-- What a call moved, by what is kept of it: the entries that left, the dots that joined, and the name that is up from then
+-- on, or no more.
+use Rattle.std.specs.Prelude.{◌≡◌, ◌⊎◌, ℕ, ◌==◌, ◌&&◌, not, Bool, true, false, List, [], ◌∷◌, Option, None, Some}
+use Rattle.dots_core.specs.declared.dot.Dot.{Dot}
+use Rattle.payload_core.specs.EntryLists.{pairs}
+use Rattle.payload_core.specs.EntryMoves.{AreNew, with_each, without_each}
+use Rattle.payload_core.specs.LeavesTogether.{Differ, entries_left}
+use Rattle.payload_core.specs.Presences.{Entry}
+use Rattle.replica_core.specs.Changes.{Change, ChangeLeadsBack, OfJoin, OfLeave, OfLeaveAll, OfUpdate, OfUp, OfDown, OfPermdown, OfDeliver}
+use Rattle.replica_core.specs.Replicas.{Replica, is_online, last}
+use Rattle.replica_core.specs.Views.{is_some_up}
+
+-- the entries that left
+abbrev pub left_by : Change → List Entry
+left_by OfJoin = []
+left_by (OfLeave l) = l.entry ∷ []
+left_by (OfLeaveAll ls) = entries_left ls
+left_by (OfUpdate l) = l.entry ∷ []
+left_by (OfUp name before) = []
+left_by (OfDown name before) = []
+left_by (OfPermdown name f) = f.entries
+left_by (OfDeliver d) = d.left
+
+-- the dots whose entries joined, where the call left this replica
+abbrev pub joined_by : Change → Replica → List Dot
+joined_by OfJoin r = last r ∷ []
+joined_by (OfLeave l) r = []
+joined_by (OfLeaveAll ls) r = []
+joined_by (OfUpdate l) r = last r ∷ []
+joined_by (OfUp name before) r = []
+joined_by (OfDown name before) r = []
+joined_by (OfPermdown name f) r = []
+joined_by (OfDeliver d) r = d.joined
+
+-- the name, where the test holds
+abbrev pub name_if : Bool → ℕ → Option ℕ
+name_if true name = Some name
+name_if false name = None
+
+-- the name that is up from then on, and was not
+abbrev pub shown_by : Change → Option ℕ
+shown_by (OfUp name before) = name_if (not (is_some_up before)) name
+shown_by _ = None
+
+-- the name that was up, and is no more
+abbrev pub hidden_by : Change → Option ℕ
+hidden_by (OfDown name before) = name_if (is_some_up before) name
+hidden_by _ = None
+
+-- whether it is this name
+abbrev pub is_named : Option ℕ → ℕ → Bool
+is_named None n = false
+is_named (Some name) n = n == name
+
+-- what the change of a call that took replica a to replica b tells of the two
+pub record Moves (change : Change) (b a : Replica) : Type 0 where
+  -- without what joined, and with what left, the entries are those from before
+  pub entries : a.store.entries ≡ with_each (pairs (left_by change)) (without_each (joined_by change b) b.store.entries)
+  -- no entry that left is there, and no two dots that joined are alike
+  pub gone : AreNew (pairs (left_by change)) b.store.entries
+  pub differ : Differ (joined_by change b)
+  -- these names are up from then on, or no more, and no others
+  pub shown : (n : ℕ) → is_named (shown_by change) n ≡ (is_online b n && not (is_online a n))
+  pub hidden : (n : ℕ) → is_named (hidden_by change) n ≡ (is_online a n && not (is_online b n))
+  -- no entry left or joined, or no name is up from then on or no more
+  pub one : ((left_by change ≡ []) × (joined_by change b ≡ [])) ⊎ ((shown_by change ≡ None) × (hidden_by change ≡ None))
+
+-- what is kept of a call tells what the call moved
+abbrev pub MovesLaw : Type 0
+MovesLaw = (change : Change) (b a : Replica) → ChangeLeadsBack change b a → Moves change b a
