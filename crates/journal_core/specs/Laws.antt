@@ -3,6 +3,7 @@ use Rattle.std.specs.Prelude.{◌≡◌, ℕ, List, Some, None}
 use Rattle.node_core.specs.Inverses.{Inverse}
 use Rattle.journal_core.specs.Journals.{Kept, NumbersRise, AreInCausalOrder, find_number}
 use Rattle.journal_core.specs.Futures.{Follows, IsFuture, undo_all, without_all}
+use Rattle.journal_core.specs.Gathering.{gathered_numbers}
 use Rattle.journal_core.specs.Holdings.{Held, find_held, inverse_of, with_inverse, without_held}
 
 pub record LoanLaw : Type 0 where
@@ -23,3 +24,7 @@ pub record FutureLaw : Type 0 where
   -- whatever undos take a step back, they take back all that follows from it
   pub least : (ks left : List Kept) (n : ℕ) (undos : List ℕ) → NumbersRise 0 ks → undo_all ks undos ≡ Some left →
       find_number left n ≡ None → (j : ℕ) → Follows ks n j → find_number left j ≡ None
+
+-- what one pass over a journal in order gathers from a step on is the step's future
+abbrev pub GatheredLaw : Type 0
+GatheredLaw = (ks : List Kept) (n : ℕ) → AreInCausalOrder ks → IsFuture ks n (gathered_numbers ks n)

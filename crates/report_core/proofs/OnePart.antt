@@ -9,10 +9,12 @@ use Rattle.std.proofs.lemmas.Bool.Decides.{nat_tests}
 use Rattle.dots_core.specs.declared.dot.Dot.{Dot}
 use Rattle.dots_core.specs.Dots.{Dots, dot, AreValid, IsValid}
 use Rattle.dots_core.specs.Clocks.{Clocks, is_among, holds, RisesAbove, IsCanonical}
-use Rattle.dots_core.specs.Contexts.{IsContext, IsCloud}
+use Rattle.dots_core.specs.Contexts.{IsContext, IsCloud, IsPartOf}
 use Rattle.dots_core.proofs.Order.{is_dot, is_dot-true, is_dot_same}
 use Rattle.dots_core.proofs.Clocks.{same_tests, or_swap, among_at, among_place, not_among, holds_low, holds_high, same_clocks, absorbs, absorbed_canonical}
+use Rattle.dots_core.proofs.Clocks.{holds_next, holds_valid, rises_lower}
 use Rattle.report_core.specs.Dots.{with_clock, clocks_in, part_of, clock_of, cloud_of}
+use Rattle.report_core.specs.Laws.{DotsLaw}
 
 -- a clock among rising ones
 
@@ -110,6 +112,26 @@ module _ (s : Dots) (name : ℕ) (valid : AreValid s) where
   unfolding part_of
   canonical-part = absorbed_canonical 0 clocks (omega arith) rises-clocks
 
+  -- that part is the one of the definition
+  pub printed-part : IsPartOf s name (record { clock = clock_of s name; cloud = cloud_of s name })
+  unfolding clock_of cloud_of
+  printed-part = record {
+    context = record {
+      all = λ k low. (
+        (λ there. let valid_clock = holds_valid (part_of s name) k canonical-part (holds-part k ∙ there) in valid_clock.0),
+        (λ positive. sym (holds-part k) ∙ holds_low (part_of s name) k positive low),
+      );
+      greatest = sym (holds-part ((part_of s name).clock + 1)) ∙ holds_next (part_of s name) canonical-part;
+    };
+    cloud = record {
+      rises = rises_lower (part_of s name).clock ((part_of s name).clock + 1) (part_of s name).cloud (omega arith) canonical-part.rises;
+      others = λ k high. (
+        (λ there. contains_of (part_of s name).cloud k (sym (holds_high (part_of s name) k high) ∙ holds-part k ∙ there)),
+        (λ among. sym (holds-part k) ∙ holds_high (part_of s name) k high ∙ among_of (part_of s name).cloud k among),
+      );
+    };
+  }
+
   -- what was answered is that part
   module _ (c : ℕ) (cloud : List ℕ) (context : IsContext s name c) (others : IsCloud s name c cloud) where
     abbrev given : Clocks
@@ -164,3 +186,6 @@ module _ (s : Dots) (name : ℕ) (valid : AreValid s) where
     pub cloud_is : cloud ≡ cloud_of s name
     unfolding cloud_of
     cloud_is = ap (λ (p : Clocks). p.cloud) same
+
+pub dots_hold : DotsLaw
+dots_hold s name valid = printed-part s name valid

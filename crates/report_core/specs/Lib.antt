@@ -5,3 +5,4 @@ pub mod StepDiffs
 pub mod MovedRows
 pub mod Dots
 pub mod ActTexts
+pub mod Laws

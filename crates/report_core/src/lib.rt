@@ -4,7 +4,7 @@
 //!
 //! `rows`, `step_text` and `dots_text` print what they are given. `step_diff` tells what a step changed, and `moved` what undos
 //! in turn changed, of the online lists; `shown` tells what a bench shows; and `acting` and `unwinding` change a bench and print
-//! what it answered, with what that changed.
+//! what it answered, with what that changed. `laws` says what the numbers of the `dots` lines are.
 //!
 //! Inside, the allocator is the last parameter. Where it comes before a bench, the analysis of each call that looks at the bench
 //! takes seconds: the lifetime in the bench's type then has another number than in the callee.
@@ -12,6 +12,7 @@
 
 mod acting;
 mod dots_text;
+pub mod laws;
 mod moved;
 mod rows;
 mod shown;
