@@ -1,4 +1,4 @@
--- The names of faults, as a report prints them.
+-- The names of faults, as a report prints them, and their numbers, as a session has them.
 use Rattle.std.specs.Prelude.{ℕ, List, ◌++◌, codes, decimal}
 use Rattle.bench_core.specs.declared.fault.Fault.{Fault}
 use Rattle.bench_core.specs.declared.fault.Fault.TheVariants.{OwnReplica, NotKnown, NotDown, AlreadyTracked, NotTracked, NothingToSend, EntriesFull}
@@ -27,3 +27,26 @@ fault_text NothingToUndo = codes "NothingToUndo"
 fault_text (HasConsequence step held_by) = codes "HasConsequence " ++ decimal step ++ codes " by " ++ decimal held_by
 fault_text HistoryFull = codes "HistoryFull"
 fault_text OutOfMemory = codes "OutOfMemory"
+
+-- the fault's number
+abbrev pub code_of : Fault → ℕ
+code_of OwnReplica = 1
+code_of NotKnown = 2
+code_of NotDown = 3
+code_of AlreadyTracked = 4
+code_of NotTracked = 5
+code_of NothingToSend = 6
+code_of EntriesFull = 7
+code_of ClockFull = 8
+code_of OwnMessage = 9
+code_of NoSuchMessage = 10
+code_of OutboxFull = 11
+code_of UnknownNode = 12
+code_of NoSuchStep = 13
+code_of AlreadyUndone = 14
+code_of NothingToUndo = 15
+code_of (HasConsequence step held_by) = 16
+code_of HistoryFull = 17
+code_of NotRequest = 18
+code_of IsRequest = 19
+code_of OutOfMemory = 20

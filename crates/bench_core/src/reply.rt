@@ -1,4 +1,6 @@
 //! `Reply`: what a bench answers.
+ghost use Rattle.std.specs.Prelude.{◌≡◌, ◌↔◌, IsTrue};
+
 use crate::fault::Fault;
 
 /// What a bench answers.
@@ -9,4 +11,18 @@ pub enum Reply {
     /// The step of this number was taken back.
     Undone(u64),
     Refused(Fault),
+}
+
+impl Reply {
+    /// Whether both are one reply.
+    pub fn same(self, other: Reply) -> bool
+        ensures { IsTrue result ↔ (self ≡ other) }
+    {
+        match (self, other) {
+            (Reply::Taken(number), Reply::Taken(other)) => number == other,
+            (Reply::Undone(number), Reply::Undone(other)) => number == other,
+            (Reply::Refused(fault), Reply::Refused(other)) => fault.same(other),
+            _ => false,
+        }
+    }
 }

@@ -10,6 +10,7 @@ use Rattle.bench_core.specs.declared.reply.Reply.TheVariants.{Taken, Undone, Ref
 use Rattle.bench_core.specs.declared.fault.Fault.{Fault}
 use Rattle.bench_core.specs.declared.fault.Fault.TheVariants as faults
 use Rattle.bench_core.specs.Acts.{Action, Do, Undo, Back}
+pub use Rattle.bench_core.specs.FaultText.{code_of}
 use Rattle.bench_core.specs.Machine.{Event}
 
 -- a JSON array
@@ -49,28 +50,6 @@ act_json (Do operation) = list (string (codes "do") ∷ step_data operation)
 act_json (Undo k) = list (string (codes "undo") ∷ whole k ∷ [])
 act_json (Back node) = list (string (codes "back") ∷ whole node ∷ [])
 
--- the number of a fault
-abbrev pub code_of : Fault → ℕ
-code_of faults.OwnReplica = 1
-code_of faults.NotKnown = 2
-code_of faults.NotDown = 3
-code_of faults.AlreadyTracked = 4
-code_of faults.NotTracked = 5
-code_of faults.NothingToSend = 6
-code_of faults.EntriesFull = 7
-code_of faults.ClockFull = 8
-code_of faults.OwnMessage = 9
-code_of faults.NoSuchMessage = 10
-code_of faults.OutboxFull = 11
-code_of faults.UnknownNode = 12
-code_of faults.NoSuchStep = 13
-code_of faults.AlreadyUndone = 14
-code_of faults.NothingToUndo = 15
-code_of (faults.HasConsequence step held_by) = 16
-code_of faults.HistoryFull = 17
-code_of faults.NotRequest = 18
-code_of faults.IsRequest = 19
-code_of faults.OutOfMemory = 20
 
 -- what stands behind a fault's number: the step and what holds it
 abbrev pub fault_rest : Fault → List Data

@@ -2,8 +2,7 @@
 //!
 //! Stands on `bench_core`, whose calls and replies these are, on `json_core`, and on the kit's `serde_json`, whose values take
 //! their memory from the global heap. In the order to read them: `write_act`, `write_reply` and `write_event`, from a call to its
-//! value; `places`, `read_step`, `read_act`, `read_reply` and `read_event`, from a value to what it says; `replies`, whether two
-//! are one.
+//! value; `places`, `read_step`, `read_act`, `read_reply` and `read_event`, from a value to what it says.
 #![tactic(auto)]
 
 mod places;
@@ -11,11 +10,9 @@ mod read_act;
 mod read_event;
 mod read_reply;
 mod read_step;
-mod replies;
 mod write_act;
 mod write_event;
 mod write_reply;
 
 pub use read_event::event_at;
-pub use replies::same_reply;
 pub use write_event::event_value;

@@ -8,34 +8,6 @@ use bench_core::{Fault, Reply};
 use serde_json::{Value, json};
 use std::alloc::{AllocError, Global};
 
-/// The number of a fault.
-pub(crate) fn code_of(fault: Fault) -> u8
-    ensures { result ≡ code_of fault }
-{
-    match fault {
-        Fault::OwnReplica => 1,
-        Fault::NotKnown => 2,
-        Fault::NotDown => 3,
-        Fault::AlreadyTracked => 4,
-        Fault::NotTracked => 5,
-        Fault::NothingToSend => 6,
-        Fault::EntriesFull => 7,
-        Fault::ClockFull => 8,
-        Fault::OwnMessage => 9,
-        Fault::NoSuchMessage => 10,
-        Fault::OutboxFull => 11,
-        Fault::UnknownNode => 12,
-        Fault::NoSuchStep => 13,
-        Fault::AlreadyUndone => 14,
-        Fault::NothingToUndo => 15,
-        Fault::HasConsequence { .. } => 16,
-        Fault::HistoryFull => 17,
-        Fault::NotRequest => 18,
-        Fault::IsRequest => 19,
-        Fault::OutOfMemory => 20,
-    }
-}
-
 /// A reply that gives a step's number.
 fn numbered_value(heap: Global, word: &str, number: u64) -> Result<Value, AllocError>
     ensures { IfOk result (λ v. view v ≡ list (string word.now ∷ whole number ∷ [])) }
@@ -54,7 +26,7 @@ fn consequence_value(heap: Global, step: u64, held_by: u64) -> Result<Value, All
 fn refusal_value(heap: Global, fault: Fault) -> Result<Value, AllocError>
     ensures { IfOk result (λ v. view v ≡ list (string (codes "no") ∷ whole (code_of fault) ∷ [])) }
 {
-    json!(in heap; ["no", code_of(fault)])
+    json!(in heap; ["no", fault.code()])
 }
 
 pub(crate) fn reply_value(heap: Global, reply: &Reply) -> Result<Value, AllocError>

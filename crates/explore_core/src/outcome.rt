@@ -52,7 +52,7 @@ impl<'a, B: Allocator> Refusal<'a, B> {
     pub(crate) fn same(&self, other: &Self) -> bool
         ensures { IsTrue result ↔ (self.now.refusal ≡ other.now.refusal) }
     {
-        self.list == other.list && self.place == other.place && self.fault == other.fault
+        self.list == other.list && self.place == other.place && self.fault.same(other.fault)
     }
 }
 

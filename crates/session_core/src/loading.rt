@@ -13,7 +13,6 @@ use crate::session_fault::SessionFault;
 use crate::version::Version;
 use bench_core::{Bench, Event, Fault, Reply};
 use dots_core::Oom;
-use event_core::same_reply;
 use std::alloc::{Allocator, Global};
 
 /// Asks the event's call, and says whether the bench gave its reply and recorded it.
@@ -28,7 +27,7 @@ fn records_next<'a, B: Allocator>(
     if answer == Reply::Refused(Fault::OutOfMemory) {
         return Err(Oom);
     }
-    if same_reply(answer, event.reply) {
+    if answer.same(event.reply) {
         return Ok(before < bench.history().len());
     }
     Ok(false)

@@ -10,7 +10,6 @@ ghost use Rattle.session_core.specs.Versions.{number_of};
 ghost use Rattle.session_core.specs.declared.session_fault.SessionFault.TheVariants as sessions;
 
 use bench_core::{Bench, Event, History, Reply};
-use event_core::same_reply;
 use payload_core::Oom;
 use report_core::act;
 use script_core::Played;
@@ -22,7 +21,7 @@ fn has_reply<'a, B: Allocator>(history: &History<'a, B>, place: usize, reply: Re
     ensures { IsTrue result ↔ (option_map (λ event. event.reply) (slice_get history.now place) ≡ Some reply) }
 {
     match history.at(place) {
-        Some(event) => same_reply(event.reply, reply),
+        Some(event) => event.reply.same(reply),
         None => false,
     }
 }

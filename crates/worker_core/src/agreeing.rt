@@ -11,18 +11,11 @@ use bench_core::{Act, Event, History, Reply};
 use payload_core::Oom;
 use std::alloc::Allocator;
 
-/// Whether two replies are one. That `==` says so is dear to prove, as it goes over all faults; so it is said here alone.
-fn same_reply(one: Reply, other: Reply) -> bool
-    ensures { IsTrue result ↔ (one ≡ other) }
-{
-    one == other
-}
-
 /// Whether two recorded calls are the same, with the same reply.
 fn same_event<A: Allocator>(one: &Event<A>, other: &Event<A>) -> bool
     ensures { IsTrue result ↔ (one.now ≡ other.now) }
 {
-    one.actor == other.actor && one.act.same(&other.act) && same_reply(one.reply, other.reply)
+    one.actor == other.actor && one.act.same(&other.act) && one.reply.same(other.reply)
 }
 
 /// Whether the receipt is of the line, and tells of the event at its place, which is past `last`.
@@ -48,7 +41,7 @@ fn answers<'a, B: Allocator>(
         && receipt.act.same(act)
         && event.actor == actor
         && event.act.same(act)
-        && same_reply(event.reply, receipt.reply)
+        && event.reply.same(receipt.reply)
 }
 
 /// Whether the receipts are one for each of the actor's lines, in order, at places that rise from `start`.

@@ -16,13 +16,13 @@ returns g c =
     subst (λ (x : Event). ¬ RecordsNext c.args.bench.now x) (sym is)
     (other_reply c.args.bench.now e c.act-answer.result c.act-answer.new.self made c.act-answer.ensures.answers other)
 
-pub returns-then-same_reply : goal.returns-then-same_reply
-returns-then-same_reply g c =
+pub returns-then-same : goal.returns-then-same
+returns-then-same g c =
     let e : Event = record { actor = c.event.inside.actor; act = plain_act c.event.inside.act; reply = c.event.inside.reply } in
     let is : c.args.event.now ≡ e = search rules in
     let made : c.act-answer.result ≢ Refused OutOfMemory = search rules in
     let same : c.act-answer.result ≡ c.event.inside.reply = search rules in
     let test : nat_lt c.len-before.result c.len.result ≡ nat_lt (length c.args.bench.now.state.history) (length c.act-answer.new.self.state.history) =
-    ap₂ nat_lt (c.len-before.ensures ∙ ap length c.history.ensures) (c.len.ensures ∙ ap length c.history-then-same_reply.ensures) in
+    ap₂ nat_lt (c.len-before.ensures ∙ ap length c.history.ensures) (c.len.ensures ∙ ap length c.history-then-same.ensures) in
     subst (λ (x : Event). Asked x c.args.bench.now c.act-answer.new.self (nat_lt c.len-before.result c.len.result)) (sym is)
     (same_reply c.args.bench.now e c.act-answer.result c.act-answer.new.self made c.act-answer.ensures.answers same (nat_lt c.len-before.result c.len.result) test)
