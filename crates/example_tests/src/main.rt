@@ -1,111 +1,126 @@
-//! Plays each script of `examples/`, or tells what all orders of its lines lead to, and compares that with the report which
-//! stands beside it, byte for byte; given a file, prints the report of the script in it.
+//! Runs the cases of `data/cases/` on the program, with its words and its streams lent, and compares what goes out, the lines
+//! that are told and the status with what each case says. Given a file, prints the report of the script in it.
+//!
+//! `data/README.md` has the form of a case. In the order to read them: `case`, what a case has; `reading`, what a line of a file
+//! gives its case; `running`, whether a case comes out as it says; here, all of them.
 #![tactic(auto)]
 
+mod case;
+mod reading;
+mod running;
+
+use crate::case::Case;
+use crate::reading::read_line;
+use crate::running::comes_out;
 use bench_core::Limits;
-use explore_core::Reading;
-use explore_report::report_orders;
 use play_core::play;
-use script_core::parse_script;
 use std::process::ExitCode;
+use std::sync::Wait;
+use std::thread::Threads;
 use std::{env, fs, io};
-use stream_core::{FakeReader, FakeWriter};
 
-const EXAMPLES: [&str; 8] = [
-    "comes-back",
-    "late-up",
-    "lost-removal",
-    "out-of-order",
-    "permdown-and-back",
-    "removal-too-soon",
-    "undo-held",
-    "unwind",
-];
+/// The file with the names of the files of cases, a line each.
+const FILES: &str = "cases/files";
 
-/// Those whose report is of all orders of their lines.
-const EXPLORED: [&str; 1] = ["too-early"];
-
-/// The bytes of an example's file with this ending.
-fn file(rt: &HostRuntime, example: &str, ending: &str) -> io::Result<Vec<u8>> {
-    let path = format!(in rt.alloc(); "{example}.{ending}")?;
-    fs::read(rt, path.as_str())
+/// How many cases were run, and how many of them came out otherwise.
+#[derive(Drop)]
+struct Counts {
+    all: u64,
+    differing: u64,
 }
 
-/// Whether the example's script prints its report.
-fn is_as_reported(rt: &HostRuntime, example: &str) -> io::Result<bool> {
-    let script = file(rt, example, "script")?;
-    let report = file(rt, example, "report")?;
-    let mut reader = FakeReader::ending(&script);
-    let mut writer = FakeWriter::new(rt.alloc(), 1_000_000);
-    let answer = play(&rt.alloc(), &mut reader, &mut writer, Limits::usual());
-    Ok(answer.is_ok() && writer.taken() == report.as_slice())
-}
-
-/// Whether the orders of the example's lines are told as in its report.
-fn is_as_explored(rt: &HostRuntime, example: &str) -> io::Result<bool> {
-    let script = file(rt, example, "script")?;
-    let report = file(rt, example, "report")?;
-    let alloc = rt.alloc();
-    let Ok(script) = parse_script(&alloc, &script) else {
-        return Ok(false);
-    };
-    match report_orders(
-        &alloc,
-        &script,
-        Limits::usual(),
-        Reading::EveryOrder,
-        100_000,
-    ) {
-        Ok(text) => Ok(text.as_slice() == report.as_slice()),
-        Err(_) => Ok(false),
-    }
-}
-
-/// Whether it could be told whether the example is as reported.
-fn tells(rt: &HostRuntime, example: &str, as_reported: io::Result<bool>) -> bool {
-    let told = match as_reported {
-        Ok(true) => "as reported",
-        Ok(false) => "not as reported",
-        Err(_) => "not read",
-    };
-    println!(rt; "{example}: {told}").is_ok()
-}
-
-/// Whether each example could be told of.
-fn tells_each(rt: &HostRuntime) -> bool {
-    for example in EXAMPLES {
-        if !tells(rt, example, is_as_reported(rt, example)) {
-            return false;
+impl Counts {
+    fn new() -> Counts {
+        Counts {
+            all: 0,
+            differing: 0,
         }
     }
-    for example in EXPLORED {
-        if !tells(rt, example, is_as_explored(rt, example)) {
-            return false;
+
+    /// Runs the case, if it was begun.
+    fn run<T: Threads + Wait + Sync>(
+        &mut self,
+        rt: &HostRuntime,
+        threads: &T,
+        file: &str,
+        case: &Case,
+    ) -> io::Result<()> {
+        if case.line == 0 {
+            return Ok(());
         }
+        self.all = self.all.saturating_add(1);
+        if !comes_out(rt, threads, file, case)? {
+            self.differing = self.differing.saturating_add(1);
+        }
+        Ok(())
     }
-    true
+
+    fn add(&mut self, counts: &Counts) {
+        self.all = self.all.saturating_add(counts.all);
+        self.differing = self.differing.saturating_add(counts.differing);
+    }
+}
+
+/// Runs the cases of a file.
+fn run_file<T: Threads + Wait + Sync>(
+    rt: &HostRuntime,
+    threads: &T,
+    file: &str,
+) -> io::Result<Counts> {
+    let path = format!(in rt.alloc(); "cases/{file}.cases")?;
+    let text = fs::read_to_string(rt, path.as_str())?;
+    let mut counts = Counts::new();
+    let mut case = Case::new(rt.alloc());
+    let mut number = 0u64;
+    for line in text.lines() {
+        number = number.saturating_add(1);
+        if line.starts_with("$ ") {
+            counts.run(rt, threads, file, &case)?;
+            case.begin(number);
+        }
+        read_line(rt, &mut case, line)?;
+    }
+    counts.run(rt, threads, file, &case)?;
+    println!(rt; "{file}: {}", counts.all)?;
+    Ok(counts)
+}
+
+/// Runs the cases of all files. Whether all come out as they say.
+fn run_files<T: Threads + Wait + Sync>(rt: &HostRuntime, threads: &T) -> io::Result<bool> {
+    let files = fs::read_to_string(rt, FILES)?;
+    let mut counts = Counts::new();
+    for file in files.lines() {
+        counts.add(&run_file(rt, threads, file)?);
+    }
+    println!(rt; "{} cases, {} differ", counts.all, counts.differing)?;
+    Ok(counts.differing == 0)
 }
 
 /// Whether the script in this file was played, and its report printed.
 fn prints(rt: &HostRuntime, path: &str) -> io::Result<bool> {
     let script = fs::read(rt, path)?;
-    let mut reader = FakeReader::ending(&script);
+    let mut reader = stream_core::FakeReader::ending(&script);
     let mut output = io::writer(rt);
-    Ok(play(&rt.alloc(), &mut reader, &mut output, Limits::usual()).is_ok())
+    let answer = play(&rt.alloc(), &mut reader, &mut output, Limits::usual());
+    Ok(answer.is_ok())
 }
 
 /// Does what the words after the program's name ask, and tells whether that went well.
-fn ends_well(rt: &HostRuntime) -> io::Result<bool> {
+fn ends_well<T: Threads + Wait + Sync>(rt: &HostRuntime, threads: &T) -> io::Result<bool> {
     let mut words = env::args(rt)?.skip(1);
     match words.next() {
         Some(path) => prints(rt, &path),
-        None => Ok(tells_each(rt)),
+        None => run_files(rt, threads),
     }
 }
 
 fn main(rt: HostRuntime) -> ExitCode {
-    match ends_well(&rt) {
+    match ends_well(&rt, &rt) {
         Ok(true) => ExitCode::SUCCESS,
-        Ok(false) | Err(_) => ExitCode::from(1),
+        Ok(false) => ExitCode::from(1),
+        Err(fault) => {
+            let _ = eprintln!(rt; "example_tests: {fault}");
+            ExitCode::from(1)
+        }
     }
 }

@@ -1,17 +1,10 @@
 //! Tests of the crates that make a tool of the machine, by their public calls alone, in a crate of their own, so that they are
-//! proved once. They say what no clause can: that calls succeed with ample memory, what texts are letter by letter, what
-//! refused memory leaves, and how streams and threads are used. In the order to read them: `scripts`, scripts and reports from
-//! bytes to bytes; `prompted`, a prompt; `sessions`, what is saved, loaded and carried over; `drawn`, pictures; `explained`,
-//! causes; `explorations`, what differs between orders; `workers`, races; `program`, what words choose, and how the program ends.
-//! `rows` has the assertions of loops over tables.
+//! proved once. They say what no clause can and no case of `example_tests`: what refused memory leaves, and how streams and
+//! threads are used. In the order to read them: `scripts`, calls of scripts; `streams`, from bytes to bytes; `prompted`, a
+//! prompt; `workers`, races; `program`, what words choose, and how the program ends. `rows` has the assertions of loops over
+//! tables.
 #![tactic(auto)]
 
-#[cfg(test)]
-mod drawn;
-#[cfg(test)]
-mod explained;
-#[cfg(test)]
-mod explorations;
 #[cfg(test)]
 mod program;
 #[cfg(test)]
@@ -21,6 +14,6 @@ mod rows;
 #[cfg(test)]
 mod scripts;
 #[cfg(test)]
-mod sessions;
+mod streams;
 #[cfg(test)]
 mod workers;

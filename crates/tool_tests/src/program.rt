@@ -1,4 +1,5 @@
-//! What words choose, and the statuses of the program with what it writes.
+//! What words choose; and what the program does where it can't write, or is refused memory. What it prints and its statuses are
+//! cases of `example_tests`.
 use bench_core::Limits;
 use clap::error::ErrorKind;
 use command_line::{Choice, Form, Subcommand, choice};
@@ -22,42 +23,6 @@ const REPORT: &str = "1 ok\n+ r alice a/1 phone\nundone 1\n- r alice a/1 phone\n
 /// A play of it as it is saved.
 const SESSION: &str = "{\"acts\":[[0,[\"do\",\"join\",1,\"r\",\"alice\",\"phone\"],[\"ok\",1]],\
 [0,[\"undo\",1],[\"undone\",1]]],\"limits\":[100000,10000,1000000,10000],\"nodes\":[\"a\",\"b\"],\"version\":2}\n";
-
-/// Orders of a join and its undo, and of a line that is refused whenever it comes, gone through by hand.
-const UNDONE: &str = "nodes a\nconsoles desk\na join 1 r alice phone\ndesk undo 1\n";
-
-const UNDONE_ORDERS: &str = "orders 2 states 5 outcomes 2 refusals 1\n\
-outcome 1 orders 1\nonline a 0\n  nodes a\n  consoles desk\n  a join 1 r alice phone\n  desk undo 1\n\
-outcome 2 orders 1\nonline a 1\n= r alice a/1 phone\n  nodes a\n  consoles desk\n  desk undo 1\n  a join 1 r alice phone\n\
-refused line 4 NoSuchStep\n  nodes a\n  consoles desk\n  desk undo 1\n";
-
-const UNTRACKED: &str = "nodes a b\n\na join 1 r alice phone\na leave 2 r bob\nb up a\n";
-
-const UNTRACKED_ORDERS: &str = "orders 3 states 6 outcomes 1 refusals 1\n\
-outcome 1 orders 3\nonline a 1\n= r alice a/1 phone\n\
-online b 0\n  nodes a b\n  a join 1 r alice phone\n  a leave 2 r bob\n  b up a\n\
-refused line 4 NotTracked\n  nodes a b\n  a join 1 r alice phone\n  a leave 2 r bob\n";
-
-/// A node hears of a join and of its end, in either order: two orders of deliveries, gone through by hand.
-const HEARD: &str =
-    "nodes a b\na join 1 r alice phone\na broadcast\na leave 1 r alice\na broadcast\nb up a\n\
-b deliver a 1\nb deliver a 2\n";
-
-const HEARD_ORDERS: &str = "orders of deliveries 2 states 9 outcomes 1 refusals 0\n\
-all orders of deliveries lead to the same nodes\n\
-outcome 1 orders 2\nonline a 0\nonline b 0\n  nodes a b\n  a join 1 r alice phone\n  a broadcast\n  \
-a leave 1 r alice\n  a broadcast\n  b up a\n  b deliver a 1\n  b deliver a 2\n";
-
-/// Now the first delivery stands before the second message: where they change places, one comes too early.
-const TOO_EARLY: &str = "nodes a b\na join 1 r alice phone\na broadcast\nb up a\nb deliver a 1\n\
-a leave 1 r alice\na broadcast\nb deliver a 2\n";
-
-const TOO_EARLY_ORDERS: &str = "orders of deliveries 2 states 12 outcomes 2 refusals 1\n\
-outcome 1 orders 1\nonline a 0\nonline b 0\n  nodes a b\n  a join 1 r alice phone\n  a broadcast\n  b up a\n  \
-b deliver a 1\n  a leave 1 r alice\n  a broadcast\n  b deliver a 2\n\
-outcome 2 orders 1\nonline a 0\nonline b 1\n= r alice a/1 phone\n  nodes a b\n  a join 1 r alice phone\n  a broadcast\n  b up a\n  \
-b deliver a 2\n  a leave 1 r alice\n  a broadcast\n  b deliver a 1\n\
-refused line 8 NoSuchMessage\n  nodes a b\n  a join 1 r alice phone\n  a broadcast\n  b up a\n  b deliver a 2\n";
 
 /// All orders with no option.
 const ALL_ORDERS: Subcommand = Subcommand::Explore {
@@ -176,259 +141,6 @@ fn other_words_are_refused(rt: HostRuntime) {
     }
 }
 
-/// What the program is given, and what it gives back.
-#[derive(Clone, Copy)]
-struct Case {
-    words: &'static [&'static str],
-    script: &'static str,
-    fails: bool,
-    room: usize,
-    status: u8,
-    printed: &'static str,
-    told: &'static str,
-}
-
-const PLAYED: Case = Case {
-    words: &["play"],
-    script: JOINED,
-    fails: false,
-    room: 100_000,
-    status: 0,
-    printed: REPORT,
-    told: "",
-};
-
-const LOADED: Case = Case {
-    words: &["load"],
-    script: SESSION,
-    ..PLAYED
-};
-
-/// A node that did nothing, drawn.
-const DRAWN: Case = Case {
-    words: &["draw"],
-    script: "{\"acts\":[],\"limits\":[10,10,10,10],\"nodes\":[\"a\"],\"version\":2}",
-    printed: concat!(
-        r#"<svg xmlns="http://www.w3.org/2000/svg" width="300" height="100">"#,
-        r#"<style>text{font:13px monospace;text-anchor:middle;stroke:white;stroke-width:4px;paint-order:stroke}"#,
-        r#"circle{fill:white;stroke:black;stroke-width:2px}line{stroke:black;stroke-width:1.5px;marker-end:url(#head)}"#,
-        r#".lane{stroke:#888;stroke-width:1px;marker-end:none}.name{text-anchor:end;font-weight:bold}"#,
-        r#".future text{font-weight:bold}.ring{fill:none}line.future{stroke-width:4px}"#,
-        r#".undone{opacity:.45;stroke-dasharray:4 3}.undone path{stroke:black;stroke-width:2px;stroke-dasharray:none}</style>"#,
-        r#"<marker id="head" viewBox="0 0 10 10" refX="16" refY="5" markerWidth="14" markerHeight="14" "#,
-        r#"markerUnits="userSpaceOnUse" orient="auto"><path d="M0 1L10 5L0 9z"></path></marker>"#,
-        r#"<rect width="100%" height="100%" fill="white"></rect><g transform="translate(180 60)">"#,
-        r#"<line class="lane" x1="-20" y1="000" x2="100%" y2="000"></line>"#,
-        r#"<text class="name" x="-30" y="000" dy="5">a</text></g></svg>"#
-    ),
-    ..PLAYED
-};
-
-/// A race of one actor, whose order is given.
-const RACED: Case = Case {
-    words: &["race"],
-    ..PLAYED
-};
-
-const EXPLORED: Case = Case {
-    words: &["explore"],
-    script: UNDONE,
-    printed: UNDONE_ORDERS,
-    ..PLAYED
-};
-
-/// Lines at a prompt, one of them with a fault.
-const STEPPED: Case = Case {
-    words: &["step"],
-    script: "nodes a\na join 1 r\n:save\nshow a",
-    printed: "line 2: WrongCount\n\
-{\"acts\":[],\"limits\":[100000,10000,1000000,10000],\"nodes\":[\"a\"],\"version\":2}\nonline a 0\n",
-    ..PLAYED
-};
-
-/// A presence of a session, asked about at its own node.
-const EXPLAINED: Case = Case {
-    words: &["explain", "a", "lobby", "alice"],
-    script: "{\"acts\":[[0,[\"do\",\"join\",1,\"lobby\",\"alice\",\"phone\"],[\"ok\",1]]],\
-\"limits\":[10,10,10,10],\"nodes\":[\"a\",\"b\"],\"version\":2}",
-    printed: "explain a lobby alice 1\nmade 1 a join 1 lobby alice phone\nat a online\n",
-    ..PLAYED
-};
-
-const CASES: &[Case] = &[
-    PLAYED,
-    DRAWN,
-    EXPLAINED,
-    Case {
-        words: &["explain", "b", "lobby", "bob"],
-        printed: "explain b lobby bob 0\n",
-        ..EXPLAINED
-    },
-    Case {
-        words: &["explain", "c", "lobby", "alice"],
-        status: 1,
-        printed: "",
-        told: "presence_bench: explain: NoSuchNode\n",
-        ..EXPLAINED
-    },
-    Case {
-        words: &["explain", "a", "the lobby", "alice"],
-        status: 1,
-        printed: "",
-        told: "presence_bench: explain: NoWord\n",
-        ..EXPLAINED
-    },
-    Case {
-        words: &["play", "--as", "session"],
-        printed: SESSION,
-        ..PLAYED
-    },
-    LOADED,
-    Case {
-        words: &["load", "--as", "session"],
-        printed: SESSION,
-        ..LOADED
-    },
-    Case {
-        script: "{",
-        status: 1,
-        printed: "",
-        told: "presence_bench: session: NotJson\n",
-        ..LOADED
-    },
-    Case {
-        script: "{\"acts\":[[0,[\"back\",0],[\"ok\",1]]],\"limits\":[10,10,10,10],\"nodes\":[\"a\"],\"version\":2}",
-        status: 1,
-        printed: "",
-        told: "presence_bench: session: Disagrees at act 1\n",
-        ..LOADED
-    },
-    Case {
-        room: 9,
-        status: 3,
-        printed: "{\"acts\":[",
-        told: "presence_bench: write fault\n",
-        words: &["load", "--as", "session"],
-        ..LOADED
-    },
-    Case {
-        script: "nodes a\na join 1 r\n",
-        status: 1,
-        printed: "",
-        told: "presence_bench: line 2: WrongCount\n",
-        ..PLAYED
-    },
-    Case {
-        fails: true,
-        status: 3,
-        printed: "",
-        told: "presence_bench: read fault\n",
-        ..PLAYED
-    },
-    Case {
-        room: 7,
-        status: 3,
-        printed: "1 ok\n+ ",
-        told: "presence_bench: write fault\n",
-        ..PLAYED
-    },
-    RACED,
-    Case {
-        script: "nodes a\na join 1 r alice phone\nshow a\n",
-        status: 1,
-        printed: "",
-        told: "presence_bench: line 3: NotAllowed\n",
-        ..RACED
-    },
-    Case {
-        script: "nodes a\nb broadcast\n",
-        status: 1,
-        printed: "",
-        told: "presence_bench: line 2: UnknownWord\n",
-        ..RACED
-    },
-    STEPPED,
-    Case {
-        words: &["step"],
-        ..PLAYED
-    },
-    Case {
-        fails: true,
-        status: 3,
-        printed: "line 2: WrongCount\n\
-{\"acts\":[],\"limits\":[100000,10000,1000000,10000],\"nodes\":[\"a\"],\"version\":2}\n",
-        told: "presence_bench: read fault\n",
-        ..STEPPED
-    },
-    Case {
-        room: 7,
-        status: 3,
-        printed: "line 2:",
-        told: "presence_bench: write fault\n",
-        ..STEPPED
-    },
-    EXPLORED,
-    Case {
-        script: UNTRACKED,
-        printed: UNTRACKED_ORDERS,
-        ..EXPLORED
-    },
-    Case {
-        script: "nodes a\na join 1 r alice phone\nshow a\n",
-        status: 1,
-        printed: "",
-        told: "presence_bench: line 3: NotAllowed\n",
-        ..EXPLORED
-    },
-    Case {
-        words: &["explore", "--script", "2"],
-        printed: "  nodes a\n  consoles desk\n  desk undo 1\n  a join 1 r alice phone\n",
-        ..EXPLORED
-    },
-    Case {
-        words: &["explore", "--script", "3"],
-        status: 1,
-        printed: "",
-        told: "presence_bench: explore: NoSuchOutcome, there are 2\n",
-        ..EXPLORED
-    },
-    Case {
-        words: &["explore", "--script", "0"],
-        status: 1,
-        printed: "",
-        told: "presence_bench: explore: NoSuchOutcome, there are 2\n",
-        ..EXPLORED
-    },
-    Case {
-        words: &["explore", "--states", "5"],
-        ..EXPLORED
-    },
-    Case {
-        words: &["explore", "--deliveries"],
-        script: HEARD,
-        printed: HEARD_ORDERS,
-        ..EXPLORED
-    },
-    Case {
-        words: &["explore", "--deliveries"],
-        script: TOO_EARLY,
-        printed: TOO_EARLY_ORDERS,
-        ..EXPLORED
-    },
-    Case {
-        words: &["explore", "--states", "4"],
-        status: 1,
-        printed: "",
-        told: "presence_bench: explore: TooManyStates, more than 4\n",
-        ..EXPLORED
-    },
-    Case {
-        words: &["--version"],
-        printed: "presence_bench 0.1.0\n",
-        ..PLAYED
-    },
-];
-
 /// The status with which the program ends, and what it wrote to its output and to its errors, each a writer of so much room.
 fn ended<T: Threads + Wait + Sync + Abort, B: Allocator + Sync>(
     heap: Global,
@@ -453,36 +165,6 @@ fn ended<T: Threads + Wait + Sync + Abort, B: Allocator + Sync>(
         Limits::usual(),
     );
     (status, writer, errors)
-}
-
-/// Whether the program ends as the case says.
-fn ends_so<T: Threads + Wait + Sync + Abort>(
-    heap: Global,
-    case: &Case,
-    reader: &mut FakeReader<'_>,
-    rt: &T,
-) -> bool {
-    let rooms = [case.room, 1000];
-    let (status, writer, errors) = ended(heap, &heap, case.words, reader, rooms, rt);
-    let is_so = status == case.status
-        && writer.taken() == case.printed.as_bytes()
-        && errors.taken() == case.told.as_bytes();
-    drop(errors);
-    drop(writer);
-    is_so
-}
-
-#[test]
-fn each_end_has_its_status_and_its_line(rt: HostRuntime) {
-    for case in CASES {
-        let script = case.script.as_bytes();
-        let is_so = if case.fails {
-            ends_so(rt.alloc(), case, &mut FakeReader::failing(script), &rt)
-        } else {
-            ends_so(rt.alloc(), case, &mut FakeReader::ending(script), &rt)
-        };
-        assert!(rt; is_so, "{:?} {}", case.words, case.told);
-    }
 }
 
 /// Words, an input, and the status where nothing can be written.
@@ -551,20 +233,94 @@ fn refused_words_are_told_and_help_is_printed(rt: HostRuntime) {
     }
 }
 
+/// Two nodes, and an unwind over both.
+const UNWOUND: &str = "\
+nodes a b
+a join 1 r alice phone
+a broadcast
+b up a
+b deliver a 1
+why 1
+a unwind 1
+";
+
+const UNWOUND_REPORT: &str = "\
+1 ok
++ r alice a/1 phone
+2 ok
+3 ok
+4 ok
++ r alice a/1 phone
+future 4 2 1
+undone 4
+undone 2
+undone 1
+at a
+- r alice a/1 phone
+at b
+- r alice a/1 phone
+";
+
+/// Each step, two refusals and a step back.
+const EVERY_ACT: &str = concat!(
+    r#"{"acts":[[0,["do","join",1,"r","alice","phone"],["ok",1]],"#,
+    r#"[0,["do","join",1,"s","bob","desk"],["ok",2]],"#,
+    r#"[0,["do","update",1,"r","alice","away"],["ok",3]],"#,
+    r#"[1,["do","up",0],["ok",4]],"#,
+    r#"[0,["do","broadcast"],["ok",5]],"#,
+    r#"[1,["do","deliver",0,1],["ok",6]],"#,
+    r#"[1,["do","deliver",0,7],["no",10]],"#,
+    r#"[0,["do","leave",1,"r","alice"],["ok",7]],"#,
+    r#"[0,["do","leaveall",1],["ok",8]],"#,
+    r#"[0,["do","extract",[0,1]],["ok",9]],"#,
+    r#"[1,["do","request"],["ok",10]],"#,
+    r#"[0,["do","answer",1,1],["ok",11]],"#,
+    r#"[1,["do","down",0],["ok",12]],"#,
+    r#"[1,["do","permdown",0],["ok",13]],"#,
+    r#"[2,["undo",1],["no",16,1,2]],"#,
+    r#"[0,["back",1],["undone",13]]],"#,
+    r#""limits":[100000,10000,1000000,10000],"nodes":["a","b"],"version":2}"#,
+    "\n"
+);
+
+/// A node of one join.
+const ALONE: &str = "{\"acts\":[[0,[\"do\",\"join\",1,\"r\",\"alice\",\"phone\"],[\"ok\",1]]],\
+\"limits\":[10,10,10,10],\"nodes\":[\"a\"],\"version\":2}";
+
+const ALONE_EXPLAINED: &str = "explain a r alice 1\nmade 1 a join 1 r alice phone\nat a online\n";
+
+const ALONE_DRAWN: &str = concat!(
+    r#"<svg xmlns="http://www.w3.org/2000/svg" width="400" height="100">"#,
+    r#"<style>text{font:13px monospace;text-anchor:middle;stroke:white;stroke-width:4px;paint-order:stroke}"#,
+    r#"circle{fill:white;stroke:black;stroke-width:2px}line{stroke:black;stroke-width:1.5px;marker-end:url(#head)}"#,
+    r#".lane{stroke:#888;stroke-width:1px;marker-end:none}.name{text-anchor:end;font-weight:bold}"#,
+    r#".future text{font-weight:bold}.ring{fill:none}line.future{stroke-width:4px}"#,
+    r#".undone{opacity:.45;stroke-dasharray:4 3}.undone path{stroke:black;stroke-width:2px;stroke-dasharray:none}</style>"#,
+    r#"<marker id="head" viewBox="0 0 10 10" refX="16" refY="5" markerWidth="14" markerHeight="14" "#,
+    r#"markerUnits="userSpaceOnUse" orient="auto"><path d="M0 1L10 5L0 9z"></path></marker>"#,
+    r#"<rect width="100%" height="100%" fill="white"></rect><g transform="translate(180 60)">"#,
+    r#"<line class="lane" x1="-20" y1="000" x2="100%" y2="000"></line>"#,
+    r#"<text class="name" x="-30" y="000" dy="5">a</text>"#,
+    r#"<g class="step" transform="translate(100 000)"><title>a join 1 r alice phone"#,
+    "\n1 ok\n+ r alice a/1 phone\n",
+    r#"</title><circle r="8"></circle><text dy="-18">1</text><text dy="30">join</text></g></g></svg>"#
+);
+
+const TWO_ORDERS: &str = "nodes a\nconsoles desk\na join 1 r alice phone\ndesk undo 1\n";
+
+const SECOND_ORDER: &str = "  nodes a\n  consoles desk\n  desk undo 1\n  a join 1 r alice phone\n";
+
 /// Words, an input, and what is printed of it.
 const ANSWERED: &[(&[&str], &str, &str)] = &[
-    (&["play"], JOINED, REPORT),
+    (&["play"], UNWOUND, UNWOUND_REPORT),
     (&["play", "--as", "session"], JOINED, SESSION),
     (&["race"], JOINED, REPORT),
     (&["race", "--as", "session"], JOINED, SESSION),
     (&["load"], SESSION, REPORT),
-    (&["load", "--as", "session"], SESSION, SESSION),
-    (&["explore"], UNDONE, UNDONE_ORDERS),
-    (
-        &["explore", "--script", "1"],
-        UNDONE,
-        "  nodes a\n  consoles desk\n  a join 1 r alice phone\n  desk undo 1\n",
-    ),
+    (&["load", "--as", "session"], EVERY_ACT, EVERY_ACT),
+    (&["explain", "a", "r", "alice"], ALONE, ALONE_EXPLAINED),
+    (&["draw"], ALONE, ALONE_DRAWN),
+    (&["explore", "--script", "2"], TWO_ORDERS, SECOND_ORDER),
 ];
 
 /// Runs the program with this request for memory refused: it prints all, or nothing and says so. Gives whether the request was
@@ -579,7 +335,7 @@ fn refused<T: Threads + Wait + Sync + Abort>(
     let (words, input, printed) = answered;
     heap.refuse_only(number);
     let mut reader = FakeReader::ending(input.as_bytes());
-    let (status, writer, errors) = ended(global, heap, words, &mut reader, [1000, 1000], rt);
+    let (status, writer, errors) = ended(global, heap, words, &mut reader, [10_000, 1000], rt);
     let (out, told) = match status {
         0 => (printed, ""),
         _ => ("", "presence_bench: out of memory\n"),

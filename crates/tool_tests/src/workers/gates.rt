@@ -8,7 +8,7 @@ use worker_core::Gate;
 const TURNS: u32 = 10_000;
 
 /// The most lines that an order has.
-const LINES: usize = 5;
+const LINES: usize = 8;
 
 /// A gate whose calls return at once.
 pub struct Idle;
@@ -20,12 +20,17 @@ impl Gate for Idle {
 }
 
 /// A gate that lets lines pass in a given order: before a line it waits until the line before it in that order has passed. It
-/// counts its calls for each line, and notes where it gave up.
+/// counts its calls for each line, those that name another actor, and those in which it gave up.
 #[derive(Drop)]
 pub struct InOrder<R> {
     rt: R,
     order: &'static [u64],
+    /// The actor of each line.
+    actors: &'static [u16],
+    /// A line behind which it waits, until the next line in the order has passed, too: so the bench can't be locked there.
+    stays: u64,
     passed: AtomicU64,
+    strangers: AtomicU64,
     given_up: AtomicU64,
     befores: [AtomicU64; LINES],
     afters: [AtomicU64; LINES],
@@ -38,14 +43,20 @@ fn zeros() -> [AtomicU64; LINES] {
         AtomicU64::new(0),
         AtomicU64::new(0),
         AtomicU64::new(0),
+        AtomicU64::new(0),
+        AtomicU64::new(0),
+        AtomicU64::new(0),
     ]
 }
 
 impl<R: Clock> InOrder<R> {
-    pub fn new(rt: R, order: &'static [u64]) -> InOrder<R> {
+    pub fn new(rt: R, order: &'static [u64], actors: &'static [u16], stays: u64) -> InOrder<R> {
         InOrder {
             rt,
             order,
+            actors,
+            stays,
+            strangers: AtomicU64::new(0),
             passed: AtomicU64::new(0),
             given_up: AtomicU64::new(0),
             befores: zeros(),
@@ -53,10 +64,11 @@ impl<R: Clock> InOrder<R> {
         }
     }
 
-    /// Whether each line of the order passed once, without giving up.
+    /// Whether each line of the order passed once, under its own actor, without giving up.
     pub fn has_passed_each_once(&self) -> bool {
         let lines = self.order.len();
         self.given_up.load(Ordering::SeqCst) == 0
+            && self.strangers.load(Ordering::SeqCst) == 0
             && are_once(&self.befores, lines)
             && are_once(&self.afters, lines)
     }
@@ -71,6 +83,24 @@ impl<R: Clock> InOrder<R> {
             place = place.saturating_add(1);
         }
         place
+    }
+
+    /// Waits until so many lines have passed.
+    fn wait_for(&self, lines: u64) {
+        for _ in 0..TURNS {
+            if lines <= self.passed.load(Ordering::SeqCst) {
+                return;
+            }
+            thread::sleep(&self.rt, Duration::from_millis(1));
+        }
+        self.given_up.store(1, Ordering::SeqCst);
+    }
+
+    /// Counts the call where it names another actor than the line's.
+    fn note(&self, actor: u16, line: u64) {
+        if self.actors.get(line.saturating_sub(1) as usize) != Some(&actor) {
+            self.strangers.fetch_add(1, Ordering::SeqCst);
+        }
     }
 }
 
@@ -98,20 +128,18 @@ fn count(counts: &[AtomicU64; LINES], line: u64) {
 }
 
 impl<R: Clock> Gate for InOrder<R> {
-    fn before(&self, _actor: u16, line: u64) {
+    fn before(&self, actor: u16, line: u64) {
         count(&self.befores, line);
-        let place = self.place(line);
-        for _ in 0..TURNS {
-            if self.passed.load(Ordering::SeqCst) == place {
-                return;
-            }
-            thread::sleep(&self.rt, Duration::from_millis(1));
-        }
-        self.given_up.store(1, Ordering::SeqCst);
+        self.note(actor, line);
+        self.wait_for(self.place(line));
     }
 
-    fn after(&self, _actor: u16, line: u64) {
+    fn after(&self, actor: u16, line: u64) {
         count(&self.afters, line);
+        self.note(actor, line);
         self.passed.fetch_add(1, Ordering::SeqCst);
+        if line == self.stays {
+            self.wait_for(self.place(line).saturating_add(2));
+        }
     }
 }

@@ -1,14 +1,14 @@
 //! Consoles that undo against running nodes in orders that a gate fixes, and receipts of such a race that were altered.
-use crate::workers::gates::InOrder;
+use crate::workers::gates::{Idle, InOrder};
 use crate::workers::lines::{let_go_of_lines, lines_of, open};
-use crate::workers::races::{agrees, bench_raced, let_go_of_receipts, raced};
+use crate::workers::races::{agrees, bench_raced, fault_of, let_go_of_receipts, raced};
 use bench_core::{Act, Bench, Fault, Reply};
 use std::alloc::{Allocator, Global};
 use std::process::Abort;
 use std::sync::Wait;
 use std::thread::Threads;
 use std::time::Clock;
-use worker_core::{Receipt, Receipts};
+use worker_core::{Receipt, Receipts, ask, race};
 
 /// A console undoes what a node did, beside the nodes.
 pub const UNDONE_BESIDE: &str = "\
@@ -20,6 +20,9 @@ a broadcast
 b deliver a 1
 c1 undo 3
 ";
+
+/// The actor of each of its lines.
+pub const ACTORS: &[u16] = &[0, 1, 0, 1, 2];
 
 /// An order of its lines, their replies in that order, and how many entries node `b` has then.
 struct Order {
@@ -115,7 +118,7 @@ fn is_raced_so<R: Threads + Wait + Clock + Abort + Sync + Copy>(
     heap: &Global,
     order: &Order,
 ) -> bool {
-    let gate = InOrder::new(*rt, order.lines);
+    let gate = InOrder::new(*rt, order.lines, ACTORS, 3);
     let bench = bench_raced(heap, UNDONE_BESIDE, 3, &gate, rt);
     let lines = lines_of(heap, UNDONE_BESIDE, rt);
     let is_so = is_told(&bench, order, &lines) && entries_of(&bench, 1, rt) == order.entries;
@@ -129,6 +132,27 @@ fn consoles_undo_beside_running_nodes(rt: HostRuntime) {
     for order in ORDERS {
         assert!(rt; is_raced_so(&rt, &rt.alloc(), order));
     }
+}
+
+/// More lines, of both nodes.
+const EIGHT_LINES: &str = "\
+nodes a b
+a join 1 r alice phone
+b up a
+a broadcast
+b deliver a 1
+a leave 1 r alice
+a broadcast
+b deliver a 2
+b join 9 r bob desk
+";
+
+#[test]
+fn each_line_passes_the_gate_under_its_actor(rt: HostRuntime) {
+    let lines = &[1, 2, 3, 4, 5, 6, 7, 8];
+    let gate = InOrder::new(rt, lines, &[0, 1, 0, 1, 0, 0, 1, 1], 6);
+    drop(bench_raced(&rt.alloc(), EIGHT_LINES, 2, &gate, &rt));
+    assert!(rt; gate.has_passed_each_once());
 }
 
 /// What is changed of the receipts.
@@ -222,7 +246,7 @@ fn raced_in_turn<'a, R: Threads + Wait + Clock + Abort + Sync + Copy>(
     heap: &'a Global,
     rt: &R,
 ) -> (Bench<'a, Global>, Receipts<&'a Global>) {
-    let gate = InOrder::new(*rt, &[1, 2, 3, 4, 5]);
+    let gate = InOrder::new(*rt, &[1, 2, 3, 4, 5], ACTORS, 0);
     raced(heap, UNDONE_BESIDE, 3, &gate, rt)
 }
 
@@ -248,6 +272,37 @@ fn altered_receipts_disagree(rt: HostRuntime) {
     for alteration in ALTERATIONS {
         assert!(rt; !agrees_altered(&rt, &rt.alloc(), *alteration));
     }
+}
+
+/// A bench just opened, of which the console asked an undo of this number.
+fn asked_to_undo<'a>(heap: &'a Global, number: u64, rt: &impl Abort) -> Bench<'a, Global> {
+    let mut bench = open(heap, 100, rt);
+    drop(ask(&mut bench, 2, 1, Act::Undo(number)));
+    bench
+}
+
+/// Whether a race on a bench that was asked one undo before agrees with the history of one that was asked another.
+fn agrees_after<R: Threads + Wait + Abort + Sync>(
+    rt: &R,
+    heap: &Global,
+    asked: u64,
+    other: u64,
+) -> bool {
+    let before = asked_to_undo(heap, other, rt);
+    let lines = lines_of(heap, UNDONE_BESIDE, rt);
+    let raced = race(rt, heap, asked_to_undo(heap, asked, rt), 3, lines, &Idle).map_err(fault_of);
+    let (bench, receipts) = raced.expect(rt, "a race");
+    let agrees = agrees(&before, &bench, UNDONE_BESIDE, &receipts, heap, rt);
+    let_go_of_receipts(receipts);
+    drop(bench);
+    drop(before);
+    agrees
+}
+
+#[test]
+fn receipts_disagree_with_a_history_of_another_beginning(rt: HostRuntime) {
+    assert!(rt; agrees_after(&rt, &rt.alloc(), 9, 9));
+    assert!(rt; !agrees_after(&rt, &rt.alloc(), 9, 8));
 }
 
 /// Whether the receipts of such a race agree with the history of a bench just opened, after its own.

@@ -53,7 +53,8 @@ pub fn raced_in<'a, B: Allocator + Sync, G: Gate + Sync, R: Threads + Wait + Syn
     race(rt, heap, bench, actors, lines, gate)
 }
 
-fn fault_of<'a, B: Allocator>(refused: (RaceFault, Bench<'a, B>)) -> RaceFault {
+/// The fault of a race that was refused.
+pub fn fault_of<'a, B: Allocator>(refused: (RaceFault, Bench<'a, B>)) -> RaceFault {
     let (fault, bench) = refused;
     drop(bench);
     fault
@@ -187,7 +188,7 @@ fn turns<R: Threads + Wait + Clock + Abort + Sync + Copy>(
     order: &'static [u64],
     later: u16,
 ) -> bool {
-    let gate = InOrder::new(*rt, order);
+    let gate = InOrder::new(*rt, order, &[0, 1], 0);
     let bench = bench_raced(heap, TWO_JOINS, 2, &gate, rt);
     let is_so = is_last(&bench, later);
     drop(bench);

@@ -1,11 +1,15 @@
 //! How input is read and reports are written.
 use crate::rows::{holds, holds_at};
-use crate::scripts::cases::JOINED_AND_UNDONE;
 use bench_core::Limits;
 use play_core::{PlayFault, play};
 use std::alloc::Global;
 use std::process::Abort;
 use stream_core::{FakeReader, FakeWriter, InputFault, WriteFault, read_all, write_out};
+
+/// A join is taken back.
+const SCRIPT: &str = "nodes a b\nconsoles c1\na join 1 r alice phone\na undo 1\nshow a\n";
+
+const REPORT: &str = "1 ok\n+ r alice a/1 phone\nundone 1\n- r alice a/1 phone\nonline a 0\n";
 
 /// Whether so much of `abc` is read at most: it all is, or this is the fault; and no more calls than these are made.
 fn is_read(
@@ -51,7 +55,7 @@ fn fails_to_read(heap: Global, mut reader: FakeReader, calls: Option<usize>) -> 
 
 #[test]
 fn a_failed_read_is_not_tried_again(rt: HostRuntime) {
-    let script = JOINED_AND_UNDONE.script.as_bytes();
+    let script = SCRIPT.as_bytes();
     for (reader, calls, row) in [
         (FakeReader::failing(b""), 1, "at once"),
         (FakeReader::failing(script), 2, "at the end"),
@@ -64,7 +68,7 @@ fn a_failed_read_is_not_tried_again(rt: HostRuntime) {
 /// The script, of which a read beyond the first bytes fails.
 #[test]
 fn a_read_that_fails_at_any_byte_is_told(rt: HostRuntime) {
-    let script = JOINED_AND_UNDONE.script.as_bytes();
+    let script = SCRIPT.as_bytes();
     for count in 0..script.len() + 1 {
         let reader = FakeReader::failing(&script[..count]);
         holds_at(&rt, fails_to_read(rt.alloc(), reader, None), count as u64);
@@ -73,10 +77,10 @@ fn a_read_that_fails_at_any_byte_is_told(rt: HostRuntime) {
 
 /// Whether the report goes out where the writer takes at most so many bytes at once.
 fn goes_out_in_parts(heap: Global, most: usize) -> bool {
-    let mut reader = FakeReader::ending(JOINED_AND_UNDONE.script.as_bytes());
+    let mut reader = FakeReader::ending(SCRIPT.as_bytes());
     let mut writer = FakeWriter::taking(heap, most);
     let answer = play(&heap, &mut reader, &mut writer, Limits::usual());
-    answer == Ok(()) && writer.taken() == JOINED_AND_UNDONE.report.as_bytes()
+    answer == Ok(()) && writer.taken() == REPORT.as_bytes()
 }
 
 #[test]
@@ -87,8 +91,8 @@ fn a_report_goes_out_in_parts(rt: HostRuntime) {
 
 /// Whether a play whose writer fails after so many bytes tells of these, and they are the beginning of the report.
 fn is_written_up_to(heap: Global, mut writer: FakeWriter, most: usize) -> bool {
-    let report = JOINED_AND_UNDONE.report.as_bytes();
-    let mut reader = FakeReader::ending(JOINED_AND_UNDONE.script.as_bytes());
+    let report = REPORT.as_bytes();
+    let mut reader = FakeReader::ending(SCRIPT.as_bytes());
     let answer = play(&heap, &mut reader, &mut writer, Limits::usual());
     let expected = if most < report.len() {
         Err(PlayFault::WriteFault { written: most })
@@ -100,7 +104,7 @@ fn is_written_up_to(heap: Global, mut writer: FakeWriter, most: usize) -> bool {
 
 #[test]
 fn a_write_that_fails_at_any_byte_tells_what_went_out(rt: HostRuntime) {
-    assert!(rt; JOINED_AND_UNDONE.report.len() == 65);
+    assert!(rt; REPORT.len() == 65);
     for count in 0..66usize {
         let writer = FakeWriter::new(rt.alloc(), count);
         let is_told = is_written_up_to(rt.alloc(), writer, count);

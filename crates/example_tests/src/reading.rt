@@ -1,0 +1,149 @@
+//! What a line of a file gives its case. A line is a mark, a space and a text; one of no such form ends the run.
+use crate::case::Case;
+use bench_core::Limits;
+use std::io::ErrorKind;
+use std::{fs, io};
+
+/// What is told of a line of no form.
+fn no_form() -> io::Error {
+    io::Error::from(ErrorKind::InvalidData)
+}
+
+fn number(text: &str) -> io::Result<usize> {
+    match text.parse::<usize>() {
+        Ok(number) => Ok(number),
+        Err(_) => Err(no_form()),
+    }
+}
+
+/// Puts bytes that are spelled by two hexadecimal digits each.
+fn put_bytes(bytes: &mut Vec<u8>, spelled: &str) -> io::Result<()> {
+    for digits in spelled.split(' ') {
+        let Ok(byte) = u8::from_str_radix(digits, 16) else {
+            return Err(no_form());
+        };
+        bytes.push(byte)?;
+    }
+    Ok(())
+}
+
+/// Puts the text of `N TEXT` N times, each with this end.
+fn put_repeated(bytes: &mut Vec<u8>, spelled: &str, end: &str) -> io::Result<()> {
+    let Some((times, text)) = spelled.split_once(' ') else {
+        return Err(no_form());
+    };
+    for _ in 0..number(times)? {
+        bytes.extend_from_slice(text.as_bytes())?;
+        bytes.extend_from_slice(end.as_bytes())?;
+    }
+    Ok(())
+}
+
+/// Puts what a line of this form gives: a line, a text without its end, bytes, a text or a line many
+/// times, or a file.
+fn put(rt: &HostRuntime, bytes: &mut Vec<u8>, form: &str, text: &str) -> io::Result<()> {
+    match form {
+        "" => {
+            bytes.extend_from_slice(text.as_bytes())?;
+            bytes.push(b'\n')?;
+        }
+        "-" => bytes.extend_from_slice(text.as_bytes())?,
+        "x" => put_bytes(bytes, text)?,
+        "*" => put_repeated(bytes, text, "")?,
+        "l" => put_repeated(bytes, text, "\n")?,
+        "@" => bytes.extend_from_slice(&fs::read(rt, text)?)?,
+        _ => return Err(no_form()),
+    }
+    Ok(())
+}
+
+/// Puts a text in the place of the first part of the input that is the case's.
+fn replace(case: &mut Case, by: &str) -> io::Result<()> {
+    let Ok(text) = str::from_utf8(case.whole_input()) else {
+        return Err(no_form());
+    };
+    if !text.contains(case.part.as_str()) {
+        return Err(no_form());
+    }
+    let altered = text.replacen(case.heap, case.part.as_str(), by, 1)?;
+    case.altered = Some(altered.into_bytes());
+    Ok(())
+}
+
+/// The limits that four numbers spell.
+fn limits(spelled: &str) -> io::Result<Limits> {
+    let mut numbers = [1u64; 4];
+    let mut words = spelled.split(' ');
+    for number in &mut numbers {
+        match words.next().unwrap_or("").parse::<u64>() {
+            Ok(spelled) => *number = spelled,
+            Err(_) => return Err(no_form()),
+        }
+    }
+    let [acts, entries, clock, messages] = numbers;
+    Limits::new(acts, entries, clock, messages).ok_or(no_form())
+}
+
+/// Sets how the streams and the bench are.
+fn set(case: &mut Case, text: &str) -> io::Result<()> {
+    let (name, rest) = text.split_once(' ').unwrap_or((text, ""));
+    match name {
+        "fails" => case.fails = true,
+        "begins" => case.begins = true,
+        "room" => case.room = number(rest)?,
+        "limits" => case.limits = limits(rest)?,
+        "front" => case.front = number(rest)?,
+        _ => return Err(no_form()),
+    }
+    Ok(())
+}
+
+fn put_word(case: &mut Case, word: &str) -> io::Result<()> {
+    case.words.push(String::from_str(case.heap, word)?)?;
+    Ok(())
+}
+
+fn put_words(case: &mut Case, text: &str) -> io::Result<()> {
+    for word in text.split(' ') {
+        put_word(case, word)?;
+    }
+    Ok(())
+}
+
+/// The status that the text spells.
+fn status(text: &str) -> io::Result<u8> {
+    match text.parse::<u8>() {
+        Ok(status) => Ok(status),
+        Err(_) => Err(no_form()),
+    }
+}
+
+/// Puts what the line gives to the input, the output or the errors.
+fn put_in_stream(rt: &HostRuntime, case: &mut Case, mark: &str, text: &str) -> io::Result<()> {
+    if let Some(form) = mark.strip_prefix('<') {
+        return put(rt, case.own_input(), form, text);
+    }
+    if let Some(form) = mark.strip_prefix('>') {
+        return put(rt, &mut case.output, form, text);
+    }
+    match mark.strip_prefix('!') {
+        Some(form) => put(rt, &mut case.errors, form, text),
+        None => Err(no_form()),
+    }
+}
+
+/// Takes a line of a file into its case.
+pub fn read_line(rt: &HostRuntime, case: &mut Case, line: &str) -> io::Result<()> {
+    let (mark, text) = line.split_once(' ').unwrap_or((line, ""));
+    match mark {
+        "" | "#" => {}
+        "$" => put_words(case, text)?,
+        "$+" => put_word(case, text)?,
+        "?" => case.status = status(text)?,
+        ":" => set(case, text)?,
+        "-" => case.part = String::from_str(case.heap, text)?,
+        "+" => replace(case, text)?,
+        _ => put_in_stream(rt, case, mark, text)?,
+    }
+    Ok(())
+}
