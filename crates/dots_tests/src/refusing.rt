@@ -17,7 +17,9 @@ fn refuses_the_one_request_that_is_named(rt: HostRuntime) {
     holds!(&rt, length_of_new(&heap) == Some(0));
     holds!(&rt, length_of_new(&heap).is_none());
     holds!(&rt, length_of_new(&heap) == Some(0));
-    holds!(&rt, heap.requests() == 3);
+    holds!(&rt, (heap.requests(), heap.bytes()) == (3, 3));
+    heap.refuse_none();
+    holds!(&rt, (heap.requests(), heap.bytes()) == (0, 0));
 }
 
 #[test]

@@ -1,14 +1,17 @@
-//! Inverses: what each step destroyed is kept to take it back, and nothing more.
-use crate::node::{Ask, Sent, Side, USUAL};
+//! Inverses: what each step destroyed is kept to take it back, and nothing more, nor another call's record that would serve as
+//! well. A bench lends them for looking.
+use crate::benches::{Heap, played};
+use crate::rows::holds_at;
+use bench_core::{Bench, Inverse, Limits};
 use dots_core::Dot;
-use node_core::{Inverse, Meter, Node};
-use payload_core::{Delivered, Entry, Forgotten, Left, OldPart, Payload};
+use payload_core::{Delivered, Entry, Forgotten, Left, OldPart};
 use replica_core::{Change, Status};
-use std::alloc::{Allocator, Global};
+use std::alloc::Allocator;
 use std::process::Abort;
 use test_alloc::Refusing;
 
-type Heap = Refusing<Global>;
+/// The last of 32 names.
+const LAST: u16 = 31;
 
 /// An entry that left: the clock of its own dot, whether it stood in the delta, and whether its dot did.
 #[derive(Clone, Copy)]
@@ -18,7 +21,7 @@ struct Stood {
     in_delta: bool,
 }
 
-/// What is kept of a step; the dots are those of the node there, by their clocks.
+/// What is kept of a step of the first node; the names and the dots of others are those of the last one, dots by their clocks.
 #[derive(Clone, Copy)]
 enum Told {
     Join,
@@ -61,7 +64,7 @@ fn are_left<A: Allocator>(lefts: &[Left<A>], told: &[Stood]) -> bool {
 }
 
 fn is_there(dot: Dot, clock: u64) -> bool {
-    dot.name == Side::There.name() && dot.clock == clock
+    dot.name == LAST && dot.clock == clock
 }
 
 fn are_dots(dots: &[Dot], clocks: &[u64]) -> bool {
@@ -84,7 +87,7 @@ fn are_parts<A: Allocator>(parts: &[OldPart<A>], clocks: &[u64]) -> bool {
     parts.len() == clocks.len()
         && parts.iter().zip(clocks.iter()).all(|(old, clock)| {
             let OldPart { name, part } = old;
-            *name == Side::There.name() && part.clock == *clock && part.cloud.is_empty()
+            *name == LAST && part.clock == *clock && part.cloud.is_empty()
         })
 }
 
@@ -135,16 +138,14 @@ fn is_change<A: Allocator>(change: &Change<A>, told: Told) -> bool {
         },
         Change::Deliver(delivered) => is_delivered(delivered, told),
         Change::Up { name, before } => match told {
-            Told::Up(status) => *name == Side::There.name() && *before == status,
+            Told::Up(status) => *name == LAST && *before == status,
             _ => false,
         },
         Change::Down { name, before } => match told {
-            Told::Down(status) => *name == Side::There.name() && *before == status,
+            Told::Down(status) => *name == LAST && *before == status,
             _ => false,
         },
-        Change::Permdown { name, forgotten } => {
-            *name == Side::There.name() && is_forgotten(forgotten, told)
-        }
+        Change::Permdown { name, forgotten } => { *name == LAST && is_forgotten(forgotten, told) }
     }
 }
 
@@ -157,174 +158,154 @@ fn is_inverse<A: Allocator>(inverse: &Inverse<A>, told: Told) -> bool {
     }
 }
 
-/// Own steps: an entry that was not sent, one that was, and the entries of a process.
-const OWN: [(Ask, Told); 13] = [
-    (Ask::Join(1), Told::Join),
-    (
-        Ask::Update(1),
-        Told::Update(Stood {
-            clock: 1,
-            unsent: true,
-            in_delta: true,
-        }),
-    ),
-    (Ask::Broadcast, Told::Broadcast),
-    (
-        Ask::Update(1),
-        Told::Update(Stood {
-            clock: 2,
+/// What the last node sends: a join, that its process left, and a request. Then the steps of the first: own ones, of entries
+/// that were sent and that were not; and those on what the last one sent.
+const SCRIPT: &str = "nodes a b c d e f g h i j k l m n o p q r s t u v w x y z aa ab ac ad ae af
+af join 1 r bob desk
+af broadcast
+af leave 1 r bob
+af broadcast
+af request
+a join 1 r alice phone
+a update 1 r alice away
+a broadcast
+a update 1 r alice away
+a leave 1 r alice
+a join 2 r alice phone
+a extract a
+a request
+a broadcast
+a join 2 s alice phone
+a leaveall 2
+a join 3 r alice phone
+a broadcast
+a leaveall 3
+a up af
+a deliver af 1
+a deliver af 1
+a down af
+a up af
+a up af
+a deliver af 2
+a down af
+a down af
+a permdown af
+a up af
+a down af
+a deliver af 1
+a permdown af
+a answer af 3
+";
+
+/// How many steps the last node takes first.
+const FIRST: usize = 5;
+
+/// What is kept of each step of the first node.
+const KEPT: &[Told] = &[
+    Told::Join,
+    Told::Update(Stood {
+        clock: 1,
+        unsent: true,
+        in_delta: true,
+    }),
+    Told::Broadcast,
+    Told::Update(Stood {
+        clock: 2,
+        unsent: false,
+        in_delta: false,
+    }),
+    Told::Leave(Stood {
+        clock: 3,
+        unsent: true,
+        in_delta: true,
+    }),
+    Told::Join,
+    Told::Sent,
+    Told::Sent,
+    Told::Broadcast,
+    Told::Join,
+    Told::LeaveAll(&[
+        Stood {
+            clock: 5,
             unsent: false,
             in_delta: false,
-        }),
-    ),
-    (
-        Ask::Leave(1),
-        Told::Leave(Stood {
-            clock: 3,
+        },
+        Stood {
+            clock: 6,
             unsent: true,
             in_delta: true,
-        }),
-    ),
-    (Ask::Join(2), Told::Join),
-    (Ask::Extract(Side::Here), Told::Sent),
-    (Ask::Request, Told::Sent),
-    (Ask::Broadcast, Told::Broadcast),
-    (Ask::JoinElsewhere(2), Told::Join),
-    (
-        Ask::LeaveAll(2),
-        Told::LeaveAll(&[
-            Stood {
-                clock: 5,
-                unsent: false,
-                in_delta: false,
-            },
-            Stood {
-                clock: 6,
-                unsent: true,
-                in_delta: true,
-            },
-        ]),
-    ),
-    (Ask::Join(3), Told::Join),
-    (Ask::Broadcast, Told::Broadcast),
+        },
+    ]),
+    Told::Join,
+    Told::Broadcast,
+    Told::LeaveAll(&[Stood {
+        clock: 9,
+        unsent: false,
+        in_delta: false,
+    }]),
+    Told::Up(None),
+    Told::Deliver {
+        joined: &[1],
+        left: &[],
+        clocks: &[0],
+    },
+    Told::Deliver {
+        joined: &[],
+        left: &[],
+        clocks: &[],
+    },
+    Told::Down(Some(Status::Up)),
+    Told::Up(Some(Status::Down)),
+    Told::Up(Some(Status::Up)),
+    Told::Deliver {
+        joined: &[],
+        left: &[1],
+        clocks: &[1],
+    },
+    Told::Down(Some(Status::Up)),
+    Told::Down(Some(Status::Down)),
+    Told::Permdown {
+        clock: 2,
+        entries: &[],
+    },
+    Told::Up(None),
+    Told::Down(Some(Status::Up)),
+    Told::Deliver {
+        joined: &[1],
+        left: &[],
+        clocks: &[0],
+    },
+    Told::Permdown {
+        clock: 1,
+        entries: &[1],
+    },
+    Told::Sent,
 ];
 
-/// Steps on what the node there sent first.
-const FIRST: [(Ask, Told); 3] = [
-    (Ask::Up(Side::There), Told::Up(None)),
-    (
-        Ask::Deliver(Side::There),
-        Told::Deliver {
-            joined: &[1],
-            left: &[],
-            clocks: &[0],
-        },
-    ),
-    (
-        Ask::Deliver(Side::There),
-        Told::Deliver {
-            joined: &[],
-            left: &[],
-            clocks: &[],
-        },
-    ),
-];
-
-/// Steps on what it sent after its process left.
-const SECOND: [(Ask, Told); 7] = [
-    (Ask::Down(Side::There), Told::Down(Some(Status::Up))),
-    (Ask::Up(Side::There), Told::Up(Some(Status::Down))),
-    (
-        Ask::Deliver(Side::There),
-        Told::Deliver {
-            joined: &[],
-            left: &[1],
-            clocks: &[1],
-        },
-    ),
-    (Ask::Down(Side::There), Told::Down(Some(Status::Up))),
-    (
-        Ask::Permdown(Side::There),
-        Told::Permdown {
-            clock: 2,
-            entries: &[],
-        },
-    ),
-    (Ask::Up(Side::There), Told::Up(None)),
-    (Ask::Down(Side::There), Told::Down(Some(Status::Up))),
-];
-
-/// Steps on its first message again.
-const AGAIN: [(Ask, Told); 2] = [
-    (
-        Ask::Deliver(Side::There),
-        Told::Deliver {
-            joined: &[1],
-            left: &[],
-            clocks: &[0],
-        },
-    ),
-    (
-        Ask::Permdown(Side::There),
-        Told::Permdown {
-            clock: 1,
-            entries: &[1],
-        },
-    ),
-];
-
-/// A step on its request.
-const ASKED: [(Ask, Told); 1] = [(Ask::Answer(Side::There), Told::Sent)];
-
-/// All of them, each with the message that its steps are given.
-const STEPS: [(Sent, &[(Ask, Told)]); 5] = [
-    (Sent::Joined, &OWN),
-    (Sent::Joined, &FIRST),
-    (Sent::Left, &SECOND),
-    (Sent::Joined, &AGAIN),
-    (Sent::Request, &ASKED),
-];
-
-/// Takes a step, and says whether its inverse has what is told.
-fn keeps<'a>(
-    node: &mut Node<'a, Heap>,
-    ask: Ask,
-    message: &Payload<&'a Heap>,
-    told: Told,
-    heap: &'a Heap,
-    rt: &impl Abort,
-) -> bool {
-    let step = ask.step(rt, heap);
-    let mut meter = Meter::new();
-    let inverse = node
-        .take(&step, Some(message), &mut meter)
-        .expect(rt, "an inverse");
-    let is_told = is_inverse(&inverse, told);
-    drop(inverse);
-    drop(step);
-    is_told
+/// Whether what the bench keeps of the step is what is told.
+fn keeps<'a>(bench: &Bench<'a, Heap>, number: u64, told: Told) -> bool {
+    match bench.way_back(number) {
+        Some(inverse) => is_inverse(inverse, told),
+        None => false,
+    }
 }
 
-fn each_keeps<'a>(
-    node: &mut Node<'a, Heap>,
-    sent: Sent,
-    rows: &[(Ask, Told)],
-    heap: &'a Heap,
-    rt: &impl Abort,
-) {
-    let message = sent.message(rt, heap);
-    for (ask, told) in rows {
-        holds!(rt, keeps(node, *ask, &message, *told, heap, rt));
+fn keeps_each<'a>(bench: &Bench<'a, Heap>, rt: &impl Abort) {
+    for (place, told) in KEPT.iter().enumerate() {
+        let number = (place + FIRST + 1) as u64;
+        holds_at(rt, keeps(bench, number, *told), number);
     }
-    drop(message);
+    holds!(rt, bench.remaining().len() == KEPT.len() + FIRST);
+}
+
+fn plays<'a>(script: &str, heap: &'a Heap, rt: &impl Abort) {
+    let bench = played(script, Limits::usual(), heap, rt);
+    keeps_each(&bench, rt);
+    drop(bench);
 }
 
 #[test]
 fn each_inverse_keeps_what_its_step_destroyed(rt: HostRuntime) {
     let heap = Refusing::new(rt.alloc());
-    let mut node = Node::new(&heap, 0, USUAL);
-    for (sent, rows) in &STEPS {
-        each_keeps(&mut node, *sent, rows, &heap, &rt);
-    }
-    drop(node);
+    plays(SCRIPT, &heap, &rt);
 }

@@ -1,9 +1,14 @@
-//! Tests of `payload_core`, `replica_core`, `node_core` and `journal_core`, in a crate of their own, so that those crates are proved
-//! once. It has no code but these tests.
+//! Tests of the crates from `payload_core` to `bench_core` and of `diff_core`, in a crate of their own, so that those crates are
+//! proved once. It has no code but these tests.
 //!
-//! Each says what no clause can: that calls succeed with memory, what a refusal of memory leaves, which calls take none, and
-//! whose memory is taken; and worked rows, for whether the clauses say what was meant. `words` comes first, whose helpers the
-//! others use.
+//! Each says what a call alone can show and no clause says: that calls succeed with memory, what a refusal of memory leaves,
+//! which calls take none, whose memory is taken, and what an inverse keeps. Rows of calls with their replies, lists and clocks
+//! are data of `example_tests`, and cost no proof there.
+//!
+//! In the order to read them: `rows`, assertions; `benches`, from a script to a bench that was asked its acts, which prepares
+//! most tests; `payloads`, words, entries and messages; `journals`, loans of inverses; `inverses`, what each step keeps; `undone`,
+//! nodes and replicas taken back; `memory` and `unwinds`, what refused memory leaves of a bench; `costs`, the bytes of a step;
+//! `wide`, large values; `reads`, the calls that take no memory; `names`, `swaps`, `lists` and `laws`.
 #![tactic(auto)]
 
 /// An assertion as a call: it is told by its own words. An `assert!` in its place is an exit more where much is live.
@@ -15,14 +20,32 @@ macro_rules! holds {
 }
 
 #[cfg(test)]
+mod benches;
+#[cfg(test)]
+mod costs;
+#[cfg(test)]
 mod inverses;
 #[cfg(test)]
-mod journal;
+mod journals;
 #[cfg(test)]
-mod node;
+mod laws;
 #[cfg(test)]
-mod replica;
+mod lists;
+#[cfg(test)]
+mod memory;
+#[cfg(test)]
+mod names;
+#[cfg(test)]
+mod payloads;
+#[cfg(test)]
+mod reads;
 #[cfg(test)]
 mod rows;
 #[cfg(test)]
-mod words;
+mod swaps;
+#[cfg(test)]
+mod undone;
+#[cfg(test)]
+mod unwinds;
+#[cfg(test)]
+mod wide;

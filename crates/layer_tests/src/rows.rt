@@ -1,5 +1,5 @@
-//! Assertions in loops over tables: each names its row. They stand here, and not in the loops, since an assertion with a
-//! message is dear to prove where much is live.
+//! Assertions: each names its row. They stand here, and not where they are made, since an assertion with a message is dear to
+//! prove where much is live.
 use std::process::Abort;
 
 /// Stops where it is not so, and names the row.

@@ -1,5 +1,5 @@
-//! An allocator for the tests of this workspace: it hands each request on to an inner one, counts it, and refuses the
-//! n-th request, or all from the n-th on, as a test asks.
+//! An allocator for the tests of this workspace: it hands each request on to an inner one, counts it and its bytes, and
+//! refuses the n-th request, or all from the n-th on, as a test asks.
 //!
 //! It uses std alone. Only tests use it; those of its own stand in `dots_tests`.
 #![tactic(auto)]
@@ -9,11 +9,13 @@ ghost use Rattle.std.specs.Prelude.{◌≡◌};
 use std::alloc::{AllocError, Allocator};
 use std::sync::atomic::{AtomicU64, Ordering};
 
-/// The number of requests made since the count last began at 0, and the numbers of the first and the last that are
-/// refused. Requests are numbered from 1, so a last of 0 refuses none. They are atomic, since threads share them.
+/// The number of requests made since the count last began at 0, the bytes that they asked for, and the numbers of the first
+/// and the last that are refused. Requests are numbered from 1, so a last of 0 refuses none. They are atomic, since threads
+/// share them.
 #[derive(Drop)]
 struct Requests {
     made: AtomicU64,
+    bytes: AtomicU64,
     first: AtomicU64,
     last: AtomicU64,
 }
@@ -36,6 +38,7 @@ impl<B: Allocator> Refusing<B> {
             inner,
             requests: Requests {
                 made: AtomicU64::new(0),
+                bytes: AtomicU64::new(0),
                 first: AtomicU64::new(0),
                 last: AtomicU64::new(0),
             },
@@ -59,6 +62,7 @@ impl<B: Allocator> Refusing<B> {
 
     fn refuse(&self, first: u64, last: u64) {
         self.requests.made.store(0, Ordering::SeqCst);
+        self.requests.bytes.store(0, Ordering::SeqCst);
         self.requests.first.store(first, Ordering::SeqCst);
         self.requests.last.store(last, Ordering::SeqCst);
     }
@@ -66,6 +70,11 @@ impl<B: Allocator> Refusing<B> {
     /// How many requests were made, refused ones too, since the last call that counts from 0 again.
     pub fn requests(&self) -> u64 {
         self.requests.made.load(Ordering::SeqCst)
+    }
+
+    /// How many bytes these requests asked for.
+    pub fn bytes(&self) -> u64 {
+        self.requests.bytes.load(Ordering::SeqCst)
     }
 }
 
@@ -78,8 +87,9 @@ impl<B: Allocator> Drop for Refusing<B> {
     }
 }
 
-// Counts one more request, and says whether it is refused.
-fn is_refused(requests: &Requests) -> bool {
+// Counts one more request, of so many bytes, and says whether it is refused.
+fn is_refused(requests: &Requests, size: usize) -> bool {
+    requests.bytes.fetch_add(size as u64, Ordering::SeqCst);
     let number = requests
         .made
         .fetch_add(1, Ordering::SeqCst)
@@ -93,7 +103,7 @@ unsafe impl<B: Allocator> Allocator for Refusing<B> {
     ghost dealloc_token = { λ heap ty ptr. B.dealloc_token heap.inner ty ptr };
 
     fn allocate(&self, size: usize, align: usize) -> Result<*mut u8, AllocError> {
-        if is_refused(&self.requests) {
+        if is_refused(&self.requests, size) {
             return Err(AllocError);
         }
         self.inner.allocate(size, align)

@@ -1,0 +1,59 @@
+//! How many bytes a step and its undo ask for, however much the node holds: no node is copied, and no step is run again.
+use crate::benches::{Calls, Heap, ask, calls_of, played};
+use bench_core::{Bench, Limits};
+use std::process::Abort;
+use test_alloc::Refusing;
+
+/// A thousand joins of one node.
+fn joins<'a>(heap: &'a Heap, rt: &impl Abort) -> String<&'a Heap> {
+    let mut text = String::new(heap);
+    text.push_str("nodes a").expect(rt, "memory");
+    for pid in 1..1_001 {
+        write!(text, "\na join {pid} r alice phone").expect(rt, "memory");
+    }
+    text
+}
+
+/// How many bytes the calls asked for. They asked a few times.
+fn bytes_of<'a>(
+    bench: &mut Bench<'a, Heap>,
+    calls: &Calls<'a>,
+    heap: &'a Heap,
+    rt: &impl Abort,
+) -> u64 {
+    heap.refuse_none();
+    ask(bench, calls, rt);
+    holds!(rt, heap.requests() < 65);
+    heap.bytes()
+}
+
+/// How many bytes a copy of the node asks for.
+fn bytes_of_copy<'a>(bench: &Bench<'a, Heap>, heap: &'a Heap, rt: &impl Abort) -> u64 {
+    let node = bench.node(0).expect(rt, "a node");
+    heap.refuse_none();
+    let copy = node.try_copy().ok();
+    let bytes = heap.bytes();
+    holds!(rt, copy.is_some());
+    drop(copy);
+    bytes
+}
+
+#[test]
+fn a_join_and_its_undo_ask_for_few_bytes(rt: HostRuntime) {
+    let heap = Refusing::new(rt.alloc());
+    let text = joins(&heap, &rt);
+    let mut bench = played(&text, Limits::usual(), &heap, &rt);
+    let calls = calls_of(
+        "nodes a\na join 1001 r alice phone\na undo 1001",
+        &heap,
+        &rt,
+    );
+    let bytes = bytes_of(&mut bench, &calls, &heap, &rt);
+    holds!(
+        &rt,
+        bytes.saturating_mul(10) < bytes_of_copy(&bench, &heap, &rt)
+    );
+    drop(calls);
+    drop(text);
+    drop(bench);
+}

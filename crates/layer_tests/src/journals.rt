@@ -1,0 +1,150 @@
+//! Journals: how a loan of an inverse ends, and what there is memory for. A journal reads no inverse, so that of any step
+//! stands beside each.
+ghost use Rattle.std.specs.Prelude.{◌≡◌, ◌++◌, ◌∷◌, [], None, Some};
+ghost use Rattle.node_core.specs.Operations.{plain};
+ghost use Rattle.node_core.specs.Inverses.{plain_inverse};
+ghost use Rattle.journal_core.specs.Journals.{first_consequence};
+ghost use Rattle.journal_core.specs.Holdings.{AreAllHeld, CanBeKept, kepts, without_held};
+
+use crate::benches::Heap;
+use journal_core::{Journal, laws};
+use node_core::{Inverse, Meter, Node, NodeLimits, Step};
+use std::process::Abort;
+use test_alloc::Refusing;
+
+/// A journal of two nodes, without a step.
+fn opened<'a>(heap: &'a Heap, rt: &impl Abort) -> Journal<'a, Heap>
+    ensures nodes { result.nodes ≡ 2 }
+    ensures steps { result.steps ≡ [] }
+{
+    Journal::new(heap, 2).expect(rt, "a journal")
+}
+
+/// The inverse of a step that some node took.
+fn inverse<'a>(heap: &'a Heap, rt: &impl Abort) -> Inverse<&'a Heap> {
+    let limits = NodeLimits {
+        entries: 10,
+        clock: 10,
+        messages: 10,
+    };
+    let mut node = Node::new(heap, 0, limits);
+    let step = Step::Up { name: 1 };
+    let taken = node.take(&step, None, &mut Meter::new());
+    let inverse = taken.expect(rt, "an inverse");
+    drop(step);
+    drop(node);
+    inverse
+}
+
+/// Whether the step is kept.
+fn keeps<'a>(
+    journal: &mut Journal<'a, Heap>,
+    step: Step<&'a Heap>,
+    inverse: Inverse<&'a Heap>,
+    rt: &impl Abort,
+)
+    requires { CanBeKept journal.old 1 0 (plain step) }
+    ensures nodes { journal.new.nodes ≡ journal.old.nodes }
+    ensures steps { journal.new.steps ≡ journal.old.steps ++ (record {
+      kept = record { number = 1; node = 0; step = plain step.entry };
+      inverse = Some (plain_inverse inverse.entry);
+    }) ∷ [] }
+{
+    let is_kept = match journal.keep(1, 0, step, inverse) {
+        Ok(()) => true,
+        Err((step, inverse, _oom)) => {
+            drop(step);
+            drop(inverse);
+            false
+        }
+    };
+    assert!(rt; is_kept);
+}
+
+fn lends_and_puts_back<'a>(journal: &mut Journal<'a, Heap>, number: u64, rt: &impl Abort)
+    requires { AreAllHeld journal.old.steps }
+    ensures { journal.new ≡ journal.old }
+{
+    laws::loan_law();
+    let inverse = journal.lend(number).expect(rt, "a step");
+    journal.put_back(number, inverse);
+}
+
+fn lends_and_takes_out<'a>(journal: &mut Journal<'a, Heap>, number: u64, rt: &impl Abort)
+    requires held { AreAllHeld journal.old.steps }
+    requires free { first_consequence (kepts journal.old.steps) number ≡ None }
+    ensures nodes { journal.new.nodes ≡ journal.old.nodes }
+    ensures steps { journal.new.steps ≡ without_held journal.old.steps number }
+{
+    laws::loan_law();
+    let inverse = journal.lend(number).expect(rt, "a step");
+    drop(inverse);
+    journal.take_out(number);
+}
+
+/// Whether step 1, of node 0, is the only one, by each way to look.
+fn has_first<'a>(journal: &Journal<'a, Heap>) -> bool {
+    match (journal.at(0), journal.find(1), journal.steps().next()) {
+        (Some(first), Some(found), Some(next)) => first.number == 1
+            && found.node == 0
+            && next.number == 1
+            && journal.inverse(1).is_some()
+            && journal.first_consequence(1) == None,
+        _ => false,
+    }
+}
+
+/// Whether no step is there.
+fn is_empty<'a>(journal: &Journal<'a, Heap>) -> bool {
+    journal.len() == 0 && journal.find(1).is_none() && journal.steps().next().is_none()
+}
+
+/// Keeps a send, for which room was made, lends its inverse, which is put back, and lends it again, and takes the send out.
+fn keeps_and_lends<'a>(journal: &mut Journal<'a, Heap>, inverse: Inverse<&'a Heap>, rt: &impl Abort)
+    requires nodes { journal.old.nodes ≡ 2 }
+    requires steps { journal.old.steps ≡ [] }
+{
+    keeps(journal, Step::Broadcast, inverse, rt);
+    lends_and_puts_back(journal, 1, rt);
+    holds!(rt, has_first(journal));
+    lends_and_takes_out(journal, 1, rt);
+    holds!(rt, is_empty(journal));
+}
+
+fn makes_room<'a>(journal: &mut Journal<'a, Heap>) -> bool
+    requires { journal.old.nodes ≡ 2 }
+    ensures nodes { journal.new.nodes ≡ 2 }
+    ensures steps { journal.new.steps ≡ journal.old.steps }
+{
+    let is_made = journal.make_room(0, &Step::Broadcast).is_ok();
+    is_made && journal.make_room(1, &Step::Up { name: 0 }).is_ok()
+}
+
+/// A step for which room was made is kept without memory, and a loan takes none and ends in two ways. Room that was made for a
+/// step stays while room is made for another.
+#[test]
+fn a_step_with_room_and_its_loans_take_no_memory(rt: HostRuntime) {
+    let heap = Refusing::new(rt.alloc());
+    let mut journal = opened(&heap, &rt);
+    let inverse = inverse(&heap, &rt);
+    holds!(&rt, makes_room(&mut journal));
+    heap.refuse_from(1);
+    keeps_and_lends(&mut journal, inverse, &rt);
+    holds!(&rt, heap.requests() == 0);
+    drop(journal);
+}
+
+/// Without room it comes back.
+#[test]
+fn a_step_that_is_refused_memory_is_not_kept(rt: HostRuntime) {
+    let heap = Refusing::new(rt.alloc());
+    let mut journal = opened(&heap, &rt);
+    let inverse = inverse(&heap, &rt);
+    heap.refuse_from(1);
+    let is_opened = Journal::new(&heap, 2).err().is_none();
+    holds!(&rt, is_opened == (heap.requests() == 0));
+    holds!(&rt, journal.make_room(0, &Step::Broadcast).is_err());
+    let is_kept = journal.keep(1, 0, Step::Broadcast, inverse).ok().is_some();
+    holds!(&rt, !is_kept && journal.len() == 0);
+    drop(journal);
+}

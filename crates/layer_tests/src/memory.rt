@@ -1,0 +1,315 @@
+//! What calls of a bench leave where memory is refused. The calls are those of a script; another bench that was asked the same
+//! ones, with memory, says what there was before each.
+use crate::benches::{Calls, Heap, are_same, calls_of, limits_of, opened, played};
+use crate::rows::holds;
+use bench_core::{Act, Bench, Fault, Limits, Reply, Step};
+use dots_core::NameSet;
+use std::process::Abort;
+use test_alloc::Refusing;
+
+/// All twelve steps, each of which is taken back by number; steps back; and refusals.
+pub const SCRIPT: &str = "nodes a b
+consoles c
+b join 9 r bob desk
+b broadcast
+b request
+b permdown a
+a join 1 r alice phone
+a join 1 r alice phone
+c undo 4
+a join 1 r alice phone
+a join 1 s alice phone
+a up b
+c undo 7
+a up b
+a deliver b 1
+c undo 9
+a deliver b 1
+a deliver b 2
+a update 1 r alice away
+c undo 11
+a update 1 r alice away
+a leave 1 r alice
+c undo 13
+a leaveall 1
+c undo 14
+a broadcast
+c undo 15
+a extract a b
+c undo 16
+a request
+c undo 17
+a answer b 2
+c undo 18
+a broadcast
+a leave 1 r alice
+c undo 20
+a update 1 r alice home
+c undo 21
+a leaveall 1
+c undo 22
+a answer b 2
+a down b
+c undo 24
+a down b
+a permdown b
+c undo 26
+a permdown b
+b up a
+b deliver a 1
+b deliver a 2
+a update 1 s alice away
+a broadcast
+b deliver a 3
+c undo 33
+b answer a 1
+c undo 5
+c undo 9
+c undo 99
+b deliver a 3
+a leave 2 r bob
+a broadcast
+a deliver a 1
+b deliver a 7
+b permdown a
+b up b
+b back b
+b back b
+b back b
+c back a
+c back b
+c back b
+";
+
+/// A request for memory that is refused, alone or with all that follow.
+#[derive(Clone, Copy)]
+enum Refusal {
+    Alone(u64),
+    From(u64),
+}
+
+/// Asks a bench the call, for which memory was told to be refused. Where it is refused, the bench is as another that was asked
+/// all calls before, with memory; then both are asked, with memory, and are the same. Whether it was refused.
+fn is_refused<'a>(
+    bench: &mut Bench<'a, Heap>,
+    other: &mut Bench<'a, Heap>,
+    call: &(u16, Act<&'a Heap>),
+    heap: &'a Heap,
+    rt: &impl Abort,
+) -> bool {
+    let (actor, act) = call;
+    let refused = Reply::Refused(Fault::OutOfMemory);
+    let is_refused = bench.act(*actor, act) == refused;
+    heap.refuse_none();
+    if is_refused {
+        holds!(rt, are_same(bench, other));
+        bench.act(*actor, act);
+    }
+    holds!(rt, other.act(*actor, act) != refused);
+    holds!(rt, are_same(bench, other));
+    is_refused
+}
+
+/// Asks each of the calls so. Whether one was refused.
+fn ask_refused<'a>(
+    bench: &mut Bench<'a, Heap>,
+    other: &mut Bench<'a, Heap>,
+    calls: &Calls<'a>,
+    refusal: Refusal,
+    heap: &'a Heap,
+    rt: &impl Abort,
+) -> bool {
+    let mut is_met = false;
+    for call in calls {
+        match refusal {
+            Refusal::Alone(number) => heap.refuse_only(number),
+            Refusal::From(number) => heap.refuse_from(number),
+        }
+        is_met |= is_refused(bench, other, call, heap, rt);
+    }
+    is_met
+}
+
+/// The same of two new benches. In the end the meter tells the steps that were taken: an undo, a step back and a refusal count
+/// nothing.
+fn is_met<'a>(calls: &Calls<'a>, refusal: Refusal, heap: &'a Heap, rt: &impl Abort) -> bool {
+    let mut bench = opened(SCRIPT, Limits::usual(), heap, rt);
+    let mut other = opened(SCRIPT, Limits::usual(), heap, rt);
+    let is_met = ask_refused(&mut bench, &mut other, calls, refusal, heap, rt);
+    let meter = bench.meter();
+    drop(other);
+    drop(bench);
+    holds!(rt, meter == 34);
+    is_met
+}
+
+/// Each call with its first, second, .. request for memory refused, alone and with all that follow, until none is met.
+#[test]
+fn a_call_that_is_refused_memory_changes_nothing(rt: HostRuntime) {
+    let heap = Refusing::new(rt.alloc());
+    let calls = calls_of(SCRIPT, &heap, &rt);
+    let mut most = 0;
+    for number in 1..100 {
+        let is_one = is_met(&calls, Refusal::From(number), &heap, &rt);
+        holds!(
+            &rt,
+            is_met(&calls, Refusal::Alone(number), &heap, &rt) == is_one
+        );
+        if !is_one {
+            break;
+        }
+        most = number;
+    }
+    drop(calls);
+    holds!(&rt, 0 < most && most < 99);
+}
+
+/// The limits of a bench, acts after which no step can be taken, or nothing be recorded, and acts that are refused then.
+struct Full {
+    limits: [u64; 4],
+    script: &'static str,
+    refused: &'static str,
+    fault: Fault,
+}
+
+const HELD: Fault = Fault::HasConsequence {
+    step: 1,
+    held_by: 2,
+};
+
+/// One place is too few for a step; there is none for a step, nor for a refusal, also that of an undo with a consequence, or
+/// of one that was made; and there is none at all from the first.
+const FULL: &[Full] = &[
+    Full {
+        limits: [3, 10, 10, 10],
+        script: "nodes a b\na join 1 r alice phone",
+        refused: "nodes a b\na join 2 r bob desk\na broadcast\nb extract a\nb down b",
+        fault: Fault::HistoryFull,
+    },
+    Full {
+        limits: [2, 10, 10, 10],
+        script: "nodes a b\na join 1 r alice phone",
+        refused: "nodes a b\nb update 1 r alice away",
+        fault: Fault::HistoryFull,
+    },
+    Full {
+        limits: [2, 10, 10, 10],
+        script: "nodes a b\na join 1 r alice phone",
+        refused: "nodes a b\na undo 0\na undo 2",
+        fault: Fault::NoSuchStep,
+    },
+    Full {
+        limits: [2, 10, 10, 10],
+        script: "nodes a b\na join 1 r alice phone",
+        refused: "nodes a b\na back b",
+        fault: Fault::NothingToUndo,
+    },
+    Full {
+        limits: [4, 10, 10, 10],
+        script: "nodes a b\na join 1 r alice phone\na broadcast",
+        refused: "nodes a b\nb undo 1",
+        fault: HELD,
+    },
+    Full {
+        limits: [2, 10, 10, 10],
+        script: "nodes a b\na join 1 r alice phone\na undo 1",
+        refused: "nodes a b\na undo 1",
+        fault: Fault::AlreadyUndone,
+    },
+    Full {
+        limits: [2, 10, 10, 10],
+        script: "nodes a b\na join 1 r alice phone\na undo 1",
+        refused: "nodes a b\na back a",
+        fault: Fault::NothingToUndo,
+    },
+    Full {
+        limits: [1, 10, 10, 10],
+        script: "nodes a b",
+        refused: "nodes a b\na join 1 r alice phone",
+        fault: Fault::HistoryFull,
+    },
+];
+
+/// Asks the calls with all memory refused: each is refused for this, and asks for none.
+fn are_free<'a>(
+    bench: &mut Bench<'a, Heap>,
+    calls: &[(u16, Act<&'a Heap>)],
+    fault: Fault,
+    heap: &'a Heap,
+    rt: &impl Abort,
+) {
+    heap.refuse_from(1);
+    for (actor, act) in calls {
+        holds!(rt, bench.act(*actor, act) == Reply::Refused(fault));
+    }
+    holds!(rt, heap.requests() == 0);
+    heap.refuse_none();
+}
+
+/// Plays and asks so, which is recorded nowhere.
+fn refuse_for_free<'a>(full: &Full, heap: &'a Heap, rt: &impl Abort) {
+    let limits = limits_of(full.limits, rt);
+    let mut bench = played(full.script, limits, heap, rt);
+    let before = played(full.script, limits, heap, rt);
+    let calls = calls_of(full.refused, heap, rt);
+    are_free(&mut bench, &calls, full.fault, heap, rt);
+    holds(rt, are_same(&bench, &before), full.refused);
+    drop(calls);
+    drop(before);
+    drop(bench);
+}
+
+#[test]
+fn a_refusal_without_a_place_takes_no_memory(rt: HostRuntime) {
+    let heap = Refusing::new(rt.alloc());
+    for full in FULL {
+        refuse_for_free(full, &heap, &rt);
+    }
+}
+
+/// Calls that name no node of two.
+fn unknown<'a>() -> [(u16, Act<&'a Heap>); 6] {
+    let names = NameSet::empty().with(5);
+    let answer = Step::Answer {
+        sender: 5,
+        number: 1,
+    };
+    [
+        (7, Act::Do(Step::Broadcast)),
+        (0, Act::Do(Step::Up { name: 5 })),
+        (0, Act::Do(Step::Extract { names })),
+        (0, Act::Do(answer)),
+        (0, Act::Back(2)),
+        (40, Act::Back(3)),
+    ]
+}
+
+/// Whether the calls are run, each refused since it names no node.
+fn run_unknown<'a>(bench: &mut Bench<'a, Heap>, calls: &[(u16, Act<&'a Heap>)]) -> bool {
+    match bench.run(calls) {
+        Ok(replies) => {
+            let expected = [Reply::Refused(Fault::UnknownNode); 6];
+            let are_expected = replies.as_slice() == expected.as_slice();
+            drop(replies);
+            are_expected
+        }
+        Err(_) => false,
+    }
+}
+
+/// A run has all its replies, or does nothing where their list is refused.
+#[test]
+fn a_number_that_is_no_nodes_is_refused(rt: HostRuntime) {
+    let heap = Refusing::new(rt.alloc());
+    let calls = unknown();
+    let mut bench = opened("nodes a b", limits_of([6, 1, 1, 1], &rt), &heap, &rt);
+    heap.refuse_only(1);
+    holds!(&rt, bench.run(&calls).err().is_some());
+    holds!(&rt, bench.history().len() == 0);
+    heap.refuse_none();
+    holds!(&rt, run_unknown(&mut bench, &calls));
+    holds!(&rt, bench.history().len() == 6);
+    are_free(&mut bench, &calls, Fault::UnknownNode, &heap, &rt);
+    drop(calls);
+    drop(bench);
+}

@@ -1,0 +1,373 @@
+//! Words, entries, sets of entries, messages and outboxes.
+use crate::rows::holds;
+use dots_core::{Dot, DotSet, NameSet};
+use payload_core::{Entry, EntrySet, Outbox, OutboxFault, Payload, Word, WordFault};
+use std::alloc::{Allocator, Global};
+use std::process::Abort;
+use test_alloc::Refusing;
+
+type Heap = Refusing<Global>;
+
+/// A word, for which there is memory.
+pub fn word<A: Allocator + Clone>(rt: &impl Abort, alloc: A, text: &str) -> Word<A> {
+    Word::new(alloc, text).expect(rt, "a word")
+}
+
+/// An entry of process 7 under the topic `room`.
+fn entry<A: Allocator + Copy>(
+    rt: &impl Abort,
+    alloc: A,
+    name: u16,
+    clock: u64,
+    key: &str,
+) -> Entry<A> {
+    Entry {
+        dot: Dot { name, clock },
+        pid: 7,
+        topic: word(rt, alloc, "room"),
+        key: word(rt, alloc, key),
+        metadata: word(rt, alloc, "phone"),
+    }
+}
+
+/// Puts in an entry whose dot is not there.
+fn put<A: Allocator + Copy>(rt: &impl Abort, entries: &mut EntrySet<A>, entry: Entry<A>) {
+    assert!(rt; entries.get(entry.dot).is_none());
+    let is_in = entries.insert(entry).ok().is_some();
+    holds!(rt, is_in);
+}
+
+/// Node 0's entries of `alice` at the clocks 9 and 5, and node 31's of `bob` at the clock 1.
+fn three<A: Allocator + Copy>(rt: &impl Abort, alloc: A) -> EntrySet<A> {
+    let mut entries = EntrySet::new(alloc);
+    put(rt, &mut entries, entry(rt, alloc, 0, 9, "alice"));
+    put(rt, &mut entries, entry(rt, alloc, 31, 1, "bob"));
+    put(rt, &mut entries, entry(rt, alloc, 0, 5, "alice"));
+    entries
+}
+
+#[test]
+fn a_word_has_1_to_200_visible_bytes(rt: HostRuntime) {
+    let longest = "a".repeat(rt.alloc(), 200).expect(&rt, "a text");
+    for text in ["!", "~", "alice", longest.as_str()] {
+        holds!(&rt, word(&rt, rt.alloc(), text).as_str() == text);
+    }
+}
+
+#[test]
+fn another_text_is_a_bad_word(rt: HostRuntime) {
+    let longer = "a".repeat(rt.alloc(), 201).expect(&rt, "a text");
+    for text in ["", "a b", "a\n", "\u{7f}", "\u{e9}", longer.as_str()] {
+        let fault = Word::new(rt.alloc(), text).err();
+        holds(&rt, fault == Some(WordFault::BadWord), text);
+    }
+}
+
+/// A word takes one request, a text that is none takes none, and a copy none: it shares the bytes, and outlives its source.
+#[test]
+fn a_refused_word_is_out_of_memory(rt: HostRuntime) {
+    let heap = Refusing::new(rt.alloc());
+    let alice = word(&rt, &heap, "alice");
+    heap.refuse_from(1);
+    holds!(
+        &rt,
+        Word::new(&heap, "alice").err() == Some(WordFault::OutOfMemory)
+    );
+    holds!(
+        &rt,
+        Word::new(&heap, "a b").err() == Some(WordFault::BadWord)
+    );
+    let copy = alice.try_copy().expect(&rt, "a copy");
+    drop(alice);
+    holds!(&rt, copy.as_str() == "alice" && heap.requests() == 1);
+    drop(copy);
+}
+
+const IN_ORDER: [(&str, &str); 4] = [("B", "a"), ("a", "a!"), ("a!", "aa"), ("aa", "b")];
+
+#[test]
+fn words_are_ordered_by_their_bytes(rt: HostRuntime) {
+    for (lower, upper) in IN_ORDER {
+        let one = word(&rt, rt.alloc(), lower);
+        let other = word(&rt, rt.alloc(), upper);
+        holds(&rt, one < other && one != other && !one.same(&other), lower);
+        drop(one);
+        drop(other);
+    }
+}
+
+/// Whether the entry of `alice` at the clock 1 is that of this key at this clock, and is tracked under the key.
+fn compare<A: Allocator + Copy>(rt: &impl Abort, alloc: A, clock: u64, key: &str) -> (bool, bool) {
+    let alice = entry(rt, alloc, 0, 1, "alice");
+    let other = entry(rt, alloc, 0, clock, key);
+    let is_same = alice.same(&other);
+    let is_tracked = alice.is_tracked_as(7, &alice.topic, &other.key);
+    drop(alice);
+    drop(other);
+    (is_same, is_tracked)
+}
+
+#[test]
+fn entries_differ_by_dot_and_by_key(rt: HostRuntime) {
+    holds!(&rt, compare(&rt, rt.alloc(), 1, "alice") == (true, true));
+    holds!(&rt, compare(&rt, rt.alloc(), 2, "alice") == (false, true));
+    holds!(&rt, compare(&rt, rt.alloc(), 1, "bob") == (false, false));
+}
+
+/// Whether so many entries are of these names.
+fn has_only<A: Allocator + Copy>(
+    rt: &impl Abort,
+    entries: &EntrySet<A>,
+    names: NameSet,
+    count: usize,
+) -> bool {
+    let part = entries.only(names).expect(rt, "a part");
+    let is_whole = part.same(entries) == (count == entries.len());
+    let has_these = is_whole && part.len() == count && part.is_empty() == (count == 0);
+    drop(part);
+    has_these
+}
+
+/// The places of three entries, by rising dot.
+const PLACES: [(usize, u16, u64); 3] = [(0, 0, 5), (1, 0, 9), (2, 31, 1)];
+
+/// Whether the entry at each place is the one of its dot.
+fn rise_by_dot<A: Allocator>(entries: &EntrySet<A>) -> bool {
+    for (place, name, clock) in PLACES {
+        let dot = Dot { name, clock };
+        match (entries.at(place), entries.get(dot)) {
+            (Some(entry), Some(found)) if entry.dot == dot && found.dot == dot => {}
+            _ => return false,
+        }
+    }
+    entries.len() == 3 && entries.at(3).is_none()
+}
+
+/// Whether the entries of `alice` are found by name and process, at the least clock.
+fn finds_least<A: Allocator + Copy>(rt: &impl Abort, alloc: A, entries: &EntrySet<A>) -> bool {
+    let room = word(rt, alloc, "room");
+    let alice = word(rt, alloc, "alice");
+    let least = Dot { name: 0, clock: 5 };
+    let is_so = entries.find(0, 7, &room, &alice) == Some(least)
+        && entries.find(0, 8, &room, &alice) == None
+        && entries.find(31, 7, &room, &alice) == None;
+    drop(room);
+    drop(alice);
+    is_so
+}
+
+/// Takes out what is at the dot, and says whether that is an entry of this dot.
+fn takes_out<A: Allocator>(entries: &mut EntrySet<A>, dot: Dot) -> bool {
+    match entries.remove(dot) {
+        Some(entry) => {
+            let is_there = entry.dot == dot;
+            drop(entry);
+            is_there
+        }
+        None => false,
+    }
+}
+
+/// Its parts, its places and its finds; and what a removal leaves.
+#[test]
+fn a_set_of_entries_rises_by_dot(rt: HostRuntime) {
+    let mut entries = three(&rt, rt.alloc());
+    let all = NameSet::empty().with(0).with(31);
+    holds!(&rt, has_only(&rt, &entries, all, 3));
+    holds!(&rt, has_only(&rt, &entries, all.without(0), 1));
+    holds!(&rt, has_only(&rt, &entries, NameSet::empty().with(1), 0));
+    holds!(&rt, rise_by_dot(&entries));
+    holds!(&rt, finds_least(&rt, rt.alloc(), &entries));
+    holds!(&rt, !takes_out(&mut entries, Dot { name: 0, clock: 1 }));
+    holds!(&rt, entries.len() == 3);
+    holds!(&rt, takes_out(&mut entries, Dot { name: 0, clock: 5 }));
+    holds!(&rt, entries.len() == 2);
+    drop(entries);
+}
+
+/// Whether the insert of an entry whose dot is not there is refused, and gives the entry back.
+fn is_given_back<A: Allocator + Copy>(
+    rt: &impl Abort,
+    entries: &mut EntrySet<A>,
+    entry: Entry<A>,
+    copy: &Entry<A>,
+) -> bool {
+    assert!(rt; entries.get(entry.dot).is_none());
+    match entries.insert(entry) {
+        Ok(()) => false,
+        Err((given_back, _oom)) => {
+            let is_same = given_back.same(copy);
+            drop(given_back);
+            is_same
+        }
+    }
+}
+
+/// Puts in an entry with all memory refused: it comes back; and then, where room was made, another.
+fn puts_into_room<'a>(entries: &mut EntrySet<&'a Heap>, heap: &'a Heap, rt: &impl Abort) {
+    let one = entry(rt, heap, 0, 1, "alice");
+    let other = entry(rt, heap, 0, 1, "alice");
+    heap.refuse_from(1);
+    holds!(rt, is_given_back(rt, entries, one, &other));
+    heap.refuse_none();
+    holds!(rt, entries.make_room(1).is_ok());
+    heap.refuse_from(1);
+    put(rt, entries, other);
+}
+
+#[test]
+fn an_insert_into_room_takes_no_memory(rt: HostRuntime) {
+    let heap = Refusing::new(rt.alloc());
+    let mut entries = EntrySet::new(&heap);
+    puts_into_room(&mut entries, &heap, &rt);
+    holds!(&rt, entries.len() == 1 && heap.requests() == 0);
+    drop(entries);
+}
+
+/// A part's list, and what it grows by, is of the memory of the set that it is a part of. Its entries' words are shared.
+#[test]
+fn a_part_of_a_set_keeps_the_memory_of_its_set(rt: HostRuntime) {
+    let own = Refusing::new(rt.alloc());
+    let others = Refusing::new(rt.alloc());
+    let mut entries = EntrySet::new(&own);
+    put(&rt, &mut entries, entry(&rt, &others, 0, 1, "alice"));
+    let new = entry(&rt, &others, 0, 2, "bob");
+    own.refuse_none();
+    others.refuse_none();
+    let name = NameSet::empty().with(0);
+    let mut part = entries.only(name).expect(&rt, "a part");
+    holds!(&rt, (own.requests(), others.requests()) == (1, 0));
+    others.refuse_from(1);
+    holds!(&rt, part.make_room(100).is_ok());
+    put(&rt, &mut part, new);
+    holds!(&rt, (own.requests(), others.requests()) == (2, 0));
+    drop(part);
+    drop(entries);
+}
+
+/// The set of the dot of node 0 at this clock.
+fn seen_of<A: Allocator + Copy>(rt: &impl Abort, alloc: A, clock: u64) -> DotSet<A> {
+    let mut seen = DotSet::new(alloc);
+    let dot = Dot { name: 0, clock };
+    assert!(rt; dot.ok());
+    holds!(rt, seen.insert(dot).is_ok());
+    seen
+}
+
+/// A message of node 0 that has seen this dot and has no entry.
+fn message<'a>(heap: &'a Heap, clock: u64, rt: &impl Abort) -> Payload<&'a Heap> {
+    let seen = seen_of(rt, heap, clock);
+    Payload::new(0, seen, EntrySet::new(heap))
+}
+
+/// Whether the message falls into parts, of which the other is made.
+pub fn is_made_of_its_parts<'a>(message: Payload<&'a Heap>, other: &Payload<&'a Heap>) -> bool {
+    let (sender, seen, entries) = message.into_parts();
+    let made = Payload::new(sender, seen, entries);
+    let is_same = made.same(other);
+    drop(made);
+    is_same
+}
+
+/// Whether a copy falls into parts, of which the same is made.
+fn is_copied<'a>(message: &Payload<&'a Heap>) -> bool {
+    match message.try_copy() {
+        Ok(copy) => is_made_of_its_parts(copy, message),
+        Err(_) => false,
+    }
+}
+
+#[test]
+fn a_message_gives_its_parts(rt: HostRuntime) {
+    let heap = Refusing::new(rt.alloc());
+    let message = message(&heap, 4, &rt);
+    holds!(&rt, message.asked().is_none());
+    holds!(&rt, message.seen().contains(Dot { name: 0, clock: 4 }));
+    holds!(&rt, is_copied(&message));
+    drop(message);
+}
+
+/// Whether the message is another than this one.
+fn is_other<'a>(message: Payload<&'a Heap>, other: &Payload<&'a Heap>) -> bool {
+    let is_same = message.same(other);
+    drop(message);
+    !is_same
+}
+
+/// Whether the request is neither another request nor a message without names, of which its parts are made.
+fn is_told<'a>(request: &Payload<&'a Heap>, heap: &'a Heap) -> bool {
+    let names = NameSet::empty().with(31);
+    let none = Payload::new(0, DotSet::new(heap), EntrySet::new(heap));
+    is_other(Payload::request(heap, 0, names), request) && is_other(none, request)
+}
+
+/// A request gives the names that it asks for, and takes no memory.
+#[test]
+fn a_request_gives_its_names(rt: HostRuntime) {
+    let heap = Refusing::new(rt.alloc());
+    heap.refuse_from(1);
+    let names = NameSet::empty().with(0).with(31);
+    let request = Payload::request(&heap, 0, names);
+    let asked = request.asked();
+    holds!(&rt, is_told(&request, &heap));
+    holds!(&rt, heap.requests() == 0);
+    drop(request);
+    holds!(&rt, matches!(asked, Some(asked) if asked.same(names)));
+}
+
+/// Takes the last message out. Whether it has seen the dot of this clock.
+fn pops<'a>(outbox: &mut Outbox<'a, Heap>, clock: u64) -> bool {
+    match outbox.pop() {
+        Some(last) => {
+            let is_this = last.seen().contains(Dot { name: 0, clock });
+            drop(last);
+            is_this
+        }
+        None => false,
+    }
+}
+
+/// Pushes the message of this clock with all memory refused, after room was made for it, where it was: its number, or the fault.
+fn pushes<'a>(
+    outbox: &mut Outbox<'a, Heap>,
+    clock: u64,
+    has_room: bool,
+    heap: &'a Heap,
+    rt: &impl Abort,
+) -> Result<u64, OutboxFault> {
+    let message = message(heap, clock, rt);
+    if has_room {
+        holds!(rt, outbox.make_room().is_ok());
+    }
+    heap.refuse_from(1);
+    let answer = match outbox.push(message) {
+        Ok(number) => Ok(number),
+        Err((given_back, fault)) => {
+            drop(given_back);
+            Err(fault)
+        }
+    };
+    heap.refuse_none();
+    answer
+}
+
+/// Messages are numbered from 1, up to a limit, and popped from the end.
+#[test]
+fn an_outbox_holds_as_many_messages_as_its_limit(rt: HostRuntime) {
+    let heap = Refusing::new(rt.alloc());
+    let mut outbox = Outbox::new(&heap, 2);
+    let refused = pushes(&mut outbox, 1, false, &heap, &rt);
+    holds!(&rt, refused == Err(OutboxFault::OutOfMemory));
+    holds!(&rt, outbox.is_empty() && !outbox.is_full());
+    holds!(&rt, pushes(&mut outbox, 1, true, &heap, &rt) == Ok(1));
+    holds!(&rt, pushes(&mut outbox, 2, true, &heap, &rt) == Ok(2));
+    let refused = pushes(&mut outbox, 3, true, &heap, &rt);
+    holds!(&rt, refused == Err(OutboxFault::OutboxFull));
+    heap.refuse_from(1);
+    holds!(&rt, outbox.get(0).is_none() && outbox.get(1).is_some());
+    holds!(&rt, outbox.get(2).is_some() && outbox.get(3).is_none());
+    holds!(&rt, outbox.is_full() && outbox.make_room().is_ok());
+    holds!(&rt, pops(&mut outbox, 2) && pops(&mut outbox, 1));
+    holds!(&rt, outbox.len() == 0 && heap.requests() == 0);
+    drop(outbox);
+}

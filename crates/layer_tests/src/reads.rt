@@ -1,0 +1,204 @@
+//! The calls that take no memory, on large values, with all memory refused: each is had, and none asks for any.
+use crate::benches::{Heap, calls_of, played};
+use crate::memory::SCRIPT;
+use crate::payloads::is_made_of_its_parts;
+use crate::wide;
+use bench_core::{Act, Bench, History, Journal, Limits, Node, Reply};
+use dots_core::{Dot, NameSet};
+use payload_core::{EntrySet, Outbox, Payload};
+use replica_core::{Replica, Status, laws};
+use std::process::Abort;
+use test_alloc::Refusing;
+
+/// A set of 65 entries or more is read.
+fn reads_entries<'a>(entries: &EntrySet<&'a Heap>, rt: &impl Abort) {
+    let last = Dot {
+        name: 0,
+        clock: 130,
+    };
+    let first = entries.at(0).expect(rt, "an entry");
+    let entry = entries.get(last).expect(rt, "an entry");
+    let place = entries.first_from(last);
+    let found = entries.find(0, entry.pid, &entry.topic, &entry.key);
+    holds!(rt, entries.len() >= 65);
+    holds!(rt, !entries.is_empty());
+    holds!(rt, first.same(first) && !first.same(entry));
+    holds!(rt, found == Some(last));
+    holds!(rt, entries.at(place).is_some());
+    holds!(rt, entries.same(entries));
+}
+
+/// The last of 130 messages is read.
+fn reads_message<'a>(message: &Payload<&'a Heap>, rt: &impl Abort) {
+    holds!(rt, message.sender() == 0);
+    holds!(rt, message.asked().is_none());
+    holds!(rt, message.seen().clock_of(0) == 0);
+    holds!(rt, message.entries().len() == 1);
+    holds!(rt, message.same(message));
+}
+
+/// An outbox of 130 messages is read.
+fn reads_outbox<'a>(outbox: &Outbox<'a, Heap>, rt: &impl Abort) {
+    holds!(rt, outbox.len() == 130);
+    holds!(rt, !outbox.is_empty() && !outbox.is_full());
+    holds!(rt, outbox.same(outbox));
+    let message = outbox.get(130).expect(rt, "a message");
+    reads_message(message, rt);
+}
+
+/// The first replica is read, which sends.
+fn reads_sender<'a>(a: &Replica<&'a Heap>, rt: &impl Abort) {
+    holds!(rt, a.own() == 0);
+    holds!(rt, a.seen().clock_of(0) == 131);
+    holds!(rt, a.has_delta() && !a.online(1));
+    holds!(rt, a.delta_entries().len() == 1);
+    holds!(rt, !a.delta_seen().is_empty());
+    holds!(rt, a.same(a));
+}
+
+/// The second replica is read, to which messages came, and the request that it would send.
+fn reads_receiver<'a>(b: &Replica<&'a Heap>, rt: &impl Abort) {
+    let known = NameSet::empty().with(0).with(1);
+    let request = b.request();
+    let asked = request.asked();
+    drop(request);
+    holds!(rt, matches!(asked, Some(names) if names.same(known)));
+    holds!(rt, b.known().same(known));
+    holds!(rt, b.seen().cloud_of(0).len() == 65);
+    holds!(rt, b.status(0) == Some(Status::Up));
+    holds!(rt, b.online(0));
+    reads_entries(b.entries(), rt);
+}
+
+/// The journal of 327 steps is read.
+fn reads_journal<'a>(journal: &Journal<'a, Heap>, rt: &impl Abort) {
+    let last = journal.at(326).expect(rt, "a step");
+    let found = journal.find(327).expect(rt, "a step");
+    holds!(rt, journal.len() == 327);
+    holds!(rt, last.step.same(&found.step));
+    holds!(rt, journal.first_consequence(1) == Some(6));
+    holds!(rt, journal.first_consequence(327) == None);
+    holds!(rt, journal.inverse(327).is_some());
+}
+
+fn reads_history<'a>(history: &History<'a, Heap>, rt: &impl Abort) {
+    let event = history.at(326).expect(rt, "a call");
+    holds!(rt, event.reply == Reply::Taken(327));
+    holds!(rt, event.act.same(&event.act));
+    holds!(rt, history.len() == 327);
+}
+
+/// The parts of the bench are read.
+fn reads_bench<'a>(bench: &Bench<'a, Heap>, rt: &impl Abort) {
+    holds!(rt, bench.names().number_of("af") == Some(31));
+    holds!(rt, bench.limits() == Limits::usual());
+    holds!(rt, Limits::new(1, 1, 1, 1).is_some());
+    holds!(rt, bench.meter() == 327);
+    holds!(rt, bench.way_back(327).is_some());
+    assert!(rt; bench.names().len() == 32);
+    holds!(rt, bench.remaining().last_of(1) == Some(326));
+    reads_journal(bench.remaining(), rt);
+    reads_history(bench.history(), rt);
+}
+
+/// The first two nodes are read.
+fn reads_nodes<'a>(bench: &Bench<'a, Heap>, rt: &impl Abort) {
+    let a = bench.node(0).expect(rt, "a node");
+    let b = bench.node(1).expect(rt, "a node");
+    holds!(rt, a.same(a) && !a.same(b));
+    reads_outbox(a.outbox(), rt);
+    reads_sender(a.replica(), rt);
+    reads_receiver(b.replica(), rt);
+}
+
+/// All of a bench is read; then copies are made of what its first node holds, and changed.
+fn plays<'a>(script: &str, heap: &'a Heap, rt: &impl Abort) {
+    let bench = played(script, Limits::usual(), heap, rt);
+    heap.refuse_from(1);
+    reads_bench(&bench, rt);
+    reads_nodes(&bench, rt);
+    holds!(rt, heap.requests() == 0);
+    heap.refuse_none();
+    let node = bench.node(0).expect(rt, "a node");
+    edits(node, heap, rt);
+    drop(bench);
+}
+
+#[test]
+fn reads_and_edits_take_no_memory(rt: HostRuntime) {
+    let heap = Refusing::new(rt.alloc());
+    let text = wide::script(&heap, &rt);
+    plays(&text, &heap, &rt);
+    drop(text);
+}
+
+/// Whether the delta is taken out, as a message of node 0, and given back.
+fn gives_the_delta_back<'a>(replica: &mut Replica<&'a Heap>) -> bool {
+    replica.replica_law();
+    laws::delta_law();
+    let Ok(message) = replica.take_delta() else {
+        return false;
+    };
+    let sender = message.sender();
+    replica.give_delta(message);
+    sender == 0
+}
+
+/// Takes the last 9 messages out of an outbox, and the entries of the first 9 clocks of node 0 out of a set.
+fn take_out<'a>(outbox: &mut Outbox<'a, Heap>, entries: &mut EntrySet<&'a Heap>) -> bool {
+    for clock in 1..10 {
+        let message = outbox.pop();
+        let entry = entries.remove(Dot { name: 0, clock });
+        let are_there = message.is_some() && entry.is_some();
+        drop(message);
+        drop(entry);
+        if !are_there {
+            return false;
+        }
+    }
+    true
+}
+
+/// Copies what the node holds, and makes the calls that change the copies without memory.
+fn edits<'a>(node: &Node<'a, Heap>, heap: &'a Heap, rt: &impl Abort) {
+    let replica = node.replica();
+    let message = node.outbox().get(1).expect(rt, "a message");
+    let mut outbox = node.outbox().try_copy().expect(rt, "a copy");
+    let mut entries = replica.entries().try_copy().expect(rt, "a copy");
+    let mut sender = replica.try_copy().expect(rt, "a copy");
+    let copy = message.try_copy().expect(rt, "a copy");
+    heap.refuse_from(1);
+    holds!(rt, take_out(&mut outbox, &mut entries));
+    holds!(rt, gives_the_delta_back(&mut sender));
+    holds!(rt, sender.same(replica));
+    holds!(rt, is_made_of_its_parts(copy, message));
+    holds!(rt, heap.requests() == 0);
+    drop(sender);
+    drop(entries);
+    drop(outbox);
+}
+
+/// Whether a copy asks the same.
+fn is_copied<'a>(act: &Act<&'a Heap>) -> bool {
+    match act.try_copy() {
+        Ok(copy) => {
+            let is_same = copy.same(act);
+            drop(copy);
+            is_same
+        }
+        Err(_) => false,
+    }
+}
+
+/// The copy of an act, of each kind, shares its words.
+#[test]
+fn an_act_is_copied_without_memory(rt: HostRuntime) {
+    let heap = Refusing::new(rt.alloc());
+    let calls = calls_of(SCRIPT, &heap, &rt);
+    heap.refuse_from(1);
+    for (_actor, act) in &calls {
+        holds!(&rt, is_copied(act));
+    }
+    holds!(&rt, heap.requests() == 0);
+    drop(calls);
+}

@@ -1,0 +1,198 @@
+//! Swaps between the steps of two benches, which scripts prepare: worked rows, and refused memory.
+use crate::benches::{Heap, limits_of, played};
+use crate::rows::holds;
+use bench_core::{Bench, SwapFault, same_cluster};
+use std::process::Abort;
+use test_alloc::Refusing;
+
+const USUAL: [u64; 4] = [100_000, 10_000, 1_000_000, 10_000];
+
+const ALICE_FIRST: &str = "nodes a b
+a join 1 r alice phone
+b join 9 r bob desk";
+
+const BOB_FIRST: &str = "nodes a b
+b join 9 r bob desk
+a join 1 r alice phone";
+
+const DELIVERED: &str = "nodes a b
+a join 1 r alice phone
+b up a
+a broadcast
+b deliver a 1";
+
+/// Steps of two nodes, and the same in another order, which three swaps lead to.
+const IN_TURN: &str = "nodes a b
+a join 1 r alice phone
+b join 9 r bob desk
+a join 2 r carl phone
+b join 8 r dora desk";
+
+const ONE_AFTER_THE_OTHER: &str = "nodes a b
+b join 9 r bob desk
+b join 8 r dora desk
+a join 1 r alice phone
+a join 2 r carl phone";
+
+/// Swaps by place, and what the steps of one bench and of another come to by them.
+struct Swaps {
+    name: &'static str,
+    one: &'static str,
+    other: &'static str,
+    /// The limits of the other.
+    limits: [u64; 4],
+    places: &'static [u64],
+    answer: Result<(), SwapFault>,
+}
+
+const SWAPS: &[Swaps] = &[
+    Swaps {
+        name: "two joins in the other order",
+        one: ALICE_FIRST,
+        other: BOB_FIRST,
+        limits: USUAL,
+        places: &[1],
+        answer: Ok(()),
+    },
+    Swaps {
+        name: "three swaps",
+        one: IN_TURN,
+        other: ONE_AFTER_THE_OTHER,
+        limits: USUAL,
+        places: &[1, 3, 2],
+        answer: Ok(()),
+    },
+    Swaps {
+        name: "three swaps, of which the last is of one node",
+        one: IN_TURN,
+        other: ONE_AFTER_THE_OTHER,
+        limits: USUAL,
+        places: &[1, 3, 1],
+        answer: Err(SwapFault::OtherSteps),
+    },
+    Swaps {
+        name: "no swap of two joins in the other order",
+        one: ALICE_FIRST,
+        other: BOB_FIRST,
+        limits: USUAL,
+        places: &[],
+        answer: Err(SwapFault::OtherSteps),
+    },
+    Swaps {
+        name: "a swap of the last place",
+        one: ALICE_FIRST,
+        other: BOB_FIRST,
+        limits: USUAL,
+        places: &[2],
+        answer: Err(SwapFault::BadSwap { at: 1 }),
+    },
+    Swaps {
+        name: "a swap of place 0, after one that is good",
+        one: ALICE_FIRST,
+        other: ALICE_FIRST,
+        limits: USUAL,
+        places: &[1, 0],
+        answer: Err(SwapFault::BadSwap { at: 2 }),
+    },
+    Swaps {
+        name: "a send and its delivery",
+        one: DELIVERED,
+        other: DELIVERED,
+        limits: USUAL,
+        places: &[3],
+        answer: Err(SwapFault::BadSwap { at: 1 }),
+    },
+    Swaps {
+        name: "one place twice",
+        one: DELIVERED,
+        other: DELIVERED,
+        limits: USUAL,
+        places: &[1, 1],
+        answer: Ok(()),
+    },
+    Swaps {
+        name: "two steps of one node, once they are adjacent",
+        one: DELIVERED,
+        other: DELIVERED,
+        limits: USUAL,
+        places: &[1, 2],
+        answer: Err(SwapFault::BadSwap { at: 2 }),
+    },
+    Swaps {
+        name: "fewer steps",
+        one: DELIVERED,
+        other: ALICE_FIRST,
+        limits: USUAL,
+        places: &[],
+        answer: Err(SwapFault::OtherSteps),
+    },
+    Swaps {
+        name: "a swap that leads away",
+        one: ALICE_FIRST,
+        other: ALICE_FIRST,
+        limits: USUAL,
+        places: &[1],
+        answer: Err(SwapFault::OtherSteps),
+    },
+    Swaps {
+        name: "a bench with another limit",
+        one: ALICE_FIRST,
+        other: ALICE_FIRST,
+        limits: [100_000, 10_000, 9, 10_000],
+        places: &[9],
+        answer: Err(SwapFault::OtherBench),
+    },
+    Swaps {
+        name: "a bench with other names",
+        one: ALICE_FIRST,
+        other: "nodes a c",
+        limits: USUAL,
+        places: &[9],
+        answer: Err(SwapFault::OtherBench),
+    },
+];
+
+/// Answers with the first, second, .. request for memory refused alone, until none is met. Gives the answer, and how many were
+/// refused.
+fn answer_of<'a>(
+    one: &Bench<'a, Heap>,
+    other: &Bench<'a, Heap>,
+    places: &[u64],
+    heap: &'a Heap,
+) -> (Result<(), SwapFault>, u64) {
+    for number in 1..10 {
+        heap.refuse_only(number);
+        let answer = same_cluster(one, other, places);
+        if answer != Err(SwapFault::OutOfMemory) {
+            heap.refuse_none();
+            return (answer, number - 1);
+        }
+    }
+    (Err(SwapFault::OutOfMemory), 9)
+}
+
+/// Compares the bench with the other one so. Memory is asked for just where they are of one kind.
+fn compare<'a>(one: &Bench<'a, Heap>, swaps: &Swaps, heap: &'a Heap, rt: &impl Abort) {
+    let limits = limits_of(swaps.limits, rt);
+    let other = played(swaps.other, limits, heap, rt);
+    let (answer, refused) = answer_of(one, &other, swaps.places, heap);
+    drop(other);
+    let is_other = swaps.answer == Err(SwapFault::OtherBench);
+    holds(rt, answer == swaps.answer, swaps.name);
+    holds(rt, (refused == 0) == is_other, swaps.name);
+}
+
+fn compares<'a>(swaps: &Swaps, heap: &'a Heap, rt: &impl Abort) {
+    let limits = limits_of(USUAL, rt);
+    let one = played(swaps.one, limits, heap, rt);
+    compare(&one, swaps, heap, rt);
+    drop(one);
+}
+
+#[test]
+fn swaps_lead_from_one_bench_to_another(rt: HostRuntime) {
+    let heap = Refusing::new(rt.alloc());
+    for swaps in SWAPS {
+        compares(swaps, &heap, &rt);
+    }
+}

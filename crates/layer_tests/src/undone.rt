@@ -1,0 +1,299 @@
+//! A node's last step given back, and a replica's last change undone, with each request for memory refused in turn. Two nodes
+//! take the steps of a script.
+ghost use Rattle.std.specs.Prelude.{◌<◌, IfOk, IfSome};
+ghost use Rattle.replica_core.specs.Changes.{plain_change, ChangeLeadsBack, ChangeLeadsSomewhere};
+ghost use Rattle.replica_core.specs.Limits.{AreNodeLimits};
+ghost use Rattle.node_core.specs.Inverses.{LeadsSomewhere, plain_inverse};
+ghost use Rattle.node_core.specs.Operations.{AreNames, plain};
+
+use crate::benches::{Calls, Heap, calls_of};
+use bench_core::Act;
+use node_core::{Inverse, Meter, Node, NodeLimits, Step};
+use payload_core::Payload;
+use replica_core::{Change, Replica, ReplicaFault};
+use std::process::Abort;
+use test_alloc::Refusing;
+
+/// Steps of each kind, of entries that were sent and that were not.
+const SCRIPT: &str = "nodes a b
+b join 9 r bob desk
+b broadcast
+b request
+a join 1 r alice phone
+a up b
+a deliver b 1
+a update 1 r alice away
+a leave 1 r alice
+a join 1 r alice phone
+a join 1 s alice phone
+a broadcast
+a join 2 r carl phone
+a update 1 r alice away
+a leaveall 1
+a extract a b
+a request
+a answer b 2
+b leave 9 r bob
+b broadcast
+a deliver b 3
+a down b
+a deliver b 1
+a permdown b
+a broadcast
+a join 3 r emil phone
+b up a
+b deliver a 2
+b deliver a 1
+b answer a 3
+b deliver a 4
+b deliver a 5
+b down a
+b permdown a
+";
+
+fn limits() -> NodeLimits
+    ensures { AreNodeLimits result }
+{
+    NodeLimits {
+        entries: 10,
+        clock: 100,
+        messages: 10,
+    }
+}
+
+/// The message of the other node that the step reads.
+fn message_of<'x, 'a>(
+    other: &'x Node<'a, Heap>,
+    step: &Step<&'a Heap>,
+) -> Option<&'x Payload<&'a Heap>> {
+    let (_sender, number) = step.delivers()?;
+    other.outbox().get(number)
+}
+
+/// Takes a step back. Where that is refused, the inverse comes back.
+fn given_back<'a>(
+    node: &mut Node<'a, Heap>,
+    inverse: Inverse<&'a Heap>,
+) -> Option<Inverse<&'a Heap>>
+    requires { LeadsSomewhere (plain_inverse inverse) node.old }
+    ensures { IfSome result (λ inverse. LeadsSomewhere (plain_inverse inverse) node.new) }
+{
+    match node.give_back(inverse) {
+        Ok(()) => None,
+        Err((inverse, _oom)) => Some(inverse),
+    }
+}
+
+/// Takes a step back with this request for memory refused; where that is refused, with memory. Whether it was refused.
+fn gives_back<'a>(
+    node: &mut Node<'a, Heap>,
+    inverse: Inverse<&'a Heap>,
+    number: u64,
+    heap: &'a Heap,
+    rt: &impl Abort,
+) -> bool
+    requires { LeadsSomewhere (plain_inverse inverse) node.old }
+{
+    heap.refuse_only(number);
+    let refused = given_back(node, inverse);
+    heap.refuse_none();
+    let Some(inverse) = refused else {
+        return false;
+    };
+    let left = given_back(node, inverse);
+    holds!(rt, left.is_none());
+    drop(left);
+    true
+}
+
+/// A copy of the node takes the step, and takes it back so: it is as the node.
+fn taken_back<'a>(
+    node: &Node<'a, Heap>,
+    other: &Node<'a, Heap>,
+    step: &Step<&'a Heap>,
+    number: u64,
+    heap: &'a Heap,
+    rt: &impl Abort,
+) -> bool
+    requires { AreNames (plain step.now) }
+{
+    let mut copy = node.try_copy().expect(rt, "a copy");
+    let mut meter = Meter::new();
+    let taken = copy.take(step, message_of(other, step), &mut meter);
+    let inverse = taken.expect(rt, "an inverse");
+    let is_refused = gives_back(&mut copy, inverse, number, heap, rt);
+    holds!(rt, copy.same(node));
+    drop(copy);
+    is_refused
+}
+
+/// The replica is asked what the step asks of its own processes; of another step nothing is asked.
+fn changed_own<'a>(
+    replica: &mut Replica<&'a Heap>,
+    step: &Step<&'a Heap>,
+) -> Result<Change<&'a Heap>, ReplicaFault>
+    ensures { IfOk result (λ change. ChangeLeadsBack (plain_change change) replica.new replica.old) }
+{
+    match step {
+        Step::Join {
+            pid,
+            topic,
+            key,
+            metadata,
+        } => replica.join(*pid, topic, key, metadata),
+        Step::Leave { pid, topic, key } => replica.leave(*pid, topic, key),
+        Step::LeaveAll { pid } => replica.leave_all(*pid),
+        Step::Update {
+            pid,
+            topic,
+            key,
+            metadata,
+        } => replica.update(*pid, topic, key, metadata),
+        _ => Err(ReplicaFault::NothingToSend),
+    }
+}
+
+/// The replica is asked what the step asks of it. A send changes no replica.
+fn changed<'a>(
+    replica: &mut Replica<&'a Heap>,
+    other: &Node<'a, Heap>,
+    step: &Step<&'a Heap>,
+) -> Result<Change<&'a Heap>, ReplicaFault>
+    ensures { IfOk result (λ change. ChangeLeadsBack (plain_change change) replica.new replica.old) }
+{
+    match step {
+        Step::Deliver { number, .. } => match other.outbox().get(*number) {
+            Some(message) if message.asked().is_none() => replica.merge(message),
+            _ => Err(ReplicaFault::NothingToSend),
+        },
+        Step::Up { name } if *name < 32 => replica.up(*name),
+        Step::Down { name } if *name < 32 => replica.down(*name),
+        Step::Permdown { name } if *name < 32 => replica.permdown(*name),
+        _ => changed_own(replica, step),
+    }
+}
+
+/// Takes a change back. Where that is refused, it comes back.
+fn undone<'a>(replica: &mut Replica<&'a Heap>, change: Change<&'a Heap>) -> Option<Change<&'a Heap>>
+    requires { ChangeLeadsSomewhere (plain_change change) replica.old }
+    ensures { IfSome result (λ change. ChangeLeadsSomewhere (plain_change change) replica.new) }
+{
+    match replica.undo(change) {
+        Ok(()) => None,
+        Err((change, _oom)) => Some(change),
+    }
+}
+
+/// Asks the replica for what the step asks of it, and takes that back with this request for memory refused; where that is
+/// refused, with memory. Whether it was refused.
+fn undoes<'a>(
+    replica: &mut Replica<&'a Heap>,
+    other: &Node<'a, Heap>,
+    step: &Step<&'a Heap>,
+    number: u64,
+    heap: &'a Heap,
+    rt: &impl Abort,
+) -> bool {
+    let Ok(change) = changed(replica, other, step) else {
+        return false;
+    };
+    heap.refuse_only(number);
+    let refused = undone(replica, change);
+    heap.refuse_none();
+    let Some(change) = refused else {
+        return false;
+    };
+    let left = undone(replica, change);
+    holds!(rt, left.is_none());
+    drop(left);
+    true
+}
+
+/// The same of a copy of the node's replica, which is then as it was.
+fn undone_alone<'a>(
+    node: &Node<'a, Heap>,
+    other: &Node<'a, Heap>,
+    step: &Step<&'a Heap>,
+    number: u64,
+    heap: &'a Heap,
+    rt: &impl Abort,
+) -> bool {
+    let mut replica = node.replica().try_copy().expect(rt, "a copy");
+    let is_refused = undoes(&mut replica, other, step, number, heap, rt);
+    holds!(rt, replica.same(node.replica()));
+    drop(replica);
+    is_refused
+}
+
+/// Takes the step back, at copies of the node and of its replica, with the first, second, .. request for memory refused, until
+/// none is met. Gives how many were.
+fn refusals<'a>(
+    node: &Node<'a, Heap>,
+    other: &Node<'a, Heap>,
+    step: &Step<&'a Heap>,
+    heap: &'a Heap,
+    rt: &impl Abort,
+) -> u64
+    requires { AreNames (plain step.now) }
+{
+    for number in 1..50 {
+        let is_refused = taken_back(node, other, step, number, heap, rt);
+        let is_refused_alone = undone_alone(node, other, step, number, heap, rt);
+        if !is_refused && !is_refused_alone {
+            return number - 1;
+        }
+    }
+    50
+}
+
+/// Takes the step back so, and then takes it for good. Gives how many requests were refused.
+fn turn<'a>(
+    node: &mut Node<'a, Heap>,
+    other: &Node<'a, Heap>,
+    step: &Step<&'a Heap>,
+    heap: &'a Heap,
+    rt: &impl Abort,
+) -> u64 {
+    assert!(rt; step.names_below(32));
+    let refusals = refusals(node, other, step, heap, rt);
+    let message = message_of(other, step);
+    let fault = node.take(step, message, &mut Meter::new()).err();
+    holds!(rt, fault.is_none());
+    refusals
+}
+
+/// Each step of the calls so, of the node 0 or of the other. Gives how often one was refused memory, at most.
+fn turns<'a>(
+    a: &mut Node<'a, Heap>,
+    b: &mut Node<'a, Heap>,
+    calls: &Calls<'a>,
+    heap: &'a Heap,
+    rt: &impl Abort,
+) -> u64 {
+    let mut most = 0;
+    for call in calls {
+        let number = match call {
+            (0, Act::Do(step)) => turn(a, b, step, heap, rt),
+            (_, Act::Do(step)) => turn(b, a, step, heap, rt),
+            _ => 0,
+        };
+        most = most.max(number);
+    }
+    most
+}
+
+#[test]
+fn a_step_back_that_is_refused_memory_changes_nothing(rt: HostRuntime) {
+    let heap = Refusing::new(rt.alloc());
+    let calls = calls_of(SCRIPT, &heap, &rt);
+    heap.refuse_from(1);
+    let mut a = Node::new(&heap, 0, limits());
+    let mut b = Node::new(&heap, 1, limits());
+    holds!(&rt, heap.requests() == 0 && Meter::new().count() == 0);
+    heap.refuse_none();
+    let most = turns(&mut a, &mut b, &calls, &heap, &rt);
+    holds!(&rt, 0 < most && most < 50);
+    drop(calls);
+    drop(b);
+    drop(a);
+}

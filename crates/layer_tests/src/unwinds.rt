@@ -1,0 +1,98 @@
+//! The undo of a step with all that follows from it, where memory is refused on the way. Another bench that was asked the undos
+//! which are told, one by one, says what there must be.
+use crate::benches::{Heap, are_same, played};
+use crate::rows::holds_at;
+use bench_core::{Act, Bench, Fault, Limits, Reply, Unwound};
+use std::process::Abort;
+use test_alloc::Refusing;
+
+/// A join that is sent and delivered, and a join of the node that it came to.
+const SCRIPT: &str = "nodes a b
+a join 1 r alice phone
+b up a
+a broadcast
+b deliver a 1
+b join 9 r bob desk
+";
+
+/// What follows from step 1.
+const FUTURE: [u64; 4] = [5, 4, 3, 1];
+
+/// How many of these steps are told as undone, and whether that is all that was to be; none where others are told.
+fn told<'a>(unwound: &Unwound<&'a Heap>, steps: &[u64]) -> Option<(usize, bool)> {
+    match unwound {
+        Unwound::Done(numbers) if numbers.as_slice() == steps => Some((numbers.len(), true)),
+        Unwound::Partial { numbers } if steps.starts_with(numbers) => Some((numbers.len(), false)),
+        Unwound::Refused(Fault::OutOfMemory) => Some((0, false)),
+        _ => None,
+    }
+}
+
+/// Unwinds step 1, of whose future these remain. Gives how many were undone, and whether all.
+fn unwinds<'a>(bench: &mut Bench<'a, Heap>, steps: &[u64], rt: &impl Abort) -> (usize, bool) {
+    let unwound = bench.unwind(2, 1);
+    let answer = told(&unwound, steps);
+    drop(unwound);
+    answer.expect(rt, "undos")
+}
+
+/// The undos of these steps, one by one.
+fn undo_each<'a>(bench: &mut Bench<'a, Heap>, steps: &[u64], rt: &impl Abort) {
+    for number in steps {
+        let undo = Act::Undo(*number);
+        let reply = bench.act(2, &undo);
+        drop(undo);
+        holds!(rt, reply == Reply::Undone(*number));
+    }
+}
+
+/// Unwinds step 1 with this request for memory refused, and then the rest with memory. Gives how many steps were undone first,
+/// and whether the request was met: just then the unwind is told as refused, or as done in part.
+fn goes_on<'a>(
+    bench: &mut Bench<'a, Heap>,
+    other: &mut Bench<'a, Heap>,
+    number: u64,
+    heap: &'a Heap,
+    rt: &impl Abort,
+) -> (usize, bool) {
+    heap.refuse_only(number);
+    let (undone, is_done) = unwinds(bench, &FUTURE, rt);
+    let is_met = number <= heap.requests();
+    heap.refuse_none();
+    holds_at(rt, is_done != is_met, number);
+    let first = FUTURE.get(..undone).expect(rt, "undos");
+    let rest = FUTURE.get(undone..).expect(rt, "undos");
+    undo_each(other, first, rt);
+    holds_at(rt, are_same(bench, other), number);
+    if !is_done {
+        holds_at(rt, unwinds(bench, rest, rt) == (rest.len(), true), number);
+    }
+    undo_each(other, rest, rt);
+    holds_at(rt, are_same(bench, other), number);
+    (undone, is_met)
+}
+
+/// The same of a new bench.
+fn undone_first<'a>(number: u64, heap: &'a Heap, rt: &impl Abort) -> (usize, bool) {
+    let mut bench = played(SCRIPT, Limits::usual(), heap, rt);
+    let mut other = played(SCRIPT, Limits::usual(), heap, rt);
+    let answer = goes_on(&mut bench, &mut other, number, heap, rt);
+    drop(other);
+    drop(bench);
+    answer
+}
+
+#[test]
+fn an_unwind_that_is_refused_memory_can_go_on(rt: HostRuntime) {
+    let heap = Refusing::new(rt.alloc());
+    let mut most = 0;
+    for number in 1..100 {
+        let (undone, is_met) = undone_first(number, &heap, &rt);
+        if !is_met {
+            break;
+        }
+        most = most.max(undone);
+        holds!(&rt, number < 99);
+    }
+    holds!(&rt, 0 < most && most < 4);
+}
