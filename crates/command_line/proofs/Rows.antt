@@ -1,8 +1,10 @@
 -- The name and the rows of a subcommand that was entered, and what they choose.
-use Rattle.std.proofs.Common.{◌≡◌, ℕ, List, codes, Option, Some, None, option_map, refl, sym, subst, ◌∙◌}
+use Rattle.std.proofs.Common.{◌≡◌, ℕ, List, codes, Option, Some, None, option_map, inl, inr, refl, sym, subst, ◌∙◌}
 use Rattle.std.proofs.lemmas.Option.{IfSome_then}
 use Rattle.command_line.specs.declared.chosen.Choice.{Choice}
-use Rattle.command_line.specs.Line.{IsChoiceOf, IsForm, IsNumber, IsReading}
+use Rattle.clap.specs.Words.{HasKind, Row, fault_of, first_of, kind_of, subcommand_of}
+use Rattle.clap.specs.declared.error.Error.{Error}
+use Rattle.command_line.specs.Line.{Chooses, IsChoiceOf, IsForm, IsNumber, IsReading, IsRefusal, app}
 
 abbrev pair : {A B C : Type 0} → (A → B) → (A → C) → A → B × C
 pair f g a = (f a, g a)
@@ -38,4 +40,17 @@ chosen_alike name values others choice same is =
         key = sym (same (codes "KEY")) ∙ asked.key;
       });
       takes = is.takes;
+      printed = is.printed;
     }
+
+-- what was entered chooses nothing, so the words don't
+pub chooses_nothing : (words : List (List ℕ)) (name : List ℕ) (rows : List Row) → subcommand_of app words ≡ Some (name, rows) →
+    ((choice : Choice) → ¬ IsChoiceOf name (λ option. first_of option rows) choice) → (choice : Choice) → ¬ Chooses words choice
+chooses_nothing words name rows entered nothing choice chooses =
+    let same : ◌≡◌ {A = List ℕ × List Row} (chooses.name, chooses.rows) (name, rows) = cc (entered, chooses.command) in
+    nothing choice (subst (λ (p : List ℕ × List Row). IsChoiceOf p.0 (λ option. first_of option p.1) choice) same chooses.chosen)
+
+-- a fault that the command line finds
+pub refused_by : (words : List (List ℕ)) (e : Error) → HasKind (fault_of app words) e → IsRefusal words (kind_of e)
+refused_by words e (inl memory) = inl memory
+refused_by words e (inr found) = inr (inl found)

@@ -1,17 +1,19 @@
 -- What the command line takes, and what words choose.
-use Rattle.std.specs.Prelude.{◌≡◌, ◌≢◌, ℕ, List, codes, true, ⊤, Option, Some, None, IfSome, unwrap_or}
+use Rattle.std.specs.Prelude.{◌≡◌, ◌≢◌, ◌⊎◌, ◌<◌, ◌^◌, ℕ, List, codes, true, ⊤, Option, Some, None, IfSome, unwrap_or}
 use Rattle.std.specs.Str.Parse.{IsNumeral, digits_value, without_leading_plus}
-use Rattle.clap.specs.Words.{App, Row, Rule, first_of, new_app, new_rule, with_rule, with_subcommand, subcommand_of}
+use Rattle.clap.specs.Words.{App, IsAmong, Row, Rule, fault_of, first_of, new_app, new_rule, with_rule, with_subcommand, subcommand_of}
 use Rattle.command_line.specs.declared.chosen.Form.{Form}
 use Rattle.command_line.specs.declared.chosen.Form.TheVariants.{Report, Session}
 use Rattle.command_line.specs.declared.chosen.Subcommand.{Subcommand}
 use Rattle.command_line.specs.declared.chosen.Subcommand.TheVariants.{Play, Race, Load, Explore, Step, Draw, Explain}
-use Rattle.explain_core.specs.declared.asking.Question.{Question}
+use Rattle.command_line.specs.declared.chosen.Question.{Question}
 use Rattle.command_line.specs.declared.chosen.Choice.{Choice}
 use Rattle.command_line.specs.declared.chosen.Options.{Options}
-use Rattle.explore_core.specs.declared.reading.Reading.{Reading}
-use Rattle.explore_core.specs.declared.reading.Reading.TheVariants.{EveryOrder, Deliveries}
+use Rattle.command_line.specs.declared.chosen.Reading.{Reading}
+use Rattle.command_line.specs.declared.chosen.Reading.TheVariants.{EveryOrder, Deliveries}
 use Rattle.clap.specs.declared.builder.action.ArgAction.TheVariants.{SetTrue}
+use Rattle.clap.specs.declared.error.kind.ErrorKind.{ErrorKind}
+use Rattle.clap.specs.declared.error.kind.ErrorKind.TheVariants.{InvalidValue, MissingSubcommand, OutOfMemory}
 
 -- the option that names a form
 abbrev pub as_rule : Rule
@@ -81,11 +83,11 @@ abbrev pub IsForm : Option (List ℕ) → Form → Type 0
 IsForm None form = form ≡ Report
 IsForm (Some name) form = name ≡ form_name form
 
--- the number that a value spells; without a value there is none
+-- the number that a value spells, which has at most 64 bits; without a value there is none
 abbrev pub IsNumber : Option (List ℕ) → Option ℕ → Type 0
 IsNumber None number = number ≡ None
 IsNumber (Some digits) number =
-    IsNumeral 10 (without_leading_plus digits) × (number ≡ Some (digits_value 10 (without_leading_plus digits)))
+    let ds = without_leading_plus digits in IsNumeral 10 ds × (digits_value 10 ds < 2 ^ 64) × (number ≡ Some (digits_value 10 ds))
 
 -- deliveries alone move where the value is `true`
 abbrev pub IsReading : Option (List ℕ) → Reading → Type 0
@@ -116,6 +118,16 @@ Takes options question Load = ⊤
 Takes options question Step = ⊤
 Takes options question (Explain asked) = question ≡ Some asked
 
+-- of all orders a report alone is printed
+abbrev pub CanPrint : Subcommand → Form → Type 0
+CanPrint (Explore reading states outcome) form = form ≡ Report
+CanPrint Play form = ⊤
+CanPrint Race form = ⊤
+CanPrint Load form = ⊤
+CanPrint Step form = ⊤
+CanPrint (Draw why) form = ⊤
+CanPrint (Explain question) form = ⊤
+
 -- the subcommand has this name, and the form and the rest those that its options and words give
 pub record IsChoiceOf (name : List ℕ) (values : List ℕ → Option (List ℕ)) (choice : Choice) : Type 0 where
   pub name_is : name ≡ name_of choice.command
@@ -125,6 +137,12 @@ pub record IsChoiceOf (name : List ℕ) (values : List ℕ → Option (List ℕ)
   pub question : Option Question
   pub question_is : IfSome question (IsQuestion values)
   pub takes : Takes options question choice.command
+  pub printed : CanPrint choice.command choice.form
+
+-- no subcommand has this name; or that which explains alone does, and there is no question
+abbrev pub IsUnnamed : List ℕ → Option Question → Type 0
+IsUnnamed name None = (command : Subcommand) → name ≡ name_of command → name ≡ codes "explain"
+IsUnnamed name (Some question) = (command : Subcommand) → name ≢ name_of command
 
 -- the choice is that of the subcommand which the command line finds in the words, with its options
 pub record Chooses (words : List (List ℕ)) (choice : Choice) : Type 0 where
@@ -132,3 +150,13 @@ pub record Chooses (words : List (List ℕ)) (choice : Choice) : Type 0 where
   pub rows : List Row
   pub command : subcommand_of app words ≡ Some (name, rows)
   pub chosen : IsChoiceOf name (λ option. first_of option rows) choice
+
+-- of a fault that is told of what was entered
+abbrev pub IsUnchosen : ErrorKind → Type 0
+IsUnchosen kind = (kind ≡ InvalidValue) ⊎ (kind ≡ MissingSubcommand)
+
+-- words are refused with this kind of fault: want of memory; what the command line finds wrong in them, or help that they ask
+-- for; or they choose nothing
+abbrev pub IsRefusal : List (List ℕ) → ErrorKind → Type 0
+IsRefusal words kind =
+    (kind ≡ OutOfMemory) ⊎ (IsAmong kind (fault_of app words) ⊎ (IsUnchosen kind × ((choice : Choice) → ¬ Chooses words choice)))

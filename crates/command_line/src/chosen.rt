@@ -1,6 +1,21 @@
 //! What a command line chooses.
-use explain_core::Question;
-use explore_core::Reading;
+
+/// Why the presences of this topic and key are online at the node of this name, and why not.
+#[derive(Clone, Copy, Debug, PartialEq, Eq)]
+pub struct Question<'w> {
+    pub node: &'w str,
+    pub topic: &'w str,
+    pub key: &'w str,
+}
+
+/// In which orders the act lines of a script are asked.
+#[derive(Clone, Copy, Debug, PartialEq, Eq)]
+pub enum Reading {
+    /// Each actor's lines keep their order, and those of different actors come in any.
+    EveryOrder,
+    /// The deliveries of each node come in any order among themselves, and all other lines stay where they are.
+    Deliveries,
+}
 
 /// What the program does.
 #[derive(Clone, Copy, Debug, PartialEq, Eq)]

@@ -1,18 +1,20 @@
 //! The command line, read by `clap`.
-ghost use Rattle.std.specs.Prelude.{◌≡◌, IfOk, IfSome, codes, map, false};
-ghost use Rattle.clap.specs.Words.{app_of, first_value, found_of, new_app, rule_of, with_rule, with_subcommand};
+ghost use Rattle.std.specs.Prelude.{◌≡◌, ℕ, IfErr, IfNone, IfOk, IfSome, OnErr, Option, codes, map, false};
+ghost use Rattle.clap.specs.Words.{app_of, first_value, found_of, kind_of, new_app, rule_of, with_rule, with_subcommand};
 ghost use Rattle.clap.specs.declared.Command.TheViews.{out-Command as fields_of};
-ghost use Rattle.command_line.specs.Line.{app, as_rule, bare_app, draw_app, explain_app, explore_app, number_rule, deliveries_rule, step_app, word_rule, AreOptions, Chooses, IsChoiceOf, IsForm, IsNumber, IsQuestion, IsReading, Takes, name_of};
+ghost use Rattle.command_line.specs.Line.{app, as_rule, bare_app, draw_app, explain_app, explore_app, number_rule, deliveries_rule, step_app, word_rule, AreOptions, Chooses, IsChoiceOf, IsForm, IsNumber, IsQuestion, IsReading, IsRefusal, IsUnnamed, Takes, name_of};
+ghost use Rattle.command_line.specs.declared.chosen.Choice.{Choice as Chosen};
+ghost use Rattle.command_line.specs.declared.chosen.Form.{Form as Shown};
+ghost use Rattle.command_line.specs.declared.chosen.Options.{Options as Given};
+ghost use Rattle.command_line.specs.declared.chosen.Question.{Question as Asked};
 
-use crate::chosen::{Choice, Form, Options, Subcommand};
+use crate::chosen::{Choice, Form, Options, Question, Reading, Subcommand};
 use crate::help::{
     DELIVERIES, DRAW, EXPLAIN, EXPLORE, FORM, KEY, LANGUAGE, LOAD, NODE, ORDER, PLAY, PURPOSE,
     RACE, STATES, STEP, TOPIC, VERSION, WHY,
 };
 use clap::error::ErrorKind;
 use clap::{Arg, ArgAction, ArgMatches, Command, Error};
-use explain_core::Question;
-use explore_core::Reading;
 use std::alloc::{AllocError, Global};
 use std::convert::AsStr;
 
@@ -178,7 +180,8 @@ fn line<'a>(alloc: Global) -> Result<Command<'a>, AllocError>
 
 /// The words that come in their places, where all three are there.
 fn question_of<'a>(matches: &ArgMatches<'a>) -> Option<Question<'a>>
-    ensures { IfSome result (IsQuestion (λ id. first_value (found_of matches.now) id)) }
+    ensures some { IfSome result (IsQuestion (λ id. first_value (found_of matches.now) id)) }
+    ensures none { IfNone result ((question : Asked) → ¬ IsQuestion (λ id. first_value (found_of matches.now) id) question) }
 {
     Some(Question {
         node: matches.get_str("NODE")?,
@@ -195,6 +198,7 @@ fn command_of<'a>(
 ) -> Option<Subcommand<'a>>
     ensures name { IfSome result (λ command. name.now ≡ name_of command) }
     ensures takes { IfSome result (Takes options question.entry) }
+    ensures none { IfNone result (IsUnnamed name.now question.entry) }
 {
     match name {
         "play" => Some(Subcommand::Play),
@@ -214,7 +218,8 @@ fn command_of<'a>(
 
 /// The form that a subcommand's words name, the report where they name none.
 fn form_of<'a>(matches: &ArgMatches<'a>) -> Option<Form>
-    ensures { IfSome result (IsForm (first_value (found_of matches.now) (codes "as"))) }
+    ensures some { IfSome result (IsForm (first_value (found_of matches.now) (codes "as"))) }
+    ensures none { IfNone result ((form : Shown) → ¬ IsForm (first_value (found_of matches.now) (codes "as")) form) }
 {
     match matches.get_str("as") {
         None | Some("report") => Some(Form::Report),
@@ -225,7 +230,8 @@ fn form_of<'a>(matches: &ArgMatches<'a>) -> Option<Form>
 
 /// The number that an option of a subcommand's words gives, if they have it.
 fn number_of<'a>(matches: &ArgMatches<'a>, option: &str) -> Option<Option<u64>>
-    ensures { IfSome result (IsNumber (first_value (found_of matches.now) option.now)) }
+    ensures some { IfSome result (IsNumber (first_value (found_of matches.now) option.now)) }
+    ensures none { IfNone result ((number : Option ℕ) → ¬ IsNumber (first_value (found_of matches.now) option.now) number) }
 {
     match matches.get_str(option) {
         None => Some(None),
@@ -248,7 +254,8 @@ fn reading_of<'a>(matches: &ArgMatches<'a>) -> Reading
 
 /// What the options of a subcommand's words give; or what to tell of a number that is none.
 fn options_of<'a>(matches: &ArgMatches<'a>) -> Result<Options, &'static str>
-    ensures { IfOk result (AreOptions (λ option. first_value (found_of matches.now) option)) }
+    ensures ok { IfOk result (AreOptions (λ option. first_value (found_of matches.now) option)) }
+    ensures err { OnErr result ((options : Given) → ¬ AreOptions (λ option. first_value (found_of matches.now) option) options) }
 {
     let Some(why) = number_of(matches, "why") else {
         return Err("--why takes the number of a step");
@@ -269,7 +276,8 @@ fn options_of<'a>(matches: &ArgMatches<'a>) -> Result<Options, &'static str>
 
 /// What a subcommand's name and words choose; or what to tell where they choose nothing.
 fn chosen<'a>(name: &str, matches: &ArgMatches<'a>) -> Result<Choice<'a>, &'static str>
-    ensures { IfOk result (IsChoiceOf name.now (λ option. first_value (found_of matches.now) option)) }
+    ensures ok { IfOk result (IsChoiceOf name.now (λ option. first_value (found_of matches.now) option)) }
+    ensures err { OnErr result ((choice : Chosen) → ¬ IsChoiceOf name.now (λ option. first_value (found_of matches.now) option) choice) }
 {
     let options = match options_of(matches) {
         Ok(options) => options,
@@ -290,7 +298,8 @@ fn chosen<'a>(name: &str, matches: &ArgMatches<'a>) -> Result<Choice<'a>, &'stat
 /// What the words choose by this line.
 fn choice_by<'a, S: AsStr>(line: &mut Command<'a>, words: &'a [S]) -> Result<Choice<'a>, Error>
     requires { app_of line.old ≡ app }
-    ensures { IfOk result (Chooses (map S.text words.entry.now)) }
+    ensures ok { IfOk result (Chooses (map S.text words.entry.now)) }
+    ensures err { IfErr result (λ fault. IsRefusal (map S.text words.entry.now) (kind_of fault)) }
 {
     let matches = line.try_get_matches_from_mut(words)?;
     let Some((name, entered)) = matches.subcommand() else {
@@ -307,7 +316,8 @@ fn choice_by<'a, S: AsStr>(line: &mut Command<'a>, words: &'a [S]) -> Result<Cho
 
 /// What the words after the program's name choose.
 pub fn choice<'a, S: AsStr>(alloc: Global, words: &'a [S]) -> Result<Choice<'a>, Error>
-    ensures { IfOk result (Chooses (map S.text words.entry.now)) }
+    ensures chosen { IfOk result (Chooses (map S.text words.entry.now)) }
+    ensures refused { IfErr result (λ fault. IsRefusal (map S.text words.entry.now) (kind_of fault)) }
 {
     let mut line = line(alloc)?;
     let choice = choice_by(&mut line, words);

@@ -13,7 +13,7 @@ use crate::case::Case;
 use crate::reading::read_line;
 use crate::running::comes_out;
 use bench_core::Limits;
-use play_core::play;
+use script_core::{FakeReader, play};
 use std::process::ExitCode;
 use std::sync::Wait;
 use std::thread::Threads;
@@ -99,7 +99,7 @@ fn run_files<T: Threads + Wait + Sync>(rt: &HostRuntime, threads: &T) -> io::Res
 /// Whether the script in this file was played, and its report printed.
 fn prints(rt: &HostRuntime, path: &str) -> io::Result<bool> {
     let script = fs::read(rt, path)?;
-    let mut reader = stream_core::FakeReader::ending(&script);
+    let mut reader = FakeReader::ending(&script);
     let mut output = io::writer(rt);
     let answer = play(&rt.alloc(), &mut reader, &mut output, Limits::usual());
     Ok(answer.is_ok())

@@ -1,11 +1,10 @@
 //! Whether a case comes out as it says, and what is told where it doesn't.
 use crate::case::Case;
-use program_core::program;
+use program_core::program_within;
 use std::io;
-use std::io::BufReader;
 use std::sync::Wait;
 use std::thread::Threads;
-use stream_core::{FakeReader, FakeWriter};
+use script_core::{FakeReader, FakeWriter};
 
 /// How the program ended: its status, and what it wrote to its output and to its errors.
 #[derive(Drop)]
@@ -22,15 +21,14 @@ fn run_case<T: Threads + Wait + Sync>(
     case: &Case,
 ) -> io::Result<Ended> {
     let heap = rt.alloc();
-    let reader = if case.fails {
+    let mut reader = if case.fails {
         FakeReader::failing(case.given())
     } else {
         FakeReader::ending(case.given())
     };
-    let mut reader = BufReader::new(heap, reader)?;
     let mut output = FakeWriter::new(heap, case.room);
     let mut errors = FakeWriter::new(heap, usize::MAX);
-    let status = program(
+    let status = program_within(
         threads,
         heap,
         &heap,

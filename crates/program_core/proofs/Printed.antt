@@ -5,10 +5,10 @@ use Rattle.std.specs.Io.KnownBytes.{Appends}
 use Rattle.bench_core.specs.Limits.{Limits}
 use Rattle.bench_core.specs.Machine.{Machine}
 use Rattle.explain_core.specs.Questions.{IsAnswer}
-use Rattle.explain_core.specs.declared.asking.Question.{Question}
+use Rattle.command_line.specs.declared.chosen.Question.{Question}
 use Rattle.grammar_core.specs.Grammar.{script_of}
 use Rattle.stream_core.specs.Inputs.{IsLonger}
-use Rattle.script_core.specs.Report.{history_text, played, report_of}
+use Rattle.run_core.specs.Report.{history_text, played, report_of}
 use Rattle.grammar_core.specs.Scripts.{Script}
 use Rattle.grammar_core.specs.declared.fault.FaultKind.TheVariants.{TooLong}
 use Rattle.command_line.specs.declared.chosen.Form.{Form}
@@ -17,16 +17,17 @@ use Rattle.command_line.specs.declared.chosen.Subcommand.TheVariants.{Play, Race
 use Rattle.program_core.specs.declared.fault.Fault.{Fault}
 use Rattle.program_core.specs.declared.fault.Fault.TheVariants as faults
 use Rattle.grammar_core.specs.declared.fault.ScriptFault.{ScriptFault}
-use Rattle.explore_core.specs.declared.reading.Reading.{Reading}
-use Rattle.program_core.specs.Explored.{TellsOrders}
+use Rattle.command_line.specs.declared.chosen.Reading.{Reading}
+use Rattle.program_core.specs.Explored.{TellsOrders, reading_of}
 use Rattle.prompt_core.specs.Ends.{Answers, EndsEarly, ReportLaw, printed}
 use Rattle.prompt_core.specs.declared.prompt_fault.PromptFault.{PromptFault}
+use Rattle.stream_core.specs.Steps.{Steps}
 use Rattle.command_line.specs.Help.{language}
 use Rattle.program_core.specs.Races.{IsRaceOf}
-use Rattle.program_core.specs.Program.{IsCauseAt, IsScriptAt, IsSessionAt, Prints, drawn, Ends, EndsAt, EndsAsText, EndsSoon, KeepsBefore, TellsMemory, shown}
+use Rattle.program_core.specs.Program.{FailsAs, IsScriptAt, IsSessionAt, Prints, RefusesScriptAt, drawn, Ends, EndsAt, EndsAsText, EndsSoon, KeepsBefore, TellsMemory, question_of, shown}
 
 -- an input past the limit has that fault
-pub too_long : (known : Option (List ℕ)) → IsLonger known 1048576 → IsCauseAt known (faults.Script (record { line = 0; kind = TooLong }))
+pub too_long : (known : Option (List ℕ)) → IsLonger known 1048576 → RefusesScriptAt known (faults.Script (record { line = 0; kind = TooLong }))
 unfolding script_of
 too_long None h = tt
 too_long (Some input) h = grind (arith, nat_tests)
@@ -69,7 +70,7 @@ module _ (form : Form) (limits : Limits) (text : List ℕ) (old new : Option (Li
   ends_draw why (Some input) m r k is e = ends (Draw why) input r (m, k, is) e
 
   pub ends_explain : (question : Question) (known : Option (List ℕ)) (m : Machine) (r : Result (Unit {0}) Fault) → IsSessionAt known m →
-      IsAnswer m question text → EndsAsText text r old new → EndsAt (Explain question) form limits known r old new
+      IsAnswer m (question_of question) text → EndsAsText text r old new → EndsAt (Explain question) form limits known r old new
   ends_explain question None m r k told e = tt
   ends_explain question (Some input) m r k told e = ends (Explain question) input r (m, k, told) e
 
@@ -82,10 +83,10 @@ module _ (form : Form) (limits : Limits) (text : List ℕ) (old new : Option (Li
       ends Race input r (subst P (sym k) (m, raced, is)) e
 
   pub ends_explore : (reading : Reading) (states : ℕ) (outcome : Option ℕ) (known : Option (List ℕ)) (s : Script) (r : Result (Unit {0}) Fault) → IsScriptAt known s →
-      TellsOrders reading outcome limits s text → EndsAsText text r old new → EndsAt (Explore reading states outcome) form limits known r old new
+      TellsOrders (reading_of reading) outcome limits s text → EndsAsText text r old new → EndsAt (Explore reading states outcome) form limits known r old new
   ends_explore reading states outcome None s r k told e = tt
   ends_explore reading states outcome (Some input) s r k told e =
-      let P : Result Script ScriptFault → Type 0 = λ o. IsOkAnd o (λ s. TellsOrders reading outcome limits s text) in
+      let P : Result Script ScriptFault → Type 0 = λ o. IsOkAnd o (λ s. TellsOrders (reading_of reading) outcome limits s text) in
       ends (Explore reading states outcome) input r (subst P (sym k) told) e
 
   -- a text that goes out meets no fault but that of a write
@@ -116,6 +117,21 @@ module _ (form : Form) (limits : Limits) (text : List ℕ) (old new : Option (Li
   tells_memory (Err (faults.NoSuchOutcome outcomes)) e = elim e [ ]
   tells_memory (Err faults.ReadFault) e = elim e [ ]
   tells_memory (Err faults.OutOfMemory) e = elim e [ ]
+
+  -- nor does a read fail then
+  pub fails_not : (r : Result (Unit {0}) Fault) (before after : Steps) → EndsAsText text r old new → after.failed ≡ before.failed → FailsAs r before after
+  fails_not (Ok u) before after e same = same
+  fails_not (Err (faults.WriteFault written)) before after e same = same
+  fails_not (Err (faults.Script fault)) before after e same = elim e [ ]
+  fails_not (Err (faults.Session fault)) before after e same = elim e [ ]
+  fails_not (Err faults.LongSession) before after e same = elim e [ ]
+  fails_not (Err (faults.Race fault)) before after e same = elim e [ ]
+  fails_not (Err (faults.TooManyStates most)) before after e same = elim e [ ]
+  fails_not (Err (faults.Explain fault)) before after e same = elim e [ ]
+  fails_not (Err (faults.Prompt fault)) before after e same = elim e [ ]
+  fails_not (Err (faults.NoSuchOutcome outcomes)) before after e same = elim e [ ]
+  fails_not (Err faults.ReadFault) before after e same = elim e [ ]
+  fails_not (Err faults.OutOfMemory) before after e same = elim e [ ]
 
 -- at a prompt
 

@@ -4,11 +4,19 @@ use Rattle.bench_core.specs.Limits.{Limits}
 use Rattle.grammar_core.specs.Grammar.{with_calls}
 use Rattle.grammar_core.specs.Scripts.{Script}
 use Rattle.explore_core.specs.declared.reading.Reading.{Reading}
+use Rattle.explore_core.specs.declared.reading.Reading.TheVariants as readings
+use Rattle.command_line.specs.declared.chosen.Reading.{Reading as Chosen}
+use Rattle.command_line.specs.declared.chosen.Reading.TheVariants as chosen
 use Rattle.explore_report.specs.Reports.{HasMore, HasNoOutcome, IsOrderOf, IsReport}
 use Rattle.explore_report.specs.declared.report_fault.ReportFault.{ReportFault}
 use Rattle.explore_report.specs.declared.report_fault.ReportFault.TheVariants as reports
 use Rattle.program_core.specs.declared.fault.Fault.{Fault}
 use Rattle.program_core.specs.declared.fault.Fault.TheVariants as faults
+
+-- the reading that was chosen
+abbrev pub reading_of : Chosen → Reading
+reading_of chosen.EveryOrder = readings.EveryOrder
+reading_of chosen.Deliveries = readings.Deliveries
 
 abbrev pub fault_of_report : ℕ → ReportFault → Fault
 fault_of_report most (reports.Script fault) = faults.Script fault
@@ -31,4 +39,5 @@ abbrev pub RefusesOrders : Reading → ℕ → Option ℕ → Limits → Script 
 RefusesOrders reading states outcome limits s (faults.Script fault) = with_calls [] s.lines ≡ Err fault
 RefusesOrders reading states outcome limits s (faults.TooManyStates most) = (most ≡ states) × HasMore reading limits most s
 RefusesOrders reading states outcome limits s (faults.NoSuchOutcome outcomes) = LacksOutcome reading outcome limits s outcomes
-RefusesOrders reading states outcome limits s fault = ⊤
+RefusesOrders reading states outcome limits s faults.OutOfMemory = ⊤
+RefusesOrders reading states outcome limits s fault = ⊥

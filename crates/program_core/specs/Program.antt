@@ -1,5 +1,5 @@
 -- What the program prints, and how it ends.
-use Rattle.std.specs.Prelude.{◌≡◌, ◌≢◌, ◌⊎◌, ℕ, ◌<◌, List, [], ◌∷◌, ◌++◌, length, take, ⊤, Option, None, Some, Result, Ok, Err, OnOk, IfErr, IfOk, IsOkAnd}
+use Rattle.std.specs.Prelude.{◌≡◌, ◌≢◌, ◌⊎◌, ℕ, ◌+◌, ◌<◌, List, [], ◌∷◌, ◌++◌, length, take, ⊤, Option, None, Some, Result, Ok, Err, OnOk, IfErr, IfOk, IsOkAnd}
 use Rattle.std.specs.Io.KnownBytes.{Appends, IsAtEnd, Keeps}
 use Rattle.serde_json.specs.Written.{compact_text}
 use Rattle.bench_core.specs.Limits.{Limits}
@@ -8,21 +8,26 @@ use Rattle.explain_core.specs.Questions.{IsAnswer, Refuses as RefusesQuestion}
 use Rattle.explain_core.specs.declared.ask_fault.AskFault.{AskFault}
 use Rattle.explain_core.specs.declared.ask_fault.AskFault.TheVariants as asks
 use Rattle.explain_core.specs.declared.asking.Question.{Question}
+use Rattle.command_line.specs.declared.chosen.Question.{Question as Chosen}
 use Rattle.picture_core.specs.Pictures.{picture}
 use Rattle.picture_core.specs.Standings.{painted_of}
 use Rattle.grammar_core.specs.Grammar.{script_of}
-use Rattle.script_core.specs.Report.{history_text, played, report_of}
+use Rattle.run_core.specs.Report.{history_text, played, report_of}
 use Rattle.grammar_core.specs.Scripts.{Script}
 use Rattle.grammar_core.specs.declared.fault.FaultKind.TheVariants as kinds
-use Rattle.play_core.specs.declared.play_fault.PlayFault.{PlayFault}
-use Rattle.play_core.specs.declared.play_fault.PlayFault.TheVariants as plays
+use Rattle.script_core.specs.declared.play_fault.PlayFault.{PlayFault}
+use Rattle.script_core.specs.declared.play_fault.PlayFault.TheVariants as plays
 use Rattle.session_core.specs.Format.{session}
 use Rattle.session_core.specs.Sessions.{IsSession, Refuses}
 use Rattle.session_core.specs.declared.session_fault.SessionFault.TheVariants as sessions
 use Rattle.svg_core.specs.Trees.{text_of}
+use Rattle.stream_core.specs.Steps.{Steps}
+use Rattle.clap.specs.declared.error.kind.ErrorKind.{ErrorKind}
+use Rattle.clap.specs.declared.error.kind.ErrorKind.TheVariants as refusals
+use Rattle.command_line.specs.Line.{Chooses, IsRefusal}
 use Rattle.worker_core.specs.declared.race_fault.RaceFault.{RaceFault}
 use Rattle.worker_core.specs.declared.race_fault.RaceFault.TheVariants as races
-use Rattle.program_core.specs.Explored.{TellsOrders, RefusesOrders}
+use Rattle.program_core.specs.Explored.{TellsOrders, RefusesOrders, reading_of}
 use Rattle.prompt_core.specs.Ends.{EndsEarly, printed}
 use Rattle.prompt_core.specs.declared.prompt_fault.PromptFault.TheVariants as prompts
 use Rattle.command_line.specs.Help.{language}
@@ -90,37 +95,50 @@ abbrev pub IsSessionAt : Option (List ℕ) → Machine → Type 0
 IsSessionAt None bench = ⊤
 IsSessionAt (Some input) bench = IsSession input bench
 
--- the input is refused so: a fault of a script is its first, one of a session comes only in its case
-abbrev pub IsCause : List ℕ → Fault → Type 0
-IsCause input (faults.Script fault) = script_of input ≡ Err fault
-IsCause input (faults.Session fault) = Refuses input fault
-IsCause input faults.LongSession = 67108864 < length input
-IsCause input (faults.Race fault) = ⊥
-IsCause input (faults.TooManyStates most) = ⊥
-IsCause input (faults.Explain fault) = ⊥
-IsCause input (faults.Prompt fault) = ⊥
-IsCause input (faults.NoSuchOutcome outcomes) = ⊥
-IsCause input _ = ⊤
+-- no script is read of the input: it has this first fault. That a read fault comes where a read failed is told by `FailsAs`
+abbrev pub RefusesScript : List ℕ → Fault → Type 0
+RefusesScript input (faults.Script fault) = script_of input ≡ Err fault
+RefusesScript input faults.ReadFault = ⊤
+RefusesScript input faults.OutOfMemory = ⊤
+RefusesScript input fault = ⊥
+
+-- no session is read of the input: one that is too long, or that is none, in its case
+abbrev pub RefusesSession : List ℕ → Fault → Type 0
+RefusesSession input (faults.Session fault) = Refuses input fault
+RefusesSession input faults.LongSession = 67108864 < length input
+RefusesSession input faults.ReadFault = ⊤
+RefusesSession input faults.OutOfMemory = ⊤
+RefusesSession input fault = ⊥
+
+-- the question that was chosen
+abbrev pub question_of : Chosen → Question
+question_of chosen = record { node = chosen.node; topic = chosen.topic; key = chosen.key }
 
 -- nothing is explained of a session's bench
-abbrev pub RefusesAsked : Question → List ℕ → Fault → Type 0
-RefusesAsked question input (faults.Explain fault) = (m : Machine) × IsSession input m × RefusesQuestion m question fault
+abbrev pub RefusesAsked : Chosen → List ℕ → Fault → Type 0
+RefusesAsked question input (faults.Explain fault) = (m : Machine) × IsSession input m × RefusesQuestion m (question_of question) fault
 RefusesAsked question input fault = ⊥
 
 -- what refuses the input of this command: of a race also that a line is no act line, or that the race can't be had; of all orders
 -- that a line is no act line, that there are too many states, or that there is no such outcome; and of what is asked that nothing is explained
 abbrev pub IsCauseOf : Subcommand → Limits → List ℕ → Fault → Type 0
-IsCauseOf Race limits input fault = IsCause input fault ⊎ IsOkAnd (script_of input) (λ s. RefusesRaceOf limits s fault)
-IsCauseOf Play limits input fault = IsCause input fault
-IsCauseOf Load limits input fault = IsCause input fault
-IsCauseOf (Explore reading states outcome) limits input fault = IsCause input fault ⊎ IsOkAnd (script_of input) (λ s. RefusesOrders reading states outcome limits s fault)
+IsCauseOf Race limits input fault = RefusesScript input fault ⊎ IsOkAnd (script_of input) (λ s. RefusesRaceOf limits s fault)
+IsCauseOf Play limits input fault = RefusesScript input fault
+IsCauseOf Load limits input fault = RefusesSession input fault
+IsCauseOf (Explore reading states outcome) limits input fault = RefusesScript input fault ⊎ IsOkAnd (script_of input) (λ s. RefusesOrders (reading_of reading) states outcome limits s fault)
 IsCauseOf Step limits input fault = ⊥
-IsCauseOf (Draw why) limits input fault = IsCause input fault
-IsCauseOf (Explain question) limits input fault = IsCause input fault ⊎ RefusesAsked question input fault
+IsCauseOf (Draw why) limits input fault = RefusesSession input fault
+IsCauseOf (Explain question) limits input fault = RefusesSession input fault ⊎ RefusesAsked question input fault
 
-abbrev pub IsCauseAt : Option (List ℕ) → Fault → Type 0
-IsCauseAt None fault = ⊤
-IsCauseAt (Some input) fault = IsCause input fault
+-- the same, where the reader's bytes are known
+
+abbrev pub RefusesScriptAt : Option (List ℕ) → Fault → Type 0
+RefusesScriptAt None fault = ⊤
+RefusesScriptAt (Some input) fault = RefusesScript input fault
+
+abbrev pub RefusesSessionAt : Option (List ℕ) → Fault → Type 0
+RefusesSessionAt None fault = ⊤
+RefusesSessionAt (Some input) fault = RefusesSession input fault
 
 -- what is shown of a bench that has this report
 abbrev pub shown : Form → List ℕ → Machine → List ℕ
@@ -137,11 +155,11 @@ abbrev pub Prints : Subcommand → Form → Limits → List ℕ → List ℕ →
 Prints Play form limits input text = IsOkAnd (script_of input) (λ s. text ≡ shown form (report_of limits s) (played limits s))
 Prints Race form limits input text = IsOkAnd (script_of input) (λ s. (m : Machine) × IsRaceOf limits s m × (text ≡ shown form (history_text m) m))
 Prints Load form limits input text = (m : Machine) × IsSession input m × (text ≡ shown form (history_text m) m)
-Prints (Explore reading states outcome) form limits input text = IsOkAnd (script_of input) (λ s. TellsOrders reading outcome limits s text)
+Prints (Explore reading states outcome) form limits input text = IsOkAnd (script_of input) (λ s. TellsOrders (reading_of reading) outcome limits s text)
 Prints Step form limits input text =
     (text ≡ printed language limits input) × IfOk (script_of input) (λ s. text ≡ report_of limits s)
 Prints (Draw why) form limits input text = (m : Machine) × IsSession input m × (text ≡ drawn why m)
-Prints (Explain question) form limits input text = (m : Machine) × IsSession input m × IsAnswer m question text
+Prints (Explain question) form limits input text = (m : Machine) × IsSession input m × IsAnswer m (question_of question) text
 
 -- all of the text went out, or, where the writing failed, its first `written` bytes
 abbrev pub EndsAsText : List ℕ → Result (Unit {0}) Fault → Option (List ℕ) → Option (List ℕ) → Type 0
@@ -204,8 +222,16 @@ TellsMemory (faults.Race fault) = fault ≢ races.OutOfMemory
 TellsMemory (faults.Explain fault) = fault ≢ asks.OutOfMemory
 TellsMemory _ = ⊤
 
--- the status is that of an answer by which the choice may end on the input, with what is left of the input and what went out
-pub record Exits (choice : Choice) (input left : Option (List ℕ)) (limits : Limits) (status : ℕ) (old new : Option (List ℕ)) : Type 0 where
+-- a call of `read` failed exactly where a read fault is answered, and then one alone: it wasn't tried again
+abbrev pub FailsAs : {X : Type 0} → Result X Fault → Steps → Steps → Type 0
+FailsAs (Err faults.ReadFault) old new = new.failed ≡ old.failed + 1
+FailsAs (Err (faults.Prompt prompts.ReadFault)) old new = new.failed ≡ old.failed + 1
+FailsAs _ old new = new.failed ≡ old.failed
+
+-- the status is that of an answer by which the choice may end on the input, with what is left of the input, what went out, and
+-- how often the input was read
+pub record Exits (choice : Choice) (input left : Option (List ℕ)) (limits : Limits) (status : ℕ) (old new : Option (List ℕ)) (before after : Steps)
+    : Type 0 where
   pub answer : Result (Unit {0}) Fault
   pub status_is : status ≡ status_of answer
   pub ends : EndsAt choice.command choice.form limits input answer old new
@@ -213,3 +239,25 @@ pub record Exits (choice : Choice) (input left : Option (List ℕ)) (limits : Li
   pub unwritten : IfErr answer (λ fault. KeepsBefore fault old new)
   pub memory : IfErr answer TellsMemory
   pub early : EndsSoon choice.command limits answer input left old new
+  pub failed : FailsAs answer before after
+
+-- help or the version was printed, or a beginning of it, where a write failed
+abbrev pub PrintsHelp : ℕ → Type 0
+PrintsHelp status = (status ≡ 0) ⊎ (status ≡ 3)
+
+-- words that choose nothing are answered: by help or the version, or by a fault that is told, and then nothing went out
+abbrev pub EndsRefused : ErrorKind → ℕ → Option (List ℕ) → Option (List ℕ) → Type 0
+EndsRefused refusals.DisplayHelp status old new = PrintsHelp status
+EndsRefused refusals.DisplayVersion status old new = PrintsHelp status
+EndsRefused refusals.OutOfMemory status old new = (status ≡ 4) × Keeps old new
+EndsRefused kind status old new = (status ≡ 2) × Keeps old new
+
+-- the limits of a bench where nobody says otherwise
+abbrev pub usual : Limits
+usual = record { acts = 100000; entries = 10000; clock = 1000000; messages = 10000 }
+
+-- what the words of the program come to: they choose, and that is done; or they are refused, and nothing was read
+abbrev pub EndsProgram : List (List ℕ) → Option (List ℕ) → Option (List ℕ) → Limits → ℕ → Option (List ℕ) → Option (List ℕ) → Steps → Steps → Type 0
+EndsProgram words input left limits status old new before after =
+    ((choice : Choice) × Chooses words choice × Exits choice input left limits status old new before after)
+    ⊎ ((kind : ErrorKind) × IsRefusal words kind × EndsRefused kind status old new × Keeps input left)

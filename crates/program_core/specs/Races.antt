@@ -39,4 +39,5 @@ RefusesLines limits s fault =
 abbrev pub RefusesRaceOf : Limits → Script → Fault → Type 0
 RefusesRaceOf limits s (faults.Script fault) = with_calls [] s.lines ≡ Err fault
 RefusesRaceOf limits s (faults.Race fault) = RefusesLines limits s fault
-RefusesRaceOf limits s fault = ⊤
+RefusesRaceOf limits s faults.OutOfMemory = ⊤
+RefusesRaceOf limits s fault = ⊥

@@ -2,14 +2,24 @@
 ghost use Rattle.std.specs.Prelude.{◌≡◌, IfOk, IfErr};
 ghost use Rattle.grammar_core.specs.Scripts.{plain_script};
 ghost use Rattle.program_core.specs.Program.{TellsMemory, IsUnwritten};
-ghost use Rattle.program_core.specs.Explored.{fault_of_report, TellsOrders, RefusesOrders};
+ghost use Rattle.program_core.specs.Explored.{fault_of_report, reading_of, TellsOrders, RefusesOrders};
 
 use crate::fault::Fault;
 use bench_core::Limits;
 use explore_core::Reading;
 use explore_report::{ReportFault, order_of_outcome, report_orders};
-use grammar_core::Script;
+use script_core::Script;
 use std::alloc::Allocator;
+
+/// The reading that was chosen.
+pub fn reading_of(chosen: command_line::Reading) -> Reading
+    ensures { result ≡ reading_of chosen }
+{
+    match chosen {
+        command_line::Reading::EveryOrder => Reading::EveryOrder,
+        command_line::Reading::Deliveries => Reading::Deliveries,
+    }
+}
 
 /// The fault of a report of at most so many states as the program's.
 fn fault_of(fault: ReportFault, most: usize) -> Fault

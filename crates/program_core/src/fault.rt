@@ -3,9 +3,8 @@ ghost use Rattle.std.specs.Prelude.{◌≡◌};
 ghost use Rattle.program_core.specs.Program.{fault_status};
 
 use explain_core::AskFault;
-use grammar_core::ScriptFault;
-use play_core::PlayFault;
 use prompt_core::PromptFault;
+use script_core::{PlayFault, ScriptFault};
 use session_core::SessionFault;
 use thiserror::Error;
 use worker_core::RaceFault;

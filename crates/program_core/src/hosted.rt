@@ -1,6 +1,5 @@
 //! `run`: the program on the runtime's words and standard streams.
 use crate::status::{program, want_of_memory};
-use bench_core::Limits;
 use std::io::Write;
 use std::process::{ExitCode, Termination};
 use std::sync::Wait;
@@ -51,6 +50,5 @@ fn status<T: Threads + Wait + Sync>(rt: &HostRuntime, threads: &T) -> u8 {
         &mut rt.reader(),
         &mut output,
         &mut errors,
-        Limits::usual(),
     )
 }

@@ -1,10 +1,9 @@
 //! What the program does, with its words and its streams lent: it reads a script or a saved session, and prints what was chosen
 //! of it.
 //!
-//! Stands on `command_line` (what the words choose), `grammar_core` and `script_core` (scripts and their reports),
-//! `prompt_core` (prompts), `session_core` (sessions) and `session_report` (their reports), `picture_core` (pictures),
-//! `explain_core` (explanations), `worker_core` (races), `explore_report` (all orders) and `bench_core` (limits). In the order
-//! to read them: `fault`, why the program ends early; `texts`, `racing`, `exploring`, `stepping` and `printing`, what is read,
+//! Stands on `command_line` (what the words choose), `script_core` (scripts and their reports), `prompt_core` (prompts),
+//! `session_core` (sessions) and `session_report` (their reports), `picture_core` (pictures), `explain_core` (explanations),
+//! `worker_core` (races), `explore_report` (all orders) and `bench_core` (limits). In the order to read them: `fault`, why the program ends early; `texts`, `racing`, `exploring`, `stepping` and `printing`, what is read,
 //! what a race of it leaves, what all orders of it lead to, what a prompt answers, and what is printed; `status`, the program
 //! from its words to its status; `hosted`, the same on the runtime's words and streams.
 #![tactic(auto)]
@@ -20,4 +19,4 @@ mod texts;
 
 pub use fault::Fault;
 pub use hosted::{Ended, run};
-pub use status::program;
+pub use status::{program, program_counted, program_within};

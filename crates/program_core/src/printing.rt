@@ -1,28 +1,26 @@
 //! What each choice of the command line prints of the input.
-ghost use Rattle.std.specs.Prelude.{IfErr, OnOk};
+ghost use Rattle.std.specs.Prelude.{◌≡◌, IfErr, OnOk};
 ghost use Rattle.std.specs.Io.KnownBytes.{IsAtEnd};
 ghost use Rattle.command_line.specs.declared.chosen.Form.{Form};
 ghost use Rattle.command_line.specs.declared.chosen.Form.TheVariants as forms;
 ghost use Rattle.command_line.specs.declared.chosen.Subcommand.TheVariants as subcommands;
-ghost use Rattle.program_core.specs.Program.{EndsAt, EndsAsText, EndsSoon, KeepsBefore, TellsMemory};
+ghost use Rattle.program_core.specs.Program.{EndsAt, EndsAsText, EndsSoon, FailsAs, KeepsBefore, TellsMemory, question_of};
 
-use crate::exploring::explore_script;
+use crate::exploring::{explore_script, reading_of};
 use crate::fault::Fault;
 use crate::racing::race_script;
 use crate::stepping::step_script;
 use crate::texts::{read_script, read_session, session_line, tell_session};
 use bench_core::Limits;
-use command_line::{Choice, Form, Subcommand};
+use command_line::{Choice, Form, Reading, Subcommand};
 use explain_core::{Question, explain_asked};
-use explore_core::Reading;
 use picture_core::draw;
-use play_core::play;
-use script_core::{report_history, run_script};
+use script_core::{Steps, play_counted, report_history, run_script, write_out};
 use std::alloc::{Allocator, Global};
-use std::io::{BufRead, Read, Write};
+use std::io::{Read, Write};
 use std::sync::Wait;
+use std::sync::ledger::Ledger;
 use std::thread::Threads;
-use stream_core::write_out;
 
 /// Writes the text.
 fn print<W: Write>(writer: &mut W, text: &[u8]) -> Result<(), Fault>
@@ -37,18 +35,20 @@ fn print<W: Write>(writer: &mut W, text: &[u8]) -> Result<(), Fault>
 }
 
 /// A script's report.
-fn play_report<B: Allocator, R: Read, W: Write>(
+fn play_report<B: Allocator, R: Read, W: Write, L: Ledger>(
     alloc: &B,
     reader: &mut R,
     writer: &mut W,
     limits: Limits,
+    steps: &mut Steps<L>,
 ) -> Result<(), Fault>
     ensures ends { EndsAt subcommands.Play forms.Report limits (R.remaining reader.old) result (W.contents writer.old) (W.contents writer.new) }
     ensures read { OnOk result (IsAtEnd (R.remaining reader.new)) }
     ensures unwritten { IfErr result (λ fault. KeepsBefore fault (W.contents writer.old) (W.contents writer.new)) }
     ensures memory { IfErr result TellsMemory }
+    ensures failed { FailsAs result steps.old steps.new }
 {
-    let answer = play(alloc, reader, writer, limits);
+    let answer = play_counted(alloc, reader, writer, limits, steps);
     if let Err(fault) = answer {
         return Err(Fault::from(fault));
     }
@@ -56,19 +56,21 @@ fn play_report<B: Allocator, R: Read, W: Write>(
 }
 
 /// The session of the bench that a script was played on.
-fn play_session<B: Allocator, R: Read, W: Write>(
+fn play_session<B: Allocator, R: Read, W: Write, L: Ledger>(
     reader: &mut R,
     heap: Global,
     alloc: &B,
     writer: &mut W,
     limits: Limits,
+    steps: &mut Steps<L>,
 ) -> Result<(), Fault>
     ensures ends { EndsAt subcommands.Play forms.Session limits (R.remaining reader.old) result (W.contents writer.old) (W.contents writer.new) }
     ensures read { OnOk result (IsAtEnd (R.remaining reader.new)) }
     ensures unwritten { IfErr result (λ fault. KeepsBefore fault (W.contents writer.old) (W.contents writer.new)) }
     ensures memory { IfErr result TellsMemory }
+    ensures failed { FailsAs result steps.old steps.new }
 {
-    let script = read_script(alloc, reader)?;
+    let script = read_script(alloc, reader, steps)?;
     let played = run_script(alloc, &script, limits);
     drop(script);
     let Ok(played) = played else {
@@ -83,19 +85,21 @@ fn play_session<B: Allocator, R: Read, W: Write>(
 }
 
 /// What the calls print in a report that a race of a script's lines recorded.
-fn race_report<B: Allocator + Sync, T: Threads + Wait + Sync, R: Read, W: Write>(
+fn race_report<B: Allocator + Sync, T: Threads + Wait + Sync, R: Read, W: Write, L: Ledger>(
     alloc: &B,
     reader: &mut R,
     writer: &mut W,
     limits: Limits,
     rt: &T,
+    steps: &mut Steps<L>,
 ) -> Result<(), Fault>
     ensures ends { EndsAt subcommands.Race forms.Report limits (R.remaining reader.old) result (W.contents writer.old) (W.contents writer.new) }
     ensures read { OnOk result (IsAtEnd (R.remaining reader.new)) }
     ensures unwritten { IfErr result (λ fault. KeepsBefore fault (W.contents writer.old) (W.contents writer.new)) }
     ensures memory { IfErr result TellsMemory }
+    ensures failed { FailsAs result steps.old steps.new }
 {
-    let script = read_script(alloc, reader)?;
+    let script = read_script(alloc, reader, steps)?;
     let bench = race_script(rt, alloc, &script, limits);
     drop(script);
     let bench = bench?;
@@ -108,20 +112,22 @@ fn race_report<B: Allocator + Sync, T: Threads + Wait + Sync, R: Read, W: Write>
 }
 
 /// The session of the bench that such a race leaves.
-fn race_session<B: Allocator + Sync, T: Threads + Wait + Sync, R: Read, W: Write>(
+fn race_session<B: Allocator + Sync, T: Threads + Wait + Sync, R: Read, W: Write, L: Ledger>(
     rt: &T,
     heap: Global,
     alloc: &B,
     reader: &mut R,
     writer: &mut W,
     limits: Limits,
+    steps: &mut Steps<L>,
 ) -> Result<(), Fault>
     ensures ends { EndsAt subcommands.Race forms.Session limits (R.remaining reader.old) result (W.contents writer.old) (W.contents writer.new) }
     ensures read { OnOk result (IsAtEnd (R.remaining reader.new)) }
     ensures unwritten { IfErr result (λ fault. KeepsBefore fault (W.contents writer.old) (W.contents writer.new)) }
     ensures memory { IfErr result TellsMemory }
+    ensures failed { FailsAs result steps.old steps.new }
 {
-    let script = read_script(alloc, reader)?;
+    let script = read_script(alloc, reader, steps)?;
     let bench = race_script(rt, alloc, &script, limits);
     drop(script);
     let bench = bench?;
@@ -134,38 +140,42 @@ fn race_session<B: Allocator + Sync, T: Threads + Wait + Sync, R: Read, W: Write
 }
 
 /// What the calls of a session print in a report.
-fn load_report<B: Allocator, R: Read, W: Write>(
+fn load_report<B: Allocator, R: Read, W: Write, L: Ledger>(
     heap: Global,
     alloc: &B,
     reader: &mut R,
     writer: &mut W,
     limits: Limits,
+    steps: &mut Steps<L>,
 ) -> Result<(), Fault>
     ensures ends { EndsAt subcommands.Load forms.Report limits (R.remaining reader.old) result (W.contents writer.old) (W.contents writer.new) }
     ensures read { OnOk result (IsAtEnd (R.remaining reader.new)) }
     ensures unwritten { IfErr result (λ fault. KeepsBefore fault (W.contents writer.old) (W.contents writer.new)) }
     ensures memory { IfErr result TellsMemory }
+    ensures failed { FailsAs result steps.old steps.new }
 {
-    let told = tell_session(heap, alloc, reader)?;
+    let told = tell_session(heap, alloc, reader, steps)?;
     let printed = print(writer, &told.report);
     drop(told);
     printed
 }
 
 /// A session, once it was played again.
-fn load_session<B: Allocator, R: Read, W: Write>(
+fn load_session<B: Allocator, R: Read, W: Write, L: Ledger>(
     reader: &mut R,
     heap: Global,
     alloc: &B,
     writer: &mut W,
     limits: Limits,
+    steps: &mut Steps<L>,
 ) -> Result<(), Fault>
     ensures ends { EndsAt subcommands.Load forms.Session limits (R.remaining reader.old) result (W.contents writer.old) (W.contents writer.new) }
     ensures read { OnOk result (IsAtEnd (R.remaining reader.new)) }
     ensures unwritten { IfErr result (λ fault. KeepsBefore fault (W.contents writer.old) (W.contents writer.new)) }
     ensures memory { IfErr result TellsMemory }
+    ensures failed { FailsAs result steps.old steps.new }
 {
-    let bench = read_session(heap, alloc, reader)?;
+    let bench = read_session(heap, alloc, reader, steps)?;
     let text = session_line(heap, &bench);
     drop(bench);
     let Ok(text) = text else {
@@ -175,7 +185,7 @@ fn load_session<B: Allocator, R: Read, W: Write>(
 }
 
 /// What all orders of a script's act lines lead to, or the order of an outcome.
-fn explore_orders<B: Allocator, R: Read, W: Write>(
+fn explore_orders<B: Allocator, R: Read, W: Write, L: Ledger>(
     alloc: &B,
     reader: &mut R,
     writer: &mut W,
@@ -183,21 +193,23 @@ fn explore_orders<B: Allocator, R: Read, W: Write>(
     reading: Reading,
     states: usize,
     outcome: Option<u64>,
+    steps: &mut Steps<L>,
 ) -> Result<(), Fault>
     ensures ends { (form : Form) → EndsAt (subcommands.Explore reading states outcome) form limits (R.remaining reader.old) result (W.contents writer.old) (W.contents writer.new) }
     ensures read { OnOk result (IsAtEnd (R.remaining reader.new)) }
     ensures unwritten { IfErr result (λ fault. KeepsBefore fault (W.contents writer.old) (W.contents writer.new)) }
     ensures memory { IfErr result TellsMemory }
+    ensures failed { FailsAs result steps.old steps.new }
 {
-    let script = read_script(alloc, reader)?;
-    let text = explore_script(alloc, &script, limits, reading, states, outcome);
+    let script = read_script(alloc, reader, steps)?;
+    let text = explore_script(alloc, &script, limits, reading_of(reading), states, outcome);
     drop(script);
     let text = text?;
     print(writer, &text)
 }
 
 /// A picture of a session, once it was played again.
-fn draw_session<B: Allocator, R: Read, W: Write>(
+fn draw_session<B: Allocator, R: Read, W: Write, L: Ledger>(
     heap: Global,
     alloc: &B,
     reader: &mut R,
@@ -205,13 +217,15 @@ fn draw_session<B: Allocator, R: Read, W: Write>(
     limits: Limits,
     form: Form,
     why: Option<u64>,
+    steps: &mut Steps<L>,
 ) -> Result<(), Fault>
     ensures ends { EndsAt (subcommands.Draw why) form limits (R.remaining reader.old) result (W.contents writer.old) (W.contents writer.new) }
     ensures read { OnOk result (IsAtEnd (R.remaining reader.new)) }
     ensures unwritten { IfErr result (λ fault. KeepsBefore fault (W.contents writer.old) (W.contents writer.new)) }
     ensures memory { IfErr result TellsMemory }
+    ensures failed { FailsAs result steps.old steps.new }
 {
-    let bench = read_session(heap, alloc, reader)?;
+    let bench = read_session(heap, alloc, reader, steps)?;
     let picture = draw(alloc, &bench, why);
     drop(bench);
     let Ok(text) = picture else {
@@ -220,23 +234,36 @@ fn draw_session<B: Allocator, R: Read, W: Write>(
     print(writer, &text)
 }
 
+/// The question that was chosen.
+fn question_of<'w>(chosen: command_line::Question<'w>) -> Question<'w>
+    ensures { result ≡ question_of chosen.entry }
+{
+    Question {
+        node: chosen.node,
+        topic: chosen.topic,
+        key: chosen.key,
+    }
+}
+
 /// Why presences of a session are online at a node, once it was played again.
-fn explain_session<B: Allocator, R: Read, W: Write>(
+fn explain_session<B: Allocator, R: Read, W: Write, L: Ledger>(
     heap: Global,
     alloc: &B,
     reader: &mut R,
     writer: &mut W,
     limits: Limits,
     form: Form,
-    question: Question<'_>,
+    question: command_line::Question<'_>,
+    steps: &mut Steps<L>,
 ) -> Result<(), Fault>
     ensures ends { EndsAt (subcommands.Explain question.entry) form limits (R.remaining reader.old) result (W.contents writer.old) (W.contents writer.new) }
     ensures read { OnOk result (IsAtEnd (R.remaining reader.new)) }
     ensures unwritten { IfErr result (λ fault. KeepsBefore fault (W.contents writer.old) (W.contents writer.new)) }
     ensures memory { IfErr result TellsMemory }
+    ensures failed { FailsAs result steps.old steps.new }
 {
-    let bench = read_session(heap, alloc, reader)?;
-    let told = explain_asked(alloc, &bench, question);
+    let bench = read_session(heap, alloc, reader, steps)?;
+    let told = explain_asked(alloc, &bench, question_of(question));
     drop(bench);
     let text = match told {
         Ok(text) => text,
@@ -247,8 +274,8 @@ fn explain_session<B: Allocator, R: Read, W: Write>(
 
 /// Reads the whole input, plays it as was chosen, and then prints; nothing is written before the whole text stands, but at a
 /// prompt, where each line is answered before the next is read. Limits are those of a script's bench; a session has its own.
-/// JSON takes its memory from `heap`, and all else from `alloc`.
-pub fn answer<B: Allocator + Sync, T: Threads + Wait + Sync, R: BufRead, W: Write>(
+/// JSON takes its memory from `heap`, and all else from `alloc`. `steps` counts the calls of `read`.
+pub fn answer<B: Allocator + Sync, T: Threads + Wait + Sync, R: Read, W: Write, L: Ledger>(
     rt: &T,
     heap: Global,
     alloc: &B,
@@ -256,21 +283,29 @@ pub fn answer<B: Allocator + Sync, T: Threads + Wait + Sync, R: BufRead, W: Writ
     reader: &mut R,
     writer: &mut W,
     limits: Limits,
+    steps: &mut Steps<L>,
 ) -> Result<(), Fault>
     ensures ends { EndsAt choice.entry.command choice.entry.form limits (R.remaining reader.old) result (W.contents writer.old) (W.contents writer.new) }
     ensures read { OnOk result (IsAtEnd (R.remaining reader.new)) }
     ensures unwritten { IfErr result (λ fault. KeepsBefore fault (W.contents writer.old) (W.contents writer.new)) }
     ensures memory { IfErr result TellsMemory }
+    ensures failed { FailsAs result steps.old steps.new }
     ensures early { EndsSoon choice.entry.command limits result (R.remaining reader.old) (R.remaining reader.new) (W.contents writer.old) (W.contents writer.new) }
 {
     match (choice.command, choice.form) {
-        (Subcommand::Play, Form::Report) => play_report(alloc, reader, writer, limits),
-        (Subcommand::Play, Form::Session) => play_session(reader, heap, alloc, writer, limits),
-        (Subcommand::Race, Form::Report) => race_report(alloc, reader, writer, limits, rt),
-        (Subcommand::Race, Form::Session) => race_session(rt, heap, alloc, reader, writer, limits),
-        (Subcommand::Load, Form::Report) => load_report(heap, alloc, reader, writer, limits),
-        (Subcommand::Load, Form::Session) => load_session(reader, heap, alloc, writer, limits),
-        (Subcommand::Step, _) => step_script(heap, alloc, reader, writer, limits),
+        (Subcommand::Play, Form::Report) => play_report(alloc, reader, writer, limits, steps),
+        (Subcommand::Play, Form::Session) => play_session(
+            reader, heap, alloc, writer, limits, steps,
+        ),
+        (Subcommand::Race, Form::Report) => race_report(alloc, reader, writer, limits, rt, steps),
+        (Subcommand::Race, Form::Session) => race_session(
+            rt, heap, alloc, reader, writer, limits, steps,
+        ),
+        (Subcommand::Load, Form::Report) => load_report(heap, alloc, reader, writer, limits, steps),
+        (Subcommand::Load, Form::Session) => load_session(
+            reader, heap, alloc, writer, limits, steps,
+        ),
+        (Subcommand::Step, _) => step_script(heap, alloc, reader, writer, limits, steps),
         (
             Subcommand::Explore {
                 reading,
@@ -278,12 +313,14 @@ pub fn answer<B: Allocator + Sync, T: Threads + Wait + Sync, R: BufRead, W: Writ
                 outcome,
             },
             _,
-        ) => explore_orders(alloc, reader, writer, limits, reading, states, outcome),
+        ) => explore_orders(
+            alloc, reader, writer, limits, reading, states, outcome, steps,
+        ),
         (Subcommand::Draw { why }, form) => draw_session(
-            heap, alloc, reader, writer, limits, form, why,
+            heap, alloc, reader, writer, limits, form, why, steps,
         ),
         (Subcommand::Explain(question), form) => explain_session(
-            heap, alloc, reader, writer, limits, form, question,
+            heap, alloc, reader, writer, limits, form, question, steps,
         ),
     }
 }

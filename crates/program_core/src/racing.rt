@@ -6,7 +6,7 @@ ghost use Rattle.program_core.specs.Races.{IsRaceOf, RefusesRaceOf};
 
 use crate::fault::Fault;
 use bench_core::{Bench, Limits};
-use grammar_core::{FaultKind, Script, actors, acts, node_names};
+use script_core::{FaultKind, Script, actors, acts, node_names};
 use std::alloc::Allocator;
 use std::sync::Wait;
 use std::thread::Threads;

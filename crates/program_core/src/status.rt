@@ -1,17 +1,22 @@
 //! `program`: from the words to the status, with the streams lent.
-ghost use Rattle.std.specs.Prelude.{◌≡◌};
+ghost use Rattle.std.specs.Prelude.{◌≡◌, map};
 ghost use Rattle.std.specs.Io.KnownBytes.{Keeps};
-ghost use Rattle.program_core.specs.Program.{status_of, Exits};
+ghost use Rattle.clap.specs.Words.{kind_of};
+ghost use Rattle.program_core.specs.Program.{status_of, EndsProgram, EndsRefused, Exits, PrintsHelp, usual};
+ghost use Rattle.stream_core.specs.Steps.{Steps as Count};
 
 use crate::fault::Fault;
 use crate::printing::answer;
 use bench_core::Limits;
 use clap::error::ErrorKind;
 use command_line::{Choice, choice};
+use script_core::Steps;
 use std::alloc::{Allocator, Global};
 use std::convert::AsStr;
-use std::io::{BufRead, Write};
+use std::io::{Read, Write};
+use std::marker::Brand;
 use std::sync::Wait;
+use std::sync::ledger::{Blank, Ledger};
 use std::thread::Threads;
 
 /// The status of an answer.
@@ -25,7 +30,14 @@ fn status_of(answer: Result<(), Fault>) -> u8
 }
 
 /// Does what was chosen, and gives the status. A fault goes as one line to the errors, where these can be written.
-fn run_choice<B: Allocator + Sync, T: Threads + Wait + Sync, R: BufRead, W: Write, E: Write>(
+fn run_choice<
+    B: Allocator + Sync,
+    T: Threads + Wait + Sync,
+    R: Read,
+    W: Write,
+    E: Write,
+    L: Ledger,
+>(
     rt: &T,
     heap: Global,
     alloc: &B,
@@ -34,11 +46,12 @@ fn run_choice<B: Allocator + Sync, T: Threads + Wait + Sync, R: BufRead, W: Writ
     writer: &mut W,
     errors: &mut E,
     limits: Limits,
+    steps: &mut Steps<L>,
 ) -> u8
-    ensures exits { Exits choice.entry (R.remaining reader.old) (R.remaining reader.new) limits result (W.contents writer.old) (W.contents writer.new) }
+    ensures exits { Exits choice.entry (R.remaining reader.old) (R.remaining reader.new) limits result (W.contents writer.old) (W.contents writer.new) steps.old steps.new }
     ensures quiet { result ≡ 0 → Keeps (E.contents errors.old) (E.contents errors.new) }
 {
-    let answer = answer(rt, heap, alloc, choice, reader, writer, limits);
+    let answer = answer(rt, heap, alloc, choice, reader, writer, limits, steps);
     if let Err(fault) = answer {
         let _ = writeln!(errors, "presence_bench: {fault}");
     }
@@ -53,31 +66,104 @@ pub fn want_of_memory<E: Write>(errors: &mut E) -> u8
     4
 }
 
-/// Answers words that choose nothing: help and the version go to the output, a fault of the words to the errors.
-fn refuse<W: Write, E: Write>(fault: &clap::Error, writer: &mut W, errors: &mut E) -> u8
+/// Prints help or the version, and gives the status of that.
+fn print_help<W: Write, E: Write>(help: &clap::Error, writer: &mut W, errors: &mut E) -> u8
+    ensures status { PrintsHelp result }
     ensures quiet { result ≡ 0 → Keeps (E.contents errors.old) (E.contents errors.new) }
 {
-    if fault.kind() == ErrorKind::OutOfMemory {
-        return want_of_memory(errors);
-    }
-    if fault.use_stderr() {
-        let _ = write!(errors, "{fault}");
-        return 2;
-    }
-    if write!(writer, "{fault}").is_err() {
+    if write!(writer, "{help}").is_err() {
         let _ = writeln!(errors, "presence_bench: write fault");
         return 3;
     }
     0
 }
 
-/// Does what the words after the program's name ask, and gives the status. The words and JSON are read in memory of `heap`, and
-/// all else is done in that of `alloc`.
-pub fn program<
+/// Answers words that choose nothing: help and the version go to the output, a fault of the words to the errors.
+fn refuse<W: Write, E: Write>(fault: &clap::Error, writer: &mut W, errors: &mut E) -> u8
+    ensures ends { EndsRefused (kind_of fault.now) result (W.contents writer.old) (W.contents writer.new) }
+    ensures quiet { result ≡ 0 → Keeps (E.contents errors.old) (E.contents errors.new) }
+{
+    match fault.kind() {
+        ErrorKind::OutOfMemory => want_of_memory(errors),
+        ErrorKind::DisplayHelp | ErrorKind::DisplayVersion => print_help(fault, writer, errors),
+        _ => {
+            let _ = write!(errors, "{fault}");
+            2
+        }
+    }
+}
+
+/// Does what the words after the program's name ask, on benches with these limits, and gives the status. The words and JSON are
+/// read in memory of `heap`, and all else is done in that of `alloc`. `steps` counts the calls of `read`.
+pub fn program_counted<
     S: AsStr,
     B: Allocator + Sync,
     T: Threads + Wait + Sync,
-    R: BufRead,
+    R: Read,
+    W: Write,
+    E: Write,
+    L: Ledger,
+>(
+    rt: &T,
+    heap: Global,
+    alloc: &B,
+    words: &[S],
+    reader: &mut R,
+    writer: &mut W,
+    errors: &mut E,
+    limits: Limits,
+    steps: &mut Steps<L>,
+) -> u8
+    ensures ends { EndsProgram (map S.text words.now) (R.remaining reader.old) (R.remaining reader.new) limits result (W.contents writer.old) (W.contents writer.new) steps.old steps.new }
+    ensures quiet { result ≡ 0 → Keeps (E.contents errors.old) (E.contents errors.new) }
+{
+    match choice(heap, words) {
+        Ok(choice) => run_choice(
+            rt, heap, alloc, choice, reader, writer, errors, limits, steps,
+        ),
+        Err(fault) => refuse(&fault, writer, errors),
+    }
+}
+
+/// `program_counted` with a count of its own, which is let go. The words have a size of their own behind a second reference, as
+/// what is passed with a count has to.
+fn program_from<
+    S: AsStr,
+    B: Allocator + Sync,
+    T: Threads + Wait + Sync,
+    R: Read,
+    W: Write,
+    E: Write,
+    L: Ledger,
+>(
+    rt: &T,
+    heap: Global,
+    alloc: &B,
+    words: &&[S],
+    reader: &mut R,
+    writer: &mut W,
+    errors: &mut E,
+    limits: Limits,
+    blank: Blank,
+) -> u8
+    requires name { blank.name ≡ L.name }
+    requires parts { blank.parts ≡ L.parts }
+    requires two { blank.parts ≡ 2 }
+    ensures ends { (before after : Count) × EndsProgram (map S.text words.now.now) (R.remaining reader.old) (R.remaining reader.new) limits result (W.contents writer.old) (W.contents writer.new) before after }
+    ensures quiet { result ≡ 0 → Keeps (E.contents errors.old) (E.contents errors.new) }
+{
+    let mut steps = Steps::<L>::new(blank);
+    program_counted(
+        rt, heap, alloc, *words, reader, writer, errors, limits, &mut steps,
+    )
+}
+
+/// The same as `program_counted`, for whoever counts no calls of `read`.
+pub fn program_within<
+    S: AsStr,
+    B: Allocator + Sync,
+    T: Threads + Wait + Sync,
+    R: Read,
     W: Write,
     E: Write,
 >(
@@ -90,10 +176,50 @@ pub fn program<
     errors: &mut E,
     limits: Limits,
 ) -> u8
+    ensures ends { (before after : Count) × EndsProgram (map S.text words.now) (R.remaining reader.old) (R.remaining reader.new) limits result (W.contents writer.old) (W.contents writer.new) before after }
     ensures quiet { result ≡ 0 → Keeps (E.contents errors.old) (E.contents errors.new) }
 {
-    match choice(heap, words) {
-        Ok(choice) => run_choice(rt, heap, alloc, choice, reader, writer, errors, limits),
-        Err(fault) => refuse(&fault, writer, errors),
-    }
+    program_from::<S, B, T, R, W, E, Brand>(
+        rt,
+        heap,
+        alloc,
+        &words,
+        reader,
+        writer,
+        errors,
+        limits,
+        Blank::new(2),
+    )
+}
+
+/// The program: `program_within` the usual limits.
+pub fn program<
+    S: AsStr,
+    B: Allocator + Sync,
+    T: Threads + Wait + Sync,
+    R: Read,
+    W: Write,
+    E: Write,
+>(
+    rt: &T,
+    heap: Global,
+    alloc: &B,
+    words: &[S],
+    reader: &mut R,
+    writer: &mut W,
+    errors: &mut E,
+) -> u8
+    ensures ends { (before after : Count) × EndsProgram (map S.text words.now) (R.remaining reader.old) (R.remaining reader.new) usual result (W.contents writer.old) (W.contents writer.new) before after }
+    ensures quiet { result ≡ 0 → Keeps (E.contents errors.old) (E.contents errors.new) }
+{
+    program_within(
+        rt,
+        heap,
+        alloc,
+        words,
+        reader,
+        writer,
+        errors,
+        Limits::usual(),
+    )
 }

@@ -2,7 +2,7 @@
 ghost use Rattle.std.specs.Prelude.{◌≡◌, IfErr, OnOk};
 ghost use Rattle.std.specs.Io.KnownBytes.{IsAtEnd};
 ghost use Rattle.command_line.specs.Help.{language};
-ghost use Rattle.program_core.specs.Program.{EndsAt, EndsSoon, KeepsBefore, TellsMemory};
+ghost use Rattle.program_core.specs.Program.{EndsAt, EndsSoon, FailsAs, KeepsBefore, TellsMemory};
 ghost use Rattle.command_line.specs.declared.chosen.Form.{Form};
 ghost use Rattle.command_line.specs.declared.chosen.Subcommand.TheVariants as subcommands;
 
@@ -10,9 +10,11 @@ use crate::fault::Fault;
 use bench_core::Limits;
 use command_line::LANGUAGE;
 use prompt_core::laws::report_law;
-use prompt_core::step;
+use prompt_core::step_counted;
+use script_core::Steps;
 use std::alloc::{Allocator, Global};
-use std::io::{BufRead, Write};
+use std::io::{Read, Write};
+use std::sync::ledger::Ledger;
 
 /// What `:help` prints.
 #[tactic(auto, unfolding(command_line::specs::Help::language))]
@@ -23,21 +25,23 @@ fn help() -> &'static str
 }
 
 /// Answers the lines of a script one by one, each before the next is read.
-pub fn step_script<B: Allocator, R: BufRead, W: Write>(
+pub fn step_script<B: Allocator, R: Read, W: Write, L: Ledger>(
     heap: Global,
     alloc: &B,
     reader: &mut R,
     writer: &mut W,
     limits: Limits,
+    steps: &mut Steps<L>,
 ) -> Result<(), Fault>
     ensures ends { (form : Form) → EndsAt subcommands.Step form limits (R.remaining reader.old) result (W.contents writer.old) (W.contents writer.new) }
     ensures read { OnOk result (IsAtEnd (R.remaining reader.new)) }
     ensures unwritten { IfErr result (λ fault. KeepsBefore fault (W.contents writer.old) (W.contents writer.new)) }
     ensures memory { IfErr result TellsMemory }
+    ensures failed { FailsAs result steps.old steps.new }
     ensures early { EndsSoon subcommands.Step limits result (R.remaining reader.old) (R.remaining reader.new) (W.contents writer.old) (W.contents writer.new) }
 {
     report_law();
-    match step(heap, alloc, reader, writer, limits, help()) {
+    match step_counted(heap, alloc, reader, writer, limits, help(), steps) {
         Ok(()) => Ok(()),
         Err(fault) => Err(Fault::Prompt(fault)),
     }

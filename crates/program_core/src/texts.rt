@@ -2,19 +2,20 @@
 ghost use Rattle.std.specs.Prelude.{◌≡◌, IfOk, IfErr, OnOk};
 ghost use Rattle.std.specs.Io.KnownBytes.{IsAtEnd};
 ghost use Rattle.stream_core.specs.Inputs.{IsWhole};
-ghost use Rattle.script_core.specs.Report.{history_text};
+ghost use Rattle.run_core.specs.Report.{history_text};
 ghost use Rattle.grammar_core.specs.Scripts.{plain_script};
-ghost use Rattle.program_core.specs.Program.{IsCauseAt, IsScriptAt, IsSessionAt, IsUnwritten, TellsMemory, session_text};
+ghost use Rattle.program_core.specs.Program.{FailsAs, IsScriptAt, IsSessionAt, IsUnwritten, RefusesScriptAt, RefusesSessionAt, TellsMemory, session_text};
 
 use crate::fault::Fault;
 use bench_core::Bench;
-use grammar_core::{FaultKind, Script, ScriptFault, parse_script};
-use script_core::Played;
+use script_core::{
+    FaultKind, InputFault, Played, Script, ScriptFault, Steps, parse_script, read_all,
+};
 use session_core::{SessionFault, load, save};
 use session_report::report_session;
 use std::alloc::{AllocError, Allocator, Global};
 use std::io::Read;
-use stream_core::{InputFault, read_all};
+use std::sync::ledger::Ledger;
 
 /// The most bytes of a script.
 const LONGEST_SCRIPT: usize = 1_048_576;
@@ -23,17 +24,19 @@ const LONGEST_SCRIPT: usize = 1_048_576;
 const LONGEST_SESSION: usize = 67_108_864;
 
 /// The script that the input spells.
-pub fn read_script<'a, B: Allocator, R: Read>(
+pub fn read_script<'a, B: Allocator, R: Read, L: Ledger>(
     alloc: &'a B,
     reader: &mut R,
+    steps: &mut Steps<L>,
 ) -> Result<Script<&'a B>, Fault>
     ensures script { IfOk result (λ script. IsScriptAt (R.remaining reader.old) (plain_script script)) }
-    ensures cause { IfErr result (IsCauseAt (R.remaining reader.old)) }
+    ensures cause { IfErr result (RefusesScriptAt (R.remaining reader.old)) }
     ensures memory { IfErr result TellsMemory }
     ensures unwritten { IfErr result IsUnwritten }
     ensures read { OnOk result (IsAtEnd (R.remaining reader.new)) }
+    ensures failed { FailsAs result steps.old steps.new }
 {
-    let input = match read_all(alloc, reader, LONGEST_SCRIPT) {
+    let input = match read_all(alloc, reader, LONGEST_SCRIPT, steps) {
         Ok(input) => input,
         Err(InputFault::ReadFault) => return Err(Fault::ReadFault),
         Err(InputFault::TooLong) => {
@@ -52,17 +55,19 @@ pub fn read_script<'a, B: Allocator, R: Read>(
 }
 
 /// What a session is read of. Of an input that is too long no more is kept than a session may have.
-fn session_input<'a, B: Allocator, R: Read>(
+fn session_input<'a, B: Allocator, R: Read, L: Ledger>(
     alloc: &'a B,
     reader: &mut R,
+    steps: &mut Steps<L>,
 ) -> Result<Vec<u8, &'a B>, Fault>
     ensures whole { IfOk result (λ bytes. IsWhole (R.remaining reader.old) bytes.items) }
-    ensures cause { IfErr result (IsCauseAt (R.remaining reader.old)) }
+    ensures cause { IfErr result (RefusesSessionAt (R.remaining reader.old)) }
     ensures memory { IfErr result TellsMemory }
     ensures unwritten { IfErr result IsUnwritten }
     ensures read { OnOk result (IsAtEnd (R.remaining reader.new)) }
+    ensures failed { FailsAs result steps.old steps.new }
 {
-    match read_all(alloc, reader, LONGEST_SESSION) {
+    match read_all(alloc, reader, LONGEST_SESSION, steps) {
         Ok(input) => Ok(input),
         Err(InputFault::ReadFault) => Err(Fault::ReadFault),
         Err(InputFault::TooLong) => Err(Fault::LongSession),
@@ -71,18 +76,20 @@ fn session_input<'a, B: Allocator, R: Read>(
 }
 
 /// The bench of the session that the input is.
-pub fn read_session<'a, B: Allocator, R: Read>(
+pub fn read_session<'a, B: Allocator, R: Read, L: Ledger>(
     heap: Global,
     alloc: &'a B,
     reader: &mut R,
+    steps: &mut Steps<L>,
 ) -> Result<Bench<'a, B>, Fault>
     ensures session { IfOk result (IsSessionAt (R.remaining reader.old)) }
-    ensures cause { IfErr result (IsCauseAt (R.remaining reader.old)) }
+    ensures cause { IfErr result (RefusesSessionAt (R.remaining reader.old)) }
     ensures memory { IfErr result TellsMemory }
     ensures unwritten { IfErr result IsUnwritten }
     ensures read { OnOk result (IsAtEnd (R.remaining reader.new)) }
+    ensures failed { FailsAs result steps.old steps.new }
 {
-    let input = session_input(alloc, reader)?;
+    let input = session_input(alloc, reader, steps)?;
     match load(heap, alloc, &input) {
         Ok(bench) => Ok(bench),
         Err(SessionFault::OutOfMemory) => Err(Fault::OutOfMemory),
@@ -91,19 +98,21 @@ pub fn read_session<'a, B: Allocator, R: Read>(
 }
 
 /// The bench of the session that the input is, with what its calls print.
-pub fn tell_session<'a, B: Allocator, R: Read>(
+pub fn tell_session<'a, B: Allocator, R: Read, L: Ledger>(
     heap: Global,
     alloc: &'a B,
     reader: &mut R,
+    steps: &mut Steps<L>,
 ) -> Result<Played<'a, B>, Fault>
     ensures session { IfOk result (λ told. IsSessionAt (R.remaining reader.old) told.bench) }
     ensures report { IfOk result (λ told. told.report.items ≡ history_text told.bench) }
-    ensures cause { IfErr result (IsCauseAt (R.remaining reader.old)) }
+    ensures cause { IfErr result (RefusesSessionAt (R.remaining reader.old)) }
     ensures memory { IfErr result TellsMemory }
     ensures unwritten { IfErr result IsUnwritten }
     ensures read { OnOk result (IsAtEnd (R.remaining reader.new)) }
+    ensures failed { FailsAs result steps.old steps.new }
 {
-    let input = session_input(alloc, reader)?;
+    let input = session_input(alloc, reader, steps)?;
     match report_session(heap, alloc, &input) {
         Ok(told) => Ok(told),
         Err(SessionFault::OutOfMemory) => Err(Fault::OutOfMemory),

@@ -5,7 +5,7 @@ use Rattle.std.proofs.lemmas.List.{length-take-le, take_all}
 use Rattle.std.proofs.lemmas.Slice.Eq.{bytes_eq-Decides}
 use Rattle.std.specs.Str.{bytes_eq}
 use Rattle.grammar_core.specs.Grammar.{Reading, with_line}
-use Rattle.script_core.specs.Prompts.{Prompt, answered, taken}
+use Rattle.run_core.specs.Prompts.{Prompt, answered, taken}
 use Rattle.grammar_core.specs.declared.fault.FaultKind.TheVariants.{TooLong}
 use Rattle.prompt_core.specs.declared.stepping.TheConstants.{KEPT}
 use Rattle.prompt_core.specs.Answers.{answer, answer_by, fault_line, faulty, own_answer}

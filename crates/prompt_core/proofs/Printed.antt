@@ -10,8 +10,8 @@ use Rattle.grammar_core.specs.Words.{lines_of}
 use Rattle.grammar_core.specs.Grammar.{Reading, script_of, with_line, with_words}
 use Rattle.std.specs.Io.BufRead.{drop_through, first_piece}
 use Rattle.prompt_core.proofs.Split.{IsSplit, More, Last, split}
-use Rattle.script_core.specs.Prompts.{Prompt, PromptLaw, all_taken, answered, asked, new_prompt, opened, taken}
-use Rattle.script_core.specs.Report.{commands_of, commands_text, report_of}
+use Rattle.run_core.specs.Prompts.{Prompt, PromptLaw, all_taken, answered, asked, new_prompt, opened, taken}
+use Rattle.run_core.specs.Report.{commands_of, commands_text, report_of}
 use Rattle.prompt_core.specs.Answers.{answer, answer_by, answers}
 
 abbrev Next : Type 0

@@ -3,7 +3,7 @@ use Rattle.std.proofs.Common.{◌≡◌, ◌≢◌, ℕ, ◌<◌, ◌≤◌, nat
 use Rattle.bench_core.specs.Machine.{Machine}
 use Rattle.bench_core.specs.NameList.{number_in}
 use Rattle.grammar_core.specs.Grammar.{Reading, with_line, with_words}
-use Rattle.script_core.specs.Prompts.{Prompt, answered, taken}
+use Rattle.run_core.specs.Prompts.{Prompt, answered, taken}
 use Rattle.grammar_core.specs.Words.{is_text, words_of}
 use Rattle.grammar_core.specs.declared.fault.FaultKind.{FaultKind}
 use Rattle.grammar_core.specs.declared.fault.FaultKind.TheVariants.{NotText, OutOfMemory, TooLong}

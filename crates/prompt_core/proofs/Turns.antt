@@ -1,26 +1,28 @@
 -- A turn of a prompt: a line is taken in, and its answer goes out.
-use Rattle.std.proofs.Common.{◌≡◌, ℕ, ◌+◌, ◌-◌, ◌^◌, ◌<◌, ◌≤◌, List, [], ◌++◌, length, take, drop, Option, Some, None, Result, Ok, Err, IfErr, IfOk, ◌≢◌, refl, sym, ap, ap₂, ◌∙◌, subst, append_assoc, append-nil, arith}
+use Rattle.std.proofs.Common.{◌≡◌, ℕ, ◌+◌, ◌-◌, ◌^◌, ◌<◌, ◌≤◌, List, [], ◌++◌, length, take, drop, Option, Some, None, Result, Ok, Err, IfOk, ◌≢◌, refl, sym, ap, ap₂, ◌∙◌, subst, append_assoc, append-nil, arith}
 use Rattle.std.proofs.KnownBytes.{Appends-nil, Appends-trans}
 use Rattle.std.proofs.Math.Seq.{take-append_seam}
 use Rattle.std.proofs.lemmas.List.{length-append, take-append-drop}
-use Rattle.std.proofs.lemmas.List.Elements.{All-nil}
+use Rattle.std.proofs.lemmas.List.Elements.{All-nil, All-take}
+use Rattle.std.specs.List.{All}
 use Rattle.std.specs.Io.{StartsWith, StopsAt}
 use Rattle.std.specs.Io.BufRead.{drop_through, first_piece, take_through}
 use Rattle.std.specs.Io.KnownBytes.{Appends}
 use Rattle.bench_core.specs.Limits.{Limits}
 use Rattle.grammar_core.specs.Grammar.{script_of}
-use Rattle.script_core.specs.Prompts.{Prompt, new_prompt}
-use Rattle.script_core.specs.Report.{report_of}
+use Rattle.run_core.specs.Prompts.{Prompt, new_prompt}
+use Rattle.run_core.specs.Report.{report_of}
 use Rattle.grammar_core.specs.Scripts.{Script}
 use Rattle.grammar_core.specs.declared.fault.ScriptFault.{ScriptFault}
 use Rattle.grammar_core.specs.Words.{lines_of}
 use Rattle.prompt_core.specs.Answers.{answer, answers}
-use Rattle.stream_core.specs.NextLines.{IsEndless, IsNext, TakesLine, kept}
-use Rattle.prompt_core.specs.Ends.{Answers, EndsEarly, IsCutShort, ReportLaw, Reports, of_input, printed}
+use Rattle.stream_core.specs.NextLines.{IsEndless, IsNext, TakesLine, TakesPart, kept}
+use Rattle.stream_core.specs.Steps.{FailsAs as InputFailsAs, Steps}
+use Rattle.prompt_core.specs.Ends.{Answers, EndsEarly, FailsAs, IsCutShort, ReportLaw, Reports, of_input, printed}
 use Rattle.prompt_core.specs.declared.stepping.TheConstants.{KEPT}
 use Rattle.prompt_core.specs.declared.prompt_fault.PromptFault.{PromptFault}
 use Rattle.prompt_core.specs.declared.prompt_fault.PromptFault.TheVariants as prompts
-use Rattle.prompt_core.specs.declared.prompt_fault.PromptFault.TheVariants.{WriteFault}
+use Rattle.prompt_core.specs.declared.prompt_fault.PromptFault.TheVariants.{ReadFault, WriteFault}
 use Rattle.stream_core.specs.declared.stream_fault.InputFault.{InputFault}
 use Rattle.stream_core.specs.declared.stream_fault.InputFault.TheVariants as inputs
 use Rattle.prompt_core.proofs.Kept.{kept_answer}
@@ -79,8 +81,8 @@ module _ (help : List ℕ) (limits : Limits) where
 
     -- no more than a line was taken in
     cut : (fault : PromptFault) (last rest : List ℕ) → HasCome help limits input left prompt number old new → left ≡ last ++ rest →
-        StopsAt last 10 → IsCutShort help limits fault input rest old new
-    cut fault last rest come is stops =
+        StopsAt last 10 → (fault ≡ ReadFault → All (λ b. b ≢ 10) last) → IsCutShort help limits fault input rest old new
+    cut fault last rest come is stops within =
         let out_is : come.text ≡ printed help limits come.answered ++ [] = sym (append-nil (printed help limits come.answered) ∙ text_is come) in
         record {
           answered = come.answered;
@@ -93,6 +95,7 @@ module _ (help : List ℕ) (limits : Limits) where
               starts_as (printed help limits (come.answered ++ last)) (printed help limits come.answered ++ []) (answers help prompt number (lines_of last))
               (come.goes_on last rest is ∙ ap (λ (t : List ℕ). t ++ answers help prompt number (lines_of last)) out_is);
           unwritten = λ other. refl;
+          within_line = within;
         }
 
   -- a line was taken in
@@ -148,6 +151,7 @@ module _ (help : List ℕ) (limits : Limits) where
               ∙ ap (λ (t : List ℕ). come.text ++ t) (append_assoc part (drop count text) (answers help here.0 (number + 1) (lines_of [])))
               ∙ sym (append_assoc come.text part behind) ∙ ap (λ (t : List ℕ). (t ++ part) ++ behind) so_far);
           unwritten = λ other. absurd (other refl);
+          within_line = λ is. cc;
         }
 
   -- the same, where the reader's bytes are known
@@ -174,12 +178,31 @@ module _ (help : List ℕ) (limits : Limits) where
   ended (Some input) (Some left) rest prompt number old new come next = end input left prompt number old new come next.0
 
   pub cut_short : (fault : PromptFault) (input left rest : Option (List ℕ)) (prompt : Prompt) (number : ℕ) (old new : Option (List ℕ)) →
-      HasComeSo help limits input left prompt number old new → TakesLine left rest → EndsEarly help limits fault input rest old new
-  cut_short fault None left rest prompt number old new come line = tt
-  cut_short fault (Some input) None rest prompt number old new come line = absurd come
-  cut_short fault (Some input) (Some left) None prompt number old new come line = absurd line.1
-  cut_short fault (Some input) (Some left) (Some rest) prompt number old new come line =
-      cut input left prompt number old new fault line.0 rest come line.1 line.2
+      HasComeSo help limits input left prompt number old new → TakesLine left rest → fault ≢ ReadFault → EndsEarly help limits fault input rest old new
+  cut_short fault None left rest prompt number old new come line other = tt
+  cut_short fault (Some input) None rest prompt number old new come line other = absurd come
+  cut_short fault (Some input) (Some left) None prompt number old new come line other = absurd line.1
+  cut_short fault (Some input) (Some left) (Some rest) prompt number old new come line other =
+      cut input left prompt number old new fault line.0 rest come line.1 line.2 (λ is. absurd (other is))
+
+  -- a read failed within a line
+  cut_part_read : (input left rest : Option (List ℕ)) (prompt : Prompt) (number : ℕ) (old new : Option (List ℕ)) →
+      HasComeSo help limits input left prompt number old new → TakesPart left rest → EndsEarly help limits ReadFault input rest old new
+  cut_part_read None left rest prompt number old new come part = tt
+  cut_part_read (Some input) None rest prompt number old new come part = absurd come
+  cut_part_read (Some input) (Some left) None prompt number old new come part = absurd part.1
+  cut_part_read (Some input) (Some left) (Some rest) prompt number old new come part =
+      cut input left prompt number old new ReadFault part.0 rest come part.1 (All-take (λ b. b ≢ 10) (length part.0 - 1) part.0 part.2) (λ is. part.2)
+
+  -- the next line could not be had
+  pub cut_reading : (fault : InputFault) (input left rest : Option (List ℕ)) (prompt : Prompt) (number : ℕ) (old new : Option (List ℕ)) →
+      HasComeSo help limits input left prompt number old new → TakesLine left rest → (fault ≡ inputs.ReadFault → TakesPart left rest) →
+      EndsEarly help limits (of_input fault) input rest old new
+  cut_reading inputs.ReadFault input left rest prompt number old new come line part = cut_part_read input left rest prompt number old new come (part refl)
+  cut_reading inputs.TooLong input left rest prompt number old new come line part =
+      cut_short prompts.TooLong input left rest prompt number old new come line (λ is. cc)
+  cut_reading inputs.OutOfMemory input left rest prompt number old new come line part =
+      cut_short prompts.OutOfMemory input left rest prompt number old new come line (λ is. cc)
 
   -- before a line is taken in
   pub cut_before : (fault : PromptFault) (input left : Option (List ℕ)) (prompt : Prompt) (number : ℕ) (old new : Option (List ℕ)) →
@@ -187,7 +210,7 @@ module _ (help : List ℕ) (limits : Limits) where
   cut_before fault None left prompt number old new come = tt
   cut_before fault (Some input) None prompt number old new come = absurd come
   cut_before fault (Some input) (Some left) prompt number old new come =
-      cut input left prompt number old new fault [] left come refl (All-nil (λ b. b ≢ 10))
+      cut input left prompt number old new fault [] left come refl (All-nil (λ b. b ≢ 10)) (λ is. All-nil (λ b. b ≢ 10))
 
   pub cut_writing : (input left rest : Option (List ℕ)) (prompt : Prompt) (number : ℕ) (old middle new : Option (List ℕ)) (line text : List ℕ) (count : ℕ) →
       HasComeSo help limits input left prompt number old middle → IsNext KEPT left rest (Some line) → text ≡ (answer help prompt number line).1 →
@@ -217,6 +240,13 @@ module _ (help : List ℕ) (limits : Limits) where
       let whole : length input ≡ length come.answered + length left = ap length come.taken ∙ length-append come.answered left in
       omega arith
 
+-- a read failed, and that is told
+pub fails_reading : (fault : InputFault) (first old new : Steps) → old.failed ≡ first.failed → InputFailsAs {X = Unit {0}} (Err fault) old new →
+    FailsAs (Err (of_input fault)) first new
+fails_reading inputs.ReadFault first old new so fails = fails ∙ ap (λ n. n + 1) so
+fails_reading inputs.TooLong first old new so fails = fails ∙ so
+fails_reading inputs.OutOfMemory first old new so fails = fails ∙ so
+
 -- what is told as too long is a line without end
 pub too_long : (fault : InputFault) → of_input fault ≡ prompts.TooLong → fault ≡ inputs.TooLong
 too_long inputs.ReadFault is = absurd (cc)
@@ -233,8 +263,3 @@ reports law help limits (Some input) old new answered = go (script_of input) (la
         → IfOk r (λ script. Appends old new (report_of limits script))
     go (Err fault) same = tt
     go (Ok script) same = subst (λ (t : List ℕ). Appends old new t) (same script refl) answered
-
--- what holds of each fault
-pub of_each : (r : Result (Unit {0}) PromptFault) (Q : PromptFault → Type 0) → ((fault : PromptFault) → Q fault) → IfErr r Q
-of_each (Ok u) Q all = tt
-of_each (Err fault) Q all = all fault

@@ -5,7 +5,7 @@ use Rattle.serde_json.specs.Written.{compact_text}
 use Rattle.payload_core.specs.Words.{is_word}
 use Rattle.bench_core.specs.Machine.{Machine}
 use Rattle.bench_core.specs.NameList.{Texts, number_in}
-use Rattle.script_core.specs.Prompts.{Prompt, taken}
+use Rattle.run_core.specs.Prompts.{Prompt, taken}
 use Rattle.grammar_core.specs.Words.{words_of}
 use Rattle.grammar_core.specs.declared.fault.FaultKind.{FaultKind}
 use Rattle.grammar_core.specs.declared.fault.FaultKind.TheVariants.{NotText, TooLong, NoNodes, Twice, UnknownWord, WrongCount, NotAllowed, BadNumber}

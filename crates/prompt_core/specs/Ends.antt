@@ -1,25 +1,35 @@
 -- What a prompt reads and writes, until its input ends or a fault ends it early.
-use Rattle.std.specs.Prelude.{◌≡◌, ◌≢◌, ℕ, List, [], ◌++◌, ⊤, Option, None, Some, Ok, IfOk}
+use Rattle.std.specs.Prelude.{◌≡◌, ◌≢◌, ℕ, ◌+◌, List, [], ◌++◌, ⊤, Option, None, Some, Result, Ok, Err, IfOk}
 use Rattle.std.specs.Io.{StartsWith, StopsAt}
+use Rattle.std.specs.List.{All}
 use Rattle.std.specs.Io.KnownBytes.{Appends}
 use Rattle.bench_core.specs.Limits.{Limits}
 use Rattle.grammar_core.specs.Grammar.{script_of}
-use Rattle.script_core.specs.Prompts.{new_prompt}
-use Rattle.script_core.specs.Report.{report_of}
+use Rattle.run_core.specs.Prompts.{new_prompt}
+use Rattle.run_core.specs.Report.{report_of}
 use Rattle.grammar_core.specs.Scripts.{Script}
 use Rattle.grammar_core.specs.Words.{lines_of}
 use Rattle.prompt_core.specs.Answers.{answers}
+use Rattle.stream_core.specs.Steps.{Steps}
 use Rattle.stream_core.specs.declared.stream_fault.InputFault.{InputFault}
 use Rattle.stream_core.specs.declared.stream_fault.InputFault.TheVariants as inputs
 use Rattle.prompt_core.specs.declared.prompt_fault.PromptFault.{PromptFault}
 use Rattle.prompt_core.specs.declared.prompt_fault.PromptFault.TheVariants as prompts
-use Rattle.prompt_core.specs.declared.prompt_fault.PromptFault.TheVariants.{WriteFault}
+use Rattle.prompt_core.specs.declared.prompt_fault.PromptFault.TheVariants.{ReadFault, WriteFault}
 
 -- why the next line could not be had, as a prompt tells it
 abbrev pub of_input : InputFault → PromptFault
 of_input inputs.ReadFault = prompts.ReadFault
 of_input inputs.TooLong = prompts.TooLong
 of_input inputs.OutOfMemory = prompts.OutOfMemory
+
+-- a call of `read` failed exactly where a read fault is answered, and then one alone: it wasn't tried again
+abbrev pub FailsAs : Result (Unit {0}) PromptFault → Steps → Steps → Type 0
+FailsAs (Ok u) old new = new.failed ≡ old.failed
+FailsAs (Err prompts.ReadFault) old new = new.failed ≡ old.failed + 1
+FailsAs (Err prompts.WriteFault) old new = new.failed ≡ old.failed
+FailsAs (Err prompts.TooLong) old new = new.failed ≡ old.failed
+FailsAs (Err prompts.OutOfMemory) old new = new.failed ≡ old.failed
 
 -- all that is printed of an input
 abbrev pub printed : List ℕ → Limits → List ℕ → List ℕ
@@ -40,7 +50,8 @@ abbrev pub Reports : Limits → Option (List ℕ) → Option (List ℕ) → Opti
 Reports limits None old new = ⊤
 Reports limits (Some input) old new = IfOk (script_of input) (λ script. Appends old new (report_of limits script))
 
--- the answers to all lines that were taken in went out, the last one apart, of whose answer a beginning may have, where a write failed
+-- the answers to all lines that were taken in went out, the last one apart, of whose answer a beginning may have, where a write
+-- failed; where a read did, no more than a beginning of the last one was taken in
 pub record IsCutShort (help : List ℕ) (limits : Limits) (fault : PromptFault) (input left : List ℕ) (old new : Option (List ℕ)) : Type 0 where
   pub answered : List ℕ
   pub last : List ℕ
@@ -50,6 +61,7 @@ pub record IsCutShort (help : List ℕ) (limits : Limits) (fault : PromptFault) 
   pub out : Appends old new (printed help limits answered ++ part)
   pub beginning : StartsWith (printed help limits (answered ++ last)) (printed help limits answered ++ part)
   pub unwritten : fault ≢ WriteFault → part ≡ []
+  pub within_line : fault ≡ ReadFault → All (λ b. b ≢ 10) last
 
 -- the same, where the reader's bytes are known
 abbrev pub EndsEarly : List ℕ → Limits → PromptFault → Option (List ℕ) → Option (List ℕ) → Option (List ℕ) → Option (List ℕ) → Type 0

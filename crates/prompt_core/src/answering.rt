@@ -5,7 +5,7 @@ ghost use Rattle.prompt_core.specs.Answers.{answer};
 use crate::own::put_own;
 use grammar_core::FaultKind;
 use payload_core::Oom;
-use script_core::Prompt;
+use run_core::Prompt;
 use std::alloc::{Allocator, Global};
 
 /// Does what a line asks, and gives the answer. A fault changes nothing.

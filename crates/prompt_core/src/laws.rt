@@ -1,7 +1,7 @@
 //! A law, as the contract of a function that does nothing.
 ghost use Rattle.prompt_core.specs.Ends.{ReportLaw};
 
-use script_core::laws::prompt_law;
+use run_core::laws::prompt_law;
 
 /// All that is printed at a prompt of a script without faults is the script's report, byte for byte.
 pub fn report_law()

@@ -1,6 +1,6 @@
 //! A bench at a prompt: lines are answered one by one, as they are read.
 //!
-//! Stands on `script_core`, which reads and does a line, `session_core`, which saves a bench, `explain_core`, which explains who
+//! Stands on `run_core`, which reads and does a line, `session_core`, which saves a bench, `explain_core`, which explains who
 //! is online, and `stream_core`, which reads line by line. In the order to read them: `prompt_fault`, why a prompt ends early;
 //! `own`, the answers that a script doesn't have; `answering`, the answer to a line; `stepping`, from a reader to a writer.
 //! `laws` says that what is printed of a script without faults is its report.
@@ -13,4 +13,4 @@ mod prompt_fault;
 mod stepping;
 
 pub use prompt_fault::PromptFault;
-pub use stepping::step;
+pub use stepping::{step, step_counted};

@@ -8,7 +8,7 @@ use bench_core::Bench;
 use explain_core::{AskFault, Question, explain_asked};
 use grammar_core::{FaultKind, words_of};
 use payload_core::Oom;
-use script_core::Prompt;
+use run_core::Prompt;
 use session_core::save;
 use std::alloc::{Allocator, Global};
 

@@ -1,7 +1,1 @@
-pub mod Printed
-pub mod Spaced
-pub mod ReadNumbers
-pub mod ReadNames
-pub mod Visible
-pub mod ReadLines
-pub mod Prompted
+pub mod LongInput

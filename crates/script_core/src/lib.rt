@@ -1,21 +1,20 @@
-//! Scripts that are played on a bench, and the reports of what it answered.
+//! Scripts: from their bytes to their reports, from a reader to a writer.
 //!
-//! It stands on `grammar_core` (scripts as they are read), `report_core` (what is printed of a bench) and `bench_core` (the
-//! machine); it names the plain types of the crates below.
-//!
-//! `run` plays a script on a bench; `history` does the same for recorded acts; `prompt` takes lines one by one. `laws` says that
-//! what is printed of a step is read as that step, and that a prompt prints what a play prints.
+//! What stands in the crates below can be named here: of `grammar_core` what a script is, of `run_core` how it is run on a bench, of
+//! `stream_core` how input is read and a report written, and a reader and a writer that fail, for tests. In the order to read
+//! them: `play_fault`, why a play ends early; `playing`, a script from a reader to a writer.
 #![tactic(auto)]
 
-mod history;
-pub mod laws;
-mod prompt;
-mod run;
+mod play_fault;
+mod playing;
 
 pub use grammar_core::{
     Command, FaultKind, Line, Script, ScriptFault, actors, acts, console_names, line_number,
     node_names, parse_script,
 };
-pub use history::report_history;
-pub use prompt::Prompt;
-pub use run::{Played, run_script};
+pub use play_fault::PlayFault;
+pub use playing::{play, play_counted};
+pub use run_core::{Played, Prompt, report_history, run_script};
+pub use stream_core::{
+    FakeReader, FakeWriter, InputFault, Steps, WriteFault, read_all, read_input, write_out,
+};

@@ -4,7 +4,7 @@ use Rattle.serde_json.specs.Data.{Data}
 use Rattle.bench_core.specs.Limits.{Limits}
 use Rattle.bench_core.specs.NameList.{Texts}
 use Rattle.bench_core.specs.Machine.{Event, Machine, opening_machine}
-use Rattle.script_core.specs.Report.{call_of, commands_text, history_text}
+use Rattle.run_core.specs.Report.{call_of, commands_text, history_text}
 use Rattle.event_core.specs.Decoding.{event_at}
 use Rattle.session_core.specs.Decoding.{Parts, acts_of}
 use Rattle.session_core.specs.Drafts.{AreRead}

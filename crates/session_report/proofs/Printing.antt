@@ -1,7 +1,7 @@
 -- What is printed of acts in turn.
 use Rattle.std.proofs.Common.{◌≡◌, ℕ, ◌++◌, List, [], ◌∷◌, map, ap, sym, ◌∙◌, append_assoc, append-nil}
 use Rattle.bench_core.specs.Machine.{Event, Machine}
-use Rattle.script_core.specs.Report.{after_command, call_of, command_text, commands_text}
+use Rattle.run_core.specs.Report.{after_command, call_of, command_text, commands_text}
 
 -- the text so far, and then that of the acts that are left
 pub more_text : (m next : Machine) (e : Event) (es : List Event) (now text all : List ℕ) → next ≡ after_command m (call_of e) →

@@ -2,7 +2,7 @@
 ghost use Rattle.std.specs.Prelude.{◌≡◌, ◌↔◌, ◌++◌, List, Some, IfOk, IfErr, IsTrue, MatchResult, OnOk, map, option_map, slice_get, string_bytes};
 ghost use Rattle.serde_json.specs.Data.{Data};
 ghost use Rattle.bench_core.specs.Machine.{Machine};
-ghost use Rattle.script_core.specs.Report.{after_command, call_of, command_text, commands_text, history_text};
+ghost use Rattle.run_core.specs.Report.{after_command, call_of, command_text, commands_text, history_text};
 ghost use Rattle.event_core.specs.Decoding.{event_at};
 ghost use Rattle.session_core.specs.Drafts.{AreRead};
 ghost use Rattle.session_core.specs.Sessions.{Asked, Faults, IsSaved, IsSession, Reads, Refuses, Steps};
@@ -12,7 +12,7 @@ ghost use Rattle.session_core.specs.declared.session_fault.SessionFault.TheVaria
 use bench_core::{Bench, Event, History, Reply};
 use payload_core::Oom;
 use report_core::act;
-use script_core::Played;
+use run_core::Played;
 use session_core::{Acts, SessionFault, Version, read_session};
 use std::alloc::{Allocator, Global};
 
@@ -27,7 +27,7 @@ fn has_reply<'a, B: Allocator>(history: &History<'a, B>, place: usize, reply: Re
 }
 
 /// Asks the event's call, prints it, and says whether the bench gave its reply and recorded it.
-#[tactic(auto, unfolding(script_core::specs::Report::command_text, script_core::specs::Report::after_command))]
+#[tactic(auto, unfolding(run_core::specs::Report::command_text, run_core::specs::Report::after_command))]
 fn tell_next<'a, B: Allocator>(
     text: &mut String<&'a B>,
     bench: &mut Bench<'a, B>,

@@ -7,7 +7,7 @@ use Rattle.std.specs.List.{All}
 use Rattle.std.specs.Io.{StopsAt}
 use Rattle.std.specs.Io.BufRead.{drop_through, first_piece}
 use Rattle.std.specs.Io.KnownBytes.{Consumes, IsAtEnd, Keeps}
-use Rattle.stream_core.specs.NextLines.{IsEndless, IsNext, TakesLine, kept}
+use Rattle.stream_core.specs.NextLines.{IsEndless, IsNext, TakesLine, TakesPart, kept}
 use Rattle.stream_core.proofs.Pieces.{piece_fed, piece_whole, rest_fed, rest_none}
 
 -- these bytes of a line, none of them a line feed, were taken in, and this is kept of them
@@ -73,6 +73,9 @@ module _ (most : ℕ) (old now new : Option (List ℕ)) (line : List ℕ) (turn 
     Consumes-kept old now new begun.bytes begun.taken same,
     All-take (λ b. b ≢ 10) (length begun.bytes - 1) begun.bytes begun.unfed,
   )
+
+  pub takes_part : IsBegun most old now line turn → Keeps now new → TakesPart old new
+  takes_part begun same = (begun.bytes, Consumes-kept old now new begun.bytes begun.taken same, begun.unfed)
 
   stops : (bytes : List ℕ) (byte : ℕ) → All (λ b. b ≢ 10) bytes → StopsAt (bytes ++ byte ∷ []) 10
   stops bytes byte unfed =

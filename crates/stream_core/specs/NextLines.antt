@@ -1,6 +1,7 @@
 -- What is read of an input line by line.
 use Rattle.std.specs.Prelude.{◌≡◌, ◌≢◌, ℕ, ◌-◌, ◌^◌, ◌≤◌, List, [], length, take, ⊤, Option, None, Some}
 use Rattle.std.specs.Io.{StopsAt}
+use Rattle.std.specs.List.{All}
 use Rattle.std.specs.Io.BufRead.{drop_through, first_piece}
 use Rattle.std.specs.Io.KnownBytes.{Consumes}
 
@@ -18,6 +19,10 @@ IsNext most (Some left) new (Some line) = (left ≢ []) × (line ≡ kept most (
 abbrev pub IsEndless : Option (List ℕ) → Type 0
 IsEndless None = ⊤
 IsEndless (Some input) = 2 ^ 64 - 2 ≤ length input
+
+-- no more than a beginning of a line was taken in, without its line feed
+abbrev pub TakesPart : Option (List ℕ) → Option (List ℕ) → Type 0
+TakesPart old new = (bytes : List ℕ) × Consumes old new bytes × All (λ b. b ≢ 10) bytes
 
 -- no more than a line was taken in
 abbrev pub TakesLine : Option (List ℕ) → Option (List ℕ) → Type 0

@@ -1,21 +1,26 @@
 //! All bytes of a reader, and all bytes to a writer. A failed read or write isn't tried again.
 ghost use Rattle.std.specs.Prelude.{◌≡◌, ◌+◌, ◌<◌, ◌≤◌, length, take, Err, IfOk, IfErr, OnOk};
+ghost use Rattle.stream_core.specs.Steps.{FailsAs};
 ghost use Rattle.std.specs.Io.KnownBytes.{Appends, IsAtEnd};
 ghost use Rattle.stream_core.specs.Inputs.{IsWhole, IsLonger, TakesAtMost};
 
+use crate::steps::{Steps, read_once};
 use crate::stream_fault::{InputFault, WriteFault};
 use std::alloc::Allocator;
 use std::io::{Read, Write};
+use std::marker::Brand;
+use std::sync::ledger::{Blank, Ledger};
 
 /// The most bytes that one read is asked for.
 const CHUNK: usize = 4096;
 
-/// The whole input, where it has at most `limit` bytes; so one byte past the limit is asked for. It makes at most
-/// `limit + 2` calls of `read`.
-pub fn read_all<A: Allocator, R: Read>(
+/// The whole input, where it has at most `limit` bytes; so one byte past the limit is asked for. `steps` counts the calls of
+/// `read`; who counts none calls `read_input`.
+pub fn read_all<A: Allocator, R: Read, L: Ledger>(
     alloc: A,
     reader: &mut R,
     limit: usize,
+    steps: &mut Steps<L>,
 ) -> Result<Vec<u8, A>, InputFault>
     requires { limit ≤ 67108864 }
     ensures whole { IfOk result (λ bytes. IsWhole (R.remaining reader.old) bytes.items) }
@@ -23,12 +28,14 @@ pub fn read_all<A: Allocator, R: Read>(
     ensures fits { IfOk result (λ bytes. length bytes.items ≤ limit) }
     ensures longer { result ≡ Err InputFault.TooLong → IsLonger (R.remaining reader.old) limit }
     ensures most { TakesAtMost (R.remaining reader.old) (R.remaining reader.new) (limit + 1) }
+    ensures calls { steps.new.calls ≤ steps.old.calls + limit + 2 }
+    ensures failed { FailsAs result steps.old steps.new }
 {
     let mut bytes = Vec::new(alloc);
     let mut chunk = [0u8; CHUNK];
     for _turn in 0..limit + 2 {
         let room = CHUNK.min(limit + 1 - bytes.len());
-        let Ok(count) = reader.read(&mut chunk[..room]) else {
+        let Ok(count) = read_once(reader, &mut chunk[..room], steps) else {
             return Err(InputFault::ReadFault);
         };
         if count == 0 {
@@ -40,6 +47,43 @@ pub fn read_all<A: Allocator, R: Read>(
         }
     }
     unreachable!()
+}
+
+/// `read_all` with a count of its own, which is let go.
+fn read_from<A: Allocator, R: Read, L: Ledger>(
+    alloc: A,
+    reader: &mut R,
+    limit: usize,
+    blank: Blank,
+) -> Result<Vec<u8, A>, InputFault>
+    requires limit { limit ≤ 67108864 }
+    requires name { blank.name ≡ L.name }
+    requires parts { blank.parts ≡ L.parts }
+    requires two { blank.parts ≡ 2 }
+    ensures whole { IfOk result (λ bytes. IsWhole (R.remaining reader.old) bytes.items) }
+    ensures end { OnOk result (IsAtEnd (R.remaining reader.new)) }
+    ensures fits { IfOk result (λ bytes. length bytes.items ≤ limit) }
+    ensures longer { result ≡ Err InputFault.TooLong → IsLonger (R.remaining reader.old) limit }
+    ensures most { TakesAtMost (R.remaining reader.old) (R.remaining reader.new) (limit + 1) }
+{
+    let mut steps = Steps::<L>::new(blank);
+    read_all(alloc, reader, limit, &mut steps)
+}
+
+/// The whole input by `read_all`, for whoever counts no calls.
+pub fn read_input<A: Allocator, R: Read>(
+    alloc: A,
+    reader: &mut R,
+    limit: usize,
+) -> Result<Vec<u8, A>, InputFault>
+    requires { limit ≤ 67108864 }
+    ensures whole { IfOk result (λ bytes. IsWhole (R.remaining reader.old) bytes.items) }
+    ensures end { OnOk result (IsAtEnd (R.remaining reader.new)) }
+    ensures fits { IfOk result (λ bytes. length bytes.items ≤ limit) }
+    ensures longer { result ≡ Err InputFault.TooLong → IsLonger (R.remaining reader.old) limit }
+    ensures most { TakesAtMost (R.remaining reader.old) (R.remaining reader.new) (limit + 1) }
+{
+    read_from::<A, R, Brand>(alloc, reader, limit, Blank::new(2))
 }
 
 /// Writes all bytes. A write that takes nothing is a failed one.

@@ -1,18 +1,14 @@
 //! What words choose; and what the program does where it can't write, or is refused memory. What it prints and its statuses are
 //! cases of `example_tests`.
-use bench_core::Limits;
 use clap::error::ErrorKind;
-use command_line::{Choice, Form, Subcommand, choice};
-use explain_core::Question;
-use explore_core::Reading;
+use command_line::{Form, Question, Reading, Subcommand, choice};
 use program_core::{Fault, program, run};
+use script_core::{FakeReader, FakeWriter};
 use session_core::load;
 use std::alloc::{Allocator, Global};
-use std::io::BufReader;
 use std::process::{Abort, Termination};
 use std::sync::Wait;
 use std::thread::Threads;
-use stream_core::{FakeReader, FakeWriter};
 use test_alloc::Refusing;
 use worker_core::RaceFault;
 
@@ -153,17 +149,7 @@ fn ended<T: Threads + Wait + Sync + Abort, B: Allocator + Sync>(
     let [room, errors_room] = rooms;
     let mut writer = FakeWriter::new(heap, room);
     let mut errors = FakeWriter::new(heap, errors_room);
-    let mut reader = BufReader::new(heap, reader).expect(rt, "memory");
-    let status = program(
-        rt,
-        heap,
-        alloc,
-        words,
-        &mut reader,
-        &mut writer,
-        &mut errors,
-        Limits::usual(),
-    );
+    let status = program(rt, heap, alloc, words, reader, &mut writer, &mut errors);
     (status, writer, errors)
 }
 

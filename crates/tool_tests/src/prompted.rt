@@ -2,10 +2,10 @@
 use crate::rows::holds_at;
 use bench_core::Limits;
 use prompt_core::{PromptFault, step};
+use script_core::{FakeReader, FakeWriter};
 use std::alloc::Global;
 use std::io::{BufReader, BufWriter};
 use std::process::Abort;
-use stream_core::{FakeReader, FakeWriter};
 use test_alloc::Refusing;
 
 const HELP: &str = "the lines";

@@ -1,8 +1,9 @@
 //! What calls of scripts give that no report tells.
 use crate::rows::holds;
 use bench_core::{Act, Step};
-use play_core::PlayFault;
-use script_core::{FaultKind, Script, ScriptFault, actors, acts, node_names, parse_script};
+use script_core::{
+    FaultKind, PlayFault, Script, ScriptFault, actors, acts, node_names, parse_script,
+};
 use std::alloc::{Allocator, Global};
 use std::process::Abort;
 

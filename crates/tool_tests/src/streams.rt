@@ -1,10 +1,13 @@
 //! How input is read and reports are written.
 use crate::rows::{holds, holds_at};
 use bench_core::Limits;
-use play_core::{PlayFault, play};
+use script_core::{
+    FakeReader, FakeWriter, InputFault, PlayFault, WriteFault, play, read_input, write_out,
+};
 use std::alloc::Global;
+use std::io;
+use std::io::Write;
 use std::process::Abort;
-use stream_core::{FakeReader, FakeWriter, InputFault, WriteFault, read_all, write_out};
 
 /// A join is taken back.
 const SCRIPT: &str = "nodes a b\nconsoles c1\na join 1 r alice phone\na undo 1\nshow a\n";
@@ -21,7 +24,7 @@ fn is_read(
 ) -> bool {
     assert!(rt; limit < 100);
     let mut reader = FakeReader::ending(b"abc");
-    let is_so = match read_all(heap, &mut reader, limit) {
+    let is_so = match read_input(heap, &mut reader, limit) {
         Ok(bytes) => bytes.as_slice() == b"abc".as_slice() && fault.is_none(),
         Err(other) => Some(other) == fault,
     };
@@ -124,4 +127,31 @@ fn is_written_in_part(heap: Global) -> bool {
 #[test]
 fn what_is_written_is_told_of_any_bytes(rt: HostRuntime) {
     assert!(rt; is_written_in_part(rt.alloc()));
+}
+
+/// A writer that takes nothing at its first call, and all at each later one.
+struct Stalling {
+    calls: usize,
+}
+
+impl Write for Stalling {
+    ghost use Rattle.std.specs.Prelude.{None};
+
+    ghost contents = { λ _. None };
+
+    fn write(&mut self, buf: &[u8]) -> io::Result<usize> {
+        self.calls = self.calls.saturating_add(1);
+        Ok(if self.calls == 1 { 0 } else { buf.len() })
+    }
+
+    fn flush(&mut self) -> io::Result<()> {
+        Ok(())
+    }
+}
+
+#[test]
+fn a_write_that_takes_nothing_is_not_tried_again(rt: HostRuntime) {
+    let mut writer = Stalling { calls: 0 };
+    assert!(rt; write_out(&mut writer, b"abc") == Err(WriteFault { written: 0 }));
+    assert!(rt; writer.calls == 1);
 }

@@ -1,11 +1,12 @@
 //! `race`: each actor's lines are asked by a worker of the actor's own.
-ghost use Rattle.std.specs.Prelude.{◌≡◌, OnOk, IfOk, IfErr, IfSome, Err, MatchOption, drop, length, map, vec_len};
+ghost use Rattle.std.specs.Prelude.{◌≡◌, OnOk, IfOk, IfErr, IfSome, Err, MatchOption, MatchResult, drop, false, length, map, vec_len};
+ghost use Rattle.std.specs.List.{list_any};
 ghost use Rattle.bench_core.specs.Acts.{calls_of};
 ghost use Rattle.bench_core.specs.Benches.{IsMachine};
 ghost use Rattle.bench_core.specs.Machine.{config_of};
 ghost use Rattle.worker_core.specs.Agree.{Agrees};
 ghost use Rattle.worker_core.specs.Interleaving.{IsInterleaving, all_told};
-ghost use Rattle.worker_core.specs.Races.{IsLate, has_room, are_known, refusal_of};
+ghost use Rattle.worker_core.specs.Races.{IsLate, IsUnvouched, IsVouched, fault_of_crew, has_room, are_known, is_want, met_want, refusal_of};
 ghost use Rattle.worker_core.specs.Replies.{AreMachineReplies};
 
 use crate::agreeing::account;
@@ -59,11 +60,28 @@ fn refusal<'a, B: Allocator>(
     None
 }
 
+/// Whether one of these calls was refused memory.
+fn has_want<A: Allocator>(receipts: &[Receipt<A>]) -> bool
+    ensures { result ≡ list_any (λ r. is_want r.reply) receipts.now }
+{
+    for receipt in receipts {
+        if matches!(receipt.reply, Reply::Refused(Fault::OutOfMemory)) {
+            return true;
+        }
+    }
+    false
+}
+
 /// Whether a call was refused memory.
-fn met_want<'a, B: Allocator>(lists: &[Vec<Receipt<&'a B>, &'a B>]) -> bool {
-    lists.iter().any(|receipts| {
-        receipts.iter().any(|receipt| receipt.reply == Reply::Refused(Fault::OutOfMemory))
-    })
+fn met_want<A: Allocator>(lists: &[Vec<Receipt<A>, A>]) -> bool
+    ensures { result ≡ met_want (map (λ v. v.items) lists.now) }
+{
+    for receipts in lists {
+        if has_want(receipts) {
+            return true;
+        }
+    }
+    false
 }
 
 /// What is kept of the bench that a race is given, to compare it with what comes out.
@@ -91,6 +109,9 @@ fn vouch<'a, B: Allocator>(
     ensures limits { OnOk result (bench.now.limits ≡ before.now.limits) }
     ensures lists { OnOk result (length receipts.now ≡ actors) }
     ensures machine { OnOk result (IsMachine bench.now) }
+    ensures memory { OnOk result (met_want (map (λ v. v.items) receipts.now) ≡ false) }
+    ensures cause { IfErr result (IsUnvouched (IsVouched before.now.history before.now.names before.now.limits bench.now actors
+        (calls_of lines.now) (map (λ v. v.items) receipts.now)) (map (λ v. v.items) receipts.now)) }
     ensures late { IfErr result IsLate }
 {
     bench.bench_law();
@@ -177,6 +198,10 @@ fn vouched<'a, B: Allocator>(
     ensures limits { OnOk result (bench.now.limits ≡ before.entry.limits) }
     ensures lists { IfOk result (λ r. vec_len r ≡ actors) }
     ensures machine { OnOk result (IsMachine bench.now) }
+    ensures cause { MatchResult told.entry
+        (λ r. IfErr result (IsUnvouched (IsVouched before.entry.history before.entry.names before.entry.limits bench.now actors
+        (calls_of lines.entry.items) (map (λ v. v.items) r.items)) (map (λ v. v.items) r.items)))
+        (λ fault. result ≡ Err (fault_of_crew fault)) }
     ensures late { IfErr result IsLate }
 {
     let receipts = match told {

@@ -1,6 +1,6 @@
 //! What a race is given: a bench of two nodes, and the lines of a script.
 use bench_core::{Act, Bench, Limits, Names};
-use grammar_core::{acts, parse_script};
+use script_core::{acts, parse_script};
 use std::alloc::Allocator;
 use std::process::Abort;
 

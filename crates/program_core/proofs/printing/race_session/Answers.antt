@@ -1,6 +1,6 @@
 use Rattle.std.proofs.Common.{◌∙◌}
 use Rattle.command_line.specs.declared.chosen.Form.TheVariants as forms
-use Rattle.program_core.proofs.Printed.{always, ends_race, keeps_before, tells_memory}
+use Rattle.program_core.proofs.Printed.{always, ends_race, fails_not, keeps_before, tells_memory}
 use Rattle.program_core.proofs.printing.race_session.Goals as goal
 
 pub returns-clause-ends : goal.returns-clause-ends
@@ -16,3 +16,6 @@ returns-clause-unwritten g c = keeps_before forms.Session c.args.limits c.deref.
 
 pub returns-clause-memory : goal.returns-clause-memory
 returns-clause-memory g c = tells_memory forms.Session c.args.limits c.deref.result.now _ _ c.print.result c.print.ensures
+
+pub returns-clause-failed : goal.returns-clause-failed
+returns-clause-failed g c = fails_not forms.Session c.args.limits c.deref.result.now _ _ c.print.result _ _ c.print.ensures c.in_ok-script.ensures.failed

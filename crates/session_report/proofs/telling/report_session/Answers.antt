@@ -1,7 +1,7 @@
 use Rattle.std.proofs.Common.{◌≡◌, ◌++◌, map, string_bytes, subst, ap, ◌∙◌, rules}
 use Rattle.std.proofs.lemmas.Result.{err_from_is_err_and}
 use Rattle.bench_core.specs.Machine.{Machine}
-use Rattle.script_core.specs.Report.{call_of, commands_text}
+use Rattle.run_core.specs.Report.{call_of, commands_text}
 use Rattle.session_core.specs.Decoding.{Parts}
 use Rattle.session_core.specs.Sessions.{Faults, Reads}
 use Rattle.session_core.specs.Versions.{number_of}

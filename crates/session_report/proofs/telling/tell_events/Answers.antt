@@ -1,7 +1,7 @@
 use Rattle.std.proofs.Common.{◌≡◌, ◌+◌, [], ◌∷◌, ◌++◌, true, false, length, drop, map, string_bytes, refl, subst, ap, sym, ◌∙◌, arith}
 use Rattle.std.proofs.lemmas.List.{drop_all}
 use Rattle.std.proofs.lemmas.Result.{err_from_is_err_and}
-use Rattle.script_core.specs.Report.{call_of, commands_text}
+use Rattle.run_core.specs.Report.{call_of, commands_text}
 use Rattle.session_core.specs.Drafts.{AreRead}
 use Rattle.session_core.specs.Sessions.{Reads}
 use Rattle.session_core.specs.declared.session_fault.SessionFault.TheVariants.{BadShape}

@@ -1,6 +1,6 @@
 use Rattle.std.proofs.Common.{◌≡◌, ◌+◌, ◌++◌, List, drop, map, string_bytes}
 use Rattle.serde_json.specs.Data.{Data}
-use Rattle.script_core.specs.Report.{call_of, commands_text}
+use Rattle.run_core.specs.Report.{call_of, commands_text}
 use Rattle.session_core.specs.Drafts.{AreRead}
 use Rattle.session_core.specs.Versions.{number_of}
 use Rattle.session_core.proofs.Loops.{Goes}

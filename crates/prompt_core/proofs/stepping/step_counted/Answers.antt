@@ -1,0 +1,17 @@
+use Rattle.std.proofs.Common.{ap, refl, subst}
+use Rattle.std.specs.Result.{OnOk}
+use Rattle.bench_core.specs.Limits.{Limits}
+use Rattle.run_core.specs.Prompts.{Prompt}
+use Rattle.prompt_core.specs.Ends.{Answers}
+use Rattle.prompt_core.proofs.stepping.step_counted.Goals as goal
+
+pub answer_each-ended-requires : goal.answer_each-ended-requires
+answer_each-ended-requires g c = rw c.new-prompt.ensures refl
+
+pub returns-clause-answers : goal.returns-clause-answers
+returns-clause-answers g c =
+    let input = g.R.Read.remaining c.args.reader.now in
+    let output = g.W.Write.contents c.args.writer.now in
+    let written = g.W.Write.contents c.answer_each-ended.new.writer in
+    subst (λ (l : Limits). OnOk c.answer_each-ended.result (Answers c.args.help.now l input output written))
+    (ap (λ (p : Prompt). p.limits) c.new-prompt.ensures) c.answer_each-ended.ensures.answers

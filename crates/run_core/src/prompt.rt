@@ -1,0 +1,121 @@
+//! `Prompt`: the lines of a script one by one, each answered before the next is read.
+ghost use Rattle.std.specs.Prelude.{◌≡◌, ◌≢◌, OnOk, IfErr, option_copied, string_bytes};
+ghost use Rattle.grammar_core.specs.Answers.{Gives};
+ghost use Rattle.run_core.specs.Prompts.{asked, new_prompt, opened, taken};
+ghost use Rattle.run_core.specs.Report.{commands_of};
+ghost use Rattle.grammar_core.specs.Scripts.{plain_lines};
+ghost use Rattle.grammar_core.specs.declared.fault.FaultKind.TheVariants.{OutOfMemory};
+
+use crate::run;
+use bench_core::{Bench, Limits};
+use grammar_core::{Cast, FaultKind, Line, Reading, read_line};
+use payload_core::Oom;
+use std::alloc::Allocator;
+use std::marker::Model;
+use std::mem::replace;
+
+/// Who may act, and the bench, once the nodes are named.
+#[derive(Drop)]
+pub struct Prompt<'a, B: Allocator> {
+    alloc: &'a B,
+    limits: Limits,
+    cast: Option<Cast<&'a B>>,
+    bench: Option<Bench<'a, B>>,
+}
+
+impl<'a, B: Allocator> Model for Prompt<'a, B> {
+    ghost use Rattle.run_core.specs.Prompts.{Prompt as Stage, prompt_code};
+    ghost use Rattle.bench_core.specs.contracts.reply.Reply.{the_row as reply_row};
+
+    ghost Value = { Stage };
+
+    ghost coded = { prompt_code reply_row.coded };
+
+    ghost view = { λ p. record { limits = p.limits; cast = p.cast; machine = p.bench } };
+}
+
+impl<'a, B: Allocator> Prompt<'a, B> {
+    /// A prompt whose first significant line is to name the nodes.
+    pub fn new(alloc: &'a B, limits: Limits) -> Prompt<'a, B>
+        ensures { result ≡ new_prompt limits }
+    {
+        Prompt {
+            alloc,
+            limits,
+            cast: None,
+            bench: None,
+        }
+    }
+
+    /// The bench, once the nodes are named.
+    pub fn bench(&self) -> Option<&Bench<'a, B>>
+        ensures { option_copied result ≡ self.now.machine }
+    {
+        self.bench.as_ref()
+    }
+
+    /// Opens the bench, once the nodes are named.
+    fn open(&mut self) -> Result<(), Oom>
+        ensures { OnOk result (self.new ≡ record self.old { machine = opened self.old.limits self.old.cast self.old.machine }) }
+    {
+        if self.bench.is_some() {
+            return Ok(());
+        }
+        let Some(cast) = &self.cast else {
+            return Ok(());
+        };
+        let names = cast.nodes().try_copy()?;
+        let bench = Bench::new(self.alloc, names, self.limits)?;
+        drop(self.bench.replace(bench));
+        Ok(())
+    }
+
+    /// What the bench does of these lines, if it is open, and prints.
+    fn ask(&mut self, text: &mut String<&'a B>, lines: &[Line<&'a B>]) -> Result<(), Oom>
+        ensures { OnOk result ((self.new, string_bytes text.new) ≡
+            asked self.old.limits self.old.cast self.old.machine (string_bytes text.old) (commands_of (plain_lines lines.now))) }
+    {
+        match &mut self.bench {
+            Some(bench) => run::lines(text, bench, lines, self.alloc),
+            None => Ok(()),
+        }
+    }
+
+    /// What the bench does of these lines, opened before it if the nodes are named, and prints.
+    fn obey(&mut self, text: &mut String<&'a B>, lines: &[Line<&'a B>]) -> Result<(), Oom>
+        ensures { OnOk result ((self.new, string_bytes text.new) ≡
+            asked self.old.limits self.old.cast (opened self.old.limits self.old.cast self.old.machine) (string_bytes text.old)
+            (commands_of (plain_lines lines.now))) }
+    {
+        self.open()?;
+        self.ask(text, lines)
+    }
+
+    /// Reads a line, does what it asks, and puts what is printed of it behind the text; or answers its fault, which changes
+    /// nothing, want of memory apart.
+    #[tactic(auto, unfolding(crate::specs::Prompts::taken))]
+    pub fn take(&mut self, text: &mut String<&'a B>, line: &[u8]) -> Result<(), FaultKind>
+        ensures answer { Gives (λ _. (self.new, string_bytes text.new)) result (taken self.old (string_bytes text.old) line.now) }
+        ensures kept { IfErr result (λ kind. kind ≢ OutOfMemory → self.new ≡ self.old) }
+        ensures unprinted { IfErr result (λ kind. kind ≢ OutOfMemory → string_bytes text.new ≡ string_bytes text.old) }
+    {
+        let mut reading = Reading {
+            cast: self.cast.take(),
+            lines: Vec::new(self.alloc),
+        };
+        let answer = read_line(self.alloc, &mut reading, 0, line);
+        let Reading { cast, lines } = reading;
+        drop(replace(&mut self.cast, cast));
+        match answer {
+            Ok(()) => {
+                let obeyed = self.obey(text, &lines);
+                drop(lines);
+                Ok(obeyed?)
+            }
+            Err(kind) => {
+                drop(lines);
+                Err(kind)
+            }
+        }
+    }
+}

@@ -1,0 +1,78 @@
+//! A script played on a bench, with its report.
+ghost use Rattle.std.specs.Prelude.{◌≡◌, ◌++◌, OnOk, IfOk, string_bytes};
+ghost use Rattle.run_core.specs.Report.{command_text, after_command, commands_text, after_commands, commands_of, played, report_of};
+ghost use Rattle.grammar_core.specs.Scripts.{plain_command, plain_lines, plain_script};
+
+use bench_core::{Bench, Limits};
+use grammar_core::{Command, Line, Script, node_names};
+use payload_core::Oom;
+use report_core::{act, node, put_dots, put_journal, show, unwind, why};
+use std::alloc::Allocator;
+
+/// What a command does, and prints.
+#[tactic(auto, unfolding(crate::specs::Report::command_text, crate::specs::Report::after_command))]
+fn command<'a, B: Allocator>(
+    text: &mut String<&'a B>,
+    bench: &mut Bench<'a, B>,
+    command: &Command<&'a B>,
+    alloc: &'a B,
+) -> Result<(), Oom>
+    ensures bench { OnOk result (bench.new ≡ after_command bench.old (plain_command command.now)) }
+    ensures text { OnOk result (string_bytes text.new ≡ string_bytes text.old ++ command_text bench.old (plain_command command.now)) }
+{
+    match command {
+        Command::Call(actor, call) => act(alloc, text, bench, *actor, call),
+        Command::Unwind(actor, number) => unwind(alloc, text, bench, *actor, *number),
+        Command::Show(node) => show(text, bench, *node, alloc),
+        Command::Dots(at) => put_dots(node(bench, *at), text, bench.names()),
+        Command::Why(number) => why(text, bench, *number),
+        Command::Journal => put_journal(bench.remaining(), text, bench.names()),
+    }
+}
+
+/// What the lines do, and print.
+#[tactic(auto, unfolding(crate::specs::Report::commands_text, crate::specs::Report::after_commands))]
+pub fn lines<'a, B: Allocator>(
+    text: &mut String<&'a B>,
+    bench: &mut Bench<'a, B>,
+    lines: &[Line<&'a B>],
+    alloc: &'a B,
+) -> Result<(), Oom>
+    ensures bench { OnOk result (bench.new ≡ after_commands bench.old (commands_of (plain_lines lines.now))) }
+    ensures text { OnOk result (string_bytes text.new ≡ string_bytes text.old ++ commands_text bench.old (commands_of (plain_lines lines.now))) }
+{
+    for next in lines {
+        command(text, bench, &next.command, alloc)?;
+    }
+    Ok(())
+}
+
+/// A bench that a script was played on, and its report.
+#[derive(Drop)]
+pub struct Played<'a, B: Allocator> {
+    pub bench: Bench<'a, B>,
+    pub report: Vec<u8, &'a B>,
+}
+
+/// Plays a script from an opening bench with these limits.
+#[tactic(auto, unfolding(crate::specs::Report::played, crate::specs::Report::report_of))]
+pub fn run_script<'a, B: Allocator>(
+    alloc: &'a B,
+    script: &Script<&'a B>,
+    limits: Limits,
+) -> Result<Played<'a, B>, Oom>
+    ensures bench { IfOk result (λ p. p.bench ≡ played limits (plain_script script.now)) }
+    ensures report { IfOk result (λ p. p.report.items ≡ report_of limits (plain_script script.now)) }
+{
+    let names = node_names(script).try_copy()?;
+    let mut bench = Bench::new(alloc, names, limits)?;
+    let mut text = String::new(alloc);
+    if let Err(oom) = lines(&mut text, &mut bench, grammar_core::lines(script), alloc) {
+        drop(bench);
+        return Err(oom);
+    }
+    Ok(Played {
+        bench,
+        report: text.into_bytes(),
+    })
+}

@@ -1,5 +1,0 @@
-use Rattle.script_core.proofs.Prompted.{prompt_holds}
-use Rattle.script_core.proofs.laws.prompt_law.Goals as goal
-
-pub returns : goal.returns
-returns c = prompt_holds

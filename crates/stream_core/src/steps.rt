@@ -1,0 +1,87 @@
+//! `Steps`: how often a reader was read, for contracts alone. It takes no bytes, and counting has no code.
+ghost use Rattle.std.specs.Prelude.{◌≡◌, ◌+◌, IfErr};
+ghost use Rattle.std.specs.Io.{ReadsAtMost};
+ghost use Rattle.std.specs.Io.KnownBytes.{ReadConsumes};
+ghost use Rattle.stream_core.specs.Steps.{FailsAs};
+ghost use Rattle.stream_core.specs.declared.stream_fault.InputFault.TheVariants.{ReadFault};
+
+use crate::stream_fault::InputFault;
+use std::io::Read;
+use std::marker::Model;
+use std::sync::ledger::{Blank, Book, Ledger, Share};
+
+/// How many calls of `read` were made, and how many of them failed. Only `read_once` moves it on.
+#[derive(Drop)]
+pub struct Steps<L: Ledger> {
+    book: Book<L>,
+    given: Share<L>,
+    missed: Share<L>,
+}
+
+impl<L: Ledger> Model for Steps<L> {
+    ghost use Rattle.std.specs.Prelude.{◌<◌};
+    ghost use Rattle.stream_core.specs.Steps.{Steps};
+
+    ghost Value = { Steps };
+
+    ghost view = { λ s. record { calls = s.book.total; failed = s.missed.amount } };
+
+    ghost invariant = { λ s. (0 < s.given.parts) × (0 < s.missed.parts) };
+}
+
+impl<L: Ledger> Steps<L> {
+    /// Before the first call. The ledger is of two parts, one for calls that fail.
+    pub fn new(blank: Blank) -> Steps<L>
+        requires name { blank.name ≡ L.name }
+        requires parts { blank.parts ≡ L.parts }
+        requires two { blank.parts ≡ 2 }
+        ensures calls { result.calls ≡ 0 }
+        ensures failed { result.failed ≡ 0 }
+    {
+        let (book, mut given) = blank.open::<L>();
+        let missed = given.split_off(1, 0);
+        Steps {
+            book,
+            given,
+            missed,
+        }
+    }
+
+    fn tick(&mut self)
+        ensures calls { self.new.calls ≡ self.old.calls + 1 }
+        ensures failed { self.new.failed ≡ self.old.failed }
+    {
+        self.book.add(&mut self.given, 1);
+    }
+
+    fn tick_failed(&mut self)
+        ensures calls { self.new.calls ≡ self.old.calls + 1 }
+        ensures failed { self.new.failed ≡ self.old.failed + 1 }
+    {
+        self.book.add(&mut self.missed, 1);
+    }
+}
+
+/// One call of `read`, which is counted. All that is read here is read by it.
+pub fn read_once<R: Read, L: Ledger>(
+    reader: &mut R,
+    buffer: &mut [u8],
+    steps: &mut Steps<L>,
+) -> Result<usize, InputFault>
+    ensures bound { ReadsAtMost result buffer.new }
+    ensures bytes { ReadConsumes (R.remaining reader.old) (R.remaining reader.new) result buffer.new }
+    ensures calls { steps.new.calls ≡ steps.old.calls + 1 }
+    ensures failed { FailsAs result steps.old steps.new }
+    ensures fault { IfErr result (λ fault. fault ≡ ReadFault) }
+{
+    match reader.read(buffer) {
+        Ok(count) => {
+            steps.tick();
+            Ok(count)
+        }
+        Err(_) => {
+            steps.tick_failed();
+            Err(InputFault::ReadFault)
+        }
+    }
+}
