@@ -130,6 +130,7 @@ fn what_is_written_is_told_of_any_bytes(rt: HostRuntime) {
 }
 
 /// A writer that takes nothing at its first call, and all at each later one.
+#[derive(Drop)]
 struct Stalling {
     calls: usize,
 }
