@@ -50,7 +50,6 @@ act_json (Do operation) = list (string (codes "do") ∷ step_data operation)
 act_json (Undo k) = list (string (codes "undo") ∷ whole k ∷ [])
 act_json (Back node) = list (string (codes "back") ∷ whole node ∷ [])
 
-
 -- what stands behind a fault's number: the step and what holds it
 abbrev pub fault_rest : Fault → List Data
 fault_rest (faults.HasConsequence step held_by) = whole step ∷ whole held_by ∷ []

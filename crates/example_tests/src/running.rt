@@ -1,10 +1,10 @@
 //! Whether a case comes out as it says, and what is told where it doesn't.
 use crate::case::Case;
 use program_core::program_within;
+use script_core::{FakeReader, FakeWriter};
 use std::io;
 use std::sync::Wait;
 use std::thread::Threads;
-use script_core::{FakeReader, FakeWriter};
 
 /// How the program ended: its status, and what it wrote to its output and to its errors.
 #[derive(Drop)]
