@@ -4,6 +4,10 @@ use bench_core::{Bench, Limits};
 use std::process::Abort;
 use test_alloc::Refusing;
 
+const JOIN_AND_UNDO: &str = "nodes a
+a join 1001 r alice phone
+a undo 1001";
+
 /// A thousand joins of one node.
 fn joins<'a>(heap: &'a Heap, rt: &impl Abort) -> String<&'a Heap> {
     let mut text = String::new(heap);
@@ -38,22 +42,21 @@ fn bytes_of_copy<'a>(bench: &Bench<'a, Heap>, heap: &'a Heap, rt: &impl Abort) -
     bytes
 }
 
+/// A join and its undo, after those of the script.
+fn plays<'a>(script: &str, heap: &'a Heap, rt: &impl Abort) {
+    let calls = calls_of(JOIN_AND_UNDO, heap, rt);
+    let mut bench = played(script, Limits::usual(), heap, rt);
+    let bytes = bytes_of(&mut bench, &calls, heap, rt);
+    let bytes_of_copy = bytes_of_copy(&bench, heap, rt);
+    drop(bench);
+    drop(calls);
+    holds!(rt, bytes.saturating_mul(10) < bytes_of_copy);
+}
+
 #[test]
 fn a_join_and_its_undo_ask_for_few_bytes(rt: HostRuntime) {
     let heap = Refusing::new(rt.alloc());
     let text = joins(&heap, &rt);
-    let mut bench = played(&text, Limits::usual(), &heap, &rt);
-    let calls = calls_of(
-        "nodes a\na join 1001 r alice phone\na undo 1001",
-        &heap,
-        &rt,
-    );
-    let bytes = bytes_of(&mut bench, &calls, &heap, &rt);
-    holds!(
-        &rt,
-        bytes.saturating_mul(10) < bytes_of_copy(&bench, &heap, &rt)
-    );
-    drop(calls);
+    plays(&text, &heap, &rt);
     drop(text);
-    drop(bench);
 }

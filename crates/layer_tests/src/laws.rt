@@ -12,10 +12,11 @@ ghost use Rattle.bench_core.specs.Chains.{OwnChains};
 ghost use Rattle.bench_core.specs.Machine.{cluster_of, config_of, replies_of};
 ghost use Rattle.bench_core.specs.Unwinds.{undos};
 
-use crate::benches::opened;
+use crate::benches::{Heap, opened};
 use bench_core::laws::{chain_law, headline_law, middle_law, unwind_law};
 use bench_core::{Bench, Journal, Limits};
 use std::alloc::Allocator;
+use std::process::Abort;
 use test_alloc::Refusing;
 
 /// The remaining steps run from empty nodes, and stand by rising number.
@@ -63,10 +64,14 @@ fn laws_hold<'a, B: Allocator>(bench: &Bench<'a, B>) -> bool {
     leads_back(bench).len() == 0
 }
 
+fn plays<'a>(script: &str, heap: &'a Heap, rt: &impl Abort) {
+    let bench = opened(script, Limits::usual(), heap, rt);
+    holds!(rt, laws_hold(&bench));
+    drop(bench);
+}
+
 #[test]
 fn laws_hold_of_a_bench(rt: HostRuntime) {
     let heap = Refusing::new(rt.alloc());
-    let bench = opened("nodes a b", Limits::usual(), &heap, &rt);
-    holds!(&rt, laws_hold(&bench));
-    drop(bench);
+    plays("nodes a b", &heap, &rt);
 }
