@@ -1,9 +1,8 @@
 -- What a bench keeps is kept by each call.
 use Rattle.std.proofs.Common.{◌≡◌, ◌≢◌, ◌⊎◌, inl, inr, Bool, if◌then◌else◌, ℕ, ◌+◌, ◌<◌, ◌≤◌, ◌==◌, not, nat_lt, true, false, List, [], ◌∷◌, ◌++◌, length}
-use Rattle.std.proofs.Common.{set, get_or, slice_get, Option, Some, None, option_map, Result, Ok, Err, refl, sym, ap, ◌∙◌, subst, subst₂, arith, length-set}
+use Rattle.std.proofs.Common.{set, slice_get, Option, Some, None, option_map, Result, Ok, Err, refl, sym, ap, ◌∙◌, subst, subst₂, arith, length-set}
 use Rattle.std.proofs.lemmas.Bool.{cases_eq, le-ltb, ltb-true, ne_eqb, and_parts}
 use Rattle.std.proofs.lemmas.List.Sums.{count_by-le-length}
-use Rattle.std.proofs.lemmas.Option.{slice_get_within}
 use Rattle.std.specs.List.{list_all}
 use Rattle.payload_core.specs.Answers.{◌>>=◌}
 use Rattle.bench_core.specs.declared.reply.Reply.{Reply}
@@ -30,12 +29,11 @@ use Rattle.bench_core.specs.Machine.{Event, Config, State, Machine, config_of, o
 use Rattle.bench_core.specs.Machine.{do_reply, reply_to, now, is_recorded, after, call, calls, AnswersAs, Answered, Unmade}
 use Rattle.bench_core.specs.Histories.{note}
 use Rattle.bench_core.specs.Headline.{IsReached}
-use Rattle.bench_core.specs.Benches.{AreNodes, IsBackable, IsBench, IsMachine, IsNumbered, IsTaken}
+use Rattle.bench_core.specs.Benches.{AreNodes, GoesBack, IsBackable, IsBench, IsMachine, IsNumbered, IsTaken, LeadsNodeBack, NodeGoesBack}
 use Rattle.journal_core.proofs.Rising.{kepts-append, find_kepts}
 use Rattle.bench_core.proofs.Clusters.{get-set_same, get-set_other, step_takes}
 use Rattle.bench_core.proofs.Taken.{was_read}
 use Rattle.bench_core.proofs.Runs.{runs_append, numbered_runs, limited_runs}
-use Rattle.bench_core.proofs.OneStep.{get_at}
 use Rattle.bench_core.proofs.Reached.{kept_reached, count_push, undo_answers}
 use Rattle.bench_core.proofs.Loop.{has_sender}
 use Rattle.bench_core.proofs.Chain.{chain_push, all_held, undoing}
@@ -181,7 +179,7 @@ refused_full actor act f m is other full =
     Answered (sym is) (rw recorded refl)
 
 -- one node replaced by another
-nodes_set : (c : Cluster) (n : ℕ) (x y : Node) → AreNodes c → slice_get c n ≡ Some x → IsNode y → AreNodes (set c n y)
+pub nodes_set : (c : Cluster) (n : ℕ) (x y : Node) → AreNodes c → slice_get c n ≡ Some x → IsNode y → AreNodes (set c n y)
 nodes_set c n x y all at is m z here = go (cases_eq m n)
   where
     go : (m ≡ n) ⊎ (m ≢ n) → IsNode z
@@ -507,16 +505,20 @@ undone names limits h later nodes d hs next taken actor n node act k m at longer
           (machine names limits h' (kepts b))) (sym longer) (sym shorter) r.answers);
     }
 
--- the lent inverse leads back from the node that the code finds
-pub found_at : (nodes : Cluster) (hs : List Held) (n node : ℕ) (i : Inverse) (x : Node) (b : IsBackable nodes hs n node) →
-    inverse_of (find_held hs n) ≡ Some i → x ≡ get_or nodes node x → LeadsBack i x b.earlier
-found_at nodes hs n node i x b lent at =
-    let here : slice_get nodes node ≡ Some x = get_at nodes node x (slice_get_within nodes node b.later b.at) at in
+-- the lent inverse leads its node back
+pub leads_node : (nodes : Cluster) (hs : List Held) (n node : ℕ) (i : Inverse) → IsBackable nodes hs n node → inverse_of (find_held hs n) ≡ Some i →
+    LeadsNodeBack nodes node i
+leads_node nodes hs n node i b lent =
     let kept = b.kept in
     let inverse_is : b.inverse ≡ i = cc (kept, lent) in
-    let stands = b.at in
-    let node_is : b.later ≡ x = cc (stands, here) in
-    subst₂ (λ (i : Inverse) (x : Node). LeadsBack i x b.earlier) inverse_is node_is b.leads
+    (b.later, b.at, (b.earlier, subst (λ (i : Inverse). LeadsBack i b.later b.earlier) inverse_is b.leads))
+
+pub goes_back : (nodes d : Cluster) (hs : List Held) (n node : ℕ) (i : Inverse) → inverse_of (find_held hs n) ≡ Some i → NodeGoesBack nodes node i d →
+    GoesBack nodes hs n node d
+goes_back nodes d hs n node i lent goes = λ b.
+    let kept = b.kept in
+    let inverse_is : b.inverse ≡ i = cc (kept, lent) in
+    (goes b.later b.earlier b.at (subst (λ (i : Inverse). LeadsBack i b.later b.earlier) inverse_is b.leads), b.leads.earlier)
 
 -- a step that was taken can be kept, in a journal that has made room for it
 pub can_keep : (names : Texts) (limits : Limits) (h : List Event) (nodes d : Cluster) (hs : List Held) (j : Journal)

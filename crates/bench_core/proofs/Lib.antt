@@ -15,6 +15,7 @@ pub mod OwnChain
 pub mod OneStep
 pub mod Openings
 pub mod Invariant
+pub mod Members
 pub mod InTurn
 pub mod Others
 pub mod WaysBack

@@ -33,6 +33,9 @@ opening_from_length : (l : NodeLimits) (first count : ℕ) → length (opening_f
 opening_from_length l first zero = refl
 opening_from_length l first (suc count) = let e = opening_from_length l (first + 1) count in omega (arith, e)
 
+pub opening_length : (l : NodeLimits) (count : ℕ) → length (opening_of l count) ≡ count
+opening_length l count = opening_from_length l 0 count
+
 -- a node as it opens is such as steps make them
 pub opening_kept : (own : ℕ) (l : NodeLimits) → own < 32 → AreNodeLimits l → IsNode (opening_node own l)
 opening_kept own l name limits = record { replica = kept_opening own l name limits; few = omega arith; messages = tt }
@@ -53,7 +56,7 @@ opens c nodes limits few is kept = record {
   count = refl;
   fits = omega arith;
   limits = limits;
-  size = ap length is ∙ opening_from_length (node_limits c.limits) 0 c.nodes;
+  size = ap length is ∙ opening_length (node_limits c.limits) c.nodes;
   few = few;
   kept = kept;
 }

@@ -7,7 +7,7 @@ use Rattle.node_core.specs.declared.step_fault.StepFault.TheVariants.{OutOfMemor
 use Rattle.node_core.specs.Operations.{Operation}
 use Rattle.node_core.specs.Nodes.{Node, take}
 use Rattle.node_core.specs.Invariant.{IsNode}
-use Rattle.node_core.specs.Inverses.{Inverse, plain_inverse, needs_no_memory, LeadsBack}
+use Rattle.node_core.specs.Inverses.{Inverse, plain_inverse, needs_no_memory, LeadsBack, LeadsSomewhere}
 use Rattle.journal_core.specs.Journals.{Kept, find_number, first_consequence, AreBelow}
 use Rattle.journal_core.specs.Holdings.{Held, kepts, find_held, inverse_of, AreAllHeld}
 use Rattle.bench_core.specs.declared.reply.Reply.TheVariants.{Refused}
@@ -66,6 +66,12 @@ pub record IsMachine (m : Machine) : Type 0 where
 abbrev pub IsNumbered : Cluster → Type 0
 IsNumbered c = (n : ℕ) (x : Node) → slice_get c n ≡ Some x → x.replica.own ≡ n
 
+-- what each cluster keeps
+pub record IsCluster (c : Cluster) : Type 0 where
+  pub kept : AreNodes c
+  pub numbered : IsNumbered c
+  pub few : length c ≤ 32
+
 -- the step of node n was accepted, and its inverse leads back
 pub record IsTaken (c : Cluster) (n : ℕ) (s : Operation) (i : Inverse) (d : Cluster) : Type 0 where
   pub earlier : Node
@@ -80,6 +86,14 @@ pub record IsTaken (c : Cluster) (n : ℕ) (s : Operation) (i : Inverse) (d : Cl
 abbrev pub Steps : {X : Type 0} → Cluster → ℕ → Operation → Result (declared.Inverse X) StepFault → Cluster → Type 0
 Steps c n s (Ok i) d = IsTaken c n s (plain_inverse i) d
 Steps c n s (Err fault) d = (d ≡ c) × (fault ≢ OutOfMemory → step c n s ≡ Err (fault_of fault))
+
+-- the inverse leads node n back
+abbrev pub LeadsNodeBack : Cluster → ℕ → Inverse → Type 0
+LeadsNodeBack c n i = (later : Node) × (slice_get c n ≡ Some later) × LeadsSomewhere i later
+
+-- node n became what the inverse leads it back to
+abbrev pub NodeGoesBack : Cluster → ℕ → Inverse → Cluster → Type 0
+NodeGoesBack c n i d = (later earlier : Node) → slice_get c n ≡ Some later → LeadsBack i later earlier → d ≡ slice_set c n earlier
 
 -- step n, of this node, can be taken back: nothing follows from it, no inverse is lent, and its own leads back from the node
 pub record IsBackable (nodes : Cluster) (hs : List Held) (n node : ℕ) : Type 0 where

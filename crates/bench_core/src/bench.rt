@@ -1,28 +1,24 @@
 //! `Bench`: the machine over its nodes, its journal and its history.
-ghost use Rattle.std.specs.Prelude.{◌≡◌, ◌≢◌, ◌↔◌, ◌<◌, ◌≤◌, ◌+◌, ◌++◌, ◌∷◌, [], Ok, IfErr, IfOk, IfSome, IsOk, IsSome, OnOk, OnErr, length, take, true, nat_lt, option_map};
-ghost use Rattle.std.specs.List.{list_all};
-ghost use Rattle.replica_core.specs.Limits.{AreNodeLimits};
+ghost use Rattle.std.specs.Prelude.{◌≡◌, ◌≢◌, ◌↔◌, ◌<◌, ◌≤◌, ◌+◌, Ok, IfErr, IfOk, IfSome, IsOk, IsSome, OnOk, OnErr, length, take, option_map};
 ghost use Rattle.node_core.specs.Inverses.{plain_inverse};
-ghost use Rattle.node_core.specs.Nodes.{Node as PlainNode};
-ghost use Rattle.node_core.specs.Operations.{named_in, plain};
+ghost use Rattle.node_core.specs.Operations.{plain};
 ghost use Rattle.journal_core.specs.Journals.{find_number};
 ghost use Rattle.journal_core.specs.Gathering.{gathered_numbers};
 ghost use Rattle.journal_core.specs.Holdings.{without_held, kepts};
 ghost use Rattle.bench_core.specs.declared.fault.Fault.TheVariants.{HistoryFull};
 ghost use Rattle.bench_core.specs.declared.reply.Reply.TheVariants.{Refused};
-ghost use Rattle.bench_core.specs.Among.{MayStep, StepsOnce};
 ghost use Rattle.bench_core.specs.Acts.{plain_act, calls_of, Do, Back};
 ghost use Rattle.bench_core.specs.Limits.{node_limits};
-ghost use Rattle.bench_core.specs.Clusters.{opening_of, message_for};
+ghost use Rattle.bench_core.specs.Clusters.{opening_of};
 ghost use Rattle.bench_core.specs.Chains.{Chain};
 ghost use Rattle.bench_core.specs.Machine.{config_of, free_places, given, knows, reply_to, undo_reply, opening_machine, AnswersAs, AllAnswered};
 ghost use Rattle.bench_core.specs.Headline.{CanBeTakenBack, RefusedOnlyForConsequence};
 ghost use Rattle.bench_core.specs.Unwinds.{AreUndone, CanBeUndone, Explains, IsUnwound, IsWhole, Unexplained, undone_by};
 ghost use Rattle.bench_core.specs.WaysBack.{IsWayBack};
-ghost use Rattle.bench_core.specs.Benches.{AreNodes, GoesBack, IsBackable, IsGone, IsMachine, IsNodeOf, IsNumbered, IsStepOf, NeedsNoMemory, Steps};
+ghost use Rattle.bench_core.specs.Benches.{GoesBack, IsBackable, IsGone, IsMachine, IsNodeOf, IsStepOf, NeedsNoMemory};
 
 use crate::act::Act;
-use crate::among::{Member, other, step_at};
+use crate::cluster::Cluster;
 use crate::fault::Fault;
 use crate::history::History;
 use crate::limits::Limits;
@@ -31,88 +27,30 @@ use crate::reply::Reply;
 use crate::unwound::Unwound;
 use journal_core::Journal;
 use journal_core::laws::loan_law;
-use node_core::{Inverse, Meter, Node, NodeLimits, Oom, Step, StepFault};
-use payload_core::Payload;
+use node_core::{Inverse, Meter, Node, Oom, Step, StepFault};
 use std::alloc::Allocator;
 use std::marker::Model;
 
-/// The message that a step delivers, from among the nodes before one and those after it.
-fn message<'x, 'a, B: Allocator>(
-    before: &'x [Node<'a, B>],
-    after: &'x [Node<'a, B>],
-    step: &Step<&'a B>,
-) -> Option<&'x Payload<&'a B>>
-    ensures { (silent : PlainNode) → silent.outbox ≡ [] → option_map (λ m. m.now) result ≡ message_for (before.now ++ silent ∷ after.now) (plain step.now) }
-{
-    let (sender, number) = step.delivers()?;
-    other(before, after, sender as usize)?.outbox().get(number)
-}
-
-/// A node takes a step with the others at hand, from among which the message is lent that it delivers: no step reads a
-/// message of its own node.
-impl<'a, B: Allocator> Member for Node<'a, B> {
-    type Step = Step<&'a B>;
-
-    type Answer = Result<Inverse<&'a B>, StepFault>;
-
-    ghost may_take = { λ before node after step count. MayStep (before ++ node ∷ after) (plain step) count };
-
-    ghost takes = { λ before node after step count answer left counted. StepsOnce (before ++ node ∷ after) (length before) (plain step) count answer (before ++ left ∷ after) counted };
-
-    fn take_beside(
-        &mut self,
-        before: &[Self],
-        after: &[Self],
-        step: &Step<&'a B>,
-        meter: &mut Meter,
-    ) -> Result<Inverse<&'a B>, StepFault> {
-        let result = self.take(step, message(before, after, step), meter);
-        self.node_law();
-        result
-    }
-}
-
-/// A step of one node, which stays where it stands.
-fn step_node<'a, B: Allocator>(
-    nodes: &mut Vec<Node<'a, B>, &'a B>,
-    actor: u16,
-    step: &Step<&'a B>,
-    meter: &mut Meter,
-) -> Result<Inverse<&'a B>, StepFault>
-    requires there { actor < length nodes.old.items }
-    requires few { length nodes.old.items ≤ 32 }
-    requires named { list_all (λ k. nat_lt k (length nodes.old.items)) (named_in (plain step.now)) ≡ true }
-    requires numbered { IsNumbered nodes.old.items }
-    requires meter { meter.old.count < 18446744073709551615 }
-    ensures steps { Steps nodes.old.items actor (plain step.now) result nodes.new.items }
-    ensures ticks { OnOk result (meter.new.count ≡ meter.old.count + 1) }
-    ensures no_tick { OnErr result (meter.new.count ≡ meter.old.count) }
-{
-    step_at(nodes.as_mut_slice(), actor as usize, step, meter)
-}
-
 /// Takes step `number`, of this node, back by its inverse; a join, an up, a down and a send without memory.
 fn take_back<'a, B: Allocator>(
-    nodes: &mut Vec<Node<'a, B>, &'a B>,
+    cluster: &mut Cluster<'a, B>,
     journal: &mut Journal<'a, B>,
     number: u64,
     node: u16,
 ) -> Result<(), Oom>
-    requires { IsBackable nodes.old.items journal.old.steps number node }
-    ensures node { OnOk result (GoesBack nodes.old.items journal.old.steps number node nodes.new.items) }
+    requires { IsBackable cluster.old journal.old.steps number node }
+    ensures node { OnOk result (GoesBack cluster.old journal.old.steps number node cluster.new) }
     ensures journal { OnOk result (journal.new ≡ record { nodes = journal.old.nodes; steps = without_held journal.old.steps number; room = journal.old.room }) }
-    ensures err { OnErr result (nodes.new.items ≡ nodes.old.items) }
+    ensures err { OnErr result (cluster.new ≡ cluster.old) }
     ensures err_journal { OnErr result (journal.new ≡ journal.old) }
     ensures needs_no_memory { NeedsNoMemory journal.old.steps number → IsOk result }
 {
     loan_law();
     let inverse = journal.lend(number).unwrap();
-    let place = &mut nodes[node as usize];
-    if let Err((inverse, _)) = place.give_back(inverse) {
+    if let Err((inverse, _)) = cluster.give_back(node, inverse) {
         journal.put_back(number, inverse);
         return Err(Oom);
     }
-    place.node_law();
     journal.take_out(number);
     Ok(())
 }
@@ -123,7 +61,7 @@ fn take_back<'a, B: Allocator>(
 pub struct Bench<'a, B: Allocator> {
     names: Names<&'a B>,
     limits: Limits,
-    nodes: Vec<Node<'a, B>, &'a B>,
+    cluster: Cluster<'a, B>,
     journal: Journal<'a, B>,
     history: History<'a, B>,
     meter: Meter,
@@ -143,7 +81,7 @@ impl<'a, B: Allocator> Model for Bench<'a, B> {
     ghost view = { λ b. record { names = b.names; limits = b.limits; state = record { history = b.history; remaining = kepts b.journal.steps } } };
 
     ghost invariant = { λ b. IsBench (record { nodes = length b.names; limits = b.limits })
-        (record { history = b.history; remaining = kepts b.journal.steps }) b.nodes.items b.journal.steps b.meter.count ×
+        (record { history = b.history; remaining = kepts b.journal.steps }) b.cluster b.journal.steps b.meter.count ×
         (b.journal.nodes ≡ length b.names) };
 }
 
@@ -152,19 +90,19 @@ impl<'a, B: Allocator> Bench<'a, B> {
     pub fn new(alloc: &'a B, names: Names<&'a B>, limits: Limits) -> Result<Self, Oom>
         ensures { IfOk result (λ b. b ≡ opening_machine names.entry limits) }
     {
-        let Ok(nodes) = open_nodes(alloc, names.len(), limits.of_node()) else {
+        let Ok(cluster) = Cluster::new(alloc, names.len(), limits.of_node()) else {
             drop(names);
             return Err(Oom);
         };
         let Ok(journal) = Journal::new(alloc, names.len() as u16) else {
             drop(names);
-            drop(nodes);
+            drop(cluster);
             return Err(Oom);
         };
         Ok(Bench {
             names,
             limits,
-            nodes,
+            cluster,
             journal,
             history: History::new(alloc),
             meter: Meter::new(),
@@ -205,7 +143,7 @@ impl<'a, B: Allocator> Bench<'a, B> {
         ensures value { IsNodeOf self.now number (option_map (λ n. n.now) result) }
         ensures each { IsSome result ↔ (number < length self.now.names) }
     {
-        self.nodes.get(number as usize)
+        self.cluster.node(number)
     }
 
     /// The inverse of a step that remains, for looking: while nothing follows from the step, it leads from the step's node
@@ -233,7 +171,7 @@ impl<'a, B: Allocator> Bench<'a, B> {
 
     /// What it takes its memory from.
     pub(crate) fn allocator(&self) -> &'a B {
-        *self.nodes.allocator()
+        self.cluster.allocator()
     }
 
     /// How many more calls and steps there is room for.
@@ -303,7 +241,7 @@ impl<'a, B: Allocator> Bench<'a, B> {
             self.history.forget_last();
             return unmade;
         };
-        match step_node(&mut self.nodes, actor, &step, &mut self.meter) {
+        match self.cluster.take(actor, &step, &mut self.meter) {
             Err(fault) => {
                 drop(step);
                 if fault == StepFault::OutOfMemory {
@@ -344,7 +282,7 @@ impl<'a, B: Allocator> Bench<'a, B> {
         if self.history.record(actor, act, reply).is_err() {
             return Reply::Refused(Fault::OutOfMemory);
         }
-        if take_back(&mut self.nodes, &mut self.journal, number, node).is_err() {
+        if take_back(&mut self.cluster, &mut self.journal, number, node).is_err() {
             self.history.forget_last();
             return Reply::Refused(Fault::OutOfMemory);
         }
@@ -384,7 +322,7 @@ impl<'a, B: Allocator> Bench<'a, B> {
         ensures ok { IfOk result (λ replies. AllAnswered self.old (calls_of calls.now) replies.items self.new) }
         ensures err { OnErr result (self.new ≡ self.old) }
     {
-        let alloc = *self.nodes.allocator();
+        let alloc = self.cluster.allocator();
         let mut replies = Vec::with_capacity(alloc, calls.len())?;
         for (actor, act) in calls {
             let reply = self.act(*actor, act);
@@ -446,22 +384,4 @@ impl<'a, B: Allocator> Bench<'a, B> {
             Err(fault) => Unwound::Refused(fault),
         }
     }
-}
-
-/// So many empty nodes.
-fn open_nodes<'a, B: Allocator>(
-    alloc: &'a B,
-    count: usize,
-    limits: NodeLimits,
-) -> Result<Vec<Node<'a, B>, &'a B>, Oom>
-    requires few { count ≤ 32 }
-    requires limits { AreNodeLimits limits }
-    ensures opening { IfOk result (λ nodes. nodes.items ≡ opening_of limits count) }
-    ensures kept { IfOk result (λ nodes. AreNodes nodes.items) }
-{
-    let mut nodes = Vec::with_capacity(alloc, count)?;
-    for number in 0..count as u16 {
-        nodes.push_reserved(Node::new(alloc, number, limits));
-    }
-    Ok(nodes)
 }

@@ -5,13 +5,14 @@
 //! inverses); words come from `payload_core`, memory's refusal from `dots_core`.
 //!
 //! In the order to read them: `names`, over `names_fault` and `texts`, and `limits`, for whom and how much; `act`, `fault`,
-//! `reply` and `unwound`, what is asked and answered; `history`; `bench`, the machine, over `among`;
-//! `swaps`, over `movable` and `swap_fault`; `laws`.
+//! `reply` and `unwound`, what is asked and answered; `history`; `cluster`, the nodes without a history, over `among`; `bench`,
+//! the machine; `swaps`, over `movable` and `swap_fault`; `laws`.
 #![tactic(auto)]
 
 mod act;
 mod among;
 mod bench;
+mod cluster;
 mod fault;
 mod history;
 pub mod laws;
@@ -27,6 +28,7 @@ mod unwound;
 
 pub use act::Act;
 pub use bench::Bench;
+pub use cluster::Cluster;
 pub use fault::Fault;
 pub use history::{Event, History};
 pub use journal_core::{Journal, Kept};

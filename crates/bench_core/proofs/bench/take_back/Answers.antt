@@ -1,25 +1,17 @@
-use Rattle.std.proofs.Common.{◌≡◌, ◌∙◌, IsTrue, sym, ap, subst, Some, None, set, option_map, arith, ◌<◌}
-use Rattle.node_core.specs.Invariant.{IsNode}
-use Rattle.node_core.specs.Inverses.{plain_inverse, needs_no_memory, LeadsSomewhere}
+use Rattle.std.proofs.Common.{◌≡◌, ◌∙◌, IsTrue, sym, ap, subst, Some, None, option_map}
+use Rattle.node_core.specs.Inverses.{plain_inverse, needs_no_memory}
 use Rattle.journal_core.specs.Journals.{first_consequence}
 use Rattle.journal_core.specs.Holdings.{Journal, find_held, inverse_of, kepts, with_inverse, without_held, IsLent}
 use Rattle.journal_core.proofs.Rising.{kepts_with}
 use Rattle.journal_core.proofs.Loans.{is_lent}
-use Rattle.bench_core.proofs.Invariant.{found_at}
-use Rattle.std.proofs.lemmas.List.{set-get_or}
-use Rattle.std.proofs.lemmas.Option.{slice_get_within}
+use Rattle.bench_core.proofs.Invariant.{goes_back, leads_node}
 use Rattle.bench_core.proofs.bench.take_back.Goals as goal
 
 pub give_back-requires : goal.give_back-requires
 give_back-requires g c =
     let lent : inverse_of (find_held c.args.journal.now.steps c.args.number) ≡ Some (plain_inverse c.unwrap-inverse.result) =
     sym c.lend.ensures.value ∙ ap (option_map plain_inverse) c.unwrap-inverse.ensures in
-    let leads : LeadsSomewhere (plain_inverse c.unwrap-inverse.result) c.index_mut-place.result.now = (
-      c.requires.earlier,
-      found_at c.args.nodes.now.items c.args.journal.now.steps c.args.number c.args.node (plain_inverse c.unwrap-inverse.result)
-          c.index_mut-place.result.now c.requires lent c.index_mut-place.ensures.value,
-    ) in
-    (omega arith, leads)
+    leads_node c.args.cluster.now c.args.journal.now.steps c.args.number c.args.node (plain_inverse c.unwrap-inverse.result) c.requires lent
 
 pub put_back-requires : goal.put_back-requires
 put_back-requires g c =
@@ -61,16 +53,6 @@ returns-in-Err-clause-err_journal g c =
     ∙ ap (λ l. record { nodes = c.args.journal.now.nodes; steps = l; room = c.args.journal.now.room })
     (c.loan_law.ensures.put_back c.args.journal.now.steps c.args.number (plain_inverse c.unwrap-inverse.result) lent)
 
-pub returns-clause-node : goal.returns-clause-node
-returns-clause-node g c = λ b.
-    let lent : inverse_of (find_held c.args.journal.now.steps c.args.number) ≡ Some (plain_inverse c.unwrap-inverse.result) =
-    sym c.lend.ensures.value ∙ ap (option_map plain_inverse) c.unwrap-inverse.ensures in
-    let back : c.give_back.new.self ≡ b.earlier =
-    c.in_default.ensures.ok b.earlier
-    (found_at c.args.nodes.now.items c.args.journal.now.steps c.args.number c.args.node (plain_inverse c.unwrap-inverse.result)
-    c.index_mut-place.result.now b lent c.index_mut-place.ensures.value) in
-    (ap (set c.args.nodes.now.items c.args.node) back, subst IsNode back c.node_law.ensures)
-
 pub returns-clause-journal : goal.returns-clause-journal
 returns-clause-journal g c =
     c.take_out.ensures
@@ -78,19 +60,16 @@ returns-clause-journal g c =
     ∙ ap (λ l. record { nodes = c.args.journal.now.nodes; steps = l; room = c.args.journal.now.room })
     (c.loan_law.ensures.taken_out c.args.journal.now.steps c.args.number)
 
-pub index_mut-place-requires : goal.index_mut-place-requires
-index_mut-place-requires g c =
-    subst (λ n. c.args.node < n) (sym c.args.nodes.now.ok.0)
-    (slice_get_within c.args.nodes.now.items c.args.node c.requires.later c.requires.at)
-
-pub returns-in-Err-clause-err : goal.returns-in-Err-clause-err
-returns-in-Err-clause-err g c =
-    ap (set c.args.nodes.now.items c.args.node) (c.in-Err.ensures.err ∙ c.index_mut-place.ensures.value)
-    ∙ set-get_or c.args.nodes.now.items c.args.node _
-
 pub returns-in-Err-clause-needs_no_memory : goal.returns-in-Err-clause-needs_no_memory
 returns-in-Err-clause-needs_no_memory g c = λ none.
     let lent : Some (plain_inverse c.unwrap-inverse.result) ≡ Some none.0 =
     sym (ap (option_map plain_inverse) c.unwrap-inverse.ensures) ∙ c.lend.ensures.value ∙ none.1 in
     let same : none.0 ≡ plain_inverse c.unwrap-inverse.result = cc in
     c.in-Err.ensures.needs_no_memory (subst (λ i. IsTrue (needs_no_memory i)) same none.2)
+
+pub returns-clause-node : goal.returns-clause-node
+returns-clause-node g c =
+    let lent : inverse_of (find_held c.args.journal.now.steps c.args.number) ≡ Some (plain_inverse c.unwrap-inverse.result) =
+    sym c.lend.ensures.value ∙ ap (option_map plain_inverse) c.unwrap-inverse.ensures in
+    goes_back c.args.cluster.now c.give_back.new.self c.args.journal.now.steps c.args.number c.args.node (plain_inverse c.unwrap-inverse.result) lent
+    c.in_default.ensures.ok

@@ -9,5 +9,5 @@ returns-then-number-eq0-clause-gone g c =
       | then-number-eq0-via-then-number-eq0 w ↦ inl (omega (arith, w.if-number-eq0.true))
       | then-number-eq0-via-else-number-eq0+then-number-count w ↦ inr (omega (arith, w.if-number-count.true, w.count.ensures))
     ] in
-    never_given c.self.inside.names c.self.inside.limits c.self.inside.history c.self.inside.nodes.items c.self.inside.journal.steps
+    never_given c.self.inside.names c.self.inside.limits c.self.inside.history c.self.inside.cluster c.self.inside.journal.steps
     c.self.inside.meter.count c.args.number c.args.self.now c.self.view_is c.self.invariant.0 out

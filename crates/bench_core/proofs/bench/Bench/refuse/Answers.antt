@@ -12,7 +12,7 @@ pub invariant_of-self-2 : goal.invariant_of-self-2
 invariant_of-self-2 g c =
     let noted : c.record.new.self ≡ note c.args.actor (plain_act c.args.act.now) (Refused c.args.fault) c.self.inside.history = search rules in (
       (refused c.self.inside.names c.self.inside.limits c.self.inside.history c.record.new.self
-          (kepts c.self.inside.journal.steps) c.self.inside.nodes.items c.self.inside.journal.steps c.self.inside.meter.count c.args.actor
+          (kepts c.self.inside.journal.steps) c.self.inside.cluster c.self.inside.journal.steps c.self.inside.meter.count c.args.actor
           (plain_act c.args.act.now) c.args.fault c.args.self.now c.self.view_is
           noted
           c.self.invariant.0 c.requires.refused c.requires.recorded (λ e. c.if-free-eq0.false (c.free.ensures ∙ e))).keeps,
@@ -23,15 +23,15 @@ pub returns : goal.returns
 returns g c =
     let noted : c.record.new.self ≡ note c.args.actor (plain_act c.args.act.now) (Refused c.args.fault) c.self.inside.history = search rules in
     (refused c.self.inside.names c.self.inside.limits c.self.inside.history c.record.new.self
-    (kepts c.self.inside.journal.steps) c.self.inside.nodes.items c.self.inside.journal.steps c.self.inside.meter.count c.args.actor
+    (kepts c.self.inside.journal.steps) c.self.inside.cluster c.self.inside.journal.steps c.self.inside.meter.count c.args.actor
     (plain_act c.args.act.now) c.args.fault c.args.self.now c.self.view_is
     noted
     c.self.invariant.0 c.requires.refused c.requires.recorded (λ e. c.if-free-eq0.false (c.free.ensures ∙ e))).answers
 
 pub invariant_of-self : goal.invariant_of-self
 invariant_of-self g c =
-    same_bench c.self.inside.names c.self.inside.limits c.self.inside.history c.record.new.self c.self.inside.nodes.items
-    c.self.inside.nodes.items c.self.inside.journal c.self.inside.journal c.self.inside.meter.count
+    same_bench c.self.inside.names c.self.inside.limits c.self.inside.history c.record.new.self c.self.inside.cluster
+    c.self.inside.cluster c.self.inside.journal c.self.inside.journal c.self.inside.meter.count
     (was_refused (c.record.new.self ≡ c.self.inside.history) c.record.result (sym c.is_err.ensures.value ∙ c.if-is_err.true) c.record.ensures.err) refl refl c.self.invariant
 
 pub returns-then-is_err : goal.returns-then-is_err

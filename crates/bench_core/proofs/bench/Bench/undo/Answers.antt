@@ -1,4 +1,4 @@
-use Rattle.std.proofs.Common.{◌≡◌, ◌∙◌, sym, ap, subst, List, Some, None, arith, refl}
+use Rattle.std.proofs.Common.{◌≡◌, ◌∙◌, sym, ap, subst, List, Some, None, refl}
 use Rattle.bench_core.specs.declared.reply.Reply.TheVariants.{Undone}
 use Rattle.bench_core.specs.Acts.{plain_act}
 use Rattle.journal_core.specs.Journals.{find_number, first_consequence}
@@ -19,9 +19,9 @@ take_back-requires g c =
     ap (λ (m : Machine). find_number m.state.remaining c.args.number) c.self.view_is ∙ step.1 in
     let free : first_consequence (kepts c.self.inside.journal.steps) c.args.number ≡ None = sym c.first_consequence.ensures
     ∙ c.in_default.is in
-    let u = undo_at (config c.self.inside.names c.self.inside.limits) c.self.inside.history c.self.inside.nodes.items
+    let u = undo_at (config c.self.inside.names c.self.inside.limits) c.self.inside.history c.self.inside.cluster
     c.self.inside.journal.steps c.self.inside.meter.count c.args.number c.in-Ok.node step.0 c.self.invariant.0 found step.2 free in
-    (omega arith, u.backable)
+    u.backable
 
 pub invariant_of-self-else-is_err-2 : goal.invariant_of-self-else-is_err-2
 invariant_of-self-else-is_err-2 g c =
@@ -32,10 +32,10 @@ invariant_of-self-else-is_err-2 g c =
     ap (λ (m : Machine). find_number m.state.remaining c.args.number) c.self.view_is ∙ step.1 in
     let free : first_consequence (kepts c.self.inside.journal.steps) c.args.number ≡ None = sym c.first_consequence.ensures
     ∙ c.in_default.is in
-    let u = undo_at (config c.self.inside.names c.self.inside.limits) c.self.inside.history c.self.inside.nodes.items
+    let u = undo_at (config c.self.inside.names c.self.inside.limits) c.self.inside.history c.self.inside.cluster
     c.self.inside.journal.steps c.self.inside.meter.count c.args.number c.in-Ok.node step.0 c.self.invariant.0 found step.2 free in
     let goes =
-    was_made (GoesBack c.self.inside.nodes.items c.self.inside.journal.steps c.args.number c.in-Ok.node c.take_back.new.nodes.items) c.take_back.result (sym c.is_err-2.ensures.value ∙ c.if-is_err-2.false) c.take_back.ensures.node in
+    was_made (GoesBack c.self.inside.cluster c.self.inside.journal.steps c.args.number c.in-Ok.node c.take_back.new.cluster) c.take_back.result (sym c.is_err-2.ensures.value ∙ c.if-is_err-2.false) c.take_back.ensures.node in
     let shorter =
     was_made (c.take_back.new.journal ≡
     record {
@@ -44,8 +44,8 @@ invariant_of-self-else-is_err-2 g c =
       room =
           c.self.inside.journal.room;
     }) c.take_back.result (sym c.is_err-2.ensures.value ∙ c.if-is_err-2.false) c.take_back.ensures.journal in (
-      (undone c.self.inside.names c.self.inside.limits c.self.inside.history c.record.new.self c.self.inside.nodes.items
-          c.take_back.new.nodes.items c.self.inside.journal.steps c.take_back.new.journal.steps c.self.inside.meter.count c.args.actor
+      (undone c.self.inside.names c.self.inside.limits c.self.inside.history c.record.new.self c.self.inside.cluster
+          c.take_back.new.cluster c.self.inside.journal.steps c.take_back.new.journal.steps c.self.inside.meter.count c.args.actor
           c.args.number c.in-Ok.node (plain_act c.args.act.now) step.0 c.args.self.now c.self.view_is
           noted
           (ap (λ (j : Journal). j.steps) shorter) c.self.invariant.0 c.requires found free u (goes u.backable)).keeps,
@@ -61,10 +61,10 @@ returns g c =
     ap (λ (m : Machine). find_number m.state.remaining c.args.number) c.self.view_is ∙ step.1 in
     let free : first_consequence (kepts c.self.inside.journal.steps) c.args.number ≡ None = sym c.first_consequence.ensures
     ∙ c.in_default.is in
-    let u = undo_at (config c.self.inside.names c.self.inside.limits) c.self.inside.history c.self.inside.nodes.items
+    let u = undo_at (config c.self.inside.names c.self.inside.limits) c.self.inside.history c.self.inside.cluster
     c.self.inside.journal.steps c.self.inside.meter.count c.args.number c.in-Ok.node step.0 c.self.invariant.0 found step.2 free in
     let goes =
-    was_made (GoesBack c.self.inside.nodes.items c.self.inside.journal.steps c.args.number c.in-Ok.node c.take_back.new.nodes.items) c.take_back.result (sym c.is_err-2.ensures.value ∙ c.if-is_err-2.false) c.take_back.ensures.node in
+    was_made (GoesBack c.self.inside.cluster c.self.inside.journal.steps c.args.number c.in-Ok.node c.take_back.new.cluster) c.take_back.result (sym c.is_err-2.ensures.value ∙ c.if-is_err-2.false) c.take_back.ensures.node in
     let shorter =
     was_made (c.take_back.new.journal ≡
     record {
@@ -73,8 +73,8 @@ returns g c =
       room =
           c.self.inside.journal.room;
     }) c.take_back.result (sym c.is_err-2.ensures.value ∙ c.if-is_err-2.false) c.take_back.ensures.journal in
-    (undone c.self.inside.names c.self.inside.limits c.self.inside.history c.record.new.self c.self.inside.nodes.items
-    c.take_back.new.nodes.items c.self.inside.journal.steps c.take_back.new.journal.steps c.self.inside.meter.count c.args.actor
+    (undone c.self.inside.names c.self.inside.limits c.self.inside.history c.record.new.self c.self.inside.cluster
+    c.take_back.new.cluster c.self.inside.journal.steps c.take_back.new.journal.steps c.self.inside.meter.count c.args.actor
     c.args.number c.in-Ok.node (plain_act c.args.act.now) step.0 c.args.self.now c.self.view_is
     noted
     (ap (λ (j : Journal). j.steps) shorter) c.self.invariant.0 c.requires found free u (goes u.backable)).answers
@@ -107,11 +107,11 @@ invariant_of-self-then-is_err-2 g c =
     let noted =
     was_made (c.record.new.self ≡ note c.args.actor (plain_act c.args.act.now) (Undone c.args.number) c.self.inside.history) c.record.result (sym c.is_err.ensures.value ∙ c.if-is_err.false) c.record.ensures.ok in
     let stays =
-    was_refused (c.take_back.new.nodes.items ≡ c.self.inside.nodes.items) c.take_back.result (sym c.is_err-2.ensures.value ∙ c.if-is_err-2.true) c.take_back.ensures.err in
+    was_refused (c.take_back.new.cluster ≡ c.self.inside.cluster) c.take_back.result (sym c.is_err-2.ensures.value ∙ c.if-is_err-2.true) c.take_back.ensures.err in
     let same =
     was_refused (c.take_back.new.journal ≡ c.self.inside.journal) c.take_back.result (sym c.is_err-2.ensures.value ∙ c.if-is_err-2.true) c.take_back.ensures.err_journal in
-    same_bench c.self.inside.names c.self.inside.limits c.self.inside.history c.forget_last.new.self c.self.inside.nodes.items
-    c.take_back.new.nodes.items c.self.inside.journal c.take_back.new.journal c.self.inside.meter.count
+    same_bench c.self.inside.names c.self.inside.limits c.self.inside.history c.forget_last.new.self c.self.inside.cluster
+    c.take_back.new.cluster c.self.inside.journal c.take_back.new.journal c.self.inside.meter.count
     (c.forget_last.ensures c.args.actor (plain_act c.args.act.now) (Undone c.args.number) c.self.inside.history noted) stays
     same c.self.invariant
 
@@ -134,6 +134,6 @@ returns-then-is_err-2 g c =
 
 pub invariant_of-self : goal.invariant_of-self
 invariant_of-self g c =
-    same_bench c.self.inside.names c.self.inside.limits c.self.inside.history c.record.new.self c.self.inside.nodes.items
-    c.self.inside.nodes.items c.self.inside.journal c.self.inside.journal c.self.inside.meter.count
+    same_bench c.self.inside.names c.self.inside.limits c.self.inside.history c.record.new.self c.self.inside.cluster
+    c.self.inside.cluster c.self.inside.journal c.self.inside.journal c.self.inside.meter.count
     (was_refused (c.record.new.self ≡ c.self.inside.history) c.record.result (sym c.is_err.ensures.value ∙ c.if-is_err.true) c.record.ensures.err) refl refl c.self.invariant

@@ -1,7 +1,7 @@
 use Rattle.std.proofs.Common.{◌++◌, ◌∷◌, length, option_map, arith}
 use Rattle.node_core.specs.Operations.{plain, AreNames}
 use Rattle.bench_core.proofs.OneStep.{names_named, one_step}
-use Rattle.bench_core.proofs.bench.NodeMember.take_beside.Goals as goal
+use Rattle.bench_core.proofs.cluster.NodeMember.take_beside.Goals as goal
 
 pub take-result-requires : goal.take-result-requires
 take-result-requires g c = let names : AreNames (plain c.args.step.now) =

@@ -1,0 +1,182 @@
+//! `Cluster`: the nodes of a cluster, which take steps and keep no history and no journal.
+ghost use Rattle.std.specs.Prelude.{◌≡◌, ◌≢◌, ◌<◌, ◌≤◌, ◌+◌, ◌&&◌, ◌++◌, ◌∷◌, [], Ok, Err, IfErr, IfOk, IsOk, IsTrue, OnOk, OnErr, length, true, nat_lt, option_map, slice_get};
+ghost use Rattle.std.specs.List.{list_all};
+ghost use Rattle.replica_core.specs.Limits.{AreNodeLimits};
+ghost use Rattle.node_core.specs.Inverses.{plain_inverse, needs_no_memory};
+ghost use Rattle.node_core.specs.Nodes.{Node as PlainNode};
+ghost use Rattle.node_core.specs.Operations.{named_in, plain};
+ghost use Rattle.bench_core.specs.declared.fault.Fault.TheVariants.{OutOfMemory};
+ghost use Rattle.bench_core.specs.Among.{MayStep, StepsOnce};
+ghost use Rattle.bench_core.specs.Clusters.{opening_of, message_for, step as cluster_step};
+ghost use Rattle.bench_core.specs.Benches.{IsNumbered, LeadsNodeBack, NodeGoesBack, Steps};
+
+use crate::among::{Member, other, step_at};
+use crate::fault::Fault;
+use node_core::{Inverse, Meter, Node, NodeLimits, Oom, Step, StepFault};
+use payload_core::Payload;
+use std::alloc::Allocator;
+use std::marker::Model;
+
+/// The message that a step delivers, from among the nodes before one and those after it.
+fn message<'x, 'a, B: Allocator>(
+    before: &'x [Node<'a, B>],
+    after: &'x [Node<'a, B>],
+    step: &Step<&'a B>,
+) -> Option<&'x Payload<&'a B>>
+    ensures { (silent : PlainNode) → silent.outbox ≡ [] → option_map (λ m. m.now) result ≡ message_for (before.now ++ silent ∷ after.now) (plain step.now) }
+{
+    let (sender, number) = step.delivers()?;
+    other(before, after, sender as usize)?.outbox().get(number)
+}
+
+/// A node takes a step with the others at hand, from among which the message is lent that it delivers: no step reads a
+/// message of its own node.
+impl<'a, B: Allocator> Member for Node<'a, B> {
+    type Step = Step<&'a B>;
+
+    type Answer = Result<Inverse<&'a B>, StepFault>;
+
+    ghost may_take = { λ before node after step count. MayStep (before ++ node ∷ after) (plain step) count };
+
+    ghost takes = { λ before node after step count answer left counted. StepsOnce (before ++ node ∷ after) (length before) (plain step) count answer (before ++ left ∷ after) counted };
+
+    fn take_beside(
+        &mut self,
+        before: &[Self],
+        after: &[Self],
+        step: &Step<&'a B>,
+        meter: &mut Meter,
+    ) -> Result<Inverse<&'a B>, StepFault> {
+        let result = self.take(step, message(before, after, step), meter);
+        self.node_law();
+        result
+    }
+}
+
+/// A step of one node, which stays where it stands.
+fn step_node<'a, B: Allocator>(
+    nodes: &mut Vec<Node<'a, B>, &'a B>,
+    actor: u16,
+    step: &Step<&'a B>,
+    meter: &mut Meter,
+) -> Result<Inverse<&'a B>, StepFault>
+    requires there { actor < length nodes.old.items }
+    requires few { length nodes.old.items ≤ 32 }
+    requires named { list_all (λ k. nat_lt k (length nodes.old.items)) (named_in (plain step.now)) ≡ true }
+    requires numbered { IsNumbered nodes.old.items }
+    requires meter { meter.old.count < 18446744073709551615 }
+    ensures steps { Steps nodes.old.items actor (plain step.now) result nodes.new.items }
+    ensures ticks { OnOk result (meter.new.count ≡ meter.old.count + 1) }
+    ensures no_tick { OnErr result (meter.new.count ≡ meter.old.count) }
+{
+    step_at(nodes.as_mut_slice(), actor as usize, step, meter)
+}
+
+/// The nodes of a cluster, by number. A contract sees the list of them.
+#[derive(Drop)]
+pub struct Cluster<'a, B: Allocator> {
+    nodes: Vec<Node<'a, B>, &'a B>,
+}
+
+impl<'a, B: Allocator> Model for Cluster<'a, B> {
+    ghost use Rattle.std.specs.Coded.{coded_list};
+    ghost use Rattle.node_core.specs.Nodes.{node_code};
+    ghost use Rattle.bench_core.specs.Clusters.{Cluster};
+    ghost use Rattle.bench_core.specs.Benches.{IsCluster};
+
+    ghost Value = { Cluster };
+
+    ghost coded = { coded_list node_code };
+
+    ghost view = { λ c. c.nodes.items };
+
+    ghost invariant = { λ c. IsCluster c.nodes.items };
+}
+
+impl<'a, B: Allocator> Cluster<'a, B> {
+    /// So many empty nodes.
+    pub fn new(alloc: &'a B, count: usize, limits: NodeLimits) -> Result<Self, Oom>
+        requires few { count ≤ 32 }
+        requires limits { AreNodeLimits limits }
+        ensures { IfOk result (λ cluster. cluster ≡ opening_of limits count) }
+    {
+        let mut nodes = Vec::with_capacity(alloc, count)?;
+        for number in 0..count as u16 {
+            nodes.push_reserved(Node::new(alloc, number, limits));
+        }
+        Ok(Cluster { nodes })
+    }
+
+    /// How many nodes there are.
+    pub fn len(&self) -> usize
+        ensures { result ≡ length self.now }
+    {
+        self.nodes.len()
+    }
+
+    /// The node of this number.
+    pub fn node(&self, number: u16) -> Option<&Node<'a, B>>
+        ensures { option_map (λ n. n.now) result ≡ slice_get self.now number }
+    {
+        self.nodes.get(number as usize)
+    }
+
+    /// What it takes its memory from.
+    pub(crate) fn allocator(&self) -> &'a B {
+        *self.nodes.allocator()
+    }
+
+    /// Whether this node and the nodes that the step names are there.
+    fn knows(&self, node: u16, step: &Step<&'a B>) -> bool
+        ensures { result ≡ (nat_lt node (length self.now) && list_all (λ k. nat_lt k (length self.now)) (named_in (plain step.now))) }
+    {
+        let count = self.nodes.len() as u16;
+        node < count && step.names_below(count)
+    }
+
+    /// A step of this node. Its inverse leads the node back. `UnknownNode` where the node or one that the step names is none.
+    pub fn step(&mut self, node: u16, step: &Step<&'a B>) -> Result<Inverse<&'a B>, Fault>
+        ensures taken { OnOk result (cluster_step self.old node (plain step.now) ≡ Ok self.new) }
+        ensures refused { IfErr result (λ fault. fault ≢ OutOfMemory → cluster_step self.old node (plain step.now) ≡ Err fault) }
+        ensures unchanged { OnErr result (self.new ≡ self.old) }
+    {
+        if !self.knows(node, step) {
+            return Err(Fault::UnknownNode);
+        }
+        Ok(self.take(node, step, &mut Meter::new())?)
+    }
+
+    /// A step of this node, where the nodes that it names are there. The meter counts it where it is taken.
+    pub(crate) fn take(
+        &mut self,
+        node: u16,
+        step: &Step<&'a B>,
+        meter: &mut Meter,
+    ) -> Result<Inverse<&'a B>, StepFault>
+        requires there { node < length self.old }
+        requires named { list_all (λ k. nat_lt k (length self.old)) (named_in (plain step.now)) ≡ true }
+        requires meter { meter.old.count < 18446744073709551615 }
+        ensures steps { Steps self.old node (plain step.now) result self.new }
+        ensures ticks { OnOk result (meter.new.count ≡ meter.old.count + 1) }
+        ensures no_tick { OnErr result (meter.new.count ≡ meter.old.count) }
+    {
+        step_node(&mut self.nodes, node, step, meter)
+    }
+
+    /// This node as it was before its last step, which the inverse is of. Memory that is refused leaves all as it was, and
+    /// gives the inverse back.
+    pub(crate) fn give_back(
+        &mut self,
+        node: u16,
+        inverse: Inverse<&'a B>,
+    ) -> Result<(), (Inverse<&'a B>, Oom)>
+        requires { LeadsNodeBack self.old node (plain_inverse inverse) }
+        ensures ok { OnOk result (NodeGoesBack self.old node (plain_inverse inverse.entry) self.new) }
+        ensures err { OnErr result (self.new ≡ self.old) }
+        ensures given_back { IfErr result (λ failed. plain_inverse failed.0 ≡ plain_inverse inverse.entry) }
+        ensures needs_no_memory { IsTrue (needs_no_memory (plain_inverse inverse.entry)) → IsOk result }
+    {
+        let place = &mut self.nodes[node as usize];
+        place.give_back(inverse)
+    }
+}
