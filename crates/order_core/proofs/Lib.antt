@@ -1,0 +1,6 @@
+pub mod Front
+pub mod Lists
+pub mod SameOwn
+pub mod Ordered
+pub mod Marks
+pub mod Stands

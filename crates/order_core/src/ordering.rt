@@ -1,0 +1,116 @@
+//! The order: at each turn the first step that can come next.
+//!
+//! Of each node it keeps its next step and how many messages it sent, and looks at these alone.
+ghost use Rattle.std.specs.Prelude.{◌≡◌, ◌<◌, ◌≤◌, ℕ, [], Some, IfOk, drop, length, option_map, slice_get};
+ghost use Rattle.order_core.specs.declared.mark.Mark.{Mark as PlainMark};
+ghost use Rattle.order_core.specs.Marks.{order_of_marks};
+ghost use Rattle.order_core.specs.Stands.{first_of, is_ready, left, next_at, was_sent, AreStands, IsFirstReady};
+
+use crate::mark::Mark;
+use node_core::Oom;
+use std::alloc::Allocator;
+
+/// Where a node stands: the place of its next step, and how many messages it sent. The place is past the last where none is left.
+#[derive(Clone, Copy)]
+struct Stand {
+    next: usize,
+    sent: usize,
+}
+
+/// One more than the greatest node.
+fn count_nodes(marks: &[Mark]) -> usize
+    ensures { (i : ℕ) (m : PlainMark) → slice_get marks.now i ≡ Some m → m.node < result }
+{
+    let mut count = 0;
+    for mark in marks {
+        count = count.max(mark.node as usize + 1);
+    }
+    count
+}
+
+/// The place of the first step of this node from a place on, or the place past the last.
+fn place_from(marks: &[Mark], node: usize, from: usize) -> usize
+    requires { from ≤ length marks.now }
+    ensures { result ≡ first_of node from (drop from marks.now) }
+{
+    for place in from..marks.len() {
+        if marks[place].node as usize == node {
+            return place;
+        }
+    }
+    marks.len()
+}
+
+/// Where the nodes stand before the first step.
+fn stands_of<A: Allocator>(alloc: A, marks: &[Mark]) -> Result<Vec<Stand, A>, Oom>
+    ensures begins { IfOk result (λ stands. AreStands marks.now [] stands.items) }
+    ensures all_left { IfOk result (λ stands. left (next_at marks.now stands.items) 0 marks.now ≡ marks.now) }
+{
+    let count = count_nodes(marks);
+    let mut stands = Vec::with_capacity(alloc, count)?;
+    for node in 0..count {
+        stands.push_reserved(Stand {
+            next: place_from(marks, node, 0),
+            sent: 0,
+        });
+    }
+    Ok(stands)
+}
+
+/// Whether the message was sent, if the step has one.
+fn was_sent(stands: &[Stand], delivers: Option<(u16, u64)>) -> bool
+    ensures { result ≡ was_sent stands.now delivers }
+{
+    let Some((sender, number)) = delivers else {
+        return true;
+    };
+    match stands.get(sender as usize) {
+        Some(stand) => 0 < number && number <= stand.sent as u64,
+        None => false,
+    }
+}
+
+/// Whether a step stands at this place, whose message was sent.
+fn is_ready(marks: &[Mark], stands: &[Stand], place: usize) -> bool
+    ensures { result ≡ is_ready stands.now (slice_get marks.now place) }
+{
+    match marks.get(place) {
+        Some(mark) => was_sent(stands, mark.delivers),
+        None => false,
+    }
+}
+
+/// The least place of a next step that can come, or the place past the last.
+fn next_place(marks: &[Mark], stands: &[Stand]) -> usize
+    ensures { IsFirstReady marks.now stands.now result }
+{
+    let mut least = marks.len();
+    for stand in stands {
+        if stand.next < least && is_ready(marks, stands, stand.next) {
+            least = stand.next;
+        }
+    }
+    least
+}
+
+/// An order of the steps, if they have one.
+pub fn order<A: Allocator + Copy>(alloc: A, marks: &[Mark]) -> Result<Option<Vec<Mark, A>>, Oom>
+    ensures { IfOk result (λ found. option_map (λ v. v.items) found ≡ order_of_marks marks.now) }
+{
+    let mut stands = stands_of(alloc, marks)?;
+    let mut order = Vec::with_capacity(alloc, marks.len())?;
+    while order.len() < marks.len() {
+        let place = next_place(marks, stands.as_slice());
+        let Some(mark) = marks.get(place) else {
+            return Ok(None);
+        };
+        order.push_reserved(*mark);
+        let node = mark.node as usize;
+        let stand = stands[node];
+        stands[node] = Stand {
+            next: place_from(marks, node, place + 1),
+            sent: stand.sent + mark.sends as usize,
+        };
+    }
+    Ok(Some(order))
+}
