@@ -1,7 +1,7 @@
 //! `Command`: what one line of a script asks.
 ghost use Rattle.std.specs.Prelude.{◌≡◌, map, IsTrue};
 ghost use Rattle.std.specs.List.{list_all};
-ghost use Rattle.grammar_core.specs.Answers.{Gives};
+ghost use Rattle.grammar_core.specs.Answers.{Gives, Meets};
 ghost use Rattle.grammar_core.specs.Grammar.{keyword_of, verb_line, actor_line, journal_of, command_by};
 ghost use Rattle.grammar_core.specs.Scripts.{plain_command};
 ghost use Rattle.grammar_core.specs.Words.{is_visible};
@@ -85,7 +85,7 @@ fn actor_line<A: Allocator + Copy>(
 
 #[tactic(auto, unfolding(crate::specs::Grammar::journal_of))]
 fn journal_of<A: Allocator>(words: &[&str]) -> Result<Command<A>, FaultKind>
-    ensures { Gives plain_command result (journal_of (map (λ word. word.now) words.now)) }
+    ensures { Meets plain_command result (journal_of (map (λ word. word.now) words.now)) }
 {
     if !words.is_empty() {
         return Err(FaultKind::WrongCount);

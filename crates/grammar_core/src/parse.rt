@@ -1,11 +1,12 @@
 //! A script from its bytes, or its first fault.
-ghost use Rattle.std.specs.Prelude.{◌≡◌, map, IfErr, IsTrue};
+ghost use Rattle.std.specs.Prelude.{◌≡◌, ◌<◌, Err, length, map, IfErr, IsTrue};
 ghost use Rattle.std.specs.List.{list_all};
 ghost use Rattle.grammar_core.specs.Answers.{Gives, GivesScript};
 ghost use Rattle.grammar_core.specs.Grammar.{with_words, with_words_by, with_line, script_of};
 ghost use Rattle.grammar_core.specs.Readings.{reading_view};
 ghost use Rattle.grammar_core.specs.Scripts.{plain_script};
 ghost use Rattle.grammar_core.specs.Words.{is_visible};
+ghost use Rattle.grammar_core.specs.declared.fault.FaultKind.TheVariants.{TooLong};
 
 use crate::cast::{Cast, add_consoles, opening};
 use crate::command::command_of;
@@ -98,7 +99,8 @@ pub fn read_line<A: Allocator + Copy>(
 /// place of what would follow.
 #[tactic(auto, unfolding(crate::specs::Grammar::script_of, crate::specs::Grammar::with_lines))]
 pub fn parse_script<A: Allocator + Copy>(alloc: A, bytes: &[u8]) -> Result<Script<A>, ScriptFault>
-    ensures { GivesScript plain_script result (script_of bytes.now) }
+    ensures gives { GivesScript plain_script result (script_of bytes.now) }
+    ensures long { 1048576 < length bytes.now → result ≡ Err (record { line = 0; kind = TooLong }) }
 {
     if bytes.len() > LONGEST_SCRIPT {
         return Err(ScriptFault {

@@ -2,7 +2,7 @@
 ghost use Rattle.std.specs.Prelude.{◌≡◌, ◌<◌, map, IsTrue, IfOk};
 ghost use Rattle.std.specs.List.{list_all};
 ghost use Rattle.node_core.specs.Operations.{plain};
-ghost use Rattle.grammar_core.specs.Answers.{Gives};
+ghost use Rattle.grammar_core.specs.Answers.{Gives, Meets};
 ghost use Rattle.grammar_core.specs.Grammar.{node_at, number_at, word_at, presence_with, presence_of, join_of, update_of, leave_with, leave_of};
 ghost use Rattle.grammar_core.specs.Grammar.{leave_all_of, one_number, one_node, up_of, down_of, permdown_of, broadcast_of, with_node, with_nodes};
 ghost use Rattle.grammar_core.specs.Grammar.{extract_of, message_with, one_message, deliver_of, request_of, answer_of};
@@ -18,7 +18,7 @@ use std::alloc::Allocator;
 
 #[tactic(auto, unfolding(crate::specs::Grammar::node_at))]
 fn node_at<A: Allocator>(nodes: &Names<A>, name: &str) -> Result<u16, FaultKind>
-    ensures gives { Gives (λ node. node) result (node_at nodes.now name.now) }
+    ensures gives { Meets (λ node. node) result (node_at nodes.now name.now) }
     ensures small { IfOk result (λ node. node < 32) }
 {
     let _few = nodes.len(); // the proof reads that there are at most 32 nodes
@@ -27,7 +27,7 @@ fn node_at<A: Allocator>(nodes: &Names<A>, name: &str) -> Result<u16, FaultKind>
 
 #[tactic(auto, unfolding(crate::specs::Grammar::number_at))]
 fn number_at(digits: &str) -> Result<u64, FaultKind>
-    ensures { Gives (λ number. number) result (number_at digits.now) }
+    ensures { Meets (λ number. number) result (number_at digits.now) }
 {
     number_of(digits).ok_or(FaultKind::BadNumber)
 }
@@ -149,7 +149,7 @@ pub fn leave_of<A: Allocator + Copy>(alloc: A, args: &[&str]) -> Result<Step<A>,
 
 #[tactic(auto, unfolding(crate::specs::Grammar::one_number))]
 pub fn one_number(args: &[&str]) -> Result<u64, FaultKind>
-    ensures { Gives (λ number. number) result (one_number (map (λ word. word.now) args.now)) }
+    ensures { Meets (λ number. number) result (one_number (map (λ word. word.now) args.now)) }
 {
     let [number] = args else {
         return Err(FaultKind::WrongCount);
@@ -159,7 +159,7 @@ pub fn one_number(args: &[&str]) -> Result<u64, FaultKind>
 
 #[tactic(auto, unfolding(crate::specs::Grammar::one_node))]
 pub fn one_node<A: Allocator>(nodes: &Names<A>, args: &[&str]) -> Result<u16, FaultKind>
-    ensures { Gives (λ node. node) result (one_node nodes.now (map (λ word. word.now) args.now)) }
+    ensures { Meets (λ node. node) result (one_node nodes.now (map (λ word. word.now) args.now)) }
 {
     let [name] = args else {
         return Err(FaultKind::WrongCount);
@@ -169,7 +169,7 @@ pub fn one_node<A: Allocator>(nodes: &Names<A>, args: &[&str]) -> Result<u16, Fa
 
 #[tactic(auto, unfolding(crate::specs::Grammar::leave_all_of))]
 pub fn leave_all_of<A: Allocator>(args: &[&str]) -> Result<Step<A>, FaultKind>
-    ensures { Gives plain result (leave_all_of (map (λ word. word.now) args.now)) }
+    ensures { Meets plain result (leave_all_of (map (λ word. word.now) args.now)) }
 {
     let pid = one_number(args)?;
     Ok(Step::LeaveAll { pid })
@@ -177,7 +177,7 @@ pub fn leave_all_of<A: Allocator>(args: &[&str]) -> Result<Step<A>, FaultKind>
 
 #[tactic(auto, unfolding(crate::specs::Grammar::up_of))]
 pub fn up_of<A: Allocator>(nodes: &Names<A>, args: &[&str]) -> Result<Step<A>, FaultKind>
-    ensures { Gives plain result (up_of nodes.now (map (λ word. word.now) args.now)) }
+    ensures { Meets plain result (up_of nodes.now (map (λ word. word.now) args.now)) }
 {
     let name = one_node(nodes, args)?;
     Ok(Step::Up { name })
@@ -185,7 +185,7 @@ pub fn up_of<A: Allocator>(nodes: &Names<A>, args: &[&str]) -> Result<Step<A>, F
 
 #[tactic(auto, unfolding(crate::specs::Grammar::down_of))]
 pub fn down_of<A: Allocator>(nodes: &Names<A>, args: &[&str]) -> Result<Step<A>, FaultKind>
-    ensures { Gives plain result (down_of nodes.now (map (λ word. word.now) args.now)) }
+    ensures { Meets plain result (down_of nodes.now (map (λ word. word.now) args.now)) }
 {
     let name = one_node(nodes, args)?;
     Ok(Step::Down { name })
@@ -193,7 +193,7 @@ pub fn down_of<A: Allocator>(nodes: &Names<A>, args: &[&str]) -> Result<Step<A>,
 
 #[tactic(auto, unfolding(crate::specs::Grammar::permdown_of))]
 pub fn permdown_of<A: Allocator>(nodes: &Names<A>, args: &[&str]) -> Result<Step<A>, FaultKind>
-    ensures { Gives plain result (permdown_of nodes.now (map (λ word. word.now) args.now)) }
+    ensures { Meets plain result (permdown_of nodes.now (map (λ word. word.now) args.now)) }
 {
     let name = one_node(nodes, args)?;
     Ok(Step::Permdown { name })
@@ -201,7 +201,7 @@ pub fn permdown_of<A: Allocator>(nodes: &Names<A>, args: &[&str]) -> Result<Step
 
 #[tactic(auto, unfolding(crate::specs::Grammar::broadcast_of))]
 pub fn broadcast_of<A: Allocator>(args: &[&str]) -> Result<Step<A>, FaultKind>
-    ensures { Gives plain result (broadcast_of (map (λ word. word.now) args.now)) }
+    ensures { Meets plain result (broadcast_of (map (λ word. word.now) args.now)) }
 {
     if !args.is_empty() {
         return Err(FaultKind::WrongCount);
@@ -211,7 +211,7 @@ pub fn broadcast_of<A: Allocator>(args: &[&str]) -> Result<Step<A>, FaultKind>
 
 #[tactic(auto, unfolding(crate::specs::Grammar::request_of))]
 pub fn request_of<A: Allocator>(args: &[&str]) -> Result<Step<A>, FaultKind>
-    ensures { Gives plain result (request_of (map (λ word. word.now) args.now)) }
+    ensures { Meets plain result (request_of (map (λ word. word.now) args.now)) }
 {
     if !args.is_empty() {
         return Err(FaultKind::WrongCount);
@@ -226,7 +226,7 @@ fn with_node<A: Allocator>(
     chosen: NameSet,
     name: &str,
 ) -> Result<NameSet, FaultKind>
-    ensures { Gives (λ chosen. chosen) result (with_node nodes.now chosen name.now) }
+    ensures { Meets (λ chosen. chosen) result (with_node nodes.now chosen name.now) }
 {
     let node = node_at(nodes, name)?;
     if chosen.has(node) {
@@ -238,7 +238,7 @@ fn with_node<A: Allocator>(
 /// `NAME ..`, 1 to 32 names.
 #[tactic(auto, unfolding(crate::specs::Grammar::extract_of, crate::specs::Grammar::with_nodes))]
 pub fn extract_of<A: Allocator>(nodes: &Names<A>, names: &[&str]) -> Result<Step<A>, FaultKind>
-    ensures { Gives plain result (extract_of nodes.now (map (λ word. word.now) names.now)) }
+    ensures { Meets plain result (extract_of nodes.now (map (λ word. word.now) names.now)) }
 {
     if names.is_empty() || names.len() > 32 {
         return Err(FaultKind::WrongCount);
@@ -256,7 +256,7 @@ fn message_with<A: Allocator>(
     name: &str,
     number: &str,
 ) -> Result<(u16, u64), FaultKind>
-    ensures { Gives (λ message. message) result (message_with nodes.now name.now number.now) }
+    ensures { Meets (λ message. message) result (message_with nodes.now name.now number.now) }
 {
     let sender = node_at(nodes, name)?;
     let number = number_at(number)?;
@@ -266,7 +266,7 @@ fn message_with<A: Allocator>(
 /// `NAME NUMBER`
 #[tactic(auto, unfolding(crate::specs::Grammar::one_message))]
 fn one_message<A: Allocator>(nodes: &Names<A>, args: &[&str]) -> Result<(u16, u64), FaultKind>
-    ensures { Gives (λ message. message) result (one_message nodes.now (map (λ word. word.now) args.now)) }
+    ensures { Meets (λ message. message) result (one_message nodes.now (map (λ word. word.now) args.now)) }
 {
     let [name, number] = args else {
         return Err(FaultKind::WrongCount);
@@ -276,7 +276,7 @@ fn one_message<A: Allocator>(nodes: &Names<A>, args: &[&str]) -> Result<(u16, u6
 
 #[tactic(auto, unfolding(crate::specs::Grammar::deliver_of))]
 pub fn deliver_of<A: Allocator>(nodes: &Names<A>, args: &[&str]) -> Result<Step<A>, FaultKind>
-    ensures { Gives plain result (deliver_of nodes.now (map (λ word. word.now) args.now)) }
+    ensures { Meets plain result (deliver_of nodes.now (map (λ word. word.now) args.now)) }
 {
     let (sender, number) = one_message(nodes, args)?;
     Ok(Step::Deliver { sender, number })
@@ -284,7 +284,7 @@ pub fn deliver_of<A: Allocator>(nodes: &Names<A>, args: &[&str]) -> Result<Step<
 
 #[tactic(auto, unfolding(crate::specs::Grammar::answer_of))]
 pub fn answer_of<A: Allocator>(nodes: &Names<A>, args: &[&str]) -> Result<Step<A>, FaultKind>
-    ensures { Gives plain result (answer_of nodes.now (map (λ word. word.now) args.now)) }
+    ensures { Meets plain result (answer_of nodes.now (map (λ word. word.now) args.now)) }
 {
     let (sender, number) = one_message(nodes, args)?;
     Ok(Step::Answer { sender, number })

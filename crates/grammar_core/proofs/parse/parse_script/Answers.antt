@@ -7,8 +7,8 @@ use Rattle.grammar_core.proofs.LineByLine.{with_lines_fault, all_read, script_of
 use Rattle.grammar_core.proofs.parse.parse_script.Goals as goal
 
 -- the line's fault is the script's, since the lines in front of it have none
-pub returns-in-Err : goal.returns-in-Err
-returns-in-Err g c ne =
+pub returns-in-Err-clause-gives : goal.returns-in-Err-clause-gives
+returns-in-Err-clause-gives g c ne =
     let lasting : c.in-Err.kind ≢ OutOfMemory = λ e. ne (c.at.ensures.memory e) in
     let rest = with_lines_fault (reading_view c.loop-index.reading) (c.loop-index.index + 1) c.deref-line-items.result.now
     c.loop-index.index _ c.in-Err.kind c.loop-index-test.true (c.in-Err.ensures.gives lasting) in
@@ -17,15 +17,15 @@ returns-in-Err g c ne =
     script_of-fault c.args.bytes.now _ c.if-bytes-gt-LONGEST_SCRIPT.false whole ∙ ap Err (sym (c.at.ensures.other lasting))
 
 -- all lines were read
-pub returns-in-Some : goal.returns-in-Some
-returns-in-Some g c =
+pub returns-in-Some-clause-gives : goal.returns-in-Some-clause-gives
+returns-in-Some-clause-gives g c =
     let reading = reading_view c.loop-index.reading in
     let all = all_read reading (c.loop-index.index + 1) c.loop-index.index c.deref-line-items.result.now c.args.bytes.now
     c.loop-index-test.false c.loop-index.invariant in
     script_of-read c.args.bytes.now reading c.if-bytes-gt-LONGEST_SCRIPT.false all ∙ ap (λ cast. finished cast reading.lines) c.in-Some.is
 
-pub returns : goal.returns
-returns g c ne =
+pub returns-clause-gives : goal.returns-clause-gives
+returns-clause-gives g c ne =
     let reading = reading_view c.loop-index.reading in
     let all = all_read reading (c.loop-index.index + 1) c.loop-index.index c.deref-line-items.result.now c.args.bytes.now
     c.loop-index-test.false c.loop-index.invariant in
