@@ -1,10 +1,10 @@
 -- Known bytes over several reads and writes.
-use Rattle.std.proofs.Common.{◌≡◌, ℕ, ◌+◌, ◌≤◌, List, [], ◌++◌, ◌-◌, length, take, drop, Option, None, Some, sym, ap, ◌∙◌, append-nil, arith}
+use Rattle.std.proofs.Common.{◌≡◌, ℕ, ◌+◌, ◌≤◌, List, ◌++◌, ◌-◌, length, take, drop, Option, arith}
 use Rattle.std.proofs.Math.Seq.{take-add}
 use Rattle.std.proofs.KnownBytes.{Appends-trans, Consumes-trans}
 use Rattle.std.proofs.lemmas.Grind.{common_steps}
-use Rattle.std.specs.Io.KnownBytes.{Appends, Consumes, IsAtEnd}
-use Rattle.stream_core.specs.Inputs.{IsWhole, TakesAtMost}
+use Rattle.std.specs.Io.KnownBytes.{Appends, Consumes}
+use Rattle.stream_core.specs.Inputs.{TakesAtMost}
 
 -- the first w bytes went out, and then the first n of the others
 pub sent_more : (old mid new : Option (List ℕ)) (bytes : List ℕ) (w n : ℕ) → Appends old mid (take w bytes) →
@@ -18,13 +18,3 @@ pub taken_more : (a b c : Option (List ℕ)) (bytes buf : List ℕ) (n most : �
     length bytes + length buf ≤ most → TakesAtMost a c most
 taken_more a b c bytes buf n most before then few =
     (bytes ++ take n buf, Consumes-trans a b c bytes (take n buf) before then, grind (arith, common_steps))
-
--- what a reader gave until it was at its end is all that it had
-pub whole_at_end : (a b c : Option (List ℕ)) (bytes buf : List ℕ) (n : ℕ) → Consumes a b bytes → Consumes b c (take n buf) → n ≡ 0 →
-    IsAtEnd c → IsWhole a bytes
-whole_at_end None b c bytes buf n taken none zero end = tt
-whole_at_end (Some xs) None c bytes buf n taken none zero end = absurd taken
-whole_at_end (Some xs) (Some ys) None bytes buf n taken none zero end = absurd none
-whole_at_end (Some xs) (Some ys) (Some zs) bytes buf n taken none zero end =
-    let rest : ys ≡ [] = rw (zero, end) at none in
-    sym (taken ∙ ap (λ rest. bytes ++ rest) rest ∙ append-nil bytes)

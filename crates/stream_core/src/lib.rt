@@ -1,4 +1,4 @@
-//! What the crates above read with and write to: all bytes of a reader, its next line, and all bytes to a writer.
+//! What the crates above read with and write to: all bytes of a reader or the first, its next line, and all bytes to a writer.
 //!
 //! It uses std alone, and `thiserror` for the texts of faults. In the order to read them: `stream_fault`, why bytes could not
 //! be read or written; `steps`, how often a reader was read; `streams`, whole inputs and outputs; `lines`, one line after
@@ -15,4 +15,4 @@ pub use fakes::{FakeReader, FakeWriter};
 pub use lines::next_line;
 pub use steps::Steps;
 pub use stream_fault::{InputFault, WriteFault};
-pub use streams::{read_all, read_input, write_out};
+pub use streams::{read_all, read_front, read_input, write_out};

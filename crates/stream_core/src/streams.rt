@@ -1,8 +1,8 @@
 //! All bytes of a reader, and all bytes to a writer. A failed read or write isn't tried again.
-ghost use Rattle.std.specs.Prelude.{◌≡◌, ◌+◌, ◌<◌, ◌≤◌, length, take, Err, IfOk, IfErr, OnOk};
+ghost use Rattle.std.specs.Prelude.{◌≡◌, ◌≢◌, ◌+◌, ◌<◌, ◌≤◌, length, take, Err, IfOk, IfErr, OnOk};
 ghost use Rattle.stream_core.specs.Steps.{FailsAs};
 ghost use Rattle.std.specs.Io.KnownBytes.{Appends, IsAtEnd};
-ghost use Rattle.stream_core.specs.Inputs.{IsWhole, IsLonger, TakesAtMost};
+ghost use Rattle.stream_core.specs.Inputs.{IsFront, IsWhole, IsLonger, TakesAtMost};
 
 use crate::steps::{Steps, read_once};
 use crate::stream_fault::{InputFault, WriteFault};
@@ -13,6 +13,36 @@ use std::sync::ledger::{Blank, Ledger};
 
 /// The most bytes that one read is asked for.
 const CHUNK: usize = 4096;
+
+/// The first `most` bytes of the input, or all where it has fewer. `steps` counts the calls of `read`.
+pub fn read_front<A: Allocator, R: Read, L: Ledger>(
+    alloc: A,
+    reader: &mut R,
+    most: usize,
+    steps: &mut Steps<L>,
+) -> Result<Vec<u8, A>, InputFault>
+    requires { most ≤ 67108865 }
+    ensures front { IfOk result (λ bytes. IsFront (R.remaining reader.old) most bytes.items) }
+    ensures end { IfOk result (λ bytes. length bytes.items < most → IsAtEnd (R.remaining reader.new)) }
+    ensures fits { result ≢ Err InputFault.TooLong }
+    ensures most { TakesAtMost (R.remaining reader.old) (R.remaining reader.new) most }
+    ensures calls { steps.new.calls ≤ steps.old.calls + most }
+    ensures failed { FailsAs result steps.old steps.new }
+{
+    let mut bytes = Vec::new(alloc);
+    let mut chunk = [0u8; CHUNK];
+    while bytes.len() < most {
+        let room = CHUNK.min(most - bytes.len());
+        let Ok(count) = read_once(reader, &mut chunk[..room], steps) else {
+            return Err(InputFault::ReadFault);
+        };
+        if count == 0 {
+            return Ok(bytes);
+        }
+        bytes.extend_from_slice(&chunk[..count])?;
+    }
+    Ok(bytes)
+}
 
 /// The whole input, where it has at most `limit` bytes; so one byte past the limit is asked for. `steps` counts the calls of
 /// `read`; who counts none calls `read_input`.
@@ -31,22 +61,11 @@ pub fn read_all<A: Allocator, R: Read, L: Ledger>(
     ensures calls { steps.new.calls ≤ steps.old.calls + limit + 2 }
     ensures failed { FailsAs result steps.old steps.new }
 {
-    let mut bytes = Vec::new(alloc);
-    let mut chunk = [0u8; CHUNK];
-    for _turn in 0..limit + 2 {
-        let room = CHUNK.min(limit + 1 - bytes.len());
-        let Ok(count) = read_once(reader, &mut chunk[..room], steps) else {
-            return Err(InputFault::ReadFault);
-        };
-        if count == 0 {
-            return Ok(bytes);
-        }
-        bytes.extend_from_slice(&chunk[..count])?;
-        if bytes.len() > limit {
-            return Err(InputFault::TooLong);
-        }
+    let bytes = read_front(alloc, reader, limit + 1, steps)?;
+    if bytes.len() > limit {
+        return Err(InputFault::TooLong);
     }
-    unreachable!()
+    Ok(bytes)
 }
 
 /// `read_all` with a count of its own, which is let go.
