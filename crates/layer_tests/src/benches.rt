@@ -17,16 +17,17 @@ fn script_of<'a>(text: &str, heap: &'a Heap, rt: &impl Abort) -> Script<&'a Heap
 /// What the act lines of the script ask; it has no other lines but `nodes` and `consoles`.
 pub fn calls_of<'a>(text: &str, heap: &'a Heap, rt: &impl Abort) -> Calls<'a> {
     let script = script_of(text, heap, rt);
-    let calls = acts(heap, &script).expect(rt, text);
+    let calls = acts(heap, &script);
     drop(script);
-    calls
+    calls.expect(rt, text)
 }
 
 /// A bench of the script's nodes that was asked nothing.
 pub fn opened<'a>(text: &str, limits: Limits, heap: &'a Heap, rt: &impl Abort) -> Bench<'a, Heap> {
     let script = script_of(text, heap, rt);
-    let names = node_names(&script).try_copy().expect(rt, "names");
+    let names = node_names(&script).try_copy();
     drop(script);
+    let names = names.expect(rt, "names");
     Bench::new(heap, names, limits).expect(rt, "a bench")
 }
 
@@ -45,6 +46,20 @@ pub fn played<'a>(text: &str, limits: Limits, heap: &'a Heap, rt: &impl Abort) -
     ask(&mut bench, &calls, rt);
     drop(calls);
     bench
+}
+
+/// Two benches that are asked the same calls, one of them where memory is refused.
+#[derive(Drop)]
+pub struct Pair<'a> {
+    pub bench: Bench<'a, Heap>,
+    pub other: Bench<'a, Heap>,
+}
+
+/// Two benches that were asked the acts of the script, of which they refused none.
+pub fn played_twice<'a>(text: &str, limits: Limits, heap: &'a Heap, rt: &impl Abort) -> Pair<'a> {
+    let bench = played(text, limits, heap, rt);
+    let other = played(text, limits, heap, rt);
+    Pair { bench, other }
 }
 
 /// Limits on acts, and on a node's entries, clock and messages.

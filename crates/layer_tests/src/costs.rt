@@ -35,11 +35,9 @@ fn bytes_of<'a>(
 fn bytes_of_copy<'a>(bench: &Bench<'a, Heap>, heap: &'a Heap, rt: &impl Abort) -> u64 {
     let node = bench.node(0).expect(rt, "a node");
     heap.refuse_none();
-    let copy = node.try_copy().ok();
-    let bytes = heap.bytes();
-    holds!(rt, copy.is_some());
-    drop(copy);
-    bytes
+    let is_copied = node.try_copy().err().is_none();
+    holds!(rt, is_copied);
+    heap.bytes()
 }
 
 /// A join and its undo, after those of the script.

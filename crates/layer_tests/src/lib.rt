@@ -1,14 +1,15 @@
-//! Tests of the crates from `payload_core` to `bench_core` and of `diff_core`, in a crate of their own, so that those crates are
-//! proved once. It has no code but these tests.
+//! Tests of the crates from `dots_core` to `bench_core`, of `diff_core`, `order_core` and `test_alloc`, in a crate of their own, so
+//! that those crates are proved once. It has no code but these tests.
 //!
 //! Each says what a call alone can show and no clause says: that calls succeed with memory, what a refusal of memory leaves,
 //! which calls take none, whose memory is taken, and what an inverse keeps. Rows of calls with their replies, lists and clocks
 //! are data of `example_tests`, and cost no proof there.
 //!
-//! In the order to read them: `rows`, assertions; `benches`, from a script to a bench that was asked its acts, which prepares
-//! most tests; `payloads`, words, entries and messages; `journals`, loans of inverses; `inverses`, what each step keeps; `undone`,
-//! nodes and replicas taken back; `memory` and `unwinds`, what refused memory leaves of a bench; `costs`, the bytes of a step;
-//! `wide`, large values; `reads`, the calls that take no memory; `names`, `swaps`, `lists` and `laws`.
+//! In the order to read them: `rows`, assertions; `refusing`, the allocator that these tests use; `dots`, sets of dots;
+//! `benches`, from a script to a bench that was asked its acts, which prepares most tests; `payloads`, words, entries and messages;
+//! `journals`, loans of inverses; `inverses`, what each step keeps; `undone`, nodes taken back; `memory` and `unwinds`, what refused
+//! memory leaves of a bench; `clusters`, nodes without a bench; `costs`, the bytes of a step; `wide`, large values; `reads`, the calls
+//! that take no memory; `names`, `swaps`, `orders`, `lists` and `laws`.
 #![tactic(auto)]
 
 /// An assertion as a call: it is told by its own words. An `assert!` in its place is an exit more where much is live.
@@ -22,7 +23,11 @@ macro_rules! holds {
 #[cfg(test)]
 mod benches;
 #[cfg(test)]
+mod clusters;
+#[cfg(test)]
 mod costs;
+#[cfg(test)]
+mod dots;
 #[cfg(test)]
 mod inverses;
 #[cfg(test)]
@@ -36,9 +41,13 @@ mod memory;
 #[cfg(test)]
 mod names;
 #[cfg(test)]
+mod orders;
+#[cfg(test)]
 mod payloads;
 #[cfg(test)]
 mod reads;
+#[cfg(test)]
+mod refusing;
 #[cfg(test)]
 mod rows;
 #[cfg(test)]

@@ -1,6 +1,6 @@
 //! What calls of a bench leave where memory is refused. The calls are those of a script; another bench that was asked the same
 //! ones, with memory, says what there was before each.
-use crate::benches::{Calls, Heap, are_same, calls_of, limits_of, opened, played};
+use crate::benches::{Calls, Heap, Pair, are_same, calls_of, limits_of, opened, played_twice};
 use crate::rows::holds;
 use bench_core::{Act, Bench, Fault, Limits, Reply, Step};
 use dots_core::NameSet;
@@ -91,12 +91,12 @@ enum Refusal {
 /// Asks a bench the call, for which memory was told to be refused. Where it is refused, the bench is as another that was asked
 /// all calls before, with memory; then both are asked, with memory, and are the same. Whether it was refused.
 fn is_refused<'a>(
-    bench: &mut Bench<'a, Heap>,
-    other: &mut Bench<'a, Heap>,
+    pair: &mut Pair<'a>,
     call: &(u16, Act<&'a Heap>),
     heap: &'a Heap,
     rt: &impl Abort,
 ) -> bool {
+    let Pair { bench, other } = pair;
     let (actor, act) = call;
     let refused = Reply::Refused(Fault::OutOfMemory);
     let is_refused = bench.act(*actor, act) == refused;
@@ -112,8 +112,7 @@ fn is_refused<'a>(
 
 /// Asks each of the calls so. Whether one was refused.
 fn ask_refused<'a>(
-    bench: &mut Bench<'a, Heap>,
-    other: &mut Bench<'a, Heap>,
+    pair: &mut Pair<'a>,
     calls: &Calls<'a>,
     refusal: Refusal,
     heap: &'a Heap,
@@ -125,20 +124,21 @@ fn ask_refused<'a>(
             Refusal::Alone(number) => heap.refuse_only(number),
             Refusal::From(number) => heap.refuse_from(number),
         }
-        is_met |= is_refused(bench, other, call, heap, rt);
+        is_met |= is_refused(pair, call, heap, rt);
     }
     is_met
 }
 
+/// The nodes of the script.
+const NODES: &str = "nodes a b";
+
 /// The same of two new benches. In the end the meter tells the steps that were taken: an undo, a step back and a refusal count
 /// nothing.
 fn is_met<'a>(calls: &Calls<'a>, refusal: Refusal, heap: &'a Heap, rt: &impl Abort) -> bool {
-    let mut bench = opened(SCRIPT, Limits::usual(), heap, rt);
-    let mut other = opened(SCRIPT, Limits::usual(), heap, rt);
-    let is_met = ask_refused(&mut bench, &mut other, calls, refusal, heap, rt);
-    let meter = bench.meter();
-    drop(other);
-    drop(bench);
+    let mut pair = played_twice(NODES, Limits::usual(), heap, rt);
+    let is_met = ask_refused(&mut pair, calls, refusal, heap, rt);
+    let meter = pair.bench.meter();
+    drop(pair);
     holds!(rt, meter == 34);
     is_met
 }
@@ -249,14 +249,12 @@ fn are_free<'a>(
 /// Plays and asks so, which is recorded nowhere.
 fn refuse_for_free<'a>(full: &Full, heap: &'a Heap, rt: &impl Abort) {
     let limits = limits_of(full.limits, rt);
-    let mut bench = played(full.script, limits, heap, rt);
-    let before = played(full.script, limits, heap, rt);
     let calls = calls_of(full.refused, heap, rt);
-    are_free(&mut bench, &calls, full.fault, heap, rt);
-    holds(rt, are_same(&bench, &before), full.refused);
+    let mut pair = played_twice(full.script, limits, heap, rt);
+    are_free(&mut pair.bench, &calls, full.fault, heap, rt);
+    holds(rt, are_same(&pair.bench, &pair.other), full.refused);
+    drop(pair);
     drop(calls);
-    drop(before);
-    drop(bench);
 }
 
 #[test]

@@ -56,14 +56,18 @@ fn reads_sender<'a>(a: &Replica<&'a Heap>, rt: &impl Abort) {
     holds!(rt, a.same(a));
 }
 
+/// Whether the replica would ask for these names.
+fn asks_for<'a>(replica: &Replica<&'a Heap>, known: NameSet) -> bool {
+    let request = replica.request();
+    let asked = request.asked();
+    drop(request);
+    matches!(asked, Some(names) if names.same(known))
+}
+
 /// The second replica is read, to which messages came, and the request that it would send.
 fn reads_receiver<'a>(b: &Replica<&'a Heap>, rt: &impl Abort) {
     let known = NameSet::empty().with(0).with(1);
-    let request = b.request();
-    let asked = request.asked();
-    drop(request);
-    holds!(rt, matches!(asked, Some(names) if names.same(known)));
-    holds!(rt, b.known().same(known));
+    holds!(rt, asks_for(b, known) && b.known().same(known));
     holds!(rt, b.seen().cloud_of(0).len() == 65);
     holds!(rt, b.status(0) == Some(Status::Up));
     holds!(rt, b.online(0));
@@ -144,38 +148,58 @@ fn gives_the_delta_back<'a>(replica: &mut Replica<&'a Heap>) -> bool {
     sender == 0
 }
 
-/// Takes the last 9 messages out of an outbox, and the entries of the first 9 clocks of node 0 out of a set.
-fn take_out<'a>(outbox: &mut Outbox<'a, Heap>, entries: &mut EntrySet<&'a Heap>) -> bool {
-    for clock in 1..10 {
-        let message = outbox.pop();
-        let entry = entries.remove(Dot { name: 0, clock });
-        let are_there = message.is_some() && entry.is_some();
-        drop(message);
-        drop(entry);
-        if !are_there {
-            return false;
-        }
+/// Takes the last 9 messages out of a copy of the outbox.
+fn pops<'a>(outbox: &Outbox<'a, Heap>, heap: &'a Heap, rt: &impl Abort) {
+    let mut copy = outbox.try_copy().expect(rt, "a copy");
+    heap.refuse_from(1);
+    for _turn in 0..9 {
+        let is_there = copy.pop().is_some();
+        holds!(rt, is_there);
     }
-    true
+    holds!(rt, heap.requests() == 0);
+    heap.refuse_none();
+    drop(copy);
+}
+
+/// Takes the entries of the first 9 clocks of node 0 out of a copy of the set.
+fn removes<'a>(entries: &EntrySet<&'a Heap>, heap: &'a Heap, rt: &impl Abort) {
+    let mut copy = entries.try_copy().expect(rt, "a copy");
+    heap.refuse_from(1);
+    for clock in 1..10 {
+        let is_there = copy.remove(Dot { name: 0, clock }).is_some();
+        holds!(rt, is_there);
+    }
+    holds!(rt, heap.requests() == 0);
+    heap.refuse_none();
+    drop(copy);
+}
+
+/// A copy of the replica gives its delta out, and takes it back.
+fn sends<'a>(replica: &Replica<&'a Heap>, heap: &'a Heap, rt: &impl Abort) {
+    let mut copy = replica.try_copy().expect(rt, "a copy");
+    heap.refuse_from(1);
+    holds!(rt, gives_the_delta_back(&mut copy));
+    holds!(rt, copy.same(replica) && heap.requests() == 0);
+    heap.refuse_none();
+    drop(copy);
+}
+
+/// A copy of the message is taken apart.
+fn falls_apart<'a>(message: &Payload<&'a Heap>, heap: &'a Heap, rt: &impl Abort) {
+    let copy = message.try_copy().expect(rt, "a copy");
+    heap.refuse_from(1);
+    holds!(rt, is_made_of_its_parts(copy, message));
+    holds!(rt, heap.requests() == 0);
+    heap.refuse_none();
 }
 
 /// Copies what the node holds, and makes the calls that change the copies without memory.
 fn edits<'a>(node: &Node<'a, Heap>, heap: &'a Heap, rt: &impl Abort) {
-    let replica = node.replica();
     let message = node.outbox().get(1).expect(rt, "a message");
-    let mut outbox = node.outbox().try_copy().expect(rt, "a copy");
-    let mut entries = replica.entries().try_copy().expect(rt, "a copy");
-    let mut sender = replica.try_copy().expect(rt, "a copy");
-    let copy = message.try_copy().expect(rt, "a copy");
-    heap.refuse_from(1);
-    holds!(rt, take_out(&mut outbox, &mut entries));
-    holds!(rt, gives_the_delta_back(&mut sender));
-    holds!(rt, sender.same(replica));
-    holds!(rt, is_made_of_its_parts(copy, message));
-    holds!(rt, heap.requests() == 0);
-    drop(sender);
-    drop(entries);
-    drop(outbox);
+    falls_apart(message, heap, rt);
+    pops(node.outbox(), heap, rt);
+    removes(node.replica().entries(), heap, rt);
+    sends(node.replica(), heap, rt);
 }
 
 /// Whether a copy asks the same.

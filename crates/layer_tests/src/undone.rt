@@ -1,7 +1,6 @@
-//! A node's last step given back, and a replica's last change undone, with each request for memory refused in turn. Two nodes
-//! take the steps of a script.
-ghost use Rattle.std.specs.Prelude.{◌<◌, IfOk, IfSome};
-ghost use Rattle.replica_core.specs.Changes.{plain_change, ChangeLeadsBack, ChangeLeadsSomewhere};
+//! A node's last step given back, and with it its replica's last change undone, with each request for memory refused in turn.
+//! Two nodes take the steps of a script.
+ghost use Rattle.std.specs.Prelude.{◌<◌, IfSome};
 ghost use Rattle.replica_core.specs.Limits.{AreNodeLimits};
 ghost use Rattle.node_core.specs.Inverses.{LeadsSomewhere, plain_inverse};
 ghost use Rattle.node_core.specs.Operations.{AreNames, plain};
@@ -10,7 +9,6 @@ use crate::benches::{Calls, Heap, calls_of};
 use bench_core::Act;
 use node_core::{Inverse, Meter, Node, NodeLimits, Step};
 use payload_core::Payload;
-use replica_core::{Change, Replica, ReplicaFault};
 use std::process::Abort;
 use test_alloc::Refusing;
 
@@ -106,6 +104,22 @@ fn gives_back<'a>(
     true
 }
 
+/// The node takes the step, and takes it back so. Whether that was refused.
+fn steps_and_back<'a>(
+    node: &mut Node<'a, Heap>,
+    message: Option<&Payload<&'a Heap>>,
+    step: &Step<&'a Heap>,
+    number: u64,
+    heap: &'a Heap,
+    rt: &impl Abort,
+) -> bool
+    requires { AreNames (plain step.now) }
+{
+    let taken = node.take(step, message, &mut Meter::new());
+    let inverse = taken.expect(rt, "an inverse");
+    gives_back(node, inverse, number, heap, rt)
+}
+
 /// A copy of the node takes the step, and takes it back so: it is as the node.
 fn taken_back<'a>(
     node: &Node<'a, Heap>,
@@ -118,114 +132,14 @@ fn taken_back<'a>(
     requires { AreNames (plain step.now) }
 {
     let mut copy = node.try_copy().expect(rt, "a copy");
-    let mut meter = Meter::new();
-    let taken = copy.take(step, message_of(other, step), &mut meter);
-    let inverse = taken.expect(rt, "an inverse");
-    let is_refused = gives_back(&mut copy, inverse, number, heap, rt);
+    let message = message_of(other, step);
+    let is_refused = steps_and_back(&mut copy, message, step, number, heap, rt);
     holds!(rt, copy.same(node));
     drop(copy);
     is_refused
 }
 
-/// The replica is asked what the step asks of its own processes; of another step nothing is asked.
-fn changed_own<'a>(
-    replica: &mut Replica<&'a Heap>,
-    step: &Step<&'a Heap>,
-) -> Result<Change<&'a Heap>, ReplicaFault>
-    ensures { IfOk result (λ change. ChangeLeadsBack (plain_change change) replica.new replica.old) }
-{
-    match step {
-        Step::Join {
-            pid,
-            topic,
-            key,
-            metadata,
-        } => replica.join(*pid, topic, key, metadata),
-        Step::Leave { pid, topic, key } => replica.leave(*pid, topic, key),
-        Step::LeaveAll { pid } => replica.leave_all(*pid),
-        Step::Update {
-            pid,
-            topic,
-            key,
-            metadata,
-        } => replica.update(*pid, topic, key, metadata),
-        _ => Err(ReplicaFault::NothingToSend),
-    }
-}
-
-/// The replica is asked what the step asks of it. A send changes no replica.
-fn changed<'a>(
-    replica: &mut Replica<&'a Heap>,
-    other: &Node<'a, Heap>,
-    step: &Step<&'a Heap>,
-) -> Result<Change<&'a Heap>, ReplicaFault>
-    ensures { IfOk result (λ change. ChangeLeadsBack (plain_change change) replica.new replica.old) }
-{
-    match step {
-        Step::Deliver { number, .. } => match other.outbox().get(*number) {
-            Some(message) if message.asked().is_none() => replica.merge(message),
-            _ => Err(ReplicaFault::NothingToSend),
-        },
-        Step::Up { name } if *name < 32 => replica.up(*name),
-        Step::Down { name } if *name < 32 => replica.down(*name),
-        Step::Permdown { name } if *name < 32 => replica.permdown(*name),
-        _ => changed_own(replica, step),
-    }
-}
-
-/// Takes a change back. Where that is refused, it comes back.
-fn undone<'a>(replica: &mut Replica<&'a Heap>, change: Change<&'a Heap>) -> Option<Change<&'a Heap>>
-    requires { ChangeLeadsSomewhere (plain_change change) replica.old }
-    ensures { IfSome result (λ change. ChangeLeadsSomewhere (plain_change change) replica.new) }
-{
-    match replica.undo(change) {
-        Ok(()) => None,
-        Err((change, _oom)) => Some(change),
-    }
-}
-
-/// Asks the replica for what the step asks of it, and takes that back with this request for memory refused; where that is
-/// refused, with memory. Whether it was refused.
-fn undoes<'a>(
-    replica: &mut Replica<&'a Heap>,
-    other: &Node<'a, Heap>,
-    step: &Step<&'a Heap>,
-    number: u64,
-    heap: &'a Heap,
-    rt: &impl Abort,
-) -> bool {
-    let Ok(change) = changed(replica, other, step) else {
-        return false;
-    };
-    heap.refuse_only(number);
-    let refused = undone(replica, change);
-    heap.refuse_none();
-    let Some(change) = refused else {
-        return false;
-    };
-    let left = undone(replica, change);
-    holds!(rt, left.is_none());
-    drop(left);
-    true
-}
-
-/// The same of a copy of the node's replica, which is then as it was.
-fn undone_alone<'a>(
-    node: &Node<'a, Heap>,
-    other: &Node<'a, Heap>,
-    step: &Step<&'a Heap>,
-    number: u64,
-    heap: &'a Heap,
-    rt: &impl Abort,
-) -> bool {
-    let mut replica = node.replica().try_copy().expect(rt, "a copy");
-    let is_refused = undoes(&mut replica, other, step, number, heap, rt);
-    holds!(rt, replica.same(node.replica()));
-    drop(replica);
-    is_refused
-}
-
-/// Takes the step back, at copies of the node and of its replica, with the first, second, .. request for memory refused, until
+/// Takes the step back, at a copy of the node, with the first, second, .. request for memory refused, until
 /// none is met. Gives how many were.
 fn refusals<'a>(
     node: &Node<'a, Heap>,
@@ -237,9 +151,7 @@ fn refusals<'a>(
     requires { AreNames (plain step.now) }
 {
     for number in 1..50 {
-        let is_refused = taken_back(node, other, step, number, heap, rt);
-        let is_refused_alone = undone_alone(node, other, step, number, heap, rt);
-        if !is_refused && !is_refused_alone {
+        if !taken_back(node, other, step, number, heap, rt) {
             return number - 1;
         }
     }

@@ -1,6 +1,6 @@
 //! The undo of a step with all that follows from it, where memory is refused on the way. Another bench that was asked the undos
 //! which are told, one by one, says what there must be.
-use crate::benches::{Heap, are_same, played};
+use crate::benches::{Heap, Pair, are_same, played_twice};
 use crate::rows::holds_at;
 use bench_core::{Act, Bench, Fault, Limits, Reply, Unwound};
 use std::process::Abort;
@@ -48,13 +48,8 @@ fn undo_each<'a>(bench: &mut Bench<'a, Heap>, steps: &[u64], rt: &impl Abort) {
 
 /// Unwinds step 1 with this request for memory refused, and then the rest with memory. Gives how many steps were undone first,
 /// and whether the request was met: just then the unwind is told as refused, or as done in part.
-fn goes_on<'a>(
-    bench: &mut Bench<'a, Heap>,
-    other: &mut Bench<'a, Heap>,
-    number: u64,
-    heap: &'a Heap,
-    rt: &impl Abort,
-) -> (usize, bool) {
+fn goes_on<'a>(pair: &mut Pair<'a>, number: u64, heap: &'a Heap, rt: &impl Abort) -> (usize, bool) {
+    let Pair { bench, other } = pair;
     heap.refuse_only(number);
     let (undone, is_done) = unwinds(bench, &FUTURE, rt);
     let is_met = number <= heap.requests();
@@ -74,11 +69,9 @@ fn goes_on<'a>(
 
 /// The same of a new bench.
 fn undone_first<'a>(number: u64, heap: &'a Heap, rt: &impl Abort) -> (usize, bool) {
-    let mut bench = played(SCRIPT, Limits::usual(), heap, rt);
-    let mut other = played(SCRIPT, Limits::usual(), heap, rt);
-    let answer = goes_on(&mut bench, &mut other, number, heap, rt);
-    drop(other);
-    drop(bench);
+    let mut pair = played_twice(SCRIPT, Limits::usual(), heap, rt);
+    let answer = goes_on(&mut pair, number, heap, rt);
+    drop(pair);
     answer
 }
 

@@ -23,6 +23,30 @@ pub fn script<'a>(heap: &'a Heap, rt: &impl Abort) -> String<&'a Heap> {
     text
 }
 
+/// Whether a copy of the node is the same; none where it is refused memory.
+fn is_node_copied<'a>(node: &Node<'a, Heap>) -> Option<bool> {
+    match node.try_copy() {
+        Ok(copy) => {
+            let is_same = copy.same(node);
+            drop(copy);
+            Some(is_same)
+        }
+        Err(_) => None,
+    }
+}
+
+/// The same of a history.
+fn is_history_copied<'a>(history: &History<'a, Heap>) -> Option<bool> {
+    match history.try_copy() {
+        Ok(copy) => {
+            let is_same = are_calls(history, &copy);
+            drop(copy);
+            Some(is_same)
+        }
+        Err(_) => None,
+    }
+}
+
 /// Whether a copy of the node with this request for memory refused met the refusal: just then there is none.
 fn node_is_refused<'a>(
     node: &Node<'a, Heap>,
@@ -31,15 +55,10 @@ fn node_is_refused<'a>(
     rt: &impl Abort,
 ) -> bool {
     heap.refuse_only(number);
-    let copy = node.try_copy().ok();
+    let is_copied = is_node_copied(node);
     let is_met = number <= heap.requests();
     heap.refuse_none();
-    let is_same = match &copy {
-        Some(copy) => copy.same(node),
-        None => false,
-    };
-    drop(copy);
-    holds!(rt, is_same != is_met);
+    holds!(rt, is_copied == (!is_met).then_some(true));
     is_met
 }
 
@@ -51,31 +70,42 @@ fn history_is_refused<'a>(
     rt: &impl Abort,
 ) -> bool {
     heap.refuse_only(number);
-    let copy = history.try_copy().ok();
+    let is_copied = is_history_copied(history);
     let is_met = number <= heap.requests();
     heap.refuse_none();
-    let is_same = match &copy {
-        Some(copy) => are_calls(history, copy),
-        None => false,
-    };
-    drop(copy);
-    holds!(rt, is_same != is_met);
+    holds!(rt, is_copied == (!is_met).then_some(true));
     is_met
 }
 
-/// Copies the first two nodes and the history with the first, second, .. request refused, until none is met.
-fn copies<'a>(bench: &Bench<'a, Heap>, heap: &'a Heap, rt: &impl Abort) -> u64 {
-    let a = bench.node(0).expect(rt, "a node");
-    let b = bench.node(1).expect(rt, "a node");
+/// Copies the node with the first, second, .. request refused, until none is met. Gives how many were refused.
+fn node_copies<'a>(node: &Node<'a, Heap>, heap: &'a Heap, rt: &impl Abort) -> u64 {
     for number in 1..2_000 {
-        let is_one = node_is_refused(a, number, heap, rt);
-        let is_other = node_is_refused(b, number, heap, rt);
-        let is_history = history_is_refused(bench.history(), number, heap, rt);
-        if !is_one && !is_other && !is_history {
-            return number;
+        if !node_is_refused(node, number, heap, rt) {
+            return number - 1;
         }
     }
-    0
+    2_000
+}
+
+/// The same of a history.
+fn history_copies<'a>(history: &History<'a, Heap>, heap: &'a Heap, rt: &impl Abort) -> u64 {
+    for number in 1..2_000 {
+        if !history_is_refused(history, number, heap, rt) {
+            return number - 1;
+        }
+    }
+    2_000
+}
+
+/// Copies the first two nodes and the history so.
+fn copies<'a>(bench: &Bench<'a, Heap>, heap: &'a Heap, rt: &impl Abort) {
+    for number in 0..2 {
+        let node = bench.node(number).expect(rt, "a node");
+        let refused = node_copies(node, heap, rt);
+        holds!(rt, 0 < refused && refused < 2_000);
+    }
+    let refused = history_copies(bench.history(), heap, rt);
+    holds!(rt, 0 < refused && refused < 2_000);
 }
 
 /// Whether the second node's steps, all of which follow from its first, are undone together.
@@ -93,7 +123,7 @@ fn unwinds_many<'a>(bench: &mut Bench<'a, Heap>) -> bool {
 fn plays<'a>(script: &str, heap: &'a Heap, rt: &impl Abort) {
     let mut bench = played(script, Limits::usual(), heap, rt);
     holds!(rt, bench.history().len() == 327);
-    holds!(rt, 1 < copies(&bench, heap, rt));
+    copies(&bench, heap, rt);
     holds!(rt, unwinds_many(&mut bench));
     holds!(rt, bench.remaining().len() == 261);
     drop(bench);

@@ -1,7 +1,7 @@
 //! An allocator for the tests of this workspace: it hands each request on to an inner one, counts it and its bytes, and
 //! refuses the n-th request, or all from the n-th on, as a test asks.
 //!
-//! It uses std alone. Only tests use it; those of its own stand in `dots_tests`.
+//! It uses std alone. Only tests use it; those of its own stand in `layer_tests`.
 #![tactic(auto)]
 
 ghost use Rattle.std.specs.Prelude.{◌≡◌};

@@ -6,7 +6,7 @@ use script_core::{
 };
 use std::alloc::Global;
 use std::io;
-use std::io::Write;
+use std::io::{ErrorKind, Read, Write};
 use std::process::Abort;
 
 /// A join is taken back.
@@ -129,9 +129,10 @@ fn what_is_written_is_told_of_any_bytes(rt: HostRuntime) {
     assert!(rt; is_written_in_part(rt.alloc()));
 }
 
-/// A writer that takes nothing at its first call, and all at each later one.
+/// A writer that takes nothing at its first call, or is interrupted there, and takes all at each later one.
 #[derive(Drop)]
 struct Stalling {
+    is_interrupted: bool,
     calls: usize,
 }
 
@@ -142,7 +143,13 @@ impl Write for Stalling {
 
     fn write(&mut self, buf: &[u8]) -> io::Result<usize> {
         self.calls = self.calls.saturating_add(1);
-        Ok(if self.calls == 1 { 0 } else { buf.len() })
+        if self.calls > 1 {
+            return Ok(buf.len());
+        }
+        if self.is_interrupted {
+            return Err(io::Error::from(ErrorKind::Interrupted));
+        }
+        Ok(0)
     }
 
     fn flush(&mut self) -> io::Result<()> {
@@ -150,9 +157,88 @@ impl Write for Stalling {
     }
 }
 
+/// Whether such a write is told as a failed one after one call.
+fn fails_at_once(is_interrupted: bool) -> bool {
+    let mut writer = Stalling {
+        is_interrupted,
+        calls: 0,
+    };
+    write_out(&mut writer, b"abc") == Err(WriteFault { written: 0 }) && writer.calls == 1
+}
+
 #[test]
-fn a_write_that_takes_nothing_is_not_tried_again(rt: HostRuntime) {
-    let mut writer = Stalling { calls: 0 };
-    assert!(rt; write_out(&mut writer, b"abc") == Err(WriteFault { written: 0 }));
-    assert!(rt; writer.calls == 1);
+fn a_write_that_takes_nothing_or_is_interrupted_is_not_tried_again(rt: HostRuntime) {
+    assert!(rt; fails_at_once(false));
+    assert!(rt; fails_at_once(true));
+}
+
+/// What a reader gives at a call.
+enum Answer {
+    Byte(u8),
+    End,
+    Interrupted,
+}
+
+/// A reader that gives one answer a call, and then ends. After an end it goes on.
+#[derive(Drop)]
+struct Answering {
+    answers: &'static [Answer],
+    calls: usize,
+}
+
+impl Read for Answering {
+    ghost use Rattle.std.specs.Prelude.{None};
+
+    ghost remaining = { λ _. None };
+
+    fn read(&mut self, buf: &mut [u8]) -> io::Result<usize> {
+        let answer = self.answers.get(self.calls);
+        self.calls = self.calls.saturating_add(1);
+        match answer {
+            Some(Answer::Interrupted) => Err(io::Error::from(ErrorKind::Interrupted)),
+            Some(Answer::Byte(byte)) if !buf.is_empty() => {
+                buf[0] = *byte;
+                Ok(1)
+            }
+            _ => Ok(0),
+        }
+    }
+}
+
+const A: Answer = Answer::Byte(b'a');
+
+const B: Answer = Answer::Byte(b'b');
+
+/// What a reader answers, what is read of it, if no read fails, and in how many calls.
+const ANSWERED: &[(&[Answer], Option<&str>, usize)] = &[
+    (&[A, B], Some("ab"), 3),
+    (&[A, Answer::End, B], Some("a"), 2),
+    (&[Answer::End, B], Some(""), 1),
+    (&[Answer::Interrupted, B], None, 1),
+    (&[A, Answer::Interrupted, B], None, 2),
+];
+
+/// Whether this is what is read of the answers, and in so many calls.
+fn reads_answers(
+    heap: Global,
+    answers: &'static [Answer],
+    expected: Option<&str>,
+    calls: usize,
+) -> bool {
+    let mut reader = Answering { answers, calls: 0 };
+    let is_so = match (read_input(heap, &mut reader, 10), expected) {
+        (Ok(bytes), Some(text)) => bytes.as_slice() == text.as_bytes(),
+        (Err(fault), None) => fault == InputFault::ReadFault,
+        _ => false,
+    };
+    is_so && reader.calls == calls
+}
+
+/// One byte a call; nothing is read after an end; an interrupted read is a failed one.
+#[test]
+fn a_reader_is_read_up_to_its_end(rt: HostRuntime) {
+    for (place, (answers, expected, calls)) in ANSWERED.iter().enumerate() {
+        let is_so = reads_answers(rt.alloc(), answers, *expected, *calls);
+        holds_at(&rt, is_so, place as u64);
+    }
 }

@@ -1,0 +1,97 @@
+//! Clusters: each request for memory of a step is refused in turn, and so are steps of nodes that aren't there. The steps are
+//! those of a script; a bench that is asked them says what the nodes are after each.
+use crate::benches::{Calls, Heap, calls_of, opened};
+use bench_core::{Act, Bench, Cluster, Fault, Limits, Step};
+use std::process::Abort;
+use test_alloc::Refusing;
+
+const SCRIPT: &str = "nodes a b
+a join 1 r alice phone
+a broadcast
+b up a
+b deliver a 1
+b request
+a answer b 1
+b down a
+a update 1 r alice away
+a leave 1 r alice";
+
+/// Whether both have the same nodes.
+fn has_nodes_of<'a>(cluster: &Cluster<'a, Heap>, bench: &Bench<'a, Heap>) -> bool {
+    for number in 0..32 {
+        match (cluster.node(number), bench.node(number)) {
+            (Some(node), Some(same)) if node.same(same) => (),
+            (None, None) => (),
+            _ => return false,
+        }
+    }
+    true
+}
+
+/// Takes the step, whose first, second, .. request for memory is refused before: then nothing changes.
+fn step_refused<'a>(
+    cluster: &mut Cluster<'a, Heap>,
+    bench: &Bench<'a, Heap>,
+    call: (u16, &Step<&'a Heap>),
+    heap: &'a Heap,
+    rt: &impl Abort,
+) {
+    let (node, step) = call;
+    for number in 1..100 {
+        heap.refuse_only(number);
+        let fault = cluster.step(node, step).err();
+        heap.refuse_none();
+        match fault {
+            None => return,
+            Some(Fault::OutOfMemory) => holds!(rt, has_nodes_of(cluster, bench)),
+            Some(_) => holds!(rt, false),
+        }
+    }
+    holds!(rt, false);
+}
+
+/// Takes the steps of the calls, and asks the bench the same.
+fn play<'a>(
+    cluster: &mut Cluster<'a, Heap>,
+    bench: &mut Bench<'a, Heap>,
+    calls: &Calls<'a>,
+    heap: &'a Heap,
+    rt: &impl Abort,
+) {
+    for (actor, act) in calls {
+        if let Act::Do(step) = act {
+            step_refused(cluster, bench, (*actor, step), heap, rt);
+        }
+        bench.act(*actor, act);
+        holds!(rt, has_nodes_of(cluster, bench));
+    }
+}
+
+#[test]
+fn a_cluster_takes_the_steps_of_a_script(rt: HostRuntime) {
+    let heap = Refusing::new(rt.alloc());
+    let limits = Limits::usual();
+    let calls = calls_of(SCRIPT, &heap, &rt);
+    let mut bench = opened(SCRIPT, limits, &heap, &rt);
+    let mut cluster = Cluster::new(&heap, 2, limits.of_node()).expect(&rt, "a cluster");
+    play(&mut cluster, &mut bench, &calls, &heap, &rt);
+    drop(bench);
+    drop(calls);
+    let no_node = cluster.step(2, &Step::Broadcast).err();
+    let no_name = cluster.step(0, &Step::Up { name: 2 }).err();
+    let len = cluster.len();
+    drop(cluster);
+    holds!(&rt, matches!(no_node, Some(Fault::UnknownNode)));
+    holds!(&rt, matches!(no_name, Some(Fault::UnknownNode)));
+    holds!(&rt, len == 2);
+}
+
+#[test]
+fn a_cluster_without_memory_is_not_made(rt: HostRuntime) {
+    let heap = Refusing::new(rt.alloc());
+    heap.refuse_only(1);
+    let cluster = Cluster::new(&heap, 2, Limits::usual().of_node()).ok();
+    let is_made = cluster.is_some();
+    drop(cluster);
+    holds!(&rt, !is_made);
+}
