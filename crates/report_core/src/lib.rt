@@ -22,7 +22,7 @@ mod unwinding;
 
 pub use acting::act;
 pub use dots_text::put_dots;
-pub use rows::name_at;
+pub use rows::{name_at, put_lines, put_rows};
 pub use shown::{node, show};
 pub use step_text::{put_act, put_journal};
 pub use unwinding::{unwind, why};

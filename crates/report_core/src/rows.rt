@@ -49,7 +49,7 @@ fn put_row<A: Allocator, N: Allocator, R: Allocator>(
 
 /// Each row on a line of its own, after a mark.
 #[tactic(auto, unfolding(crate::specs::Rows::row_lines))]
-fn put_rows<A: Allocator, N: Allocator, R: Allocator>(
+pub fn put_rows<A: Allocator, N: Allocator, R: Allocator>(
     text: &mut String<A>,
     mark: &str,
     names: &Names<N>,

@@ -1,0 +1,6 @@
+pub mod AllChanges
+pub mod Counted
+pub mod Exact
+pub mod Marks
+pub mod Played
+pub mod Told

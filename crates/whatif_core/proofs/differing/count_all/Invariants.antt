@@ -1,0 +1,12 @@
+use Rattle.std.proofs.Common.{◌≡◌, ◌≤◌, drop}
+use Rattle.whatif_core.specs.Differences.{nothing, tally_from}
+use Rattle.whatif_core.proofs.differing.count_all.Given as goal
+
+-- what is left is counted behind what was
+abbrev pub invariant-loop-place : goal.invariant-loop-place
+invariant-loop-place g l = record {
+  counted : tally_from l.bench (record { node = l.node; topic = l.topic; key = l.key }) nothing l.tried
+      ≡ tally_from l.bench (record { node = l.node; topic = l.topic; key = l.key }) l.tally (drop l.place l.tried);
+  possible : l.tally.possible ≤ l.place;
+  differ : l.tally.differ ≤ l.place;
+}

@@ -1,0 +1,29 @@
+-- Who is asked for, and the rows that a cluster shows of it.
+use Rattle.std.specs.Prelude.{ℕ, List, [], filter, ◌&&◌, slice_get, Bool, Option, Some, None, Result, Ok, Err}
+use Rattle.std.specs.Str.{bytes_eq}
+use Rattle.node_core.specs.Nodes.{Node}
+use Rattle.bench_core.specs.declared.fault.Fault.{Fault}
+use Rattle.bench_core.specs.Clusters.{Cluster}
+use Rattle.diff_core.specs.Rows.{Row}
+use Rattle.diff_core.specs.Sorting.{online_of}
+
+-- the presences of this topic and key, as this node shows them
+pub record Question : Type 0 where
+  pub node : ℕ
+  pub topic : List ℕ
+  pub key : List ℕ
+
+abbrev pub is_of : List ℕ → List ℕ → Row → Bool
+is_of topic key row = bytes_eq row.topic topic && bytes_eq row.key key
+
+abbrev pub rows_in : Question → Option Node → List Row
+rows_in q None = []
+rows_in q (Some node) = filter (is_of q.topic q.key) (online_of node.replica)
+
+-- the rows of the node's online list that are asked for
+unfoldable pub rows_at : Question → Cluster → List Row
+rows_at q c = rows_in q (slice_get c q.node)
+
+abbrev pub rows_of : Question → Result Cluster Fault → List Row
+rows_of q (Ok c) = rows_at q c
+rows_of q (Err e) = []

@@ -1,0 +1,100 @@
+//! All changes that a run has.
+ghost use Rattle.std.specs.Prelude.{◌≡◌, ◌≤◌, ◌<◌, ◌+◌, ◌++◌, IfOk, OnOk, length};
+ghost use Rattle.whatif_core.specs.Changes.{change_at, changes, changes_by, changes_of, changes_to, if_change, reach};
+
+use crate::change::{Change, Kind, is_change};
+use bench_core::Kept;
+use payload_core::Oom;
+use std::alloc::Allocator;
+
+type Changes<A> = Vec<Change, A>;
+
+/// How far off from a place a change of this kind can be, in a run of so many steps.
+fn reach(count: usize, kind: Kind, place: usize) -> usize
+    requires { place < count }
+    ensures { result ≡ reach count kind place }
+{
+    match kind {
+        Kind::Before => place + 1,
+        _ => count - place,
+    }
+}
+
+/// The change so far off.
+fn change_at(count: usize, kind: Kind, place: usize, distance: usize) -> Change
+    requires place { place < count }
+    requires distance { distance < reach count kind place }
+    ensures { result ≡ change_at kind place distance }
+{
+    let beside = match kind {
+        Kind::Before => place - distance,
+        _ => place + distance,
+    };
+    Change {
+        kind,
+        place,
+        beside,
+    }
+}
+
+/// Puts the change behind those before it, if the run has it.
+fn put_if<W: Allocator, A: Allocator>(
+    found: &mut Changes<A>,
+    steps: &[Kept<W>],
+    change: Change,
+) -> Result<(), Oom>
+    ensures { OnOk result (found.new.items ≡ found.old.items ++ if_change steps.now change) }
+{
+    if is_change(steps, change) {
+        found.push(change)?;
+    }
+    Ok(())
+}
+
+/// Puts the changes of one kind of the step at this place behind those before them, nearest first.
+fn put_by<W: Allocator, A: Allocator>(
+    found: &mut Changes<A>,
+    steps: &[Kept<W>],
+    kind: Kind,
+    place: usize,
+) -> Result<(), Oom>
+    requires { place < length steps.now }
+    ensures { OnOk result (found.new.items ≡ found.old.items ++ changes_by steps.now kind place) }
+{
+    for distance in 0..reach(steps.len(), kind, place) {
+        put_if(found, steps, change_at(steps.len(), kind, place, distance))?;
+    }
+    Ok(())
+}
+
+/// Puts the changes of the step at this place behind those before them.
+#[tactic(auto, unfolding(crate::specs::Changes::changes_of))]
+fn put_of<W: Allocator, A: Allocator>(
+    found: &mut Changes<A>,
+    steps: &[Kept<W>],
+    place: usize,
+) -> Result<(), Oom>
+    requires { place < length steps.now }
+    ensures { OnOk result (found.new.items ≡ found.old.items ++ changes_of steps.now place) }
+{
+    put_by(found, steps, Kind::Lost, place)?;
+    put_by(found, steps, Kind::Never, place)?;
+    put_by(found, steps, Kind::Before, place)?;
+    put_by(found, steps, Kind::Behind, place)?;
+    put_by(found, steps, Kind::Again, place)
+}
+
+/// All changes that the run of these steps has: by step, by kind, the nearest first.
+#[tactic(auto, unfolding(crate::specs::Changes::changes))]
+pub(crate) fn changes<W: Allocator, A: Allocator>(
+    steps: &[Kept<W>],
+    alloc: A,
+) -> Result<Changes<A>, Oom>
+    ensures { IfOk result (λ found. found.items ≡ changes steps.now) }
+{
+    let mut found = Vec::new(alloc);
+    for place in 0..steps.len() {
+        put_of(&mut found, steps, place)?;
+    }
+    Ok(found)
+}

@@ -1,0 +1,148 @@
+//! `Difference`: changes of one step and kind that lead to the same rows; and `Tally`, those of the changes so far.
+ghost use Rattle.std.specs.Prelude.{◌≡◌, ◌<◌, ◌+◌, ◌==◌, ◌&&◌, OnOk, option_map};
+ghost use Rattle.whatif_core.specs.Differences.{counted, is_with, nearest_change, nothing, place_with, rank, told_too};
+
+use crate::change::{Change, Kind};
+use crate::rows::{Rows, are_same};
+use diff_core::OnlineRow;
+use payload_core::Oom;
+use std::alloc::Allocator;
+use std::marker::Model;
+
+/// The changes of one step and kind that lead to the same rows.
+#[derive(Drop)]
+pub struct Difference<A: Allocator> {
+    pub kind: Kind,
+    /// The place of the step among those that remain, from 0.
+    pub place: usize,
+    /// The places beside which the step comes, nearest first; its own where it is left out.
+    pub besides: Vec<usize, A>,
+    pub rows: Vec<OnlineRow<A>, A>,
+}
+
+impl<A: Allocator> Model for Difference<A> {
+    ghost use Rattle.whatif_core.specs.Differences.{Difference};
+
+    ghost Value = { Difference };
+
+    ghost view = { λ d. record { kind = d.kind; place = d.place; besides = d.besides.items; rows = d.rows.items } };
+}
+
+impl<A: Allocator> Difference<A> {
+    /// The change beside the nearest place.
+    pub fn nearest(&self) -> Change
+        ensures { result ≡ nearest_change self.now }
+    {
+        let beside = match self.besides.first() {
+            Some(beside) => *beside,
+            None => 0,
+        };
+        Change {
+            kind: self.kind,
+            place: self.place,
+            beside,
+        }
+    }
+}
+
+/// Of the changes so far: how many are possible, how many make a difference, and these together.
+#[derive(Drop)]
+pub(crate) struct Tally<A: Allocator> {
+    pub(crate) possible: usize,
+    pub(crate) differ: usize,
+    pub(crate) told: Vec<Difference<A>, A>,
+}
+
+impl<A: Allocator> Model for Tally<A> {
+    ghost use Rattle.whatif_core.specs.Differences.{Tally};
+
+    ghost Value = { Tally };
+
+    ghost view = { λ t. record { possible = t.possible; differ = t.differ; told = t.told.items } };
+}
+
+/// Whether the change is of the same step and kind, and leads to the same rows.
+fn is_with<A: Allocator>(told: &Difference<A>, change: Change, rows: &[OnlineRow<A>]) -> bool
+    ensures { result ≡ is_with told.now change rows.now }
+{
+    told.place == change.place
+        && told.kind.rank() == change.kind.rank()
+        && are_same(told.rows.as_slice(), rows)
+}
+
+/// The place of the first that the change is with.
+fn place_with<A: Allocator>(
+    told: &[Difference<A>],
+    change: Change,
+    rows: &[OnlineRow<A>],
+) -> Option<usize>
+    ensures { result ≡ place_with 0 told.now change rows.now }
+{
+    for (place, difference) in told.iter().enumerate() {
+        if is_with(difference, change, rows) {
+            return Some(place);
+        }
+    }
+    None
+}
+
+/// Puts a change to those that it is with, or behind all.
+fn put_with<A: Allocator + Copy>(
+    told: &mut Vec<Difference<A>, A>,
+    change: Change,
+    rows: Rows<A>,
+    alloc: A,
+) -> Result<(), Oom>
+    ensures { OnOk result (told.new.items ≡ told_too told.old.items change rows.items) }
+{
+    if let Some(place) = place_with(told.as_slice(), change, rows.as_slice()) {
+        drop(rows);
+        return Ok(told[place].besides.push(change.beside)?);
+    }
+    let mut besides = Vec::new(alloc);
+    besides.push(change.beside)?;
+    told.push(Difference {
+        kind: change.kind,
+        place: change.place,
+        besides,
+        rows,
+    })?;
+    Ok(())
+}
+
+impl<A: Allocator + Copy> Tally<A> {
+    /// Of no change.
+    pub(crate) fn new(alloc: A) -> Self
+        ensures { result ≡ nothing }
+    {
+        Tally {
+            possible: 0,
+            differ: 0,
+            told: Vec::new(alloc),
+        }
+    }
+
+    /// Counts a change by the rows that it leads to, if it is possible.
+    pub(crate) fn count(
+        &mut self,
+        before: &[OnlineRow<A>],
+        change: Change,
+        rows: Option<Rows<A>>,
+        alloc: A,
+    ) -> Result<(), Oom>
+        requires possible { self.old.possible < 18446744073709551615 }
+        requires differ { self.old.differ < 18446744073709551615 }
+        ensures { OnOk result (self.new ≡ counted before.now self.old change (option_map (λ r. r.items) rows)) }
+    {
+        let Some(rows) = rows else {
+            return Ok(());
+        };
+        self.possible += 1;
+        if are_same(rows.as_slice(), before) {
+            drop(rows);
+            return Ok(());
+        }
+        self.differ += 1;
+        put_with(&mut self.told, change, rows, alloc)
+    }
+}

@@ -1,0 +1,132 @@
+//! The changes that make a difference.
+ghost use Rattle.std.specs.Prelude.{◌≡◌, ◌≤◌, ◌<◌, ◌++◌, IfOk, OnOk, length};
+ghost use Rattle.whatif_core.specs.Changes.{changes};
+ghost use Rattle.whatif_core.specs.Differences.{nothing, tally_from, tally_of};
+ghost use Rattle.whatif_core.specs.Ends.{rows_before};
+ghost use Rattle.whatif_core.specs.Exact.{AreExactly};
+
+use crate::change::Change;
+use crate::changes::changes;
+use crate::difference::{Difference, Tally};
+use crate::laws::exact_law;
+use crate::playing::rows_after;
+use crate::rows::rows_before;
+use crate::steps::copied;
+use bench_core::{Bench, Kept};
+use diff_core::OnlineRow;
+use payload_core::{Oom, Word};
+use std::alloc::Allocator;
+
+/// What would have made a difference.
+#[derive(Drop)]
+pub struct Differences<A: Allocator> {
+    /// The rows that the node shows, as it was.
+    pub before: Vec<OnlineRow<A>, A>,
+    /// How many changes there are.
+    pub tried: usize,
+    /// How many of them are possible.
+    pub possible: usize,
+    /// How many of these make a difference.
+    pub differ: usize,
+    /// These, by step, by kind, nearest first.
+    pub told: Vec<Difference<A>, A>,
+}
+
+/// Counts these changes by where they lead.
+fn count_all<'a, B: Allocator>(
+    tally: &mut Tally<&'a B>,
+    bench: &Bench<'a, B>,
+    steps: &[Kept<&'a B>],
+    tried: &[Change],
+    before: &[OnlineRow<&'a B>],
+    node: u16,
+    topic: &Word<&'a B>,
+    key: &Word<&'a B>,
+    alloc: &'a B,
+) -> Result<(), Oom>
+    requires steps { steps.now ≡ bench.now.state.remaining }
+    requires tried { tried.now ≡ changes steps.now }
+    requires before { before.now ≡ rows_before bench.now (record { node = node; topic = topic.now; key = key.now }) }
+    requires none { tally.old ≡ nothing }
+    ensures { OnOk result (tally.new ≡ tally_of bench.now (record { node = node; topic = topic.now; key = key.now })) }
+{
+    for place in 0..tried.len() {
+        let change = tried[place];
+        let rows = rows_after(bench, steps, change, node, topic, key, alloc)?;
+        tally.count(before, change, rows, alloc)?;
+    }
+    Ok(())
+}
+
+/// The changes that make a difference, of all these.
+fn tally_of<'a, B: Allocator>(
+    bench: &Bench<'a, B>,
+    steps: &[Kept<&'a B>],
+    tried: &[Change],
+    before: &[OnlineRow<&'a B>],
+    node: u16,
+    topic: &Word<&'a B>,
+    key: &Word<&'a B>,
+    alloc: &'a B,
+) -> Result<Tally<&'a B>, Oom>
+    requires steps { steps.now ≡ bench.now.state.remaining }
+    requires tried { tried.now ≡ changes steps.now }
+    requires before { before.now ≡ rows_before bench.now (record { node = node; topic = topic.now; key = key.now }) }
+    ensures { IfOk result (λ tally. tally ≡ tally_of bench.now (record { node = node; topic = topic.now; key = key.now })) }
+{
+    let mut tally = Tally::new(alloc);
+    let counted = count_all(
+        &mut tally, bench, steps, tried, before, node, topic, key, alloc,
+    );
+    if counted.is_err() {
+        drop(tally);
+        return Err(Oom);
+    }
+    Ok(tally)
+}
+
+/// The changes of the remaining steps that make a difference to the rows of this topic and key at the node, each with the rows
+/// that it leads to. (Each single change of what a node did is played from empty nodes, in an order in which no message comes
+/// before it is sent.)
+pub fn whatif<'a, B: Allocator>(
+    bench: &Bench<'a, B>,
+    node: u16,
+    topic: &Word<&'a B>,
+    key: &Word<&'a B>,
+    alloc: &'a B,
+) -> Result<Differences<&'a B>, Oom>
+    ensures before { IfOk result (λ it. it.before.items ≡ rows_before bench.now (record { node = node; topic = topic.now; key = key.now })) }
+    ensures tried { IfOk result (λ it. it.tried ≡ length (changes bench.now.state.remaining)) }
+    ensures possible { IfOk result (λ it. it.possible ≡ (tally_of bench.now (record { node = node; topic = topic.now; key = key.now })).possible) }
+    ensures differ { IfOk result (λ it. it.differ ≡ (tally_of bench.now (record { node = node; topic = topic.now; key = key.now })).differ) }
+    ensures told { IfOk result (λ it. it.told.items ≡ (tally_of bench.now (record { node = node; topic = topic.now; key = key.now })).told) }
+    ensures exactly { IfOk result (λ it. AreExactly bench.now (record { node = node; topic = topic.now; key = key.now }) it.told.items) }
+{
+    exact_law();
+    let steps = copied(bench.remaining(), alloc)?;
+    let before = rows_before(bench, node, topic, key, alloc)?;
+    let tried = changes(steps.as_slice(), alloc)?;
+    let tally = tally_of(
+        bench,
+        steps.as_slice(),
+        tried.as_slice(),
+        before.as_slice(),
+        node,
+        topic,
+        key,
+        alloc,
+    );
+    drop(steps);
+    let Tally {
+        possible,
+        differ,
+        told,
+    } = tally?;
+    Ok(Differences {
+        before,
+        tried: tried.len(),
+        possible,
+        differ,
+        told,
+    })
+}

@@ -1,0 +1,98 @@
+//! What would have made a difference, asked for by words.
+ghost use Rattle.std.specs.Prelude.{◌≡◌, IfErr, IfOk, length, option_map, string_bytes};
+ghost use Rattle.payload_core.specs.Messages.{numbered};
+ghost use Rattle.whatif_core.specs.Differences.{nearest_change};
+ghost use Rattle.whatif_core.specs.Exact.{HasOrder};
+ghost use Rattle.whatif_report.specs.Answers.{IsAnswer, IsRun, IsScriptWith, Refuses, RefusesRun};
+
+use crate::run_text::script_of;
+use crate::telling::tell;
+use crate::whatif_fault::WhatifFault;
+use bench_core::Bench;
+use payload_core::{Oom, Word};
+use std::alloc::Allocator;
+use whatif_core::laws::exact_law;
+use whatif_core::{Change, Difference, run_with, whatif};
+
+/// What would have made a difference to the presences of this topic and key at the node of this name.
+#[derive(Clone, Copy, Debug, PartialEq, Eq)]
+pub struct Question<'q> {
+    pub node: &'q str,
+    pub topic: &'q str,
+    pub key: &'q str,
+}
+
+/// What would have made a difference, as a text: each single change of what the nodes did that changes the rows asked for, and how.
+pub fn whatif_asked<'a, B: Allocator>(
+    alloc: &'a B,
+    bench: &Bench<'a, B>,
+    question: Question<'_>,
+) -> Result<String<&'a B>, WhatifFault>
+    ensures answer { IfOk result (λ text. IsAnswer bench.now question.entry (string_bytes text)) }
+    ensures refused { IfErr result (Refuses bench.now question.entry) }
+{
+    let Some(node) = bench.names().number_of(question.node) else {
+        return Err(WhatifFault::NoSuchNode);
+    };
+    let topic = Word::new(alloc, question.topic)?;
+    let key = Word::new(alloc, question.key)?;
+    Ok(tell(bench, node, &topic, &key, alloc)?)
+}
+
+/// The change that is told under this number, from 1.
+fn change_at<A: Allocator>(told: &[Difference<A>], number: u64) -> Option<Change>
+    ensures { result ≡ option_map nearest_change (numbered told.now number) }
+{
+    if number == 0 {
+        return None;
+    }
+    match told.get((number - 1) as usize) {
+        Some(difference) => Some(difference.nearest()),
+        None => None,
+    }
+}
+
+/// The run with this change, as a script.
+fn script_with<'a, B: Allocator>(
+    bench: &Bench<'a, B>,
+    change: Change,
+    alloc: &'a B,
+) -> Result<String<&'a B>, Oom>
+    requires { HasOrder bench.now.state.remaining change }
+    ensures { IfOk result (λ text. IsScriptWith bench.now change (string_bytes text)) }
+{
+    match run_with(bench, change, alloc)? {
+        Some(run) => {
+            let text = script_of(bench.names(), run.as_slice(), alloc);
+            drop(run);
+            text
+        }
+        None => unreachable!(),
+    }
+}
+
+/// The run with the change that is told under this number, as a script that plays it.
+pub fn run_with_change<'a, B: Allocator>(
+    alloc: &'a B,
+    bench: &Bench<'a, B>,
+    question: Question<'_>,
+    number: u64,
+) -> Result<String<&'a B>, WhatifFault>
+    ensures run { IfOk result (λ text. IsRun bench.now question.entry number (string_bytes text)) }
+    ensures refused { IfErr result (RefusesRun bench.now question.entry number) }
+{
+    exact_law();
+    let Some(node) = bench.names().number_of(question.node) else {
+        return Err(WhatifFault::NoSuchNode);
+    };
+    let topic = Word::new(alloc, question.topic)?;
+    let key = Word::new(alloc, question.key)?;
+    let found = whatif(bench, node, &topic, &key, alloc)?;
+    let changes = found.told.len();
+    let change = change_at(found.told.as_slice(), number);
+    drop(found);
+    match change {
+        Some(change) => Ok(script_with(bench, change, alloc)?),
+        None => Err(WhatifFault::NoSuchChange { changes }),
+    }
+}

@@ -1,0 +1,160 @@
+//! The text of one change, and of the rows that it takes away and brings.
+ghost use Rattle.std.specs.Prelude.{◌≡◌, ◌++◌, IfOk, OnOk, Some, nat_lt, string_bytes};
+ghost use Rattle.diff_core.specs.Diffs.{alone};
+ghost use Rattle.diff_core.specs.Rows.{is_among};
+ghost use Rattle.journal_core.specs.Holdings.{kepts};
+ghost use Rattle.whatif_report.specs.Texts.{change_line, difference_text, kept_words, kind_word, places_words, side_words, step_words};
+
+use bench_core::{Journal, Kept, Names};
+use diff_core::OnlineRow;
+use payload_core::Oom;
+use report_core::{put_act, put_lines};
+use std::alloc::Allocator;
+use whatif_core::{Difference, Kind};
+
+/// `NUMBER NODE VERB ..`.
+fn put_kept<A: Allocator, N: Allocator, W: Allocator>(
+    text: &mut String<A>,
+    names: &Names<N>,
+    kept: &Kept<W>,
+) -> Result<(), Oom>
+    ensures { OnOk result (string_bytes text.new ≡ string_bytes text.old ++ kept_words names.now (Some kept.now)) }
+{
+    let number = kept.number;
+    write!(text, "{number} ")?;
+    put_act(text, names, kept.node, &kept.step)
+}
+
+/// The step at this place.
+#[tactic(auto, unfolding(crate::specs::Texts::step_words))]
+fn put_step<'a, A: Allocator, N: Allocator, B: Allocator>(
+    journal: &Journal<'a, B>,
+    text: &mut String<A>,
+    names: &Names<N>,
+    place: usize,
+) -> Result<(), Oom>
+    ensures { OnOk result (string_bytes text.new ≡ string_bytes text.old ++ step_words names.now (kepts journal.now.steps) place) }
+{
+    match journal.at(place) {
+        Some(kept) => put_kept(text, names, kept),
+        None => Ok(()),
+    }
+}
+
+/// The word of a kind.
+fn kind_word(kind: Kind) -> &'static str
+    ensures { result.now ≡ kind_word kind }
+{
+    match kind {
+        Kind::Lost => "lost ",
+        Kind::Never => "never ",
+        Kind::Before | Kind::Behind => "moved ",
+        Kind::Again => "again ",
+    }
+}
+
+/// On which side of which step it comes, if anywhere.
+fn put_side<'a, A: Allocator, N: Allocator, B: Allocator>(
+    journal: &Journal<'a, B>,
+    text: &mut String<A>,
+    names: &Names<N>,
+    kind: Kind,
+    beside: usize,
+) -> Result<(), Oom>
+    ensures { OnOk result (string_bytes text.new ≡ string_bytes text.old ++ side_words kind (step_words names.now (kepts journal.now.steps) beside)) }
+{
+    match kind {
+        Kind::Lost | Kind::Never => Ok(()),
+        Kind::Before => {
+            text.push_str(" before ")?;
+            put_step(journal, text, names, beside)
+        }
+        Kind::Behind | Kind::Again => {
+            text.push_str(" behind ")?;
+            put_step(journal, text, names, beside)
+        }
+    }
+}
+
+/// How many places give these rows, where there are several.
+fn put_places<A: Allocator>(text: &mut String<A>, count: usize) -> Result<(), Oom>
+    ensures { OnOk result (string_bytes text.new ≡ string_bytes text.old ++ places_words count) }
+{
+    if count > 1 {
+        write!(text, " places {count}")?;
+    }
+    Ok(())
+}
+
+/// `change N KIND NUMBER NODE VERB ..`, and where it comes.
+#[tactic(auto, unfolding(crate::specs::Texts::change_line))]
+fn put_line<'a, A: Allocator, N: Allocator, B: Allocator>(
+    journal: &Journal<'a, B>,
+    text: &mut String<A>,
+    names: &Names<N>,
+    number: usize,
+    difference: &Difference<&'a B>,
+) -> Result<(), Oom>
+    ensures { OnOk result (string_bytes text.new ≡ string_bytes text.old ++ change_line names.now (kepts journal.now.steps) number difference.now) }
+{
+    let kind = kind_word(difference.kind);
+    write!(text, "change {number} {kind}")?;
+    put_step(journal, text, names, difference.place)?;
+    put_side(
+        journal,
+        text,
+        names,
+        difference.kind,
+        difference.nearest().beside,
+    )?;
+    put_places(text, difference.besides.len())?;
+    Ok(text.push_str("\n")?)
+}
+
+/// Whether the row is one of these.
+fn is_among<A: Allocator>(rows: &[OnlineRow<A>], row: &OnlineRow<A>) -> bool
+    ensures { result ≡ is_among rows.now row.now }
+{
+    for other in rows {
+        if row == other {
+            return true;
+        }
+    }
+    false
+}
+
+/// Copies of the rows that are none of the others.
+fn rows_alone<A: Allocator + Copy>(
+    alloc: A,
+    rows: &[OnlineRow<A>],
+    others: &[OnlineRow<A>],
+) -> Result<Vec<OnlineRow<A>, A>, Oom>
+    ensures { IfOk result (λ found. found.items ≡ alone rows.now others.now) }
+{
+    let mut found = Vec::new(alloc);
+    for row in rows {
+        if !is_among(others, row) {
+            found.push(row.try_copy()?)?;
+        }
+    }
+    Ok(found)
+}
+
+/// One change, and the rows that it takes away and brings.
+#[tactic(auto, unfolding(crate::specs::Texts::difference_text))]
+pub(crate) fn put_difference<'a, A: Allocator, N: Allocator, B: Allocator>(
+    journal: &Journal<'a, B>,
+    text: &mut String<A>,
+    names: &Names<N>,
+    before: &[OnlineRow<&'a B>],
+    number: usize,
+    difference: &Difference<&'a B>,
+    alloc: &'a B,
+) -> Result<(), Oom>
+    ensures { OnOk result (string_bytes text.new ≡ string_bytes text.old ++ difference_text names.now (kepts journal.now.steps) before.now number difference.now) }
+{
+    put_line(journal, text, names, number, difference)?;
+    let gone = rows_alone(alloc, before, difference.rows.as_slice())?;
+    let come = rows_alone(alloc, difference.rows.as_slice(), before)?;
+    put_lines(text, names, gone.as_slice(), come.as_slice())
+}

@@ -1,0 +1,104 @@
+//! The text of what would have made a difference.
+ghost use Rattle.std.specs.Prelude.{◌≡◌, ◌++◌, IfOk, OnOk, length, string_bytes};
+ghost use Rattle.journal_core.specs.Holdings.{kepts};
+ghost use Rattle.whatif_core.specs.Changes.{changes};
+ghost use Rattle.whatif_core.specs.Differences.{Tally, tally_of};
+ghost use Rattle.whatif_core.specs.Ends.{rows_before};
+ghost use Rattle.whatif_core.specs.Questions.{Question};
+ghost use Rattle.whatif_report.specs.Texts.{differences_text, head_line, whatif_text};
+
+use crate::change_text::put_difference;
+use bench_core::{Bench, Journal, Names};
+use diff_core::OnlineRow;
+use payload_core::{Oom, Word};
+use report_core::{name_at, put_rows};
+use std::alloc::Allocator;
+use whatif_core::{Difference, Differences, whatif};
+
+/// `whatif NODE TOPIC KEY tried T possible P differ D`.
+#[tactic(auto, unfolding(crate::specs::Texts::head_line))]
+fn put_head<A: Allocator, N: Allocator, W: Allocator>(
+    text: &mut String<A>,
+    names: &Names<N>,
+    node: u16,
+    topic: &Word<W>,
+    key: &Word<W>,
+    found: &Differences<W>,
+) -> Result<(), Oom>
+    ensures { OnOk result ((t : Tally) → t.possible ≡ found.now.possible → t.differ ≡ found.now.differ →
+        string_bytes text.new ≡ string_bytes text.old ++ head_line names.now (record { node = node; topic = topic.now; key = key.now }) found.now.tried t) }
+{
+    let node = name_at(names, node);
+    let topic = topic.as_str();
+    let key = key.as_str();
+    let tried = found.tried;
+    let possible = found.possible;
+    let differ = found.differ;
+    write!(text, "whatif {node} {topic}")?;
+    write!(text, " {key} tried {tried}")?;
+    Ok(writeln!(text, " possible {possible} differ {differ}")?)
+}
+
+/// Each change that is told, numbered from 1.
+fn put_differences<'a, A: Allocator, N: Allocator, B: Allocator>(
+    journal: &Journal<'a, B>,
+    text: &mut String<A>,
+    names: &Names<N>,
+    before: &[OnlineRow<&'a B>],
+    told: &[Difference<&'a B>],
+    alloc: &'a B,
+) -> Result<(), Oom>
+    ensures { OnOk result (string_bytes text.new ≡ string_bytes text.old ++ differences_text names.now (kepts journal.now.steps) before.now 1 told.now) }
+{
+    for place in 0..told.len() {
+        put_difference(journal, text, names, before, place + 1, &told[place], alloc)?;
+    }
+    Ok(())
+}
+
+/// The text of these differences.
+fn put_found<'a, A: Allocator, B: Allocator>(
+    bench: &Bench<'a, B>,
+    text: &mut String<A>,
+    node: u16,
+    topic: &Word<&'a B>,
+    key: &Word<&'a B>,
+    found: &Differences<&'a B>,
+    alloc: &'a B,
+) -> Result<(), Oom>
+    requires before { found.now.before.items ≡ rows_before bench.now (record { node = node; topic = topic.now; key = key.now }) }
+    requires tried { found.now.tried ≡ length (changes bench.now.state.remaining) }
+    requires possible { found.now.possible ≡ (tally_of bench.now (record { node = node; topic = topic.now; key = key.now })).possible }
+    requires differ { found.now.differ ≡ (tally_of bench.now (record { node = node; topic = topic.now; key = key.now })).differ }
+    requires told { found.now.told.items ≡ (tally_of bench.now (record { node = node; topic = topic.now; key = key.now })).told }
+    ensures { OnOk result (string_bytes text.new ≡ string_bytes text.old ++ whatif_text bench.now (record { node = node; topic = topic.now; key = key.now })) }
+{
+    put_head(text, bench.names(), node, topic, key, found)?;
+    put_rows(text, "= ", bench.names(), found.before.as_slice())?;
+    put_differences(
+        bench.remaining(),
+        text,
+        bench.names(),
+        found.before.as_slice(),
+        found.told.as_slice(),
+        alloc,
+    )
+}
+
+/// What would have made a difference to the rows of this topic and key at the node, as a text.
+pub(crate) fn tell<'a, B: Allocator>(
+    bench: &Bench<'a, B>,
+    node: u16,
+    topic: &Word<&'a B>,
+    key: &Word<&'a B>,
+    alloc: &'a B,
+) -> Result<String<&'a B>, Oom>
+    ensures { IfOk result (λ text. string_bytes text ≡ whatif_text bench.now (record { node = node; topic = topic.now; key = key.now })) }
+{
+    let found = whatif(bench, node, topic, key, alloc)?;
+    let mut text = String::new(alloc);
+    let put = put_found(bench, &mut text, node, topic, key, &found, alloc);
+    drop(found);
+    put?;
+    Ok(text)
+}

@@ -1,0 +1,45 @@
+//! `WhatifFault`: why nothing is told.
+ghost use Rattle.std.specs.Prelude.{◌≡◌};
+
+use payload_core::{Oom, WordFault};
+use thiserror::Error;
+
+/// Why nothing is told.
+#[derive(Clone, Copy, Debug, PartialEq, Eq, Error)]
+pub enum WhatifFault {
+    /// No node has this name.
+    #[error("NoSuchNode")]
+    NoSuchNode,
+    /// The text is no word, so nothing is tracked under it.
+    #[error("NoWord")]
+    NoWord,
+    /// There are so many changes, and none has the number that was asked for.
+    #[error("NoSuchChange, there are {changes}")]
+    NoSuchChange { changes: usize },
+    /// A request for memory was refused.
+    #[error("out of memory")]
+    OutOfMemory,
+}
+
+impl From<Oom> for WhatifFault {
+    ghost use Rattle.whatif_report.specs.declared.whatif_fault.WhatifFault.TheVariants.{OutOfMemory};
+
+    ghost from_gives = { λ _ fault. fault ≡ OutOfMemory };
+
+    fn from(_: Oom) -> WhatifFault {
+        WhatifFault::OutOfMemory
+    }
+}
+
+impl From<WordFault> for WhatifFault {
+    ghost use Rattle.whatif_report.specs.Answers.{fault_of_word};
+
+    ghost from_gives = { λ fault given. given ≡ fault_of_word fault };
+
+    fn from(fault: WordFault) -> WhatifFault {
+        match fault {
+            WordFault::BadWord => WhatifFault::NoWord,
+            WordFault::OutOfMemory => WhatifFault::OutOfMemory,
+        }
+    }
+}
