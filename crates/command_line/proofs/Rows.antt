@@ -31,7 +31,7 @@ chosen_alike name values others choice same is =
         reading = subst (λ (o : Option (List ℕ)). IsReading o is.options.reading) (same (codes "deliveries")) is.options_are.reading;
         why = number (codes "why") is.options.why is.options_are.why;
         states = number (codes "states") is.options.states is.options_are.states;
-        outcome = number (codes "script") is.options.outcome is.options_are.outcome;
+        script = number (codes "script") is.options.script is.options_are.script;
       };
       question = is.question;
       question_is = IfSome_then is.question is.question_is (λ question asked. record {

@@ -5,7 +5,7 @@ use Rattle.clap.specs.Words.{App, IsAmong, Row, Rule, fault_of, first_of, new_ap
 use Rattle.command_line.specs.declared.chosen.Form.{Form}
 use Rattle.command_line.specs.declared.chosen.Form.TheVariants.{Report, Session}
 use Rattle.command_line.specs.declared.chosen.Subcommand.{Subcommand}
-use Rattle.command_line.specs.declared.chosen.Subcommand.TheVariants.{Play, Race, Load, Explore, Step, Draw, Explain}
+use Rattle.command_line.specs.declared.chosen.Subcommand.TheVariants.{Play, Race, Load, Explore, Step, Draw, Explain, Whatif}
 use Rattle.command_line.specs.declared.chosen.Question.{Question}
 use Rattle.command_line.specs.declared.chosen.Choice.{Choice}
 use Rattle.command_line.specs.declared.chosen.Options.{Options}
@@ -51,8 +51,15 @@ draw_app = with_rule (new_app (codes "draw")) (number_rule (codes "why"))
 abbrev pub word_rule : List ℕ → Rule
 word_rule name = record (new_rule name) { required = true }
 
+-- a subcommand of this name with the words that ask
+abbrev pub question_app : List ℕ → App
+question_app name = with_rule (with_rule (with_rule (new_app name) (word_rule (codes "NODE"))) (word_rule (codes "TOPIC"))) (word_rule (codes "KEY"))
+
 abbrev pub explain_app : App
-explain_app = with_rule (with_rule (with_rule (new_app (codes "explain")) (word_rule (codes "NODE"))) (word_rule (codes "TOPIC"))) (word_rule (codes "KEY"))
+explain_app = question_app (codes "explain")
+
+abbrev pub whatif_app : App
+whatif_app = with_rule (question_app (codes "whatif")) (number_rule (codes "script"))
 
 -- the line without its subcommands
 abbrev pub bare_app : App
@@ -63,7 +70,7 @@ bare_app =
 abbrev pub app : App
 app =
     let older = with_subcommand (with_subcommand (with_subcommand (with_subcommand bare_app play_app.top) race_app.top) load_app.top) explore_app.top in
-    with_subcommand (with_subcommand (with_subcommand older step_app.top) draw_app.top) explain_app.top
+    with_subcommand (with_subcommand (with_subcommand (with_subcommand older step_app.top) draw_app.top) explain_app.top) whatif_app.top
 
 abbrev pub name_of : Subcommand → List ℕ
 name_of Play = codes "play"
@@ -73,6 +80,7 @@ name_of (Explore reading states outcome) = codes "explore"
 name_of Step = codes "step"
 name_of (Draw why) = codes "draw"
 name_of (Explain question) = codes "explain"
+name_of (Whatif question change) = codes "whatif"
 
 abbrev pub form_name : Form → List ℕ
 form_name Report = codes "report"
@@ -99,7 +107,7 @@ pub record AreOptions (values : List ℕ → Option (List ℕ)) (options : Optio
   pub reading : IsReading (values (codes "deliveries")) options.reading
   pub why : IsNumber (values (codes "why")) options.why
   pub states : IsNumber (values (codes "states")) options.states
-  pub outcome : IsNumber (values (codes "script")) options.outcome
+  pub script : IsNumber (values (codes "script")) options.script
 
 -- the words that come in their places
 pub record IsQuestion (values : List ℕ → Option (List ℕ)) (question : Question) : Type 0 where
@@ -111,12 +119,13 @@ pub record IsQuestion (values : List ℕ → Option (List ℕ)) (question : Ques
 abbrev pub Takes : Options → Option Question → Subcommand → Type 0
 Takes options question (Draw why) = why ≡ options.why
 Takes options question (Explore reading states outcome) =
-    (reading ≡ options.reading) × (states ≡ unwrap_or options.states 100000) × (outcome ≡ options.outcome)
+    (reading ≡ options.reading) × (states ≡ unwrap_or options.states 100000) × (outcome ≡ options.script)
 Takes options question Play = ⊤
 Takes options question Race = ⊤
 Takes options question Load = ⊤
 Takes options question Step = ⊤
 Takes options question (Explain asked) = question ≡ Some asked
+Takes options question (Whatif asked change) = (question ≡ Some asked) × (change ≡ options.script)
 
 -- of all orders a report alone is printed
 abbrev pub CanPrint : Subcommand → Form → Type 0
@@ -127,6 +136,7 @@ CanPrint Load form = ⊤
 CanPrint Step form = ⊤
 CanPrint (Draw why) form = ⊤
 CanPrint (Explain question) form = ⊤
+CanPrint (Whatif question change) form = ⊤
 
 -- the subcommand has this name, and the form and the rest those that its options and words give
 pub record IsChoiceOf (name : List ℕ) (values : List ℕ → Option (List ℕ)) (choice : Choice) : Type 0 where
@@ -139,9 +149,20 @@ pub record IsChoiceOf (name : List ℕ) (values : List ℕ → Option (List ℕ)
   pub takes : Takes options question choice.command
   pub printed : CanPrint choice.command choice.form
 
--- no subcommand has this name; or that which explains alone does, and there is no question
+-- the subcommand asks
+abbrev pub Asks : Subcommand → Type 0
+Asks (Explain question) = ⊤
+Asks (Whatif question change) = ⊤
+Asks Play = ⊥
+Asks Race = ⊥
+Asks Load = ⊥
+Asks (Explore reading states outcome) = ⊥
+Asks Step = ⊥
+Asks (Draw why) = ⊥
+
+-- no subcommand has this name; or one that asks alone does, and there is no question
 abbrev pub IsUnnamed : List ℕ → Option Question → Type 0
-IsUnnamed name None = (command : Subcommand) → name ≡ name_of command → name ≡ codes "explain"
+IsUnnamed name None = (command : Subcommand) → name ≡ name_of command → Asks command
 IsUnnamed name (Some question) = (command : Subcommand) → name ≢ name_of command
 
 -- the choice is that of the subcommand which the command line finds in the words, with its options

@@ -41,6 +41,11 @@ pub enum Subcommand<'w> {
     },
     /// Explains why presences of a saved session are online at a node, and why not.
     Explain(Question<'w>),
+    /// Tells what else could have made a difference to these presences; or the run that the change of this number makes, alone.
+    Whatif {
+        question: Question<'w>,
+        change: Option<u64>,
+    },
 }
 
 /// What it prints of the bench that was played on.
@@ -68,6 +73,6 @@ pub struct Options {
     pub why: Option<u64>,
     /// How many states `--states` allows.
     pub states: Option<u64>,
-    /// The outcome of `--script`.
-    pub outcome: Option<u64>,
+    /// The outcome or the change of `--script`.
+    pub script: Option<u64>,
 }

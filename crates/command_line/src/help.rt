@@ -24,6 +24,9 @@ pub const DRAW: &str =
 pub const EXPLAIN: &str =
     "Tells why presences of the session on standard input are online at a node, and why not";
 
+pub const WHATIF: &str =
+    "Tells which single changes of what happened would have made a difference to these presences";
+
 pub const NODE: &str = "The node that is asked about";
 
 pub const TOPIC: &str = "The topic under which they are tracked";
@@ -40,6 +43,9 @@ pub const STATES: &str =
 
 pub const ORDER: &str =
     "The number of an outcome, to print its order alone, as a script that play takes";
+
+pub const CHANGE: &str =
+    "The number of a change, to print the run with it alone, as a script that play takes";
 
 pub const FORM: &str =
     "What to print: report (as without it), or session, which load takes; of explore the report alone";
@@ -72,4 +78,5 @@ A step prints NUMBER ok, an undo undone NUMBER, a refusal no and its name; then
 come the rows that left (-) and joined (+) the online list of the step's node.
 With the subcommand step, a line that can't be taken is told and changes nothing;
 :save prints the session so far, :explain NODE TOPIC KEY why somebody is online at
-a node or isn't, and :help this text.";
+a node or isn't, :whatif NODE TOPIC KEY what would have made a difference to that,
+and :help this text.";

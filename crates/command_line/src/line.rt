@@ -2,7 +2,7 @@
 ghost use Rattle.std.specs.Prelude.{◌≡◌, ℕ, IfErr, IfNone, IfOk, IfSome, OnErr, Option, codes, map, false};
 ghost use Rattle.clap.specs.Words.{app_of, first_value, found_of, kind_of, new_app, rule_of, with_rule, with_subcommand};
 ghost use Rattle.clap.specs.declared.Command.TheViews.{out-Command as fields_of};
-ghost use Rattle.command_line.specs.Line.{app, as_rule, bare_app, draw_app, explain_app, explore_app, number_rule, deliveries_rule, step_app, word_rule, AreOptions, Chooses, IsChoiceOf, IsForm, IsNumber, IsQuestion, IsReading, IsRefusal, IsUnnamed, Takes, name_of};
+ghost use Rattle.command_line.specs.Line.{app, as_rule, bare_app, draw_app, explain_app, explore_app, number_rule, deliveries_rule, question_app, step_app, whatif_app, word_rule, AreOptions, Chooses, IsChoiceOf, IsForm, IsNumber, IsQuestion, IsReading, IsRefusal, IsUnnamed, Takes, name_of};
 ghost use Rattle.command_line.specs.declared.chosen.Choice.{Choice as Chosen};
 ghost use Rattle.command_line.specs.declared.chosen.Form.{Form as Shown};
 ghost use Rattle.command_line.specs.declared.chosen.Options.{Options as Given};
@@ -10,8 +10,8 @@ ghost use Rattle.command_line.specs.declared.chosen.Question.{Question as Asked}
 
 use crate::chosen::{Choice, Form, Options, Question, Reading, Subcommand};
 use crate::help::{
-    DELIVERIES, DRAW, EXPLAIN, EXPLORE, FORM, KEY, LANGUAGE, LOAD, NODE, ORDER, PLAY, PURPOSE,
-    RACE, STATES, STEP, TOPIC, VERSION, WHY,
+    CHANGE, DELIVERIES, DRAW, EXPLAIN, EXPLORE, FORM, KEY, LANGUAGE, LOAD, NODE, ORDER, PLAY,
+    PURPOSE, RACE, STATES, STEP, TOPIC, VERSION, WHATIF, WHY,
 };
 use clap::error::ErrorKind;
 use clap::{Arg, ArgAction, ArgMatches, Command, Error};
@@ -105,15 +105,27 @@ fn draw_line<'a>(alloc: Global) -> Result<Command<'a>, AllocError>
     bare_subcommand(alloc, "draw", DRAW).arg(number_option(alloc, "why", WHY))
 }
 
-/// The subcommand that explains.
-fn explain_line<'a>(alloc: Global) -> Result<Command<'a>, AllocError>
-    ensures app { IfOk result (λ line. app_of line ≡ explain_app) }
+/// A subcommand that asks of a node, a topic and a key.
+fn question_line<'a>(
+    alloc: Global,
+    name: &'a str,
+    about: &'a str,
+) -> Result<Command<'a>, AllocError>
+    ensures app { IfOk result (λ line. app_of line ≡ question_app name.entry.now) }
     ensures local { IfOk result (λ line. (fields_of line).has_globals ≡ false) }
 {
-    bare_subcommand(alloc, "explain", EXPLAIN)
+    bare_subcommand(alloc, name, about)
         .arg(word_place(alloc, "NODE", NODE))?
         .arg(word_place(alloc, "TOPIC", TOPIC))?
         .arg(word_place(alloc, "KEY", KEY))
+}
+
+/// The subcommand that tells what else could have made a difference.
+fn whatif_line<'a>(alloc: Global) -> Result<Command<'a>, AllocError>
+    ensures app { IfOk result (λ line. app_of line ≡ whatif_app) }
+    ensures local { IfOk result (λ line. (fields_of line).has_globals ≡ false) }
+{
+    question_line(alloc, "whatif", WHATIF)?.arg(number_option(alloc, "script", CHANGE))
 }
 
 /// The line without its subcommands.
@@ -161,7 +173,15 @@ fn with_draw<'a>(line: Command<'a>, alloc: Global) -> Result<Command<'a>, AllocE
 fn with_explain<'a>(line: Command<'a>, alloc: Global) -> Result<Command<'a>, AllocError>
     ensures { IfOk result (λ longer. app_of longer ≡ with_subcommand (app_of line.entry) explain_app.top) }
 {
-    let added = explain_line(alloc)?;
+    let added = question_line(alloc, "explain", EXPLAIN)?;
+    line.subcommand(added)
+}
+
+/// The line with one more subcommand, which tells what else could have made a difference.
+fn with_whatif<'a>(line: Command<'a>, alloc: Global) -> Result<Command<'a>, AllocError>
+    ensures { IfOk result (λ longer. app_of longer ≡ with_subcommand (app_of line.entry) whatif_app.top) }
+{
+    let added = whatif_line(alloc)?;
     line.subcommand(added)
 }
 
@@ -175,7 +195,8 @@ fn line<'a>(alloc: Global) -> Result<Command<'a>, AllocError>
     let line = with_explore(line, alloc)?;
     let line = line.subcommand(step_line(alloc))?;
     let line = with_draw(line, alloc)?;
-    with_explain(line, alloc)
+    let line = with_explain(line, alloc)?;
+    with_whatif(line, alloc)
 }
 
 /// The words that come in their places, where all three are there.
@@ -207,11 +228,15 @@ fn command_of<'a>(
         "explore" => Some(Subcommand::Explore {
             reading: options.reading,
             states: options.states.unwrap_or(MOST_STATES) as usize,
-            outcome: options.outcome,
+            outcome: options.script,
         }),
         "step" => Some(Subcommand::Step),
         "draw" => Some(Subcommand::Draw { why: options.why }),
         "explain" => Some(Subcommand::Explain(question?)),
+        "whatif" => Some(Subcommand::Whatif {
+            question: question?,
+            change: options.script,
+        }),
         _ => None,
     }
 }
@@ -263,14 +288,14 @@ fn options_of<'a>(matches: &ArgMatches<'a>) -> Result<Options, &'static str>
     let Some(states) = number_of(matches, "states") else {
         return Err("--states takes a number of states");
     };
-    let Some(outcome) = number_of(matches, "script") else {
-        return Err("--script takes the number of an outcome");
+    let Some(script) = number_of(matches, "script") else {
+        return Err("--script takes the number of an outcome or of a change");
     };
     Ok(Options {
         reading: reading_of(matches),
         why,
         states,
-        outcome,
+        script,
     })
 }
 

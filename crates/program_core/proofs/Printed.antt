@@ -1,10 +1,14 @@
 -- What a text that was written is, for the input that it was made of.
-use Rattle.std.proofs.Common.{◌≡◌, List, ℕ, Option, None, Some, Result, Ok, Err, IfErr, IfOk, IsOkAnd, OnOk, refl, sym, subst, arith}
+use Rattle.std.proofs.Common.{◌≡◌, inl, inr, List, ℕ, Option, None, Some, Result, Ok, Err, IfErr, IfOk, IsOkAnd, OnOk, refl, sym, subst, arith}
 use Rattle.std.proofs.lemmas.Bool.Decides.{nat_tests}
-use Rattle.std.specs.Io.KnownBytes.{Appends}
+use Rattle.std.specs.Io.KnownBytes.{Appends, Keeps}
 use Rattle.bench_core.specs.Limits.{Limits}
 use Rattle.bench_core.specs.Machine.{Machine}
-use Rattle.explain_core.specs.Questions.{IsAnswer}
+use Rattle.explain_core.specs.Questions.{IsAnswer, Refuses as RefusesQuestion}
+use Rattle.explain_core.specs.declared.ask_fault.AskFault.{AskFault}
+use Rattle.explain_core.specs.declared.ask_fault.AskFault.TheVariants as asks
+use Rattle.whatif_report.specs.declared.whatif_fault.WhatifFault.{WhatifFault}
+use Rattle.whatif_report.specs.declared.whatif_fault.WhatifFault.TheVariants as whatifs
 use Rattle.command_line.specs.declared.chosen.Question.{Question}
 use Rattle.grammar_core.specs.Grammar.{script_of}
 use Rattle.stream_core.specs.Inputs.{IsLonger}
@@ -13,7 +17,7 @@ use Rattle.grammar_core.specs.Scripts.{Script}
 use Rattle.grammar_core.specs.declared.fault.FaultKind.TheVariants.{TooLong}
 use Rattle.command_line.specs.declared.chosen.Form.{Form}
 use Rattle.command_line.specs.declared.chosen.Subcommand.{Subcommand}
-use Rattle.command_line.specs.declared.chosen.Subcommand.TheVariants.{Play, Race, Load, Explore, Step, Draw, Explain}
+use Rattle.command_line.specs.declared.chosen.Subcommand.TheVariants.{Play, Race, Load, Explore, Step, Draw, Explain, Whatif}
 use Rattle.program_core.specs.declared.fault.Fault.{Fault}
 use Rattle.program_core.specs.declared.fault.Fault.TheVariants as faults
 use Rattle.grammar_core.specs.declared.fault.ScriptFault.{ScriptFault}
@@ -24,7 +28,8 @@ use Rattle.prompt_core.specs.declared.prompt_fault.PromptFault.{PromptFault}
 use Rattle.stream_core.specs.Steps.{Steps}
 use Rattle.command_line.specs.Help.{language}
 use Rattle.program_core.specs.Races.{IsRaceOf}
-use Rattle.program_core.specs.Program.{FailsAs, IsScriptAt, IsSessionAt, Prints, RefusesScriptAt, drawn, Ends, EndsAt, EndsAsText, EndsSoon, KeepsBefore, TellsMemory, question_of, shown}
+use Rattle.program_core.specs.Whatifs.{RefusesWhatif, TellsWhatif, fault_of_whatif}
+use Rattle.program_core.specs.Program.{FailsAs, IsBenchAt, IsBenchOf, IsCauseOf, IsUnwritten, RefusesBenchAt, fault_of_ask, IsScriptAt, IsSessionAt, Prints, RefusesScriptAt, drawn, Ends, EndsAt, EndsAsText, EndsSoon, KeepsBefore, TellsMemory, question_of, shown}
 
 -- an input past the limit has that fault
 pub too_long : (known : Option (List ℕ)) → IsLonger known 1048576 → RefusesScriptAt known (faults.Script (record { line = 0; kind = TooLong }))
@@ -48,6 +53,7 @@ module _ (form : Form) (limits : Limits) (text : List ℕ) (old new : Option (Li
   ends command input (Err (faults.Race fault)) p e = elim e [ ]
   ends command input (Err (faults.TooManyStates most)) p e = elim e [ ]
   ends command input (Err (faults.Explain fault)) p e = elim e [ ]
+  ends command input (Err (faults.Whatif fault)) p e = elim e [ ]
   ends command input (Err (faults.Prompt fault)) p e = elim e [ ]
   ends command input (Err (faults.NoSuchOutcome outcomes)) p e = elim e [ ]
   ends command input (Err faults.ReadFault) p e = elim e [ ]
@@ -64,15 +70,20 @@ module _ (form : Form) (limits : Limits) (text : List ℕ) (old new : Option (Li
   ends_load None m r k is e = tt
   ends_load (Some input) m r k is e = ends Load input r (m, k, is) e
 
-  pub ends_draw : (why : Option ℕ) (known : Option (List ℕ)) (m : Machine) (r : Result (Unit {0}) Fault) → IsSessionAt known m →
+  pub ends_draw : (why : Option ℕ) (known : Option (List ℕ)) (m : Machine) (r : Result (Unit {0}) Fault) → IsBenchAt limits known m →
       text ≡ drawn why m → EndsAsText text r old new → EndsAt (Draw why) form limits known r old new
   ends_draw why None m r k is e = tt
   ends_draw why (Some input) m r k is e = ends (Draw why) input r (m, k, is) e
 
-  pub ends_explain : (question : Question) (known : Option (List ℕ)) (m : Machine) (r : Result (Unit {0}) Fault) → IsSessionAt known m →
+  pub ends_explain : (question : Question) (known : Option (List ℕ)) (m : Machine) (r : Result (Unit {0}) Fault) → IsBenchAt limits known m →
       IsAnswer m (question_of question) text → EndsAsText text r old new → EndsAt (Explain question) form limits known r old new
   ends_explain question None m r k told e = tt
   ends_explain question (Some input) m r k told e = ends (Explain question) input r (m, k, told) e
+
+  pub ends_whatif : (question : Question) (change : Option ℕ) (known : Option (List ℕ)) (m : Machine) (r : Result (Unit {0}) Fault) → IsBenchAt limits known m →
+      TellsWhatif m question change text → EndsAsText text r old new → EndsAt (Whatif question change) form limits known r old new
+  ends_whatif question change None m r k told e = tt
+  ends_whatif question change (Some input) m r k told e = ends (Whatif question change) input r (m, k, told) e
 
   pub ends_race : (known : Option (List ℕ)) (s : Script) (m : Machine) (r : Result (Unit {0}) Fault) → IsScriptAt known s →
       IsRaceOf limits s m → text ≡ shown form (history_text m) m → EndsAsText text r old new → EndsAt Race form limits known r old new
@@ -99,6 +110,7 @@ module _ (form : Form) (limits : Limits) (text : List ℕ) (old new : Option (Li
   keeps_before (Err (faults.Race fault)) e = elim e [ ]
   keeps_before (Err (faults.TooManyStates most)) e = elim e [ ]
   keeps_before (Err (faults.Explain fault)) e = elim e [ ]
+  keeps_before (Err (faults.Whatif fault)) e = elim e [ ]
   keeps_before (Err (faults.Prompt fault)) e = elim e [ ]
   keeps_before (Err (faults.NoSuchOutcome outcomes)) e = elim e [ ]
   keeps_before (Err faults.ReadFault) e = elim e [ ]
@@ -113,6 +125,7 @@ module _ (form : Form) (limits : Limits) (text : List ℕ) (old new : Option (Li
   tells_memory (Err (faults.Race fault)) e = elim e [ ]
   tells_memory (Err (faults.TooManyStates most)) e = elim e [ ]
   tells_memory (Err (faults.Explain fault)) e = elim e [ ]
+  tells_memory (Err (faults.Whatif fault)) e = elim e [ ]
   tells_memory (Err (faults.Prompt fault)) e = elim e [ ]
   tells_memory (Err (faults.NoSuchOutcome outcomes)) e = elim e [ ]
   tells_memory (Err faults.ReadFault) e = elim e [ ]
@@ -128,10 +141,78 @@ module _ (form : Form) (limits : Limits) (text : List ℕ) (old new : Option (Li
   fails_not (Err (faults.Race fault)) before after e same = elim e [ ]
   fails_not (Err (faults.TooManyStates most)) before after e same = elim e [ ]
   fails_not (Err (faults.Explain fault)) before after e same = elim e [ ]
+  fails_not (Err (faults.Whatif fault)) before after e same = elim e [ ]
   fails_not (Err (faults.Prompt fault)) before after e same = elim e [ ]
   fails_not (Err (faults.NoSuchOutcome outcomes)) before after e same = elim e [ ]
   fails_not (Err faults.ReadFault) before after e same = elim e [ ]
   fails_not (Err faults.OutOfMemory) before after e same = elim e [ ]
+
+-- where no text was written
+
+keeps_same : (old : Option (List ℕ)) → Keeps old old
+keeps_same None = tt
+keeps_same (Some xs) = refl
+
+-- a fault that comes before the writing, and is the input's
+cause_ends : (command : Subcommand) (form : Form) (limits : Limits) (input : List ℕ) (fault : Fault) (old : Option (List ℕ)) → IsCauseOf command limits input fault →
+    IsUnwritten fault → Ends command form limits input (Err fault) old old
+cause_ends command form limits input (faults.Script f) old cause before = (cause, keeps_same old)
+cause_ends command form limits input (faults.Session f) old cause before = (cause, keeps_same old)
+cause_ends command form limits input faults.LongSession old cause before = (cause, keeps_same old)
+cause_ends command form limits input (faults.Race f) old cause before = (cause, keeps_same old)
+cause_ends command form limits input (faults.TooManyStates most) old cause before = (cause, keeps_same old)
+cause_ends command form limits input (faults.NoSuchOutcome outcomes) old cause before = (cause, keeps_same old)
+cause_ends command form limits input (faults.Explain f) old cause before = (cause, keeps_same old)
+cause_ends command form limits input (faults.Whatif f) old cause before = (cause, keeps_same old)
+cause_ends command form limits input faults.ReadFault old cause before = (cause, keeps_same old)
+cause_ends command form limits input faults.OutOfMemory old cause before = (cause, keeps_same old)
+cause_ends command form limits input (faults.WriteFault written) old cause before = absurd before
+cause_ends command form limits input (faults.Prompt f) old cause before = absurd before
+
+module _ (form : Form) (limits : Limits) (known old : Option (List ℕ)) where
+  pub refused_explain : (question : Question) (fault : Fault) → RefusesBenchAt known fault → IsUnwritten fault → EndsAt (Explain question) form limits known (Err fault) old old
+  refused_explain question fault cause before = go known cause
+    where
+      go : (known : Option (List ℕ)) → RefusesBenchAt known fault → EndsAt (Explain question) form limits known (Err fault) old old
+      go None cause = tt
+      go (Some input) cause = cause_ends (Explain question) form limits input fault old (inl cause) before
+
+  pub refused_whatif : (question : Question) (change : Option ℕ) (fault : Fault) → RefusesBenchAt known fault → IsUnwritten fault →
+      EndsAt (Whatif question change) form limits known (Err fault) old old
+  refused_whatif question change fault cause before = go known cause
+    where
+      go : (known : Option (List ℕ)) → RefusesBenchAt known fault → EndsAt (Whatif question change) form limits known (Err fault) old old
+      go None cause = tt
+      go (Some input) cause = cause_ends (Whatif question change) form limits input fault old (inl cause) before
+
+  pub asked_explain : (question : Question) (m : Machine) (fault : AskFault) → IsBenchAt limits known m → RefusesQuestion m (question_of question) fault →
+      EndsAt (Explain question) form limits known (Err (fault_of_ask fault)) old old
+  asked_explain question m fault is refused = go known is
+    where
+      cause : (input : List ℕ) (fault : AskFault) → IsBenchOf limits input m → RefusesQuestion m (question_of question) fault →
+          Ends (Explain question) form limits input (Err (fault_of_ask fault)) old old
+      cause input asks.OutOfMemory is refused = (inl ((λ e. tt), (λ e. tt)), keeps_same old)
+      cause input asks.NoSuchNode is refused = (inr (m, is, refused), keeps_same old)
+      cause input asks.NoWord is refused = (inr (m, is, refused), keeps_same old)
+
+      go : (known : Option (List ℕ)) → IsBenchAt limits known m → EndsAt (Explain question) form limits known (Err (fault_of_ask fault)) old old
+      go None is = tt
+      go (Some input) is = cause input fault is refused
+
+  pub asked_whatif : (question : Question) (change : Option ℕ) (m : Machine) (fault : WhatifFault) → IsBenchAt limits known m → RefusesWhatif m question change fault →
+      EndsAt (Whatif question change) form limits known (Err (fault_of_whatif fault)) old old
+  asked_whatif question change m fault is refused = go known is
+    where
+      cause : (input : List ℕ) (fault : WhatifFault) → IsBenchOf limits input m → RefusesWhatif m question change fault →
+          Ends (Whatif question change) form limits input (Err (fault_of_whatif fault)) old old
+      cause input whatifs.OutOfMemory is refused = (inl ((λ e. tt), (λ e. tt)), keeps_same old)
+      cause input whatifs.NoSuchNode is refused = (inr (m, is, refused), keeps_same old)
+      cause input whatifs.NoWord is refused = (inr (m, is, refused), keeps_same old)
+      cause input (whatifs.NoSuchChange changes) is refused = (inr (m, is, refused), keeps_same old)
+
+      go : (known : Option (List ℕ)) → IsBenchAt limits known m → EndsAt (Whatif question change) form limits known (Err (fault_of_whatif fault)) old old
+      go None is = tt
+      go (Some input) is = cause input fault is refused
 
 -- at a prompt
 

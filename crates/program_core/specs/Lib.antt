@@ -1,3 +1,4 @@
 pub mod Races
 pub mod Explored
 pub mod Program
+pub mod Whatifs

@@ -1,6 +1,7 @@
 -- What the program prints, and how it ends.
-use Rattle.std.specs.Prelude.{◌≡◌, ◌≢◌, ◌⊎◌, ℕ, ◌+◌, ◌<◌, List, [], ◌∷◌, ◌++◌, length, take, ⊤, Option, None, Some, Result, Ok, Err, OnOk, IfErr, IfOk, IsOkAnd}
+use Rattle.std.specs.Prelude.{◌≡◌, ◌≢◌, ◌⊎◌, ℕ, ◌+◌, ◌<◌, ◌==◌, Bool, true, false, if◌then◌else◌, List, [], ◌∷◌, ◌++◌, length, take, ⊤, Option, None, Some, Result, Ok, Err, OnOk, IfErr, IfOk, IsOkAnd}
 use Rattle.std.specs.Io.KnownBytes.{Appends, IsAtEnd, Keeps}
+use Rattle.json.specs.Word.{is_space}
 use Rattle.serde_json.specs.Written.{compact_text}
 use Rattle.bench_core.specs.Limits.{Limits}
 use Rattle.bench_core.specs.Machine.{Machine}
@@ -26,17 +27,19 @@ use Rattle.clap.specs.declared.error.kind.ErrorKind.{ErrorKind}
 use Rattle.clap.specs.declared.error.kind.ErrorKind.TheVariants as refusals
 use Rattle.command_line.specs.Line.{Chooses, IsRefusal}
 use Rattle.worker_core.specs.declared.race_fault.RaceFault.{RaceFault}
+use Rattle.whatif_report.specs.declared.whatif_fault.WhatifFault.TheVariants as whatifs
 use Rattle.worker_core.specs.declared.race_fault.RaceFault.TheVariants as races
 use Rattle.program_core.specs.Explored.{TellsOrders, RefusesOrders, reading_of}
 use Rattle.prompt_core.specs.Ends.{EndsEarly, printed}
 use Rattle.prompt_core.specs.declared.prompt_fault.PromptFault.TheVariants as prompts
 use Rattle.command_line.specs.Help.{language}
 use Rattle.program_core.specs.Races.{IsRaceOf, RefusesRaceOf}
+use Rattle.program_core.specs.Whatifs.{RefusesWhatif, TellsWhatif}
 use Rattle.command_line.specs.declared.chosen.Choice.{Choice}
 use Rattle.command_line.specs.declared.chosen.Form.{Form}
 use Rattle.command_line.specs.declared.chosen.Form.TheVariants.{Report, Session}
 use Rattle.command_line.specs.declared.chosen.Subcommand.{Subcommand}
-use Rattle.command_line.specs.declared.chosen.Subcommand.TheVariants.{Play, Race, Load, Explore, Step, Draw, Explain}
+use Rattle.command_line.specs.declared.chosen.Subcommand.TheVariants.{Play, Race, Load, Explore, Step, Draw, Explain, Whatif}
 use Rattle.program_core.specs.declared.fault.Fault.{Fault}
 use Rattle.program_core.specs.declared.fault.Fault.TheVariants as faults
 
@@ -54,6 +57,10 @@ fault_status (faults.NoSuchOutcome outcomes) = 1
 fault_status (faults.Explain asks.NoSuchNode) = 1
 fault_status (faults.Explain asks.NoWord) = 1
 fault_status (faults.Explain asks.OutOfMemory) = 4
+fault_status (faults.Whatif whatifs.NoSuchNode) = 1
+fault_status (faults.Whatif whatifs.NoWord) = 1
+fault_status (faults.Whatif (whatifs.NoSuchChange changes)) = 1
+fault_status (faults.Whatif whatifs.OutOfMemory) = 4
 fault_status (faults.Prompt prompts.TooLong) = 1
 fault_status (faults.Prompt prompts.ReadFault) = 3
 fault_status (faults.Prompt prompts.WriteFault) = 3
@@ -110,14 +117,43 @@ RefusesSession input faults.ReadFault = ⊤
 RefusesSession input faults.OutOfMemory = ⊤
 RefusesSession input fault = ⊥
 
+-- a script or a session
+
+-- the bytes are to be a session: the first that isn't JSON's space is `{`
+unfoldable pub begins_session : List ℕ → Bool
+begins_session [] = false
+begins_session (byte ∷ bytes) = if is_space byte then begins_session bytes else byte == 123
+
+-- the input is to be a session; no more is looked at of it than a session may have, and a byte
+unfoldable pub is_for_session : List ℕ → Bool
+is_for_session input = begins_session (take 67108865 input)
+
+-- the input gives this bench: that of the session, or that on which the script was played
+abbrev pub IsBenchBy : Bool → Limits → List ℕ → Machine → Type 0
+IsBenchBy true limits input bench = IsSession input bench
+IsBenchBy false limits input bench = IsOkAnd (script_of input) (λ s. bench ≡ played limits s)
+
+abbrev pub IsBenchOf : Limits → List ℕ → Machine → Type 0
+IsBenchOf limits input bench = IsBenchBy (is_for_session input) limits input bench
+
+-- the input gives no bench: where it is to be a session, no session is read of it, and else no script
+abbrev pub RefusesBench : List ℕ → Fault → Type 0
+RefusesBench input fault =
+    (is_for_session input ≡ true → RefusesSession input fault) × (is_for_session input ≡ false → RefusesScript input fault)
+
 -- the question that was chosen
 abbrev pub question_of : Chosen → Question
 question_of chosen = record { node = chosen.node; topic = chosen.topic; key = chosen.key }
 
--- nothing is explained of a session's bench
-abbrev pub RefusesAsked : Chosen → List ℕ → Fault → Type 0
-RefusesAsked question input (faults.Explain fault) = (m : Machine) × IsSession input m × RefusesQuestion m (question_of question) fault
-RefusesAsked question input fault = ⊥
+-- nothing is explained of the bench that the input gives
+abbrev pub RefusesAsked : Limits → Chosen → List ℕ → Fault → Type 0
+RefusesAsked limits question input (faults.Explain fault) = (m : Machine) × IsBenchOf limits input m × RefusesQuestion m (question_of question) fault
+RefusesAsked limits question input fault = ⊥
+
+-- of that bench it isn't told what would have made a difference
+abbrev pub RefusesChanges : Limits → Chosen → Option ℕ → List ℕ → Fault → Type 0
+RefusesChanges limits question change input (faults.Whatif fault) = (m : Machine) × IsBenchOf limits input m × RefusesWhatif m question change fault
+RefusesChanges limits question change input fault = ⊥
 
 -- what refuses the input of this command: of a race also that a line is no act line, or that the race can't be had; of all orders
 -- that a line is no act line, that there are too many states, or that there is no such outcome; and of what is asked that nothing is explained
@@ -127,8 +163,9 @@ IsCauseOf Play limits input fault = RefusesScript input fault
 IsCauseOf Load limits input fault = RefusesSession input fault
 IsCauseOf (Explore reading states outcome) limits input fault = RefusesScript input fault ⊎ IsOkAnd (script_of input) (λ s. RefusesOrders (reading_of reading) states outcome limits s fault)
 IsCauseOf Step limits input fault = ⊥
-IsCauseOf (Draw why) limits input fault = RefusesSession input fault
-IsCauseOf (Explain question) limits input fault = RefusesSession input fault ⊎ RefusesAsked question input fault
+IsCauseOf (Draw why) limits input fault = RefusesBench input fault
+IsCauseOf (Explain question) limits input fault = RefusesBench input fault ⊎ RefusesAsked limits question input fault
+IsCauseOf (Whatif question change) limits input fault = RefusesBench input fault ⊎ RefusesChanges limits question change input fault
 
 -- the same, where the reader's bytes are known
 
@@ -140,6 +177,14 @@ abbrev pub RefusesSessionAt : Option (List ℕ) → Fault → Type 0
 RefusesSessionAt None fault = ⊤
 RefusesSessionAt (Some input) fault = RefusesSession input fault
 
+abbrev pub IsBenchAt : Limits → Option (List ℕ) → Machine → Type 0
+IsBenchAt limits None bench = ⊤
+IsBenchAt limits (Some input) bench = IsBenchOf limits input bench
+
+abbrev pub RefusesBenchAt : Option (List ℕ) → Fault → Type 0
+RefusesBenchAt None fault = ⊤
+RefusesBenchAt (Some input) fault = RefusesBench input fault
+
 -- what is shown of a bench that has this report
 abbrev pub shown : Form → List ℕ → Machine → List ℕ
 shown Report report bench = report
@@ -149,8 +194,8 @@ shown Session report bench = session_text bench
 abbrev pub drawn : Option ℕ → Machine → List ℕ
 drawn why bench = text_of (picture bench (painted_of bench.state why))
 
--- the text is what the subcommand prints of the input: of a script's bench, of a session's, of all orders of a script's lines, or at
--- a prompt; there too it is the report of a script without faults
+-- the text is what the subcommand prints of the input: of a script's bench, of a session's, of either's, of all orders of a script's
+-- lines, or at a prompt; there too it is the report of a script without faults
 abbrev pub Prints : Subcommand → Form → Limits → List ℕ → List ℕ → Type 0
 Prints Play form limits input text = IsOkAnd (script_of input) (λ s. text ≡ shown form (report_of limits s) (played limits s))
 Prints Race form limits input text = IsOkAnd (script_of input) (λ s. (m : Machine) × IsRaceOf limits s m × (text ≡ shown form (history_text m) m))
@@ -158,8 +203,9 @@ Prints Load form limits input text = (m : Machine) × IsSession input m × (text
 Prints (Explore reading states outcome) form limits input text = IsOkAnd (script_of input) (λ s. TellsOrders (reading_of reading) outcome limits s text)
 Prints Step form limits input text =
     (text ≡ printed language limits input) × IfOk (script_of input) (λ s. text ≡ report_of limits s)
-Prints (Draw why) form limits input text = (m : Machine) × IsSession input m × (text ≡ drawn why m)
-Prints (Explain question) form limits input text = (m : Machine) × IsSession input m × IsAnswer m (question_of question) text
+Prints (Draw why) form limits input text = (m : Machine) × IsBenchOf limits input m × (text ≡ drawn why m)
+Prints (Explain question) form limits input text = (m : Machine) × IsBenchOf limits input m × IsAnswer m (question_of question) text
+Prints (Whatif question change) form limits input text = (m : Machine) × IsBenchOf limits input m × TellsWhatif m question change text
 
 -- all of the text went out, or, where the writing failed, its first `written` bytes
 abbrev pub EndsAsText : List ℕ → Result (Unit {0}) Fault → Option (List ℕ) → Option (List ℕ) → Type 0
@@ -176,6 +222,7 @@ HasPrompt (Explore reading states outcome) = ⊥
 HasPrompt Step = ⊤
 HasPrompt (Draw why) = ⊥
 HasPrompt (Explain question) = ⊥
+HasPrompt (Whatif question change) = ⊥
 
 -- what went out, by the answer: what is printed of the input; its first bytes, where a write failed; and else nothing, and the
 -- fault is the input's
@@ -207,6 +254,7 @@ EndsSoon Load limits result input left old new = ⊤
 EndsSoon (Explore reading states outcome) limits result input left old new = ⊤
 EndsSoon (Draw why) limits result input left old new = ⊤
 EndsSoon (Explain question) limits result input left old new = ⊤
+EndsSoon (Whatif question change) limits result input left old new = ⊤
 
 -- it is no fault of a write, nor of a prompt
 abbrev pub IsUnwritten : Fault → Type 0
@@ -220,6 +268,7 @@ TellsMemory (faults.Script fault) = fault.kind ≢ kinds.OutOfMemory
 TellsMemory (faults.Session fault) = fault ≢ sessions.OutOfMemory
 TellsMemory (faults.Race fault) = fault ≢ races.OutOfMemory
 TellsMemory (faults.Explain fault) = fault ≢ asks.OutOfMemory
+TellsMemory (faults.Whatif fault) = fault ≢ whatifs.OutOfMemory
 TellsMemory _ = ⊤
 
 -- a call of `read` failed exactly where a read fault is answered, and then one alone: it wasn't tried again

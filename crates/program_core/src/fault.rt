@@ -7,6 +7,7 @@ use prompt_core::PromptFault;
 use script_core::{PlayFault, ScriptFault};
 use session_core::SessionFault;
 use thiserror::Error;
+use whatif_report::WhatifFault;
 use worker_core::RaceFault;
 
 /// Why the program ends early. Printed, it is what the line on standard error tells.
@@ -33,6 +34,9 @@ pub enum Fault {
     /// Why nothing is explained. Want of memory is never in it.
     #[error("explain: {0}")]
     Explain(AskFault),
+    /// Why it isn't told what would have made a difference. Want of memory is never in it.
+    #[error("whatif: {0}")]
+    Whatif(WhatifFault),
     /// A prompt ended early, after what it had answered.
     #[error("{0}")]
     Prompt(PromptFault),
@@ -57,12 +61,15 @@ impl Fault {
             Fault::Race(RaceFault::UnknownActor | RaceFault::NoRoom) => 1,
             Fault::TooManyStates { .. } | Fault::NoSuchOutcome { .. } => 1,
             Fault::Explain(AskFault::NoSuchNode | AskFault::NoWord) => 1,
+            Fault::Whatif(WhatifFault::NoSuchNode | WhatifFault::NoWord) => 1,
+            Fault::Whatif(WhatifFault::NoSuchChange { .. }) => 1,
             Fault::Prompt(PromptFault::TooLong) => 1,
             Fault::Prompt(PromptFault::ReadFault | PromptFault::WriteFault) => 3,
             Fault::Prompt(PromptFault::OutOfMemory) => 4,
             Fault::ReadFault | Fault::WriteFault { .. } => 3,
             Fault::Race(RaceFault::OutOfMemory) | Fault::OutOfMemory => 4,
             Fault::Explain(AskFault::OutOfMemory) => 4,
+            Fault::Whatif(WhatifFault::OutOfMemory) => 4,
             Fault::Race(RaceFault::WorkerRefused | RaceFault::LogsDisagree) => 5,
         }
     }
@@ -94,6 +101,22 @@ impl From<AskFault> for Fault {
         match fault {
             AskFault::OutOfMemory => Fault::OutOfMemory,
             AskFault::NoSuchNode | AskFault::NoWord => Fault::Explain(fault),
+        }
+    }
+}
+
+impl From<WhatifFault> for Fault {
+    ghost use Rattle.std.specs.Prelude.{◌≡◌};
+    ghost use Rattle.program_core.specs.Whatifs.{fault_of_whatif};
+
+    ghost from_gives = { λ fault given. given ≡ fault_of_whatif fault };
+
+    fn from(fault: WhatifFault) -> Fault {
+        match fault {
+            WhatifFault::OutOfMemory => Fault::OutOfMemory,
+            WhatifFault::NoSuchNode
+            | WhatifFault::NoWord
+            | WhatifFault::NoSuchChange { changes: _ } => Fault::Whatif(fault),
         }
     }
 }

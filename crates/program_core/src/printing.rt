@@ -8,9 +8,11 @@ ghost use Rattle.program_core.specs.Program.{EndsAt, EndsAsText, EndsSoon, Fails
 
 use crate::exploring::{explore_script, reading_of};
 use crate::fault::Fault;
+use crate::inputs::read_bench;
 use crate::racing::race_script;
 use crate::stepping::step_script;
 use crate::texts::{read_script, read_session, session_line, tell_session};
+use crate::whatifs::tell_whatif;
 use bench_core::Limits;
 use command_line::{Choice, Form, Reading, Subcommand};
 use explain_core::{Question, explain_asked};
@@ -208,8 +210,8 @@ fn explore_orders<B: Allocator, R: Read, W: Write, L: Ledger>(
     print(writer, &text)
 }
 
-/// A picture of a session, once it was played again.
-fn draw_session<B: Allocator, R: Read, W: Write, L: Ledger>(
+/// A picture of the bench that the input gives.
+fn draw_bench<B: Allocator, R: Read, W: Write, L: Ledger>(
     heap: Global,
     alloc: &B,
     reader: &mut R,
@@ -225,7 +227,7 @@ fn draw_session<B: Allocator, R: Read, W: Write, L: Ledger>(
     ensures memory { IfErr result TellsMemory }
     ensures failed { FailsAs result steps.old steps.new }
 {
-    let bench = read_session(heap, alloc, reader, steps)?;
+    let bench = read_bench(heap, alloc, reader, limits, steps)?;
     let picture = draw(alloc, &bench, why);
     drop(bench);
     let Ok(text) = picture else {
@@ -245,8 +247,8 @@ fn question_of<'w>(chosen: command_line::Question<'w>) -> Question<'w>
     }
 }
 
-/// Why presences of a session are online at a node, once it was played again.
-fn explain_session<B: Allocator, R: Read, W: Write, L: Ledger>(
+/// Why presences are online at a node of the bench that the input gives, and why not.
+fn explain_bench<B: Allocator, R: Read, W: Write, L: Ledger>(
     heap: Global,
     alloc: &B,
     reader: &mut R,
@@ -262,8 +264,36 @@ fn explain_session<B: Allocator, R: Read, W: Write, L: Ledger>(
     ensures memory { IfErr result TellsMemory }
     ensures failed { FailsAs result steps.old steps.new }
 {
-    let bench = read_session(heap, alloc, reader, steps)?;
+    let bench = read_bench(heap, alloc, reader, limits, steps)?;
     let told = explain_asked(alloc, &bench, question_of(question));
+    drop(bench);
+    let text = match told {
+        Ok(text) => text,
+        Err(fault) => return Err(Fault::from(fault)),
+    };
+    print(writer, text.as_bytes())
+}
+
+/// What would have made a difference to presences at a node of the bench that the input gives, or the run with one change.
+fn tell_changes<B: Allocator, R: Read, W: Write, L: Ledger>(
+    heap: Global,
+    alloc: &B,
+    reader: &mut R,
+    writer: &mut W,
+    limits: Limits,
+    form: Form,
+    question: command_line::Question<'_>,
+    change: Option<u64>,
+    steps: &mut Steps<L>,
+) -> Result<(), Fault>
+    ensures ends { EndsAt (subcommands.Whatif question.entry change) form limits (R.remaining reader.old) result (W.contents writer.old) (W.contents writer.new) }
+    ensures read { OnOk result (IsAtEnd (R.remaining reader.new)) }
+    ensures unwritten { IfErr result (λ fault. KeepsBefore fault (W.contents writer.old) (W.contents writer.new)) }
+    ensures memory { IfErr result TellsMemory }
+    ensures failed { FailsAs result steps.old steps.new }
+{
+    let bench = read_bench(heap, alloc, reader, limits, steps)?;
+    let told = tell_whatif(alloc, &bench, question, change);
     drop(bench);
     let text = match told {
         Ok(text) => text,
@@ -316,11 +346,14 @@ pub fn answer<B: Allocator + Sync, T: Threads + Wait + Sync, R: Read, W: Write, 
         ) => explore_orders(
             alloc, reader, writer, limits, reading, states, outcome, steps,
         ),
-        (Subcommand::Draw { why }, form) => draw_session(
+        (Subcommand::Draw { why }, form) => draw_bench(
             heap, alloc, reader, writer, limits, form, why, steps,
         ),
-        (Subcommand::Explain(question), form) => explain_session(
+        (Subcommand::Explain(question), form) => explain_bench(
             heap, alloc, reader, writer, limits, form, question, steps,
+        ),
+        (Subcommand::Whatif { question, change }, form) => tell_changes(
+            heap, alloc, reader, writer, limits, form, question, change, steps,
         ),
     }
 }

@@ -21,7 +21,7 @@ use std::sync::ledger::Ledger;
 const LONGEST_SCRIPT: usize = 1_048_576;
 
 /// The most bytes of a session.
-const LONGEST_SESSION: usize = 67_108_864;
+pub const LONGEST_SESSION: usize = 67_108_864;
 
 /// The script that the input spells.
 pub fn read_script<'a, B: Allocator, R: Read, L: Ledger>(

@@ -7,7 +7,7 @@ use Rattle.run_core.specs.Prompts.{Prompt, answered, taken}
 use Rattle.grammar_core.specs.Words.{is_text, words_of}
 use Rattle.grammar_core.specs.declared.fault.FaultKind.{FaultKind}
 use Rattle.grammar_core.specs.declared.fault.FaultKind.TheVariants.{NotText, OutOfMemory, TooLong}
-use Rattle.prompt_core.specs.Answers.{explained, explained_at, is_unknown}
+use Rattle.prompt_core.specs.Answers.{changes, changes_at, explained, explained_at, is_unknown}
 
 of_line : (reading : Reading) (line : List ℕ) (long text : Bool) (kind : FaultKind) → is_text line ≡ text →
     (if long then Err TooLong else (if not text then Err NotText else with_words reading 0 (words_of line))) ≡ Err kind → is_unknown kind ≡ true →
@@ -44,3 +44,15 @@ three_words number machine m (a ∷ []) d is least below = absurd (omega arith)
 three_words number machine m (a ∷ b ∷ []) d is least below = absurd (omega arith)
 three_words number machine m (a ∷ b ∷ e ∷ []) d is least below = ap (λ (o : Option Machine). explained number o (a.now ∷ b.now ∷ e.now ∷ [])) is
 three_words number machine m (a ∷ b ∷ e ∷ f ∷ words) d is least below = absurd (omega arith)
+
+-- or for what would have made a difference there
+pub three_changes : (number : ℕ) (machine : Option Machine) (m : Machine) (words : List (Bor (List ℕ))) (d : Bor (List ℕ)) → Some m ≡ machine →
+    3 ≤ length words → length words < 4 →
+    changes_at number m (number_in m.names (slice_index_or words 0 d).now) (slice_index_or words 1 d).now (slice_index_or words 2 d).now
+    ≡ changes number machine (map (λ word. word.now) words)
+unfolding changes
+three_changes number machine m [] d is least below = absurd (omega arith)
+three_changes number machine m (a ∷ []) d is least below = absurd (omega arith)
+three_changes number machine m (a ∷ b ∷ []) d is least below = absurd (omega arith)
+three_changes number machine m (a ∷ b ∷ e ∷ []) d is least below = ap (λ (o : Option Machine). changes number o (a.now ∷ b.now ∷ e.now ∷ [])) is
+three_changes number machine m (a ∷ b ∷ e ∷ f ∷ words) d is least below = absurd (omega arith)

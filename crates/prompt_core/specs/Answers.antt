@@ -12,6 +12,7 @@ use Rattle.grammar_core.specs.declared.fault.FaultKind.TheVariants.{NotText, Too
 use Rattle.grammar_core.specs.declared.fault.FaultKind.TheVariants.{BadName, OutOfMemory}
 use Rattle.session_core.specs.Format.{session}
 use Rattle.explain_core.specs.Explanations.{explanation}
+use Rattle.whatif_report.specs.Texts.{whatif_text}
 
 unfoldable pub kind_name : FaultKind → List ℕ
 kind_name NotText = codes "NotText"
@@ -45,11 +46,24 @@ explained number None words = fault_line number NoNodes
 explained number (Some m) (node ∷ topic ∷ key ∷ []) = explained_at number m (number_in m.names node) topic key
 explained number (Some m) words = fault_line number WrongCount
 
+-- what would have made a difference at a node, or what is wrong with its name and the two texts
+abbrev pub changes_at : ℕ → Machine → Option ℕ → List ℕ → List ℕ → List ℕ
+changes_at number m None topic key = fault_line number BadName
+changes_at number m (Some node) topic key =
+    if is_word topic && is_word key then whatif_text m (record { node = node; topic = topic; key = key }) else fault_line number TooLong
+
+-- what the words behind `:whatif` ask for, once the nodes are named
+unfoldable pub changes : ℕ → Option Machine → Texts → List ℕ
+changes number None words = fault_line number NoNodes
+changes number (Some m) (node ∷ topic ∷ key ∷ []) = changes_at number m (number_in m.names node) topic key
+changes number (Some m) words = fault_line number WrongCount
+
 -- the answer to the words of a line of which a script doesn't know the first
 unfoldable pub worded : ℕ → Option Machine → Texts → List ℕ
 worded number machine [] = fault_line number UnknownWord
 worded number machine (first ∷ words) =
-    if bytes_eq first (codes ":explain") then explained number machine words else fault_line number UnknownWord
+    if bytes_eq first (codes ":explain") then explained number machine words
+    else (if bytes_eq first (codes ":whatif") then changes number machine words else fault_line number UnknownWord)
 
 abbrev pub is_unknown : FaultKind → Bool
 is_unknown UnknownWord = true

@@ -1,7 +1,7 @@
 //! A bench at a prompt: lines are answered one by one, as they are read.
 //!
 //! Stands on `run_core`, which reads and does a line, `session_core`, which saves a bench, `explain_core`, which explains who
-//! is online, and `stream_core`, which reads line by line. In the order to read them: `prompt_fault`, why a prompt ends early;
+//! is online, `whatif_report`, which tells what would have made a difference, and `stream_core`, which reads line by line. In the order to read them: `prompt_fault`, why a prompt ends early;
 //! `own`, the answers that a script doesn't have; `answering`, the answer to a line; `stepping`, from a reader to a writer.
 //! `laws` says that what is printed of a script without faults is its report.
 #![tactic(auto)]

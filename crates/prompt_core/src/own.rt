@@ -2,7 +2,7 @@
 ghost use Rattle.std.specs.Prelude.{◌≡◌, ◌++◌, OnOk, map, true};
 ghost use Rattle.bench_core.specs.NameList.{number_in};
 ghost use Rattle.grammar_core.specs.Words.{is_text};
-ghost use Rattle.prompt_core.specs.Answers.{explained, explained_at, fault_line, faulty, is_unknown, kind_name, own_answer, saved, worded};
+ghost use Rattle.prompt_core.specs.Answers.{changes, changes_at, explained, explained_at, fault_line, faulty, is_unknown, kind_name, own_answer, saved, worded};
 
 use bench_core::Bench;
 use explain_core::{AskFault, Question, explain_asked};
@@ -11,6 +11,7 @@ use payload_core::Oom;
 use run_core::Prompt;
 use session_core::save;
 use std::alloc::{Allocator, Global};
+use whatif_report::{WhatifFault, whatif_asked};
 
 #[tactic(auto, unfolding(crate::specs::Answers::kind_name))]
 fn kind_name(kind: FaultKind) -> &'static str
@@ -109,6 +110,47 @@ fn put_explained<'a, B: Allocator>(
     put_explanation(bench, alloc, answer, number, question)
 }
 
+/// What would have made a difference, or what is wrong with the question.
+fn put_whatif<'a, B: Allocator>(
+    bench: &Bench<'a, B>,
+    alloc: &'a B,
+    answer: &mut Vec<u8, &'a B>,
+    number: u64,
+    question: whatif_report::Question<'_>,
+) -> Result<(), Oom>
+    ensures { OnOk result (answer.new.items ≡ answer.old.items ++
+        changes_at number bench.now (number_in bench.now.names question.entry.node.now) question.entry.topic.now question.entry.key.now) }
+{
+    match whatif_asked(alloc, bench, question) {
+        Ok(text) => put_text(answer, text.as_str()),
+        Err(WhatifFault::NoSuchNode) => put_fault(alloc, answer, number, FaultKind::BadName),
+        Err(WhatifFault::NoWord) => put_fault(alloc, answer, number, FaultKind::TooLong),
+        Err(WhatifFault::NoSuchChange { changes: _ }) => unreachable!(),
+        Err(WhatifFault::OutOfMemory) => Err(Oom),
+    }
+}
+
+/// What the words behind `:whatif` ask for, once the nodes are named.
+#[tactic(auto, unfolding(crate::specs::Answers::changes))]
+fn put_changes<'a, B: Allocator>(
+    prompt: &Prompt<'a, B>,
+    alloc: &'a B,
+    answer: &mut Vec<u8, &'a B>,
+    number: u64,
+    words: &[&str],
+) -> Result<(), Oom>
+    ensures { OnOk result (answer.new.items ≡ answer.old.items ++ changes number prompt.now.machine (map (λ word. word.now) words.now)) }
+{
+    let Some(bench) = prompt.bench() else {
+        return put_fault(alloc, answer, number, FaultKind::NoNodes);
+    };
+    let [node, topic, key] = words else {
+        return put_fault(alloc, answer, number, FaultKind::WrongCount);
+    };
+    let question = whatif_report::Question { node, topic, key };
+    put_whatif(bench, alloc, answer, number, question)
+}
+
 /// The answer to the words of a line of which a script doesn't know the first.
 #[tactic(auto, unfolding(crate::specs::Answers::worded))]
 fn put_worded<'a, B: Allocator>(
@@ -123,10 +165,13 @@ fn put_worded<'a, B: Allocator>(
     let [first, rest @ ..] = words else {
         return put_fault(alloc, answer, number, FaultKind::UnknownWord);
     };
-    if *first != ":explain" {
-        return put_fault(alloc, answer, number, FaultKind::UnknownWord);
+    if *first == ":explain" {
+        return put_explained(prompt, alloc, answer, number, rest);
     }
-    put_explained(prompt, alloc, answer, number, rest)
+    if *first == ":whatif" {
+        return put_changes(prompt, alloc, answer, number, rest);
+    }
+    put_fault(alloc, answer, number, FaultKind::UnknownWord)
 }
 
 fn is_unknown(kind: FaultKind) -> bool

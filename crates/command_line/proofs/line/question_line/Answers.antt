@@ -1,7 +1,7 @@
 use Rattle.std.proofs.Common.{◌||◌, ◌∙◌, Bool, ap₂}
 use Rattle.std.proofs.lemmas.Result.{IfOk-weaker}
 use Rattle.clap.specs.Words.{with_rule}
-use Rattle.command_line.proofs.line.explain_line.Goals as goal
+use Rattle.command_line.proofs.line.question_line.Goals as goal
 
 pub returns-clause-app : goal.returns-clause-app
 returns-clause-app c =

@@ -1,0 +1,170 @@
+-- What a front of an input tells of the whole: the bench that it gives, or the fault.
+use Rattle.std.proofs.Common.{◌≡◌, ℕ, ◌<◌, ◌≤◌, ◌==◌, nat_lt, Bool, true, false, if◌then◌else◌, List, [], ◌∷◌, length, take, Option, Some, None, Result, Ok, Err, IfErr, IfOk, IsOkAnd, OnOk, ap, refl, sym, subst, ◌∙◌, arith}
+use Rattle.std.proofs.lemmas.Bool.Decides.{nat_tests}
+use Rattle.std.proofs.lemmas.List.{length-take, take_all}
+use Rattle.json.specs.Word.{is_space}
+use Rattle.bench_core.specs.Limits.{Limits}
+use Rattle.bench_core.specs.Machine.{Machine}
+use Rattle.grammar_core.specs.Grammar.{script_of}
+use Rattle.grammar_core.specs.Scripts.{Script}
+use Rattle.grammar_core.specs.declared.fault.FaultKind.TheVariants.{TooLong}
+use Rattle.grammar_core.specs.declared.fault.ScriptFault.{ScriptFault}
+use Rattle.run_core.specs.Report.{played}
+use Rattle.session_core.specs.Sessions.{IsSession}
+use Rattle.stream_core.specs.Inputs.{IsFront}
+use Rattle.program_core.specs.declared.fault.Fault.{Fault}
+use Rattle.program_core.specs.declared.fault.Fault.TheVariants as faults
+use Rattle.program_core.specs.Program.{IsBenchAt, IsBenchBy, RefusesBenchAt, RefusesScript, RefusesSession, begins_session, is_for_session}
+
+-- whether bytes are to be a session, by the first
+
+pub begins_here : (byte : ℕ) (bytes : List ℕ) → is_space byte ≡ false → begins_session (byte ∷ bytes) ≡ (byte == 123)
+unfolding begins_session
+begins_here byte bytes other = ap (λ (space : Bool). if space then begins_session bytes else byte == 123) other
+
+pub begins_later : (byte : ℕ) (bytes : List ℕ) → is_space byte ≡ true → begins_session (byte ∷ bytes) ≡ begins_session bytes
+unfolding begins_session
+begins_later byte bytes space = ap (λ (space : Bool). if space then begins_session bytes else byte == 123) space
+
+pub begins_never : begins_session [] ≡ false
+unfolding begins_session
+begins_never = refl
+
+-- what a front is to be, the whole is to be
+for_whole : (input bytes : List ℕ) (b : Bool) → bytes ≡ take 67108865 input → begins_session bytes ≡ b → is_for_session input ≡ b
+unfolding is_for_session
+for_whole input bytes b front begins = ap begins_session (sym front) ∙ begins
+
+-- a front that a session may have is the whole
+whole : (input bytes : List ℕ) → bytes ≡ take 67108865 input → length bytes ≤ 67108864 → bytes ≡ input
+whole input bytes front few =
+    let cut = length-take 67108865 input in
+    front ∙ take_all 67108865 input (omega (arith, few, ap length front, cut))
+
+longer : (input bytes : List ℕ) → bytes ≡ take 67108865 input → 67108864 < length bytes → 67108864 < length input
+longer input bytes front more = omega (arith, more, ap length front, length-take 67108865 input)
+
+-- a front spells the script that the whole does, since both have the same fault where they are too long
+
+long_script : (bytes : List ℕ) → 1048576 < length bytes → script_of bytes ≡ Err (record { line = 0; kind = TooLong })
+unfolding script_of
+long_script bytes long = grind (arith, nat_tests)
+
+same_script : (input : List ℕ) → script_of (take 67108865 input) ≡ script_of input
+same_script input = go (nat_lt 67108865 (length input)) refl
+  where
+    go : (b : Bool) → nat_lt 67108865 (length input) ≡ b → script_of (take 67108865 input) ≡ script_of input
+    go true is =
+        let long : 67108865 < length input = grind (arith, nat_tests) in
+        long_script (take 67108865 input) (omega (arith, long, length-take 67108865 input)) ∙ sym (long_script input (omega (arith, long)))
+    go false is =
+        let few : length input ≤ 67108865 = grind (arith, nat_tests) in
+        ap script_of (take_all 67108865 input few)
+
+short_script : (bytes : List ℕ) (P : Script → Type 0) → IsOkAnd (script_of bytes) P → length bytes ≤ 1048576
+short_script bytes P spelt = go (nat_lt 1048576 (length bytes)) refl
+  where
+    go : (b : Bool) → nat_lt 1048576 (length bytes) ≡ b → length bytes ≤ 1048576
+    go true is =
+        let long : 1048576 < length bytes = grind (arith, nat_tests) in
+        absurd (subst (λ r. IsOkAnd r P) (long_script bytes long) spelt)
+    go false is = grind (arith, nat_tests)
+
+-- what is told of a front that is to be a session, or a script
+module _ (limits : Limits) (bytes : List ℕ) where
+  pub gives_session : (known : Option (List ℕ)) (m : Machine) → IsFront known 67108865 bytes → begins_session bytes ≡ true → length bytes ≤ 67108864 →
+      IsSession bytes m → IsBenchAt limits known m
+  gives_session None m front begins few is = tt
+  gives_session (Some input) m front begins few is =
+      let for_session : is_for_session input ≡ true = for_whole input bytes true front begins in
+      subst (λ b. IsBenchBy b limits input m) (sym for_session) (subst (λ (xs : List ℕ). IsSession xs m) (whole input bytes front few) is)
+
+  pub gives_played : (known : Option (List ℕ)) (m : Machine) → IsFront known 67108865 bytes → begins_session bytes ≡ false →
+      IsOkAnd (script_of bytes) (λ s. m ≡ played limits s) → IsBenchAt limits known m
+  gives_played None m front begins is = tt
+  gives_played (Some input) m front begins is =
+      let for_session : is_for_session input ≡ false = for_whole input bytes false front begins in
+      subst (λ b. IsBenchBy b limits input m) (sym for_session)
+      (subst (λ (r : Result Script ScriptFault). IsOkAnd r (λ s. m ≡ played limits s)) (ap script_of front ∙ same_script input) is)
+
+refuses_whole : (input bytes : List ℕ) (fault : Fault) → bytes ≡ take 67108865 input → (67108864 < length bytes → fault ≡ faults.LongSession) →
+    RefusesSession bytes fault → RefusesSession input fault
+refuses_whole input bytes fault front long refuses = go (nat_lt 67108864 (length bytes)) refl
+  where
+    go : (b : Bool) → nat_lt 67108864 (length bytes) ≡ b → RefusesSession input fault
+    go true is =
+        let more : 67108864 < length bytes = grind (arith, nat_tests) in
+        subst (RefusesSession input) (sym (long more)) (longer input bytes front more)
+    go false is =
+        let few : length bytes ≤ 67108864 = grind (arith, nat_tests) in
+        subst (λ (xs : List ℕ). RefusesSession xs fault) (whole input bytes front few) refuses
+
+refuses_same : (input bytes : List ℕ) (fault : Fault) → script_of bytes ≡ script_of input → RefusesScript bytes fault → RefusesScript input fault
+refuses_same input bytes (faults.Script fault) same refuses = sym same ∙ refuses
+refuses_same input bytes faults.ReadFault same refuses = tt
+refuses_same input bytes faults.OutOfMemory same refuses = tt
+refuses_same input bytes (faults.Session fault) same refuses = elim refuses [ ]
+refuses_same input bytes faults.LongSession same refuses = elim refuses [ ]
+refuses_same input bytes (faults.Race fault) same refuses = elim refuses [ ]
+refuses_same input bytes (faults.TooManyStates most) same refuses = elim refuses [ ]
+refuses_same input bytes (faults.NoSuchOutcome outcomes) same refuses = elim refuses [ ]
+refuses_same input bytes (faults.Explain fault) same refuses = elim refuses [ ]
+refuses_same input bytes (faults.Whatif fault) same refuses = elim refuses [ ]
+refuses_same input bytes (faults.Prompt fault) same refuses = elim refuses [ ]
+refuses_same input bytes (faults.WriteFault written) same refuses = elim refuses [ ]
+
+module _ (bytes : List ℕ) (fault : Fault) where
+  pub refuses_session : (known : Option (List ℕ)) → IsFront known 67108865 bytes → begins_session bytes ≡ true →
+      (67108864 < length bytes → fault ≡ faults.LongSession) → RefusesSession bytes fault → RefusesBenchAt known fault
+  refuses_session None front begins long refuses = tt
+  refuses_session (Some input) front begins long refuses =
+      let for_session : is_for_session input ≡ true = for_whole input bytes true front begins in
+      (λ _. refuses_whole input bytes fault front long refuses, λ no. absurd (cc (for_session, no)))
+
+  pub refuses_script : (known : Option (List ℕ)) → IsFront known 67108865 bytes → begins_session bytes ≡ false → RefusesScript bytes fault →
+      RefusesBenchAt known fault
+  refuses_script None front begins refuses = tt
+  refuses_script (Some input) front begins refuses =
+      let for_session : is_for_session input ≡ false = for_whole input bytes false front begins in
+      (λ no. absurd (cc (for_session, no)), λ _. refuses_same input bytes fault (ap script_of front ∙ same_script input) refuses)
+
+-- the same of what is answered
+
+pub session_gives : (limits : Limits) (bytes : List ℕ) (known : Option (List ℕ)) (r : Result Machine Fault) → IsFront known 67108865 bytes →
+    begins_session bytes ≡ true → (67108864 < length bytes → r ≡ Err faults.LongSession) → IfOk r (IsSession bytes) → IfOk r (IsBenchAt limits known)
+session_gives limits bytes known (Err fault) front begins long is = tt
+session_gives limits bytes known (Ok m) front begins long is =
+    gives_session limits bytes known m front begins (go (nat_lt 67108864 (length bytes)) refl) is
+  where
+    go : (b : Bool) → nat_lt 67108864 (length bytes) ≡ b → length bytes ≤ 67108864
+    go true more =
+        let past : 67108864 < length bytes = grind (arith, nat_tests) in
+        absurd (cc (long past))
+    go false few = grind (arith, nat_tests)
+
+pub session_refuses : (bytes : List ℕ) (known : Option (List ℕ)) (r : Result Machine Fault) → IsFront known 67108865 bytes →
+    begins_session bytes ≡ true → (67108864 < length bytes → r ≡ Err faults.LongSession) → IfErr r (RefusesSession bytes) → IfErr r (RefusesBenchAt known)
+session_refuses bytes known (Ok m) front begins long refuses = tt
+session_refuses bytes known (Err fault) front begins long refuses =
+    refuses_session bytes fault known front begins (λ past. cc (long past)) refuses
+
+abbrev IsPlayed : Limits → List ℕ → Machine → Type 0
+IsPlayed limits bytes m = IsOkAnd (script_of bytes) (λ s. m ≡ played limits s)
+
+pub script_gives : (limits : Limits) (bytes : List ℕ) (known : Option (List ℕ)) (r : Result Machine Fault) → IsFront known 67108865 bytes →
+    begins_session bytes ≡ false → IfOk r (IsPlayed limits bytes) → IfOk r (IsBenchAt limits known)
+script_gives limits bytes known (Err fault) front begins is = tt
+script_gives limits bytes known (Ok m) front begins is = gives_played limits bytes known m front begins is
+
+pub script_refuses : (bytes : List ℕ) (known : Option (List ℕ)) (r : Result Machine Fault) → IsFront known 67108865 bytes →
+    begins_session bytes ≡ false → IfErr r (RefusesScript bytes) → IfErr r (RefusesBenchAt known)
+script_refuses bytes known (Ok m) front begins refuses = tt
+script_refuses bytes known (Err fault) front begins refuses = refuses_script bytes fault known front begins refuses
+
+-- a script that was played was read to its end
+pub script_ends : (limits : Limits) (bytes : List ℕ) (r : Result Machine Fault) (E : Type 0) → IfOk r (IsPlayed limits bytes) →
+    (length bytes < 67108865 → E) → OnOk r E
+script_ends limits bytes (Err fault) E is end = tt
+script_ends limits bytes (Ok m) E is end =
+    let short = short_script bytes (λ s. m ≡ played limits s) is in
+    end (omega (arith, short))

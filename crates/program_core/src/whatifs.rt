@@ -1,0 +1,34 @@
+//! What would have made a difference on a bench.
+ghost use Rattle.std.specs.Prelude.{◌≡◌, IfErr, IfOk, string_bytes};
+ghost use Rattle.program_core.specs.Whatifs.{RefusesWhatif, TellsWhatif, question_of};
+
+use bench_core::Bench;
+use std::alloc::Allocator;
+use whatif_report::{Question, WhatifFault, run_with_change, whatif_asked};
+
+/// The question that was chosen.
+fn question_of<'w>(chosen: command_line::Question<'w>) -> Question<'w>
+    ensures { result ≡ question_of chosen.entry }
+{
+    Question {
+        node: chosen.node,
+        topic: chosen.topic,
+        key: chosen.key,
+    }
+}
+
+/// The changes that would have made a difference; where there is the number of one, the run with it, as a script.
+pub fn tell_whatif<'a, B: Allocator>(
+    alloc: &'a B,
+    bench: &Bench<'a, B>,
+    question: command_line::Question<'_>,
+    change: Option<u64>,
+) -> Result<String<&'a B>, WhatifFault>
+    ensures told { IfOk result (λ text. TellsWhatif bench.now question.entry change (string_bytes text)) }
+    ensures refused { IfErr result (RefusesWhatif bench.now question.entry change) }
+{
+    match change {
+        None => whatif_asked(alloc, bench, question_of(question)),
+        Some(number) => run_with_change(alloc, bench, question_of(question), number),
+    }
+}
