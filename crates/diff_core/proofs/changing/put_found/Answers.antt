@@ -1,3 +1,5 @@
+use Rattle.std.proofs.lemmas.Grind.{common_steps}
+use Rattle.std.proofs.Common.{arith}
 use Rattle.std.proofs.lemmas.Result.{on_ok_weaker}
 use Rattle.diff_core.proofs.Gathered.{none_put, some_put}
 use Rattle.diff_core.proofs.changing.put_found.Goals as goal
@@ -11,3 +13,9 @@ returns-in-Some g c =
 pub returns-in-None : goal.returns-in-None
 returns-in-None g c =
     none_put c.args.replica.now c.entries.result.now.map c.args.dot c.args.rows.now.items c.entries.ensures c.in-None.ensures
+
+pub entries-requires : goal.entries-requires
+entries-requires g c = grind (arith, common_steps)
+
+pub put_row-requires : goal.put_row-requires
+put_row-requires g c = search tt

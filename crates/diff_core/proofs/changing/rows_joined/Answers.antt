@@ -28,3 +28,6 @@ returns g c =
     let joined = joined_by (plain_change c.args.change.now) r in
     let end : length joined ≤ c.loop-place.place = omega (arith, c.joined_len-place-end.ensures r) in
     all_on r (λ (ds : List Dot). found_each ds r.store.entries) refl joined _ _ _ end c.loop-place.invariant
+
+pub put_found-requires : goal.put_found-requires
+put_found-requires g c = search tt

@@ -1,3 +1,4 @@
+use Rattle.std.proofs.lemmas.Grind.{common_steps}
 use Rattle.std.proofs.Common.{◌≡◌, ◌<◌, Some, None, get_or, true, subst, arith}
 use Rattle.std.specs.FinSet as set
 use Rattle.dots_core.specs.Clocks.{Clocks}
@@ -40,3 +41,12 @@ returns-clause-ok g t c =
     union_kept_at c.args.names c.args.name c.from-at.result c.args.parts.now c.args.others.now c.union_from-2.new.parts
     c.index-parts-at.result c.index-others-at.result
     c.requires.own c.requires.other c.from-at.ensures name on grown c.in_ok-union_from.ensures.ok
+
+pub offset_bounds-parts-at-in-Some : goal.offset_bounds-parts-at-in-Some
+offset_bounds-parts-at-in-Some g t c = grind (arith, common_steps)
+
+pub offset_bounds-parts-at : goal.offset_bounds-parts-at
+offset_bounds-parts-at g t c = grind (arith, common_steps)
+
+pub returns-then-name-eq32-clause-ok : goal.returns-then-name-eq32-clause-ok
+returns-then-name-eq32-clause-ok g t c = grind (arith, common_steps)

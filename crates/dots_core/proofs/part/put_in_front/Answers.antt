@@ -1,3 +1,4 @@
+use Rattle.std.proofs.lemmas.Grind.{common_steps, not_there}
 use Rattle.std.proofs.Common.{◌≡◌, suc, ◌+◌, ◌-◌, ◌++◌, [], ◌∷◌, ap, sym, ◌∙◌, arith, append_assoc}
 use Rattle.dots_core.specs.Absorbed.{numbers}
 use Rattle.dots_core.proofs.Clocks.{numbers_more}
@@ -17,3 +18,6 @@ loop-clock-preserved g c =
           (ap (λ z. numbers from done ++ z ∷ []) at ∙ numbers_more from done ∙ sym (ap (numbers from) more));
       room = omega arith;
     }
+
+pub returns-clause-ok : goal.returns-clause-ok
+returns-clause-ok g c = grind (arith, common_steps, not_there)

@@ -1,4 +1,5 @@
-use Rattle.std.proofs.Common.{sym, subst, ◌∙◌}
+use Rattle.std.proofs.lemmas.Grind.{common_steps}
+use Rattle.std.proofs.Common.{sym, subst, ◌∙◌, arith}
 use Rattle.dots_core.specs.Clocks.{Clocks}
 use Rattle.dots_core.specs.Contexts.{IsCloudOf}
 use Rattle.dots_core.specs.Parts.{dots_of_parts}
@@ -13,3 +14,6 @@ returns g c =
     (subst (λ s. IsCloudOf s c.args.name c.part.inside.cloud.items) c.self.view_is
     (subst (λ (p : Clocks). IsCloudOf (dots_of_parts ps) c.args.name p.cloud) (sym (c.part.view_is ∙ at))
     (cloud_of_at ps c.args.name c.self.invariant)))
+
+pub offset_bounds-self-inside-from : goal.offset_bounds-self-inside-from
+offset_bounds-self-inside-from g c = grind (arith, common_steps)

@@ -1,4 +1,5 @@
-use Rattle.std.proofs.Common.{ap, sym, subst, ◌∙◌}
+use Rattle.std.proofs.lemmas.Grind.{common_steps}
+use Rattle.std.proofs.Common.{ap, sym, subst, ◌∙◌, arith}
 use Rattle.dots_core.specs.Clocks.{Clocks, IsCanonical}
 use Rattle.dots_core.specs.Dots.{Dots}
 use Rattle.dots_core.specs.Contexts.{IsPartOf, with_part}
@@ -29,3 +30,6 @@ returns-clause-whole g c =
     ∙ ap (λ (p : Clocks). with_part c.args.name p c.args.self.now) c.replace.ensures.value
     ∙ read_is_with_part c.self.inside.parts c.from.result c.args.name c.index-self-from.result c.args.self.now c.self.invariant
     c.from.ensures c.requires c.self.view_is
+
+pub offset_bounds-self-inside-from : goal.offset_bounds-self-inside-from
+offset_bounds-self-inside-from g c = grind (arith, common_steps)

@@ -1,3 +1,4 @@
+use Rattle.std.proofs.lemmas.Grind.{common_steps}
 use Rattle.std.proofs.Common.{◌≤◌, sym, ◌∙◌, arith}
 use Rattle.std.specs.FinSet as set
 use Rattle.dots_core.proofs.FirstFrom.{first_at_name, none_at_name, passed_all, passed_unnamed}
@@ -25,3 +26,6 @@ loop-name-preserved g c = elim c.if-has.branch [
 pub returns : goal.returns
 returns g c = passed_all c.self.inside.parts (set.contains c.args.names) c.args.self.now c.args.dot c.loop-name.name c.self.invariant
     c.self.view_is (omega (arith, c.loop-name-test.false)) c.loop-name.invariant
+
+pub offset_bounds-self-inside-from : goal.offset_bounds-self-inside-from
+offset_bounds-self-inside-from g c = grind (arith, common_steps)

@@ -1,3 +1,5 @@
+use Rattle.std.proofs.lemmas.Grind.{common_steps}
+use Rattle.std.proofs.Common.{arith}
 use Rattle.dots_core.proofs.HasAll.{all_of_name}
 use Rattle.dots_core.proofs.dot_set.DotSet.has_all_of.Goals as goal
 
@@ -9,3 +11,9 @@ returns g c =
       λ e. same.0 (c.has_all_of.ensures.0 e),
       λ all. c.has_all_of.ensures.1 (same.1 all),
     )
+
+pub offset_bounds-other-inside-at : goal.offset_bounds-other-inside-at
+offset_bounds-other-inside-at g c = grind (arith, common_steps)
+
+pub offset_bounds-self-inside-at : goal.offset_bounds-self-inside-at
+offset_bounds-self-inside-at g c = grind (arith, common_steps)

@@ -1,4 +1,5 @@
-use Rattle.std.proofs.Common.{get_or, ◌+◌, sym, ◌≡◌, Bool, not, ap, ◌∙◌}
+use Rattle.std.proofs.lemmas.Grind.{common_steps}
+use Rattle.std.proofs.Common.{get_or, ◌+◌, sym, ◌≡◌, Bool, not, ap, ◌∙◌, arith}
 use Rattle.std.specs.FinSet as set
 use Rattle.std.proofs.lemmas.Result.{on_ok_weaker, IfOk-weaker}
 use Rattle.dots_core.specs.Clocks.{holds}
@@ -27,3 +28,9 @@ returns-clause-next g c = λ next.
     c.from.ensures c.requires.name c.self.view_is in
     let same = one_context c.args.self.now c.args.dot.name _ next.0 part.context next.2 in
     c.insert.ensures.next (next.1 ∙ ap (λ n. n + 1) (sym same))
+
+pub offset_bounds-self-inside-from : goal.offset_bounds-self-inside-from
+offset_bounds-self-inside-from g c = grind (arith, common_steps)
+
+pub returns-clause-err : goal.returns-clause-err
+returns-clause-err g c = grind (arith, common_steps)

@@ -1,3 +1,4 @@
+use Rattle.std.proofs.lemmas.Grind.{common_steps}
 use Rattle.std.proofs.Common.{◌<◌, refl, sym, ◌∙◌, arith, true≢false}
 use Rattle.dots_core.proofs.Parts.{empty_set, empty_part, read_part}
 use Rattle.dots_core.proofs.dot_set.DotSet.is_empty.Goals as goal
@@ -17,3 +18,9 @@ returns-then-not-is_empty g c = (
       ∙ empty_part c.self.inside.parts c.loop-name.name c.self.invariant (c.self.view_is ∙ e) in
       let is = c.is_empty.ensures.1 none in (cc is),
 )
+
+pub offset_bounds-self-inside-name : goal.offset_bounds-self-inside-name
+offset_bounds-self-inside-name g c = grind (arith, common_steps)
+
+pub loop-name-preserved : goal.loop-name-preserved
+loop-name-preserved g c = grind (arith, common_steps)

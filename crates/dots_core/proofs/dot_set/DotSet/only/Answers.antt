@@ -1,3 +1,4 @@
+use Rattle.std.proofs.lemmas.Grind.{common_steps}
 use Rattle.std.proofs.Common.{◌<◌, sym, ◌∙◌, arith}
 use Rattle.dots_core.proofs.Unions.{chosen_none, chosen_skip, chosen_set, chosen_all}
 use Rattle.dots_core.proofs.dot_set.DotSet.only.Goals as goal
@@ -24,3 +25,9 @@ pub returns : goal.returns
 returns g c =
     chosen_all c.self.inside.parts c.args.names c.loop-name.name c.loop-name.chosen-inside.parts c.args.self.now c.self.invariant
     c.loop-name-test.false c.self.view_is c.loop-name.invariant
+
+pub offset_bounds-chosen-inside-at : goal.offset_bounds-chosen-inside-at
+offset_bounds-chosen-inside-at g c = grind (arith, common_steps)
+
+pub offset_bounds-self-inside-at : goal.offset_bounds-self-inside-at
+offset_bounds-self-inside-at g c = grind (arith, common_steps)

@@ -1,4 +1,5 @@
-use Rattle.std.proofs.Common.{get_or, ◌≡◌, ap, sym, subst, ◌∙◌}
+use Rattle.std.proofs.lemmas.Grind.{common_steps}
+use Rattle.std.proofs.Common.{get_or, ◌≡◌, ap, sym, subst, ◌∙◌, arith}
 use Rattle.std.proofs.lemmas.Result.{IfOk-weaker}
 use Rattle.dots_core.specs.Clocks.{Clocks}
 use Rattle.dots_core.specs.Contexts.{IsPartOf, with_part}
@@ -19,3 +20,6 @@ returns-clause-whole g c =
     IfOk-weaker c.try_copy.result (λ (copy : Clocks). copy ≡ get_or c.self.inside.parts c.from.result c.index-self-from.result)
     (λ (copy : Clocks). with_part c.args.name copy c.args.self.now ≡ c.args.self.now)
     (λ copy e. ap (λ (p : Clocks). with_part c.args.name p c.args.self.now) e ∙ whole) c.try_copy.ensures
+
+pub offset_bounds-self-inside-from : goal.offset_bounds-self-inside-from
+offset_bounds-self-inside-from g c = grind (arith, common_steps)

@@ -1,4 +1,5 @@
-use Rattle.std.proofs.Common.{get_or, ◌≡◌, Bool, ◌∙◌}
+use Rattle.std.proofs.lemmas.Grind.{common_steps}
+use Rattle.std.proofs.Common.{get_or, ◌≡◌, Bool, ◌∙◌, arith}
 use Rattle.std.specs.FinSet as set
 use Rattle.std.proofs.lemmas.Result.{on_ok_weaker, IfOk-weaker}
 use Rattle.dots_core.specs.Clocks.{holds}
@@ -26,3 +27,9 @@ pub returns-clause-last : goal.returns-clause-last
 returns-clause-last g c = λ above. c.remove.ensures.last (λ j lt.
     held_at c.self.inside.parts c.from.result (dot c.args.dot.name j) c.index-self-from.result c.args.self.now c.self.invariant
     c.from.ensures c.requires.name c.self.view_is ∙ above j lt)
+
+pub offset_bounds-self-inside-from : goal.offset_bounds-self-inside-from
+offset_bounds-self-inside-from g c = grind (arith, common_steps)
+
+pub returns-clause-err : goal.returns-clause-err
+returns-clause-err g c = grind (arith, common_steps)

@@ -1,3 +1,4 @@
+use Rattle.std.proofs.lemmas.Grind.{common_steps, elements}
 use Rattle.std.proofs.Common.{◌<◌, refl, sym, ap, ◌∙◌, arith, true≢false}
 use Rattle.dots_core.specs.Parts.{dots_of_parts, part_at}
 use Rattle.dots_core.proofs.Parts.{agreeing_parts, same_parts, read_part}
@@ -20,3 +21,12 @@ returns-then-not-same g c = (
       let two = read_part c.other.inside.parts c.loop-name.name c.loop-name.name c.index-other-name.result c.other.invariant refl name in
       let is = c.same.ensures.1 (one ∙ ap (λ ps. part_at ps c.loop-name.name) parts ∙ sym two) in (cc is),
 )
+
+pub offset_bounds-other-inside-name : goal.offset_bounds-other-inside-name
+offset_bounds-other-inside-name g c = grind (arith, common_steps)
+
+pub offset_bounds-self-inside-name : goal.offset_bounds-self-inside-name
+offset_bounds-self-inside-name g c = grind (arith, common_steps)
+
+pub loop-name-preserved : goal.loop-name-preserved
+loop-name-preserved g c = grind (arith, elements)

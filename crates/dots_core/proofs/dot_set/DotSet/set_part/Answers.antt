@@ -1,4 +1,5 @@
-use Rattle.std.proofs.Common.{subst}
+use Rattle.std.proofs.lemmas.Grind.{common_steps}
+use Rattle.std.proofs.Common.{subst, arith}
 use Rattle.dots_core.specs.Clocks.{IsCanonical}
 use Rattle.dots_core.proofs.Parts.{parts_set, part_put, rest_put, set_is_with_part}
 use Rattle.dots_core.proofs.dot_set.DotSet.set_part.Goals as goal
@@ -19,3 +20,6 @@ returns-clause-rest g c =
 pub returns-clause-whole : goal.returns-clause-whole
 returns-clause-whole g c =
     set_is_with_part c.self.inside.parts c.from.result c.args.name c.args.part c.args.self.now c.self.invariant c.from.ensures c.requires c.self.view_is
+
+pub offset_bounds-self-inside-from : goal.offset_bounds-self-inside-from
+offset_bounds-self-inside-from g c = grind (arith, common_steps)

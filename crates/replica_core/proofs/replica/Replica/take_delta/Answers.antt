@@ -1,4 +1,4 @@
-use Rattle.std.proofs.Common.{rules, sym, ap, ◌∙◌, subst₂}
+use Rattle.std.proofs.Common.{rules, sym, ap, ◌∙◌, subst₂, arith}
 use Rattle.payload_core.specs.Messages.{store_message, AreSeen}
 use Rattle.payload_core.specs.Stores.{Store}
 use Rattle.replica_core.specs.Replicas.{delta_message}
@@ -37,3 +37,6 @@ returns-clause-taken g c = sent_is _ c.args.self.now c.replace.new.dest c.self.v
 
 pub into_parts-seen-requires : goal.into_parts-seen-requires
 into_parts-seen-requires g c = (store_fits g.row.A g.A.Allocator (search tt), seen_fits g.row.A g.A.Allocator (search tt))
+
+pub new-requires : goal.new-requires
+new-requires g c = grind arith
