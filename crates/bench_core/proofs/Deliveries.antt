@@ -25,16 +25,16 @@ use Rattle.bench_core.proofs.OneEntry.{Fine, read_from, fine_run}
 use Rattle.bench_core.proofs.Runs.{runs_append, runs_split, run_one}
 
 -- the parts of an accepted delivery
-record Delivered (c : Cluster) (n sender p : ℕ) (d : Cluster) : Type 0 where
-  from : Node
-  message : Message
-  at : slice_get c n ≡ Some from
-  named : list_all (λ k. nat_lt k (length c)) (sender ∷ []) ≡ true
-  there : message_for c (Deliver sender p) ≡ Some message
-  no_request : message.asked ≡ None
-  other : (sender == from.replica.own) ≡ false
-  fits : merge_refusal from.replica message ≡ None
-  gives : d ≡ set c n (with_replica from (merged message from.replica))
+pub record Delivered (c : Cluster) (n sender p : ℕ) (d : Cluster) : Type 0 where
+  pub from : Node
+  pub message : Message
+  pub at : slice_get c n ≡ Some from
+  pub named : list_all (λ k. nat_lt k (length c)) (sender ∷ []) ≡ true
+  pub there : message_for c (Deliver sender p) ≡ Some message
+  pub no_request : message.asked ≡ None
+  pub other : (sender == from.replica.own) ≡ false
+  pub fits : merge_refusal from.replica message ≡ None
+  pub gives : d ≡ set c n (with_replica from (merged message from.replica))
 
 -- the parts of an accepted step of its node
 record Accepted (own : Bool) (x : Node) (o : Option Message) (y : Node) : Type 0 where
@@ -59,7 +59,7 @@ accepted false x (Some m) y h = asking m.asked refl h
     asking None asks h = go asks (merge_refusal x.replica m) refl h
     asking (Some names) asks h = absurd (cc)
 
-delivered : (c : Cluster) (n sender p : ℕ) (d : Cluster) → step c n (Deliver sender p) ≡ Ok d → Delivered c n sender p d
+pub delivered : (c : Cluster) (n sender p : ℕ) (d : Cluster) → step c n (Deliver sender p) ≡ Ok d → Delivered c n sender p d
 delivered c n sender p d h =
     let s = stepped c n (Deliver sender p) d h in
     let a = accepted (sender == s.from.replica.own) s.from (message_for c (Deliver sender p)) s.to s.taken in
@@ -76,7 +76,7 @@ delivered c n sender p d h =
     }
 
 -- what a delivery of a message that is there gives
-deliver_gives : (c : Cluster) (n sender p : ℕ) (x : Node) (m : Message) (cause : Option ReplicaFault) → slice_get c n ≡ Some x →
+pub deliver_gives : (c : Cluster) (n sender p : ℕ) (x : Node) (m : Message) (cause : Option ReplicaFault) → slice_get c n ≡ Some x →
     list_all (λ k. nat_lt k (length c)) (sender ∷ []) ≡ true → message_for c (Deliver sender p) ≡ Some m →
     m.asked ≡ None → (sender == x.replica.own) ≡ false → merge_refusal x.replica m ≡ cause →
     step c n (Deliver sender p) ≡ with_node c n (of_node (unless cause (with_replica x (merged m x.replica))))
@@ -91,7 +91,7 @@ same_message : (c : Cluster) (n : ℕ) (x : Node) (r : Replica) (sender p : ℕ)
     message_for (set c n (with_replica x r)) (Deliver sender p) ≡ message_for c (Deliver sender p)
 same_message c n x r sender p at = message-set c n x (with_replica x r) (Deliver sender p) at (λ e. refl)
 
-still_named : (c : Cluster) (n : ℕ) (x : Node) (ks : List ℕ) → list_all (λ k. nat_lt k (length c)) ks ≡ true →
+pub still_named : (c : Cluster) (n : ℕ) (x : Node) (ks : List ℕ) → list_all (λ k. nat_lt k (length c)) ks ≡ true →
     list_all (λ k. nat_lt k (length (set c n x))) ks ≡ true
 still_named c n x ks h = ap (λ m. list_all (λ k. nat_lt k m) ks) (length-set c n x) ∙ h
 
@@ -112,10 +112,10 @@ repeat_holds c d n sender p h =
 -- two deliveries in the other order
 
 -- why a replica of these limits can't be so
-abbrev refusal_of : NodeLimits → Replica → Option ReplicaFault
+abbrev pub refusal_of : NodeLimits → Replica → Option ReplicaFault
 refusal_of l s = first_of ((nat_lt l.entries (fin.len s.store.entries), replica_faults.EntriesFull) ∷ [])
 
-room_cases : (l : NodeLimits) (s : Replica) → (refusal_of l s ≡ None) ⊎ (refusal_of l s ≡ Some replica_faults.EntriesFull)
+pub room_cases : (l : NodeLimits) (s : Replica) → (refusal_of l s ≡ None) ⊎ (refusal_of l s ≡ Some replica_faults.EntriesFull)
 room_cases l s = go (nat_lt l.entries (fin.len s.store.entries))
   where
     go : (t : Bool) → (first_of ((t, replica_faults.EntriesFull) ∷ []) ≡ None) ⊎

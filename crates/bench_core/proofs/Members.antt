@@ -13,8 +13,8 @@ use Rattle.node_core.specs.Invariant.{IsNode}
 use Rattle.node_core.specs.Inverses.{Inverse, LeadsBack, LeadsSomewhere, GivesBack}
 use Rattle.bench_core.specs.declared.fault.Fault.TheVariants.{UnknownNode}
 use Rattle.bench_core.specs.Clusters.{Cluster, opening_of, step, node_step, with_node, of_node, message_for}
-use Rattle.bench_core.specs.Benches.{AreNodes, IsCluster, LeadsNodeBack, NodeGoesBack, Steps}
-use Rattle.bench_core.proofs.Clusters.{get-set_same, get-set_other, set-get, step_takes}
+use Rattle.bench_core.specs.Benches.{AreNodes, IsCluster, IsTaken, LeadsClusterBack, LeadsNodeBack, NodeGoesBack, Steps}
+use Rattle.bench_core.proofs.Clusters.{get-set_same, get-set_other, set-get, set-set_same, step_takes}
 use Rattle.bench_core.proofs.Taken.{owns}
 use Rattle.bench_core.proofs.Runs.{opening_at}
 use Rattle.bench_core.proofs.Openings.{opening_kept, opening_length}
@@ -94,6 +94,16 @@ pub step_taken : {X : Type 0} (c d : Cluster) (n : ℕ) (s : Operation) (r : Res
     list_all (λ k. nat_lt k (length c)) (named_in s) ≡ true → Steps c n s r d → OnOk r (step c n s ≡ Ok d)
 step_taken c d n s (Ok i) named t = step_takes c n s t.earlier (Ok t.later) t.at named t.taken ∙ ap Ok (sym t.gives)
 step_taken c d n s (Err e) named t = tt
+
+-- the inverse of a step that was taken leads the cluster back
+pub leads_cluster_back : (c d : Cluster) (n : ℕ) (s : Operation) (i : Inverse) → IsTaken c n s i d → LeadsClusterBack d n i c
+leads_cluster_back c d n s i t = record {
+  earlier = t.earlier;
+  later = t.later;
+  at = ap (λ (d : Cluster). slice_get d n) t.gives ∙ get-set_same c n t.earlier t.later t.at;
+  leads = t.leads;
+  gives = sym (ap (λ (d : Cluster). set d n t.earlier) t.gives ∙ set-set_same c n t.later t.earlier ∙ set-get c n t.earlier t.at);
+}
 
 -- a step of a node that isn't there, or that names one
 pub unknown_node : (c : Cluster) (n : ℕ) (s : Operation) → (nat_lt n (length c) && list_all (λ k. nat_lt k (length c)) (named_in s)) ≡ false →

@@ -23,7 +23,7 @@ use Rattle.journal_core.specs.Journals.{Kept}
 use Rattle.journal_core.proofs.Numbered.{get-append_at, numbered_push_other}
 use Rattle.bench_core.specs.Clusters.{Cluster, outbox_of, message_at, message_for, opening_of, step}
 use Rattle.bench_core.specs.Runs.{then_runs, runs}
-use Rattle.bench_core.specs.Laws.{OneEntryLaw, Stands, AtNode, InDelta, IsSent}
+use Rattle.bench_core.specs.Laws.{presence_made, OneEntryLaw, Stands, AtNode, InDelta, IsSent}
 use Rattle.bench_core.proofs.Clusters.{get-set_same, get-set_other, stepped}
 use Rattle.bench_core.proofs.Runs.{run_one, opening_at}
 use Rattle.bench_core.proofs.Taken.{unless_ok, unless_full_ok, broadcast_ok, deliver_ok, extract_of, answer_ok}
@@ -37,11 +37,10 @@ pub record IsFrom (r : Replica) (k : Message) : Type 0 where
   pub seen : AreSeen k.seen k.entries
   pub stand : (d : Dot) (p : Presence) → fin.get k.entries d ≡ Some p → fin.get r.store.entries d ≡ Some p
 
--- the replica is changed so, and what was sent is in it
-record Changed (x : Node) (m : Option Message) (y : Node) : Type 0 where
-  new : Option Presence
-  change : Change x.replica m new y.replica
-  sent : (i : ℕ) (k : Message) → numbered y.outbox i ≡ Some k → (numbered x.outbox i ≡ Some k) ⊎ IsFrom y.replica k
+-- the replica is changed so by this step, and what was sent is in it
+pub record Changed (s : Operation) (x : Node) (m : Option Message) (y : Node) : Type 0 where
+  pub change : Change x.replica m (presence_made s) y.replica
+  pub sent : (i : ℕ) (k : Message) → numbered y.outbox i ≡ Some k → (numbered x.outbox i ≡ Some k) ⊎ IsFrom y.replica k
 
 any_message : (r s : Replica) (m : Option Message) (new : Option Presence) → Change r None new s → Change r m new s
 any_message r s m new c = record { own = c.own; sound = c.sound; keeps = c.keeps; comes = λ d p h. go d p (c.comes d p h); made = c.made }
@@ -51,11 +50,11 @@ any_message r s m new c = record { own = c.own; sound = c.sound; keeps = c.keeps
     go d p (inr (inl e)) = absurd e
     go d p (inr (inr e)) = inr (inr e)
 
-by_replica : (x : Node) (r : Replica) (m : Option Message) (new : Option Presence) (y : Node) → y ≡ with_replica x r → Change x.replica m new r → Changed x m y
-by_replica x r m new y is c = subst (Changed x m) (sym is) (record { new = new; change = c; sent = λ i k e. inl e })
+by_replica : (s : Operation) (x : Node) (r : Replica) (m : Option Message) (y : Node) → y ≡ with_replica x r → Change x.replica m (presence_made s) r → Changed s x m y
+by_replica s x r m y is c = subst (Changed s x m) (sym is) (record { change = c; sent = λ i k e. inl e })
 
-alone : (x : Node) (r : Replica) (m : Option Message) (new : Option Presence) (y : Node) → y ≡ with_replica x r → Change x.replica None new r → Changed x m y
-alone x r m new y is c = by_replica x r m new y is (any_message x.replica r m new c)
+alone : (s : Operation) (x : Node) (r : Replica) (m : Option Message) (y : Node) → y ≡ with_replica x r → Change x.replica None (presence_made s) r → Changed s x m y
+alone s x r m y is c = by_replica s x r m y is (any_message x.replica r m (presence_made s) c)
 
 pushed_cases : (xs : List Message) (k w : Message) (i : ℕ) → numbered (xs ++ k ∷ []) i ≡ Some w → (numbered xs i ≡ Some w) ⊎ (w ≡ k)
 pushed_cases xs k w i h = go (cases_eq i (suc (length xs)))
@@ -64,11 +63,10 @@ pushed_cases xs k w i h = go (cases_eq i (suc (length xs)))
     go (inl e) = let at : Some w ≡ Some k = sym h ∙ ap (numbered (xs ++ k ∷ [])) e ∙ get-append_at xs [] k in inr (cc)
     go (inr d) = inl (sym (numbered_push_other xs k i d) ∙ h)
 
-by_sending : (x : Node) (r : Replica) (k : Message) (m : Option Message) (y : Node) → y ≡ with_sent x k r → Change x.replica None None r →
-    IsFrom r k → Changed x m y
-by_sending x r k m y is c from = subst (Changed x m) (sym is) (record {
-  new = None;
-  change = any_message x.replica r m None c;
+by_sending : (s : Operation) → None ≡ presence_made s → (x : Node) (r : Replica) (k : Message) (m : Option Message) (y : Node) → y ≡ with_sent x k r →
+    Change x.replica None None r → IsFrom r k → Changed s x m y
+by_sending s none x r k m y is c from = subst (Changed s x m) (sym is) (record {
+  change = subst (λ new. Change x.replica m new r) none (any_message x.replica r m None c);
   sent = λ i w e. go i w (pushed_cases x.outbox k w i e);
 })
   where
@@ -76,7 +74,7 @@ by_sending x r k m y is c from = subst (Changed x m) (sym is) (record {
     go i w (inl e) = inl e
     go i w (inr e) = inr (subst (IsFrom r) (sym e) from)
 
-abbrev IfSeen : Option Message → Type 0
+abbrev pub IfSeen : Option Message → Type 0
 IfSeen None = Unit {0}
 IfSeen (Some m) = AreSeen m.seen m.entries
 
@@ -97,37 +95,37 @@ extract_from r named h = record {
 request_from : (r : Replica) → IsFrom r (request_of r)
 request_from r = record { seen = seen_none sets.empty; stand = λ d p e. absurd (no_entry d p e) }
 
-changed : (x : Node) (s : Operation) (m : Option Message) (y : Node) → IsSound x.replica → IfSeen m → take x s m ≡ Ok y → Changed x m y
+pub changed : (x : Node) (s : Operation) (m : Option Message) (y : Node) → IsSound x.replica → IfSeen m → take x s m ≡ Ok y → Changed s x m y
 changed x (Join p) m y h seen t =
-    alone x _ m (Some p) y (unless_ok (join_refusal x.replica p.pid p.topic p.key) _ y t) (change_joined x.replica p h)
+    alone (Join p) x _ m y (unless_ok (join_refusal x.replica p.pid p.topic p.key) _ y t) (change_joined x.replica p h)
 changed x (Leave pid topic key) m y h seen t =
-    alone x _ m None y (unless_ok (leave_refusal x.replica pid topic key) _ y t) (change_left_each x.replica (is_tracked_as pid topic key) h)
+    alone (Leave pid topic key) x _ m y (unless_ok (leave_refusal x.replica pid topic key) _ y t) (change_left_each x.replica (is_tracked_as pid topic key) h)
 changed x (LeaveAll pid) m y h seen t =
-    alone x _ m None y (unless_ok (leave_all_refusal x.replica pid) _ y t) (change_left_each x.replica (λ p. p.pid == pid) h)
+    alone (LeaveAll pid) x _ m y (unless_ok (leave_all_refusal x.replica pid) _ y t) (change_left_each x.replica (λ p. p.pid == pid) h)
 changed x (Update p) m y h seen t =
-    alone x _ m (Some p) y (unless_ok (leave_refusal x.replica p.pid p.topic p.key) _ y t)
+    alone (Update p) x _ m y (unless_ok (leave_refusal x.replica p.pid p.topic p.key) _ y t)
     (change_updated x.replica (is_tracked_as p.pid p.topic p.key) p h)
 changed x Broadcast m y h seen t =
-    by_sending x _ _ m y (broadcast_ok (has_dots x.replica.delta.seen) x y t) (change_sent x.replica h)
+    by_sending Broadcast refl x _ _ m y (broadcast_ok (has_dots x.replica.delta.seen) x y t) (change_sent x.replica h)
     (record { seen = h.delta_live; stand = h.delta_in })
 changed x (Extract names) m y h seen t =
-    by_sending x x.replica (extract_of x names) m y
+    by_sending (Extract names) refl x x.replica (extract_of x names) m y
     (unless_full_ok x _ y t) (change_nothing x.replica h) (extract_from x.replica (sets.contains names) h)
 changed x (Deliver sender number) m y h seen t =
     let d = deliver_ok (sender == x.replica.own) x m y t in
-    by_replica x (merged d.0 x.replica) m None y d.2 (subst (λ m. Change x.replica m None (merged d.0 x.replica)) (sym d.1)
+    by_replica (Deliver sender number) x (merged d.0 x.replica) m y d.2 (subst (λ m. Change x.replica m None (merged d.0 x.replica)) (sym d.1)
     (change_merged x.replica d.0 h (subst IfSeen d.1 seen)))
 changed x Request m y h seen t =
-    by_sending x x.replica (request_of x.replica) m y (unless_full_ok x _ y t) (change_nothing x.replica h) (request_from x.replica)
+    by_sending Request refl x x.replica (request_of x.replica) m y (unless_full_ok x _ y t) (change_nothing x.replica h) (request_from x.replica)
 changed x (Answer sender number) m y h seen t =
     let a = answer_ok (sender == x.replica.own) x m y t in
-    by_sending x x.replica (extract_of x a.2.0) m y a.2.1 (change_nothing x.replica h) (extract_from x.replica (sets.contains a.2.0) h)
+    by_sending (Answer sender number) refl x x.replica (extract_of x a.2.0) m y a.2.1 (change_nothing x.replica h) (extract_from x.replica (sets.contains a.2.0) h)
 changed x (Up name) m y h seen t =
-    alone x _ m None y (unless_ok (up_refusal x.replica name) _ y t) (change_status x.replica name statuses.Up h)
+    alone (Up name) x _ m y (unless_ok (up_refusal x.replica name) _ y t) (change_status x.replica name statuses.Up h)
 changed x (Down name) m y h seen t =
-    alone x _ m None y (unless_ok (down_refusal x.replica name) _ y t) (change_status x.replica name statuses.Down h)
+    alone (Down name) x _ m y (unless_ok (down_refusal x.replica name) _ y t) (change_status x.replica name statuses.Down h)
 changed x (Permdown name) m y h seen t =
-    alone x _ m None y (unless_ok (permdown_refusal x.replica name) _ y t)
+    alone (Permdown name) x _ m y (unless_ok (permdown_refusal x.replica name) _ y t)
     (change_forgotten x.replica name h (another_name (name == x.replica.own)
     ((not (is_known x.replica name), NotKnown) ∷ (is_online x.replica name, NotDown) ∷ []) (with_replica x (forgotten name x.replica)) y t))
 
@@ -138,7 +136,7 @@ pub record SoundAt (n : ℕ) (x : Node) : Type 0 where
   pub sound : IsSound x.replica
   pub messages : (i : ℕ) (k : Message) → numbered x.outbox i ≡ Some k → AreSeen k.seen k.entries
 
-abbrev HeldAt : Node → Dot → Presence → Type 0
+abbrev pub HeldAt : Node → Dot → Presence → Type 0
 HeldAt x d p = (fin.get x.replica.store.entries d ≡ Some p) ⊎ ((i : ℕ) × (k : Message) × (numbered x.outbox i ≡ Some k) × (fin.get k.entries d ≡ Some p))
 
 -- at a node or in a message
@@ -163,15 +161,15 @@ read_from c (Some (sender, p)) k h = go (slice_get c sender) p refl h
     go None (suc i) is h = absurd (cc)
     go (Some x) i is h = (sender, i, x, is, h)
 
-seen_read : (c : Cluster) (s : Operation) → Fine c → IfSeen (message_for c s)
+pub seen_read : (c : Cluster) (s : Operation) → Fine c → IfSeen (message_for c s)
 seen_read c s fine = go (message_for c s) refl
   where
     go : (m : Option Message) → message_for c s ≡ m → IfSeen m
     go None is = tt
     go (Some k) is = let r = read_from c (delivers s) k is in (fine.each r.0 r.2 r.3).messages r.1 k r.4
 
-module _ (c : Cluster) (n : ℕ) (s : Operation) (x y : Node) (at : slice_get c n ≡ Some x) (fine : Fine c) (ch : Changed x (message_for c s) y) where
-  abbrev after : Cluster
+module _ (c : Cluster) (n : ℕ) (s : Operation) (x y : Node) (at : slice_get c n ≡ Some x) (fine : Fine c) (ch : Changed s x (message_for c s) y) where
+  abbrev pub after : Cluster
   after = set c n y
 
   there : slice_get after n ≡ Some y
@@ -185,10 +183,10 @@ module _ (c : Cluster) (n : ℕ) (s : Operation) (x y : Node) (at : slice_get c 
       go (inl e) = let same : Some z ≡ Some y = sym h ∙ ap (slice_get after) e ∙ there in inl (e, cc)
       go (inr d) = inr (d, sym (get-set_other c n j y d) ∙ h)
 
-  abbrev IsNew : Dot → Presence → Type 0
-  IsNew d p = (d ≡ fresh x.replica) × (ch.new ≡ Some p)
+  abbrev pub IsNew : Dot → Presence → Type 0
+  IsNew d p = (d ≡ fresh x.replica) × (presence_made s ≡ Some p)
 
-  entry_before : (d : Dot) (p : Presence) → ComesFrom x.replica (message_for c s) ch.new d p → Held c d p ⊎ IsNew d p
+  entry_before : (d : Dot) (p : Presence) → ComesFrom x.replica (message_for c s) (presence_made s) d p → Held c d p ⊎ IsNew d p
   entry_before d p (inl e) = inl (n, x, at, inl e)
   entry_before d p (inr (inl e)) = inl (go (message_for c s) refl e)
     where
@@ -205,7 +203,7 @@ module _ (c : Cluster) (n : ℕ) (s : Operation) (x y : Node) (at : slice_get c 
       go (inl old) = inl (n, x, at, inr (e.0, e.1, old, e.3))
       go (inr from) = entry_before d p (ch.change.comes d p (from.stand d p e.3))
 
-  held_before : (d : Dot) (p : Presence) → Held after d p → Held c d p ⊎ IsNew d p
+  pub held_before : (d : Dot) (p : Presence) → Held after d p → Held c d p ⊎ IsNew d p
   held_before d p (j, z, is, h) = go (node_cases j z is)
     where
       go : ((j ≡ n) × (z ≡ y)) ⊎ ((j ≢ n) × (slice_get c j ≡ Some z)) → Held c d p ⊎ IsNew d p

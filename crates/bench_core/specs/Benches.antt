@@ -95,6 +95,14 @@ LeadsNodeBack c n i = (later : Node) × (slice_get c n ≡ Some later) × LeadsS
 abbrev pub NodeGoesBack : Cluster → ℕ → Inverse → Cluster → Type 0
 NodeGoesBack c n i d = (later earlier : Node) → slice_get c n ≡ Some later → LeadsBack i later earlier → d ≡ slice_set c n earlier
 
+-- the inverse leads node n of cluster d back to what it was in cluster c, where all other nodes were as they are
+pub record LeadsClusterBack (d : Cluster) (n : ℕ) (i : Inverse) (c : Cluster) : Type 0 where
+  pub earlier : Node
+  pub later : Node
+  pub at : slice_get d n ≡ Some later
+  pub leads : LeadsBack i later earlier
+  pub gives : c ≡ slice_set d n earlier
+
 -- step n, of this node, can be taken back: nothing follows from it, no inverse is lent, and its own leads back from the node
 pub record IsBackable (nodes : Cluster) (hs : List Held) (n node : ℕ) : Type 0 where
   pub free : first_consequence (kepts hs) n ≡ None

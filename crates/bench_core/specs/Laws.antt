@@ -1,5 +1,5 @@
 -- The laws of runs (Danos and Krivine: the loop, and the undo of a step whose consequences are gone).
-use Rattle.std.specs.Prelude.{◌≡◌, ◌≢◌, ◌↔◌, ℕ, List, [], ◌∷◌, ◌++◌, Some, None, Result, Ok, Err, slice_get, slice_set}
+use Rattle.std.specs.Prelude.{◌≡◌, ◌≢◌, ◌↔◌, ℕ, List, [], ◌∷◌, ◌++◌, Option, Some, None, Result, Ok, Err, slice_get, slice_set}
 use Rattle.std.specs.Option.{option_map, unwrap_or}
 use Rattle.std.specs.FinMap as fin
 use Rattle.dots_core.specs.declared.dot.Dot.{Dot}
@@ -7,7 +7,7 @@ use Rattle.payload_core.specs.Presences.{Presence}
 use Rattle.payload_core.specs.Messages.{Message, numbered}
 use Rattle.node_core.specs.declared.step_fault.StepFault.{StepFault}
 use Rattle.replica_core.specs.declared.node_limits.NodeLimits.{NodeLimits}
-use Rattle.node_core.specs.Operations.{Operation, Deliver}
+use Rattle.node_core.specs.Operations.{Operation, Join, Update, Deliver}
 use Rattle.node_core.specs.Nodes.{Node, opening_node, take}
 use Rattle.bench_core.specs.declared.fault.Fault.TheVariants.{EntriesFull}
 use Rattle.bench_core.specs.Clusters.{Cluster, opening_of, message_for, step}
@@ -65,6 +65,12 @@ SwapLaw = (l : NodeLimits) (count : ℕ) (ks js : List Kept) → AreEquivalent k
 -- swaps by place lead to an equivalent journal
 abbrev pub PlacesLaw : Type 0
 PlacesLaw = (ks js other : List Kept) (places : List ℕ) → all_swapped ks places ≡ Ok js → unnumbered js ≡ unnumbered other → AreEquivalent ks other
+
+-- the presence of the entry that a step makes
+abbrev pub presence_made : Operation → Option Presence
+presence_made (Join presence) = Some presence
+presence_made (Update presence) = Some presence
+presence_made _ = None
 
 -- an entry stands in a cluster at this dot: at a node, in its delta, or in a message that it sent
 pub data Stands (c : Cluster) (d : Dot) (p : Presence) : Type 0 where

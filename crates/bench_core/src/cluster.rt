@@ -1,5 +1,5 @@
 //! `Cluster`: the nodes of a cluster, which take steps and keep no history and no journal.
-ghost use Rattle.std.specs.Prelude.{◌≡◌, ◌≢◌, ◌<◌, ◌≤◌, ◌+◌, ◌&&◌, ◌++◌, ◌∷◌, [], Ok, Err, IfErr, IfOk, IsOk, IsTrue, OnOk, OnErr, length, true, nat_lt, option_map, slice_get};
+ghost use Rattle.std.specs.Prelude.{◌≡◌, ◌≢◌, ◌↔◌, ◌<◌, ◌≤◌, ◌+◌, ◌&&◌, ◌++◌, ◌∷◌, [], Ok, Err, IfErr, IfOk, IsOk, IsTrue, OnOk, OnErr, length, true, nat_lt, option_map, slice_get};
 ghost use Rattle.std.specs.List.{list_all};
 ghost use Rattle.replica_core.specs.Limits.{AreNodeLimits};
 ghost use Rattle.node_core.specs.Inverses.{plain_inverse, needs_no_memory};
@@ -8,7 +8,7 @@ ghost use Rattle.node_core.specs.Operations.{named_in, plain};
 ghost use Rattle.bench_core.specs.declared.fault.Fault.TheVariants.{OutOfMemory};
 ghost use Rattle.bench_core.specs.Among.{MayStep, StepsOnce};
 ghost use Rattle.bench_core.specs.Clusters.{opening_of, message_for, step as cluster_step};
-ghost use Rattle.bench_core.specs.Benches.{IsNumbered, LeadsNodeBack, NodeGoesBack, Steps};
+ghost use Rattle.bench_core.specs.Benches.{IsNumbered, LeadsClusterBack, LeadsNodeBack, NodeGoesBack, Steps};
 
 use crate::among::{Member, other, step_at};
 use crate::fault::Fault;
@@ -121,6 +121,21 @@ impl<'a, B: Allocator> Cluster<'a, B> {
         self.nodes.get(number as usize)
     }
 
+    /// Whether the two have the same nodes. It takes no memory.
+    pub fn same(&self, other: &Cluster<'a, B>) -> bool
+        ensures { IsTrue result ↔ (self.now ≡ other.now) }
+    {
+        if self.nodes.len() != other.nodes.len() {
+            return false;
+        }
+        for (number, node) in self.nodes.iter().enumerate() {
+            if !node.same(&other.nodes[number]) {
+                return false;
+            }
+        }
+        true
+    }
+
     /// What it takes its memory from.
     pub(crate) fn allocator(&self) -> &'a B {
         *self.nodes.allocator()
@@ -134,11 +149,12 @@ impl<'a, B: Allocator> Cluster<'a, B> {
         node < count && step.names_below(count)
     }
 
-    /// A step of this node. Its inverse leads the node back. `UnknownNode` where the node or one that the step names is none.
+    /// A step of this node. Its inverse leads the cluster back. `UnknownNode` where the node or one that the step names is none.
     pub fn step(&mut self, node: u16, step: &Step<&'a B>) -> Result<Inverse<&'a B>, Fault>
         ensures taken { OnOk result (cluster_step self.old node (plain step.now) ≡ Ok self.new) }
         ensures refused { IfErr result (λ fault. fault ≢ OutOfMemory → cluster_step self.old node (plain step.now) ≡ Err fault) }
         ensures unchanged { OnErr result (self.new ≡ self.old) }
+        ensures leads_back { IfOk result (λ inverse. LeadsClusterBack self.new node (plain_inverse inverse) self.old) }
     {
         if !self.knows(node, step) {
             return Err(Fault::UnknownNode);
@@ -165,7 +181,7 @@ impl<'a, B: Allocator> Cluster<'a, B> {
 
     /// This node as it was before its last step, which the inverse is of. Memory that is refused leaves all as it was, and
     /// gives the inverse back.
-    pub(crate) fn give_back(
+    pub fn give_back(
         &mut self,
         node: u16,
         inverse: Inverse<&'a B>,
