@@ -13,11 +13,11 @@ use Rattle.bench_core.proofs.Runs.{run_one, message_stays_at}
 use Rattle.order_core.proofs.Lists.{NoneOf}
 
 -- what was read of a node is there after the node sent more
-still_there : (b : Bool) (xs ys : List Message) (p : ℕ) (m : Message) → Posts b xs ys → numbered xs p ≡ Some m → numbered ys p ≡ numbered xs p
+pub still_there : (b : Bool) (xs ys : List Message) (p : ℕ) (m : Message) → Posts b xs ys → numbered xs p ≡ Some m → numbered ys p ≡ numbered xs p
 still_there true xs ys p m h at = ap (λ (l : List Message). numbered l p) h.1 ∙ numbered_append xs (h.0 ∷ []) p m at ∙ sym at
 still_there false xs ys p m h at = ap (λ (l : List Message). numbered l p) h
 
-reads_alike_after : (c : Cluster) (n : ℕ) (x y : Node) (o : Option (ℕ × ℕ)) (b : Bool) → slice_get c n ≡ Some x → Posts b x.outbox y.outbox →
+pub reads_alike_after : (c : Cluster) (n : ℕ) (x y : Node) (o : Option (ℕ × ℕ)) (b : Bool) → slice_get c n ≡ Some x → Posts b x.outbox y.outbox →
     WasRead o (message_at c o) → ReadAlike n y.outbox x.outbox o
 reads_alike_after c n x y None b at h read = tt
 reads_alike_after c n x y (Some m) b at h read = λ here.

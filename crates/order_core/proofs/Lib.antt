@@ -4,3 +4,5 @@ pub mod SameOwn
 pub mod Ordered
 pub mod Marks
 pub mod Stands
+pub mod Places
+pub mod AsTheyStand

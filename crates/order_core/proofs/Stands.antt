@@ -375,13 +375,13 @@ sent_one (Some s) p xs long =
     let low = l.1 in
     and_from (nat_lt 0 p) (nat_le p s.sent) (lt-ltb 0 p l.0) (le-leb p s.sent (omega (arith, low, long))))
 
-sent_there : (first : List Mark) (ss : List Stand) (o : Option (ℕ × ℕ)) → ((n : ℕ) → sent_at ss n ≡ length (sent_by of_mark first n)) →
+pub sent_there : (first : List Mark) (ss : List Stand) (o : Option (ℕ × ℕ)) → ((n : ℕ) → sent_at ss n ≡ length (sent_by of_mark first n)) →
     was_sent ss o ≡ is_there of_mark first o
 sent_there first ss None sent = refl
 sent_there first ss (Some m) sent = sent_one (slice_get ss m.0) m.1 (sent_by of_mark first m.0) (sent m.0)
 
 -- one more step sends
-sent_push : (first : List Mark) (m : Mark) (n : ℕ) →
+pub sent_push : (first : List Mark) (m : Mark) (n : ℕ) →
     length (sent_by of_mark (first ++ m ∷ []) n) ≡ length (sent_by of_mark first n) + cond ((m.node == n) && m.sends) 1 0
 sent_push first m n =
     ap length (filter-append (λ k. (k.node == n) && k.sends) first (m ∷ []))

@@ -1,7 +1,7 @@
-//! The order: at each turn the first step that can come next.
+//! The order: at each turn the first step that can come next. Where each message is sent before it comes, the steps come as they stand.
 //!
 //! Of each node it keeps its next step and how many messages it sent, and looks at these alone.
-ghost use Rattle.std.specs.Prelude.{◌≡◌, ◌<◌, ◌≤◌, ℕ, [], Some, IfOk, drop, length, option_map, slice_get};
+ghost use Rattle.std.specs.Prelude.{◌≡◌, ◌<◌, ◌≤◌, ℕ, [], Some, IfOk, drop, length, option_map, slice_get, true};
 ghost use Rattle.order_core.specs.declared.mark.Mark.{Mark as PlainMark};
 ghost use Rattle.order_core.specs.Marks.{order_of_marks};
 ghost use Rattle.order_core.specs.Stands.{first_of, is_ready, left, next_at, was_sent, AreStands, IsFirstReady};
@@ -45,6 +45,7 @@ fn place_from(marks: &[Mark], node: usize, from: usize) -> usize
 fn stands_of<A: Allocator>(alloc: A, marks: &[Mark]) -> Result<Vec<Stand, A>, Oom>
     ensures begins { IfOk result (λ stands. AreStands marks.now [] stands.items) }
     ensures all_left { IfOk result (λ stands. left (next_at marks.now stands.items) 0 marks.now ≡ marks.now) }
+    ensures known { IfOk result (λ stands. (i : ℕ) (m : PlainMark) → slice_get marks.now i ≡ Some m → m.node < length stands.items) }
 {
     let count = count_nodes(marks);
     let mut stands = Vec::with_capacity(alloc, count)?;
@@ -93,10 +94,32 @@ fn next_place(marks: &[Mark], stands: &[Stand]) -> usize
     least
 }
 
+/// Whether each message is sent before it comes where the steps come as they stand.
+fn is_behind<A: Allocator>(alloc: A, marks: &[Mark]) -> Result<bool, Oom>
+    ensures { IfOk result (λ behind. behind ≡ true → order_of_marks marks.now ≡ Some marks.now) }
+{
+    let mut stands = stands_of(alloc, marks)?;
+    for mark in marks {
+        if !was_sent(stands.as_slice(), mark.delivers) {
+            return Ok(false);
+        }
+        let node = mark.node as usize;
+        let stand = stands[node];
+        stands[node] = Stand {
+            next: stand.next,
+            sent: stand.sent + mark.sends as usize,
+        };
+    }
+    Ok(true)
+}
+
 /// An order of the steps, if they have one.
 pub fn order<A: Allocator + Copy>(alloc: A, marks: &[Mark]) -> Result<Option<Vec<Mark, A>>, Oom>
     ensures { IfOk result (λ found. option_map (λ v. v.items) found ≡ order_of_marks marks.now) }
 {
+    if is_behind(alloc, marks)? {
+        return Ok(Some(Vec::from_slice(alloc, marks)?));
+    }
     let mut stands = stands_of(alloc, marks)?;
     let mut order = Vec::with_capacity(alloc, marks.len())?;
     while order.len() < marks.len() {
