@@ -1,0 +1,8 @@
+use Rattle.network_core.proofs.Made.{made_holds, wanted_holds}
+use Rattle.network_core.proofs.laws.made_law.Goals as goal
+
+pub returns-clause-made : goal.returns-clause-made
+returns-clause-made c = made_holds
+
+pub returns-clause-wanted : goal.returns-clause-wanted
+returns-clause-wanted c = wanted_holds

@@ -1,0 +1,94 @@
+-- Which dots matter where in a run of the network, and when one beginning of it will do for another.
+use Rattle.std.specs.Prelude.{◌≡◌, ℕ, suc, ◌+◌, ◌<◌, ◌≤◌, Bool, true, false, List, [], ◌∷◌, ◌++◌, filter, length, Some, Ok}
+use Rattle.std.specs.List.{AllByRecursion}
+use Rattle.std.specs.FinSet as set
+use Rattle.dots_core.specs.declared.dot.Dot.{Dot}
+use Rattle.payload_core.specs.Messages.{Message}
+use Rattle.replica_core.specs.declared.node_limits.NodeLimits.{NodeLimits}
+use Rattle.node_core.specs.Operations.{Operation, Extract, Deliver, Answer, sends}
+use Rattle.journal_core.specs.Journals.{Kept}
+use Rattle.bench_core.specs.Clusters.{Cluster, message_at, step}
+use Rattle.bench_core.specs.Laws.{delivery}
+use Rattle.bench_core.specs.Runs.{runs}
+use Rattle.network_core.specs.Alike.{Cares, ClusterAlike, Follows}
+use Rattle.network_core.specs.EasySteps.{GoesOn}
+use Rattle.network_core.specs.NetworkRuns.{IsNetworkRun, HaveSame, deliveries, how_many, is_delivery, is_of_kind, ordered}
+use Rattle.network_core.specs.Room.{made}
+
+-- which dots matter: of each node's store, behind so many of its steps other than deliveries, and of each message, by sender and number
+pub record Cone : Type 0 where
+  pub at : ℕ → ℕ → Dot → Bool
+  pub of : ℕ → ℕ → Dot → Bool
+
+-- how many steps other than deliveries a node took
+abbrev pub position : List Kept → ℕ → ℕ
+position w n = length (ordered w n)
+
+-- what matters behind these steps
+abbrev pub cares : Cone → List Kept → Cares
+cares t w = record { at = λ n. t.at n (position w n); of = t.of }
+
+-- how many of the steps send
+abbrev pub sends_in : List Kept → ℕ
+sends_in ks = length (filter (λ k. sends k.step) ks)
+
+-- whether a step sends what its node has of a name
+abbrev pub says : Operation → ℕ → Bool
+says (Extract names) name = set.contains names name
+says (Answer sender number) name = true
+says _ name = false
+
+-- what matters came of what mattered before, whatever the network made of the recorded run
+pub record IsCone (j : List Kept) (t : Cone) : Type 0 where
+  -- what matters to a node mattered to it before
+  pub before : (n p : ℕ) (d : Dot) → t.at n (suc p) d ≡ true → t.at n p d ≡ true
+  -- what matters where a message is delivered matters of the message
+  pub read : AllByRecursion (λ (k : Kept). (sender number : ℕ) → k.step ≡ Deliver sender number → (d : Dot) → t.at k.node 0 d ≡ true → t.of sender number d ≡ true) j
+  -- what matters of a message matters to the node that sends it, where it sends what it has
+  pub sent : (n : ℕ) (first rest : List Kept) (k : Kept) → ordered j n ≡ first ++ k ∷ rest → (d : Dot) → t.of n (sends_in first + 1) d ≡ true →
+      says k.step d.name ≡ true → t.at n (length first) d ≡ true
+
+-- so what matters passes through all that can come
+abbrev pub ConeLaw : Type 0
+ConeLaw =
+    (l : NodeLimits) (count : ℕ) (j : List Kept) (lost again : ℕ) (t : Cone) (first rest : List Kept) (c : Cluster) → IsCone j t →
+    IsNetworkRun j lost again (first ++ rest) → runs l count first ≡ Ok c → Follows c (cares t first) rest (cares t (first ++ rest))
+
+-- beginnings after which the same is left to be done
+pub record LeaveSame (first other : List Kept) : Type 0 where
+  pub own : (n : ℕ) → ordered other n ≡ ordered first n
+  pub delivered : HaveSame (deliveries other) (deliveries first)
+
+-- a run of the network goes on so to a cluster like this, as far as what is asked at the end goes
+pub record GoesLike (l : NodeLimits) (count : ℕ) (j : List Kept) (lost again : ℕ) (t : Cone) (first : List Kept) (c : Cluster) : Type 0 where
+  pub end : Cluster
+  pub alike : ClusterAlike (cares t j) c end
+  pub goes : GoesOn l count j lost again first end
+
+-- one beginning will do for another where the same is left to be done and the clusters are alike as far as what matters goes
+abbrev pub StandsLaw : Type 0
+StandsLaw =
+    (l : NodeLimits) (count : ℕ) (j : List Kept) (lost again : ℕ) (t : Cone) (first other : List Kept) (old new c : Cluster) → IsCone j t → made j ≤ l.entries →
+    runs l count first ≡ Ok old → runs l count other ≡ Ok new → LeaveSame first other → ClusterAlike (cares t first) old new →
+    GoesOn l count j lost again first c → GoesLike l count j lost again t other c
+
+-- a delivery at this node of this message brings nothing that matters
+pub record IsIdle (t : Cares) (c : Cluster) (node sender number : ℕ) : Type 0 where
+  pub message : Message
+  pub there : message_at c (Some (sender, number)) ≡ Some message
+  pub nothing : (d : Dot) → t.at node d ≡ true → set.contains message.seen d ≡ false
+
+-- a delivery that is accepted, brings nothing that matters and did not come as often yet as was recorded can come first
+abbrev pub IdleLaw : Type 0
+IdleLaw =
+    (l : NodeLimits) (count : ℕ) (j : List Kept) (lost again : ℕ) (t : Cone) (first : List Kept) (i node sender number : ℕ) (old new c : Cluster) → IsCone j t →
+    made j ≤ l.entries → runs l count first ≡ Ok old → IsIdle (cares t first) old node sender number → step old node (Deliver sender number) ≡ Ok new →
+    how_many (is_of_kind node sender number) first < how_many (is_of_kind node sender number) j → GoesOn l count j lost again first c →
+    GoesLike l count j lost again t (first ++ delivery i node sender number ∷ []) c
+
+-- a step that its node takes next, at which nothing more is delivered, can come first where its message is there
+abbrev pub AloneLaw : Type 0
+AloneLaw =
+    (l : NodeLimits) (count : ℕ) (j : List Kept) (lost again node : ℕ) (first more : List Kept) (k : Kept) (old new c : Cluster) → runs l count first ≡ Ok old →
+    step old k.node k.step ≡ Ok new → (g : GoesOn l count j lost again first c) → ordered g.rest node ≡ k ∷ more →
+    AllByRecursion (λ (x : Kept). x.node ≡ node → is_delivery x.step ≡ false) g.rest → GoesOn l count j lost again (first ++ k ∷ []) c

@@ -1,0 +1,58 @@
+-- Steps that can come before all that needs not come first: a node's own ones, and ups of names that it knows.
+use Rattle.std.specs.Prelude.{◌≡◌, ◌≢◌, ◌⊎◌, ℕ, ◌≤◌, Bool, true, false, List, [], ◌∷◌, ◌++◌, slice_get, Some, Ok, Err}
+use Rattle.std.specs.List.{AllByRecursion}
+use Rattle.replica_core.specs.declared.node_limits.NodeLimits.{NodeLimits}
+use Rattle.replica_core.specs.Replicas.{is_known}
+use Rattle.node_core.specs.Operations.{Operation, Join, Leave, LeaveAll, Update, Broadcast, Request, Up, Down, Deliver}
+use Rattle.node_core.specs.Nodes.{Node}
+use Rattle.journal_core.specs.Journals.{Kept}
+use Rattle.bench_core.specs.declared.fault.Fault.TheVariants.{EntriesFull}
+use Rattle.bench_core.specs.Clusters.{Cluster}
+use Rattle.bench_core.specs.Runs.{runs}
+use Rattle.network_core.specs.NetworkRuns.{IsNetworkRun, ordered}
+use Rattle.network_core.specs.Room.{made}
+
+-- whether a step speaks of its node's own entries, its delta and the names that it knows, and of nothing else
+abbrev pub is_own : Operation → Bool
+is_own (Join presence) = true
+is_own (Leave pid topic key) = true
+is_own (LeaveAll pid) = true
+is_own (Update presence) = true
+is_own Broadcast = true
+is_own Request = true
+is_own (Down name) = true
+is_own _ = false
+
+abbrev pub step_of : ℕ → ℕ → Operation → Kept
+step_of number node s = record { number = number; node = node; step = s }
+
+-- a step that can come before deliveries of its node: an own one, or an up of a name that the node knows then
+pub data IsEasy (l : NodeLimits) (count : ℕ) (first : List Kept) (node : ℕ) (s : Operation) : Type 0 where
+  IsOwn : is_own s ≡ true → IsEasy l count first node s
+  IsKnownUp : (name : ℕ) → s ≡ Up name →
+      ((c : Cluster) (x : Node) → runs l count first ≡ Ok c → slice_get c node ≡ Some x → is_known x.replica name ≡ true) → IsEasy l count first node s
+
+-- a delivery at this node, or a step of another
+abbrev pub MayBeFirst : ℕ → Kept → Type 0
+MayBeFirst n k = (k.node ≢ n) ⊎ ((k.node ≡ n) × ((sender : ℕ) × ((message : ℕ) × (k.step ≡ Deliver sender message))))
+
+-- an own step that comes behind deliveries at its node, and behind steps of others, can come before them all, where that
+-- fills no node
+abbrev pub EagerLaw : Type 0
+EagerLaw =
+    (l : NodeLimits) (count number node : ℕ) (first before rest : List Kept) (s : Operation) → IsEasy l count first node s → AllByRecursion (MayBeFirst node) before →
+    ((xs ys : List Kept) (k : Kept) → before ≡ xs ++ k ∷ ys → runs l count ((first ++ xs) ++ step_of number node s ∷ k ∷ []) ≢ Err EntriesFull) → (c : Cluster) →
+    runs l count (first ++ (before ++ step_of number node s ∷ rest)) ≡ Ok c → runs l count (first ++ step_of number node s ∷ (before ++ rest)) ≡ Ok c
+
+-- a run of the network that goes on so leads to this cluster
+pub record GoesOn (l : NodeLimits) (count : ℕ) (j : List Kept) (lost again : ℕ) (first : List Kept) (c : Cluster) : Type 0 where
+  pub rest : List Kept
+  pub is_run : IsNetworkRun j lost again (first ++ rest)
+  pub ends : runs l count (first ++ rest) ≡ Ok c
+
+-- where the next ordered step of a node is an easy one, it can come next of all: what a run can lead to, one leads to that begins with it
+abbrev pub EagerStepLaw : Type 0
+EagerStepLaw =
+    (l : NodeLimits) (count : ℕ) (j : List Kept) (lost again node : ℕ) (first more : List Kept) (k : Kept) (c : Cluster) →
+    (g : GoesOn l count j lost again first c) → ordered g.rest node ≡ k ∷ more → IsEasy l count first node k.step → made (first ++ g.rest) ≤ l.entries →
+    GoesOn l count j lost again (first ++ k ∷ []) c

@@ -1,0 +1,11 @@
+pub mod NetworkRuns
+pub mod Room
+pub mod OwnSteps
+pub mod EasySteps
+pub mod Alike
+pub mod AlikeSteps
+pub mod Made
+pub mod Rows
+pub mod Cones
+pub mod Keys
+pub mod Settling

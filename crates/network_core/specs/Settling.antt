@@ -1,0 +1,83 @@
+-- A beginning of runs of the network is settled where whatever can come from it ends so that it was told.
+use Rattle.std.specs.Prelude.{◌≡◌, ℕ, ◌+◌, ◌≤◌, ◌<◌, length, Bool, true, false, List, [], ◌∷◌, ◌++◌, Ok}
+use Rattle.std.specs.List.{AllByRecursion}
+use Rattle.replica_core.specs.declared.node_limits.NodeLimits.{NodeLimits}
+use Rattle.node_core.specs.Operations.{Deliver}
+use Rattle.journal_core.specs.Journals.{Kept}
+use Rattle.bench_core.specs.Clusters.{Cluster, step}
+use Rattle.bench_core.specs.Laws.{delivery}
+use Rattle.bench_core.specs.Runs.{runs}
+use Rattle.network_core.specs.Alike.{ClusterAlike}
+use Rattle.network_core.specs.Cones.{Cone, IsCone, IsIdle, LeaveSame, cares}
+use Rattle.network_core.specs.EasySteps.{GoesOn, IsEasy}
+use Rattle.network_core.specs.Keys.{StandAlike}
+use Rattle.network_core.specs.NetworkRuns.{IsNetworkRun, how_many, is_delivery, is_of_kind, ordered}
+use Rattle.network_core.specs.Room.{made}
+
+-- what is fixed of all runs of the network: the limits, the number of nodes, the recorded run, what may be lost and come again, what matters, and which clusters were told
+pub record Walk : Type 0 where
+  pub limits : NodeLimits
+  pub count : ℕ
+  pub recorded : List Kept
+  pub lost : ℕ
+  pub again : ℕ
+  pub cone : Cone
+  pub told : Cluster → Bool
+
+-- the recorded run fills no node, what matters passes through, and of clusters that are alike as far as what is asked goes both are told or neither
+pub record IsWalk (g : Walk) : Type 0 where
+  pub room : made g.recorded ≤ g.limits.entries
+  pub cone : IsCone g.recorded g.cone
+  pub told : (c d : Cluster) → ClusterAlike (cares g.cone g.recorded) c d → g.told d ≡ true → g.told c ≡ true
+
+-- whatever a run of the network that begins so leads to was told
+abbrev pub IsSettled : Walk → List Kept → Type 0
+IsSettled g w = (c : Cluster) → GoesOn g.limits g.count g.recorded g.lost g.again w c → g.told c ≡ true
+
+abbrev pub Ran : Walk → List Kept → Cluster → Type 0
+Ran g w c = runs g.limits g.count w ≡ Ok c
+
+-- this is the next step of its node, deliveries apart
+abbrev pub IsNext : Walk → List Kept → Kept → Type 0
+IsNext g w k = (later : List Kept) × (ordered g.recorded k.node ≡ ordered w k.node ++ k ∷ later)
+
+-- in no run of the network that begins so more is delivered at the node
+abbrev pub IsQuiet : Walk → List Kept → ℕ → Type 0
+IsQuiet g w n = (rest : List Kept) → IsNetworkRun g.recorded g.lost g.again (w ++ rest) → AllByRecursion (λ (x : Kept). x.node ≡ n → is_delivery x.step ≡ false) rest
+
+-- when a beginning is settled
+pub record SettleLaw : Type 0 where
+  -- its next step is easy, and behind it all is settled
+  pub easy : (g : Walk) (w : List Kept) (k : Kept) → IsWalk g → IsNext g w k → IsEasy g.limits g.count w k.node k.step → IsSettled g (w ++ k ∷ []) → IsSettled g w
+  -- nothing more is delivered at its node
+  pub alone : (g : Walk) (w : List Kept) (k : Kept) (c d : Cluster) → IsWalk g → IsNext g w k → IsQuiet g w k.node → Ran g w c → step c k.node k.step ≡ Ok d →
+      IsSettled g (w ++ k ∷ []) → IsSettled g w
+  -- the next is a delivery of which nothing matters
+  pub idle : (g : Walk) (w : List Kept) (i node sender number : ℕ) (c d : Cluster) → IsWalk g → Ran g w c → IsIdle (cares g.cone w) c node sender number →
+      step c node (Deliver sender number) ≡ Ok d → how_many (is_of_kind node sender number) w < how_many (is_of_kind node sender number) g.recorded →
+      IsSettled g (w ++ delivery i node sender number ∷ []) → IsSettled g w
+  -- another one is, after which the same is left, and in which the dots that matter stand alike
+  pub same : (g : Walk) (w v : List Kept) (c d : Cluster) → IsWalk g → Ran g w c → Ran g v d → LeaveSame w v → StandAlike (cares g.cone w) g.limits w c d → IsSettled g v → IsSettled g w
+  -- the cluster was told, if nothing need come any more, and behind each step that can come all is settled
+  pub all : (g : Walk) (w : List Kept) (c : Cluster) → Ran g w c → (IsNetworkRun g.recorded g.lost g.again w → g.told c ≡ true) →
+      ((k : Kept) (d : Cluster) (rest : List Kept) → IsNetworkRun g.recorded g.lost g.again (w ++ k ∷ rest) → step c k.node k.step ≡ Ok d → IsSettled g (w ++ k ∷ [])) → IsSettled g w
+
+-- a run of the network is no longer than the recorded one with what comes a second time
+abbrev pub LengthLaw : Type 0
+LengthLaw = (j r : List Kept) (lost again : ℕ) → IsNetworkRun j lost again r → length r ≤ length j + again
+
+-- where nothing comes a second time, and of each message as many deliveries came to a node as were recorded, nothing more is delivered there
+abbrev pub QuietLaw : Type 0
+QuietLaw =
+    (g : Walk) (w : List Kept) (n : ℕ) → g.again ≡ 0 →
+    ((sender number : ℕ) → how_many (is_of_kind n sender number) g.recorded ≤ how_many (is_of_kind n sender number) w) → IsQuiet g w n
+
+-- what is delivered next was recorded, and of it no more came yet than twice as many as were recorded; as many, where nothing comes a second time
+pub record MayCome (g : Walk) (w : List Kept) (n sender number : ℕ) : Type 0 where
+  pub recorded : 0 < how_many (is_of_kind n sender number) g.recorded
+  pub twice : how_many (is_of_kind n sender number) w < how_many (is_of_kind n sender number) g.recorded + how_many (is_of_kind n sender number) g.recorded
+  pub once : g.again ≡ 0 → how_many (is_of_kind n sender number) w < how_many (is_of_kind n sender number) g.recorded
+
+abbrev pub NextDeliveryLaw : Type 0
+NextDeliveryLaw =
+    (g : Walk) (w rest : List Kept) (i n sender number : ℕ) → IsNetworkRun g.recorded g.lost g.again (w ++ delivery i n sender number ∷ rest) → MayCome g w n sender number
