@@ -1,5 +1,4 @@
 pub mod Calls
-pub mod Pieces
 pub mod Places
 pub mod Printed
 pub mod Reported

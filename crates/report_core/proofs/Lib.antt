@@ -5,3 +5,4 @@ pub mod StepDiffs
 pub mod MovedRows
 pub mod Unwound
 pub mod OnePart
+pub mod Pieces

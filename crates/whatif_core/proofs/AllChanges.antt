@@ -21,6 +21,14 @@ in_one y x (suc i, lt, is) = absurd (omega (arith, lt))
 pub one_in : {X : Type 0} (x : X) → Contains (x ∷ []) x
 one_in x = (zero, omega arith, refl)
 
+pub contains_at : {X : Type 0} (xs : List X) (i : ℕ) (x : X) → slice_get xs i ≡ Some x → Contains xs x
+contains_at [] i x h = absurd (cc)
+contains_at (y ∷ xs) zero x h = (zero, omega arith, cc)
+contains_at (y ∷ xs) (suc i) x h = behind (contains_at xs i x h)
+  where
+    behind : Contains xs x → Contains (y ∷ xs) x
+    behind (j, lt, is) = (suc j, omega (arith, lt), is)
+
 -- none yet, and one more, of the walks
 pub within_none : (ks : List Kept) (kind : Kind) (i : ℕ) (start : List Change) → start ≡ start ++ changes_within ks kind i 0
 unfolding changes_within
@@ -193,11 +201,3 @@ module _ (ks : List Kept) where
 -- each change of the list stands within the run
 pub change_within : (ks : List Kept) (cs : List Change) (p : ℕ) (c : Change) → cs ≡ changes ks → slice_get cs p ≡ Some c → (c.place < length ks) × (c.beside < length ks)
 change_within ks cs p c is at = within ks c ((all_changes_hold ks c).1 (subst (λ (l : List Change). Contains l c) is (contains_at cs p c at)))
-  where
-    contains_at : (xs : List Change) (i : ℕ) (x : Change) → slice_get xs i ≡ Some x → Contains xs x
-    contains_at [] i x h = absurd (cc)
-    contains_at (y ∷ xs) zero x h = (zero, omega arith, cc)
-    contains_at (y ∷ xs) (suc i) x h = behind (contains_at xs i x h)
-      where
-        behind : Contains xs x → Contains (y ∷ xs) x
-        behind (j, lt, is) = (suc j, omega (arith, lt), is)

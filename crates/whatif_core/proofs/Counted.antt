@@ -1,5 +1,6 @@
 -- One change more of those that are counted.
-use Rattle.std.proofs.Common.{◌≡◌, ℕ, suc, ◌+◌, ◌≤◌, Bool, true, false, if◌then◌else◌, List, length, drop, slice_get, Option, Some, None, sym, ap, ◌∙◌, arith}
+use Rattle.std.proofs.Common.{◌≡◌, ℕ, ◌+◌, ◌≤◌, Bool, true, false, if◌then◌else◌, List, length, drop, slice_get, Option, Some, None, sym, ap, ◌∙◌, arith}
+use Rattle.std.proofs.lemmas.List.{drop_all}
 use Rattle.diff_core.specs.Rows.{Row}
 use Rattle.journal_core.specs.Journals.{Kept}
 use Rattle.bench_core.specs.Machine.{Machine}
@@ -8,16 +9,14 @@ use Rattle.whatif_core.specs.Changes.{changes}
 use Rattle.whatif_core.specs.Questions.{Question}
 use Rattle.whatif_core.specs.Ends.{rows_after, rows_before}
 use Rattle.whatif_core.specs.Differences.{Tally, are_same, counted, differs, nothing, tallied, tally_from, tally_of}
-use Rattle.whatif_core.proofs.Played.{drop_all, drop_read}
+use Rattle.order_core.proofs.Places.{from_on}
 
 pub counted_more : (m : Machine) (q : Question) (cs : List Change) (p : ℕ) (c : Change) (t new : Tally) (before : List Row) (o : Option (List Row)) → slice_get cs p ≡ Some c →
     before ≡ rows_before m q → o ≡ rows_after m q c → new ≡ counted before t c o → tally_from m q t (drop p cs) ≡ tally_from m q new (drop (p + 1) cs)
 unfolding tally_from tallied
 counted_more m q cs p c t new before o at is after by =
-    let next : suc p ≡ p + 1 = omega arith in
-    ap (tally_from m q t) (drop_read cs p c at)
-    ∙ ap (λ (t : Tally). tally_from m q t (drop (suc p) cs)) (sym (by ∙ ap (λ (b : List Row). counted b t c o) is ∙ ap (counted (rows_before m q) t c) after))
-    ∙ ap (λ n. tally_from m q new (drop n cs)) next
+    ap (tally_from m q t) (from_on cs p c at)
+    ∙ ap (λ (t : Tally). tally_from m q t (drop (p + 1) cs)) (sym (by ∙ ap (λ (b : List Row). counted b t c o) is ∙ ap (counted (rows_before m q) t c) after))
 
 -- no count grows by more than one
 fits : (before : List Row) (t : Tally) (c : Change) (o : Option (List Row)) → ((counted before t c o).possible ≤ t.possible + 1) × ((counted before t c o).differ ≤ t.differ + 1)
@@ -45,4 +44,4 @@ pub all_counted : (m : Machine) (q : Question) (ks : List Kept) (cs : List Chang
     tally_from m q nothing cs ≡ tally_from m q t (drop p cs) → t ≡ tally_of m q
 unfolding tally_of tally_from
 all_counted m q ks cs p t whole is le so_far =
-    sym (so_far ∙ ap (tally_from m q t) (drop_all cs p le)) ∙ ap (tally_from m q nothing) (is ∙ ap changes whole)
+    sym (so_far ∙ ap (tally_from m q t) (drop_all p cs le)) ∙ ap (tally_from m q nothing) (is ∙ ap changes whole)

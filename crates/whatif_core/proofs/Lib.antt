@@ -4,3 +4,5 @@ pub mod Exact
 pub mod Marks
 pub mod Played
 pub mod Told
+pub mod Walks
+pub mod Searches

@@ -5,6 +5,7 @@ use Rattle.journal_core.specs.Journals.{Kept}
 use Rattle.order_core.specs.declared.mark.Mark.{Mark}
 use Rattle.order_core.specs.Marks.{AreMarks}
 use Rattle.order_core.proofs.Marks.{both}
+use Rattle.order_core.proofs.Places.{from_on}
 use Rattle.whatif_core.specs.declared.change.Change.{Change}
 use Rattle.whatif_core.specs.Changes.{piece, pieces, changed}
 use Rattle.whatif_core.specs.Marked.{mark_of, marked_from, marks_in, changed_marks, with_step, steps_at}
@@ -52,19 +53,14 @@ steps_are all (m ∷ ms) (k ∷ ks) h = ap (λ o. with_step o (steps_at all ms))
 
 -- the marks at places: the first of them, and none where no place is left
 
-drop_first : (xs : List Kept) (i : ℕ) (x : Kept) → slice_get xs i ≡ Some x → drop i xs ≡ x ∷ drop (suc i) xs
-drop_first [] i x h = absurd (cc)
-drop_first (y ∷ xs) zero x h = ap (λ z. z ∷ xs) (cc)
-drop_first (y ∷ xs) (suc i) x h = drop_first xs i x h
-
 marks_first : (all : List Kept) (i j : ℕ) (k : Kept) → slice_get all i ≡ Some k → i < j → marks_in all (i, j) ≡ mark_of i k ∷ marks_in all (i + 1, j)
 unfolding marks_in
 marks_first all i j k h lt =
     let left : j - i ≡ suc (j - (i + 1)) = omega (arith, lt) in
     let next : suc i ≡ i + 1 = omega arith in
     ap (λ n. marked_from i (take n (drop i all))) left
-    ∙ ap (λ (l : List Kept). marked_from i (take (suc (j - (i + 1))) l)) (drop_first all i k h)
-    ∙ ap (λ n. mark_of i k ∷ marked_from n (take (j - (i + 1)) (drop n all))) next
+    ∙ ap (λ (l : List Kept). marked_from i (take (suc (j - (i + 1))) l)) (from_on all i k h)
+    ∙ ap (λ n. mark_of i k ∷ marked_from n (take (j - (i + 1)) (drop (i + 1) all))) next
 
 pub put_more : (all : List Kept) (i j : ℕ) (k : Kept) (now new whole : List Mark) (m : Mark) → slice_get all i ≡ Some k → i < j → now ++ marks_in all (i, j) ≡ whole →
     new ≡ now ++ m ∷ [] → m ≡ mark_of i k → new ++ marks_in all (i + 1, j) ≡ whole

@@ -4,12 +4,13 @@ ghost use Rattle.whatif_core.specs.Changes.{changes};
 ghost use Rattle.whatif_core.specs.Differences.{nothing, tally_from, tally_of};
 ghost use Rattle.whatif_core.specs.Ends.{rows_before};
 ghost use Rattle.whatif_core.specs.Exact.{AreExactly};
+ghost use Rattle.whatif_core.specs.Searches.{IsSearch};
 
 use crate::change::Change;
 use crate::changes::changes;
 use crate::difference::{Difference, Tally};
 use crate::laws::exact_law;
-use crate::playing::rows_after;
+use crate::playing::Search;
 use crate::rows::rows_before;
 use crate::steps::copied;
 use bench_core::{Bench, Kept};
@@ -32,9 +33,10 @@ pub struct Differences<A: Allocator> {
     pub told: Vec<Difference<A>, A>,
 }
 
-/// Counts these changes by where they lead.
+/// Counts these changes of the bench's steps by where they lead.
 fn count_all<'a, B: Allocator>(
     tally: &mut Tally<&'a B>,
+    search: &mut Search<'a, B>,
     bench: &Bench<'a, B>,
     steps: &[Kept<&'a B>],
     tried: &[Change],
@@ -47,12 +49,13 @@ fn count_all<'a, B: Allocator>(
     requires steps { steps.now ≡ bench.now.state.remaining }
     requires tried { tried.now ≡ changes steps.now }
     requires before { before.now ≡ rows_before bench.now (record { node = node; topic = topic.now; key = key.now }) }
+    requires search { IsSearch bench.now (record { node = node; topic = topic.now; key = key.now }) steps.now search.old }
     requires none { tally.old ≡ nothing }
     ensures { OnOk result (tally.new ≡ tally_of bench.now (record { node = node; topic = topic.now; key = key.now })) }
 {
     for place in 0..tried.len() {
         let change = tried[place];
-        let rows = rows_after(bench, steps, change, node, topic, key, alloc)?;
+        let rows = search.rows_after(steps, change, node, topic, key, alloc)?;
         tally.count(before, change, rows, alloc)?;
     }
     Ok(())
@@ -74,10 +77,21 @@ fn tally_of<'a, B: Allocator>(
     requires before { before.now ≡ rows_before bench.now (record { node = node; topic = topic.now; key = key.now }) }
     ensures { IfOk result (λ tally. tally ≡ tally_of bench.now (record { node = node; topic = topic.now; key = key.now })) }
 {
+    let mut search = Search::new(bench, steps, before, alloc)?;
     let mut tally = Tally::new(alloc);
     let counted = count_all(
-        &mut tally, bench, steps, tried, before, node, topic, key, alloc,
+        &mut tally,
+        &mut search,
+        bench,
+        steps,
+        tried,
+        before,
+        node,
+        topic,
+        key,
+        alloc,
     );
+    drop(search);
     if counted.is_err() {
         drop(tally);
         return Err(Oom);
@@ -86,8 +100,7 @@ fn tally_of<'a, B: Allocator>(
 }
 
 /// The changes of the remaining steps that make a difference to the rows of this topic and key at the node, each with the rows
-/// that it leads to. (Each single change of what a node did is played from empty nodes, in an order in which no message comes
-/// before it is sent.)
+/// that it leads to. (Each single change of what a node did is played in an order in which no message comes before it is sent.)
 pub fn whatif<'a, B: Allocator>(
     bench: &Bench<'a, B>,
     node: u16,

@@ -3,7 +3,8 @@
 //!
 //! It stands on `bench_core`, whose cluster plays a changed run, on `order_core`, which finds an order of what the nodes did, and on
 //! `diff_core`, which lists who is online. In the order to read them: `change`, one change, and `changes`, all that a run has;
-//! `steps`, copies of steps; `changed`, the steps with a change; `rows`, what a cluster shows; `playing`, where a changed run leads;
+//! `steps`, copies of steps; `changed`, the steps with a change; `rows`, what a cluster shows; `walk`, a run that is played and taken back,
+//! and `playing`, where changed runs lead;
 //! `difference`, the changes that are told, and `differing`, all of them; `running`, the run with a change. `laws` says what holds.
 #![tactic(auto)]
 
@@ -17,6 +18,7 @@ mod playing;
 mod rows;
 mod running;
 mod steps;
+mod walk;
 
 pub use change::{Change, Kind};
 pub use difference::Difference;

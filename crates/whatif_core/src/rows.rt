@@ -88,3 +88,17 @@ pub(crate) fn rows_before<'a, B: Allocator>(
 {
     rows_in(bench.node(node), node, topic, key, alloc)
 }
+
+/// Copies of rows.
+pub(crate) fn copied_rows<A: Allocator + Copy>(
+    rows: &[OnlineRow<A>],
+    alloc: A,
+) -> Result<Rows<A>, Oom>
+    ensures { IfOk result (λ copies. copies.items ≡ rows.now) }
+{
+    let mut copies = Vec::with_capacity(alloc, rows.len())?;
+    for row in rows {
+        copies.push(row.try_copy()?)?;
+    }
+    Ok(copies)
+}

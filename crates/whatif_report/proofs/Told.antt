@@ -1,5 +1,7 @@
 -- One difference more of the text, the whole of it, and the change of a number.
 use Rattle.std.proofs.Common.{◌≡◌, ℕ, zero, suc, ◌+◌, ◌<◌, ◌≤◌, List, [], ◌∷◌, ◌++◌, length, codes, drop, get_or, slice_get, Option, Some, None, Result, Ok, Err, OnOk, refl, sym, ap, ◌∙◌, subst, append_assoc, append-nil, arith}
+use Rattle.std.proofs.Math.Seq.{drop-cons}
+use Rattle.std.proofs.lemmas.List.{drop_all}
 use Rattle.std.specs.Option.{option_map}
 use Rattle.std.specs.List.{Contains}
 use Rattle.payload_core.specs.Messages.{numbered}
@@ -14,18 +16,8 @@ use Rattle.whatif_core.specs.Questions.{Question}
 use Rattle.whatif_core.specs.Ends.{rows_before}
 use Rattle.whatif_core.specs.Differences.{Difference, nearest_change, tally_of}
 use Rattle.whatif_core.specs.Exact.{AreExactly, HasOrder, ToldRunsLaw}
+use Rattle.whatif_core.proofs.AllChanges.{contains_at}
 use Rattle.whatif_report.specs.Texts.{difference_text, differences_text, head_line, whatif_text}
-
-drop_first : (ds : List Difference) (i : ℕ) (d : Difference) → i < length ds → d ≡ get_or ds i d → drop i ds ≡ d ∷ drop (suc i) ds
-drop_first [] i d lt h = absurd (omega (arith, lt))
-drop_first (e ∷ ds) zero d lt h = ap (λ (x : Difference). x ∷ ds) (sym h)
-drop_first (e ∷ ds) (suc i) d lt h = drop_first ds i d (omega (arith, lt)) h
-
-drop_all : (ds : List Difference) (i : ℕ) → length ds ≤ i → drop i ds ≡ []
-drop_all [] zero le = refl
-drop_all [] (suc i) le = refl
-drop_all (d ∷ ds) zero le = absurd (omega (arith, le))
-drop_all (d ∷ ds) (suc i) le = drop_all ds i (omega (arith, le))
 
 pub told_more : (names : Texts) (ks : List Kept) (before : List Row) (ds : List Difference) (i : ℕ) (d : Difference) (now new whole : List ℕ) → i < length ds → d ≡ get_or ds i d →
     now ++ differences_text names ks before (i + 1) (drop i ds) ≡ whole → new ≡ now ++ difference_text names ks before (i + 1) d →
@@ -38,13 +30,13 @@ told_more names ks before ds i d now new whole lt at so_far is =
     ∙ append_assoc now (difference_text names ks before (i + 1) d) (differences_text names ks before ((i + 1) + 1) (drop (i + 1) ds))
     ∙ ap (λ n. now ++ (difference_text names ks before (i + 1) d ++ differences_text names ks before n (drop (i + 1) ds))) number
     ∙ ap (λ n. now ++ (difference_text names ks before (i + 1) d ++ differences_text names ks before (suc (i + 1)) (drop n ds))) next
-    ∙ ap (λ (l : List Difference). now ++ differences_text names ks before (i + 1) l) (sym (drop_first ds i d lt at)) ∙ so_far
+    ∙ ap (λ (l : List Difference). now ++ differences_text names ks before (i + 1) l) (sym (drop-cons ds i d lt ∙ ap (λ (x : Difference). x ∷ drop (suc i) ds) (sym at))) ∙ so_far
 
 pub all_told : (names : Texts) (ks : List Kept) (before : List Row) (ds : List Difference) (i n : ℕ) (now whole : List ℕ) → length ds ≤ i →
     now ++ differences_text names ks before n (drop i ds) ≡ whole → now ≡ whole
 unfolding differences_text
 all_told names ks before ds i n now whole le so_far =
-    sym (append-nil now) ∙ ap (λ (l : List Difference). now ++ differences_text names ks before n l) (sym (drop_all ds i le)) ∙ so_far
+    sym (append-nil now) ∙ ap (λ (l : List Difference). now ++ differences_text names ks before n l) (sym (drop_all i ds le)) ∙ so_far
 
 -- the whole text
 
@@ -72,14 +64,6 @@ text_all m q one two three tried ks before rows told old t u v n1 n2 n3 count st
     last ∙ ap (λ (x : List ℕ). x ++ d) (list ∙ ap (λ (x : List ℕ). x ++ r) head ∙ append_assoc old h r) ∙ append_assoc old (h ++ r) d
 
 -- the change of a number has an order
-
-contains_at : (ds : List Difference) (i : ℕ) (d : Difference) → slice_get ds i ≡ Some d → Contains ds d
-contains_at [] i d h = absurd (cc)
-contains_at (e ∷ ds) zero d h = (zero, omega arith, cc)
-contains_at (e ∷ ds) (suc i) d h = behind (contains_at ds i d h)
-  where
-    behind : Contains ds d → Contains (e ∷ ds) d
-    behind (j, lt, is) = (suc j, omega (arith, lt), is)
 
 contains_numbered : (ds : List Difference) (number : ℕ) (d : Difference) → numbered ds number ≡ Some d → Contains ds d
 contains_numbered ds zero d h = absurd (cc)

@@ -3,7 +3,7 @@ use Rattle.std.proofs.lemmas.List.{map-append}
 use Rattle.bench_core.specs.Acts.{plain_act, calls_of}
 use Rattle.explore_core.specs.Orders.{Call, plain_each}
 use Rattle.explore_report.specs.Grouped.{calls_alone}
-use Rattle.explore_report.proofs.Pieces.{piece_more, pieces_all}
+use Rattle.report_core.proofs.Pieces.{piece_more, pieces_all}
 use Rattle.explore_report.proofs.grouping.calls_alone.Goals as goal
 
 pub loop-call-init : goal.loop-call-init

@@ -1,7 +1,7 @@
 use Rattle.std.proofs.Common.{refl}
 use Rattle.bench_core.specs.Acts.{plain_act, calls_of}
 use Rattle.explore_report.specs.Grouped.{call_by, calls_by}
-use Rattle.explore_report.proofs.Pieces.{piece_more, pieces_all}
+use Rattle.report_core.proofs.Pieces.{piece_more, pieces_all}
 use Rattle.explore_report.proofs.grouping.calls_by.Goals as goal
 
 pub loop-call-preserved : goal.loop-call-preserved

@@ -1,7 +1,7 @@
 use Rattle.std.proofs.Common.{◌∙◌, ◌≡◌, ◌++◌, [], codes, refl, arith, get_or}
 use Rattle.std.proofs.lemmas.Option.{unwrap_or-slice_get}
 use Rattle.explore_report.specs.OrderText.{spaced_names}
-use Rattle.explore_report.proofs.Pieces.{piece_more, pieces_all}
+use Rattle.report_core.proofs.Pieces.{piece_more, pieces_all}
 use Rattle.explore_report.proofs.order_text.put_nodes.Goals as goal
 
 pub loop-number-preserved : goal.loop-number-preserved

@@ -3,7 +3,12 @@ use Rattle.whatif_core.specs.declared.change.Kind.TheVariants.{Lost}
 use Rattle.whatif_core.proofs.AllChanges.{change_within}
 use Rattle.whatif_core.proofs.Counted.{all_counted, counted_more, differ_fits, possible_fits}
 use Rattle.whatif_core.proofs.Played.{read_or}
+use Rattle.whatif_core.proofs.Searches.{are_walks}
 use Rattle.whatif_core.proofs.differing.count_all.Goals as goal
+
+pub rows_after-requires-clause-walks : goal.rows_after-requires-clause-walks
+rows_after-requires-clause-walks g c =
+    are_walks c.args.bench.now (record { node = c.args.node; topic = c.args.topic.now; key = c.args.key.now }) c.args.steps.now c.loop-place.search c.loop-place.invariant.search
 
 pub rows_after-requires-clause-place : goal.rows_after-requires-clause-place
 rows_after-requires-clause-place g c =
@@ -19,9 +24,10 @@ pub loop-place-preserved : goal.loop-place-preserved
 loop-place-preserved g c = record {
   counted = c.loop-place.invariant.counted ∙ counted_more _ _ c.args.tried.now c.loop-place.place _ c.loop-place.tally c.count.new.self c.args.before.now _
       (read_or c.args.tried.now c.loop-place.place (record { kind = Lost; place = 0; beside = 0 }) c.loop-place-test.true)
-      c.requires.before c.in_ok-rows.ensures c.in_ok-count.ensures;
+      c.requires.before (c.in_ok-rows.ensures c.args.bench.now c.requires.steps c.loop-place.invariant.search).shown c.in_ok-count.ensures;
   possible = possible_fits c.args.before.now c.loop-place.tally c.count.new.self _ _ c.loop-place.place c.in_ok-count.ensures c.loop-place.invariant.possible;
   differ = differ_fits c.args.before.now c.loop-place.tally c.count.new.self _ _ c.loop-place.place c.in_ok-count.ensures c.loop-place.invariant.differ;
+  search = (c.in_ok-rows.ensures c.args.bench.now c.requires.steps c.loop-place.invariant.search).search;
 }
 
 pub returns : goal.returns

@@ -1,5 +1,6 @@
 use Rattle.std.proofs.Common.{◌≡◌, ◌≤◌, drop}
 use Rattle.whatif_core.specs.Differences.{nothing, tally_from}
+use Rattle.whatif_core.specs.Searches.{IsSearch}
 use Rattle.whatif_core.proofs.differing.count_all.Given as goal
 
 -- what is left is counted behind what was
@@ -9,4 +10,5 @@ invariant-loop-place g l = record {
       ≡ tally_from l.bench (record { node = l.node; topic = l.topic; key = l.key }) l.tally (drop l.place l.tried);
   possible : l.tally.possible ≤ l.place;
   differ : l.tally.differ ≤ l.place;
+  search : IsSearch l.bench (record { node = l.node; topic = l.topic; key = l.key }) l.steps l.search;
 }
