@@ -1,0 +1,30 @@
+//! `OrderFault`: why events have no order.
+ghost use Rattle.std.specs.Prelude.{◌≡◌};
+ghost use Rattle.event_order.specs.declared.order_fault.OrderFault.TheVariants.{OutOfMemory};
+
+use crate::Oom;
+use thiserror::Error;
+
+/// Why events have no order. Places count from 0.
+#[derive(Clone, Copy, Debug, PartialEq, Eq, Error)]
+pub enum OrderFault {
+    /// The event at this place sends a message that an earlier one sends.
+    #[error("Twice at {at}")]
+    Twice { at: usize },
+    /// The event at this place waits for a message that no event sends.
+    #[error("NeverSent at {at}")]
+    NeverSent { at: usize },
+    /// The event at this place is the first that waits forever.
+    #[error("Circle at {at}")]
+    Circle { at: usize },
+    #[error("OutOfMemory")]
+    OutOfMemory,
+}
+
+impl From<Oom> for OrderFault {
+    ghost from_gives = { λ _ e. e ≡ OutOfMemory };
+
+    fn from(_e: Oom) -> OrderFault {
+        OrderFault::OutOfMemory
+    }
+}

@@ -1,0 +1,113 @@
+//! An order as far as it has come: which messages were sent, and the next event of each node.
+ghost use Rattle.std.specs.Prelude.{◌≡◌, ◌≤◌, ◌<◌, ◌+◌, ◌++◌, ◌∷◌, [], IfOk, Some, length};
+ghost use Rattle.std.specs.Prelude.{ℕ, List, slice_index};
+ghost use Rattle.event_order.specs.Ordering.{HasNodes, HasMessages, CanCome, IsBegun, IsNearest, node_at};
+ghost use Rattle.event_order.specs.Walks.{IsFirstOf, IsLeastReady, IsLeast, IsWalk, IsStopped, AreHeads, is_sent, left_of};
+
+use crate::Oom;
+use crate::logged::Logged;
+use std::alloc::Allocator;
+
+/// The first event of the node from a place on; where there is none, the number of all events.
+fn first_of(events: &[Logged], node: u16, from: usize) -> usize
+    requires { from ≤ length events.now }
+    ensures { IsFirstOf events.now node from result }
+{
+    for place in from..events.len() {
+        if events[place].node == node {
+            return place;
+        }
+    }
+    events.len()
+}
+
+/// Whether what the event waits for was sent.
+fn is_ready(event: &Logged, sent: &[bool]) -> bool
+    requires { (message : ℕ) → event.now.waits ≡ Some message → message < length sent.now }
+    ensures { result ≡ is_sent event.now.waits sent.now }
+{
+    match event.waits {
+        Some(message) => sent[message],
+        None => true,
+    }
+}
+
+/// The least of these places whose event is ready; where there is none, the number of all events.
+pub(crate) fn least_ready(events: &[Logged], heads: &[usize], sent: &[bool]) -> usize
+    requires { HasMessages (length sent.now) events.now }
+    ensures { IsLeastReady events.now heads.now sent.now result }
+{
+    let mut least = events.len();
+    for head in heads {
+        if *head < least && is_ready(&events[*head], sent) {
+            least = *head;
+        }
+    }
+    least
+}
+
+/// The least of the numbers below a limit; where there is none, the limit.
+pub(crate) fn least(limit: usize, numbers: &[usize]) -> usize
+    ensures { IsLeast limit numbers.now result }
+{
+    let mut least = limit;
+    for number in numbers {
+        if *number < least {
+            least = *number;
+        }
+    }
+    least
+}
+
+/// The first event of each node.
+pub(crate) fn first_heads<A: Allocator>(
+    alloc: A,
+    events: &[Logged],
+    nodes: u16,
+) -> Result<Vec<usize, A>, Oom>
+    ensures { IfOk result (λ heads. (length heads.items ≡ nodes) × AreHeads events.now [] heads.items) }
+{
+    let mut heads = Vec::new(alloc);
+    for node in 0..nodes {
+        heads.push(first_of(events, node, 0))?;
+    }
+    Ok(heads)
+}
+
+/// The event at a head comes.
+fn come(events: &[Logged], place: usize, heads: &mut [usize], sent: &mut [bool])
+    requires there { place < length events.now }
+    requires nodes { HasNodes (length heads.old) events.now }
+    requires messages { HasMessages (length sent.old) events.now }
+    requires head { slice_index heads.old (node_at events.now place) ≡ place }
+    ensures walk { (came : List ℕ) → IsWalk events.now came heads.old sent.old → IsWalk events.now (came ++ place ∷ []) heads.new sent.new }
+    ensures left { left_of events.now heads.new < left_of events.now heads.old }
+{
+    let event = events[place];
+    heads[event.node as usize] = first_of(events, event.node, place + 1);
+    if let Some(message) = event.sends {
+        sent[message] = true;
+    }
+}
+
+/// The events come, the first that can come at each point, until none can.
+pub(crate) fn walk<A: Allocator>(
+    alloc: A,
+    events: &[Logged],
+    heads: &mut [usize],
+    sent: &mut [bool],
+) -> Result<Vec<usize, A>, Oom>
+    requires nodes { HasNodes (length heads.old) events.now }
+    requires messages { HasMessages (length sent.old) events.now }
+    requires walk { IsWalk events.now [] heads.old sent.old }
+    ensures { IfOk result (λ came. IsStopped events.now came.items heads.new) }
+{
+    let mut came = Vec::with_capacity(alloc, events.len())?;
+    let mut place = least_ready(events, heads, sent);
+    while place < events.len() {
+        came.push(place)?;
+        come(events, place, heads, sent);
+        place = least_ready(events, heads, sent);
+    }
+    Ok(came)
+}

@@ -1,0 +1,6 @@
+pub mod Numbers
+pub mod Values
+pub mod Kept
+pub mod LaterNotes
+pub mod Known
+pub mod NotedLines

@@ -1,0 +1,56 @@
+use Rattle.std.proofs.Common.{◌≡◌, ◌+◌, ◌∷◌, [], drop, refl, sym, ap, subst, ◌∙◌, arith, Some, None}
+use Rattle.std.proofs.lemmas.List.{drop_more, drop_all}
+use Rattle.serde_json.specs.View.{items_view}
+use Rattle.log_core.specs.Views.{row as shown_row}
+use Rattle.import_core.specs.Tables.{AllTables, all_of}
+use Rattle.import_core.specs.Listed.{AreRowsOf, RowIn}
+use Rattle.import_core.proofs.Numbers.{keeps_both, keeps_itself}
+use Rattle.import_core.proofs.LaterNotes.{later_row}
+use Rattle.import_core.proofs.rows.rows_for.Goals as goal
+use Rattle.import_core.proofs.rows.rows_for.Goals.{in-Some+in_ok-row+in_ok-add_row, in_default}
+
+pub returns-in_err-add_row-clause-kept : goal.returns-in_err-add_row-clause-kept
+returns-in_err-add_row-clause-kept g c =
+    keeps_both (all_of c.args.tables.now) (all_of c.loop-value.tables) (all_of c.row_for.new.tables) c.loop-value.invariant.kept c.row_for.ensures.kept
+
+pub loop-value-preserved : goal.loop-value-preserved
+loop-value-preserved g c =
+    let v = c.value-item.result in
+    let i = c.loop-value.value-index in
+    let values = c.args.values.now in
+    let found = c.loop-value.rows.items in
+    let old : AllTables = all_of c.loop-value.tables in
+    let at : drop i values ≡ v ∷ drop (i + 1) values = drop_more values i v c.loop-value-test.true ∙ ap (λ x. x ∷ drop (i + 1) values) (sym c.value-item.is) in
+    elim c.match-row_at.branch [
+      | in-Some+in_ok-row+in_ok-add_row w ↦
+          let new : AllTables = all_of w.row_for.new.tables in
+          rw (w.tables-is, w.rows-is) (record {
+            kept = keeps_both (all_of c.args.tables.now) old new c.loop-value.invariant.kept w.row_for.ensures.kept;
+            rows = λ t all keeps rest.
+                let here : RowIn t found (Some (shown_row w.in-Some.listed)) (λ more. AreRowsOf t more (items_view (drop (i + 1) values)) all) = (
+                  w.in_ok-row.row,
+                  later_row new t keeps (shown_row w.in-Some.listed) w.in_ok-row.row w.in_ok-row.ensures.row,
+                  subst (λ rs. AreRowsOf t rs (items_view (drop (i + 1) values)) all) w.in_ok-add_row.ensures rest,
+                ) in
+                c.loop-value.invariant.rows t all (keeps_both old new t w.row_for.ensures.kept keeps)
+                (subst (λ vs. AreRowsOf t found (items_view vs) all) (sym at)
+                (subst (λ o. RowIn t found o (λ more. AreRowsOf t more (items_view (drop (i + 1) values)) all)) w.in-Some.ensures here));
+          })
+      | in_default w ↦
+          rw (w.tables-is, w.rows-is) (record {
+            kept = c.loop-value.invariant.kept;
+            rows = λ t all keeps rest.
+                let here : RowIn t found None (λ more. AreRowsOf t more (items_view (drop (i + 1) values)) all) = rest in
+                c.loop-value.invariant.rows t all keeps
+                (subst (λ vs. AreRowsOf t found (items_view vs) all) (sym at)
+                (subst (λ o. RowIn t found o (λ more. AreRowsOf t more (items_view (drop (i + 1) values)) all)) w.in_default.ensures here));
+          })
+    ]
+
+pub returns-clause-rows : goal.returns-clause-rows
+returns-clause-rows g c =
+    let t : AllTables = all_of c.loop-value.tables in
+    let rows = c.loop-value.rows.items in
+    let past = c.loop-value-test.false in
+    let none : drop c.loop-value.value-index c.args.values.now ≡ [] = drop_all c.loop-value.value-index c.args.values.now (omega (arith, past)) in
+    c.loop-value.invariant.rows t rows (keeps_itself t) (subst (λ vs. AreRowsOf t rows (items_view vs) rows) (sym none) refl)

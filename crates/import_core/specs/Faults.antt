@@ -1,0 +1,98 @@
+-- Why lines give no script.
+use Rattle.std.specs.Prelude.{◌≡◌, ℕ, ◌+◌, ◌<◌, List, [], length, take, slice_index_or, Some}
+use Rattle.event_order.specs.declared.order_fault.OrderFault as order
+use Rattle.event_order.specs.declared.order_fault.OrderFault.TheVariants as order_faults
+use Rattle.event_order.specs.Ordering.{IsFaultOf}
+use Rattle.log_core.specs.declared.line_fault.LineFault.{LineFault}
+use Rattle.log_core.specs.declared.line_fault.LineFault.TheVariants as line_faults
+use Rattle.log_core.specs.Events.{Line}
+use Rattle.log_core.specs.Lines.{Says, SaysNoEvent, HasNoValue, lines_of}
+use Rattle.import_core.specs.declared.note_fault.NoteFault.{NoteFault}
+use Rattle.import_core.specs.declared.note_fault.NoteFault.TheVariants as note_faults
+use Rattle.import_core.specs.declared.fault.FaultKind.{FaultKind}
+use Rattle.import_core.specs.declared.fault.FaultKind.TheVariants.{TooLong, NotJson, BadEvent, TooManyNodes, NoNodes, Twice, NeverSent, Circle, OutOfMemory}
+use Rattle.import_core.specs.declared.fault.ImportFault.{ImportFault}
+use Rattle.import_core.specs.Tables.{AllTables}
+use Rattle.import_core.specs.Notes.{Note, logged_of}
+use Rattle.import_core.specs.Imports.{AreNoted, number_at}
+
+abbrev pub kind_of_line : LineFault → FaultKind
+kind_of_line line_faults.TooLong = TooLong
+kind_of_line line_faults.NotJson = NotJson
+kind_of_line line_faults.OutOfMemory = OutOfMemory
+
+abbrev pub kind_of_note : NoteFault → FaultKind
+kind_of_note note_faults.TooManyNodes = TooManyNodes
+kind_of_note note_faults.OutOfMemory = OutOfMemory
+
+-- the fault at a line; want of memory has none
+abbrev pub fault_at : ℕ → FaultKind → ImportFault
+fault_at line OutOfMemory = record { line = 0; kind = OutOfMemory }
+fault_at line kind = record { line = line; kind = kind }
+
+-- what is wrong with a line, once those before it were noted; the tables are as it leaves them
+abbrev pub IsWrong : AllTables → List ℕ → FaultKind → Type 0
+IsWrong t line TooLong = HasNoValue line line_faults.TooLong
+IsWrong t line NotJson = HasNoValue line line_faults.NotJson
+IsWrong t line BadEvent = SaysNoEvent line
+IsWrong t line TooManyNodes = (event : Line) × Says line (Some event) × (32 < length t.nodes)
+IsWrong t line NoNodes = ⊥
+IsWrong t line Twice = ⊥
+IsWrong t line NeverSent = ⊥
+IsWrong t line Circle = ⊥
+IsWrong t line OutOfMemory = Unit {0}
+
+-- the line of this place has that fault, and those before it have none
+pub record IsFirstWrong (lines : List (List ℕ)) (place : ℕ) (kind : FaultKind) : Type 0 where
+  pub tables : AllTables
+  pub notes : List Note
+  pub there : place < length lines
+  pub before : AreNoted tables (take place lines) notes
+  pub wrong : IsWrong tables (slice_index_or lines place []) kind
+
+-- a line has a fault, those before it have none; or memory was refused
+abbrev pub IsLineFault : List (List ℕ) → ImportFault → Type 0
+IsLineFault lines fault = by fault.kind
+  where
+    first : Type 0
+    first = (place : ℕ) × (fault.line ≡ place + 1) × IsFirstWrong lines place fault.kind
+
+    by : FaultKind → Type 0
+    by OutOfMemory = Unit {0}
+    by kind = first
+
+-- the events of notes have no order, and this is why, at the line of the event
+abbrev pub IsOrderFault : List Note → ImportFault → Type 0
+IsOrderFault notes fault = by fault.kind
+  where
+    is : (ℕ → order.OrderFault) → Type 0
+    is reason = (place : ℕ) × (fault.line ≡ number_at notes place) × IsFaultOf (logged_of notes) (reason place)
+
+    by : FaultKind → Type 0
+    by Twice = is order_faults.Twice
+    by NeverSent = is order_faults.NeverSent
+    by Circle = is order_faults.Circle
+    by OutOfMemory = Unit {0}
+    by kind = ⊥
+
+-- no line says an event; or else the events have no order
+abbrev pub IsNotesFault : List Note → ImportFault → Type 0
+IsNotesFault notes fault = by fault.kind
+  where
+    by : FaultKind → Type 0
+    by NoNodes = (notes ≡ []) × (fault.line ≡ 0)
+    by kind = IsOrderFault notes fault
+
+-- why the input can't be imported: a line has a fault, the first; or no line has one, and there are no events or they have no order
+abbrev pub IsImportFault : List ℕ → ImportFault → Type 0
+IsImportFault bytes fault = by fault.kind
+  where
+    whole : Type 0
+    whole = (t : AllTables) × (notes : List Note) × AreNoted t (lines_of bytes) notes × IsNotesFault notes fault
+
+    by : FaultKind → Type 0
+    by NoNodes = whole
+    by Twice = whole
+    by NeverSent = whole
+    by Circle = whole
+    by kind = IsLineFault (lines_of bytes) fault

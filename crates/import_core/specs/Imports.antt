@@ -1,0 +1,44 @@
+-- What an input gives: the notes of its events, and an order of them.
+use Rattle.std.specs.Prelude.{◌≡◌, ℕ, ◌^◌, ◌<◌, ◌≤◌, length, List, [], ◌∷◌, ◌++◌, slice_index_or, Option, Some, None}
+use Rattle.event_order.specs.Ordering.{IsOrdered, no_event}
+use Rattle.log_core.specs.Events.{Line}
+use Rattle.log_core.specs.Lines.{Numbered, Say, Says, lines_of}
+use Rattle.import_core.specs.Tables.{AllTables}
+use Rattle.import_core.specs.Notes.{Note, IsNoteOf, AreNotesOf, logged_of}
+
+-- the lines say events, and these are their notes
+pub record AreNoted (t : AllTables) (lines : List (List ℕ)) (notes : List Note) : Type 0 where
+  pub events : List Numbered
+  pub say : Say 1 lines events
+  pub noted : AreNotesOf t events notes
+
+-- what is noted of a line
+abbrev pub IsNoted : AllTables → ℕ → List ℕ → Option Note → Type 0
+IsNoted t number line None = Says line None
+IsNoted t number line (Some note) = (event : Line) × Says line (Some event) × IsNoteOf t (record { number = number; line = event }) note
+
+-- it is put behind what was noted
+abbrev pub with_note : List Note → Option Note → List Note
+with_note notes None = notes
+with_note notes (Some note) = notes ++ note ∷ []
+
+abbrev pub AddsNote : AllTables → ℕ → List ℕ → List Note → List Note → Type 0
+AddsNote t number line old new = (note : Option Note) × IsNoted t number line note × (new ≡ with_note old note)
+
+-- a note of nothing, which stands for one that isn't there
+abbrev pub no_note : Note
+no_note = record { number = 0; logged = no_event; step = None; rows = [] }
+
+abbrev pub note_at : List Note → ℕ → Note
+note_at notes place = slice_index_or notes place no_note
+
+abbrev pub number_at : List Note → ℕ → ℕ
+number_at notes place = (note_at notes place).number
+
+-- the notes of the input, and the nearest order of their events
+pub record IsImportOf (bytes : List ℕ) (t : AllTables) (notes : List Note) (order : List ℕ) : Type 0 where
+  pub noted : AreNoted t (lines_of bytes) notes
+  pub ordered : IsOrdered (logged_of notes) order
+  pub some : 0 < length notes
+  pub lines : length (lines_of bytes) < 2 ^ 64
+  pub few : length t.nodes ≤ 32

@@ -1,0 +1,6 @@
+pub mod Tables
+pub mod Steps
+pub mod Listed
+pub mod Notes
+pub mod Imports
+pub mod Faults

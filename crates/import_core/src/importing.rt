@@ -1,0 +1,121 @@
+//! From the bytes of logs to the notes of their events and an order of them.
+ghost use Rattle.std.specs.Prelude.{◌≡◌, ◌<◌, length, map, IfOk, IfErr, OnOk};
+ghost use Rattle.event_order.specs.Ordering.{HasNodes, HasMessages, IsOrdered, IsFaultOf};
+ghost use Rattle.log_core.specs.Lines.{lines_of};
+ghost use Rattle.import_core.specs.Tables.{all_of};
+ghost use Rattle.import_core.specs.Notes.{note_of, logged_of};
+ghost use Rattle.import_core.specs.Imports.{IsImportOf, number_at};
+ghost use Rattle.import_core.specs.Faults.{IsOrderFault, IsNotesFault, IsImportFault};
+
+use crate::fault::{FaultKind, ImportFault};
+use crate::notes::{Noted, noted_all};
+use crate::tables::Tables;
+use dots_core::Oom;
+use event_order::{Logged, OrderFault, ordered};
+use std::alloc::{Allocator, Global};
+
+/// How many nodes there can be.
+const NODES: u16 = 32;
+
+/// What an input gives: what stands for what, the notes of its events, and an order of them, by their places.
+#[derive(Drop)]
+pub struct Import<A: Allocator> {
+    pub tables: Tables<A>,
+    pub notes: Vec<Noted<A>, A>,
+    pub order: Vec<usize, A>,
+}
+
+/// What the line feeds divide.
+fn lines_of<A: Allocator>(alloc: A, bytes: &[u8]) -> Result<Vec<&[u8], A>, Oom>
+    ensures { IfOk result (λ lines. map (λ line. line.now) lines.items ≡ lines_of bytes.now) }
+{
+    bytes.split(|byte| *byte == b'\n').collect(alloc)
+}
+
+/// The events as far as their order goes.
+fn logged<A: Allocator + Copy>(alloc: A, notes: &[Noted<A>]) -> Result<Vec<Logged, A>, Oom>
+    ensures { IfOk result (λ logged. logged.items ≡ logged_of (map note_of notes.now)) }
+{
+    let mut events = Vec::new(alloc);
+    for note in notes {
+        events.push(note.logged)?;
+    }
+    Ok(events)
+}
+
+/// The number of the line of the event at a place.
+fn number_at<A: Allocator>(notes: &[Noted<A>], place: usize) -> u64
+    ensures { result ≡ number_at (map note_of notes.now) place }
+{
+    match notes.get(place) {
+        Some(note) => note.number,
+        None => 0,
+    }
+}
+
+/// Why events have no order, at the line of the event.
+fn fault_of<A: Allocator>(notes: &[Noted<A>], fault: OrderFault) -> ImportFault
+    requires { IsFaultOf (logged_of (map note_of notes.now)) fault }
+    ensures { IsOrderFault (map note_of notes.now) result }
+{
+    match fault {
+        OrderFault::Twice { at } => ImportFault {
+            line: number_at(notes, at),
+            kind: FaultKind::Twice,
+        },
+        OrderFault::NeverSent { at } => ImportFault {
+            line: number_at(notes, at),
+            kind: FaultKind::NeverSent,
+        },
+        OrderFault::Circle { at } => ImportFault {
+            line: number_at(notes, at),
+            kind: FaultKind::Circle,
+        },
+        OrderFault::OutOfMemory => ImportFault::from(Oom),
+    }
+}
+
+/// The nearest order of the events of notes, or why there is none.
+fn order_of<A: Allocator + Copy>(
+    alloc: A,
+    notes: &[Noted<A>],
+    messages: usize,
+) -> Result<Vec<usize, A>, ImportFault>
+    requires nodes { HasNodes 32 (logged_of (map note_of notes.now)) }
+    requires messages { HasMessages messages (logged_of (map note_of notes.now)) }
+    ensures order { IfOk result (λ order. IsOrdered (logged_of (map note_of notes.now)) order.items) }
+    ensures some { OnOk result (0 < length notes.now) }
+    ensures fault { IfErr result (IsNotesFault (map note_of notes.now)) }
+{
+    if notes.is_empty() {
+        return Err(ImportFault {
+            line: 0,
+            kind: FaultKind::NoNodes,
+        });
+    }
+    let events = logged(alloc, notes)?;
+    match ordered(alloc, &events, NODES, messages) {
+        Ok(order) => Ok(order),
+        Err(fault) => Err(fault_of(notes, fault)),
+    }
+}
+
+/// The events of the input's lines, with what stands for what and the nearest order; or the first reason why there are none.
+pub fn imported<A: Allocator + Copy>(
+    heap: Global,
+    alloc: A,
+    bytes: &[u8],
+) -> Result<Import<A>, ImportFault>
+    ensures import { IfOk result (λ i. IsImportOf bytes.now (all_of i.tables) (map note_of i.notes.items) i.order.items) }
+    ensures fault { IfErr result (IsImportFault bytes.now) }
+{
+    let lines = lines_of(alloc, bytes)?;
+    let mut tables = Tables::new(alloc);
+    let notes = noted_all(heap, alloc, &mut tables, &lines)?;
+    let order = order_of(alloc, &notes, tables.messages.len())?;
+    Ok(Import {
+        tables,
+        notes,
+        order,
+    })
+}

@@ -1,0 +1,24 @@
+//! `NoteFault`: why an event has no step.
+ghost use Rattle.std.specs.Prelude.{◌≡◌};
+ghost use Rattle.import_core.specs.declared.note_fault.NoteFault.TheVariants.{OutOfMemory};
+
+use dots_core::Oom;
+use thiserror::Error;
+
+/// Why an event has no step.
+#[derive(Clone, Copy, Debug, PartialEq, Eq, Error)]
+pub enum NoteFault {
+    /// There are more than 32 nodes.
+    #[error("TooManyNodes")]
+    TooManyNodes,
+    #[error("OutOfMemory")]
+    OutOfMemory,
+}
+
+impl From<Oom> for NoteFault {
+    ghost from_gives = { λ _ e. e ≡ OutOfMemory };
+
+    fn from(_e: Oom) -> NoteFault {
+        NoteFault::OutOfMemory
+    }
+}

@@ -1,0 +1,162 @@
+//! All events of a log, as they are ordered and played.
+ghost use Rattle.std.specs.Prelude.{◌≡◌, ◌^◌, ◌<◌, ◌≤◌, ◌++◌, ◌∷◌, [], Err, length, map, IfOk, IfErr, OnOk, option_map};
+ghost use Rattle.node_core.specs.Operations.{plain};
+ghost use Rattle.log_core.specs.Views.{line as shown_line};
+ghost use Rattle.import_core.specs.Tables.{Keeps, all_of};
+ghost use Rattle.import_core.specs.Notes.{IsNoteOf, note_of, awaited};
+ghost use Rattle.import_core.specs.Imports.{AddsNote, AreNoted, IsNoted};
+ghost use Rattle.import_core.specs.Faults.{IsWrong, IsLineFault};
+
+use crate::fault::{FaultKind, ImportFault};
+use crate::note_fault::NoteFault;
+use crate::noting::{sent_by, step_for};
+use crate::rows::listed_for;
+use crate::tables::Tables;
+use bench_core::Step;
+use diff_core::OnlineRow;
+use dots_core::Oom;
+use event_order::Logged;
+use log_core::{LogLine, line_at, value_of_line};
+use std::alloc::{Allocator, Global};
+
+/// An event as far as its order goes, with the number of its line; its step, if it is one, and the rows that it lists.
+#[derive(Drop)]
+pub struct Noted<A: Allocator> {
+    pub number: u64,
+    pub logged: Logged,
+    pub step: Option<Step<A>>,
+    pub rows: Vec<OnlineRow<A>, A>,
+}
+
+/// The message that a step takes, by its number among all.
+fn awaited<A: Allocator>(step: &Option<Step<A>>) -> Option<usize>
+    ensures { result ≡ awaited (option_map plain step.now) }
+{
+    match step {
+        Some(step) => match step.delivers() {
+            Some((_, message)) => Some(message as usize),
+            None => None,
+        },
+        None => None,
+    }
+}
+
+/// What is noted of an event.
+fn note_for<A: Allocator + Copy>(
+    heap: Global,
+    alloc: A,
+    tables: &mut Tables<A>,
+    number: u64,
+    line: &LogLine<'_>,
+) -> Result<Noted<A>, NoteFault>
+    ensures note { IfOk result (λ n. IsNoteOf (all_of tables.new) (record { number = number; line = shown_line line.now }) (note_of n)) }
+    ensures kept { Keeps (all_of tables.old) (all_of tables.new) }
+    ensures many { result ≡ Err NoteFault.TooManyNodes → 32 < length (all_of tables.new).nodes }
+{
+    let node = tables.node(line.node)?;
+    let sends = sent_by(heap, tables, node, &line.event)?;
+    let step = step_for(heap, alloc, tables, &line.event)?;
+    let rows = listed_for(heap, alloc, tables, &line.event)?;
+    let waits = awaited(&step);
+    Ok(Noted {
+        number,
+        logged: Logged { node, waits, sends },
+        step,
+        rows,
+    })
+}
+
+/// What is noted of an event, if there are no more than 32 nodes with those that it names.
+fn note_of_event<A: Allocator + Copy>(
+    heap: Global,
+    alloc: A,
+    tables: &mut Tables<A>,
+    number: u64,
+    line: &LogLine<'_>,
+) -> Result<Noted<A>, NoteFault>
+    ensures note { IfOk result (λ n. IsNoteOf (all_of tables.new) (record { number = number; line = shown_line line.now }) (note_of n)) }
+    ensures few { OnOk result (length (all_of tables.new).nodes ≤ 32) }
+    ensures kept { Keeps (all_of tables.old) (all_of tables.new) }
+    ensures many { result ≡ Err NoteFault.TooManyNodes → 32 < length (all_of tables.new).nodes }
+{
+    let note = note_for(heap, alloc, tables, number, line)?;
+    if tables.nodes.len() > 32 {
+        drop(note);
+        return Err(NoteFault::TooManyNodes);
+    }
+    Ok(note)
+}
+
+/// What is noted of a line, if it says an event.
+fn note_of_line<A: Allocator + Copy>(
+    heap: Global,
+    alloc: A,
+    tables: &mut Tables<A>,
+    number: u64,
+    line: &[u8],
+) -> Result<Option<Noted<A>>, FaultKind>
+    ensures note { IfOk result (λ n. IsNoted (all_of tables.new) number line.now (option_map note_of n)) }
+    ensures few { OnOk result (length (all_of tables.old).nodes ≤ 32 → length (all_of tables.new).nodes ≤ 32) }
+    ensures kept { Keeps (all_of tables.old) (all_of tables.new) }
+    ensures wrong { IfErr result (IsWrong (all_of tables.new) line.now) }
+{
+    let Some(value) = value_of_line(heap, line)? else {
+        return Ok(None);
+    };
+    let Some(event) = line_at(&value) else {
+        return Err(FaultKind::BadEvent);
+    };
+    let note = note_of_event(heap, alloc, tables, number, &event)?;
+    Ok(Some(note))
+}
+
+fn add<A: Allocator + Copy>(notes: &mut Vec<Noted<A>, A>, note: Noted<A>) -> Result<(), Oom>
+    ensures { OnOk result (notes.new.items ≡ notes.old.items ++ note ∷ []) }
+{
+    notes.push(note)?;
+    Ok(())
+}
+
+/// Puts what is noted of a line behind these.
+fn add_line<A: Allocator + Copy>(
+    heap: Global,
+    alloc: A,
+    tables: &mut Tables<A>,
+    notes: &mut Vec<Noted<A>, A>,
+    number: u64,
+    line: &[u8],
+) -> Result<(), FaultKind>
+    ensures notes { OnOk result (AddsNote (all_of tables.new) number line.now (map note_of notes.old.items) (map note_of notes.new.items)) }
+    ensures few { OnOk result (length (all_of tables.old).nodes ≤ 32 → length (all_of tables.new).nodes ≤ 32) }
+    ensures kept { Keeps (all_of tables.old) (all_of tables.new) }
+    ensures wrong { IfErr result (IsWrong (all_of tables.new) line.now) }
+{
+    let note = note_of_line(heap, alloc, tables, number, line)?;
+    if let Some(note) = note {
+        add(notes, note)?;
+    }
+    Ok(())
+}
+
+/// What is noted of the lines, numbered from 1, or the first line's fault.
+pub(crate) fn noted_all<A: Allocator + Copy>(
+    heap: Global,
+    alloc: A,
+    tables: &mut Tables<A>,
+    lines: &[&[u8]],
+) -> Result<Vec<Noted<A>, A>, ImportFault>
+    ensures notes { IfOk result (λ notes. AreNoted (all_of tables.new) (map (λ line. line.now) lines.now) (map note_of notes.items)) }
+    ensures few { OnOk result (length (all_of tables.old).nodes ≤ 32 → length (all_of tables.new).nodes ≤ 32) }
+    ensures lines { length lines.now < 2 ^ 64 }
+    ensures fault { IfErr result (IsLineFault (map (λ line. line.now) lines.now)) }
+{
+    let mut notes = Vec::new(alloc);
+    for (index, line) in lines.iter().enumerate() {
+        let number = index as u64 + 1;
+        if let Err(kind) = add_line(heap, alloc, tables, &mut notes, number, line) {
+            drop(notes);
+            return Err(ImportFault::at(number, kind));
+        }
+    }
+    Ok(notes)
+}

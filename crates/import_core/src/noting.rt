@@ -1,0 +1,285 @@
+//! An event as a step.
+ghost use Rattle.std.specs.Prelude.{◌≡◌, ◌<◌, ℕ, Err, length, IfOk, IfSome, is_some, not};
+ghost use Rattle.std.specs.FinSet as set;
+ghost use Rattle.serde_json.specs.View.{view, items_view};
+ghost use Rattle.node_core.specs.Operations.{plain, Answer};
+ghost use Rattle.log_core.specs.Events.{join, update, leave, deliver};
+ghost use Rattle.log_core.specs.Views.{tracked as shown_tracked, event as shown_event};
+ghost use Rattle.import_core.specs.Tables.{AllTables, Keeps, all_of, IsWordOf, IsNodeOf, IsMessageOf};
+ghost use Rattle.import_core.specs.Steps.{IsPresenceOf, IsStepOf, IsSentOf, AreNodesOf, presence_of, is_own, is_message, is_status, is_online};
+
+use crate::note_fault::NoteFault;
+use crate::tables::Tables;
+use bench_core::Step;
+use dots_core::{NameSet, Oom};
+use log_core::{LogEvent, Tracked};
+use payload_core::Word;
+use serde_json::Value;
+use std::alloc::{Allocator, Global};
+
+/// What a join and an update say of a process.
+#[derive(Drop)]
+pub(crate) struct Presence<A: Allocator> {
+    pub pid: u64,
+    pub topic: Word<A>,
+    pub key: Word<A>,
+    pub metadata: Word<A>,
+}
+
+/// What stands for a presence.
+pub(crate) fn presence_for<A: Allocator + Copy>(
+    heap: Global,
+    alloc: A,
+    tables: &mut Tables<A>,
+    tracked: &Tracked<'_>,
+) -> Result<Presence<A>, Oom>
+    ensures presence { IfOk result (λ p. IsPresenceOf (all_of tables.new) (shown_tracked tracked.now) (presence_of p)) }
+    ensures kept { Keeps (all_of tables.old) (all_of tables.new) }
+{
+    let pid = tables.pid(heap, tracked.pid)?;
+    let topic = tables.word(heap, alloc, tracked.topic)?;
+    let key = tables.word(heap, alloc, tracked.key)?;
+    let metadata = tables.word(heap, alloc, tracked.meta)?;
+    Ok(Presence {
+        pid,
+        topic,
+        key,
+        metadata,
+    })
+}
+
+/// What stands for a leave.
+fn leave_for<A: Allocator + Copy>(
+    heap: Global,
+    alloc: A,
+    tables: &mut Tables<A>,
+    pid: &Value,
+    topic: &Value,
+    key: &Value,
+) -> Result<Step<A>, Oom>
+    ensures step { IfOk result (λ s. IsStepOf (all_of tables.new) (leave (view pid.now) (view topic.now) (view key.now)) (plain s)) }
+    ensures kept { Keeps (all_of tables.old) (all_of tables.new) }
+{
+    let pid = tables.pid(heap, pid)?;
+    let topic = tables.word(heap, alloc, topic)?;
+    let key = tables.word(heap, alloc, key)?;
+    Ok(Step::Leave { pid, topic, key })
+}
+
+/// The sender of a message and the number of the message among all.
+fn taken_from<A: Allocator + Copy>(
+    heap: Global,
+    tables: &mut Tables<A>,
+    from: &str,
+    message: &Value,
+) -> Result<(u16, u64), NoteFault>
+    ensures sender { IfOk result (λ m. IsNodeOf (all_of tables.new) from.now m.0) }
+    ensures message { IfOk result (λ m. IsMessageOf (all_of tables.new) m.0 (view message.now) m.1) }
+    ensures kept { Keeps (all_of tables.old) (all_of tables.new) }
+    ensures many { result ≡ Err NoteFault.TooManyNodes → 32 < length (all_of tables.new).nodes }
+{
+    let sender = tables.node(from)?;
+    let message = tables.message(heap, sender, message)?;
+    Ok((sender, message as u64))
+}
+
+/// The nodes with these names, of which each is a text.
+fn nodes_for<A: Allocator + Copy>(
+    tables: &mut Tables<A>,
+    names: &[Value],
+) -> Result<NameSet, NoteFault>
+    ensures nodes { IfOk result (λ nodes. AreNodesOf (all_of tables.new) set.empty (items_view names.now) nodes) }
+    ensures kept { Keeps (all_of tables.old) (all_of tables.new) }
+    ensures many { result ≡ Err NoteFault.TooManyNodes → 32 < length (all_of tables.new).nodes }
+{
+    let mut nodes = NameSet::empty();
+    for value in names {
+        if let Some(name) = value.as_str() {
+            nodes = nodes.with(tables.node(name)?);
+        }
+    }
+    Ok(nodes)
+}
+
+/// What stands for a join.
+fn join_for<A: Allocator + Copy>(
+    heap: Global,
+    alloc: A,
+    tables: &mut Tables<A>,
+    tracked: &Tracked<'_>,
+) -> Result<Step<A>, Oom>
+    ensures step { IfOk result (λ s. IsStepOf (all_of tables.new) (join (shown_tracked tracked.now)) (plain s)) }
+    ensures kept { Keeps (all_of tables.old) (all_of tables.new) }
+{
+    let p = presence_for(heap, alloc, tables, tracked)?;
+    Ok(Step::Join {
+        pid: p.pid,
+        topic: p.topic,
+        key: p.key,
+        metadata: p.metadata,
+    })
+}
+
+/// What stands for an update.
+fn update_for<A: Allocator + Copy>(
+    heap: Global,
+    alloc: A,
+    tables: &mut Tables<A>,
+    tracked: &Tracked<'_>,
+) -> Result<Step<A>, Oom>
+    ensures step { IfOk result (λ s. IsStepOf (all_of tables.new) (update (shown_tracked tracked.now)) (plain s)) }
+    ensures kept { Keeps (all_of tables.old) (all_of tables.new) }
+{
+    let p = presence_for(heap, alloc, tables, tracked)?;
+    Ok(Step::Update {
+        pid: p.pid,
+        topic: p.topic,
+        key: p.key,
+        metadata: p.metadata,
+    })
+}
+
+/// What stands for a change of the own presences.
+fn own_step_for<A: Allocator + Copy>(
+    heap: Global,
+    alloc: A,
+    tables: &mut Tables<A>,
+    event: &LogEvent<'_>,
+) -> Result<Option<Step<A>>, Oom>
+    ensures step { IfOk result (λ s. IfSome s (λ s. IsStepOf (all_of tables.new) (shown_event event.now) (plain s))) }
+    ensures some { IfOk result (λ s. is_some s ≡ is_own (shown_event event.now)) }
+    ensures kept { Keeps (all_of tables.old) (all_of tables.new) }
+{
+    match event {
+        LogEvent::Join(tracked) => Ok(Some(join_for(heap, alloc, tables, tracked)?)),
+        LogEvent::Update(tracked) => Ok(Some(update_for(heap, alloc, tables, tracked)?)),
+        LogEvent::Leave { pid, topic, key } => {
+            Ok(Some(leave_for(heap, alloc, tables, pid, topic, key)?))
+        }
+        LogEvent::LeaveAll(pid) => Ok(Some(Step::LeaveAll {
+            pid: tables.pid(heap, pid)?,
+        })),
+        _ => Ok(None),
+    }
+}
+
+/// What stands for an answer.
+fn answer_for<A: Allocator + Copy>(
+    heap: Global,
+    tables: &mut Tables<A>,
+    from: &str,
+    message: &Value,
+) -> Result<Step<A>, NoteFault>
+    ensures step { IfOk result (λ s. (n : ℕ) × (k : ℕ) × (plain s ≡ Answer n k) × IsNodeOf (all_of tables.new) from.now n × IsMessageOf (all_of tables.new) n (view message.now) k) }
+    ensures kept { Keeps (all_of tables.old) (all_of tables.new) }
+    ensures many { result ≡ Err NoteFault.TooManyNodes → 32 < length (all_of tables.new).nodes }
+{
+    let (sender, number) = taken_from(heap, tables, from, message)?;
+    Ok(Step::Answer { sender, number })
+}
+
+/// What stands for a delivery.
+fn deliver_for<A: Allocator + Copy>(
+    heap: Global,
+    tables: &mut Tables<A>,
+    from: &str,
+    message: &Value,
+) -> Result<Step<A>, NoteFault>
+    ensures step { IfOk result (λ s. IsStepOf (all_of tables.new) (deliver from.now (view message.now)) (plain s)) }
+    ensures kept { Keeps (all_of tables.old) (all_of tables.new) }
+    ensures many { result ≡ Err NoteFault.TooManyNodes → 32 < length (all_of tables.new).nodes }
+{
+    let (sender, number) = taken_from(heap, tables, from, message)?;
+    Ok(Step::Deliver { sender, number })
+}
+
+/// What stands for a message that is sent or taken.
+fn message_step_for<A: Allocator + Copy>(
+    heap: Global,
+    tables: &mut Tables<A>,
+    event: &LogEvent<'_>,
+) -> Result<Option<Step<A>>, NoteFault>
+    ensures step { IfOk result (λ s. IfSome s (λ s. IsStepOf (all_of tables.new) (shown_event event.now) (plain s))) }
+    ensures some { IfOk result (λ s. is_some s ≡ is_message (shown_event event.now)) }
+    ensures kept { Keeps (all_of tables.old) (all_of tables.new) }
+    ensures many { result ≡ Err NoteFault.TooManyNodes → 32 < length (all_of tables.new).nodes }
+{
+    match event {
+        LogEvent::Broadcast(_) => Ok(Some(Step::Broadcast)),
+        LogEvent::Request(_) => Ok(Some(Step::Request)),
+        LogEvent::Extract { names, .. } => Ok(Some(Step::Extract {
+            names: nodes_for(tables, names)?,
+        })),
+        LogEvent::Deliver { from, message } => {
+            Ok(Some(deliver_for(heap, tables, from, message)?))
+        }
+        LogEvent::Answer { from, message, .. } => {
+            Ok(Some(answer_for(heap, tables, from, message)?))
+        }
+        _ => Ok(None),
+    }
+}
+
+/// What stands for a status.
+fn status_for<A: Allocator + Copy>(
+    tables: &mut Tables<A>,
+    event: &LogEvent<'_>,
+) -> Result<Option<Step<A>>, NoteFault>
+    ensures step { IfOk result (λ s. IfSome s (λ s. IsStepOf (all_of tables.new) (shown_event event.now) (plain s))) }
+    ensures some { IfOk result (λ s. is_some s ≡ is_status (shown_event event.now)) }
+    ensures kept { Keeps (all_of tables.old) (all_of tables.new) }
+    ensures many { result ≡ Err NoteFault.TooManyNodes → 32 < length (all_of tables.new).nodes }
+{
+    match event {
+        LogEvent::Up(name) => Ok(Some(Step::Up {
+            name: tables.node(name)?,
+        })),
+        LogEvent::Down(name) => Ok(Some(Step::Down {
+            name: tables.node(name)?,
+        })),
+        LogEvent::Permdown(name) => Ok(Some(Step::Permdown {
+            name: tables.node(name)?,
+        })),
+        _ => Ok(None),
+    }
+}
+
+/// The step that stands for an event. There is none for what was listed.
+pub(crate) fn step_for<A: Allocator + Copy>(
+    heap: Global,
+    alloc: A,
+    tables: &mut Tables<A>,
+    event: &LogEvent<'_>,
+) -> Result<Option<Step<A>>, NoteFault>
+    ensures step { IfOk result (λ s. IfSome s (λ s. IsStepOf (all_of tables.new) (shown_event event.now) (plain s))) }
+    ensures some { IfOk result (λ s. is_some s ≡ not (is_online (shown_event event.now))) }
+    ensures kept { Keeps (all_of tables.old) (all_of tables.new) }
+    ensures many { result ≡ Err NoteFault.TooManyNodes → 32 < length (all_of tables.new).nodes }
+{
+    match event {
+        LogEvent::Join(_) | LogEvent::Update(_) | LogEvent::Leave { .. } | LogEvent::LeaveAll(_) =>
+            Ok(own_step_for(heap, alloc, tables, event)?),
+        LogEvent::Up(_) | LogEvent::Down(_) | LogEvent::Permdown(_) => status_for(tables, event),
+        LogEvent::Online(_) => Ok(None),
+        _ => message_step_for(heap, tables, event),
+    }
+}
+
+/// The number of the message that an event of a node sends.
+pub(crate) fn sent_by<A: Allocator + Copy>(
+    heap: Global,
+    tables: &mut Tables<A>,
+    node: u16,
+    event: &LogEvent<'_>,
+) -> Result<Option<usize>, Oom>
+    ensures sends { IfOk result (λ sends. IsSentOf (all_of tables.new) node (shown_event event.now) sends) }
+    ensures kept { Keeps (all_of tables.old) (all_of tables.new) }
+{
+    match event {
+        LogEvent::Broadcast(message) => Ok(Some(tables.message(heap, node, message)?)),
+        LogEvent::Request(message) => Ok(Some(tables.message(heap, node, message)?)),
+        LogEvent::Extract { message, .. } => Ok(Some(tables.message(heap, node, message)?)),
+        LogEvent::Answer { sends, .. } => Ok(Some(tables.message(heap, node, sends)?)),
+        _ => Ok(None),
+    }
+}

@@ -1,0 +1,86 @@
+//! The rows that a real node listed, as rows of the bench.
+ghost use Rattle.std.specs.Prelude.{◌≡◌, ◌<◌, ◌++◌, ◌∷◌, [], Err, length, IfOk, OnOk};
+ghost use Rattle.serde_json.specs.View.{items_view};
+ghost use Rattle.log_core.specs.Views.{event as shown_event, row as shown_row};
+ghost use Rattle.import_core.specs.Tables.{Keeps, all_of};
+ghost use Rattle.import_core.specs.Listed.{AreRowsOf, IsListOf, IsRowOf};
+
+use crate::note_fault::NoteFault;
+use crate::noting::presence_for;
+use crate::tables::Tables;
+use diff_core::OnlineRow;
+use dots_core::Oom;
+use log_core::{LogEvent, Row, row_at};
+use serde_json::Value;
+use std::alloc::{Allocator, Global};
+
+/// What stands for a row, at the clock 0: a real node lists no clocks.
+fn row_for<A: Allocator + Copy>(
+    heap: Global,
+    alloc: A,
+    tables: &mut Tables<A>,
+    row: &Row<'_>,
+) -> Result<OnlineRow<A>, NoteFault>
+    ensures row { IfOk result (λ r. IsRowOf (all_of tables.new) (shown_row row.now) r) }
+    ensures kept { Keeps (all_of tables.old) (all_of tables.new) }
+    ensures many { result ≡ Err NoteFault.TooManyNodes → 32 < length (all_of tables.new).nodes }
+{
+    let name = tables.node(row.node)?;
+    let p = presence_for(heap, alloc, tables, &row.tracked)?;
+    Ok(OnlineRow {
+        topic: p.topic,
+        key: p.key,
+        name,
+        pid: p.pid,
+        clock: 0,
+        metadata: p.metadata,
+    })
+}
+
+fn add_row<A: Allocator + Copy>(
+    rows: &mut Vec<OnlineRow<A>, A>,
+    row: OnlineRow<A>,
+) -> Result<(), Oom>
+    ensures { OnOk result (rows.new.items ≡ rows.old.items ++ row ∷ []) }
+{
+    rows.push(row)?;
+    Ok(())
+}
+
+/// What stands for the rows among these values, of which each is one.
+fn rows_for<A: Allocator + Copy>(
+    heap: Global,
+    alloc: A,
+    tables: &mut Tables<A>,
+    values: &[Value],
+) -> Result<Vec<OnlineRow<A>, A>, NoteFault>
+    ensures rows { IfOk result (λ rows. AreRowsOf (all_of tables.new) [] (items_view values.now) rows.items) }
+    ensures kept { Keeps (all_of tables.old) (all_of tables.new) }
+    ensures many { result ≡ Err NoteFault.TooManyNodes → 32 < length (all_of tables.new).nodes }
+{
+    let mut rows = Vec::new(alloc);
+    for value in values {
+        if let Some(listed) = row_at(value) {
+            let row = row_for(heap, alloc, tables, &listed)?;
+            add_row(&mut rows, row)?;
+        }
+    }
+    Ok(rows)
+}
+
+/// The rows that an event lists, if it lists some.
+pub(crate) fn listed_for<A: Allocator + Copy>(
+    heap: Global,
+    alloc: A,
+    tables: &mut Tables<A>,
+    event: &LogEvent<'_>,
+) -> Result<Vec<OnlineRow<A>, A>, NoteFault>
+    ensures rows { IfOk result (λ rows. IsListOf (all_of tables.new) (shown_event event.now) rows.items) }
+    ensures kept { Keeps (all_of tables.old) (all_of tables.new) }
+    ensures many { result ≡ Err NoteFault.TooManyNodes → 32 < length (all_of tables.new).nodes }
+{
+    match event {
+        LogEvent::Online(values) => rows_for(heap, alloc, tables, values),
+        _ => Ok(Vec::new(alloc)),
+    }
+}

@@ -1,0 +1,118 @@
+//! `Tables`: what stands for what.
+ghost use Rattle.std.specs.Prelude.{◌≡◌, ◌<◌, ◌^◌, ◌++◌, Some, Err, IfOk, length, string_bytes, decimal, codes};
+ghost use Rattle.serde_json.specs.View.{view};
+ghost use Rattle.import_core.specs.Tables.{IsTextOf, IsWordOf, IsNumberOf, IsNodeOf, IsMessageOf, Extends, Keeps, all_of, no_tables, message_text};
+
+use crate::note_fault::NoteFault;
+use crate::numbering::numbered;
+use crate::texts::{spelling_of, text_of};
+use bench_core::TextSet;
+use dots_core::Oom;
+use payload_core::Word;
+use serde_json::Value;
+use spelling_core::{LONGEST, word_of};
+use std::alloc::{Allocator, Global};
+
+/// The texts of nodes, of processes, of messages with their senders, and of the values whose words are cut, each numbered by first
+/// sight.
+#[derive(Drop)]
+pub struct Tables<A: Allocator> {
+    pub nodes: TextSet<A>,
+    pub pids: TextSet<A>,
+    pub messages: TextSet<A>,
+    pub longs: TextSet<A>,
+}
+
+/// The number of a value among those whose texts these are.
+fn number_in<A: Allocator + Copy>(
+    heap: Global,
+    texts: &mut TextSet<A>,
+    value: &Value,
+) -> Result<u64, Oom>
+    ensures number { IfOk result (λ n. IsNumberOf texts.new (view value.now) n) }
+    ensures kept { Extends texts.old texts.new }
+{
+    let text = text_of(heap, value)?;
+    Ok(numbered(texts, &text)? as u64)
+}
+
+/// The word of a value.
+fn word_in<A: Allocator + Copy>(
+    heap: Global,
+    alloc: A,
+    longs: &mut TextSet<A>,
+    value: &Value,
+) -> Result<Word<A>, Oom>
+    ensures word { IfOk result (λ word. IsWordOf longs.new (view value.now) word) }
+    ensures kept { Extends longs.old longs.new }
+{
+    let spelling = spelling_of(heap, value)?;
+    let number = if spelling.len() > LONGEST {
+        number_in(heap, longs, value)?
+    } else {
+        0
+    };
+    word_of(alloc, &spelling, number)
+}
+
+/// A message as a text: the number of its sender, and what tells it.
+fn message_text(heap: Global, sender: u16, text: &str) -> Result<String, Oom>
+    ensures { IfOk result (λ s. string_bytes s ≡ message_text sender text.now) }
+{
+    let told = format!(in heap; "{sender} {text}")?;
+    Ok(told)
+}
+
+impl<A: Allocator + Copy> Tables<A> {
+    /// Nothing stands for anything yet.
+    pub(crate) fn new(alloc: A) -> Tables<A>
+        ensures { all_of result ≡ no_tables }
+    {
+        Tables {
+            nodes: TextSet::new(alloc),
+            pids: TextSet::new(alloc),
+            messages: TextSet::new(alloc),
+            longs: TextSet::new(alloc),
+        }
+    }
+
+    /// The word of a value.
+    pub(crate) fn word(&mut self, heap: Global, alloc: A, value: &Value) -> Result<Word<A>, Oom>
+        ensures word { IfOk result (λ word. IsWordOf self.new.longs (view value.now) word) }
+        ensures kept { Keeps (all_of self.old) (all_of self.new) }
+    {
+        word_in(heap, alloc, &mut self.longs, value)
+    }
+
+    /// The number of a process.
+    pub(crate) fn pid(&mut self, heap: Global, value: &Value) -> Result<u64, Oom>
+        ensures pid { IfOk result (λ pid. IsNumberOf self.new.pids (view value.now) pid) }
+        ensures kept { Keeps (all_of self.old) (all_of self.new) }
+    {
+        number_in(heap, &mut self.pids, value)
+    }
+
+    /// The number of a node.
+    pub(crate) fn node(&mut self, name: &str) -> Result<u16, NoteFault>
+        ensures node { IfOk result (λ node. IsNodeOf (all_of self.new) name.now node) }
+        ensures few { IfOk result (λ node. node < 32) }
+        ensures kept { Keeps (all_of self.old) (all_of self.new) }
+        ensures many { result ≡ Err NoteFault.TooManyNodes → 32 < length self.new.nodes }
+    {
+        let number = numbered(&mut self.nodes, name)?;
+        if number >= 32 {
+            return Err(NoteFault::TooManyNodes);
+        }
+        Ok(number as u16)
+    }
+
+    /// The number of a message of this sender.
+    pub(crate) fn message(&mut self, heap: Global, sender: u16, value: &Value) -> Result<usize, Oom>
+        ensures message { IfOk result (λ message. IsMessageOf (all_of self.new) sender (view value.now) message) }
+        ensures kept { Keeps (all_of self.old) (all_of self.new) }
+    {
+        let text = text_of(heap, value)?;
+        let told = message_text(heap, sender, &text)?;
+        numbered(&mut self.messages, &told)
+    }
+}

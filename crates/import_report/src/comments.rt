@@ -1,0 +1,119 @@
+//! What the names of nodes and the marks of cut words stand for, as comments.
+ghost use Rattle.std.specs.Prelude.{◌≡◌, ◌++◌, ◌<◌, ◌≤◌, ◌^◌, IfOk, OnOk, length, string_bytes};
+ghost use Rattle.spelling_core.specs.WordText.{IsVisible};
+ghost use Rattle.import_core.specs.Tables.{all_of};
+ghost use Rattle.import_report.specs.Comments.{comments_text, node_comment, nodes_comments, shortened, told_text, word_line, words_comments};
+ghost use Rattle.import_report.specs.Events.{ended};
+
+use crate::names::text_at;
+use bench_core::{Names, TextSet};
+use import_core::Tables;
+use payload_core::Oom;
+use report_core::name_at;
+use spelling_core::spelled;
+use std::alloc::Allocator;
+
+/// The most bytes of a text in a comment.
+const LONGEST_TOLD: usize = 4000;
+
+/// The text, or the beginning of one that is too long for a line.
+fn shortened<A: Allocator>(alloc: A, text: &str) -> Result<String<A>, Oom>
+    requires { IsVisible text.now }
+    ensures { IfOk result (λ s. string_bytes s ≡ shortened text.now) }
+{
+    if text.len() <= LONGEST_TOLD {
+        return String::from_str(alloc, text);
+    }
+    let mut short = String::from_str(alloc, &text[..LONGEST_TOLD])?;
+    short.push_str("..")?;
+    Ok(short)
+}
+
+/// A text by the rule of words, or the beginning of one that is too long.
+fn told_text<A: Allocator + Copy>(alloc: A, text: &str) -> Result<String<A>, Oom>
+    ensures { IfOk result (λ s. string_bytes s ≡ told_text text.now) }
+{
+    let spelled = spelled(alloc, true, text)?;
+    shortened(alloc, &spelled)
+}
+
+/// `# n0 is "app@10.0.0.1"`, where the node has another name in the script.
+fn put_node<A: Allocator + Copy>(
+    alloc: A,
+    text: &mut String<A>,
+    name: &str,
+    node: &str,
+) -> Result<(), Oom>
+    ensures { OnOk result (string_bytes text.new ≡ string_bytes text.old ++ node_comment name.now node.now) }
+{
+    if name == node {
+        return Ok(());
+    }
+    let told = told_text(alloc, node)?;
+    write!(text, "# {name} is \"")?;
+    text.push_str(&told)?;
+    Ok(text.push_str("\"\n")?)
+}
+
+/// That of each node.
+fn put_nodes<A: Allocator + Copy, N: Allocator>(
+    alloc: A,
+    text: &mut String<A>,
+    names: &Names<N>,
+    nodes: &TextSet<A>,
+) -> Result<(), Oom>
+    requires { length nodes.now ≤ 32 }
+    ensures { OnOk result (string_bytes text.new ≡ string_bytes text.old ++ nodes_comments names.now 0 nodes.now) }
+{
+    for number in 0..nodes.len() {
+        let name = name_at(names, number as u16);
+        put_node(alloc, text, name, text_at(nodes, number))?;
+    }
+    Ok(())
+}
+
+/// `# ~0 is ..`, the text of the value whose word was cut under this number.
+fn put_word<A: Allocator + Copy>(
+    alloc: A,
+    text: &mut String<A>,
+    number: u64,
+    value: &str,
+) -> Result<(), Oom>
+    ensures { OnOk result (string_bytes text.new ≡ string_bytes text.old ++ ended (word_line number value.now)) }
+{
+    let told = told_text(alloc, value)?;
+    write!(text, "# ~{number} is ")?;
+    text.push_str(&told)?;
+    Ok(text.push_str("\n")?)
+}
+
+/// That of each value.
+fn put_words<A: Allocator + Copy>(
+    alloc: A,
+    text: &mut String<A>,
+    longs: &TextSet<A>,
+) -> Result<(), Oom>
+    ensures text { OnOk result (string_bytes text.new ≡ string_bytes text.old ++ words_comments 0 longs.now) }
+    ensures few { length longs.now < 2 ^ 64 }
+{
+    for number in 0..longs.len() {
+        put_word(alloc, text, number as u64, text_at(longs, number))?;
+    }
+    Ok(())
+}
+
+/// What stands for what, where it can't be seen.
+#[tactic(auto, unfolding(crate::specs::Comments::comments_text))]
+pub(crate) fn put_comments<A: Allocator + Copy, N: Allocator>(
+    alloc: A,
+    text: &mut String<A>,
+    names: &Names<N>,
+    tables: &Tables<A>,
+) -> Result<(), Oom>
+    requires { length tables.now.nodes ≤ 32 }
+    ensures text { OnOk result (string_bytes text.new ≡ string_bytes text.old ++ comments_text names.now (all_of tables.now)) }
+    ensures few { OnOk result (length tables.now.longs < 2 ^ 64) }
+{
+    put_nodes(alloc, text, names, &tables.nodes)?;
+    put_words(alloc, text, &tables.longs)
+}

@@ -1,0 +1,161 @@
+//! The line of an event, and the bench after it.
+ghost use Rattle.std.specs.Prelude.{◌≡◌, ◌++◌, OnOk, IfOk, codes, string_bytes};
+ghost use Rattle.node_core.specs.Operations.{plain};
+ghost use Rattle.bench_core.specs.Acts.{plain_act};
+ghost use Rattle.report_core.specs.ActTexts.{after_act, reply_of};
+ghost use Rattle.report_core.specs.Rows.{name_at};
+ghost use Rattle.report_core.specs.StepText.{act_line};
+ghost use Rattle.import_core.specs.Notes.{note_of};
+ghost use Rattle.import_report.specs.Events.{after_step, after_event, event_line, numbers_after, ended, mark_line, mark_text, event_text};
+
+use crate::numbers::{asked, note_sent};
+use bench_core::{Act, Bench, Fault, Names, Reply, Step};
+use import_core::Noted;
+use payload_core::Oom;
+use report_core::{name_at, put_act};
+use std::alloc::Allocator;
+
+/// `show NODE`.
+fn put_show<A: Allocator, N: Allocator>(
+    text: &mut String<A>,
+    names: &Names<N>,
+    node: u16,
+) -> Result<(), Oom>
+    ensures { OnOk result (string_bytes text.new ≡ string_bytes text.old ++ ended (codes "show " ++ name_at names.now node)) }
+{
+    let node = name_at(names, node);
+    Ok(writeln!(text, "show {node}")?)
+}
+
+/// `# line L`.
+fn put_number<A: Allocator>(text: &mut String<A>, number: u64) -> Result<(), Oom>
+    ensures { OnOk result (string_bytes text.new ≡ string_bytes text.old ++ mark_line number) }
+{
+    Ok(write!(text, "# line {number}")?)
+}
+
+/// What stands in the place of an event whose message was not sent.
+fn put_unsent<A: Allocator>(text: &mut String<A>, number: u64) -> Result<(), Oom>
+    ensures { OnOk result (string_bytes text.new ≡ string_bytes text.old ++ ended (mark_line number ++ codes ": its message was not sent")) }
+{
+    Ok(writeln!(text, "# line {number}: its message was not sent")?)
+}
+
+/// `NODE VERB ..`, on a line.
+fn put_step<A: Allocator, N: Allocator, W: Allocator>(
+    text: &mut String<A>,
+    names: &Names<N>,
+    node: u16,
+    step: &Step<W>,
+) -> Result<(), Oom>
+    ensures { OnOk result (string_bytes text.new ≡ string_bytes text.old ++ ended (act_line names.now node (plain step.now))) }
+{
+    put_act(text, names, node, step)?;
+    Ok(text.push_str("\n")?)
+}
+
+/// The reply to an act, unless it is want of memory.
+#[tactic(auto, unfolding(report_core::specs::ActTexts::reply_of, report_core::specs::ActTexts::after_act))]
+fn answer<'a, B: Allocator>(
+    bench: &mut Bench<'a, B>,
+    node: u16,
+    act: &Act<&'a B>,
+) -> Result<Reply, Oom>
+    ensures reply { IfOk result (λ reply. reply ≡ reply_of bench.old node (plain_act act.now)) }
+    ensures bench { OnOk result (bench.new ≡ after_act bench.old node (plain_act act.now)) }
+{
+    let reply = bench.act(node, act);
+    if reply == Reply::Refused(Fault::OutOfMemory) {
+        return Err(Oom);
+    }
+    Ok(reply)
+}
+
+/// A step of a node is asked, which sends this message, if any.
+#[tactic(auto, unfolding(crate::specs::Events::after_step))]
+fn play<'a, B: Allocator>(
+    bench: &mut Bench<'a, B>,
+    numbers: &mut [u64],
+    node: u16,
+    sends: Option<usize>,
+    act: &Act<&'a B>,
+) -> Result<(), Oom>
+    ensures bench { OnOk result (bench.new ≡ after_act bench.old node (plain_act act.now)) }
+    ensures numbers { OnOk result (numbers.new ≡ numbers_after (after_act bench.old node (plain_act act.now)) numbers.old node sends (reply_of bench.old node (plain_act act.now))) }
+{
+    let reply = answer(bench, node, act)?;
+    note_sent(bench, numbers, node, sends, reply);
+    Ok(())
+}
+
+/// A step of an event: its line, and the bench after it.
+#[tactic(auto, unfolding(crate::specs::Events::after_step))]
+fn put_played<'a, B: Allocator>(
+    text: &mut String<&'a B>,
+    bench: &mut Bench<'a, B>,
+    numbers: &mut [u64],
+    node: u16,
+    sends: Option<usize>,
+    step: Step<&'a B>,
+) -> Result<(), Oom>
+    ensures text { OnOk result (string_bytes text.new ≡ string_bytes text.old ++ ended (act_line bench.old.names node (plain step.entry))) }
+    ensures bench { OnOk result (bench.new ≡ (after_step (record { machine = bench.old; numbers = numbers.old }) node sends (plain step.entry)).machine) }
+    ensures numbers { OnOk result (numbers.new ≡ (after_step (record { machine = bench.old; numbers = numbers.old }) node sends (plain step.entry)).numbers) }
+{
+    put_step(text, bench.names(), node, &step)?;
+    let act = Act::Do(step);
+    let played = play(bench, numbers, node, sends, &act);
+    drop(act);
+    played
+}
+
+/// An event: its line, and the bench after it.
+#[tactic(auto, unfolding(crate::specs::Events::event_line, crate::specs::Events::after_event))]
+fn put_event<'a, B: Allocator>(
+    text: &mut String<&'a B>,
+    bench: &mut Bench<'a, B>,
+    numbers: &mut [u64],
+    note: &Noted<&'a B>,
+) -> Result<(), Oom>
+    ensures text { OnOk result (string_bytes text.new ≡ string_bytes text.old ++
+        ended (event_line bench.old.names (record { machine = bench.old; numbers = numbers.old }) (note_of note.now))) }
+    ensures bench { OnOk result (bench.new ≡ (after_event (record { machine = bench.old; numbers = numbers.old }) (note_of note.now)).machine) }
+    ensures numbers { OnOk result (numbers.new ≡ (after_event (record { machine = bench.old; numbers = numbers.old }) (note_of note.now)).numbers) }
+{
+    let node = note.logged.node;
+    let Some(step) = &note.step else {
+        return put_show(text, bench.names(), node);
+    };
+    let Some(step) = asked(step, numbers)? else {
+        return put_unsent(text, note.number);
+    };
+    put_played(text, bench, numbers, node, note.logged.sends, step)
+}
+
+/// `# line L`, where lines are told.
+fn put_mark<A: Allocator>(text: &mut String<A>, told: bool, number: u64) -> Result<(), Oom>
+    ensures { OnOk result (string_bytes text.new ≡ string_bytes text.old ++ mark_text told number) }
+{
+    if !told {
+        return Ok(());
+    }
+    put_number(text, number)?;
+    Ok(text.push_str("\n")?)
+}
+
+/// An event: its lines, and the bench after it.
+#[tactic(auto, unfolding(crate::specs::Events::event_text))]
+pub(crate) fn put_lines<'a, B: Allocator>(
+    text: &mut String<&'a B>,
+    bench: &mut Bench<'a, B>,
+    numbers: &mut [u64],
+    told: bool,
+    note: &Noted<&'a B>,
+) -> Result<(), Oom>
+    ensures text { OnOk result (string_bytes text.new ≡ string_bytes text.old ++ event_text told bench.old.names (record { machine = bench.old; numbers = numbers.old }) (note_of note.now)) }
+    ensures bench { OnOk result (bench.new ≡ (after_event (record { machine = bench.old; numbers = numbers.old }) (note_of note.now)).machine) }
+    ensures numbers { OnOk result (numbers.new ≡ (after_event (record { machine = bench.old; numbers = numbers.old }) (note_of note.now)).numbers) }
+{
+    put_mark(text, told, note.number)?;
+    put_event(text, bench, numbers, note)
+}

@@ -1,0 +1,121 @@
+//! The names of the nodes in the script.
+ghost use Rattle.std.specs.Prelude.{◌≡◌, ◌≢◌, ◌++◌, ◌∷◌, ◌<◌, ◌≤◌, [], IfOk, OnOk, length, map, take};
+ghost use Rattle.grammar_core.specs.Grammar.{unreserved};
+ghost use Rattle.report_core.specs.Rows.{name_at};
+ghost use Rattle.import_report.specs.Names.{AreNames, numbered_names, shown_names};
+
+use bench_core::{Names, NamesFault, TextSet};
+use grammar_core::words_of;
+use payload_core::Oom;
+use std::alloc::Allocator;
+
+/// Names for nodes whose own can't be kept.
+pub const NUMBERED: &str =
+    "n0 n1 n2 n3 n4 n5 n6 n7 n8 n9 n10 n11 n12 n13 n14 n15 n16 n17 n18 n19 n20 n21 n22 n23 n24 n25 n26 n27 n28 n29 n30 n31";
+
+/// The word, or, where it has a meaning of its own, the empty text, which is no name either.
+#[tactic(auto, unfolding(grammar_core::specs::Grammar::keyword_of, grammar_core::specs::Grammar::unreserved))]
+fn unreserved(word: &str) -> &str
+    ensures { result.now ≡ unreserved word.now }
+{
+    match word {
+        "nodes" | "consoles" | "show" | "dots" | "why" | "journal" => "",
+        _ => word,
+    }
+}
+
+/// The text of a number, and nothing where there is none.
+pub(crate) fn text_at<A: Allocator>(texts: &TextSet<A>, number: usize) -> &str
+    ensures { result.now ≡ name_at texts.now number }
+{
+    match texts.text(number) {
+        Some(text) => text,
+        None => "",
+    }
+}
+
+fn add_word<'t, A: Allocator>(words: &mut Vec<&'t str, A>, text: &'t str) -> Result<(), Oom>
+    ensures { OnOk result (map (λ word. word.now) words.new.items ≡ map (λ word. word.now) words.old.items ++ unreserved text.now ∷ []) }
+{
+    words.push(unreserved(text))?;
+    Ok(())
+}
+
+/// The texts as words of a `nodes` line.
+fn texts_as_words<'t, A: Allocator + Copy>(
+    alloc: A,
+    texts: &'t TextSet<A>,
+) -> Result<Vec<&'t str, A>, Oom>
+    ensures { IfOk result (λ words. map (λ word. word.now) words.items ≡ map unreserved texts.now) }
+{
+    let mut words = Vec::new(alloc);
+    for number in 0..texts.len() {
+        add_word(&mut words, text_at(texts, number))?;
+    }
+    Ok(words)
+}
+
+/// The first of these words.
+fn first_words<'s, 't>(words: &'s [&'t str], count: usize) -> &'s [&'t str]
+    requires { count ≤ length words.now }
+    ensures { result.now ≡ take count words.now }
+{
+    &words[..count]
+}
+
+/// So many names `n0`, `n1` ..
+fn numbered_names<A: Allocator + Copy>(alloc: A, count: usize) -> Result<Names<A>, Oom>
+    requires some { 0 < count }
+    requires few { count ≤ 32 }
+    ensures names { IfOk result (λ names. names ≡ numbered_names count) }
+    ensures nodes { IfOk result (λ names. AreNames names) }
+    ensures count { IfOk result (λ names. length names ≡ count) }
+{
+    let words = words_of(alloc, NUMBERED)?;
+    match Names::new(alloc, first_words(&words, count)) {
+        Ok(names) => {
+            names.names_law();
+            Ok(names)
+        }
+        Err(_) => Err(Oom),
+    }
+}
+
+/// Names `n0`, `n1` .. for nodes whose own have this fault, unless it is want of memory.
+fn or_numbered<A: Allocator + Copy>(
+    alloc: A,
+    fault: NamesFault,
+    count: usize,
+) -> Result<Names<A>, Oom>
+    requires some { 0 < count }
+    requires few { count ≤ 32 }
+    ensures names { IfOk result (λ names. (fault ≢ NamesFault.OutOfMemory) × (names ≡ numbered_names count)) }
+    ensures nodes { IfOk result (λ names. AreNames names) }
+    ensures count { IfOk result (λ names. length names ≡ count) }
+{
+    if fault == NamesFault::OutOfMemory {
+        return Err(Oom);
+    }
+    numbered_names(alloc, count)
+}
+
+/// The names of the nodes in the script: their own where a `nodes` line can have them all.
+pub(crate) fn shown_names<A: Allocator + Copy>(
+    alloc: A,
+    nodes: &TextSet<A>,
+) -> Result<Names<A>, Oom>
+    requires some { 0 < length nodes.now }
+    requires few { length nodes.now ≤ 32 }
+    ensures names { IfOk result (λ names. names ≡ shown_names nodes.now) }
+    ensures nodes { IfOk result (λ names. AreNames names) }
+    ensures count { IfOk result (λ names. length names ≡ length nodes.now) }
+{
+    let words = texts_as_words(alloc, nodes)?;
+    match Names::new(alloc, &words) {
+        Ok(names) => {
+            names.names_law();
+            Ok(names)
+        }
+        Err(fault) => or_numbered(alloc, fault, nodes.len()),
+    }
+}

@@ -1,0 +1,118 @@
+//! All lines of a script.
+ghost use Rattle.std.specs.Prelude.{◌≡◌, ◌++◌, ◌<◌, ◌≤◌, ◌^◌, IfOk, OnOk, length, map, replicate, string_bytes};
+ghost use Rattle.std.specs.List.{All};
+ghost use Rattle.import_core.specs.Imports.{note_at};
+ghost use Rattle.import_core.specs.Notes.{note_of};
+ghost use Rattle.import_core.specs.Tables.{all_of};
+ghost use Rattle.import_report.specs.Comments.{comments_text};
+ghost use Rattle.import_report.specs.Events.{after_events, ended, events_text};
+ghost use Rattle.import_report.specs.Scripts.{in_order, nodes_line, opening, spaced_names, script_text};
+
+use crate::comments::put_comments;
+use crate::events::put_lines;
+use bench_core::{Bench, Limits, Names};
+use import_core::{Noted, Tables};
+use payload_core::Oom;
+use report_core::name_at;
+use std::alloc::Allocator;
+
+/// Each name after a space.
+fn put_names<A: Allocator, N: Allocator>(text: &mut String<A>, names: &Names<N>) -> Result<(), Oom>
+    ensures { OnOk result (string_bytes text.new ≡ string_bytes text.old ++ spaced_names names.now) }
+{
+    for number in 0..names.len() as u16 {
+        let name = name_at(names, number);
+        write!(text, " {name}")?;
+    }
+    Ok(())
+}
+
+/// `nodes NAME ..`.
+#[tactic(auto, unfolding(crate::specs::Scripts::nodes_line))]
+fn put_nodes<A: Allocator, N: Allocator>(text: &mut String<A>, names: &Names<N>) -> Result<(), Oom>
+    ensures { OnOk result (string_bytes text.new ≡ string_bytes text.old ++ ended (nodes_line names.now)) }
+{
+    text.push_str("nodes")?;
+    put_names(text, names)?;
+    Ok(text.push_str("\n")?)
+}
+
+/// The events in this order: their lines, and the bench after them.
+#[tactic(auto, unfolding(crate::specs::Events::events_text))]
+fn put_events<'a, B: Allocator>(
+    text: &mut String<&'a B>,
+    bench: &mut Bench<'a, B>,
+    numbers: &mut [u64],
+    told: bool,
+    notes: &[Noted<&'a B>],
+    order: &[usize],
+) -> Result<(), Oom>
+    requires { All (λ place. place < length notes.now) order.now }
+    ensures text { OnOk result (string_bytes text.new ≡ string_bytes text.old ++
+        events_text told bench.old.names (record { machine = bench.old; numbers = numbers.old }) (in_order (map note_of notes.now) order.now)) }
+    ensures bench { OnOk result (bench.new ≡ (after_events (record { machine = bench.old; numbers = numbers.old }) (in_order (map note_of notes.now) order.now)).machine) }
+{
+    for place in order {
+        put_lines(text, bench, numbers, told, &notes[*place])?;
+    }
+    Ok(())
+}
+
+/// So many zeros.
+fn zeros<A: Allocator>(alloc: A, count: usize) -> Result<Vec<u64, A>, Oom>
+    ensures { IfOk result (λ v. v.items ≡ replicate count 0) }
+{
+    vec![in alloc; 0u64; count]
+}
+
+/// A script, and the bench on which its lines were played.
+#[derive(Drop)]
+pub struct Scripted<'a, B: Allocator> {
+    pub text: String<&'a B>,
+    pub bench: Bench<'a, B>,
+}
+
+/// Puts the first lines: the nodes, and what stands for what.
+fn put_head<'a, B: Allocator>(
+    alloc: &'a B,
+    text: &mut String<&'a B>,
+    names: &Names<&'a B>,
+    tables: &Tables<&'a B>,
+) -> Result<(), Oom>
+    requires { length tables.now.nodes ≤ 32 }
+    ensures text { OnOk result (string_bytes text.new ≡ string_bytes text.old ++ ended (nodes_line names.now) ++ comments_text names.now (all_of tables.now)) }
+    ensures few { OnOk result (length tables.now.longs < 2 ^ 64) }
+{
+    put_nodes(text, names)?;
+    put_comments(alloc, text, names, tables)
+}
+
+/// The script of events in this order, made by playing them on a bench of these nodes.
+#[tactic(auto, unfolding(crate::specs::Scripts::script_text))]
+pub(crate) fn script_of<'a, B: Allocator>(
+    alloc: &'a B,
+    limits: Limits,
+    told: bool,
+    names: Names<&'a B>,
+    tables: &Tables<&'a B>,
+    notes: &[Noted<&'a B>],
+    order: &[usize],
+) -> Result<Scripted<'a, B>, Oom>
+    requires few { length tables.now.nodes ≤ 32 }
+    requires places { All (λ place. place < length notes.now) order.now }
+    ensures text { IfOk result (λ s. string_bytes s.text ≡
+        script_text told limits names.entry (all_of tables.now) (in_order (map note_of notes.now) order.now)) }
+    ensures bench { IfOk result (λ s. s.bench ≡
+        (after_events (opening limits names.entry (length tables.now.messages)) (in_order (map note_of notes.now) order.now)).machine) }
+    ensures few { OnOk result (length tables.now.longs < 2 ^ 64) }
+{
+    let mut text = String::new(alloc);
+    put_head(alloc, &mut text, &names, tables)?;
+    let mut numbers = zeros(alloc, tables.messages.len())?;
+    let mut bench = Bench::new(alloc, names, limits)?;
+    if let Err(oom) = put_events(&mut text, &mut bench, &mut numbers, told, notes, order) {
+        drop(bench);
+        return Err(oom);
+    }
+    Ok(Scripted { text, bench })
+}

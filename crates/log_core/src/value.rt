@@ -1,0 +1,57 @@
+//! The JSON value of a line.
+ghost use Rattle.std.specs.Prelude.{◌≡◌, ◌≤◌, false, length, Some, IfOk, IfErr, option_map};
+ghost use Rattle.std.specs.List.{list_all};
+ghost use Rattle.serde_json.specs.View.{view};
+ghost use Rattle.log_core.specs.Lines.{is_space, is_blank, IsValueOf, HasNoValue};
+
+use crate::line_fault::LineFault;
+use serde_json::Value;
+use std::alloc::Global;
+
+/// The most bytes of a line, without its line feed.
+const LONGEST_LINE: usize = 1_048_576;
+
+fn is_space(byte: u8) -> bool
+    ensures { result ≡ is_space byte }
+{
+    matches!(byte, b' ' | b'\t' | b'\r')
+}
+
+/// Whether the line has white space alone; a carriage return at its end is some.
+fn is_blank(line: &[u8]) -> bool
+    ensures { result ≡ is_blank line.now }
+{
+    line.iter().all(|byte| is_space(*byte))
+}
+
+/// The value of a text, if it is JSON.
+fn value_of(heap: Global, line: &[u8]) -> Result<Value, LineFault>
+    requires short { length line.now ≤ 1048576 }
+    requires told { is_blank line.now ≡ false }
+    ensures ok { IfOk result (λ v. IsValueOf line.now (Some (view v))) }
+    ensures err { IfErr result (HasNoValue line.now) }
+{
+    let Ok(text) = std::str::from_utf8(line) else {
+        return Err(LineFault::NotJson);
+    };
+    match Value::from_str(heap, text) {
+        Ok(value) => Ok(value),
+        Err(fault) if fault.is_memory() => Err(LineFault::OutOfMemory),
+        Err(_) => Err(LineFault::NotJson),
+    }
+}
+
+/// The value of a line; of one that has white space alone there is none.
+pub fn value_of_line(heap: Global, line: &[u8]) -> Result<Option<Value>, LineFault>
+    ensures ok { IfOk result (λ v. IsValueOf line.now (option_map view v)) }
+    ensures err { IfErr result (HasNoValue line.now) }
+{
+    if line.len() > LONGEST_LINE {
+        return Err(LineFault::TooLong);
+    }
+    if is_blank(line) {
+        return Ok(None);
+    }
+    let value = value_of(heap, line)?;
+    Ok(Some(value))
+}
