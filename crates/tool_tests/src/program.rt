@@ -1,10 +1,9 @@
-//! What words choose; and what the program does where it can't write, or is refused memory. What it prints and its statuses are
-//! cases of `example_tests`.
+//! Why words choose nothing; and what the program does where it can't write, or is refused memory. What words choose, what it
+//! prints and its statuses are cases of `example_tests`.
 use clap::error::ErrorKind;
-use command_line::{Form, Question, Reading, Subcommand, choice};
+use command_line::choice;
 use program_core::{Fault, program, run};
 use script_core::{FakeReader, FakeWriter};
-use session_core::load;
 use std::alloc::{Allocator, Global};
 use std::process::{Abort, Termination};
 use std::sync::Wait;
@@ -19,78 +18,6 @@ const REPORT: &str = "1 ok\n+ r alice a/1 phone\nundone 1\n- r alice a/1 phone\n
 /// A play of it as it is saved.
 const SESSION: &str = "{\"acts\":[[0,[\"do\",\"join\",1,\"r\",\"alice\",\"phone\"],[\"ok\",1]],\
 [0,[\"undo\",1],[\"undone\",1]]],\"limits\":[100000,10000,1000000,10000],\"nodes\":[\"a\",\"b\"],\"version\":2}\n";
-
-/// All orders with no option.
-const ALL_ORDERS: Subcommand = Subcommand::Explore {
-    reading: Reading::EveryOrder,
-    states: 100_000,
-    outcome: None,
-};
-
-/// The words that choose something, and what they choose.
-const CHOSEN: &[(&[&str], Subcommand, Form)] = &[
-    (&["play"], Subcommand::Play, Form::Report),
-    (&["play", "--as", "report"], Subcommand::Play, Form::Report),
-    (&["play", "--as=session"], Subcommand::Play, Form::Session),
-    (&["race"], Subcommand::Race, Form::Report),
-    (
-        &["race", "--as", "session"],
-        Subcommand::Race,
-        Form::Session,
-    ),
-    (&["load"], Subcommand::Load, Form::Report),
-    (&["load", "--as=report"], Subcommand::Load, Form::Report),
-    (
-        &["load", "--as", "session"],
-        Subcommand::Load,
-        Form::Session,
-    ),
-    (&["explore"], ALL_ORDERS, Form::Report),
-    (&["explore", "--as", "report"], ALL_ORDERS, Form::Report),
-    (
-        &["explore", "--states", "7"],
-        Subcommand::Explore {
-            reading: Reading::EveryOrder,
-            states: 7,
-            outcome: None,
-        },
-        Form::Report,
-    ),
-    (
-        &["explore", "--script=2"],
-        Subcommand::Explore {
-            reading: Reading::EveryOrder,
-            states: 100_000,
-            outcome: Some(2),
-        },
-        Form::Report,
-    ),
-    (
-        &["explore", "--script", "0", "--deliveries", "--states", "12"],
-        Subcommand::Explore {
-            reading: Reading::Deliveries,
-            states: 12,
-            outcome: Some(0),
-        },
-        Form::Report,
-    ),
-    (&["step"], Subcommand::Step, Form::Report),
-    (&["draw"], Subcommand::Draw { why: None }, Form::Report),
-    (
-        &["draw", "--why", "12"],
-        Subcommand::Draw { why: Some(12) },
-        Form::Report,
-    ),
-    (
-        &["explain", "b", "lobby", "alice"],
-        Subcommand::Explain(Question {
-            node: "b",
-            topic: "lobby",
-            key: "alice",
-        }),
-        Form::Report,
-    ),
-];
 
 /// Words that choose nothing, and why.
 const REFUSED: &[(&[&str], ErrorKind)] = &[
@@ -120,14 +47,6 @@ const REFUSED: &[(&[&str], ErrorKind)] = &[
     (&["--help"], ErrorKind::DisplayHelp),
     (&["--version"], ErrorKind::DisplayVersion),
 ];
-
-#[test]
-fn words_choose_a_subcommand_and_a_form(rt: HostRuntime) {
-    for (words, command, form) in CHOSEN {
-        let given = choice(rt.alloc(), words).expect(&rt, "a choice");
-        assert!(rt; given.command == *command && given.form == *form);
-    }
-}
 
 #[test]
 fn other_words_are_refused(rt: HostRuntime) {
@@ -362,29 +281,39 @@ fn want_of_memory_prints_nothing(rt: HostRuntime) {
     }
 }
 
-/// How many calls the saved session has.
-fn calls_of(heap: Global, session: &[u8], rt: &impl Abort) -> usize {
-    let bench = load(heap, &heap, session).expect(rt, "a session");
-    let count = bench.history().len();
-    drop(bench);
-    count
+/// How many replies the report tells.
+fn replies_of(report: &[u8]) -> usize {
+    let report = str::from_utf8(report).unwrap_or("");
+    let is_reply = |line: &&str| line.ends_with(" ok") || line.starts_with("no ");
+    report.lines().filter(is_reply).count()
+}
+
+/// What goes out, where the program ends well and tells nothing.
+fn printed<T: Threads + Wait + Sync + Abort>(
+    heap: Global,
+    words: &[&str],
+    input: &[u8],
+    rt: &T,
+) -> FakeWriter {
+    let mut reader = FakeReader::ending(input);
+    let rooms = [10_000, 1000];
+    let (status, writer, errors) = ended(heap, &heap, words, &mut reader, rooms, rt);
+    let is_so = status == 0 && errors.taken().is_empty();
+    drop(errors);
+    assert!(rt; is_so);
+    writer
 }
 
 /// Lines of two nodes, in whatever order they are asked: a session with an event for each.
 #[test]
 fn a_race_is_saved_and_loads_again(rt: HostRuntime) {
-    let script = "nodes a b\na join 1 r alice phone\nb up a\na broadcast\nb deliver a 1\n";
-    let mut reader = FakeReader::ending(script.as_bytes());
-    let words = ["race", "--as", "session"];
-    let heap = rt.alloc();
-    let rooms = [10_000, 1000];
-    let (status, writer, errors) = ended(heap, &heap, &words, &mut reader, rooms, &rt);
-    let is_so = status == 0
-        && errors.taken().is_empty()
-        && calls_of(heap, writer.taken(), &rt) == 4;
-    drop(errors);
-    drop(writer);
-    assert!(rt; is_so);
+    let script = b"nodes a b\na join 1 r alice phone\nb up a\na broadcast\nb deliver a 1\n";
+    let saved = printed(rt.alloc(), &["race", "--as", "session"], script, &rt);
+    let told = printed(rt.alloc(), &["load"], saved.taken(), &rt);
+    let count = replies_of(told.taken());
+    drop(told);
+    drop(saved);
+    assert!(rt; count == 4);
 }
 
 /// The status and the line of each fault of a race.

@@ -10,9 +10,9 @@ pub type Lines<'a, B> = Vec<(u16, Act<&'a B>), &'a B>;
 /// The act lines of a script.
 pub fn lines_of<'a, B: Allocator>(alloc: &'a B, script: &str, rt: &impl Abort) -> Lines<'a, B> {
     let script = parse_script(alloc, script.as_bytes()).expect(rt, "a script");
-    let lines = acts(alloc, &script).expect(rt, "act lines");
+    let lines = acts(alloc, &script);
     drop(script);
-    lines
+    lines.expect(rt, "act lines")
 }
 
 /// Lets go of lines: a call takes them whole.

@@ -1,14 +1,14 @@
 //! Consoles that undo against running nodes in orders that a gate fixes, and receipts of such a race that were altered.
 use crate::workers::gates::{Idle, InOrder};
 use crate::workers::lines::{let_go_of_lines, lines_of, open};
-use crate::workers::races::{agrees, bench_raced, fault_of, let_go_of_receipts, raced};
+use crate::workers::races::{Left, agree_with_none, agrees, raced, raced_on};
 use bench_core::{Act, Bench, Fault, Reply};
 use std::alloc::{Allocator, Global};
 use std::process::Abort;
 use std::sync::Wait;
 use std::thread::Threads;
 use std::time::Clock;
-use worker_core::{Receipt, Receipts, ask, race};
+use worker_core::{Receipt, Receipts, ask};
 
 /// A console undoes what a node did, beside the nodes.
 pub const UNDONE_BESIDE: &str = "\
@@ -112,6 +112,19 @@ fn entries_of<'a, B: Allocator>(bench: &Bench<'a, B>, number: u16, rt: &impl Abo
     node.replica().entries().len()
 }
 
+/// Whether the bench tells the order so, and has so many entries.
+fn is_left_so<'a>(
+    bench: &Bench<'a, Global>,
+    order: &Order,
+    heap: &'a Global,
+    rt: &impl Abort,
+) -> bool {
+    let lines = lines_of(heap, UNDONE_BESIDE, rt);
+    let is_so = is_told(bench, order, &lines);
+    let_go_of_lines(lines);
+    is_so && entries_of(bench, 1, rt) == order.entries
+}
+
 /// Whether a race in this order is told so, and leaves so many entries.
 fn is_raced_so<R: Threads + Wait + Clock + Abort + Sync + Copy>(
     rt: &R,
@@ -119,11 +132,9 @@ fn is_raced_so<R: Threads + Wait + Clock + Abort + Sync + Copy>(
     order: &Order,
 ) -> bool {
     let gate = InOrder::new(*rt, order.lines, ACTORS, 3);
-    let bench = bench_raced(heap, UNDONE_BESIDE, 3, &gate, rt);
-    let lines = lines_of(heap, UNDONE_BESIDE, rt);
-    let is_so = is_told(&bench, order, &lines) && entries_of(&bench, 1, rt) == order.entries;
-    let_go_of_lines(lines);
-    drop(bench);
+    let left = raced(heap, UNDONE_BESIDE, 3, &gate, rt);
+    let is_so = is_left_so(&left.0, order, heap, rt);
+    drop(left);
     is_so && gate.has_passed_each_once()
 }
 
@@ -151,7 +162,7 @@ b join 9 r bob desk
 fn each_line_passes_the_gate_under_its_actor(rt: HostRuntime) {
     let lines = &[1, 2, 3, 4, 5, 6, 7, 8];
     let gate = InOrder::new(rt, lines, &[0, 1, 0, 1, 0, 0, 1, 1], 6);
-    drop(bench_raced(&rt.alloc(), EIGHT_LINES, 2, &gate, &rt));
+    drop(raced(&rt.alloc(), EIGHT_LINES, 2, &gate, &rt));
     assert!(rt; gate.has_passed_each_once());
 }
 
@@ -241,36 +252,34 @@ fn alter<'a, B: Allocator>(alteration: Alteration, lists: &mut Receipts<&'a B>, 
     }
 }
 
-/// A race in the order of the lines, and its receipts.
+/// What a race in the order of the lines leaves.
 fn raced_in_turn<'a, R: Threads + Wait + Clock + Abort + Sync + Copy>(
     heap: &'a Global,
     rt: &R,
-) -> (Bench<'a, Global>, Receipts<&'a Global>) {
+) -> Left<'a, Global> {
     let gate = InOrder::new(*rt, &[1, 2, 3, 4, 5], ACTORS, 0);
     raced(heap, UNDONE_BESIDE, 3, &gate, rt)
 }
 
-/// Whether the receipts of such a race agree with its history once they are altered.
-fn agrees_altered<R: Threads + Wait + Clock + Abort + Sync + Copy>(
+/// Whether the receipts of such a race agree with its history once they are altered; and so with one that does not go on.
+fn agree_altered<R: Threads + Wait + Clock + Abort + Sync + Copy>(
     rt: &R,
     heap: &Global,
     alteration: Alteration,
-) -> bool {
-    let opening = open(heap, 100, rt);
-    let (bench, mut receipts) = raced_in_turn(heap, rt);
-    alter(alteration, &mut receipts, rt);
-    let agrees = agrees(&opening, &bench, UNDONE_BESIDE, &receipts, heap, rt);
-    let_go_of_receipts(receipts);
-    drop(bench);
-    drop(opening);
-    agrees
+) -> (bool, bool) {
+    let mut left = raced_in_turn(heap, rt);
+    alter(alteration, &mut left.1, rt);
+    let agree = agree_with_none(&left, UNDONE_BESIDE, heap, rt);
+    drop(left);
+    agree
 }
 
 #[test]
 fn altered_receipts_disagree(rt: HostRuntime) {
-    assert!(rt; agrees_altered(&rt, &rt.alloc(), Alteration::Nothing));
+    let heap = rt.alloc();
+    assert!(rt; agree_altered(&rt, &heap, Alteration::Nothing) == (true, false));
     for alteration in ALTERATIONS {
-        assert!(rt; !agrees_altered(&rt, &rt.alloc(), *alteration));
+        assert!(rt; agree_altered(&rt, &heap, *alteration) == (false, false));
     }
 }
 
@@ -281,6 +290,19 @@ fn asked_to_undo<'a>(heap: &'a Global, number: u64, rt: &impl Abort) -> Bench<'a
     bench
 }
 
+/// Whether the receipts account for the history after that of a bench that was asked this undo.
+fn agrees_after_undo<'a>(
+    left: &Left<'a, Global>,
+    number: u64,
+    heap: &'a Global,
+    rt: &impl Abort,
+) -> bool {
+    let before = asked_to_undo(heap, number, rt);
+    let agrees = agrees(&before, &left.0, UNDONE_BESIDE, &left.1, heap, rt);
+    drop(before);
+    agrees
+}
+
 /// Whether a race on a bench that was asked one undo before agrees with the history of one that was asked another.
 fn agrees_after<R: Threads + Wait + Abort + Sync>(
     rt: &R,
@@ -288,14 +310,10 @@ fn agrees_after<R: Threads + Wait + Abort + Sync>(
     asked: u64,
     other: u64,
 ) -> bool {
-    let before = asked_to_undo(heap, other, rt);
-    let lines = lines_of(heap, UNDONE_BESIDE, rt);
-    let raced = race(rt, heap, asked_to_undo(heap, asked, rt), 3, lines, &Idle).map_err(fault_of);
-    let (bench, receipts) = raced.expect(rt, "a race");
-    let agrees = agrees(&before, &bench, UNDONE_BESIDE, &receipts, heap, rt);
-    let_go_of_receipts(receipts);
-    drop(bench);
-    drop(before);
+    let bench = asked_to_undo(heap, asked, rt);
+    let left = raced_on(bench, heap, UNDONE_BESIDE, 3, &Idle, rt);
+    let agrees = agrees_after_undo(&left, other, heap, rt);
+    drop(left);
     agrees
 }
 
@@ -303,23 +321,4 @@ fn agrees_after<R: Threads + Wait + Abort + Sync>(
 fn receipts_disagree_with_a_history_of_another_beginning(rt: HostRuntime) {
     assert!(rt; agrees_after(&rt, &rt.alloc(), 9, 9));
     assert!(rt; !agrees_after(&rt, &rt.alloc(), 9, 8));
-}
-
-/// Whether the receipts of such a race agree with the history of a bench just opened, after its own.
-fn agrees_backwards<R: Threads + Wait + Clock + Abort + Sync + Copy>(
-    rt: &R,
-    heap: &Global,
-) -> bool {
-    let opening = open(heap, 100, rt);
-    let (bench, receipts) = raced_in_turn(heap, rt);
-    let agrees = agrees(&bench, &opening, UNDONE_BESIDE, &receipts, heap, rt);
-    let_go_of_receipts(receipts);
-    drop(bench);
-    drop(opening);
-    agrees
-}
-
-#[test]
-fn receipts_disagree_with_a_history_that_does_not_go_on(rt: HostRuntime) {
-    assert!(rt; !agrees_backwards(&rt, &rt.alloc()));
 }

@@ -31,58 +31,56 @@ consoles c1
 c1 undo 1
 ";
 
-/// What a race leaves: the bench, and its receipts or its fault.
-pub type Raced<'a, B> = Result<(Bench<'a, B>, Receipts<&'a B>), (RaceFault, Bench<'a, B>)>;
+/// What a race gives back: the bench, and its receipts or its fault.
+type Raced<'a, B> = Result<(Bench<'a, B>, Receipts<&'a B>), (RaceFault, Bench<'a, B>)>;
 
-/// Lets go of receipts: a call takes them whole.
-pub fn let_go_of_receipts<A: Allocator>(receipts: Receipts<A>) {
-    drop(receipts);
-}
+/// What calls of several actors leave: the bench, and the receipts of each actor.
+pub type Left<'a, B> = (Bench<'a, B>, Receipts<&'a B>);
 
-/// A race of the lines of a script, over a bench just opened.
-pub fn raced_in<'a, B: Allocator + Sync, G: Gate + Sync, R: Threads + Wait + Sync + Abort>(
+/// A race of the lines of a script, over this bench.
+fn race_of<'a, B: Allocator + Sync, G: Gate + Sync, R: Threads + Wait + Sync + Abort>(
+    bench: Bench<'a, B>,
     heap: &'a B,
     script: &str,
-    acts: u64,
     actors: u16,
     gate: &G,
     rt: &R,
 ) -> Raced<'a, B> {
     let lines = lines_of(heap, script, rt);
-    let bench = open(heap, acts, rt);
     race(rt, heap, bench, actors, lines, gate)
 }
 
-/// The fault of a race that was refused.
-pub fn fault_of<'a, B: Allocator>(refused: (RaceFault, Bench<'a, B>)) -> RaceFault {
+/// The fault of a race that was refused, how many calls its bench has recorded, and how many it may.
+fn refusal_of<'a, B: Allocator>(refused: (RaceFault, Bench<'a, B>)) -> (RaceFault, usize, u64) {
     let (fault, bench) = refused;
+    let told = (fault, bench.history().len(), bench.limits().acts());
     drop(bench);
-    fault
+    told
 }
 
-/// What a race that is vouched for leaves.
+/// What a race over this bench leaves, which is vouched for.
+pub fn raced_on<'a, B: Allocator + Sync, G: Gate + Sync, R: Threads + Wait + Sync + Abort>(
+    bench: Bench<'a, B>,
+    heap: &'a B,
+    script: &str,
+    actors: u16,
+    gate: &G,
+    rt: &R,
+) -> Left<'a, B> {
+    let raced = race_of(bench, heap, script, actors, gate, rt).map_err(refusal_of);
+    raced.expect(rt, "a race")
+}
+
+/// The same over a bench just opened.
 pub fn raced<'a, B: Allocator + Sync, G: Gate + Sync, R: Threads + Wait + Sync + Abort>(
     heap: &'a B,
     script: &str,
     actors: u16,
     gate: &G,
     rt: &R,
-) -> (Bench<'a, B>, Receipts<&'a B>) {
-    let raced = raced_in(heap, script, 100, actors, gate, rt).map_err(fault_of);
-    raced.expect(rt, "a race")
-}
-
-/// The bench that such a race leaves.
-pub fn bench_raced<'a, B: Allocator + Sync, G: Gate + Sync, R: Threads + Wait + Sync + Abort>(
-    heap: &'a B,
-    script: &str,
-    actors: u16,
-    gate: &G,
-    rt: &R,
-) -> Bench<'a, B> {
-    let (bench, receipts) = raced(heap, script, actors, gate, rt);
-    let_go_of_receipts(receipts);
-    bench
+) -> Left<'a, B> {
+    let bench = open(heap, 100, rt);
+    raced_on(bench, heap, script, actors, gate, rt)
 }
 
 /// Whether the receipts account for what the calls of a script's lines added to the history of a bench.
@@ -98,6 +96,20 @@ pub fn agrees<'a, B: Allocator>(
     let agrees = agree(heap, before.history(), after.history(), &lines, receipts);
     let_go_of_lines(lines);
     agrees.expect(rt, "memory")
+}
+
+/// Whether the receipts account for the history after that of a bench just opened; and for this after that.
+pub fn agree_with_none<'a, B: Allocator>(
+    left: &Left<'a, B>,
+    script: &str,
+    heap: &'a B,
+    rt: &impl Abort,
+) -> (bool, bool) {
+    let opening = open(heap, 100, rt);
+    let agree = agrees(&opening, &left.0, script, &left.1, heap, rt);
+    let agree_backwards = agrees(&left.0, &opening, script, &left.1, heap, rt);
+    drop(opening);
+    (agree, agree_backwards)
 }
 
 /// Whether each recorded call of the bench has the same reply of this one.
@@ -148,25 +160,18 @@ fn are_so_many<A: Allocator>(lists: &[Vec<Receipt<A>, A>], lengths: &[usize]) ->
 }
 
 /// Whether what a race left has so many receipts, which agree with its history, and the nodes that this history gives.
-fn are_vouched_for<'a, B: Allocator>(
-    bench: &Bench<'a, B>,
-    receipts: &[Vec<Receipt<&'a B>, &'a B>],
-    heap: &'a B,
-    rt: &impl Abort,
-) -> bool {
-    let opening = open(heap, 100, rt);
-    let are_so = agrees(&opening, bench, DELIVERED, receipts, heap, rt);
-    drop(opening);
-    are_so && are_so_many(receipts, &[2, 2, 0]) && is_what_its_history_gives(bench, heap, rt)
+fn are_vouched_for<'a, B: Allocator>(left: &Left<'a, B>, heap: &'a B, rt: &impl Abort) -> bool {
+    agree_with_none(left, DELIVERED, heap, rt) == (true, false)
+        && are_so_many(&left.1, &[2, 2, 0])
+        && is_what_its_history_gives(&left.0, heap, rt)
 }
 
 #[test]
 fn a_race_is_vouched_for(rt: HostRuntime) {
     let heap = rt.alloc();
-    let (bench, receipts) = raced(&heap, DELIVERED, 3, &Idle, &rt);
-    let is_so = are_vouched_for(&bench, &receipts, &heap, &rt);
-    let_go_of_receipts(receipts);
-    drop(bench);
+    let left = raced(&heap, DELIVERED, 3, &Idle, &rt);
+    let is_so = are_vouched_for(&left, &heap, &rt);
+    drop(left);
     assert!(rt; is_so);
 }
 
@@ -189,9 +194,9 @@ fn turns<R: Threads + Wait + Clock + Abort + Sync + Copy>(
     later: u16,
 ) -> bool {
     let gate = InOrder::new(*rt, order, &[0, 1], 0);
-    let bench = bench_raced(heap, TWO_JOINS, 2, &gate, rt);
-    let is_so = is_last(&bench, later);
-    drop(bench);
+    let left = raced(heap, TWO_JOINS, 2, &gate, rt);
+    let is_so = is_last(&left.0, later);
+    drop(left);
     is_so && gate.has_passed_each_once()
 }
 
@@ -209,20 +214,15 @@ const REFUSED: &[(&str, u64, u16, RaceFault)] = &[
     (UNKNOWN_ACTOR, 1, 2, RaceFault::UnknownActor),
 ];
 
-/// Whether a race has this fault, and gives back its bench as it was opened, with this limit on acts.
-fn is_refused<'a>(raced: Raced<'a, Global>, fault: RaceFault, acts: u64, rt: &impl Abort) -> bool {
-    let (refused, bench) = raced.err().expect(rt, "a refusal");
-    let is_as_opened = bench.history().len() == 0 && bench.limits().acts() == acts;
-    drop(bench);
-    is_as_opened && refused == fault
-}
-
+/// The bench of such a race comes back as it was opened.
 #[test]
 fn a_race_is_refused_before_it_begins(rt: HostRuntime) {
     let heap = rt.alloc();
     for (script, acts, actors, fault) in REFUSED {
-        let raced = raced_in(&heap, script, *acts, *actors, &Idle, &rt);
-        assert!(rt; is_refused(raced, *fault, *acts, &rt));
+        let bench = open(&heap, *acts, &rt);
+        let raced = race_of(bench, &heap, script, *actors, &Idle, &rt);
+        let refusal = raced.map_err(refusal_of).err();
+        assert!(rt; refusal == Some((*fault, 0, *acts)));
     }
 }
 
@@ -247,14 +247,20 @@ const TOLD: [(Reply, Option<u64>); 4] = [
     (Reply::Refused(Fault::NoSuchStep), None),
 ];
 
+/// The two joins.
+fn two_joins<'a>(heap: &'a Global, rt: &impl Abort) -> (Act<&'a Global>, Act<&'a Global>) {
+    let mut lines = lines_of(heap, TWO_JOINS, rt);
+    let (_, second) = lines.pop().expect(rt, "a line");
+    let (_, first) = lines.pop().expect(rt, "a line");
+    let_go_of_lines(lines);
+    (first, second)
+}
+
 #[test]
 fn a_call_is_told_with_its_place(rt: HostRuntime) {
     let heap = rt.alloc();
+    let (first, second) = two_joins(&heap, &rt);
     let mut bench = open(&heap, 3, &rt);
-    let mut lines = lines_of(&heap, TWO_JOINS, &rt);
-    let (_, second) = lines.pop().expect(&rt, "a line");
-    let (_, first) = lines.pop().expect(&rt, "a line");
-    let_go_of_lines(lines);
     let all_told = [
         told(&mut bench, 0, 1, first),
         told(&mut bench, 1, 2, second),

@@ -2,7 +2,7 @@
 use crate::workers::gates::Idle;
 use crate::workers::lines::{Lines, lines_of, open};
 use crate::workers::orders::UNDONE_BESIDE;
-use crate::workers::races::{Raced, agrees, let_go_of_receipts};
+use crate::workers::races::{Left, agree_with_none};
 use bench_core::{Act, Bench, Fault, Reply};
 use std::alloc::{Allocator, Global};
 use std::process::Abort;
@@ -10,26 +10,17 @@ use std::sync::{Mutex, Wait};
 use std::thread;
 use std::thread::Threads;
 use test_alloc::Refusing;
-use worker_core::{RaceFault, Receipt, Receipts, ask, race};
+use worker_core::{RaceFault, Receipt, ask, race};
 
 type Heap = Refusing<Global>;
 
-/// Whether the bench that comes back from a race still answers.
-fn still_answers<'a>(mut bench: Bench<'a, Heap>) -> bool {
+/// Whether a race that is refused wants memory, and gives back a bench that still answers.
+fn is_want<'a>(refused: (RaceFault, Bench<'a, Heap>)) -> bool {
+    let (fault, mut bench) = refused;
     let answer = bench.act(0, &Act::Undo(0));
     drop(bench);
-    answer == Reply::Refused(Fault::NoSuchStep)
-}
-
-/// Whether a race is vouched for, or else wants memory and gives a bench back that still answers. First whether it was vouched for.
-fn ended<'a>(raced: Raced<'a, Heap>) -> (bool, bool) {
-    match raced.err() {
-        None => (true, true),
-        Some((fault, bench)) => {
-            let wants = fault == RaceFault::OutOfMemory || fault == RaceFault::WorkerRefused;
-            (false, still_answers(bench) && wants)
-        }
-    }
+    let wants = fault == RaceFault::OutOfMemory || fault == RaceFault::WorkerRefused;
+    wants && answer == Reply::Refused(Fault::NoSuchStep)
 }
 
 /// Whether a race meets this request for memory, which is refused. Then it says so, and the bench comes back; else it is vouched for.
@@ -40,8 +31,8 @@ fn refused<R: Threads + Wait + Abort + Sync>(rt: &R, heap: &Heap, number: u64) -
     let raced = race(rt, heap, bench, 3, lines, &Idle);
     let is_met = number <= heap.requests();
     heap.refuse_none();
-    let (is_vouched_for, is_so) = ended(raced);
-    assert!(rt; is_so && is_vouched_for != is_met, "request {number}");
+    let want = raced.map_err(is_want).err();
+    assert!(rt; want == is_met.then_some(true), "request {number}");
     is_met
 }
 
@@ -154,7 +145,7 @@ fn clock_of<'a>(bench: &Bench<'a, Global>, node: u16, rt: &impl Abort) -> u64 {
 fn shared_by_two<'a, R: Threads + Wait + Abort + Sync>(
     heap: &'a Global,
     rt: &R,
-) -> (Bench<'a, Global>, Receipts<&'a Global>) {
+) -> Left<'a, Global> {
     let shared = Mutex::new(open(heap, 10_000, rt));
     let first = joins_of(heap, "a", rt);
     let second = joins_of(heap, "b", rt);
@@ -166,40 +157,26 @@ fn shared_by_two<'a, R: Threads + Wait + Abort + Sync>(
 }
 
 /// Whether the bench has taken a thousand joins of this node, and the receipts tell of each.
-fn are_all_taken<'a>(
-    bench: &Bench<'a, Global>,
-    receipts: &[Vec<Receipt<&'a Global>, &'a Global>],
-    node: u16,
-    rt: &impl Abort,
-) -> bool {
-    let list = receipts.get(usize::from(node)).expect(rt, "a list");
-    taken_of(list) == 1_000 && clock_of(bench, node, rt) == 1_000
+fn are_all_taken<'a>(left: &Left<'a, Global>, node: u16, rt: &impl Abort) -> bool {
+    let list = left.1.get(usize::from(node)).expect(rt, "a list");
+    taken_of(list) == 1_000 && clock_of(&left.0, node, rt) == 1_000
 }
 
 /// Whether the bench has taken a thousand joins of both nodes, and the receipts account for its history.
-fn are_all_told<'a>(
-    bench: &Bench<'a, Global>,
-    receipts: &[Vec<Receipt<&'a Global>, &'a Global>],
-    heap: &'a Global,
-    rt: &impl Abort,
-) -> bool {
+fn are_all_told<'a>(left: &Left<'a, Global>, heap: &'a Global, rt: &impl Abort) -> bool {
     let script = joins(rt, heap, &["a", "b"]);
-    let opening = open(heap, 10_000, rt);
-    let agrees = agrees(&opening, bench, script.as_str(), receipts, heap, rt);
-    drop(opening);
-    agrees
-        && are_all_taken(bench, receipts, 0, rt)
-        && are_all_taken(bench, receipts, 1, rt)
-        && bench.history().len() == 2_000
-        && bench.remaining().len() == 2_000
+    agree_with_none(left, script.as_str(), heap, rt) == (true, false)
+        && are_all_taken(left, 0, rt)
+        && are_all_taken(left, 1, rt)
+        && left.0.history().len() == 2_000
+        && left.0.remaining().len() == 2_000
 }
 
 #[test]
 fn two_threads_share_a_bench(rt: HostRuntime) {
     let heap = rt.alloc();
-    let (bench, receipts) = shared_by_two(&heap, &rt);
-    let is_so = are_all_told(&bench, &receipts, &heap, &rt);
-    let_go_of_receipts(receipts);
-    drop(bench);
+    let left = shared_by_two(&heap, &rt);
+    let is_so = are_all_told(&left, &heap, &rt);
+    drop(left);
     assert!(rt; is_so);
 }
