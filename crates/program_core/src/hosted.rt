@@ -1,19 +1,32 @@
 //! `run`: the program on the runtime's words and standard streams.
+ghost use Rattle.std.specs.Prelude.{◌≡◌, ℕ};
+ghost use Rattle.std.specs.Process.{exit_status};
+
 use crate::status::{program, want_of_memory};
 use std::io::Write;
+use std::marker::Model;
 use std::process::{ExitCode, Termination};
 use std::sync::Wait;
 use std::thread::Threads;
 use std::{env, io};
 
 /// How the program ended. Only `run` makes one, so that a `main` which gives one back ran the program and keeps its status.
+/// A contract sees the status.
 #[derive(Drop, Debug)]
 pub struct Ended {
     status: u8,
 }
 
+impl Model for Ended {
+    ghost Value = { ℕ };
+
+    ghost view = { λ e. e.status };
+}
+
 impl Termination for Ended {
-    fn report<R: io::Eprint>(self, _rt: &R) -> ExitCode {
+    fn report<R: io::Eprint>(self, _rt: &R) -> ExitCode
+        ensures status { exit_status result ≡ self }
+    {
         ExitCode::from(self.status)
     }
 }
