@@ -25,3 +25,6 @@ returns-clause-ok g c = rw c.in_default.ensures.ok (ap (with_undelivered c.args.
 pub invariant_of-self-2 : goal.invariant_of-self-2
 invariant_of-self-2 g c =
     rw c.in_default.ensures.ok (subst (λ (r : Replica). IsReplica (with_undelivered c.args.delivered r)) (sym c.self.view_is) c.requires.earlier)
+
+pub returns-in-Err-clause-given_back : goal.returns-in-Err-clause-given_back
+returns-in-Err-clause-given_back g c = c.in-Err.ensures.given_back
