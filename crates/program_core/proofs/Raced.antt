@@ -1,8 +1,8 @@
 -- Why a race of a script's lines is refused.
 use Rattle.std.proofs.Common.{◌≡◌, Option, Some, None, MatchOption, Result, Ok, Err, IfOk, IfErr, ap, refl, sym, subst}
-use Rattle.worker_core.specs.Races.{IsLate}
-use Rattle.worker_core.specs.declared.race_fault.RaceFault.{RaceFault}
-use Rattle.worker_core.specs.declared.race_fault.RaceFault.TheVariants as races
+use Rattle.receipt_core.specs.Races.{IsLate}
+use Rattle.receipt_core.specs.declared.race_fault.RaceFault.{RaceFault}
+use Rattle.receipt_core.specs.declared.race_fault.RaceFault.TheVariants as races
 use Rattle.bench_core.specs.Machine.{Machine}
 use Rattle.program_core.specs.Program.{fault_of_race}
 use Rattle.bench_core.specs.Limits.{Limits}

@@ -26,9 +26,9 @@ use Rattle.stream_core.specs.Steps.{Steps}
 use Rattle.clap.specs.declared.error.kind.ErrorKind.{ErrorKind}
 use Rattle.clap.specs.declared.error.kind.ErrorKind.TheVariants as refusals
 use Rattle.command_line.specs.Line.{Chooses, IsRefusal}
-use Rattle.worker_core.specs.declared.race_fault.RaceFault.{RaceFault}
+use Rattle.receipt_core.specs.declared.race_fault.RaceFault.{RaceFault}
 use Rattle.whatif_report.specs.declared.whatif_fault.WhatifFault.TheVariants as whatifs
-use Rattle.worker_core.specs.declared.race_fault.RaceFault.TheVariants as races
+use Rattle.receipt_core.specs.declared.race_fault.RaceFault.TheVariants as races
 use Rattle.program_core.specs.Explored.{TellsOrders, RefusesOrders, reading_of}
 use Rattle.prompt_core.specs.Ends.{EndsEarly, printed}
 use Rattle.prompt_core.specs.declared.prompt_fault.PromptFault.TheVariants as prompts

@@ -6,11 +6,11 @@ use Rattle.bench_core.specs.Limits.{Limits}
 use Rattle.bench_core.specs.Machine.{Machine, config_of, opening_machine}
 use Rattle.grammar_core.specs.Grammar.{with_calls}
 use Rattle.grammar_core.specs.Scripts.{Script}
-use Rattle.worker_core.specs.Receipts.{Receipt}
-use Rattle.worker_core.specs.Agree.{Agrees}
-use Rattle.worker_core.specs.Races.{IsLate, refusal_of}
-use Rattle.worker_core.specs.Replies.{AreMachineReplies}
-use Rattle.worker_core.specs.declared.race_fault.RaceFault.{RaceFault}
+use Rattle.receipt_core.specs.Receipts.{Receipt}
+use Rattle.receipt_core.specs.Agree.{Agrees}
+use Rattle.receipt_core.specs.Races.{IsLate, refusal_of}
+use Rattle.receipt_core.specs.Replies.{AreMachineReplies}
+use Rattle.receipt_core.specs.declared.race_fault.RaceFault.{RaceFault}
 use Rattle.program_core.specs.declared.fault.Fault.{Fault}
 use Rattle.program_core.specs.declared.fault.Fault.TheVariants as faults
 

@@ -1,11 +1,9 @@
 //! The workers of a race, one thread for each actor that has a line.
-use crate::asking::ask;
 use crate::gate::Gate;
-use crate::race_fault::CrewFault;
-use crate::receipt::Receipt;
 use bench_core::{Act, Bench};
 use crossbeam_channel::{Receiver, Sender};
 use payload_core::Oom;
+use receipt_core::{CrewFault, Receipt, ask};
 use std::alloc::Allocator;
 use std::sync::{Mutex, Wait};
 use std::thread;

@@ -2,7 +2,7 @@ use Rattle.std.proofs.Common.{◌≡◌, ◌∙◌, ap, subst₂, MatchOption}
 use Rattle.bench_core.specs.Acts.{calls_of}
 use Rattle.bench_core.specs.Machine.{opening_machine}
 use Rattle.grammar_core.specs.Scripts.{Script, plain_script}
-use Rattle.worker_core.specs.Races.{IsLate, refusal_of}
+use Rattle.receipt_core.specs.Races.{IsLate, refusal_of}
 use Rattle.program_core.proofs.Raced.{refuses_outcome}
 use Rattle.program_core.proofs.racing.race_script.Goals as goal
 

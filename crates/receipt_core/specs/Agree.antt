@@ -1,0 +1,70 @@
+-- Whether the receipts of a race account for what it added to the history.
+use Rattle.std.specs.Prelude.{◌≡◌, ◌≢◌, ℕ, ◌+◌, ◌-◌, ◌<◌, eqb, List, [], ◌∷◌, ◌++◌, length, take, map, Option, Some, None, slice_get}
+use Rattle.std.specs.List.{filter, AllByRecursion}
+use Rattle.bench_core.specs.Acts.{Action}
+use Rattle.bench_core.specs.Machine.{Event}
+use Rattle.receipt_core.specs.Receipts.{Receipt}
+
+-- a line with its number
+pub record Line : Type 0 where
+  pub number : ℕ
+  pub actor : ℕ
+  pub act : Action
+
+-- the lines, numbered from n
+abbrev pub numbered : ℕ → List (ℕ × Action) → List Line
+numbered n [] = []
+numbered n (l ∷ ls) = record { number = n; actor = l.0; act = l.1 } ∷ numbered (n + 1) ls
+
+abbrev pub lines_from : ℕ → ℕ → List (ℕ × Action) → List Line
+lines_from n actor lines = filter (λ l. eqb l.actor actor) (numbered n lines)
+
+-- the lines of the actor; all lines together are numbered from 1
+abbrev pub lines_of : ℕ → List (ℕ × Action) → List Line
+lines_of actor lines = lines_from 1 actor lines
+
+abbrev pub or_zero : Option ℕ → ℕ
+or_zero (Some p) = p
+or_zero None = 0
+
+-- the place that a receipt names, from 1, and 0 where it names none
+abbrev pub named : Receipt → ℕ
+named r = or_zero r.place
+
+-- the receipt is of the line, and tells of the event at its place, which is past `last`
+pub record Answers (after : List Event) (last : ℕ) (l : Line) (r : Receipt) : Type 0 where
+  pub actor : r.actor ≡ l.actor
+  pub line : r.line ≡ l.number
+  pub act : r.act ≡ l.act
+  pub past : last < named r
+  pub recorded : slice_get after (named r - 1) ≡ Some (record { actor = l.actor; act = l.act; reply = r.reply })
+
+-- the receipts are one for each line, in order, at places that rise from `last`
+abbrev pub Answered : List Event → ℕ → List Line → List Receipt → Type 0
+Answered after last [] [] = Unit {0}
+Answered after last [] (r ∷ rs) = ⊥
+Answered after last (l ∷ ls) [] = ⊥
+Answered after last (l ∷ ls) (r ∷ rs) = Answers after last l r × Answered after (named r) ls rs
+
+-- so is each list, of the actors from `actor` on
+abbrev pub AllAnswered : List Event → ℕ → List (ℕ × Action) → ℕ → List (List Receipt) → Type 0
+AllAnswered after start lines actor [] = Unit {0}
+AllAnswered after start lines actor (rs ∷ lists) = Answered after start (lines_of actor lines) rs × AllAnswered after start lines (actor + 1) lists
+
+-- the places that the receipts name, list by list
+abbrev pub places : List (List Receipt) → List ℕ
+places [] = []
+places (rs ∷ lists) = map named rs ++ places lists
+
+-- no place stands twice in the list
+abbrev pub NoneTwice : List ℕ → Type 0
+NoneTwice [] = Unit {0}
+NoneTwice (p ∷ ps) = AllByRecursion (λ q. p ≢ q) ps × NoneTwice ps
+
+-- the receipts are those of the lines, and account for all that was added to the history
+pub record Agrees (before after : List Event) (lines : List (ℕ × Action)) (lists : List (List Receipt)) : Type 0 where
+  pub prefix : take (length before) after ≡ before
+  pub longer : length after ≡ length before + length lines
+  pub known : AllByRecursion (λ (l : ℕ × Action). l.0 < length lists) lines
+  pub answered : AllAnswered after (length before) lines 0 lists
+  pub once : NoneTwice (places lists)

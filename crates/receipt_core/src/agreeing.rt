@@ -1,0 +1,161 @@
+//! `agree`: whether the receipts of a race account for what it added to the history.
+ghost use Rattle.std.specs.Prelude.{◌≡◌, ◌↔◌, ◌<◌, IsTrue, IfOk, length, take, map};
+ghost use Rattle.std.specs.List.{AllByRecursion};
+ghost use Rattle.bench_core.specs.Acts.{plain_act, calls_of};
+ghost use Rattle.receipt_core.specs.Agree.{Answers, Answered, AllAnswered, Agrees, lines_of, places};
+ghost use Rattle.receipt_core.specs.Marks.{Within};
+
+use crate::places::{named_place, none_twice};
+use crate::receipt::Receipt;
+use bench_core::{Act, Event, History, Reply};
+use payload_core::Oom;
+use std::alloc::Allocator;
+
+/// Whether two recorded calls are the same, with the same reply.
+fn same_event<A: Allocator>(one: &Event<A>, other: &Event<A>) -> bool
+    ensures { IsTrue result ↔ (one.now ≡ other.now) }
+{
+    one.actor == other.actor && one.act.same(&other.act) && one.reply.same(other.reply)
+}
+
+/// Whether the receipt is of the line, and tells of the event at its place, which is past `last`.
+fn answers<'a, B: Allocator>(
+    after: &History<'a, B>,
+    last: u64,
+    number: u64,
+    actor: u16,
+    act: &Act<&'a B>,
+    receipt: &Receipt<&'a B>,
+) -> bool
+    ensures { IsTrue result ↔ Answers after.now last (record { number = number; actor = actor; act = plain_act act.now }) receipt.now }
+{
+    let place = named_place(receipt);
+    if place <= last {
+        return false;
+    }
+    let Some(event) = after.at((place - 1) as usize) else {
+        return false;
+    };
+    receipt.actor == actor
+        && receipt.line == number
+        && receipt.act.same(act)
+        && event.actor == actor
+        && event.act.same(act)
+        && event.reply.same(receipt.reply)
+}
+
+/// Whether the receipts are one for each of the actor's lines, in order, at places that rise from `start`.
+fn are_answered<'a, B: Allocator>(
+    after: &History<'a, B>,
+    start: u64,
+    lines: &[(u16, Act<&'a B>)],
+    actor: usize,
+    receipts: &[Receipt<&'a B>],
+) -> bool
+    ensures { IsTrue result ↔ Answered after.now start (lines_of actor (calls_of lines.now)) receipts.now }
+{
+    let mut last = start;
+    let mut number = 0u64;
+    let mut told = 0;
+    for (line_actor, act) in lines {
+        number += 1;
+        if usize::from(*line_actor) != actor {
+            continue;
+        }
+        let Some(receipt) = receipts.get(told) else {
+            return false;
+        };
+        if !answers(after, last, number, *line_actor, act, receipt) {
+            return false;
+        }
+        last = named_place(receipt);
+        told += 1;
+    }
+    told == receipts.len()
+}
+
+/// Whether each actor's list answers the actor's lines.
+fn are_all_answered<'a, B: Allocator>(
+    after: &History<'a, B>,
+    start: u64,
+    lines: &[(u16, Act<&'a B>)],
+    lists: &[Vec<Receipt<&'a B>, &'a B>],
+) -> bool
+    ensures answered { IsTrue result ↔ AllAnswered after.now start (calls_of lines.now) 0 (map (λ v. v.items) lists.now) }
+    ensures within { IsTrue result → AllByRecursion (Within (length after.now)) (places (map (λ v. v.items) lists.now)) }
+{
+    let mut actor = 0;
+    for list in lists {
+        if !are_answered(after, start, lines, actor, list) {
+            return false;
+        }
+        actor += 1;
+    }
+    true
+}
+
+/// Whether the one history begins the other.
+fn begins<'a, B: Allocator>(before: &History<'a, B>, after: &History<'a, B>) -> bool
+    ensures { IsTrue result ↔ (take (length before.now) after.now ≡ before.now) }
+{
+    if after.len() < before.len() {
+        return false;
+    }
+    for i in 0..before.len() {
+        let (Some(old), Some(new)) = (before.at(i), after.at(i)) else {
+            return false;
+        };
+        if !same_event(old, new) {
+            return false;
+        }
+    }
+    true
+}
+
+/// Whether each line's actor has a list.
+fn are_known<A: Allocator>(lines: &[(u16, Act<A>)], lists: usize) -> bool
+    ensures { IsTrue result ↔ AllByRecursion (λ l. l.0 < lists) (calls_of lines.now) }
+{
+    for (actor, _) in lines {
+        if usize::from(*actor) >= lists {
+            return false;
+        }
+    }
+    true
+}
+
+/// Whether the receipts account for what was added to the history `before`, as `agree` tells.
+pub(crate) fn account<'a, B: Allocator>(
+    before: &History<'a, B>,
+    after: &History<'a, B>,
+    lines: &[(u16, Act<&'a B>)],
+    receipts: &[Vec<Receipt<&'a B>, &'a B>],
+    alloc: &'a B,
+) -> Result<bool, Oom>
+    ensures { IfOk result (λ b. IsTrue b ↔ Agrees before.now after.now (calls_of lines.now) (map (λ v. v.items) receipts.now)) }
+{
+    if !are_known(lines, receipts.len())
+        || !begins(before, after)
+        || after.len() - before.len() != lines.len()
+        || !are_all_answered(after, before.len() as u64, lines, receipts)
+    {
+        return Ok(false);
+    }
+    none_twice(alloc, after.len(), receipts)
+}
+
+/// Whether the receipts account for what was added to the history `before`: it begins `after`, which has one event more for
+/// each line; list `i` of the receipts, from 0, has one for each line of actor `i` and no other, in order, with that line's
+/// actor, number and act, at rising places past the end of `before`, where `after` has the event that the receipt tells of;
+/// each line's actor has a list; and no place is named twice.
+pub fn agree<'a, B: Allocator>(
+    alloc: &'a B,
+    before: &History<'a, B>,
+    after: &History<'a, B>,
+    lines: &[(u16, Act<&'a B>)],
+    receipts: &[Vec<Receipt<&'a B>, &'a B>],
+) -> Result<bool, Oom>
+    ensures { IfOk result (λ b. IsTrue b ↔ Agrees before.now after.now (calls_of lines.now) (map (λ v. v.items) receipts.now)) }
+{
+    account(before, after, lines, receipts, alloc)
+}

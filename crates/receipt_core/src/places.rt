@@ -1,0 +1,63 @@
+//! The places that receipts name, and whether one is named twice.
+ghost use Rattle.std.specs.Prelude.{◌≡◌, ◌↔◌, IsTrue, IfOk, map};
+ghost use Rattle.std.specs.List.{AllByRecursion};
+ghost use Rattle.receipt_core.specs.Agree.{named, places, NoneTwice};
+ghost use Rattle.receipt_core.specs.Marks.{Fresh, Within};
+
+use crate::receipt::Receipt;
+use payload_core::Oom;
+use std::alloc::Allocator;
+
+/// The place that a receipt names, and 0 where it names none.
+pub(crate) fn named_place<A: Allocator>(receipt: &Receipt<A>) -> u64
+    ensures { result ≡ named receipt.now }
+{
+    receipt.place.unwrap_or(0)
+}
+
+/// The places that the receipts name, list by list.
+fn named_places<A: Allocator + Copy>(
+    alloc: A,
+    lists: &[Vec<Receipt<A>, A>],
+) -> Result<Vec<u64, A>, Oom>
+    ensures { IfOk result (λ v. v.items ≡ places (map (λ v. v.items) lists.now)) }
+{
+    let mut all = Vec::new(alloc);
+    for list in lists {
+        for receipt in list {
+            all.push(named_place(receipt))?;
+        }
+    }
+    Ok(all)
+}
+
+/// Whether each place has a mark, none is marked, and none is named twice.
+fn are_fresh<A: Allocator>(mut marks: Vec<bool, A>, places: &[u64]) -> bool
+    ensures { IsTrue result ↔ Fresh marks.items places.now }
+{
+    for place in places {
+        let Some(at) = place.checked_sub(1) else {
+            return false;
+        };
+        let at = at as usize;
+        if at >= marks.len() || marks[at] {
+            return false;
+        }
+        marks[at] = true;
+    }
+    true
+}
+
+/// Whether no place of a history of this length is named twice.
+pub(crate) fn none_twice<A: Allocator + Copy>(
+    alloc: A,
+    length: usize,
+    lists: &[Vec<Receipt<A>, A>],
+) -> Result<bool, Oom>
+    requires { AllByRecursion (Within length) (places (map (λ v. v.items) lists.now)) }
+    ensures { IfOk result (λ b. IsTrue b ↔ NoneTwice (places (map (λ v. v.items) lists.now))) }
+{
+    let marks = vec![in alloc; false; length]?;
+    let places = named_places(alloc, lists)?;
+    Ok(are_fresh(marks, &places))
+}

@@ -1,0 +1,30 @@
+//! `Receipt`: what a worker tells of a call.
+use bench_core::{Act, Reply};
+use std::alloc::Allocator;
+use std::marker::Model;
+
+/// What a call was, what was answered, and where the history has it. Lines and places count from 1; there is no place where
+/// the call was not recorded.
+#[derive(Drop)]
+pub struct Receipt<A: Allocator> {
+    pub actor: u16,
+    pub line: u64,
+    pub act: Act<A>,
+    pub reply: Reply,
+    pub place: Option<u64>,
+}
+
+impl<A: Allocator> Model for Receipt<A> {
+    ghost use Rattle.bench_core.specs.Acts.{plain_act};
+    ghost use Rattle.bench_core.specs.contracts.reply.Reply.{the_row as reply_row};
+    ghost use Rattle.receipt_core.specs.Receipts.{Receipt, receipt_code};
+
+    ghost Value = { Receipt };
+
+    ghost coded = { receipt_code reply_row.coded };
+
+    ghost view = { λ r. record { actor = r.actor; line = r.line; act = plain_act r.act; reply = r.reply; place = r.place } };
+}
+
+/// The receipts of a race: a list for each actor, by its number.
+pub type Receipts<A> = Vec<Vec<Receipt<A>, A>, A>;

@@ -1,0 +1,192 @@
+//! Whether a race may begin, and whether it can be vouched for once its workers told.
+ghost use Rattle.std.specs.Prelude.{◌≡◌, OnOk, IfOk, IfErr, IfSome, Err, MatchResult, drop, false, length, map, vec_len};
+ghost use Rattle.std.specs.List.{list_any};
+ghost use Rattle.bench_core.specs.Acts.{calls_of};
+ghost use Rattle.bench_core.specs.Benches.{IsMachine};
+ghost use Rattle.bench_core.specs.Machine.{config_of};
+ghost use Rattle.receipt_core.specs.Agree.{Agrees};
+ghost use Rattle.receipt_core.specs.Interleaving.{IsInterleaving, all_told};
+ghost use Rattle.receipt_core.specs.Races.{IsLate, IsUnvouched, IsVouched, fault_of_crew, has_room, are_known, is_want, met_want, refusal_of};
+ghost use Rattle.receipt_core.specs.Replies.{AreMachineReplies};
+
+use crate::agreeing::account;
+use crate::race_fault::{CrewFault, RaceFault};
+use crate::receipt::{Receipt, Receipts};
+use bench_core::laws::replay_law;
+use bench_core::{Act, Bench, Fault, History, Limits, Names, Reply};
+use std::alloc::Allocator;
+
+/// Whether each line's actor is one of so many.
+fn are_known<A: Allocator>(lines: &[(u16, Act<A>)], actors: u16) -> bool
+    ensures { result ≡ are_known actors (calls_of lines.now) }
+{
+    for (actor, _) in lines {
+        if *actor >= actors {
+            return false;
+        }
+    }
+    true
+}
+
+/// Whether the bench has twice as many free places as there are lines.
+fn has_room<'a, B: Allocator>(bench: &Bench<'a, B>, lines: &[(u16, Act<&'a B>)]) -> bool
+    ensures { result ≡ has_room bench.now (calls_of lines.now) }
+{
+    bench.bench_law();
+    let taken = bench.history().len() as u64 + bench.remaining().len() as u64;
+    let free = bench.limits().acts() - taken;
+    lines.len() as u64 <= free / 2
+}
+
+/// What refuses a race before it begins: `UnknownActor` comes first.
+pub fn refusal<'a, B: Allocator>(
+    bench: &Bench<'a, B>,
+    actors: u16,
+    lines: &[(u16, Act<&'a B>)],
+) -> Option<RaceFault>
+    ensures { result ≡ refusal_of bench.now actors (calls_of lines.now) }
+{
+    if !are_known(lines, actors) {
+        return Some(RaceFault::UnknownActor);
+    }
+    if !has_room(bench, lines) {
+        return Some(RaceFault::NoRoom);
+    }
+    None
+}
+
+/// Whether one of these calls was refused memory.
+fn has_want<A: Allocator>(receipts: &[Receipt<A>]) -> bool
+    ensures { result ≡ list_any (λ r. is_want r.reply) receipts.now }
+{
+    for receipt in receipts {
+        if matches!(receipt.reply, Reply::Refused(Fault::OutOfMemory)) {
+            return true;
+        }
+    }
+    false
+}
+
+/// Whether a call was refused memory.
+fn met_want<A: Allocator>(lists: &[Vec<Receipt<A>, A>]) -> bool
+    ensures { result ≡ met_want (map (λ v. v.items) lists.now) }
+{
+    for receipts in lists {
+        if has_want(receipts) {
+            return true;
+        }
+    }
+    false
+}
+
+/// What is kept of the bench that a race is given, to compare it with what comes out.
+#[derive(Drop)]
+pub struct Known<'a, B: Allocator> {
+    pub history: History<'a, B>,
+    pub names: Names<&'a B>,
+    pub limits: Limits,
+}
+
+/// Vouches for a race, or says why it can't.
+#[tactic(auto, using(crate::proofs::Interleaving::agrees_interleave, crate::proofs::Replies::agrees_replies))]
+fn vouch<'a, B: Allocator>(
+    before: &Known<'a, B>,
+    bench: &Bench<'a, B>,
+    actors: u16,
+    lines: &[(u16, Act<&'a B>)],
+    receipts: &[Vec<Receipt<&'a B>, &'a B>],
+    alloc: &'a B,
+) -> Result<(), RaceFault>
+    ensures agrees { OnOk result (Agrees before.now.history bench.now.state.history (calls_of lines.now) (map (λ v. v.items) receipts.now)) }
+    ensures interleaving { OnOk result (IsInterleaving (drop (length before.now.history) bench.now.state.history) (all_told (map (λ v. v.items) receipts.now))) }
+    ensures replies { OnOk result (AreMachineReplies (config_of bench.now) bench.now.state.history (map (λ v. v.items) receipts.now)) }
+    ensures names { OnOk result (bench.now.names ≡ before.now.names) }
+    ensures limits { OnOk result (bench.now.limits ≡ before.now.limits) }
+    ensures lists { OnOk result (length receipts.now ≡ actors) }
+    ensures machine { OnOk result (IsMachine bench.now) }
+    ensures memory { OnOk result (met_want (map (λ v. v.items) receipts.now) ≡ false) }
+    ensures cause { IfErr result (IsUnvouched (IsVouched before.now.history before.now.names before.now.limits bench.now actors
+        (calls_of lines.now) (map (λ v. v.items) receipts.now)) (map (λ v. v.items) receipts.now)) }
+    ensures late { IfErr result IsLate }
+{
+    bench.bench_law();
+    replay_law();
+    if met_want(receipts) {
+        return Err(RaceFault::OutOfMemory);
+    }
+    let Ok(agrees) = account(&before.history, bench.history(), lines, receipts, alloc) else {
+        return Err(RaceFault::OutOfMemory);
+    };
+    let is_same = bench.names().same(&before.names) && bench.limits() == before.limits;
+    if agrees && is_same && receipts.len() == usize::from(actors) {
+        Ok(())
+    } else {
+        Err(RaceFault::LogsDisagree)
+    }
+}
+
+/// What is known of the bench, copied; none where memory is refused.
+pub fn known_of<'a, B: Allocator>(bench: &Bench<'a, B>) -> Option<Known<'a, B>>
+    ensures history { IfSome result (λ known. known.history ≡ bench.now.state.history) }
+    ensures names { IfSome result (λ known. known.names ≡ bench.now.names) }
+    ensures limits { IfSome result (λ known. known.limits ≡ bench.now.limits) }
+{
+    let Ok(history) = bench.history().try_copy() else {
+        return None;
+    };
+    let Ok(names) = bench.names().try_copy() else {
+        return None;
+    };
+    Some(Known {
+        history,
+        names,
+        limits: bench.limits(),
+    })
+}
+
+/// Lets go of receipts that nobody vouches for.
+fn discard<A: Allocator>(receipts: Receipts<A>) {
+    drop(receipts);
+}
+
+/// What the workers told, if a race can be vouched for. `OutOfMemory` comes before `LogsDisagree`.
+pub fn vouched<'a, B: Allocator>(
+    bench: &Bench<'a, B>,
+    before: Known<'a, B>,
+    actors: u16,
+    lines: Vec<(u16, Act<&'a B>), &'a B>,
+    told: Result<Receipts<&'a B>, CrewFault>,
+    alloc: &'a B,
+) -> Result<Receipts<&'a B>, RaceFault>
+    ensures agrees { IfOk result (λ r. Agrees before.entry.history bench.now.state.history (calls_of lines.entry.items) (map (λ v. v.items) r.items)) }
+    ensures interleaving { IfOk result (λ r. IsInterleaving (drop (length before.entry.history) bench.now.state.history) (all_told (map (λ v. v.items) r.items))) }
+    ensures replies { IfOk result (λ r. AreMachineReplies (config_of bench.now) bench.now.state.history (map (λ v. v.items) r.items)) }
+    ensures names { OnOk result (bench.now.names ≡ before.entry.names) }
+    ensures limits { OnOk result (bench.now.limits ≡ before.entry.limits) }
+    ensures lists { IfOk result (λ r. vec_len r ≡ actors) }
+    ensures machine { OnOk result (IsMachine bench.now) }
+    ensures cause { MatchResult told.entry
+        (λ r. IfErr result (IsUnvouched (IsVouched before.entry.history before.entry.names before.entry.limits bench.now actors
+        (calls_of lines.entry.items) (map (λ v. v.items) r.items)) (map (λ v. v.items) r.items)))
+        (λ fault. result ≡ Err (fault_of_crew fault)) }
+    ensures late { IfErr result IsLate }
+{
+    let receipts = match told {
+        Ok(receipts) => receipts,
+        Err(fault) => {
+            drop(before);
+            drop(lines);
+            return Err(fault.of_race());
+        }
+    };
+    let answer = vouch(&before, bench, actors, &lines, &receipts, alloc);
+    drop(before);
+    drop(lines);
+    match answer {
+        Ok(()) => Ok(receipts),
+        Err(fault) => {
+            discard(receipts);
+            Err(fault)
+        }
+    }
+}

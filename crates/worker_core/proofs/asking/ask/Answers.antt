@@ -1,4 +1,0 @@
-use Rattle.worker_core.proofs.asking.ask.Goals as goal
-
-pub returns-clause-reply : goal.returns-clause-reply
-returns-clause-reply g c = c.act-reply.ensures.answers

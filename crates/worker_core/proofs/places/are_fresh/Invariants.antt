@@ -1,6 +1,0 @@
-use Rattle.std.proofs.Common.{◌↔◌, drop}
-use Rattle.worker_core.specs.Marks.{Fresh}
-use Rattle.worker_core.proofs.places.are_fresh.Given as goal
-
-abbrev pub invariant-loop-place : goal.invariant-loop-place
-invariant-loop-place g l = Fresh l.initial.marks.items l.places ↔ Fresh l.marks.items (drop l.place-index l.places)
