@@ -5,10 +5,10 @@ use Rattle.std.proofs.lemmas.Bool.{and_parts, cases_lt, eqb-true, ltb-true}
 use Rattle.std.proofs.lemmas.Option.{slice_get_within}
 use Rattle.std.proofs.lemmas.List.Elements.{Contains-append_left, Contains-append_right, Contains-append_cases}
 use Rattle.journal_core.specs.Journals.{Kept}
-use Rattle.whatif_core.specs.declared.change.Change.{Change}
-use Rattle.whatif_core.specs.declared.change.Kind.{Kind}
-use Rattle.whatif_core.specs.declared.change.Kind.TheVariants.{Lost, Never, Before, Behind, Again}
-use Rattle.whatif_core.specs.Changes.{may, may_at, may_pass, is_delivery, is_notice, is_change, reach, off, change_at, if_change, changes_within, changes_by, changes_of, changes_to, changes}
+use Rattle.change_core.specs.declared.change.Change.{Change}
+use Rattle.change_core.specs.declared.change.Kind.{Kind}
+use Rattle.change_core.specs.declared.change.Kind.TheVariants.{Lost, Never, Before, Behind, Again}
+use Rattle.change_core.specs.Changes.{may, may_at, may_pass, is_delivery, is_notice, is_change, reach, off, change_at, if_change, changes_within, changes_by, changes_of, changes_to, changes}
 use Rattle.whatif_core.specs.Exact.{AreAllChanges}
 
 pub in_none : {X : Type 0} (x : X) → Contains [] x → ⊥

@@ -4,10 +4,10 @@ use Rattle.std.proofs.lemmas.List.{drop_all}
 use Rattle.diff_core.specs.Rows.{Row}
 use Rattle.journal_core.specs.Journals.{Kept}
 use Rattle.bench_core.specs.Machine.{Machine}
-use Rattle.whatif_core.specs.declared.change.Change.{Change}
-use Rattle.whatif_core.specs.Changes.{changes}
-use Rattle.whatif_core.specs.Questions.{Question}
-use Rattle.whatif_core.specs.Ends.{rows_after, rows_before}
+use Rattle.change_core.specs.declared.change.Change.{Change}
+use Rattle.change_core.specs.Changes.{changes}
+use Rattle.change_core.specs.Questions.{Question}
+use Rattle.change_core.specs.Ends.{rows_after, rows_before}
 use Rattle.whatif_core.specs.Differences.{Tally, are_same, counted, differs, nothing, tallied, tally_from, tally_of}
 use Rattle.order_core.proofs.Places.{from_on}
 

@@ -16,13 +16,13 @@ use Rattle.bench_core.specs.Limits.{node_limits}
 use Rattle.bench_core.specs.Machine.{Machine}
 use Rattle.order_core.specs.Orders.{SameOwn, order_of}
 use Rattle.order_core.proofs.Ordered.{order_of_holds, found_run_holds}
-use Rattle.whatif_core.specs.declared.change.Change.{Change}
-use Rattle.whatif_core.specs.declared.change.Kind.{Kind}
-use Rattle.whatif_core.specs.declared.change.Kind.TheVariants.{Lost, Never, Before, Behind, Again}
-use Rattle.whatif_core.specs.Changes.{changed, changes, is_change}
-use Rattle.whatif_core.specs.Questions.{Question, rows_at}
-use Rattle.whatif_core.specs.Ends.{end_of, reached, rows_after, rows_before, run_of}
-use Rattle.whatif_core.specs.Differences.{Difference, Tally, are_same, counted, difference, is_with, nearest, nearest_change, nothing, rank, tallied, tally_from, tally_of, told_too, with_place}
+use Rattle.change_core.specs.declared.change.Change.{Change}
+use Rattle.change_core.specs.declared.change.Kind.{Kind}
+use Rattle.change_core.specs.declared.change.Kind.TheVariants.{Lost, Never, Before, Behind, Again}
+use Rattle.change_core.specs.Changes.{changed, changes, is_change, rank}
+use Rattle.change_core.specs.Questions.{Question, rows_at}
+use Rattle.change_core.specs.Ends.{end_of, reached, rows_after, rows_before, run_of}
+use Rattle.whatif_core.specs.Differences.{Difference, Tally, are_same, counted, difference, is_with, nearest, nearest_change, nothing, tallied, tally_from, tally_of, told_too, with_place}
 use Rattle.whatif_core.specs.Exact.{AreExactly, IsTold, MakesDifference, ToldRunsLaw, change_of}
 use Rattle.whatif_core.proofs.AllChanges.{all_changes_hold, in_none, one_in, within}
 

@@ -1,8 +1,4 @@
 pub mod AllChanges
 pub mod Counted
 pub mod Exact
-pub mod Marks
-pub mod Played
 pub mod Told
-pub mod Walks
-pub mod Searches

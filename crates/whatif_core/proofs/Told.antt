@@ -1,7 +1,7 @@
 -- Where a change is put that makes a difference.
 use Rattle.std.proofs.Common.{◌≡◌, ℕ, zero, suc, ◌+◌, ◌<◌, Bool, true, false, if◌then◌else◌, List, [], ◌∷◌, ◌++◌, length, slice_index_or, slice_set, Some, None, refl, ap, ◌∙◌, subst, arith}
 use Rattle.diff_core.specs.Rows.{Row}
-use Rattle.whatif_core.specs.declared.change.Change.{Change}
+use Rattle.change_core.specs.declared.change.Change.{Change}
 use Rattle.whatif_core.specs.Differences.{Difference, difference, is_with, place_with, told_too, with_place}
 
 -- the difference at place i is the first that the change is with, and so the list becomes this

@@ -4,12 +4,11 @@ use Rattle.std.specs.Ordering.{eq_by_cmp}
 use Rattle.std.specs.Cmp.Lexicographic.{pointwise}
 use Rattle.diff_core.specs.Rows.{Row, row_cmp}
 use Rattle.bench_core.specs.Machine.{Machine}
-use Rattle.whatif_core.specs.declared.change.Change.{Change}
-use Rattle.whatif_core.specs.declared.change.Kind.{Kind}
-use Rattle.whatif_core.specs.declared.change.Kind.TheVariants.{Lost, Never, Before, Behind, Again}
-use Rattle.whatif_core.specs.Changes.{changes}
-use Rattle.whatif_core.specs.Questions.{Question}
-use Rattle.whatif_core.specs.Ends.{rows_after, rows_before}
+use Rattle.change_core.specs.declared.change.Change.{Change}
+use Rattle.change_core.specs.declared.change.Kind.{Kind}
+use Rattle.change_core.specs.Changes.{changes, rank}
+use Rattle.change_core.specs.Questions.{Question}
+use Rattle.change_core.specs.Ends.{rows_after, rows_before}
 
 -- the changes of one step and kind that lead to the same rows: these, and the places beside which it comes, nearest first
 pub record Difference : Type 0 where
@@ -38,14 +37,6 @@ nothing = record { possible = 0; differ = 0; told = [] }
 -- whether the rows are the same
 abbrev pub are_same : List Row → List Row → Bool
 are_same rows others = pointwise (eq_by_cmp row_cmp) rows others
-
--- the order of the kinds
-abbrev pub rank : Kind → ℕ
-rank Lost = 0
-rank Never = 1
-rank Before = 2
-rank Behind = 3
-rank Again = 4
 
 -- whether the change is of the same step and kind, and leads to the same rows
 abbrev pub is_with : Difference → Change → List Row → Bool

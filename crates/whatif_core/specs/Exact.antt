@@ -6,10 +6,10 @@ use Rattle.diff_core.specs.Rows.{Row}
 use Rattle.bench_core.specs.Clusters.{Cluster}
 use Rattle.bench_core.specs.Machine.{Machine}
 use Rattle.order_core.specs.Orders.{SameOwn, order_of}
-use Rattle.whatif_core.specs.declared.change.Change.{Change}
-use Rattle.whatif_core.specs.Changes.{changed, is_change}
-use Rattle.whatif_core.specs.Questions.{Question, rows_at}
-use Rattle.whatif_core.specs.Ends.{rows_before, run_of}
+use Rattle.change_core.specs.declared.change.Change.{Change}
+use Rattle.change_core.specs.Changes.{changed, is_change}
+use Rattle.change_core.specs.Questions.{Question, rows_at}
+use Rattle.change_core.specs.Ends.{rows_before, run_of}
 use Rattle.whatif_core.specs.Differences.{Difference, nearest, nearest_change}
 
 -- the run has this change, and with it there is a run in which each node does what it did, in its order, but for the change; its end is this

@@ -1,8 +1,2 @@
-pub mod Changes
-pub mod Questions
-pub mod Marked
-pub mod Ends
-pub mod Walks
-pub mod Searches
 pub mod Differences
 pub mod Exact

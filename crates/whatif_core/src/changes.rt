@@ -1,9 +1,9 @@
 //! All changes that a run has.
 ghost use Rattle.std.specs.Prelude.{◌≡◌, ◌≤◌, ◌<◌, ◌+◌, ◌++◌, IfOk, OnOk, length};
-ghost use Rattle.whatif_core.specs.Changes.{change_at, changes, changes_by, changes_of, changes_to, if_change, reach};
+ghost use Rattle.change_core.specs.Changes.{change_at, changes, changes_by, changes_of, changes_to, if_change, reach};
 
-use crate::change::{Change, Kind, is_change};
 use bench_core::Kept;
+use change_core::{Change, Kind, is_change};
 use payload_core::Oom;
 use std::alloc::Allocator;
 
@@ -68,7 +68,7 @@ fn put_by<W: Allocator, A: Allocator>(
 }
 
 /// Puts the changes of the step at this place behind those before them.
-#[tactic(auto, unfolding(crate::specs::Changes::changes_of))]
+#[tactic(auto, unfolding(change_core::specs::Changes::changes_of))]
 fn put_of<W: Allocator, A: Allocator>(
     found: &mut Changes<A>,
     steps: &[Kept<W>],
@@ -85,7 +85,7 @@ fn put_of<W: Allocator, A: Allocator>(
 }
 
 /// All changes that the run of these steps has: by step, by kind, the nearest first.
-#[tactic(auto, unfolding(crate::specs::Changes::changes))]
+#[tactic(auto, unfolding(change_core::specs::Changes::changes))]
 pub(crate) fn changes<W: Allocator, A: Allocator>(
     steps: &[Kept<W>],
     alloc: A,

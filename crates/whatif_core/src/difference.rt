@@ -1,9 +1,8 @@
 //! `Difference`: changes of one step and kind that lead to the same rows; and `Tally`, those of the changes so far.
 ghost use Rattle.std.specs.Prelude.{◌≡◌, ◌<◌, ◌+◌, ◌==◌, ◌&&◌, OnOk, option_map};
-ghost use Rattle.whatif_core.specs.Differences.{counted, is_with, nearest_change, nothing, place_with, rank, told_too};
+ghost use Rattle.whatif_core.specs.Differences.{are_same, counted, is_with, nearest_change, nothing, place_with, told_too};
 
-use crate::change::{Change, Kind};
-use crate::rows::{Rows, are_same};
+use change_core::{Change, Kind, Rows};
 use diff_core::OnlineRow;
 use payload_core::Oom;
 use std::alloc::Allocator;
@@ -59,6 +58,13 @@ impl<A: Allocator> Model for Tally<A> {
     ghost Value = { Tally };
 
     ghost view = { λ t. record { possible = t.possible; differ = t.differ; told = t.told.items } };
+}
+
+/// Whether the rows are the same.
+fn are_same<A: Allocator>(rows: &[OnlineRow<A>], others: &[OnlineRow<A>]) -> bool
+    ensures { result ≡ are_same rows.now others.now }
+{
+    rows == others
 }
 
 /// Whether the change is of the same step and kind, and leads to the same rows.

@@ -1,19 +1,16 @@
 //! The changes that make a difference.
 ghost use Rattle.std.specs.Prelude.{◌≡◌, ◌≤◌, ◌<◌, ◌++◌, IfOk, OnOk, length};
-ghost use Rattle.whatif_core.specs.Changes.{changes};
+ghost use Rattle.change_core.specs.Changes.{changes};
 ghost use Rattle.whatif_core.specs.Differences.{nothing, tally_from, tally_of};
-ghost use Rattle.whatif_core.specs.Ends.{rows_before};
+ghost use Rattle.change_core.specs.Ends.{rows_before};
 ghost use Rattle.whatif_core.specs.Exact.{AreExactly};
-ghost use Rattle.whatif_core.specs.Searches.{IsSearch};
+ghost use Rattle.change_core.specs.Searches.{IsSearch};
 
-use crate::change::Change;
 use crate::changes::changes;
 use crate::difference::{Difference, Tally};
 use crate::laws::exact_law;
-use crate::playing::Search;
-use crate::rows::rows_before;
-use crate::steps::copied;
 use bench_core::{Bench, Kept};
+use change_core::{Change, Search, copied, rows_before};
 use diff_core::OnlineRow;
 use payload_core::{Oom, Word};
 use std::alloc::Allocator;

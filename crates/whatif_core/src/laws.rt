@@ -2,10 +2,10 @@
 ghost use Rattle.std.specs.Prelude.{List};
 ghost use Rattle.bench_core.specs.Machine.{Machine};
 ghost use Rattle.journal_core.specs.Journals.{Kept};
-ghost use Rattle.whatif_core.specs.Changes.{changes};
+ghost use Rattle.change_core.specs.Changes.{changes};
 ghost use Rattle.whatif_core.specs.Differences.{tally_of};
 ghost use Rattle.whatif_core.specs.Exact.{AreAllChanges, AreExactly, ToldRunsLaw};
-ghost use Rattle.whatif_core.specs.Questions.{Question};
+ghost use Rattle.change_core.specs.Questions.{Question};
 
 /// The changes of a run are those that it has; and those that are told are exactly those that make a difference; and
 /// with each of them the run has an order.

@@ -10,10 +10,10 @@ use Rattle.bench_core.specs.NameList.{Texts}
 use Rattle.diff_core.specs.Rows.{Row}
 use Rattle.bench_core.specs.Machine.{Machine}
 use Rattle.report_core.specs.Rows.{row_lines}
-use Rattle.whatif_core.specs.declared.change.Change.{Change}
-use Rattle.whatif_core.specs.Changes.{changes}
-use Rattle.whatif_core.specs.Questions.{Question}
-use Rattle.whatif_core.specs.Ends.{rows_before}
+use Rattle.change_core.specs.declared.change.Change.{Change}
+use Rattle.change_core.specs.Changes.{changes}
+use Rattle.change_core.specs.Questions.{Question}
+use Rattle.change_core.specs.Ends.{rows_before}
 use Rattle.whatif_core.specs.Differences.{Difference, nearest_change, tally_of}
 use Rattle.whatif_core.specs.Exact.{AreExactly, HasOrder, ToldRunsLaw}
 use Rattle.whatif_core.proofs.AllChanges.{contains_at}

@@ -8,10 +8,10 @@ use Rattle.journal_core.specs.Journals.{Kept}
 use Rattle.bench_core.specs.Machine.{Machine}
 use Rattle.bench_core.specs.NameList.{number_in}
 use Rattle.order_core.specs.Orders.{order_of}
-use Rattle.whatif_core.specs.declared.change.Change.{Change}
-use Rattle.whatif_core.specs.Changes.{changed}
+use Rattle.change_core.specs.declared.change.Change.{Change}
+use Rattle.change_core.specs.Changes.{changed}
 use Rattle.whatif_core.specs.Differences.{Difference, nearest_change, tally_of}
-use Rattle.whatif_core.specs.Questions.{Question as Plain}
+use Rattle.change_core.specs.Questions.{Question as Plain}
 use Rattle.whatif_report.specs.declared.asking.Question.{Question}
 use Rattle.whatif_report.specs.declared.whatif_fault.WhatifFault.{WhatifFault}
 use Rattle.whatif_report.specs.declared.whatif_fault.WhatifFault.TheVariants as faults

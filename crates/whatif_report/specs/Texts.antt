@@ -8,12 +8,12 @@ use Rattle.diff_core.specs.Rows.{Row}
 use Rattle.diff_core.specs.Diffs.{alone}
 use Rattle.report_core.specs.Rows.{name_at, row_lines, change_lines}
 use Rattle.report_core.specs.StepText.{act_line}
-use Rattle.whatif_core.specs.declared.change.Kind.{Kind}
-use Rattle.whatif_core.specs.declared.change.Kind.TheVariants.{Lost, Never, Before, Behind, Again}
-use Rattle.whatif_core.specs.Changes.{changes}
+use Rattle.change_core.specs.declared.change.Kind.{Kind}
+use Rattle.change_core.specs.declared.change.Kind.TheVariants.{Lost, Never, Before, Behind, Again}
+use Rattle.change_core.specs.Changes.{changes}
 use Rattle.whatif_core.specs.Differences.{Difference, Tally, nearest, tally_of}
-use Rattle.whatif_core.specs.Ends.{rows_before}
-use Rattle.whatif_core.specs.Questions.{Question}
+use Rattle.change_core.specs.Ends.{rows_before}
+use Rattle.change_core.specs.Questions.{Question}
 
 abbrev pub kept_words : Texts → Option Kept → List ℕ
 kept_words names None = []

@@ -1,10 +1,10 @@
 //! The text of what would have made a difference.
 ghost use Rattle.std.specs.Prelude.{◌≡◌, ◌++◌, IfOk, OnOk, length, string_bytes};
 ghost use Rattle.journal_core.specs.Holdings.{kepts};
-ghost use Rattle.whatif_core.specs.Changes.{changes};
+ghost use Rattle.change_core.specs.Changes.{changes};
 ghost use Rattle.whatif_core.specs.Differences.{Tally, tally_of};
-ghost use Rattle.whatif_core.specs.Ends.{rows_before};
-ghost use Rattle.whatif_core.specs.Questions.{Question};
+ghost use Rattle.change_core.specs.Ends.{rows_before};
+ghost use Rattle.change_core.specs.Questions.{Question};
 ghost use Rattle.whatif_report.specs.Texts.{differences_text, head_line, whatif_text};
 
 use crate::change_text::put_difference;

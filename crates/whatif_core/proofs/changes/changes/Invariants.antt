@@ -1,5 +1,5 @@
 use Rattle.std.proofs.Common.{◌≡◌}
-use Rattle.whatif_core.specs.Changes.{changes_to}
+use Rattle.change_core.specs.Changes.{changes_to}
 use Rattle.whatif_core.proofs.changes.changes.Given as goal
 
 -- those of the first steps

@@ -1,5 +1,5 @@
 use Rattle.std.proofs.Common.{◌≡◌, ◌++◌}
-use Rattle.whatif_core.specs.Changes.{changes_within}
+use Rattle.change_core.specs.Changes.{changes_within}
 use Rattle.whatif_core.proofs.changes.put_by.Given as goal
 
 -- those that are less far off

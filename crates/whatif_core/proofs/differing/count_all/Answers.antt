@@ -1,9 +1,9 @@
 use Rattle.std.proofs.Common.{◌∙◌}
-use Rattle.whatif_core.specs.declared.change.Kind.TheVariants.{Lost}
+use Rattle.change_core.specs.declared.change.Kind.TheVariants.{Lost}
 use Rattle.whatif_core.proofs.AllChanges.{change_within}
 use Rattle.whatif_core.proofs.Counted.{all_counted, counted_more, differ_fits, possible_fits}
-use Rattle.whatif_core.proofs.Played.{read_or}
-use Rattle.whatif_core.proofs.Searches.{are_walks}
+use Rattle.change_core.proofs.Played.{read_or}
+use Rattle.change_core.proofs.Searches.{are_walks}
 use Rattle.whatif_core.proofs.differing.count_all.Goals as goal
 
 pub rows_after-requires-clause-walks : goal.rows_after-requires-clause-walks

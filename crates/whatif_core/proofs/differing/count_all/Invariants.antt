@@ -1,6 +1,6 @@
 use Rattle.std.proofs.Common.{◌≡◌, ◌≤◌, drop}
 use Rattle.whatif_core.specs.Differences.{nothing, tally_from}
-use Rattle.whatif_core.specs.Searches.{IsSearch}
+use Rattle.change_core.specs.Searches.{IsSearch}
 use Rattle.whatif_core.proofs.differing.count_all.Given as goal
 
 -- what is left is counted behind what was

@@ -1,6 +1,6 @@
 use Rattle.std.proofs.Common.{◌≡◌, ◌∙◌, ap, sym, string_bytes}
 use Rattle.whatif_core.specs.Differences.{tally_of}
-use Rattle.whatif_core.specs.Questions.{Question}
+use Rattle.change_core.specs.Questions.{Question}
 use Rattle.whatif_report.proofs.Told.{on_ok, text_all}
 use Rattle.whatif_report.proofs.telling.put_found.Goals as goal
 

@@ -1,0 +1,4 @@
+pub mod Marks
+pub mod Played
+pub mod Walks
+pub mod Searches

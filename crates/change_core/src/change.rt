@@ -1,0 +1,115 @@
+//! `Change`: what the network could have done otherwise, or a node noticed, once.
+ghost use Rattle.std.specs.Prelude.{◌≡◌, ◌≤◌, ◌+◌, ◌==◌, ◌&&◌, length, slice_range};
+ghost use Rattle.node_core.specs.Operations.{plain, sends};
+ghost use Rattle.change_core.specs.Changes.{has_send, is_change, is_delivery, is_notice, may_pass, rank};
+
+use bench_core::{Kept, Step};
+use std::alloc::Allocator;
+
+/// What becomes of a step.
+#[derive(Clone, Copy, Debug, PartialEq, Eq)]
+pub enum Kind {
+    /// The delivery is lost.
+    Lost,
+    /// The up, down or permanently down is never made.
+    Never,
+    /// The step comes before an earlier step of its node.
+    Before,
+    /// The step comes behind a later step of its node.
+    Behind,
+    /// The delivery comes once more, behind a later step of its node.
+    Again,
+}
+
+/// A change of the step at one place, from 0, beside that at another: the same place where the step is left out.
+#[derive(Clone, Copy, Debug, PartialEq, Eq)]
+pub struct Change {
+    pub kind: Kind,
+    pub place: usize,
+    pub beside: usize,
+}
+
+impl Kind {
+    /// Its place among the kinds.
+    pub fn rank(self) -> u8
+        ensures { result ≡ rank self }
+    {
+        match self {
+            Kind::Lost => 0,
+            Kind::Never => 1,
+            Kind::Before => 2,
+            Kind::Behind => 3,
+            Kind::Again => 4,
+        }
+    }
+}
+
+fn is_delivery<A: Allocator>(step: &Step<A>) -> bool
+    ensures { result ≡ is_delivery (plain step.now) }
+{
+    matches!(step, Step::Deliver { .. })
+}
+
+fn is_notice<A: Allocator>(step: &Step<A>) -> bool
+    ensures { result ≡ is_notice (plain step.now) }
+{
+    matches!(
+        step,
+        Step::Up { .. } | Step::Down { .. } | Step::Permdown { .. }
+    )
+}
+
+/// Whether the step is a send of this node.
+fn is_send_of<A: Allocator>(kept: &Kept<A>, node: u16) -> bool
+    ensures { result ≡ ((kept.now.node == node) && sends kept.now.step) }
+{
+    kept.node == node && kept.step.sends()
+}
+
+/// Whether a send of the node is among the steps.
+fn has_send<A: Allocator>(steps: &[Kept<A>], node: u16) -> bool
+    ensures { result ≡ has_send steps.now node }
+{
+    for kept in steps {
+        if is_send_of(kept, node) {
+            return true;
+        }
+    }
+    false
+}
+
+/// Whether the step may be moved past these.
+fn may_pass<A: Allocator>(passed: &[Kept<A>], kept: &Kept<A>) -> bool
+    ensures { result ≡ may_pass passed.now kept.now }
+{
+    if is_delivery(&kept.step) || is_notice(&kept.step) {
+        return true;
+    }
+    kept.step.sends() && !has_send(passed, kept.node)
+}
+
+/// Whether the run of these steps has this change.
+#[tactic(auto, unfolding(crate::specs::Changes::is_change))]
+pub fn is_change<A: Allocator>(steps: &[Kept<A>], change: Change) -> bool
+    ensures { result ≡ is_change steps.now change }
+{
+    let Change {
+        kind,
+        place,
+        beside,
+    } = change;
+    let Some(kept) = steps.get(place) else {
+        return false;
+    };
+    let Some(other) = steps.get(beside) else {
+        return false;
+    };
+    let is_own = kept.node == other.node;
+    match kind {
+        Kind::Lost => place == beside && is_delivery(&kept.step),
+        Kind::Never => place == beside && is_notice(&kept.step),
+        Kind::Before => is_own && beside < place && may_pass(&steps[beside..place], kept),
+        Kind::Behind => is_own && place < beside && may_pass(&steps[place + 1..beside + 1], kept),
+        Kind::Again => is_own && place < beside && is_delivery(&kept.step),
+    }
+}

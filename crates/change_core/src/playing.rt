@@ -1,0 +1,311 @@
+//! `Search`: where changed runs lead, each played from where it parts with the one before, and left where it meets a run whose end is known.
+ghost use Rattle.std.specs.Prelude.{◌≡◌, ◌<◌, ◌≤◌, ◌-◌, IfOk, drop, length, option_map};
+ghost use Rattle.bench_core.specs.Machine.{Machine};
+ghost use Rattle.change_core.specs.Ends.{rows_before};
+ghost use Rattle.change_core.specs.Questions.{Question};
+ghost use Rattle.change_core.specs.Searches.{known_of, AreRowsAfter, AreRowsOf, AreWalks, Finds, IsSearch, Meets, MeetsOn};
+ghost use Rattle.change_core.specs.Walks.{steps_in, IsWalkOf};
+
+use crate::change::Change;
+use crate::changed::{all_places, places_with};
+use crate::rows::{Rows, copied_rows, rows_at};
+use crate::walk::Walk;
+use bench_core::{Bench, Kept};
+use diff_core::OnlineRow;
+use payload_core::{Oom, Word};
+use std::alloc::Allocator;
+use std::marker::Model;
+
+/// For how many steps a run is played beside one whose end is known. Most runs meet it at the first; those that don't within some
+/// dozens mostly never do.
+const FAR: usize = 64;
+
+/// The places of a run's steps, and the rows at its end.
+#[derive(Drop)]
+struct Known<A: Allocator> {
+    places: Vec<usize, A>,
+    rows: Rows<A>,
+}
+
+impl<A: Allocator> Model for Known<A> {
+    ghost use Rattle.change_core.specs.Searches.{known_code, Known};
+
+    ghost Value = { Known };
+
+    ghost coded = { known_code };
+
+    ghost view = { λ k. record { places = k.places.items; rows = k.rows.items } };
+}
+
+/// Two walks, on which runs are played beside each other, and two runs whose ends are known.
+#[derive(Drop)]
+pub struct Search<'a, B: Allocator> {
+    here: Walk<'a, B>,
+    there: Walk<'a, B>,
+    /// The run as it was.
+    recorded: Known<&'a B>,
+    /// The last one that was possible.
+    last: Known<&'a B>,
+    /// Whether the run to come rather ends as the last.
+    prefers_last: bool,
+}
+
+impl<'a, B: Allocator> Model for Search<'a, B> {
+    ghost use Rattle.change_core.specs.Searches.{search_code, Search};
+
+    ghost Value = { Search };
+
+    ghost coded = { search_code };
+
+    ghost view = { λ s. record { here = s.here; there = s.there; recorded = s.recorded; last = s.last } };
+}
+
+/// How many places at the end of both are the same.
+fn common_end(places: &[usize], others: &[usize]) -> usize
+    ensures within { result ≤ length places.now }
+    ensures others { result ≤ length others.now }
+    ensures same { drop (length places.now - result) places.now ≡ drop (length others.now - result) others.now }
+{
+    let most = places.len().min(others.len());
+    for count in 0..most {
+        if places[places.len() - 1 - count] != others[others.len() - 1 - count] {
+            return count;
+        }
+    }
+    most
+}
+
+/// Plays these steps on both walks, and says whether they met.
+fn meet_on<'a, B: Allocator>(
+    here: &mut Walk<'a, B>,
+    there: &mut Walk<'a, B>,
+    steps: &[Kept<&'a B>],
+    places: &[usize],
+    far: usize,
+) -> Result<bool, Oom>
+    ensures { IfOk result (MeetsOn steps.now places.now here.old here.new there.old there.new) }
+{
+    for turn in 0..places.len().min(far) {
+        let is_look = turn & (turn + 1) == 0;
+        if is_look && here.cluster().same(there.cluster()) {
+            return Ok(true);
+        }
+        if !here.ask_at(steps, places[turn])? || !there.ask_at(steps, places[turn])? {
+            return Ok(false);
+        }
+    }
+    Ok(false)
+}
+
+/// Plays two runs, from where they part to where their steps are the same again, and so many of these: says whether they met.
+fn meet<'a, B: Allocator>(
+    here: &mut Walk<'a, B>,
+    there: &mut Walk<'a, B>,
+    steps: &[Kept<&'a B>],
+    run: &[usize],
+    known: &[usize],
+    far: usize,
+) -> Result<bool, Oom>
+    requires here { IsWalkOf steps.now here.old }
+    requires there { IsWalkOf steps.now there.old }
+    ensures { IfOk result (Meets steps.now run.now known.now here.old here.new there.old there.new) }
+{
+    let rest = common_end(run, known);
+    let (begin, end) = run.split_at(run.len() - rest);
+    let (known_begin, _known_end) = known.split_at(known.len() - rest);
+    if !here.go_to(steps, begin)? {
+        return Ok(false);
+    }
+    if !there.go_to(steps, known_begin)? {
+        return Ok(false);
+    }
+    meet_on(here, there, steps, end, far)
+}
+
+/// The same of a known run.
+fn meet_known<'a, B: Allocator>(
+    here: &mut Walk<'a, B>,
+    there: &mut Walk<'a, B>,
+    steps: &[Kept<&'a B>],
+    run: &[usize],
+    known: &Known<&'a B>,
+    far: usize,
+) -> Result<bool, Oom>
+    requires here { IsWalkOf steps.now here.old }
+    requires there { IsWalkOf steps.now there.old }
+    ensures { IfOk result (Meets steps.now run.now known.now.places here.old here.new there.old there.new) }
+{
+    meet(here, there, steps, run, known.places.as_slice(), far)
+}
+
+/// The run as it was, with the rows at its end.
+fn run_as_it_was<W: Allocator, A: Allocator + Copy>(
+    steps: &[Kept<W>],
+    before: &[OnlineRow<A>],
+    alloc: A,
+) -> Result<Known<A>, Oom>
+    ensures places { IfOk result (λ known. steps_in steps.now known.places ≡ steps.now) }
+    ensures rows { IfOk result (λ known. known.rows ≡ before.now) }
+{
+    let places = all_places(steps, alloc)?;
+    let rows = copied_rows(before, alloc)?;
+    Ok(Known { places, rows })
+}
+
+impl<'a, B: Allocator> Search<'a, B> {
+    /// Of a bench with these steps, which shows these rows.
+    pub fn new(
+        bench: &Bench<'a, B>,
+        steps: &[Kept<&'a B>],
+        before: &[OnlineRow<&'a B>],
+        alloc: &'a B,
+    ) -> Result<Self, Oom>
+        requires { steps.now ≡ bench.now.state.remaining }
+        ensures { IfOk result (λ search. (q : Question) → before.now ≡ rows_before bench.now q → IsSearch bench.now q steps.now search) }
+    {
+        bench.bench_law();
+        let recorded = run_as_it_was(steps, before, alloc)?;
+        let last = run_as_it_was(steps, before, alloc)?;
+        let here = Walk::new(bench, alloc)?;
+        let there = Walk::new(bench, alloc)?;
+        Ok(Search {
+            here,
+            there,
+            recorded,
+            last,
+            prefers_last: false,
+        })
+    }
+
+    /// Plays the run of the steps at these places beside a known one, and says whether they met.
+    fn meets(
+        &mut self,
+        steps: &[Kept<&'a B>],
+        run: &[usize],
+        is_last: bool,
+        far: usize,
+    ) -> Result<bool, Oom>
+        requires { AreWalks steps.now self.old }
+        ensures recorded { self.new.recorded ≡ self.old.recorded }
+        ensures last { self.new.last ≡ self.old.last }
+        ensures meets { IfOk result (Meets steps.now run.now (known_of is_last self.old).places self.old.here self.new.here self.old.there self.new.there) }
+    {
+        if is_last {
+            return meet_known(&mut self.here, &mut self.there, steps, run, &self.last, far);
+        }
+        meet_known(
+            &mut self.here,
+            &mut self.there,
+            steps,
+            run,
+            &self.recorded,
+            far,
+        )
+    }
+
+    /// Whether the run rather ends as the last than as it was: it parts with that later.
+    fn is_near_last(&self, run: &[usize]) -> bool {
+        let by_last = common_end(run, self.last.places.as_slice());
+        let by_recorded = common_end(run, self.recorded.places.as_slice());
+        by_recorded < by_last || (by_recorded == by_last && self.prefers_last)
+    }
+
+    /// The known run that ends as that of the steps at these places, if it is found: whether it is the last.
+    fn find_known(&mut self, steps: &[Kept<&'a B>], run: &[usize]) -> Result<Option<bool>, Oom>
+        requires { AreWalks steps.now self.old }
+        ensures { IfOk result (Finds steps.now run.now self.old self.new) }
+    {
+        let is_last = self.is_near_last(run);
+        if self.meets(steps, run, is_last, 1)? {
+            self.prefers_last = is_last;
+            return Ok(Some(is_last));
+        }
+        if self.meets(steps, run, !is_last, FAR)? {
+            self.prefers_last = !is_last;
+            return Ok(Some(!is_last));
+        }
+        self.prefers_last = true;
+        Ok(None)
+    }
+
+    /// The rows at the end of a known run.
+    fn known_rows(&self, is_last: bool, alloc: &'a B) -> Result<Rows<&'a B>, Oom>
+        ensures { IfOk result (λ rows. rows.items ≡ (known_of is_last self.now).rows) }
+    {
+        if is_last {
+            return copied_rows(self.last.rows.as_slice(), alloc);
+        }
+        copied_rows(self.recorded.rows.as_slice(), alloc)
+    }
+
+    /// The rows that are asked for at the end of the run of the steps at these places, which is played alone, if each is accepted.
+    fn own_rows(
+        &mut self,
+        steps: &[Kept<&'a B>],
+        run: &[usize],
+        node: u16,
+        topic: &Word<&'a B>,
+        key: &Word<&'a B>,
+        alloc: &'a B,
+    ) -> Result<Option<Rows<&'a B>>, Oom>
+        requires { AreWalks steps.now self.old }
+        ensures { IfOk result (λ rows. (m : Machine) → IsSearch m (record { node = node; topic = topic.now; key = key.now }) steps.now self.old →
+            AreRowsOf m (record { node = node; topic = topic.now; key = key.now }) steps.now run.now self.new (option_map (λ r. r.items) rows)) }
+    {
+        if !self.here.go_to(steps, run)? {
+            return Ok(None);
+        }
+        let rows = rows_at(self.here.cluster(), node, topic, key, alloc)?;
+        Ok(Some(rows))
+    }
+
+    /// The rows that are asked for at the end of the run of the steps at these places, if each is accepted.
+    fn rows_of(
+        &mut self,
+        steps: &[Kept<&'a B>],
+        run: &[usize],
+        node: u16,
+        topic: &Word<&'a B>,
+        key: &Word<&'a B>,
+        alloc: &'a B,
+    ) -> Result<Option<Rows<&'a B>>, Oom>
+        requires { AreWalks steps.now self.old }
+        ensures { IfOk result (λ rows. (m : Machine) → IsSearch m (record { node = node; topic = topic.now; key = key.now }) steps.now self.old →
+            AreRowsOf m (record { node = node; topic = topic.now; key = key.now }) steps.now run.now self.new (option_map (λ r. r.items) rows)) }
+    {
+        match self.find_known(steps, run)? {
+            Some(is_last) => Ok(Some(self.known_rows(is_last, alloc)?)),
+            None => self.own_rows(steps, run, node, topic, key, alloc),
+        }
+    }
+
+    /// The rows that are asked for at the end of a run with this change, if it is possible.
+    pub fn rows_after(
+        &mut self,
+        steps: &[Kept<&'a B>],
+        change: Change,
+        node: u16,
+        topic: &Word<&'a B>,
+        key: &Word<&'a B>,
+        alloc: &'a B,
+    ) -> Result<Option<Rows<&'a B>>, Oom>
+        requires walks { AreWalks steps.now self.old }
+        requires place { change.place < length steps.now }
+        requires beside { change.beside < length steps.now }
+        ensures { IfOk result (λ rows. (m : Machine) → steps.now ≡ m.state.remaining → IsSearch m (record { node = node; topic = topic.now; key = key.now }) steps.now self.old →
+            AreRowsAfter m (record { node = node; topic = topic.now; key = key.now }) steps.now change self.new (option_map (λ r. r.items) rows)) }
+    {
+        let Some(run) = places_with(steps, change, alloc)? else {
+            return Ok(None);
+        };
+        let Some(rows) = self.rows_of(steps, run.as_slice(), node, topic, key, alloc)? else {
+            return Ok(None);
+        };
+        let copies = copied_rows(rows.as_slice(), alloc)?;
+        self.last = Known {
+            places: run,
+            rows: copies,
+        };
+        Ok(Some(rows))
+    }
+}

@@ -1,0 +1,97 @@
+//! The rows that are asked for.
+ghost use Rattle.std.specs.Prelude.{◌≡◌, IfOk, filter, option_map};
+ghost use Rattle.change_core.specs.Ends.{rows_before};
+ghost use Rattle.change_core.specs.Questions.{is_of, rows_at, rows_in};
+
+use bench_core::{Bench, Cluster, Node};
+use diff_core::{OnlineRow, online_list};
+use payload_core::{Oom, Word};
+use std::alloc::Allocator;
+
+/// Rows of an online list.
+pub type Rows<A> = Vec<OnlineRow<A>, A>;
+
+/// Whether the row is of this topic and key.
+fn is_of<A: Allocator>(row: &OnlineRow<A>, topic: &Word<A>, key: &Word<A>) -> bool
+    ensures { result ≡ is_of topic.now key.now row.now }
+{
+    row.topic == *topic && row.key == *key
+}
+
+/// Copies of the rows of this topic and key.
+fn rows_of<A: Allocator + Copy>(
+    alloc: A,
+    rows: &[OnlineRow<A>],
+    topic: &Word<A>,
+    key: &Word<A>,
+) -> Result<Rows<A>, Oom>
+    ensures { IfOk result (λ found. found.items ≡ filter (is_of topic.now key.now) rows.now) }
+{
+    let mut found = Vec::new(alloc);
+    for row in rows {
+        if is_of(row, topic, key) {
+            found.push(row.try_copy()?)?;
+        }
+    }
+    Ok(found)
+}
+
+/// The rows of the node's online list with this topic and key; none where there is no such node.
+pub(crate) fn rows_in<'a, B: Allocator>(
+    found: Option<&Node<'a, B>>,
+    node: u16,
+    topic: &Word<&'a B>,
+    key: &Word<&'a B>,
+    alloc: &'a B,
+) -> Result<Rows<&'a B>, Oom>
+    ensures { IfOk result (λ rows. rows.items ≡ rows_in (record { node = node; topic = topic.now; key = key.now }) (option_map (λ n. n.now) found.entry)) }
+{
+    let Some(found) = found else {
+        return Ok(Vec::new(alloc));
+    };
+    let listed = online_list(alloc, found.replica())?;
+    let rows = rows_of(alloc, listed.as_slice(), topic, key);
+    drop(listed);
+    rows
+}
+
+/// The rows that the cluster shows.
+#[tactic(auto, unfolding(crate::specs::Questions::rows_at))]
+pub(crate) fn rows_at<'a, B: Allocator>(
+    cluster: &Cluster<'a, B>,
+    node: u16,
+    topic: &Word<&'a B>,
+    key: &Word<&'a B>,
+    alloc: &'a B,
+) -> Result<Rows<&'a B>, Oom>
+    ensures { IfOk result (λ rows. rows.items ≡ rows_at (record { node = node; topic = topic.now; key = key.now }) cluster.now) }
+{
+    rows_in(cluster.node(node), node, topic, key, alloc)
+}
+
+/// The rows at the end of the run as it was.
+pub fn rows_before<'a, B: Allocator>(
+    bench: &Bench<'a, B>,
+    node: u16,
+    topic: &Word<&'a B>,
+    key: &Word<&'a B>,
+    alloc: &'a B,
+) -> Result<Rows<&'a B>, Oom>
+    ensures { IfOk result (λ rows. rows.items ≡ rows_before bench.now (record { node = node; topic = topic.now; key = key.now })) }
+{
+    rows_in(bench.node(node), node, topic, key, alloc)
+}
+
+/// Copies of rows.
+pub(crate) fn copied_rows<A: Allocator + Copy>(
+    rows: &[OnlineRow<A>],
+    alloc: A,
+) -> Result<Rows<A>, Oom>
+    ensures { IfOk result (λ copies. copies.items ≡ rows.now) }
+{
+    let mut copies = Vec::with_capacity(alloc, rows.len())?;
+    for row in rows {
+        copies.push(row.try_copy()?)?;
+    }
+    Ok(copies)
+}
