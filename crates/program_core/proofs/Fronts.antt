@@ -10,7 +10,7 @@ use Rattle.grammar_core.specs.Scripts.{Script}
 use Rattle.grammar_core.specs.declared.fault.FaultKind.TheVariants.{TooLong}
 use Rattle.grammar_core.specs.declared.fault.ScriptFault.{ScriptFault}
 use Rattle.run_core.specs.Report.{played}
-use Rattle.session_core.specs.Sessions.{IsSession}
+use Rattle.recording_core.specs.Sessions.{IsSession}
 use Rattle.stream_core.specs.Inputs.{IsFront}
 use Rattle.program_core.specs.declared.fault.Fault.{Fault}
 use Rattle.program_core.specs.declared.fault.Fault.TheVariants as faults

@@ -18,9 +18,9 @@ use Rattle.grammar_core.specs.Scripts.{Script}
 use Rattle.grammar_core.specs.declared.fault.FaultKind.TheVariants as kinds
 use Rattle.script_core.specs.declared.play_fault.PlayFault.{PlayFault}
 use Rattle.script_core.specs.declared.play_fault.PlayFault.TheVariants as plays
-use Rattle.session_core.specs.Format.{session}
-use Rattle.session_core.specs.Sessions.{IsSession, Refuses}
-use Rattle.session_core.specs.declared.session_fault.SessionFault.TheVariants as sessions
+use Rattle.recording_core.specs.Format.{session}
+use Rattle.recording_core.specs.Sessions.{IsSession, Refuses}
+use Rattle.recording_core.specs.declared.session_fault.SessionFault.TheVariants as sessions
 use Rattle.svg_core.specs.Trees.{text_of}
 use Rattle.stream_core.specs.Steps.{Steps}
 use Rattle.clap.specs.declared.error.kind.ErrorKind.{ErrorKind}

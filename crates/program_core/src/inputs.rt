@@ -4,7 +4,7 @@ ghost use Rattle.std.specs.Io.KnownBytes.{IsAtEnd};
 ghost use Rattle.json.specs.Word.{is_space};
 ghost use Rattle.grammar_core.specs.Grammar.{script_of};
 ghost use Rattle.run_core.specs.Report.{played};
-ghost use Rattle.session_core.specs.Sessions.{IsSession};
+ghost use Rattle.recording_core.specs.Sessions.{IsSession};
 ghost use Rattle.program_core.specs.Program.{FailsAs, IsBenchAt, IsUnwritten, RefusesBenchAt, RefusesScript, RefusesSession, TellsMemory, begins_session};
 
 use crate::fault::Fault;

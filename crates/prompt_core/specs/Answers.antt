@@ -10,7 +10,7 @@ use Rattle.grammar_core.specs.Words.{words_of}
 use Rattle.grammar_core.specs.declared.fault.FaultKind.{FaultKind}
 use Rattle.grammar_core.specs.declared.fault.FaultKind.TheVariants.{NotText, TooLong, NoNodes, Twice, UnknownWord, WrongCount, NotAllowed, BadNumber}
 use Rattle.grammar_core.specs.declared.fault.FaultKind.TheVariants.{BadName, OutOfMemory}
-use Rattle.session_core.specs.Format.{session}
+use Rattle.recording_core.specs.Format.{session}
 use Rattle.explain_core.specs.Explanations.{explanation}
 use Rattle.whatif_report.specs.Texts.{whatif_text}
 

@@ -8,13 +8,13 @@ use Rattle.bench_core.specs.Limits.{Limits, AreLimits}
 use Rattle.bench_core.specs.Machine.{Event}
 use Rattle.bench_core.specs.NameList.{Texts, names_of}
 use Rattle.event_core.specs.Format.{event_json}
-use Rattle.session_core.specs.Format.{limits_json, session}
+use Rattle.recording_core.specs.Format.{limits_json, session}
 use Rattle.event_core.specs.Decoding.{◌>>=◌}
-use Rattle.session_core.specs.Decoding.{are_limits, limits_at, texts_of}
-use Rattle.session_core.specs.Decoding.{if_ok, names_at, values_at, Parts, parts_at}
+use Rattle.recording_core.specs.Decoding.{are_limits, limits_at, texts_of}
+use Rattle.recording_core.specs.Decoding.{if_ok, names_at, values_at, Parts, parts_at}
 use Rattle.event_core.specs.Told.{IsTold}
-use Rattle.session_core.specs.Versions.{tells, event_in}
-use Rattle.session_core.proofs.Versions.{told_event}
+use Rattle.recording_core.specs.Versions.{tells, event_in}
+use Rattle.recording_core.proofs.Versions.{told_event}
 use Rattle.std.specs.List.{AllByRecursion}
 use Rattle.event_core.proofs.Again.{event_again}
 

@@ -6,7 +6,7 @@ use Rattle.bench_core.specs.declared.reply.Reply.TheVariants.{Refused}
 use Rattle.bench_core.specs.declared.fault.Fault.TheVariants.{OutOfMemory}
 use Rattle.bench_core.specs.Histories.{note}
 use Rattle.bench_core.specs.Machine.{Event, Machine, config_of, with_state, reply_to, is_recorded, after, AnswersAs, Answered, Unmade}
-use Rattle.session_core.specs.Sessions.{RecordsNext, Asked}
+use Rattle.recording_core.specs.Sessions.{RecordsNext, Asked}
 
 module _ (old : Machine) (e : Event) (answer : Reply) (new : Machine) (made : answer ≢ Refused OutOfMemory) where
   -- the reply was another, so the bench doesn't record the event

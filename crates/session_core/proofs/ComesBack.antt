@@ -4,16 +4,16 @@ use Rattle.std.specs.List.{AllByRecursion}
 use Rattle.serde_json.specs.Data.{Data}
 use Rattle.bench_core.specs.Machine.{State, Event, Machine, opening_machine, config_of, with_state}
 use Rattle.bench_core.specs.Replays.{Replays}
-use Rattle.session_core.specs.declared.session_fault.SessionFault.{SessionFault}
-use Rattle.session_core.specs.declared.session_fault.SessionFault.TheVariants.{NotJson, BadShape, BadVersion, Disagrees, OutOfMemory}
+use Rattle.recording_core.specs.declared.session_fault.SessionFault.{SessionFault}
+use Rattle.recording_core.specs.declared.session_fault.SessionFault.TheVariants.{NotJson, BadShape, BadVersion, Disagrees, OutOfMemory}
 use Rattle.event_core.specs.Format.{event_json}
-use Rattle.session_core.specs.Format.{session}
-use Rattle.session_core.specs.Decoding.{Parts, version_of, parts_at, acts_of}
-use Rattle.session_core.specs.Versions.{event_in}
+use Rattle.recording_core.specs.Format.{session}
+use Rattle.recording_core.specs.Decoding.{Parts, version_of, parts_at, acts_of}
+use Rattle.recording_core.specs.Versions.{event_in}
 use Rattle.event_core.specs.Told.{IsTold}
-use Rattle.session_core.specs.Sessions.{with_event, RecordsNext, Reads, Steps, Faults, data_of, first_bench, HasHead, IsJson, Answers, IsSaved, ComesBack}
+use Rattle.recording_core.specs.Sessions.{with_event, RecordsNext, Reads, Steps, Faults, data_of, first_bench, HasHead, IsJson, Answers, IsSaved, ComesBack}
 use Rattle.session_core.proofs.Again.{event_in_again, parts, parts_again}
-use Rattle.session_core.proofs.Replayed.{data_of-items_of}
+use Rattle.recording_core.proofs.Replayed.{data_of-items_of}
 
 -- of two events that a value is read as, each is the other
 one_event : (v : ℕ) (d : Data) (e f : Event) → event_in v d ≡ Some e → event_in v d ≡ Some f → e ≡ f

@@ -1,13 +1,6 @@
-pub mod Versions
-pub mod Parts
 pub mod Shape
-pub mod Loops
-pub mod Replayed
 pub mod Again
 pub mod Asked
 pub mod ComesBack
 pub mod Told
-pub mod Heads
-pub mod Drafting
-pub mod Plain
 pub mod Recorded

@@ -3,14 +3,14 @@ use Rattle.std.proofs.Common.{◌≡◌, ℕ, List, Ok, Err, refl, sym, ◌∙�
 use Rattle.std.specs.Prelude.{Bool}
 use Rattle.serde_json.specs.Data.{Data}
 use Rattle.bench_core.specs.Machine.{Event, Machine}
-use Rattle.session_core.specs.Decoding.{Parts, acts_of}
-use Rattle.session_core.specs.Drafts.{AreRead}
-use Rattle.session_core.specs.Recordings.{IsRecording}
-use Rattle.session_core.specs.Sessions.{Answers, Faults, IsSaved, IsSession, Reads, Refuses, data_of, first_bench}
-use Rattle.session_core.specs.declared.session_fault.SessionFault.{SessionFault}
-use Rattle.session_core.specs.declared.session_fault.SessionFault.TheVariants.{NotJson, BadShape, BadVersion, Disagrees, OutOfMemory}
+use Rattle.recording_core.specs.Decoding.{Parts, acts_of}
+use Rattle.recording_core.specs.Drafts.{AreRead}
+use Rattle.recording_core.specs.Recordings.{IsRecording}
+use Rattle.recording_core.specs.Sessions.{Answers, Faults, IsSaved, IsSession, Reads, Refuses, data_of, first_bench}
+use Rattle.recording_core.specs.declared.session_fault.SessionFault.{SessionFault}
+use Rattle.recording_core.specs.declared.session_fault.SessionFault.TheVariants.{NotJson, BadShape, BadVersion, Disagrees, OutOfMemory}
 use Rattle.session_core.proofs.ComesBack.{comes_back}
-use Rattle.session_core.proofs.Replayed.{gives, is_refused, is_session, refused}
+use Rattle.recording_core.proofs.Replayed.{gives, is_refused, is_session, refused}
 
 -- a head that is refused is that of no saved bench
 pub refused_back : (bytes : List ℕ) (m : Machine) → IsSaved bytes m → (fault : SessionFault) → Refuses bytes fault → fault ≡ OutOfMemory

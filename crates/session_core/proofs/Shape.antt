@@ -7,7 +7,7 @@ use Rattle.bench_core.specs.Limits.{Limits}
 use Rattle.bench_core.specs.Machine.{Event}
 use Rattle.bench_core.specs.NameList.{Texts}
 use Rattle.event_core.specs.Format.{event_json}
-use Rattle.session_core.specs.Format.{session}
+use Rattle.recording_core.specs.Format.{session}
 use Rattle.event_core.proofs.Shape.{depth_in, event_depth, event_no_float, no_float_in}
 
 pub session_no_float : (version : ℕ) (names : Texts) (limits : Limits) (events : List Event) → has_float (session version names limits events) ≡ false

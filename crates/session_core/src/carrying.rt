@@ -1,10 +1,10 @@
 //! `carry`: a session's text in the form of the latest version.
 ghost use Rattle.std.specs.Prelude.{IfErr, IfOk};
-ghost use Rattle.session_core.specs.Sessions.{IsCarried, Refuses};
+ghost use Rattle.recording_core.specs.Sessions.{IsCarried, Refuses};
 
 use crate::loading::load;
 use crate::saving::save;
-use crate::session_fault::SessionFault;
+use recording_core::SessionFault;
 use std::alloc::{Allocator, Global};
 
 /// The text of the bench that `load` gives with this allocator.

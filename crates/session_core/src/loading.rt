@@ -3,16 +3,13 @@ ghost use Rattle.std.specs.Prelude.{◌≡◌, List, Some, IfOk, OnOk, IfErr};
 ghost use Rattle.serde_json.specs.Data.{Data};
 ghost use Rattle.bench_core.specs.Machine.{Machine};
 ghost use Rattle.event_core.specs.Decoding.{event_at};
-ghost use Rattle.session_core.specs.Drafts.{AreRead};
-ghost use Rattle.session_core.specs.Versions.{number_of};
-ghost use Rattle.session_core.specs.Sessions.{Asked, Steps, Reads, Faults, Refuses, ComesBack, IsSaved, IsSession};
+ghost use Rattle.recording_core.specs.Drafts.{AreRead};
+ghost use Rattle.recording_core.specs.Versions.{number_of};
+ghost use Rattle.recording_core.specs.Sessions.{Asked, Steps, Reads, Faults, Refuses, ComesBack, IsSaved, IsSession};
 
-use crate::acts::Acts;
-use crate::recording::{Recording, read_session};
-use crate::session_fault::SessionFault;
-use crate::version::Version;
 use bench_core::{Bench, Event, Fault, Reply};
 use dots_core::Oom;
+use recording_core::{Acts, Recording, SessionFault, Version, read_session};
 use std::alloc::{Allocator, Global};
 
 /// Asks the event's call, and says whether the bench gave its reply and recorded it.

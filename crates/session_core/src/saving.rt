@@ -5,9 +5,9 @@ ghost use Rattle.serde_json.specs.Data.{string, object, member, no_members};
 ghost use Rattle.serde_json.specs.View.{view};
 ghost use Rattle.serde_json.specs.Written.{compact_text};
 ghost use Rattle.event_core.specs.Format.{list, whole, event_json};
-ghost use Rattle.session_core.specs.Format.{limits_json, session};
+ghost use Rattle.recording_core.specs.Format.{limits_json, session};
 ghost use Rattle.event_core.specs.Told.{IsEvent};
-ghost use Rattle.session_core.specs.Sessions.{IsSaved};
+ghost use Rattle.recording_core.specs.Sessions.{IsSaved};
 
 use bench_core::laws::replay_law;
 use bench_core::{Bench, History, Limits, Names};

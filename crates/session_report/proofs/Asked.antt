@@ -6,7 +6,7 @@ use Rattle.bench_core.specs.declared.reply.Reply.{Reply}
 use Rattle.bench_core.specs.Histories.{note}
 use Rattle.bench_core.specs.Machine.{Event, Machine, config_of, with_state, reply_to, is_recorded, after}
 use Rattle.report_core.specs.ActTexts.{after_act}
-use Rattle.session_core.specs.Sessions.{Asked}
+use Rattle.recording_core.specs.Sessions.{Asked}
 
 at_end : {A : Type 0} (xs : List A) (x : A) → slice_get (xs ++ x ∷ []) (length xs) ≡ Some x
 at_end [] x = refl

@@ -6,12 +6,12 @@ use Rattle.bench_core.specs.NameList.{Texts}
 use Rattle.bench_core.specs.Machine.{Event, Machine, opening_machine}
 use Rattle.run_core.specs.Report.{call_of, commands_text, history_text}
 use Rattle.event_core.specs.Decoding.{event_at}
-use Rattle.session_core.specs.Decoding.{Parts, acts_of}
-use Rattle.session_core.specs.Drafts.{AreRead}
-use Rattle.session_core.specs.Recordings.{IsRecording}
-use Rattle.session_core.specs.Sessions.{Reads, data_of, first_bench, with_event}
-use Rattle.session_core.proofs.Versions.{event_told}
-use Rattle.session_core.proofs.Replayed.{grown}
+use Rattle.recording_core.specs.Decoding.{Parts, acts_of}
+use Rattle.recording_core.specs.Drafts.{AreRead}
+use Rattle.recording_core.specs.Recordings.{IsRecording}
+use Rattle.recording_core.specs.Sessions.{Reads, data_of, first_bench, with_event}
+use Rattle.recording_core.proofs.Versions.{event_told}
+use Rattle.recording_core.proofs.Replayed.{grown}
 
 record Keeps (old : Machine) (events : List Event) (new : Machine) : Type 0 where
   names : new.names ≡ old.names

@@ -4,10 +4,10 @@ ghost use Rattle.serde_json.specs.Data.{Data};
 ghost use Rattle.bench_core.specs.Machine.{Machine};
 ghost use Rattle.run_core.specs.Report.{after_command, call_of, command_text, commands_text, history_text};
 ghost use Rattle.event_core.specs.Decoding.{event_at};
-ghost use Rattle.session_core.specs.Drafts.{AreRead};
-ghost use Rattle.session_core.specs.Sessions.{Asked, Faults, IsSaved, IsSession, Reads, Refuses, Steps};
-ghost use Rattle.session_core.specs.Versions.{number_of};
-ghost use Rattle.session_core.specs.declared.session_fault.SessionFault.TheVariants as sessions;
+ghost use Rattle.recording_core.specs.Drafts.{AreRead};
+ghost use Rattle.recording_core.specs.Sessions.{Asked, Faults, IsSaved, IsSession, Reads, Refuses, Steps};
+ghost use Rattle.recording_core.specs.Versions.{number_of};
+ghost use Rattle.recording_core.specs.declared.session_fault.SessionFault.TheVariants as sessions;
 
 use bench_core::{Bench, Event, History, Reply};
 use payload_core::Oom;

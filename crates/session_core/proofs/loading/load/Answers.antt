@@ -1,9 +1,9 @@
 use Rattle.std.proofs.Common.{subst}
 use Rattle.std.proofs.lemmas.Result.{err_from_is_err_and}
 use Rattle.bench_core.specs.Machine.{Machine}
-use Rattle.session_core.specs.Decoding.{Parts}
-use Rattle.session_core.specs.Sessions.{Faults, Reads}
-use Rattle.session_core.specs.Versions.{number_of}
+use Rattle.recording_core.specs.Decoding.{Parts}
+use Rattle.recording_core.specs.Sessions.{Faults, Reads}
+use Rattle.recording_core.specs.Versions.{number_of}
 use Rattle.session_core.proofs.Recorded.{fault_back, refused_back, refuses, saved_back, session_of}
 use Rattle.session_core.proofs.loading.load.Goals as goal
 

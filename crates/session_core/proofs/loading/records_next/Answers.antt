@@ -3,7 +3,7 @@ use Rattle.bench_core.specs.declared.reply.Reply.TheVariants.{Refused}
 use Rattle.bench_core.specs.declared.fault.Fault.TheVariants.{OutOfMemory}
 use Rattle.bench_core.specs.Acts.{plain_act}
 use Rattle.bench_core.specs.Machine.{Event}
-use Rattle.session_core.specs.Sessions.{RecordsNext, Asked}
+use Rattle.recording_core.specs.Sessions.{RecordsNext, Asked}
 use Rattle.session_core.proofs.Asked.{other_reply, same_reply}
 use Rattle.session_core.proofs.loading.records_next.Goals as goal
 

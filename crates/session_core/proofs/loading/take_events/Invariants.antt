@@ -1,8 +1,8 @@
 use Rattle.std.proofs.Common.{◌+◌, List, drop}
 use Rattle.serde_json.specs.Data.{Data}
-use Rattle.session_core.specs.Drafts.{AreRead}
-use Rattle.session_core.specs.Versions.{number_of}
-use Rattle.session_core.proofs.Loops.{Goes}
+use Rattle.recording_core.specs.Drafts.{AreRead}
+use Rattle.recording_core.specs.Versions.{number_of}
+use Rattle.recording_core.proofs.Loops.{Goes}
 use Rattle.session_core.proofs.loading.take_events.Given as goal
 
 -- what is left, asked of the bench as it is, makes of all what it makes

@@ -5,7 +5,7 @@ use Rattle.serde_json.specs.View.{view}
 use Rattle.serde_json.proofs.Views.{view-Array}
 use Rattle.event_core.specs.Format.{list, event_json}
 use Rattle.event_core.specs.Told.{IsEvent}
-use Rattle.session_core.proofs.Loops.{front_more, front_all, each_more, each_all}
+use Rattle.recording_core.proofs.Loops.{front_more, front_all, each_more, each_all}
 use Rattle.session_core.proofs.saving.events_value.Goals as goal
 
 pub loop-place-preserved : goal.loop-place-preserved

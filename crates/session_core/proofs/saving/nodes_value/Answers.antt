@@ -5,7 +5,7 @@ use Rattle.serde_json.specs.Data.{string}
 use Rattle.serde_json.specs.View.{view}
 use Rattle.serde_json.proofs.Views.{view-Array}
 use Rattle.event_core.specs.Format.{list}
-use Rattle.session_core.proofs.Loops.{front_more, front_all}
+use Rattle.recording_core.proofs.Loops.{front_more, front_all}
 use Rattle.session_core.proofs.saving.nodes_value.Goals as goal
 
 pub loop-number-preserved : goal.loop-number-preserved

@@ -2,9 +2,9 @@ use Rattle.std.proofs.Common.{◌≡◌, ◌++◌, map, string_bytes, subst, ap,
 use Rattle.std.proofs.lemmas.Result.{err_from_is_err_and}
 use Rattle.bench_core.specs.Machine.{Machine}
 use Rattle.run_core.specs.Report.{call_of, commands_text}
-use Rattle.session_core.specs.Decoding.{Parts}
-use Rattle.session_core.specs.Sessions.{Faults, Reads}
-use Rattle.session_core.specs.Versions.{number_of}
+use Rattle.recording_core.specs.Decoding.{Parts}
+use Rattle.recording_core.specs.Sessions.{Faults, Reads}
+use Rattle.recording_core.specs.Versions.{number_of}
 use Rattle.session_core.proofs.Recorded.{fault_back, refused_back, refuses, saved_back, session_of}
 use Rattle.session_report.proofs.Kept.{report_is}
 use Rattle.session_report.proofs.telling.report_session.Goals as goal

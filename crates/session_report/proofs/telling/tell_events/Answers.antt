@@ -2,13 +2,13 @@ use Rattle.std.proofs.Common.{◌≡◌, ◌+◌, [], ◌∷◌, ◌++◌, true,
 use Rattle.std.proofs.lemmas.List.{drop_all}
 use Rattle.std.proofs.lemmas.Result.{err_from_is_err_and}
 use Rattle.run_core.specs.Report.{call_of, commands_text}
-use Rattle.session_core.specs.Drafts.{AreRead}
-use Rattle.session_core.specs.Sessions.{Reads}
-use Rattle.session_core.specs.declared.session_fault.SessionFault.TheVariants.{BadShape}
-use Rattle.session_core.specs.Versions.{number_of}
-use Rattle.session_core.proofs.Versions.{no_event}
-use Rattle.session_core.proofs.Drafting.{first_of, none_left, one_left}
-use Rattle.session_core.proofs.Loops.{Goes, goes_on, stops, starts, from_here}
+use Rattle.recording_core.specs.Drafts.{AreRead}
+use Rattle.recording_core.specs.Sessions.{Reads}
+use Rattle.recording_core.specs.declared.session_fault.SessionFault.TheVariants.{BadShape}
+use Rattle.recording_core.specs.Versions.{number_of}
+use Rattle.recording_core.proofs.Versions.{no_event}
+use Rattle.recording_core.proofs.Drafting.{first_of, none_left, one_left}
+use Rattle.recording_core.proofs.Loops.{Goes, goes_on, stops, starts, from_here}
 use Rattle.session_report.proofs.Printing.{more_text, no_more_text}
 use Rattle.session_report.proofs.telling.tell_events.Goals as goal
 

@@ -1,9 +1,9 @@
 use Rattle.std.proofs.Common.{◌≡◌, ◌+◌, ◌++◌, List, drop, map, string_bytes}
 use Rattle.serde_json.specs.Data.{Data}
 use Rattle.run_core.specs.Report.{call_of, commands_text}
-use Rattle.session_core.specs.Drafts.{AreRead}
-use Rattle.session_core.specs.Versions.{number_of}
-use Rattle.session_core.proofs.Loops.{Goes}
+use Rattle.recording_core.specs.Drafts.{AreRead}
+use Rattle.recording_core.specs.Versions.{number_of}
+use Rattle.recording_core.proofs.Loops.{Goes}
 use Rattle.session_report.proofs.telling.tell_events.Given as goal
 
 -- what is left, asked of the bench as it is, makes of all what it makes; and printed behind the text, it gives the text of all

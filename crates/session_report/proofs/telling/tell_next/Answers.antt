@@ -1,7 +1,7 @@
 use Rattle.std.proofs.Common.{◌≡◌, length, sym, ap, ◌∙◌, subst, rules}
 use Rattle.bench_core.specs.Acts.{plain_act}
 use Rattle.bench_core.specs.Machine.{Event}
-use Rattle.session_core.specs.Sessions.{Asked}
+use Rattle.recording_core.specs.Sessions.{Asked}
 use Rattle.session_report.proofs.Asked.{asked_so}
 use Rattle.session_report.proofs.telling.tell_next.Goals as goal
 

@@ -1,0 +1,129 @@
+-- What a load answers, and what a saved text is.
+use Rattle.std.specs.Prelude.{◌≡◌, ◌⊎◌, ℕ, ◌+◌, Bool, true, false, List, [], ◌∷◌, Some, None, Result, Ok, Err, IsUtf8}
+use Rattle.std.specs.List.{AllByRecursion}
+use Rattle.serde_json.specs.Data.{Data, Items, no_items, item}
+use Rattle.serde_json.specs.Read.{read}
+use Rattle.serde_json.specs.Written.{compact_text}
+use Rattle.bench_core.specs.Limits.{AreLimits}
+use Rattle.bench_core.specs.Machine.{Event, Machine, opening_state, opening_machine, config_of, with_state, after}
+use Rattle.bench_core.specs.NameList.{names_of}
+use Rattle.bench_core.specs.Replays.{Records, Replays}
+use Rattle.recording_core.specs.declared.session_fault.SessionFault.{SessionFault}
+use Rattle.recording_core.specs.declared.session_fault.SessionFault.TheVariants.{NotJson, BadShape, BadVersion, Disagrees, OutOfMemory}
+use Rattle.event_core.specs.Told.{IsTold}
+use Rattle.recording_core.specs.Format.{session}
+use Rattle.recording_core.specs.Decoding.{Parts, version_of, parts_at, acts_of}
+use Rattle.recording_core.specs.Versions.{IsVersion, tells, event_in}
+
+-- a bench after it recorded the event
+abbrev pub with_event : Machine → Event → Machine
+with_event m e = with_state m (after (config_of m) m.state e.actor e.act e.reply)
+
+-- the bench, asked the event's call, gives its reply and records it
+abbrev pub RecordsNext : Machine → Event → Type 0
+RecordsNext m e = Records (config_of m) m.state e
+
+-- from `old` on, the bench records the events that these values are, in a text of this version, and comes to `new`
+abbrev pub Reads : ℕ → Machine → List Data → Machine → Type 0
+Reads v old [] new = new ≡ old
+Reads v old (d ∷ ds) new = (e : Event) × (event_in v d ≡ Some e) × RecordsNext old e × Reads v (with_event old e) ds new
+
+-- whether the bench, asked the event's call, gave its reply and recorded it
+abbrev pub Asked : Event → Machine → Machine → Bool → Type 0
+Asked e old new true = RecordsNext old e × (new ≡ with_event old e)
+Asked e old new false = ¬ RecordsNext old e
+
+-- what the value d of act n does to a bench
+abbrev pub Steps : ℕ → ℕ → Machine → Data → Result (Unit {0}) SessionFault → Machine → Type 0
+Steps v n old d (Ok u) new = (e : Event) × (event_in v d ≡ Some e) × RecordsNext old e × (new ≡ with_event old e)
+Steps v n old d (Err (BadShape k)) new = (k ≡ n) × (event_in v d ≡ None)
+Steps v n old d (Err (Disagrees k)) new = (k ≡ n) × ((e : Event) × (event_in v d ≡ Some e) × ¬ RecordsNext old e)
+Steps v n old d (Err OutOfMemory) new = Unit {0}
+Steps v n old d (Err NotJson) new = ⊥
+Steps v n old d (Err BadVersion) new = ⊥
+
+-- the fault of the first value that is at fault, of values numbered from n
+abbrev pub Faults : ℕ → ℕ → Machine → List Data → SessionFault → Type 0
+Faults v n m ds OutOfMemory = Unit {0}
+Faults v n m ds NotJson = ⊥
+Faults v n m ds BadVersion = ⊥
+Faults v n m [] fault = ⊥
+Faults v n m (d ∷ ds) fault =
+    Steps v n m d (Err fault) m ⊎ ((e : Event) × (event_in v d ≡ Some e) × RecordsNext m e × Faults v (n + 1) (with_event m e) ds fault)
+
+abbrev pub data_of : Items → List Data
+data_of no_items = []
+data_of (item d ds) = d ∷ data_of ds
+
+-- the bytes are the JSON text of this value
+abbrev pub IsJson : List ℕ → Data → Type 0
+IsJson bytes d = IsUtf8 bytes × (read bytes ≡ Some d)
+
+-- the bench with which a session begins
+abbrev pub first_bench : Parts → Machine
+first_bench p = opening_machine p.names p.limits
+
+-- the head of the value is that of a session of this version, with these parts
+pub record HasHead (d : Data) (v : ℕ) (p : Parts) : Type 0 where
+  pub version : version_of d ≡ Some v
+  pub known : IsVersion v
+  pub parts : parts_at d ≡ Some p
+
+-- the value is a session, whose calls leave the bench
+abbrev pub LeadsTo : Data → Machine → Type 0
+LeadsTo d m = (v : ℕ) × (p : Parts) × HasHead d v p × Reads v (first_bench p) (data_of (acts_of d)) m
+
+-- the value is no session, whatever its acts are
+abbrev pub IsMisshapen : Data → Type 0
+IsMisshapen d = (version_of d ≡ None) ⊎ ((v : ℕ) × (version_of d ≡ Some v) × IsVersion v × (parts_at d ≡ None))
+
+-- an act of the value is at fault
+abbrev pub HasFault : Data → SessionFault → Type 0
+HasFault d fault = (v : ℕ) × (p : Parts) × HasHead d v p × Faults v 1 (first_bench p) (data_of (acts_of d)) fault
+
+-- the case of each fault of a value
+abbrev pub IsRefused : Data → SessionFault → Type 0
+IsRefused d NotJson = ⊥
+IsRefused d BadVersion = (v : ℕ) × (version_of d ≡ Some v) × ¬ IsVersion v
+IsRefused d (BadShape k) = ((k ≡ 0) × IsMisshapen d) ⊎ HasFault d (BadShape k)
+IsRefused d (Disagrees k) = HasFault d (Disagrees k)
+IsRefused d OutOfMemory = Unit {0}
+
+abbrev pub Answers : Data → Result Machine SessionFault → Type 0
+Answers d (Ok m) = LeadsTo d m
+Answers d (Err fault) = IsRefused d fault
+
+-- the text is refused so: a fault comes only in its case, and no earlier one is met
+abbrev pub Refuses : List ℕ → SessionFault → Type 0
+Refuses bytes NotJson = IsUtf8 bytes → read bytes ≡ None
+Refuses bytes OutOfMemory = Unit {0}
+Refuses bytes fault = (d : Data) × IsJson bytes d × IsRefused d fault
+
+-- the text is the session of this bench, in the form of this version: its names, limits and history, which the machine,
+-- opened so and asked these calls, records one by one and ends in its state
+pub record IsSessionIn (version : ℕ) (bytes : List ℕ) (m : Machine) : Type 0 where
+  pub utf8 : IsUtf8 bytes
+  pub reads : read bytes ≡ Some (session version m.names m.limits m.state.history)
+  -- a text of this version can tell the history
+  pub told : AllByRecursion (λ e. tells version e ≡ true) m.state.history
+  pub replays : Replays (config_of m) opening_state m.state.history m.state
+
+-- the text is the session of this bench, in the form of a version
+abbrev pub IsSession : List ℕ → Machine → Type 0
+IsSession bytes m = (version : ℕ) × IsVersion version × IsSessionIn version bytes m
+
+-- the session of a bench, as it is saved
+pub record IsSaved (bytes : List ℕ) (m : Machine) : Type 0 where
+  pub session : IsSessionIn 2 bytes m
+  pub names : names_of m.names ≡ Ok m.names
+  pub limits : AreLimits m.limits
+  pub events : AllByRecursion IsTold m.state.history
+
+-- a saved bench comes back as it was, unless memory was refused
+abbrev pub ComesBack : Machine → Result Machine SessionFault → Type 0
+ComesBack m (Ok loaded) = loaded ≡ m
+ComesBack m (Err fault) = fault ≡ OutOfMemory
+
+-- the new text is the session of the old text's bench, in the form of the second version
+abbrev pub IsCarried : List ℕ → List ℕ → Type 0
+IsCarried old new = (m : Machine) × IsSession old m × (new ≡ compact_text (session 2 m.names m.limits m.state.history)) × IsSaved new m

@@ -1,0 +1,76 @@
+//! `Acts`: the events that the items of a JSON array are.
+ghost use Rattle.std.specs.Prelude.{◌≡◌, ◌<◌, ◌∷◌, ◌++◌, [], List, length, Some, None, Err, IfOk, OnOk, false};
+ghost use Rattle.json.specs.Json.{value, items};
+ghost use Rattle.serde_json.specs.Data.{Data, Items};
+ghost use Rattle.serde_json.specs.Read.{of_items, converted};
+ghost use Rattle.serde_json.specs.View.{view};
+ghost use Rattle.recording_core.specs.Drafts.{AreRead};
+ghost use Rattle.recording_core.specs.Sessions.{data_of};
+ghost use Rattle.json_core.specs.declared.unread.Unread.TheVariants.{Shape};
+
+use bench_core::Event;
+use event_core::event_at;
+use json::Reader;
+use json_core::{Unread, value_of};
+use serde_json::Value;
+use std::alloc::{AllocError, Allocator, Global};
+
+/// How deep an item may nest: one less than an array that is a member of the outermost object.
+const ITEM_DEPTH: usize = 125;
+
+/// The events of a list of JSON values, up to the first value that is none.
+#[derive(Drop)]
+pub struct Acts<A: Allocator> {
+    pub events: Vec<Event<A>>,
+    /// A value follows that is no event.
+    pub is_cut: bool,
+}
+
+impl<'a, B: Allocator> Acts<&'a B> {
+    pub(crate) fn none(heap: Global) -> Acts<&'a B>
+        ensures { (result.events.items ≡ []) × (result.is_cut ≡ false) }
+    {
+        Acts {
+            events: Vec::new(heap),
+            is_cut: false,
+        }
+    }
+
+    /// Adds the event that the next value is.
+    fn add(&mut self, alloc: &'a B, value: &Value) -> Result<(), AllocError>
+        ensures { OnOk result ((ds : List Data) → AreRead ds self.old.events.items self.old.is_cut
+            → AreRead (ds ++ view value.now ∷ []) self.new.events.items self.new.is_cut) }
+    {
+        if self.is_cut {
+            return Ok(());
+        }
+        match event_at(alloc, value) {
+            Ok(event) => Ok(self.events.push(event)?),
+            Err(Unread::Memory) => Err(AllocError),
+            Err(Unread::Shape) => {
+                self.is_cut = true;
+                Ok(())
+            }
+        }
+    }
+
+    /// The items up to the bracket that closes the array. Each value is dropped once its event is known.
+    pub(crate) fn of_items(
+        heap: Global,
+        alloc: &'a B,
+        reader: &mut Reader<'_>,
+    ) -> Result<Acts<&'a B>, Unread>
+        ensures ok { IfOk result (λ acts. (ds : Items)
+            × (converted of_items (items (value 125) (length reader.old) reader.old) ≡ Some (ds, reader.new))
+            × AreRead (data_of ds) acts.events.items acts.is_cut) }
+        ensures shorter { OnOk result (length reader.new < length reader.old) }
+        ensures err { result ≡ Err Shape → converted of_items (items (value 125) (length reader.old) reader.old) ≡ None }
+    {
+        let mut acts = Acts::none(heap);
+        'items: while !reader.take_end_array() {
+            let item = value_of(heap, reader, ITEM_DEPTH)?;
+            acts.add(alloc, &item)?;
+        }
+        Ok(acts)
+    }
+}

@@ -1,0 +1,165 @@
+//! `Draft`: a session's text, read before its calls are asked.
+ghost use Rattle.std.specs.Prelude.{◌≡◌, ◌<◌, ◌∷◌, [], length, Some, None, Err, IfOk, OnOk};
+ghost use Rattle.std.specs.Bool.{MatchBool};
+ghost use Rattle.json.specs.Json.{value};
+ghost use Rattle.json.specs.Token.{begin_object};
+ghost use Rattle.serde_json.specs.Data.{Data, Members, no_members, object};
+ghost use Rattle.serde_json.specs.Read.{read, of_json, of_members, converted};
+ghost use Rattle.serde_json.specs.View.{view, members_view};
+ghost use Rattle.recording_core.specs.Decoding.{are_acts, items_in, acts_members};
+ghost use Rattle.recording_core.specs.Drafts.{AreRead, IsDraft, emptied, emptied_at, head_members};
+ghost use Rattle.recording_core.specs.Sessions.{data_of};
+ghost use Rattle.json_core.specs.declared.unread.Unread.TheVariants.{Shape};
+
+use crate::acts::Acts;
+use json::{Reader, Scratch, Token};
+use json_core::{Unread, value_from, value_of};
+use serde_json::{Map, Value};
+use std::alloc::{Allocator, Global};
+
+/// How deep a value may nest.
+const MAX_DEPTH: usize = 127;
+
+/// How deep a member of the outermost object may nest.
+const MEMBER_DEPTH: usize = 126;
+
+/// A JSON value whose acts, where it is an object, were taken out and read as events.
+#[derive(Drop)]
+pub(crate) struct Draft<A: Allocator> {
+    /// The value, with an empty array in place of that of the acts.
+    pub(crate) head: Value,
+    pub(crate) acts: Acts<A>,
+}
+
+/// The member at `acts`: its value, emptied where it is an array, and the events of its items.
+fn acts_member<'a, B: Allocator>(
+    heap: Global,
+    alloc: &'a B,
+    reader: &mut Reader<'_>,
+) -> Result<Draft<&'a B>, Unread>
+    ensures ok { IfOk result (λ x. (d : Data) × (converted of_json (value 126 reader.old) ≡ Some (d, reader.new))
+        × (view x.head ≡ emptied d) × AreRead (data_of (items_in d)) x.acts.events.items x.acts.is_cut) }
+    ensures shorter { OnOk result (length reader.new < length reader.old) }
+    ensures err { result ≡ Err Shape → converted of_json (value 126 reader.old) ≡ None }
+{
+    match reader.next().ok_or(Unread::Shape)? {
+        Token::BeginArray => Ok(Draft {
+            acts: Acts::of_items(heap, alloc, reader)?,
+            head: Value::Array(Vec::new(heap)),
+        }),
+        token => Ok(Draft {
+            head: value_from(heap, token, reader, MEMBER_DEPTH)?,
+            acts: Acts::none(heap),
+        }),
+    }
+}
+
+/// The value of the member of this name. Where it is that of the acts, its events take the place of those before.
+fn member<'a, B: Allocator>(
+    heap: Global,
+    alloc: &'a B,
+    reader: &mut Reader<'_>,
+    name: &str,
+    acts: &mut Acts<&'a B>,
+) -> Result<Value, Unread>
+    ensures ok { IfOk result (λ v. (d : Data) × (converted of_json (value 126 reader.old) ≡ Some (d, reader.new))
+        × (view v ≡ emptied_at name.now d)
+        × MatchBool (are_acts name.now) (AreRead (data_of (items_in d)) acts.new.events.items acts.new.is_cut) (acts.new ≡ acts.old)) }
+    ensures shorter { OnOk result (length reader.new < length reader.old) }
+    ensures err { result ≡ Err Shape → converted of_json (value 126 reader.old) ≡ None }
+{
+    if name == "acts" {
+        let draft = acts_member(heap, alloc, reader)?;
+        *acts = draft.acts;
+        Ok(draft.head)
+    } else {
+        value_of(heap, reader, MEMBER_DEPTH)
+    }
+}
+
+/// Puts the members up to the brace that closes the outermost object into `found`, and the events of their acts into `acts`.
+fn read_members<'a, B: Allocator>(
+    found: &mut Map<String, Value>,
+    acts: &mut Acts<&'a B>,
+    heap: Global,
+    alloc: &'a B,
+    reader: &mut Reader<'_>,
+) -> Result<(), Unread>
+    requires no_member { members_view found.old.entries ≡ no_members }
+    requires no_event { AreRead [] acts.old.events.items acts.old.is_cut }
+    ensures ok { OnOk result ((d : Data)
+        × (converted of_json (value 127 (begin_object ∷ reader.old)) ≡ Some (d, reader.new))
+        × IsDraft d (object (members_view found.new.entries)) acts.new.events.items acts.new.is_cut) }
+    ensures err { result ≡ Err Shape → converted of_json (value 127 (begin_object ∷ reader.old)) ≡ None }
+{
+    'members: while let Some(name) = reader.next_key()? {
+        let key = String::from_str(heap, name)?;
+        let value = member(heap, alloc, reader, name, acts)?;
+        drop(found.insert(key, value)?);
+    }
+    Ok(())
+}
+
+/// The members up to the brace that closes the outermost object.
+fn members_of<'a, B: Allocator>(
+    heap: Global,
+    alloc: &'a B,
+    reader: &mut Reader<'_>,
+) -> Result<Draft<&'a B>, Unread>
+    ensures ok { IfOk result (λ x. (d : Data)
+        × (converted of_json (value 127 (begin_object ∷ reader.old)) ≡ Some (d, reader.new))
+        × IsDraft d (view x.head) x.acts.events.items x.acts.is_cut) }
+    ensures err { result ≡ Err Shape → converted of_json (value 127 (begin_object ∷ reader.old)) ≡ None }
+{
+    let mut found = Map::new(heap);
+    let mut acts = Acts::none(heap);
+    match read_members(&mut found, &mut acts, heap, alloc, reader) {
+        Ok(()) => Ok(Draft {
+            head: Value::Object(found),
+            acts,
+        }),
+        Err(fault) => {
+            drop(found);
+            drop(acts);
+            Err(fault)
+        }
+    }
+}
+
+/// The next value of the reader.
+fn next_draft<'a, B: Allocator>(
+    heap: Global,
+    alloc: &'a B,
+    reader: &mut Reader<'_>,
+) -> Result<Draft<&'a B>, Unread>
+    ensures ok { IfOk result (λ x. (d : Data) × (converted of_json (value 127 reader.old) ≡ Some (d, reader.new))
+        × IsDraft d (view x.head) x.acts.events.items x.acts.is_cut) }
+    ensures err { result ≡ Err Shape → converted of_json (value 127 reader.old) ≡ None }
+{
+    match reader.next().ok_or(Unread::Shape)? {
+        Token::BeginObject => members_of(heap, alloc, reader),
+        token => Ok(Draft {
+            head: value_from(heap, token, reader, MAX_DEPTH)?,
+            acts: Acts::none(heap),
+        }),
+    }
+}
+
+/// The JSON value that the text is.
+pub(crate) fn draft_of<'a, B: Allocator>(
+    heap: Global,
+    alloc: &'a B,
+    text: &str,
+) -> Result<Draft<&'a B>, Unread>
+    ensures ok { IfOk result (λ x. (d : Data) × (read text.now ≡ Some d)
+        × IsDraft d (view x.head) x.acts.events.items x.acts.is_cut) }
+    ensures err { result ≡ Err Shape → read text.now ≡ None }
+{
+    let mut scratch = Scratch::new(heap);
+    let mut reader = Reader::new(text, &mut scratch)?;
+    let draft = next_draft(heap, alloc, &mut reader)?;
+    if reader.next().is_some() {
+        return Err(Unread::Shape);
+    }
+    Ok(draft)
+}

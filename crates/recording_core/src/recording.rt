@@ -1,0 +1,93 @@
+//! `read_session`: what a session's text says, before its calls are asked.
+ghost use Rattle.std.specs.Prelude.{◌≡◌, ◌⊎◌, None, IfOk, IfErr, IsUtf8};
+ghost use Rattle.serde_json.specs.Data.{Data};
+ghost use Rattle.serde_json.specs.Read.{read};
+ghost use Rattle.serde_json.specs.View.{view};
+ghost use Rattle.recording_core.specs.Drafts.{IsDraft};
+ghost use Rattle.recording_core.specs.Recordings.{IsRecording, Tells};
+ghost use Rattle.recording_core.specs.Sessions.{IsJson, IsRefused, Refuses};
+ghost use Rattle.recording_core.specs.Versions.{number_of};
+
+use crate::acts::Acts;
+use crate::draft::{Draft, draft_of};
+use crate::read_parts::{parts_at, version_of};
+use crate::session_fault::SessionFault;
+use crate::version::Version;
+use bench_core::{Limits, Names};
+use json_core::Unread;
+use std::alloc::{Allocator, Global};
+
+/// What a session's text says: what its bench is opened with, and the calls that the bench recorded, up to the first act
+/// that is no event.
+#[derive(Drop)]
+pub struct Recording<A: Allocator> {
+    pub version: Version,
+    pub limits: Limits,
+    pub names: Names<A>,
+    pub acts: Acts<A>,
+}
+
+/// What a text that was read says, where its head is a session's.
+fn recording_of<'a, B: Allocator>(
+    heap: Global,
+    alloc: &'a B,
+    draft: Draft<&'a B>,
+) -> Result<Recording<&'a B>, SessionFault>
+    ensures ok { IfOk result (λ r. (d : Data) → IsDraft d (view draft.entry.head) draft.entry.acts.events.items draft.entry.acts.is_cut →
+        Tells d (number_of r.version) (record { limits = r.limits; names = r.names }) r.acts.events.items r.acts.is_cut) }
+    ensures err { IfErr result (λ fault. (d : Data) → IsDraft d (view draft.entry.head) draft.entry.acts.events.items draft.entry.acts.is_cut → IsRefused d fault) }
+{
+    let Some(number) = version_of(&draft.head) else {
+        return Err(SessionFault::BadShape { act: 0 });
+    };
+    let Some(version) = Version::of_number(number) else {
+        return Err(SessionFault::BadVersion);
+    };
+    match parts_at(heap, alloc, &draft.head) {
+        Ok(parts) => Ok(Recording {
+            version,
+            limits: parts.limits,
+            names: parts.names,
+            acts: draft.acts,
+        }),
+        Err(Unread::Memory) => Err(SessionFault::OutOfMemory),
+        Err(Unread::Shape) => Err(SessionFault::BadShape { act: 0 }),
+    }
+}
+
+/// The text that the bytes are, read before its calls are asked.
+fn read<'a, B: Allocator>(
+    heap: Global,
+    alloc: &'a B,
+    bytes: &[u8],
+) -> Result<Draft<&'a B>, SessionFault>
+    ensures ok { IfOk result (λ x. (d : Data) × IsJson bytes.now d × IsDraft d (view x.head) x.acts.events.items x.acts.is_cut) }
+    ensures err { IfErr result (λ e. (e ≡ SessionFault.OutOfMemory)
+        ⊎ ((e ≡ SessionFault.NotJson) × (IsUtf8 bytes.now → read bytes.now ≡ None))) }
+{
+    let Ok(text) = std::str::from_utf8(bytes) else {
+        return Err(SessionFault::NotJson);
+    };
+    match draft_of(heap, alloc, text) {
+        Ok(draft) => Ok(draft),
+        Err(Unread::Memory) => Err(SessionFault::OutOfMemory),
+        Err(Unread::Shape) => Err(SessionFault::NotJson),
+    }
+}
+
+/// What the text of a session says, of either version, before its calls are asked. It refuses what `load` refuses for the
+/// text or its head, in that order; whether its acts are events of its version, and get their replies, is left to who asks
+/// them. Each act's JSON is dropped once its event is known. JSON values and the list of events take their memory from the
+/// global heap.
+pub fn read_session<'a, B: Allocator>(
+    heap: Global,
+    alloc: &'a B,
+    bytes: &[u8],
+) -> Result<Recording<&'a B>, SessionFault>
+    ensures recording { IfOk result (λ r. IsRecording bytes.now (number_of r.version)
+        (record { limits = r.limits; names = r.names }) r.acts.events.items r.acts.is_cut) }
+    ensures refused { IfErr result (Refuses bytes.now) }
+{
+    let draft = read(heap, alloc, bytes)?;
+    recording_of(heap, alloc, draft)
+}
