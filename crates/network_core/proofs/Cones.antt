@@ -12,12 +12,12 @@ use Rattle.node_core.specs.Operations.{Operation, Join, Leave, LeaveAll, Update,
 use Rattle.journal_core.specs.Journals.{Kept, sent_by}
 use Rattle.bench_core.specs.Clusters.{Cluster, opening_of}
 use Rattle.bench_core.specs.Runs.{runs, then_runs}
+use Rattle.bench_core.proofs.OneEntry.{fine_run}
 use Rattle.bench_core.proofs.Runs.{outbox_counts, runs_append}
 use Rattle.network_core.specs.Alike.{Follows, Ends, Goes, Narrows, kept, sends_of}
 use Rattle.network_core.specs.Cones.{Cone, ConeLaw, IsCone, cares, position, says, sends_in}
 use Rattle.network_core.specs.NetworkRuns.{IsNetworkRun, deliveries, how_many, is_delivery, is_ordered, ordered}
 use Rattle.network_core.proofs.Counts.{count_append, delivered_append, first_fails}
-use Rattle.network_core.proofs.Stores.{or_left}
 
 -- what matters at a node mattered to it at first
 at_first : (j : List Kept) (t : Cone) → IsCone j t → (n p : ℕ) (d : Dot) → t.at n p d ≡ true → t.at n 0 d ≡ true
@@ -151,7 +151,8 @@ module _ (l : NodeLimits) (count : ℕ) (j : List Kept) (lost again : ℕ) (t : 
         ∙ ap (λ b. ordered first k.node ++ cond b (k ∷ ordered ks k.node) (ordered ks k.node)) mine in
         let number : suc (length x.outbox) ≡ sends_in (ordered first k.node) + 1 =
         (let long = outbox_counts l count first c k.node x ran at in let same = sent_count first k.node in omega (arith, long, same)) in
-        or_left (t.at k.node (position first k.node) d) (d.name == x.replica.own)
+        let named : x.replica.own ≡ k.node = ((fine_run l count first c ran).each k.node x at).own in
+        ap (λ own. kept (t.at k.node (position first k.node)) own d) named ∙
         (cone.sent k.node (ordered first k.node) (ordered ks k.node) k parted d (ap (λ i. t.of k.node i d) (sym number) ∙ h) says.says)
 
     pub narrows : Narrows c k (cares t first) (cares t (first ++ k ∷ []))

@@ -12,7 +12,7 @@ use Rattle.payload_core.specs.Stores.{Store, is_other}
 use Rattle.payload_core.proofs.TrackedDots.{Found, found_all}
 use Rattle.replica_core.specs.declared.node_limits.NodeLimits.{NodeLimits}
 use Rattle.replica_core.specs.declared.status.Status.TheVariants as statuses
-use Rattle.replica_core.specs.Replicas.{Replica, opening, fresh, joined, left_each, dropped_each, tracked_dots, dots_of_process, updated, with_status, forgotten, without_delta}
+use Rattle.replica_core.specs.Replicas.{Replica, opening, fresh, own_clock, joined, left_each, dropped_each, tracked_dots, dots_of_process, updated, with_status, forgotten, without_delta}
 use Rattle.replica_core.specs.Deliveries.{merged}
 use Rattle.replica_core.specs.Refusals.{join_refusal, leave_refusal, leave_all_refusal, up_refusal, down_refusal, permdown_refusal, has_dots}
 use Rattle.node_core.specs.Operations.{Operation, Join, Leave, LeaveAll, Update, Broadcast, Extract, Deliver, Request, Answer, Up, Down, Permdown}
@@ -31,7 +31,7 @@ use Rattle.network_core.specs.NetworkRuns.{is_delivery, is_ordered, ordered}
 use Rattle.network_core.proofs.OwnEdits.{OwnAlike, Edits, edits_by, still_alike, joined_edits, left_each_edits, dropped_each_edits, same_clock, same_dots_of, dots_are_of}
 use Rattle.network_core.proofs.Own.{delivered_alike}
 use Rattle.network_core.specs.Alike.{ReplicaAlike, StoreAlike, kept}
-use Rattle.network_core.specs.Made.{own_after, own_from, IsMade, MadeLaw, WantsMade, WantedLaw}
+use Rattle.network_core.specs.Made.{own_after, own_from, FreshLaw, IsMade, MadeLaw, WantsMade, WantedLaw}
 use Rattle.network_core.specs.Rows.{AreWanted, is_row_of}
 use Rattle.network_core.proofs.Stores.{beside, own_of, edited, part_alike, replica_same}
 
@@ -293,3 +293,11 @@ wanted_from l count ks n wanted topic key c x wants run at =
 pub wanted_holds : WantedLaw
 wanted_holds l count j r lost again n wanted topic key c x wants is_run run at =
     wanted_from l count r n wanted topic key c x (λ d p m of. wants d p (made_too l j r d p is_run.own m) of) run at
+
+pub fresh_holds : FreshLaw
+fresh_holds l count ks c n x run at =
+    let a = (known_run l count ks c run).own n x at in
+    let clock : own_clock x.replica ≡ own_clock (own_from (opening n l) (ordered ks n)) =
+    ap own_clock a.is ∙ same_clock (own_from (opening n l) (ordered ks n)) a.store (own_of nothing (own_from (opening n l) (ordered ks n)).own (own_from (opening n l) (ordered ks n)).store a.store a.alike) in
+    let own : x.replica.own ≡ (own_from (opening n l) (ordered ks n)).own = ap (λ (r : Replica). r.own) a.is in
+    λ i. dot (own i) (clock i + 1)

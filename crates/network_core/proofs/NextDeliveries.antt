@@ -1,5 +1,5 @@
 -- What of the deliveries of a message at a node is left.
-use Rattle.std.proofs.Common.{◌≡◌, ℕ, ◌+◌, ◌≤◌, ◌&&◌, Bool, true, false, cond, List, [], ◌∷◌, ◌++◌, length, refl, ap, ◌∙◌, arith}
+use Rattle.std.proofs.Common.{◌≡◌, ◌⊎◌, inl, inr, ℕ, ◌+◌, ◌≤◌, ◌&&◌, Bool, true, false, cond, List, [], ◌∷◌, ◌++◌, length, refl, ap, ◌∙◌, arith}
 use Rattle.std.proofs.lemmas.Bool.{eq-eqb}
 use Rattle.std.specs.List.{AllByRecursion}
 use Rattle.node_core.specs.Operations.{Operation, Join, Leave, LeaveAll, Update, Broadcast, Extract, Deliver, Request, Answer, Up, Down, Permdown}
@@ -68,15 +68,20 @@ quiet_all n (x ∷ xs) none = (first x.step refl, quiet_all n xs (λ sender numb
     first (Permdown name) is here = refl
 
 pub quiet_holds : QuietLaw
-quiet_holds g w n never spent rest run = quiet_all n rest none
+quiet_holds g w n spent rest run = quiet_all n rest none
   where
     none : (sender number : ℕ) → how_many (is_of_kind n sender number) rest ≡ 0
     none sender number =
         let all = total g.recorded (w ++ rest) g.lost g.again n sender number run in
         let both = count_append (is_of_kind n sender number) w rest in
-        let no = none_repeated g.recorded (w ++ rest) g.lost g.again n sender number run never in
-        let enough = spent sender number in
-        omega (arith, all, both, no, enough)
+        let few = repeated_once g.recorded (w ++ rest) g.lost g.again n sender number run in
+        let no = never (spent sender number).last in
+        let enough = (spent sender number).came in
+        omega (arith, all, both, no, few, enough)
+      where
+        never : (g.again ≡ 0) ⊎ (how_many (is_of_kind n sender number) g.recorded ≡ 0) → how_many (is_of_kind n sender number) run.repeated ≡ 0
+        never (inl h) = none_repeated g.recorded (w ++ rest) g.lost g.again n sender number run h
+        never (inr h) = let few = repeated_once g.recorded (w ++ rest) g.lost g.again n sender number run in omega (arith, few, h)
 
 pub next_delivery_holds : NextDeliveryLaw
 next_delivery_holds g w rest i n sender number run =

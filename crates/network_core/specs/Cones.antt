@@ -10,7 +10,7 @@ use Rattle.journal_core.specs.Journals.{Kept}
 use Rattle.bench_core.specs.Clusters.{Cluster, message_at, step}
 use Rattle.bench_core.specs.Laws.{delivery}
 use Rattle.bench_core.specs.Runs.{runs}
-use Rattle.network_core.specs.Alike.{Cares, ClusterAlike, Follows}
+use Rattle.network_core.specs.Alike.{Cares, ClusterAlike, Follows, kept}
 use Rattle.network_core.specs.EasySteps.{GoesOn}
 use Rattle.network_core.specs.NetworkRuns.{IsNetworkRun, HaveSame, deliveries, how_many, is_delivery, is_of_kind, ordered}
 use Rattle.network_core.specs.Room.{made}
@@ -44,9 +44,9 @@ pub record IsCone (j : List Kept) (t : Cone) : Type 0 where
   pub before : (n p : ℕ) (d : Dot) → t.at n (suc p) d ≡ true → t.at n p d ≡ true
   -- what matters where a message is delivered matters of the message
   pub read : AllByRecursion (λ (k : Kept). (sender number : ℕ) → k.step ≡ Deliver sender number → (d : Dot) → t.at k.node 0 d ≡ true → t.of sender number d ≡ true) j
-  -- what matters of a message matters to the node that sends it, where it sends what it has
+  -- what matters of a message matters to the node that sends it, where it sends what it has, or is its own
   pub sent : (n : ℕ) (first rest : List Kept) (k : Kept) → ordered j n ≡ first ++ k ∷ rest → (d : Dot) → t.of n (sends_in first + 1) d ≡ true →
-      says k.step d.name ≡ true → t.at n (length first) d ≡ true
+      says k.step d.name ≡ true → kept (t.at n (length first)) n d ≡ true
 
 -- so what matters passes through all that can come
 abbrev pub ConeLaw : Type 0

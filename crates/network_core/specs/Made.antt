@@ -52,6 +52,12 @@ MadeLaw =
     (l : NodeLimits) (count : ℕ) (ks : List Kept) (c : Cluster) (n : ℕ) (x : Node) (d : Dot) (p : Presence) → runs l count ks ≡ Ok c → slice_get c n ≡ Some x →
     fin.get x.replica.store.entries d ≡ Some p → IsMade l ks d p
 
+-- the dot of a node's next entry is the one that its own steps give
+abbrev pub FreshLaw : Type 0
+FreshLaw =
+    (l : NodeLimits) (count : ℕ) (ks : List Kept) (c : Cluster) (n : ℕ) (x : Node) → runs l count ks ≡ Ok c → slice_get c n ≡ Some x →
+    fresh x.replica ≡ fresh (own_from (opening n l) (ordered ks n))
+
 -- the dots of the topic and the key are wanted that the recorded run makes
 abbrev pub WantsMade : NodeLimits → List Kept → (Dot → Bool) → List ℕ → List ℕ → Type 0
 WantsMade l j wanted topic key = (d : Dot) (p : Presence) → IsMade l j d p → is_row_of topic key (row_of (d, p)) ≡ true → wanted d ≡ true

@@ -1,5 +1,5 @@
 -- A beginning of runs of the network is settled where whatever can come from it ends so that it was told.
-use Rattle.std.specs.Prelude.{◌≡◌, ℕ, ◌+◌, ◌≤◌, ◌<◌, length, Bool, true, false, List, [], ◌∷◌, ◌++◌, Ok}
+use Rattle.std.specs.Prelude.{◌≡◌, ◌⊎◌, ℕ, ◌+◌, ◌≤◌, ◌<◌, length, Bool, true, false, List, [], ◌∷◌, ◌++◌, Ok}
 use Rattle.std.specs.List.{AllByRecursion}
 use Rattle.replica_core.specs.declared.node_limits.NodeLimits.{NodeLimits}
 use Rattle.node_core.specs.Operations.{Deliver}
@@ -24,11 +24,17 @@ pub record Walk : Type 0 where
   pub cone : Cone
   pub told : Cluster → Bool
 
--- the recorded run fills no node, what matters passes through, and of clusters that are alike as far as what is asked goes both are told or neither
+-- a run of the network leads to this cluster
+pub record IsEnd (g : Walk) (c : Cluster) : Type 0 where
+  pub run : List Kept
+  pub is_run : IsNetworkRun g.recorded g.lost g.again run
+  pub ends : runs g.limits g.count run ≡ Ok c
+
+-- the recorded run fills no node, what matters passes through, and of ends that are alike as far as what is asked goes both are told or neither
 pub record IsWalk (g : Walk) : Type 0 where
   pub room : made g.recorded ≤ g.limits.entries
   pub cone : IsCone g.recorded g.cone
-  pub told : (c d : Cluster) → ClusterAlike (cares g.cone g.recorded) c d → g.told d ≡ true → g.told c ≡ true
+  pub told : (c d : Cluster) → IsEnd g c → IsEnd g d → ClusterAlike (cares g.cone g.recorded) c d → g.told d ≡ true → g.told c ≡ true
 
 -- whatever a run of the network that begins so leads to was told
 abbrev pub IsSettled : Walk → List Kept → Type 0
@@ -58,6 +64,9 @@ pub record SettleLaw : Type 0 where
       IsSettled g (w ++ delivery i node sender number ∷ []) → IsSettled g w
   -- another one is, after which the same is left, and in which the dots that matter stand alike
   pub same : (g : Walk) (w v : List Kept) (c d : Cluster) → IsWalk g → Ran g w c → Ran g v d → LeaveSame w v → StandAlike (cares g.cone w) g.limits w c d → IsSettled g v → IsSettled g w
+  -- its last step is a delivery, and so it is with another number
+  pub renumbered : (g : Walk) (w : List Kept) (i j node sender number : ℕ) (c d : Cluster) → IsWalk g → Ran g w c → step c node (Deliver sender number) ≡ Ok d →
+      IsSettled g (w ++ delivery i node sender number ∷ []) → IsSettled g (w ++ delivery j node sender number ∷ [])
   -- the cluster was told, if nothing need come any more, and behind each step that can come all is settled
   pub all : (g : Walk) (w : List Kept) (c : Cluster) → Ran g w c → (IsNetworkRun g.recorded g.lost g.again w → g.told c ≡ true) →
       ((k : Kept) (d : Cluster) (rest : List Kept) → IsNetworkRun g.recorded g.lost g.again (w ++ k ∷ rest) → step c k.node k.step ≡ Ok d → IsSettled g (w ++ k ∷ [])) → IsSettled g w
@@ -66,11 +75,14 @@ pub record SettleLaw : Type 0 where
 abbrev pub LengthLaw : Type 0
 LengthLaw = (j r : List Kept) (lost again : ℕ) → IsNetworkRun j lost again r → length r ≤ length j + again
 
--- where nothing comes a second time, and of each message as many deliveries came to a node as were recorded, nothing more is delivered there
+-- of a message as many deliveries came to a node as were recorded, and none comes a second time
+pub record IsSpent (g : Walk) (w : List Kept) (n sender number : ℕ) : Type 0 where
+  pub came : how_many (is_of_kind n sender number) g.recorded ≤ how_many (is_of_kind n sender number) w
+  pub last : (g.again ≡ 0) ⊎ (how_many (is_of_kind n sender number) g.recorded ≡ 0)
+
+-- where that is so of each message, nothing more is delivered at the node
 abbrev pub QuietLaw : Type 0
-QuietLaw =
-    (g : Walk) (w : List Kept) (n : ℕ) → g.again ≡ 0 →
-    ((sender number : ℕ) → how_many (is_of_kind n sender number) g.recorded ≤ how_many (is_of_kind n sender number) w) → IsQuiet g w n
+QuietLaw = (g : Walk) (w : List Kept) (n : ℕ) → ((sender number : ℕ) → IsSpent g w n sender number) → IsQuiet g w n
 
 -- what is delivered next was recorded, and of it no more came yet than twice as many as were recorded; as many, where nothing comes a second time
 pub record MayCome (g : Walk) (w : List Kept) (n sender number : ℕ) : Type 0 where

@@ -5,7 +5,7 @@ ghost use Rattle.network_core.specs.AlikeSteps.{StepLaw, StepsLaw};
 ghost use Rattle.network_core.specs.Cones.{AloneLaw, ConeLaw, IdleLaw, StandsLaw};
 ghost use Rattle.network_core.specs.EasySteps.{EagerLaw, EagerStepLaw};
 ghost use Rattle.network_core.specs.Keys.{StandAlikeLaw};
-ghost use Rattle.network_core.specs.Made.{MadeLaw, WantedLaw};
+ghost use Rattle.network_core.specs.Made.{FreshLaw, MadeLaw, WantedLaw};
 ghost use Rattle.network_core.specs.OwnSteps.{OwnLaw};
 ghost use Rattle.network_core.specs.Room.{NeverFullLaw};
 ghost use Rattle.network_core.specs.Rows.{OnlineRowsLaw, RowsLaw};
@@ -37,6 +37,7 @@ pub fn alike_law()
 pub fn made_law()
     ensures made { MadeLaw }
     ensures wanted { WantedLaw }
+    ensures fresh { FreshLaw }
 {}
 
 /// The rows of a topic and a key, as far as the dots go that have them; and so they are in the online list.
