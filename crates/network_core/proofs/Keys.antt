@@ -78,7 +78,7 @@ as_long own (o ∷ os) (m ∷ ms) [] a b = absurd b
 as_long own (o ∷ os) (m ∷ ms) (k ∷ ks) a b = ap suc (as_long own os ms ks a.1 b.1)
 
 -- a run keeps the number of nodes
-keeps_length : (c d : Cluster) (ks : List Kept) → then_runs (Ok c) ks ≡ Ok d → length d ≡ length c
+pub keeps_length : (c d : Cluster) (ks : List Kept) → then_runs (Ok c) ks ≡ Ok d → length d ≡ length c
 keeps_length c d [] run = let same : c ≡ d = cc in ap length (sym same)
 keeps_length c d (k ∷ ks) run =
     let one = run_one c d k ks run in

@@ -174,7 +174,7 @@ pub record KnownMore (l : NodeLimits) (first : List Kept) (c : Cluster) : Type 0
 
 module _ (l : NodeLimits) (count : ℕ) (first : List Kept) (k : Kept) (c d : Cluster) (ran : runs l count first ≡ Ok c) (took : step c k.node k.step ≡ Ok d) (st : Stepped c k.node k.step d)
     (known : KnownMore l first c) where
-  abbrev n : ℕ
+  abbrev pub n : ℕ
   n = k.node
 
   fine : Fine c
@@ -212,10 +212,10 @@ module _ (l : NodeLimits) (count : ℕ) (first : List Kept) (k : Kept) (c d : Cl
           omega (arith, one, two, more))
       go (inr other) = let same : own_clock (own_part l (first ++ k ∷ []) q) ≡ own_clock (own_part l first q) = ap own_clock (own_part_other l first k q (λ e. other (sym e))) in omega (arith, same)
 
-  abbrev IsNewest : Dot → Presence → Type 0
+  abbrev pub IsNewest : Dot → Presence → Type 0
   IsNewest e p = (e ≡ fresh (own_part l first n)) × (presence_made k.step ≡ Some p)
 
-  made_cases : (e : Dot) (p : Presence) → IsMade l (first ++ k ∷ []) e p → IsMade l first e p ⊎ IsNewest e p
+  pub made_cases : (e : Dot) (p : Presence) → IsMade l (first ++ k ∷ []) e p → IsMade l first e p ⊎ IsNewest e p
   made_cases e p m = go (is_ordered m.node k) refl (sym (filter-append (is_ordered m.node) first (k ∷ [])) ∙ m.parted)
     where
       mine : (a b : Bool) → (k.node == m.node) ≡ a → (a && not b) ≡ true → k.node ≡ m.node

@@ -81,7 +81,7 @@ module _ (sort : Operation → Bool) (other : (s : Operation) → is_delivery s 
                   pick true h = cc
                   pick false h = h
 
-made_is : (ks : List Kept) → made ks ≡ length (filter (λ k. makes k.step) ks)
+pub made_is : (ks : List Kept) → made ks ≡ length (filter (λ k. makes k.step) ks)
 made_is [] = refl
 made_is (k ∷ ks) = go (makes k.step) (made_is ks)
   where

@@ -1,0 +1,27 @@
+-- Answers to queries, one after another.
+use Rattle.std.proofs.Common.{◌≡◌, ◌||◌, inl, inr, Bool, true, false, true≢false, ℕ, List, [], ◌∷◌, ◌++◌, map, sym, ap, ◌∙◌, append_assoc, append-nil, refl}
+use Rattle.std.specs.List.{list_any}
+use Rattle.explore_network.specs.Keys.{IsAmong}
+use Rattle.bench_core.specs.Clusters.{Cluster}
+use Rattle.explore_network.specs.Queries.{answer, answers, Query}
+
+pub answers_append : (c : Cluster) (xs ys : List Query) → answers c (xs ++ ys) ≡ answers c xs ++ answers c ys
+answers_append c [] ys = refl
+answers_append c (x ∷ xs) ys = ap (λ l. answer c x ∷ l) (answers_append c xs ys)
+
+-- more queries, behind those so far
+pub asked_more : (c : Cluster) (old now new : List ℕ) (so_far more all : List Query) → now ≡ old ++ answers c so_far → new ≡ now ++ answers c more → all ≡ so_far ++ more → new ≡ old ++ answers c all
+asked_more c old now new so_far more all is further whole =
+    further ∙ ap (λ l. l ++ answers c more) is ∙ append_assoc old (answers c so_far) (answers c more) ∙ ap (λ l. old ++ l) (sym (answers_append c so_far more)) ∙ ap (λ qs. old ++ answers c qs) (sym whole)
+
+pub asked_none : (c : Cluster) (old : List ℕ) → old ≡ old ++ answers c []
+asked_none c old = sym (append-nil old)
+
+-- a key that equals one of these
+pub any_among : {V : Type 0} (f : V → Bool) (items : V → List ℕ) (key : List ℕ) (vs : List V) → ((v : V) → f v ≡ true → key ≡ items v) → list_any f vs ≡ true → IsAmong key (map items vs)
+any_among f items key [] same h = absurd (true≢false (sym h))
+any_among f items key (v ∷ vs) same h = go (f v) refl h (λ h. any_among f items key vs same h)
+  where
+    go : (b : Bool) → f v ≡ b → (b || list_any f vs) ≡ true → (list_any f vs ≡ true → IsAmong key (map items vs)) → IsAmong key (map items (v ∷ vs))
+    go true is h rest = inl (sym (same v is))
+    go false is h rest = inr (rest h)

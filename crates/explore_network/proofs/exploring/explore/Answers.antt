@@ -1,0 +1,34 @@
+use Rattle.std.proofs.Common.{◌∙◌, ap, length}
+use Rattle.bench_core.specs.Limits.{node_limits}
+use Rattle.explore_network.proofs.Results.{are_distinct, invents_nothing, misses_nothing}
+use Rattle.explore_network.proofs.exploring.explore.Goals as goal
+
+pub returns-in-Ok-clause-misses_nothing : goal.returns-in-Ok-clause-misses_nothing
+returns-in-Ok-clause-misses_nothing g c =
+    misses_nothing c.args.bench.now c.args.question.now c.args.lost c.args.again c.in_ok-plan.plan (record {
+      limits = c.in_ok-plan.ensures.limits ∙ c.of_node-limits.ensures.value ∙ ap node_limits c.limits.ensures;
+      count = c.in_ok-plan.ensures.count ∙ c.len-count.ensures.len ∙ ap length c.names.ensures;
+      steps = c.in_ok-plan.ensures.steps ∙ c.in_ok-steps.ensures ∙ c.remaining.ensures.steps;
+      lost = c.in_ok-plan.ensures.lost;
+      again = c.in_ok-plan.ensures.again;
+    }) c.in-Ok.explored.outcomes.items c.in-Ok.ensures
+
+pub returns-in-Ok-clause-invents_nothing : goal.returns-in-Ok-clause-invents_nothing
+returns-in-Ok-clause-invents_nothing g c =
+    invents_nothing c.args.bench.now c.args.question.now c.args.lost c.args.again c.in_ok-plan.plan (record {
+      limits = c.in_ok-plan.ensures.limits ∙ c.of_node-limits.ensures.value ∙ ap node_limits c.limits.ensures;
+      count = c.in_ok-plan.ensures.count ∙ c.len-count.ensures.len ∙ ap length c.names.ensures;
+      steps = c.in_ok-plan.ensures.steps ∙ c.in_ok-steps.ensures ∙ c.remaining.ensures.steps;
+      lost = c.in_ok-plan.ensures.lost;
+      again = c.in_ok-plan.ensures.again;
+    }) c.in-Ok.explored.outcomes.items c.in-Ok.ensures
+
+pub returns-in-Ok-clause-distinct : goal.returns-in-Ok-clause-distinct
+returns-in-Ok-clause-distinct g c =
+    are_distinct c.args.bench.now c.args.question.now c.args.lost c.args.again c.in_ok-plan.plan (record {
+      limits = c.in_ok-plan.ensures.limits ∙ c.of_node-limits.ensures.value ∙ ap node_limits c.limits.ensures;
+      count = c.in_ok-plan.ensures.count ∙ c.len-count.ensures.len ∙ ap length c.names.ensures;
+      steps = c.in_ok-plan.ensures.steps ∙ c.in_ok-steps.ensures ∙ c.remaining.ensures.steps;
+      lost = c.in_ok-plan.ensures.lost;
+      again = c.in_ok-plan.ensures.again;
+    }) c.in-Ok.explored.outcomes.items c.in-Ok.ensures

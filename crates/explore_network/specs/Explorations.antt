@@ -1,0 +1,51 @@
+-- What is told of all that the network could have made of a run.
+use Rattle.std.specs.Prelude.{◌≡◌, ◌≢◌, ◌⊎◌, ℕ, ◌&&◌, Bool, false, List, [], ◌∷◌, length, Option, Some, None, Ok}
+use Rattle.std.specs.List.{AllByRecursion}
+use Rattle.std.specs.Str.{bytes_eq}
+use Rattle.payload_core.specs.Presences.{Presence}
+use Rattle.node_core.specs.Operations.{Operation}
+use Rattle.journal_core.specs.Journals.{Kept}
+use Rattle.bench_core.specs.Clusters.{Cluster}
+use Rattle.bench_core.specs.Laws.{presence_made}
+use Rattle.bench_core.specs.Limits.{node_limits}
+use Rattle.bench_core.specs.Machine.{Machine}
+use Rattle.bench_core.specs.Runs.{runs}
+use Rattle.network_core.specs.NetworkRuns.{IsNetworkRun}
+use Rattle.explore_network.specs.Questions.{rows_at, Question}
+use Rattle.explore_network.specs.Walks.{steps_at, Outcome}
+
+-- one of the list is so
+abbrev pub IsAny : {X : Type 0} → (X → Type 0) → List X → Type 0
+IsAny P [] = ⊥
+IsAny P (x ∷ xs) = P x ⊎ IsAny P xs
+
+-- of a machine's remaining steps the network could have made a run that leads to this cluster
+pub record CanLeadTo (m : Machine) (lost again : ℕ) (run : List Kept) (end : Cluster) : Type 0 where
+  pub is_run : IsNetworkRun m.state.remaining lost again run
+  pub leads : runs (node_limits m.limits) (length m.names) run ≡ Ok end
+
+-- each end of such a run shows the rows that an outcome shows
+abbrev pub MissesNothing : Machine → Question → ℕ → ℕ → List Outcome → Type 0
+MissesNothing m q lost again os = (run : List Kept) (end : Cluster) → CanLeadTo m lost again run end → IsAny (λ (o : Outcome). rows_at q o.cluster ≡ rows_at q end) os
+
+-- each outcome has such a run beside it, by the places of its steps
+abbrev pub InventsNothing : Machine → ℕ → ℕ → List Outcome → Type 0
+InventsNothing m lost again os = AllByRecursion (λ (o : Outcome). CanLeadTo m lost again (steps_at m.state.remaining o.run) o.cluster) os
+
+-- no two outcomes show the same rows
+abbrev pub AreDistinct : Question → List Outcome → Type 0
+AreDistinct q [] = Unit {0}
+AreDistinct q (o ∷ os) = AllByRecursion (λ (x : Outcome). rows_at q o.cluster ≢ rows_at q x.cluster) os × AreDistinct q os
+
+-- the first is that of the run as it was
+abbrev pub BeginsAsRecorded : Machine → List Outcome → Type 0
+BeginsAsRecorded m [] = ⊥
+BeginsAsRecorded m (o ∷ os) = steps_at m.state.remaining o.run ≡ m.state.remaining
+
+-- whether a step makes a presence of this topic and key
+abbrev pub is_asked_of : List ℕ → List ℕ → Option Presence → Bool
+is_asked_of topic key None = false
+is_asked_of topic key (Some p) = bytes_eq p.topic topic && bytes_eq p.key key
+
+abbrev pub is_asked : List ℕ → List ℕ → Operation → Bool
+is_asked topic key s = is_asked_of topic key (presence_made s)

@@ -1,0 +1,7 @@
+-- Keys among others.
+use Rattle.std.specs.Prelude.{◌≡◌, ◌⊎◌, ℕ, List, [], ◌∷◌}
+
+-- the key is one of these
+abbrev pub IsAmong : List ℕ → List (List ℕ) → Type 0
+IsAmong key [] = ⊥
+IsAmong key (k ∷ ks) = (k ≡ key) ⊎ IsAmong key ks

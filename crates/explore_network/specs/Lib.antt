@@ -1,0 +1,13 @@
+pub mod NameSets
+pub mod Turns
+pub mod Tables
+pub mod Standings
+pub mod Queries
+pub mod Keys
+pub mod Questions
+pub mod Plans
+pub mod Easy
+pub mod Walks
+pub mod Explorations
+pub mod Asked
+pub mod Outcomes

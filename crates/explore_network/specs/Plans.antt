@@ -1,0 +1,71 @@
+-- What is fixed of all runs of the network.
+use Rattle.std.specs.Prelude.{◌≡◌, ℕ, ◌≤◌, Bool, List, Option, refl}
+use Rattle.std.specs.Coded.{Coded, code_by, coded×, coded_ℕ, coded_list, coded_option}
+use Rattle.replica_core.specs.declared.node_limits.NodeLimits.{NodeLimits}
+use Rattle.replica_core.specs.Limits.{node_limits_code, AreNodeLimits}
+use Rattle.journal_core.specs.Journals.{Kept, kept_code}
+use Rattle.bench_core.specs.Clusters.{Cluster}
+use Rattle.network_core.specs.Cones.{position}
+use Rattle.network_core.specs.Made.{WantsMade}
+use Rattle.network_core.specs.Room.{made}
+use Rattle.network_core.specs.Settling.{Walk}
+use Rattle.explore_network.specs.declared.turn.Turn.{Turn}
+use Rattle.explore_network.specs.declared.turn.Rank.{Rank}
+use Rattle.explore_network.specs.Questions.{Question}
+use Rattle.explore_network.specs.Tables.{cone_of, is_wanted, tables_code, IsAsked, IsClosed, Tables}
+use Rattle.explore_network.specs.Turns.{ranks_of, turns_of}
+
+pub record Plan : Type 0 where
+  pub limits : NodeLimits
+  -- how many nodes there are
+  pub count : ℕ
+  -- the recorded steps
+  pub steps : List Kept
+  pub lost : ℕ
+  pub again : ℕ
+  pub turns : List Turn
+  pub ranks : List Rank
+  pub tables : Tables
+
+abbrev turn_code : Coded Turn
+turn_code =
+    code_by (ℕ × (Option (ℕ × ℕ) × ℕ)) (coded× coded_ℕ (coded× (coded_option (coded× coded_ℕ coded_ℕ)) coded_ℕ)) (λ t. (t.node, (t.delivers, t.recorded)))
+    (λ p. record { node = p.0; delivers = p.1.0; recorded = p.1.1 }) (λ _. refl)
+
+abbrev rank_code : Coded Rank
+rank_code =
+    code_by (ℕ × (ℕ × ℕ)) (coded× coded_ℕ (coded× coded_ℕ coded_ℕ)) (λ x. (x.turn, (x.before, x.number)))
+    (λ p. record { turn = p.0; before = p.1.0; number = p.1.1 }) (λ _. refl)
+
+abbrev Stored : Type 0
+Stored = NodeLimits × (ℕ × (List Kept × (ℕ × (ℕ × (List Turn × (List Rank × Tables))))))
+
+abbrev pub plan_code : Coded Plan
+plan_code =
+    code_by Stored
+    (coded× node_limits_code (coded× coded_ℕ (coded× (coded_list kept_code) (coded× coded_ℕ (coded× coded_ℕ (coded× (coded_list turn_code) (coded× (coded_list rank_code) tables_code)))))))
+    (λ p. (p.limits, (p.count, (p.steps, (p.lost, (p.again, (p.turns, (p.ranks, p.tables))))))))
+    (λ t. record { limits = t.0; count = t.1.0; steps = t.1.1.0; lost = t.1.1.1.0; again = t.1.1.1.1.0; turns = t.1.1.1.1.1.0; ranks = t.1.1.1.1.1.1.0; tables = t.1.1.1.1.1.1.1 }) (λ _. refl)
+
+-- all that is fixed, and the clusters that were told
+abbrev pub walk_of : Plan → (Cluster → Bool) → Walk
+walk_of p told = record {
+  limits = p.limits;
+  count = p.count;
+  recorded = p.steps;
+  lost = p.lost;
+  again = p.again;
+  cone = cone_of p.tables;
+  told = told;
+}
+
+-- the plan is that of its steps, which fill no node; and nothing that matters for the question is left out
+pub record IsPlan (p : Plan) (q : Question) : Type 0 where
+  pub few : p.count ≤ 32
+  pub limits : AreNodeLimits p.limits
+  pub turns : p.turns ≡ turns_of p.steps p.count
+  pub ranks : p.ranks ≡ ranks_of p.turns p.steps
+  pub room : made p.steps ≤ p.limits.entries
+  pub closed : IsClosed p.steps p.ranks p.tables
+  pub asked : IsAsked p.tables q.node (position p.steps q.node)
+  pub wants : WantsMade p.limits p.steps (is_wanted p.tables.dots) q.topic q.key

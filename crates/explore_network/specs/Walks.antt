@@ -1,0 +1,123 @@
+-- Where a walk stands, what was told, and what is settled by it.
+use Rattle.std.specs.Prelude.{◌≡◌, ℕ, ◌+◌, Bool, true, false, List, [], ◌∷◌, ◌++◌, length, slice_get, Option, Some, None, Ok, refl}
+use Rattle.std.specs.Coded.{Coded, code_by, coded×, coded_ℕ, coded_list}
+use Rattle.std.specs.List.{AllByRecursion, list_any}
+use Rattle.node_core.specs.Nodes.{node_code}
+use Rattle.journal_core.specs.Journals.{Kept}
+use Rattle.bench_core.specs.Clusters.{Cluster, step}
+use Rattle.bench_core.specs.Runs.{runs}
+use Rattle.network_core.specs.NetworkRuns.{IsNetworkRun, ordered}
+use Rattle.network_core.specs.Settling.{IsSettled, IsWalk}
+use Rattle.explore_network.specs.Plans.{walk_of, IsPlan, Plan}
+use Rattle.explore_network.specs.Queries.{key_of}
+use Rattle.explore_network.specs.Questions.{rows_at, same_rows, Question}
+use Rattle.explore_network.specs.Turns.{counts_of, is_next}
+
+-- the places of a run's steps among the recorded ones, and the cluster to which it leads
+pub record Outcome : Type 0 where
+  pub run : List ℕ
+  pub cluster : Cluster
+
+abbrev pub outcome_code : Coded Outcome
+outcome_code =
+    code_by (List ℕ × Cluster) (coded× (coded_list coded_ℕ) (coded_list node_code)) (λ o. (o.run, o.cluster)) (λ p. record { run = p.0; cluster = p.1 }) (λ _. refl)
+
+abbrev pub with_step : Option Kept → List Kept → List Kept
+with_step None ks = ks
+with_step (Some k) ks = k ∷ ks
+
+-- the steps at these places
+abbrev pub steps_at : List Kept → List ℕ → List Kept
+steps_at j [] = []
+steps_at j (p ∷ ps) = with_step (slice_get j p) (steps_at j ps)
+
+-- whether an outcome shows the rows that the cluster does
+abbrev pub told_by : Question → List Outcome → Cluster → Bool
+told_by q os c = list_any (λ o. same_rows (rows_at q o.cluster) (rows_at q c)) os
+
+-- after these recorded steps the cluster is this, and the turns came so often; and each node took the first of its own steps
+pub record IsAt (p : Plan) (w : List Kept) (counts : List ℕ) (c : Cluster) : Type 0 where
+  pub ran : runs p.limits p.count w ≡ Ok c
+  pub counted : counts ≡ counts_of p.turns w
+  pub along : (path : List ℕ) × (w ≡ steps_at p.steps path)
+  pub own : (n : ℕ) → (later : List Kept) × (ordered p.steps n ≡ ordered w n ++ later)
+
+-- whatever a run of the network that begins so leads to shows rows that an outcome shows
+abbrev pub IsTold : Plan → Question → List Outcome → List Kept → Type 0
+IsTold p q os w = IsSettled (walk_of p (told_by q os)) w
+
+-- this step can come first, whatever was told
+abbrev pub CanBeFirst : Plan → List Kept → Cluster → Kept → Type 0
+CanBeFirst p w c k =
+    (told : Cluster → Bool) (d : Cluster) → IsWalk (walk_of p told) → step c k.node k.step ≡ Ok d → IsSettled (walk_of p told) (w ++ k ∷ []) → IsSettled (walk_of p told) w
+
+abbrev pub next_in : Plan → List ℕ → ℕ → Bool
+next_in p counts place = is_next p.turns p.ranks counts p.again place
+
+-- the step at this place is the next of its turn, and can come first
+pub record IsFirst (p : Plan) (counts : List ℕ) (c : Cluster) (place : ℕ) : Type 0 where
+  pub next : next_in p counts place ≡ true
+  pub first : (w : List Kept) (k : Kept) → IsAt p w counts c → slice_get p.steps place ≡ Some k → CanBeFirst p w c k
+
+-- the key is that of a beginning of runs of the network of which all was told
+pub record IsKeyOf (p : Plan) (q : Question) (os : List Outcome) (key : List ℕ) : Type 0 where
+  pub first : List Kept
+  pub counts : List ℕ
+  pub cluster : Cluster
+  pub at : IsAt p first counts cluster
+  pub is : key ≡ key_of p.tables p.count p.steps p.ranks counts cluster
+  pub told : IsTold p q os first
+
+-- a run of the network leads to the outcome
+pub record IsOutcome (p : Plan) (o : Outcome) : Type 0 where
+  pub is_run : IsNetworkRun p.steps p.lost p.again (steps_at p.steps o.run)
+  pub leads : runs p.limits p.count (steps_at p.steps o.run) ≡ Ok o.cluster
+
+-- no two outcomes show the same rows
+abbrev pub AreApart : Question → List Outcome → Type 0
+AreApart q [] = Unit {0}
+AreApart q (o ∷ os) = AllByRecursion (λ (x : Outcome). same_rows (rows_at q o.cluster) (rows_at q x.cluster) ≡ false) os × AreApart q os
+
+-- what each walk keeps
+pub record Keeps (p : Plan) (q : Question) (known : List (List ℕ)) (os : List Outcome) : Type 0 where
+  pub keys : AllByRecursion (IsKeyOf p q os) known
+  pub outcomes : AllByRecursion (IsOutcome p) os
+  pub apart : AreApart q os
+
+-- there are these outcomes, and perhaps more
+abbrev pub AreMore : List Outcome → List Outcome → Type 0
+AreMore os more = (rest : List Outcome) × (more ≡ os ++ rest)
+
+-- what goes on with the step at a place: where it is accepted, all that begins with it was told; and it was, if so said
+pub record GoesThrough (p : Plan) (q : Question) (w : List Kept) (c : Cluster) (place : ℕ) (did : Bool) (os : List Outcome) : Type 0 where
+  pub told : (k : Kept) (d : Cluster) → slice_get p.steps place ≡ Some k → step c k.node k.step ≡ Ok d → IsTold p q os (w ++ k ∷ [])
+  pub taken : did ≡ true → (k : Kept) × ((d : Cluster) × ((slice_get p.steps place ≡ Some k) × (step c k.node k.step ≡ Ok d)))
+
+-- as each call of the walk begins: with a plan, what it keeps, where it stands, and how many steps may come yet
+pub record IsReady (p : Plan) (q : Question) (path : List ℕ) (c : Cluster) (known : List (List ℕ)) (os : List Outcome) (counts : List ℕ) (rest : ℕ) : Type 0 where
+  pub plan : IsPlan p q
+  pub keeps : Keeps p q known os
+  pub at : IsAt p (steps_at p.steps path) counts c
+  pub left : length (steps_at p.steps path) + rest ≡ length p.steps + p.again
+
+-- a step came behind the path that was the next of its turn
+pub record IsBehind (p : Plan) (path : List ℕ) (place : ℕ) (k : Kept) (counts : List ℕ) (c : Cluster) : Type 0 where
+  pub before : Cluster
+  pub at : IsAt p (steps_at p.steps path) counts before
+  pub here : slice_get p.steps place ≡ Some k
+  pub next : next_in p counts place ≡ true
+  pub took : step before k.node k.step ≡ Ok c
+
+-- what each call keeps
+pub record Went (p : Plan) (q : Question) (os : List Outcome) (known : List (List ℕ)) (new : List Outcome) : Type 0 where
+  pub more : AreMore os new
+  pub keeps : Keeps p q known new
+
+-- all was told that begins with the step at this place, if it may come next
+abbrev pub GoesThroughAt : Plan → Question → List ℕ → Cluster → List ℕ → List Outcome → ℕ → Type 0
+GoesThroughAt p q path c counts os place =
+    (k : Kept) (d : Cluster) → next_in p counts place ≡ true → slice_get p.steps place ≡ Some k → step c k.node k.step ≡ Ok d → IsTold p q os (steps_at p.steps path ++ k ∷ [])
+
+-- whichever place it is
+abbrev pub AllGoThrough : Plan → Question → List ℕ → Cluster → List ℕ → List Outcome → Type 0
+AllGoThrough p q path c counts os = (place : ℕ) → GoesThroughAt p q path c counts os place

@@ -1,0 +1,351 @@
+//! `Cone`: which names matter where. Of what a node has seen, behind so many of its own steps, and of a message.
+ghost use Rattle.std.specs.Prelude.{◌≡◌, ◌<◌, ℕ, List, map, suc, true, IsTrue, IfOk, Some, slice_get};
+ghost use Rattle.std.specs.FinSet.{contains};
+ghost use Rattle.std.specs.List.{AllByRecursion};
+ghost use Rattle.dots_core.specs.declared.dot.Dot.{Dot as PlainDot};
+ghost use Rattle.node_core.specs.Operations.{plain};
+ghost use Rattle.journal_core.specs.Journals.{Kept as PlainKept};
+ghost use Rattle.explore_network.specs.declared.turn.Rank.{Rank as PlainRank};
+ghost use Rattle.network_core.specs.Cones.{says};
+ghost use Rattle.explore_network.specs.Tables.{carried, in_row, is_wanted, matter, names_at, IsAsked, IsClosed, KeepsAt, Within};
+
+use crate::names::{all_names, common, is_within, union};
+use crate::turn::{Rank, Turn, delivery};
+use bench_core::{Kept, Step};
+use dots_core::{Dot, NameSet};
+use node_core::Oom;
+use std::alloc::Allocator;
+use std::marker::Model;
+
+type Rows<A> = Vec<Vec<NameSet, A>, A>;
+
+/// The dots that are asked for, and which names matter where.
+#[derive(Drop)]
+pub(crate) struct Cone<'a, B: Allocator> {
+    dots: Vec<Dot, &'a B>,
+    /// Of each node, behind each number of its own steps, the names whose dots matter there.
+    matters: Rows<&'a B>,
+    /// Of each node and each of its messages the names whose dots matter of it.
+    carries: Rows<&'a B>,
+}
+
+impl<'a, B: Allocator> Model for Cone<'a, B> {
+    ghost use Rattle.std.specs.Prelude.{map};
+    ghost use Rattle.explore_network.specs.Tables.{tables_code, Tables};
+
+    ghost Value = { Tables };
+
+    ghost coded = { tables_code };
+
+    ghost view = { λ c. record { dots = c.dots.items; matters = map (λ row. row.items) c.matters.items; carries = map (λ row. row.items) c.carries.items } };
+}
+
+/// The names at a place of a row, or at its last one.
+fn in_row(row: &[NameSet], place: usize) -> NameSet
+    ensures { result ≡ in_row (Some row.now) place }
+{
+    match row.get(place) {
+        Some(names) => *names,
+        None => match row.last() {
+            Some(names) => *names,
+            None => all_names(),
+        },
+    }
+}
+
+/// The names at a place of a node's row; all, where there is no row.
+fn names_at<A: Allocator>(rows: &[Vec<NameSet, A>], node: usize, place: usize) -> NameSet
+    ensures { result ≡ names_at (map (λ row. row.items) rows.now) node place }
+{
+    match rows.get(node) {
+        Some(row) => in_row(row, place),
+        None => all_names(),
+    }
+}
+
+/// The names matter at this place, too. Whether that is news.
+fn add<A: Allocator>(
+    rows: &mut [Vec<NameSet, A>],
+    node: u16,
+    place: usize,
+    names: NameSet,
+) -> bool {
+    let Some(row) = rows.get_mut(node as usize) else {
+        return false;
+    };
+    let Some(before) = row.get_mut(place) else {
+        return false;
+    };
+    let after = union(*before, names);
+    let more = !before.same(after);
+    *before = after;
+    more
+}
+
+/// So many times these.
+fn repeated<'a, B: Allocator>(
+    names: NameSet,
+    count: usize,
+    alloc: &'a B,
+) -> Result<Vec<NameSet, &'a B>, Oom> {
+    let mut list = Vec::with_capacity(alloc, count)?;
+    for _ in 0..count {
+        list.push(names)?;
+    }
+    Ok(list)
+}
+
+/// The names that a step sends of what its node has, if they matter of the message.
+fn said<A: Allocator>(step: &Step<A>, carried: NameSet) -> NameSet
+    ensures { (q : ℕ) → contains carried q ≡ true → says (plain step.now) q ≡ true → contains result q ≡ true }
+{
+    match step {
+        Step::Extract { names } => common(*names, carried),
+        Step::Answer {
+            sender: _,
+            number: _,
+        } => carried,
+        _ => NameSet::empty(),
+    }
+}
+
+impl<'a, B: Allocator> Cone<'a, B> {
+    /// The dots that are asked for.
+    pub(crate) fn dots(&self) -> &[Dot]
+        ensures { result.now ≡ self.now.dots }
+    {
+        self.dots.as_slice()
+    }
+
+    /// The names that matter to a node behind so many of its own steps.
+    pub(crate) fn matter(&self, node: u16, taken: usize) -> NameSet
+        ensures { result ≡ matter self.now node taken }
+    {
+        names_at(self.matters.as_slice(), node as usize, taken)
+    }
+
+    /// The names that matter of a message of a node, by its number from 1.
+    pub(crate) fn carried(&self, node: u16, number: u64) -> NameSet
+        ensures { result ≡ carried self.now node number }
+    {
+        names_at(
+            self.carries.as_slice(),
+            node as usize,
+            number.saturating_sub(1) as usize,
+        )
+    }
+
+    /// What matters behind a step matters before it. Whether that is news.
+    fn widen<A: Allocator>(&mut self, kept: &Kept<A>, rank: Rank) -> bool
+        ensures { self.new.dots ≡ self.old.dots }
+    {
+        match delivery(&kept.step) {
+            Some((sender, number)) => {
+                let names = self.matter(kept.node, 0);
+                let place = number.saturating_sub(1) as usize;
+                add(self.carries.as_mut_slice(), sender, place, names)
+            }
+            None => {
+                let behind = self.matter(kept.node, rank.before.saturating_add(1));
+                let carried = self.carried(kept.node, rank.number);
+                let names = union(behind, said(&kept.step, carried));
+                add(self.matters.as_mut_slice(), kept.node, rank.before, names)
+            }
+        }
+    }
+
+    /// One round, from the last step to the first.
+    fn widen_all<A: Allocator>(&mut self, steps: &[Kept<A>], ranks: &[Rank]) -> bool
+        ensures { self.new.dots ≡ self.old.dots }
+    {
+        let mut more = false;
+        for back in 0..steps.len() {
+            let place = steps.len() - 1 - back;
+            if let Some(rank) = ranks.get(place) {
+                more |= self.widen(&steps[place], *rank);
+            }
+        }
+        more
+    }
+
+    /// Has all names matter that can.
+    fn close<A: Allocator>(&mut self, steps: &[Kept<A>], ranks: &[Rank])
+        ensures { self.new.dots ≡ self.old.dots }
+    {
+        for _ in 0..2048 {
+            if !self.widen_all(steps, ranks) {
+                return;
+            }
+        }
+    }
+
+    /// Whether no row has a name that is missing right before.
+    fn falls(&self) -> bool
+        ensures { IsTrue result → (n p : ℕ) → Within (matter self.now n (suc p)) (matter self.now n p) }
+    {
+        are_falling(self.matters.as_slice())
+    }
+
+    /// Whether nothing is left out where this step stands.
+    fn keeps_at<A: Allocator>(&self, kept: &Kept<A>, rank: Rank) -> bool
+        ensures { IsTrue result → KeepsAt self.now kept.now rank }
+    {
+        match delivery(&kept.step) {
+            Some((sender, number)) => {
+                is_within(self.matter(kept.node, 0), self.carried(sender, number))
+            }
+            None => is_within(
+                said(&kept.step, self.carried(kept.node, rank.number)),
+                self.matter(kept.node, rank.before),
+            ),
+        }
+    }
+
+    /// The same of the step at a place.
+    fn keeps_place<A: Allocator>(&self, steps: &[Kept<A>], ranks: &[Rank], place: usize) -> bool
+        ensures { IsTrue result → (k : PlainKept) (x : PlainRank) → slice_get steps.now place ≡ Some k → slice_get ranks.now place ≡ Some x → KeepsAt self.now k x }
+    {
+        let Some(kept) = steps.get(place) else {
+            return true;
+        };
+        let Some(rank) = ranks.get(place) else {
+            return true;
+        };
+        self.keeps_at(kept, *rank)
+    }
+
+    /// Whether nothing is left out where steps stand.
+    fn keeps_all<A: Allocator>(&self, steps: &[Kept<A>], ranks: &[Rank]) -> bool
+        ensures { IsTrue result → (place : ℕ) (k : PlainKept) (x : PlainRank) → slice_get steps.now place ≡ Some k → slice_get ranks.now place ≡ Some x → KeepsAt self.now k x }
+    {
+        for place in 0..steps.len() {
+            if !self.keeps_place(steps, ranks, place) {
+                return false;
+            }
+        }
+        true
+    }
+
+    /// Whether nothing is left out.
+    fn is_closed<A: Allocator>(&self, steps: &[Kept<A>], ranks: &[Rank]) -> bool
+        ensures { IsTrue result → IsClosed steps.now ranks.now self.now }
+    {
+        self.falls() && self.keeps_all(steps, ranks)
+    }
+
+    /// Whether all that is asked for matters to this node behind so many of its own steps.
+    fn is_asked(&self, node: u16, taken: usize) -> bool
+        ensures { IsTrue result → IsAsked self.now node taken }
+    {
+        have_all(self.dots(), self.matter(node, taken))
+    }
+}
+
+/// Whether the names have those of all dots.
+fn have_all(dots: &[Dot], names: NameSet) -> bool
+    ensures { IsTrue result → (d : PlainDot) → is_wanted dots.now d ≡ true → contains names d.name ≡ true }
+{
+    for place in 0..dots.len() {
+        if !names.has(dots[place].name) {
+            return false;
+        }
+    }
+    true
+}
+
+/// Whether each row is falling.
+fn are_falling<A: Allocator>(rows: &[Vec<NameSet, A>]) -> bool
+    ensures { IsTrue result → (n p : ℕ) → Within (names_at (map (λ row. row.items) rows.now) n (suc p)) (names_at (map (λ row. row.items) rows.now) n p) }
+{
+    for place in 0..rows.len() {
+        if !is_falling(rows[place].as_slice()) {
+            return false;
+        }
+    }
+    true
+}
+
+/// Whether each set of names has all that the next one has.
+fn is_falling(row: &[NameSet]) -> bool
+    ensures { IsTrue result → (p : ℕ) → Within (in_row (Some row.now) (suc p)) (in_row (Some row.now) p) }
+{
+    for place in 1..row.len() {
+        if !is_within(row[place], row[place - 1]) {
+            return false;
+        }
+    }
+    true
+}
+
+/// How many messages a node sends.
+fn sent<A: Allocator>(steps: &[Kept<A>], node: u16) -> usize {
+    steps
+        .iter()
+        .filter(|kept| kept.node == node && kept.step.sends())
+        .count()
+}
+
+/// The tables where nothing is known yet: what is asked for at the end.
+fn begun<'a, B: Allocator>(
+    dots: Vec<Dot, &'a B>,
+    steps: &[Kept<&'a B>],
+    turns: &[Turn],
+    asked: u16,
+    alloc: &'a B,
+) -> Result<Cone<'a, B>, Oom>
+    ensures { IfOk result (λ cone. cone.dots ≡ dots.entry.items) }
+{
+    let mut matters = Vec::new(alloc);
+    let mut carries = Vec::new(alloc);
+    for turn in turns {
+        if turn.delivers.is_some() {
+            continue;
+        }
+        let names = if turn.node == asked {
+            all_names()
+        } else {
+            NameSet::empty()
+        };
+        matters.push(repeated(names, turn.recorded.saturating_add(1), alloc)?)?;
+        carries.push(repeated(NameSet::empty(), sent(steps, turn.node), alloc)?)?;
+    }
+    Ok(Cone {
+        dots,
+        matters,
+        carries,
+    })
+}
+
+/// What matters for these dots at the end of a node that takes so many own steps.
+pub(crate) fn cone_of<'a, B: Allocator>(
+    dots: Vec<Dot, &'a B>,
+    steps: &[Kept<&'a B>],
+    turns: &[Turn],
+    ranks: &[Rank],
+    asked: u16,
+    taken: usize,
+    alloc: &'a B,
+) -> Result<Cone<'a, B>, Oom>
+    requires { AllByRecursion (λ (d : PlainDot). d.name < 32) dots.items }
+    ensures dots { IfOk result (λ cone. cone.dots ≡ dots.entry.items) }
+    ensures closed { IfOk result (IsClosed steps.now ranks.now) }
+    ensures asked { IfOk result (λ cone. IsAsked cone asked taken) }
+{
+    let mut cone = begun(dots, steps, turns, asked, alloc)?;
+    cone.close(steps, ranks);
+    if cone.is_closed(steps, ranks) && cone.is_asked(asked, taken) {
+        return Ok(cone);
+    }
+    let Cone {
+        dots,
+        matters,
+        carries,
+    } = cone;
+    drop(matters);
+    drop(carries);
+    Ok(Cone {
+        dots,
+        matters: Vec::new(alloc),
+        carries: Vec::new(alloc),
+    })
+}

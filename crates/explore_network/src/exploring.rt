@@ -1,0 +1,202 @@
+//! `explore`: all that the network could have made of the steps of a bench.
+ghost use Rattle.std.specs.Prelude.{◌≡◌, ◌↔◌, ◌<◌, ◌≤◌, ◌+◌, [], ◌∷◌, ℕ, List, IfOk, IfErr, IsOk, Ok, Err, OnOk, Some, length, replicate, slice_get};
+ghost use Rattle.replica_core.specs.Limits.{AreNodeLimits};
+ghost use Rattle.bench_core.specs.Clusters.{opening_of, Cluster as PlainCluster};
+ghost use Rattle.bench_core.specs.Limits.{node_limits};
+ghost use Rattle.bench_core.specs.Runs.{runs};
+ghost use Rattle.std.specs.List.{AllByRecursion};
+ghost use Rattle.journal_core.specs.Journals.{Kept as PlainKept};
+ghost use Rattle.network_core.specs.Room.{made};
+ghost use Rattle.explore_network.specs.Explorations.{AreDistinct, BeginsAsRecorded, InventsNothing, MissesNothing};
+ghost use Rattle.explore_network.specs.declared.turn.Turn.{Turn as PlainTurn};
+ghost use Rattle.explore_network.specs.Plans.{IsPlan};
+ghost use Rattle.explore_network.specs.Walks.{steps_at, AreApart, IsOutcome, IsTold};
+ghost use Rattle.explore_network.specs.Outcomes.{AllIsTold, BeginsWith, IsRecorded, Runs};
+
+use crate::asked::dots_of;
+use crate::cone::cone_of;
+use crate::explore_fault::{ExploreFault, Stop, fault_of};
+use crate::outcome::Outcome;
+use crate::plan::Plan;
+use crate::question::Question;
+use crate::steps::{Steps, copied, made};
+use crate::table::Table;
+use crate::turn::{Turn, ranks_of, turns_of};
+use crate::walk::{Tour, Walk, outcome_of, visit};
+use bench_core::{Bench, Cluster, NodeLimits};
+use node_core::Oom;
+use std::alloc::Allocator;
+
+/// What was found, and how many states were kept.
+#[derive(Drop)]
+pub struct Explored<'a, B: Allocator> {
+    pub outcomes: Vec<Outcome<'a, B>, &'a B>,
+    pub states: usize,
+}
+
+/// How many steps of the turn at this place were recorded.
+fn recorded(turns: &[Turn], place: u16) -> usize
+    ensures { (t : PlainTurn) → slice_get turns.now place ≡ Some t → result ≡ t.recorded }
+{
+    match turns.get(place as usize) {
+        Some(turn) => turn.recorded,
+        None => 0,
+    }
+}
+
+/// The plan of these steps, which fill no node.
+fn plan_of<'a, B: Allocator>(
+    steps: Steps<&'a B>,
+    count: u16,
+    limits: NodeLimits,
+    question: &Question<&'a B>,
+    lost: usize,
+    again: usize,
+    alloc: &'a B,
+) -> Result<Plan<'a, B>, Oom>
+    requires few { count ≤ 32 }
+    requires limits { AreNodeLimits limits }
+    requires room { made steps.items ≤ limits.entries }
+    requires there { question.now.node < count }
+    ensures limits { IfOk result (λ plan. plan.limits ≡ limits) }
+    ensures count { IfOk result (λ plan. plan.count ≡ count) }
+    ensures steps { IfOk result (λ plan. plan.steps ≡ steps.entry.items) }
+    ensures lost { IfOk result (λ plan. plan.lost ≡ lost) }
+    ensures again { IfOk result (λ plan. plan.again ≡ again) }
+    ensures plan { IfOk result (λ plan. (end : PlainCluster) → runs limits count steps.entry.items ≡ Ok end → IsPlan plan question.now) }
+{
+    let turns = turns_of(&steps, count, alloc)?;
+    let ranks = ranks_of(&turns, &steps, alloc)?;
+    let dots = dots_of(&steps, count, limits, question, alloc)?;
+    let end = recorded(&turns, question.node);
+    let cone = cone_of(dots, &steps, &turns, &ranks, question.node, end, alloc)?;
+    Ok(Plan {
+        limits,
+        count,
+        steps,
+        lost,
+        again,
+        turns,
+        ranks,
+        cone,
+    })
+}
+
+/// The places of so many steps.
+fn places<'a, B: Allocator>(count: usize, alloc: &'a B) -> Result<Vec<usize, &'a B>, Oom>
+    ensures { IfOk result (λ places. (j : List PlainKept) → length j ≡ count → steps_at j places.items ≡ j) }
+{
+    let mut places = Vec::with_capacity(alloc, count)?;
+    for place in 0..count {
+        places.push(place)?;
+    }
+    Ok(places)
+}
+
+/// So many zeros.
+fn zeros<'a, B: Allocator>(count: usize, alloc: &'a B) -> Result<Vec<usize, &'a B>, Oom>
+    ensures { IfOk result (λ zeros. zeros.items ≡ replicate count 0) }
+{
+    vec![in alloc; 0usize; count]
+}
+
+/// What the recorded run leads to.
+fn recorded_outcome<'a, B: Allocator>(
+    tour: &Tour<'_, 'a, B>,
+    alloc: &'a B,
+) -> Result<Outcome<'a, B>, Oom>
+    requires plan { IsPlan tour.now.plan.now tour.now.question.now }
+    ensures { IfOk result (IsRecorded tour.now.plan.now) }
+{
+    let places = places(tour.plan.steps().len(), alloc)?;
+    let outcome = outcome_of(tour, &places)?;
+    Ok(outcome)
+}
+
+/// Where the walk begins.
+fn begun<'a, B: Allocator>(tour: &Tour<'_, 'a, B>, alloc: &'a B) -> Result<Walk<'a, B>, Oom>
+    requires plan { IsPlan tour.now.plan.now tour.now.question.now }
+    ensures cluster { IfOk result (λ walk. walk.cluster ≡ opening_of tour.now.plan.now.limits tour.now.plan.now.count) }
+    ensures path { IfOk result (λ walk. walk.path.items ≡ []) }
+    ensures settled { IfOk result (λ walk. walk.settled ≡ []) }
+    ensures outcomes { IfOk result (λ walk. BeginsWith tour.now.plan.now walk.outcomes.items) }
+{
+    let outcome = recorded_outcome(tour, alloc)?;
+    let cluster = Cluster::new(alloc, tour.plan.count() as usize, tour.plan.limits())?;
+    let mut outcomes = Vec::new(alloc);
+    outcomes.push(outcome)?;
+    Ok(Walk {
+        cluster,
+        path: Vec::new(alloc),
+        settled: Table::new(alloc),
+        outcomes,
+    })
+}
+
+/// All outcomes of a plan, of whose recorded run each step is accepted.
+fn explore_plan<'a, B: Allocator>(
+    plan: &Plan<'a, B>,
+    question: &Question<&'a B>,
+    most: usize,
+    alloc: &'a B,
+) -> Result<Explored<'a, B>, Stop>
+    requires plan { IsPlan plan.now question.now }
+    requires ran { Runs plan.now }
+    ensures { IfOk result (λ e. AllIsTold plan.now question.now e.outcomes.items) }
+{
+    let tour = Tour {
+        plan,
+        question,
+        most,
+        alloc,
+    };
+    let mut walk = begun(&tour, alloc)?;
+    let counts = zeros(plan.turns().len(), alloc)?;
+    let left = plan.steps().len() as u128 + plan.again() as u128;
+    visit(&tour, &mut walk, &counts, left)?;
+    let Walk {
+        cluster,
+        path,
+        settled,
+        outcomes,
+    } = walk;
+    let states = settled.len();
+    drop(cluster);
+    drop(path);
+    drop(settled);
+    Ok(Explored { outcomes, states })
+}
+
+/// All outcomes of what the network could have made of the steps that remain: with up to so many deliveries missing, and up to
+/// so many that come a second time. At most so many states are kept.
+pub fn explore<'a, B: Allocator>(
+    bench: &Bench<'a, B>,
+    question: &Question<&'a B>,
+    lost: usize,
+    again: usize,
+    most: usize,
+    alloc: &'a B,
+) -> Result<Explored<'a, B>, ExploreFault>
+    requires { question.now.node < length bench.now.names }
+    ensures misses_nothing { IfOk result (λ e. MissesNothing bench.now question.now lost again e.outcomes.items) }
+    ensures invents_nothing { IfOk result (λ e. InventsNothing bench.now lost again e.outcomes.items) }
+    ensures distinct { IfOk result (λ e. AreDistinct question.now e.outcomes.items) }
+    ensures first { IfOk result (λ e. BeginsAsRecorded bench.now e.outcomes.items) }
+    ensures may_fill { result ≡ Err ExploreFault.MayFill → (node_limits bench.now.limits).entries < made bench.now.state.remaining }
+    ensures fills_not { IsOk result → made bench.now.state.remaining ≤ (node_limits bench.now.limits).entries }
+{
+    bench.bench_law();
+    let limits = bench.limits().of_node();
+    let steps = copied(bench.remaining(), alloc)?;
+    if made(&steps) as u64 > limits.entries {
+        return Err(ExploreFault::MayFill);
+    }
+    let count = bench.names().len() as u16;
+    let plan = plan_of(steps, count, limits, question, lost, again, alloc)?;
+    let explored = explore_plan(&plan, question, most, alloc);
+    drop(plan);
+    match explored {
+        Ok(explored) => Ok(explored),
+        Err(stop) => Err(fault_of(stop)),
+    }
+}

@@ -1,0 +1,25 @@
+//! All that the network could have made of the steps of a bench: what each node did, in its order, with messages that come at
+//! other times, get lost, or come again. Which outcomes that has, each with a run that leads there.
+#![tactic(auto)]
+
+mod asked;
+mod cone;
+mod explore_fault;
+mod exploring;
+mod first;
+mod key;
+mod names;
+mod next;
+mod outcome;
+mod plan;
+mod question;
+mod rows;
+mod steps;
+mod table;
+mod turn;
+mod walk;
+
+pub use explore_fault::ExploreFault;
+pub use exploring::{Explored, explore};
+pub use outcome::Outcome;
+pub use question::Question;

@@ -1,0 +1,96 @@
+//! `Plan`: what is fixed of all runs of the network.
+ghost use Rattle.std.specs.Prelude.{◌≡◌, ◌≤◌};
+
+use crate::cone::Cone;
+use crate::turn::{Rank, Turn};
+use bench_core::{Kept, NodeLimits};
+use std::alloc::Allocator;
+use std::marker::Model;
+
+pub(crate) type Steps<A> = Vec<Kept<A>, A>;
+
+/// What is fixed of all runs of the network.
+#[derive(Drop)]
+pub(crate) struct Plan<'a, B: Allocator> {
+    pub(crate) limits: NodeLimits,
+    pub(crate) count: u16,
+    /// The recorded steps.
+    pub(crate) steps: Steps<&'a B>,
+    /// So many deliveries may be missing.
+    pub(crate) lost: usize,
+    /// So many may come a second time.
+    pub(crate) again: usize,
+    pub(crate) turns: Vec<Turn, &'a B>,
+    pub(crate) ranks: Vec<Rank, &'a B>,
+    pub(crate) cone: Cone<'a, B>,
+}
+
+impl<'a, B: Allocator> Model for Plan<'a, B> {
+    ghost use Rattle.explore_network.specs.Plans.{plan_code, Plan};
+
+    ghost Value = { Plan };
+
+    ghost coded = { plan_code };
+
+    ghost view = { λ p. record {
+      limits = p.limits;
+      count = p.count;
+      steps = p.steps.items;
+      lost = p.lost;
+      again = p.again;
+      turns = p.turns.items;
+      ranks = p.ranks.items;
+      tables = p.cone;
+    } };
+}
+
+impl<'a, B: Allocator> Plan<'a, B> {
+    pub(crate) fn limits(&self) -> NodeLimits
+        ensures { result ≡ self.now.limits }
+    {
+        self.limits
+    }
+
+    /// How many nodes there are.
+    pub(crate) fn count(&self) -> u16
+        ensures { result ≡ self.now.count }
+    {
+        self.count
+    }
+
+    pub(crate) fn steps(&self) -> &[Kept<&'a B>]
+        ensures { result.now ≡ self.now.steps }
+    {
+        self.steps.as_slice()
+    }
+
+    pub(crate) fn lost(&self) -> usize
+        ensures { result ≡ self.now.lost }
+    {
+        self.lost
+    }
+
+    pub(crate) fn again(&self) -> usize
+        ensures { result ≡ self.now.again }
+    {
+        self.again
+    }
+
+    pub(crate) fn turns(&self) -> &[Turn]
+        ensures { result.now ≡ self.now.turns }
+    {
+        self.turns.as_slice()
+    }
+
+    pub(crate) fn ranks(&self) -> &[Rank]
+        ensures { result.now ≡ self.now.ranks }
+    {
+        self.ranks.as_slice()
+    }
+
+    pub(crate) fn cone(&self) -> &Cone<'a, B>
+        ensures { result.now ≡ self.now.tables }
+    {
+        &self.cone
+    }
+}

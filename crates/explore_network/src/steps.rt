@@ -1,0 +1,72 @@
+//! Copies of the steps that remain, and how many entries they make.
+ghost use Rattle.std.specs.Prelude.{◌≡◌, IfOk, count_by};
+ghost use Rattle.journal_core.specs.Holdings.{kepts};
+ghost use Rattle.node_core.specs.Operations.{plain};
+ghost use Rattle.network_core.specs.Room.{made, makes};
+
+use bench_core::{Journal, Kept, Step};
+use node_core::Oom;
+use std::alloc::Allocator;
+
+pub(crate) type Steps<A> = Vec<Kept<A>, A>;
+
+/// A step with the same number, of the same node.
+fn copy_of<A: Allocator + Copy>(kept: &Kept<A>) -> Result<Kept<A>, Oom>
+    ensures { IfOk result (λ copy. copy ≡ kept.now) }
+{
+    Ok(Kept {
+        number: kept.number,
+        node: kept.node,
+        step: kept.step.try_copy()?,
+    })
+}
+
+/// Copies of the steps that remain.
+pub(crate) fn copied<'a, B: Allocator>(
+    journal: &Journal<'a, B>,
+    alloc: &'a B,
+) -> Result<Steps<&'a B>, Oom>
+    ensures { IfOk result (λ copies. copies.items ≡ kepts journal.now.steps) }
+{
+    let mut copies = Vec::with_capacity(alloc, journal.len())?;
+    let mut steps = journal.steps();
+    while let Some(kept) = steps.next() {
+        copies.push(copy_of(kept)?)?;
+    }
+    Ok(copies)
+}
+
+/// Whether the step makes an entry.
+fn makes<A: Allocator>(step: &Step<A>) -> bool
+    ensures { result ≡ makes (plain step.now) }
+{
+    match step {
+        Step::Join {
+            pid: _,
+            topic: _,
+            key: _,
+            metadata: _,
+        } => true,
+        Step::Update {
+            pid: _,
+            topic: _,
+            key: _,
+            metadata: _,
+        } => true,
+        _ => false,
+    }
+}
+
+/// How many of the steps do.
+fn count_made<A: Allocator>(steps: &[Kept<A>]) -> usize
+    ensures { result ≡ count_by (λ k. makes k.step) steps.now }
+{
+    steps.iter().filter(|kept| makes(&kept.step)).count()
+}
+
+/// How many entries the steps make.
+pub(crate) fn made<A: Allocator>(steps: &[Kept<A>]) -> usize
+    ensures { result ≡ made steps.now }
+{
+    count_made(steps)
+}

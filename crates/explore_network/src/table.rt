@@ -1,0 +1,56 @@
+//! `Table`: the keys of states of which all was told.
+ghost use Rattle.std.specs.Prelude.{◌≡◌, ◌⊎◌, ◌++◌, ◌∷◌, [], IsTrue, OnOk, length};
+ghost use Rattle.explore_network.specs.Keys.{IsAmong};
+
+use crate::key::Key;
+use indexmap::IndexSet;
+use node_core::Oom;
+use std::alloc::Allocator;
+use std::hash::{BuildHasherDefault, FoldHasher};
+use std::marker::Model;
+
+/// The keys of states of which all was told.
+#[derive(Drop)]
+pub(crate) struct Table<'a, B: Allocator> {
+    known: IndexSet<Key<&'a B>, BuildHasherDefault<FoldHasher>, &'a B>,
+}
+
+impl<'a, B: Allocator> Model for Table<'a, B> {
+    ghost use Rattle.std.specs.Prelude.{ℕ, List, map};
+
+    ghost Value = { List (List ℕ) };
+
+    ghost view = { λ t. map (λ key. key.items) t.known.keys };
+}
+
+impl<'a, B: Allocator> Table<'a, B> {
+    pub(crate) fn new(alloc: &'a B) -> Self
+        ensures { result ≡ [] }
+    {
+        Table {
+            known: IndexSet::new(alloc),
+        }
+    }
+
+    /// How many keys there are.
+    pub(crate) fn len(&self) -> usize
+        ensures { result ≡ length self.now }
+    {
+        self.known.len()
+    }
+
+    /// Whether this key is among them.
+    pub(crate) fn has(&self, key: &Key<&'a B>) -> bool
+        ensures { IsTrue result → IsAmong key.now.items self.now }
+    {
+        self.known.contains(key)
+    }
+
+    /// Puts a key behind the others, unless it is among them.
+    pub(crate) fn put(&mut self, key: Key<&'a B>) -> Result<(), Oom>
+        ensures { OnOk result ((self.new ≡ self.old) ⊎ (self.new ≡ self.old ++ key.entry.items ∷ [])) }
+    {
+        self.known.insert(key).map_err(|_| Oom)?;
+        Ok(())
+    }
+}

@@ -1,0 +1,353 @@
+//! `Walk`: the walk over all runs of the network, depth first.
+ghost use Rattle.std.specs.Prelude.{◌≡◌, ◌<◌, ◌≤◌, ◌+◌, ◌^◌, ◌++◌, ◌∷◌, [], ℕ, List, IfOk, OnOk, Ok, Some, length, slice_get, true};
+ghost use Rattle.replica_core.specs.Limits.{AreNodeLimits};
+ghost use Rattle.bench_core.specs.Clusters.{Cluster as PlainCluster};
+ghost use Rattle.bench_core.specs.Runs.{runs, then_runs};
+ghost use Rattle.network_core.specs.NetworkRuns.{IsNetworkRun};
+ghost use Rattle.explore_network.specs.Plans.{IsPlan};
+ghost use Rattle.explore_network.specs.Queries.{key_of};
+ghost use Rattle.explore_network.specs.Walks.{next_in, steps_at, told_by, with_step, AllGoThrough, GoesThroughAt, AreMore, GoesThrough, IsAt, IsBehind, IsOutcome, IsReady, IsTold, Keeps, Went};
+
+use crate::explore_fault::Stop;
+use crate::first::first;
+use crate::key::{Key, key_of};
+use crate::next::{counted, is_end, is_next};
+use crate::outcome::{Outcome, is_told};
+use crate::plan::Plan;
+use crate::question::Question;
+use crate::table::Table;
+use bench_core::{Cluster, Fault, Kept, NodeLimits};
+use node_core::Oom;
+use std::alloc::Allocator;
+
+/// What does not change while the walk goes.
+#[derive(Drop)]
+pub(crate) struct Tour<'t, 'a, B: Allocator> {
+    pub(crate) plan: &'t Plan<'a, B>,
+    pub(crate) question: &'t Question<&'a B>,
+    /// So many states may be kept.
+    pub(crate) most: usize,
+    pub(crate) alloc: &'a B,
+}
+
+/// Where the walk stands, and what it has seen.
+#[derive(Drop)]
+pub(crate) struct Walk<'a, B: Allocator> {
+    /// What the steps of the path lead to.
+    pub(crate) cluster: Cluster<'a, B>,
+    /// The places of the steps so far.
+    pub(crate) path: Vec<usize, &'a B>,
+    /// The states of which all outcomes were told.
+    pub(crate) settled: Table<'a, B>,
+    pub(crate) outcomes: Vec<Outcome<'a, B>, &'a B>,
+}
+
+/// The cluster at the end of these steps, if each is accepted.
+pub(crate) fn played<'a, B: Allocator>(
+    steps: &[Kept<&'a B>],
+    path: &[usize],
+    count: u16,
+    limits: NodeLimits,
+    alloc: &'a B,
+) -> Result<Cluster<'a, B>, Oom>
+    requires few { count ≤ 32 }
+    requires limits { AreNodeLimits limits }
+    ensures { IfOk result (λ cluster. (end : PlainCluster) → runs limits count (steps_at steps.now path.now) ≡ Ok end → cluster ≡ end) }
+{
+    let mut cluster = Cluster::new(alloc, count as usize, limits)?;
+    for turn in 0..path.len() {
+        play(&mut cluster, steps, path[turn])?;
+    }
+    Ok(cluster)
+}
+
+/// Has its node take the step at a place, if it is accepted.
+pub(crate) fn play<'a, B: Allocator>(
+    cluster: &mut Cluster<'a, B>,
+    steps: &[Kept<&'a B>],
+    place: usize,
+) -> Result<(), Oom>
+    ensures { OnOk result ((end : PlainCluster) → then_runs (Ok cluster.old) (with_step (slice_get steps.now place) []) ≡ Ok end → cluster.new ≡ end) }
+{
+    let Some(kept) = steps.get(place) else {
+        return Ok(());
+    };
+    match cluster.step(kept.node, &kept.step) {
+        Ok(inverse) => {
+            drop(inverse);
+            Ok(())
+        }
+        Err(Fault::OutOfMemory) => Err(Oom),
+        Err(_) => Ok(()),
+    }
+}
+
+/// Tells where the path leads, unless an outcome shows the same.
+fn tell<'a, B: Allocator>(tour: &Tour<'_, 'a, B>, walk: &mut Walk<'a, B>) -> Result<(), Oom>
+    requires plan { IsPlan tour.now.plan.now tour.now.question.now }
+    requires keeps { Keeps tour.now.plan.now tour.now.question.now walk.old.settled walk.old.outcomes.items }
+    requires ends { IsOutcome tour.now.plan.now (record { run = walk.old.path.items; cluster = walk.old.cluster }) }
+    ensures cluster { OnOk result (walk.new.cluster ≡ walk.old.cluster) }
+    ensures path { OnOk result (walk.new.path.items ≡ walk.old.path.items) }
+    ensures went { OnOk result (Went tour.now.plan.now tour.now.question.now walk.old.outcomes.items walk.new.settled walk.new.outcomes.items) }
+    ensures told { OnOk result (told_by tour.now.question.now walk.new.outcomes.items walk.old.cluster ≡ true) }
+{
+    if is_told(&walk.outcomes, &walk.cluster, tour.question, tour.alloc)? {
+        return Ok(());
+    }
+    let outcome = outcome_of(tour, &walk.path)?;
+    walk.outcomes.push(outcome)?;
+    Ok(())
+}
+
+/// The outcome to which a path leads.
+pub(crate) fn outcome_of<'a, B: Allocator>(
+    tour: &Tour<'_, 'a, B>,
+    path: &[usize],
+) -> Result<Outcome<'a, B>, Oom>
+    requires plan { IsPlan tour.now.plan.now tour.now.question.now }
+    ensures run { IfOk result (λ outcome. outcome.run ≡ path.now) }
+    ensures leads { IfOk result (λ outcome. (end : PlainCluster) → runs tour.now.plan.now.limits tour.now.plan.now.count (steps_at tour.now.plan.now.steps path.now) ≡ Ok end → outcome.cluster ≡ end) }
+{
+    let plan = tour.plan;
+    let cluster = played(plan.steps(), path, plan.count(), plan.limits(), tour.alloc)?;
+    let run = Vec::from_slice(tour.alloc, path)?;
+    Ok(Outcome::new(run, cluster))
+}
+
+/// Tells where the path leads, if nothing need come any more.
+fn tell_end<'a, B: Allocator>(
+    tour: &Tour<'_, 'a, B>,
+    walk: &mut Walk<'a, B>,
+    counts: &[usize],
+) -> Result<(), Oom>
+    requires plan { IsPlan tour.now.plan.now tour.now.question.now }
+    requires keeps { Keeps tour.now.plan.now tour.now.question.now walk.old.settled walk.old.outcomes.items }
+    requires at { IsAt tour.now.plan.now (steps_at tour.now.plan.now.steps walk.old.path.items) counts.now walk.old.cluster }
+    ensures cluster { OnOk result (walk.new.cluster ≡ walk.old.cluster) }
+    ensures path { OnOk result (walk.new.path.items ≡ walk.old.path.items) }
+    ensures went { OnOk result (Went tour.now.plan.now tour.now.question.now walk.old.outcomes.items walk.new.settled walk.new.outcomes.items) }
+    ensures told { OnOk result (IsNetworkRun tour.now.plan.now.steps tour.now.plan.now.lost tour.now.plan.now.again (steps_at tour.now.plan.now.steps walk.old.path.items) →
+        told_by tour.now.question.now walk.new.outcomes.items walk.old.cluster ≡ true) }
+{
+    let plan = tour.plan;
+    if !is_end(plan.turns(), counts, plan.lost(), plan.again()) {
+        return Ok(());
+    }
+    tell(tour, walk)
+}
+
+/// The key of where the walk stands.
+fn key_at<'a, B: Allocator>(
+    tour: &Tour<'_, 'a, B>,
+    cluster: &Cluster<'a, B>,
+    counts: &[usize],
+) -> Result<Key<&'a B>, Oom>
+    ensures { IfOk result (λ key. key.items ≡ key_of tour.now.plan.now.tables tour.now.plan.now.count tour.now.plan.now.steps tour.now.plan.now.ranks counts.now cluster.now) }
+{
+    let plan = tour.plan;
+    key_of(
+        plan.cone(),
+        cluster,
+        plan.steps(),
+        plan.ranks(),
+        counts,
+        plan.count(),
+        tour.alloc,
+    )
+}
+
+/// One step further.
+fn extend<A: Allocator>(path: &mut Vec<usize, A>, place: usize) -> Result<(), Oom>
+    ensures { OnOk result (path.new.items ≡ path.old.items ++ place ∷ []) }
+{
+    path.push(place)?;
+    Ok(())
+}
+
+/// Goes on behind a step that was taken.
+#[cycle(visit)]
+fn onward<'a, B: Allocator>(
+    tour: &Tour<'_, 'a, B>,
+    walk: &mut Walk<'a, B>,
+    counts: &[usize],
+    kept: &Kept<&'a B>,
+    place: usize,
+    left: u128,
+) -> Result<(), Stop>
+    requires plan { IsPlan tour.now.plan.now tour.now.question.now }
+    requires keeps { Keeps tour.now.plan.now tour.now.question.now walk.old.settled walk.old.outcomes.items }
+    requires behind { IsBehind tour.now.plan.now walk.old.path.items place kept.now counts.now walk.old.cluster }
+    requires left { length (steps_at tour.now.plan.now.steps walk.old.path.items) + left ≡ length tour.now.plan.now.steps + tour.now.plan.now.again }
+    ensures cluster { OnOk result (walk.new.cluster ≡ walk.old.cluster) }
+    ensures path { OnOk result (walk.new.path.items ≡ walk.old.path.items) }
+    ensures went { OnOk result (Went tour.now.plan.now tour.now.question.now walk.old.outcomes.items walk.new.settled walk.new.outcomes.items) }
+    ensures told { OnOk result (IsTold tour.now.plan.now tour.now.question.now walk.new.outcomes.items (steps_at tour.now.plan.now.steps walk.old.path.items ++ kept.now ∷ [])) }
+{
+    extend(&mut walk.path, place)?;
+    if left > 0 {
+        let counts = counted(tour.plan.turns(), counts, kept, tour.alloc)?;
+        visit(tour, walk, &counts, left - 1)?;
+    }
+    let _ = walk.path.pop();
+    Ok(())
+}
+
+/// Goes on with the step at this place, if it is accepted, and back.
+#[cycle(visit)]
+fn through<'a, B: Allocator>(
+    tour: &Tour<'_, 'a, B>,
+    walk: &mut Walk<'a, B>,
+    counts: &[usize],
+    place: usize,
+    left: u128,
+) -> Result<bool, Stop>
+    requires ready { IsReady tour.now.plan.now tour.now.question.now walk.old.path.items walk.old.cluster walk.old.settled walk.old.outcomes.items counts.now left }
+    requires next { next_in tour.now.plan.now counts.now place ≡ true }
+    ensures cluster { OnOk result (walk.new.cluster ≡ walk.old.cluster) }
+    ensures path { OnOk result (walk.new.path.items ≡ walk.old.path.items) }
+    ensures went { OnOk result (Went tour.now.plan.now tour.now.question.now walk.old.outcomes.items walk.new.settled walk.new.outcomes.items) }
+    ensures goes { IfOk result (λ taken. GoesThrough tour.now.plan.now tour.now.question.now (steps_at tour.now.plan.now.steps walk.old.path.items) walk.old.cluster place taken walk.new.outcomes.items) }
+{
+    let Some(kept) = tour.plan.steps().get(place) else {
+        return Ok(false);
+    };
+    let inverse = match walk.cluster.step(kept.node, &kept.step) {
+        Ok(inverse) => inverse,
+        Err(Fault::OutOfMemory) => return Err(Stop::OutOfMemory),
+        Err(_) => return Ok(false),
+    };
+    onward(tour, walk, counts, kept, place, left)?;
+    match walk.cluster.give_back(kept.node, inverse) {
+        Ok(()) => Ok(true),
+        Err(_) => Err(Stop::OutOfMemory),
+    }
+}
+
+/// Goes on with the step at this place, if it may come next.
+#[cycle(visit)]
+fn go_at<'a, B: Allocator>(
+    tour: &Tour<'_, 'a, B>,
+    walk: &mut Walk<'a, B>,
+    counts: &[usize],
+    place: usize,
+    left: u128,
+) -> Result<(), Stop>
+    requires { IsReady tour.now.plan.now tour.now.question.now walk.old.path.items walk.old.cluster walk.old.settled walk.old.outcomes.items counts.now left }
+    ensures cluster { OnOk result (walk.new.cluster ≡ walk.old.cluster) }
+    ensures path { OnOk result (walk.new.path.items ≡ walk.old.path.items) }
+    ensures went { OnOk result (Went tour.now.plan.now tour.now.question.now walk.old.outcomes.items walk.new.settled walk.new.outcomes.items) }
+    ensures goes { OnOk result (GoesThroughAt tour.now.plan.now tour.now.question.now walk.old.path.items walk.old.cluster counts.now walk.new.outcomes.items place) }
+{
+    let plan = tour.plan;
+    if is_next(plan.turns(), plan.ranks(), counts, plan.again(), place) {
+        through(tour, walk, counts, place, left)?;
+    }
+    Ok(())
+}
+
+/// Goes on with each step that may come next, in the order in which they were recorded.
+#[cycle(visit)]
+fn go_on<'a, B: Allocator>(
+    tour: &Tour<'_, 'a, B>,
+    walk: &mut Walk<'a, B>,
+    counts: &[usize],
+    left: u128,
+) -> Result<(), Stop>
+    requires { IsReady tour.now.plan.now tour.now.question.now walk.old.path.items walk.old.cluster walk.old.settled walk.old.outcomes.items counts.now left }
+    ensures cluster { OnOk result (walk.new.cluster ≡ walk.old.cluster) }
+    ensures path { OnOk result (walk.new.path.items ≡ walk.old.path.items) }
+    ensures went { OnOk result (Went tour.now.plan.now tour.now.question.now walk.old.outcomes.items walk.new.settled walk.new.outcomes.items) }
+    ensures goes { OnOk result (AllGoThrough tour.now.plan.now tour.now.question.now walk.old.path.items walk.old.cluster counts.now walk.new.outcomes.items) }
+{
+    for place in 0..tour.plan.steps().len() {
+        go_at(tour, walk, counts, place, left)?;
+    }
+    Ok(())
+}
+
+/// Goes on with the first step that can come before all that needs not come first, and says whether there is such.
+#[cycle(visit)]
+fn go_first<'a, B: Allocator>(
+    tour: &Tour<'_, 'a, B>,
+    walk: &mut Walk<'a, B>,
+    counts: &[usize],
+    left: u128,
+) -> Result<bool, Stop>
+    requires { IsReady tour.now.plan.now tour.now.question.now walk.old.path.items walk.old.cluster walk.old.settled walk.old.outcomes.items counts.now left }
+    ensures cluster { OnOk result (walk.new.cluster ≡ walk.old.cluster) }
+    ensures path { OnOk result (walk.new.path.items ≡ walk.old.path.items) }
+    ensures went { OnOk result (Went tour.now.plan.now tour.now.question.now walk.old.outcomes.items walk.new.settled walk.new.outcomes.items) }
+    ensures told { IfOk result (λ taken. taken ≡ true → IsTold tour.now.plan.now tour.now.question.now walk.new.outcomes.items (steps_at tour.now.plan.now.steps walk.old.path.items)) }
+{
+    match first(tour.plan, &walk.cluster, counts) {
+        Some(place) => through(tour, walk, counts, place, left),
+        None => Ok(false),
+    }
+}
+
+/// Tells where the path leads, if it may end here, and all that goes on.
+#[cycle(visit)]
+fn tell_all<'a, B: Allocator>(
+    tour: &Tour<'_, 'a, B>,
+    walk: &mut Walk<'a, B>,
+    counts: &[usize],
+    left: u128,
+) -> Result<(), Stop>
+    requires { IsReady tour.now.plan.now tour.now.question.now walk.old.path.items walk.old.cluster walk.old.settled walk.old.outcomes.items counts.now left }
+    ensures cluster { OnOk result (walk.new.cluster ≡ walk.old.cluster) }
+    ensures path { OnOk result (walk.new.path.items ≡ walk.old.path.items) }
+    ensures went { OnOk result (Went tour.now.plan.now tour.now.question.now walk.old.outcomes.items walk.new.settled walk.new.outcomes.items) }
+    ensures told { OnOk result (IsTold tour.now.plan.now tour.now.question.now walk.new.outcomes.items (steps_at tour.now.plan.now.steps walk.old.path.items)) }
+{
+    tell_end(tour, walk, counts)?;
+    go_on(tour, walk, counts, left)
+}
+
+/// Tells all outcomes of what can come from here on, unless they were told.
+#[cycle(visit)]
+fn tell_once<'a, B: Allocator>(
+    tour: &Tour<'_, 'a, B>,
+    walk: &mut Walk<'a, B>,
+    counts: &[usize],
+    left: u128,
+) -> Result<(), Stop>
+    requires { IsReady tour.now.plan.now tour.now.question.now walk.old.path.items walk.old.cluster walk.old.settled walk.old.outcomes.items counts.now left }
+    ensures cluster { OnOk result (walk.new.cluster ≡ walk.old.cluster) }
+    ensures path { OnOk result (walk.new.path.items ≡ walk.old.path.items) }
+    ensures went { OnOk result (Went tour.now.plan.now tour.now.question.now walk.old.outcomes.items walk.new.settled walk.new.outcomes.items) }
+    ensures told { OnOk result (IsTold tour.now.plan.now tour.now.question.now walk.new.outcomes.items (steps_at tour.now.plan.now.steps walk.old.path.items)) }
+{
+    let key = key_at(tour, &walk.cluster, counts)?;
+    if walk.settled.has(&key) {
+        return Ok(());
+    }
+    tell_all(tour, walk, counts, left)?;
+    if walk.settled.len() >= tour.most {
+        return Err(Stop::TooManyStates {
+            outcomes: walk.outcomes.len(),
+        });
+    }
+    walk.settled.put(key)?;
+    Ok(())
+}
+
+/// Tells all outcomes of what can come from here on.
+#[cycle(visit)]
+pub(crate) fn visit<'a, B: Allocator>(
+    tour: &Tour<'_, 'a, B>,
+    walk: &mut Walk<'a, B>,
+    counts: &[usize],
+    left: u128,
+) -> Result<(), Stop>
+    requires { IsReady tour.now.plan.now tour.now.question.now walk.old.path.items walk.old.cluster walk.old.settled walk.old.outcomes.items counts.now left }
+    ensures cluster { OnOk result (walk.new.cluster ≡ walk.old.cluster) }
+    ensures path { OnOk result (walk.new.path.items ≡ walk.old.path.items) }
+    ensures went { OnOk result (Went tour.now.plan.now tour.now.question.now walk.old.outcomes.items walk.new.settled walk.new.outcomes.items) }
+    ensures told { OnOk result (IsTold tour.now.plan.now tour.now.question.now walk.new.outcomes.items (steps_at tour.now.plan.now.steps walk.old.path.items)) }
+{
+    if go_first(tour, walk, counts, left)? {
+        return Ok(());
+    }
+    tell_once(tour, walk, counts, left)
+}
