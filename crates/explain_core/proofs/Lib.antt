@@ -7,3 +7,4 @@ pub mod Changes
 pub mod Followed
 pub mod Tracked
 pub mod Lawful
+pub mod TracedTogether

@@ -2,24 +2,13 @@
 use Rattle.std.proofs.Common.{◌≡◌, ℕ, ◌+◌, ◌≤◌, ◌==◌, ◌&&◌, Bool, true, false, if◌then◌else◌, List, [], ◌∷◌, ◌++◌, get_or, length, take, Option, Some, refl, sym, ap, ◌∙◌}
 use Rattle.std.proofs.Common.{append_assoc, arith}
 use Rattle.std.proofs.lemmas.List.{take_more}
-use Rattle.dots_core.specs.declared.dot.Dot.{Dot}
 use Rattle.journal_core.specs.Journals.{Kept}
 use Rattle.bench_core.specs.Machine.{Machine}
-use Rattle.explain_core.specs.Tracks.{Track, after_step, followed, track_from}
+use Rattle.explain_core.specs.Tracks.{after_step}
 use Rattle.explain_core.specs.Makings.{making_of, makings_from}
 use Rattle.explain_core.specs.Findings.{Back, backwards, is_link, is_status_of, last_status, one_back}
 use Rattle.explain_core.specs.declared.hop.Hop.{Hop}
 use Rattle.explain_core.specs.declared.making.Making.{Making}
-
--- one more step followed
-pub track_more : (d : Dot) (asked next : Machine) (k : Kept) (left rest : List Kept) (t new whole : Track) → left ≡ k ∷ rest →
-    track_from d asked left t ≡ whole → next ≡ after_step asked k → new ≡ followed d next k t → track_from d next rest new ≡ whole
-unfolding track_from
-track_more d asked next k left rest t new whole first so_far at is =
-    ap (λ (x : Track). track_from d next rest x) is
-    ∙ ap (λ (m : Machine). track_from d m rest (followed d m k t)) at
-    ∙ ap (λ (l : List Kept). track_from d asked l t) (sym first)
-    ∙ so_far
 
 -- one more step that may have made something
 pub makings_more : (topic key : List ℕ) (asked next : Machine) (k : Kept) (left rest : List Kept) (now new whole : List Making) → left ≡ k ∷ rest →

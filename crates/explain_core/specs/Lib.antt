@@ -1,5 +1,6 @@
 pub mod Standings
 pub mod Tracks
+pub mod Tracings
 pub mod Makings
 pub mod Findings
 pub mod Explanations

@@ -5,13 +5,16 @@ ghost use Rattle.explain_core.specs.Explanations.{explanation, finding_text, hea
 use crate::finding::{Finding, Verdict, finding_of, has_left, last_status, missing};
 use crate::making::{Making, makings_of};
 use crate::standing::{Standing, standing_at};
+use crate::tracing::traced_of;
 use crate::track::{Track, stand_at};
-use crate::tracking::track_of;
 use bench_core::{Bench, Kept, Names};
 use dots_core::Dot;
 use payload_core::{Oom, Word};
 use report_core::{name_at, put_act};
 use std::alloc::Allocator;
+
+/// How many presences are followed in one walk over the steps.
+const FOLLOWED_TOGETHER: usize = 512;
 
 impl Verdict {
     /// As it is printed.
@@ -198,22 +201,25 @@ fn put_tracked<'a, A: Allocator, B: Allocator>(
     put_removal(bench, text, node, making.dot, track, alloc)
 }
 
-/// What is told of a presence.
-#[tactic(auto, unfolding(crate::specs::Explanations::making_text))]
-fn put_making<'a, A: Allocator, B: Allocator>(
+/// What is told of each of these presences, whose tracks are followed together.
+#[tactic(auto, unfolding(crate::specs::Explanations::making_text, crate::specs::Explanations::making_texts))]
+fn put_some<'a, A: Allocator, B: Allocator>(
     bench: &Bench<'a, B>,
     text: &mut String<A>,
     node: u16,
-    making: Making,
+    makings: &[Making],
     alloc: &'a B,
 ) -> Result<(), Oom>
-    ensures { OnOk result (string_bytes text.new ≡ string_bytes text.old ++ making_text bench.now node making) }
+    ensures { OnOk result (string_bytes text.new ≡ string_bytes text.old ++ making_texts bench.now node makings.now) }
 {
-    let track = track_of(bench, making.dot, alloc)?;
-    put_tracked(bench, text, node, making, &track, alloc)
+    let traced = traced_of(bench, makings, alloc)?;
+    for next in &traced {
+        put_tracked(bench, text, node, next.making, &next.track, alloc)?;
+    }
+    Ok(())
 }
 
-/// What is told of each presence.
+/// What is told of each presence. So many are followed at a time that their tracks take little memory.
 #[tactic(auto, unfolding(crate::specs::Explanations::making_texts))]
 fn put_makings<'a, A: Allocator, B: Allocator>(
     bench: &Bench<'a, B>,
@@ -224,8 +230,11 @@ fn put_makings<'a, A: Allocator, B: Allocator>(
 ) -> Result<(), Oom>
     ensures { OnOk result (string_bytes text.new ≡ string_bytes text.old ++ making_texts bench.now node makings.now) }
 {
-    for making in makings {
-        put_making(bench, text, node, *making, alloc)?;
+    let mut left = makings;
+    while !left.is_empty() {
+        let (first, rest) = left.split_at(left.len().min(FOLLOWED_TOGETHER));
+        put_some(bench, text, node, first, alloc)?;
+        left = rest;
     }
     Ok(())
 }

@@ -1,10 +1,10 @@
 //! How a dot stands: at a node, and in a message.
-ghost use Rattle.std.specs.Prelude.{◌≡◌};
-ghost use Rattle.explain_core.specs.Standings.{is_above, is_same, last_message, standing_at, standing_in, standing_sent};
+ghost use Rattle.std.specs.Prelude.{◌≡◌, Some};
+ghost use Rattle.explain_core.specs.Standings.{is_above, is_same, last_message, standing_at, standing_in, standing_sent, standing_told};
 
 use bench_core::Bench;
 use dots_core::{Dot, DotSet};
-use payload_core::EntrySet;
+use payload_core::{EntrySet, Payload};
 use std::alloc::Allocator;
 
 /// How a dot stands.
@@ -70,6 +70,17 @@ pub fn standing_at<'a, B: Allocator>(bench: &Bench<'a, B>, node: u16, dot: Dot) 
     standing_in(replica.seen(), replica.entries(), dot)
 }
 
+/// In a message. That the dot wasn't seen is the cheaper to know.
+fn standing_told<A: Allocator>(message: &Payload<A>, dot: Dot) -> Standing
+    ensures { result ≡ standing_told (Some message.now) dot }
+{
+    let entries = message.entries();
+    if !message.seen().contains(dot) {
+        return Standing::Unseen;
+    }
+    standing_in(message.seen(), entries, dot)
+}
+
 /// In a message of a node.
 #[tactic(auto, unfolding(crate::specs::Standings::standing_sent, report_core::specs::Shown::node_of))]
 pub fn standing_sent<'a, B: Allocator>(
@@ -86,7 +97,7 @@ pub fn standing_sent<'a, B: Allocator>(
     let Some(message) = node.outbox().get(number) else {
         return Standing::Unseen;
     };
-    standing_in(message.seen(), message.entries(), dot)
+    standing_told(message, dot)
 }
 
 /// The number of the last message of a node, 0 where it has none.

@@ -1,6 +1,7 @@
 //! `Track`: how a dot came to stand as it does at each node.
 ghost use Rattle.std.specs.Prelude.{◌≡◌, IfOk, OnOk};
 ghost use Rattle.explain_core.specs.Tracks.{delivered_hop, followed, hop_at, no_track, other_hop, sender_among, sent_hop, stand_at, with_hop, with_stand};
+ghost use Rattle.explain_core.specs.Standings.{standing_at};
 
 use crate::hop::{Hop, Kind, Stand};
 use crate::standing::{Standing, last_message, standing_at, standing_sent};
@@ -100,6 +101,25 @@ fn delivered_hop<A: Allocator>(
     }
 }
 
+/// What the delivery of this message did. Who sent it is looked for only where something came of it.
+fn received_hop<A: Allocator>(
+    kept: &Kept<A>,
+    hops: &[Hop],
+    before: Stand,
+    told: Standing,
+    now: Standing,
+    sender: u16,
+    message: u64,
+) -> Option<Hop>
+    ensures { result ≡ delivered_hop kept.now before told now (sender_among hops.now sender message) }
+{
+    if before.standing.is_same(now) && !told.is_above(now) {
+        return None;
+    }
+    let reads = sender_among(hops, sender, message);
+    delivered_hop(kept, before, told, now, reads)
+}
+
 /// What a step did that neither sends nor delivers.
 fn other_hop<A: Allocator>(kept: &Kept<A>, before: Stand, now: Standing) -> Option<Hop>
     ensures { result ≡ other_hop kept.now before now }
@@ -119,7 +139,9 @@ fn hop_at<'a, B: Allocator>(
     kept: &Kept<&'a B>,
     hops: &[Hop],
     before: Stand,
+    now: Standing,
 ) -> Option<Hop>
+    requires { now ≡ standing_at asked.now kept.now.node dot }
     ensures { result ≡ hop_at dot asked.now kept.now hops.now before }
 {
     if kept.step.sends() {
@@ -127,13 +149,11 @@ fn hop_at<'a, B: Allocator>(
         let told = standing_sent(asked, kept.node, message, dot);
         return sent_hop(kept, before, message, told);
     }
-    let now = standing_at(asked, kept.node, dot);
     match kept.step.delivers() {
         None => other_hop(kept, before, now),
         Some((sender, message)) => {
             let told = standing_sent(asked, sender, message, dot);
-            let reads = sender_among(hops, sender, message);
-            delivered_hop(kept, before, told, now, reads)
+            received_hop(kept, hops, before, told, now, sender, message)
         }
     }
 }
@@ -188,9 +208,10 @@ impl<'a, B: Allocator> Track<&'a B> {
         ensures { OnOk result (self.new ≡ followed dot asked.now kept.now self.old) }
     {
         let before = stand_at(&self.stands, kept.node);
-        let hop = hop_at(dot, asked, kept, &self.hops, before);
+        let now = standing_at(asked, kept.node, dot);
+        let hop = hop_at(dot, asked, kept, &self.hops, before, now);
         put_hop(&mut self.hops, hop)?;
-        put_stand(&mut self.stands, kept, standing_at(asked, kept.node, dot));
+        put_stand(&mut self.stands, kept, now);
         Ok(())
     }
 }

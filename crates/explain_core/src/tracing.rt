@@ -1,0 +1,101 @@
+//! Presences with the tracks of their dots, which are followed over the remaining steps together.
+ghost use Rattle.std.specs.Prelude.{◌≡◌, IfOk, OnOk, map};
+ghost use Rattle.journal_core.specs.Holdings.{kepts};
+ghost use Rattle.explain_core.specs.Tracings.{traced_from, traced_of, traced_on, untraced};
+
+use crate::making::Making;
+use crate::track::Track;
+use crate::tracking::{ask, opened};
+use bench_core::{Bench, Journal, Kept};
+use payload_core::Oom;
+use std::alloc::Allocator;
+use std::marker::Model;
+
+/// A presence that a step made, and the track of its dot, as far as the steps were followed.
+#[derive(Drop)]
+pub struct Traced<A: Allocator> {
+    pub making: Making,
+    pub track: Track<A>,
+}
+
+impl<A: Allocator> Model for Traced<A> {
+    ghost use Rattle.explain_core.specs.Tracings.{Traced};
+
+    ghost Value = { Traced };
+
+    ghost view = { λ t. record { making = t.making; track = t.track } };
+}
+
+impl<'a, B: Allocator> Traced<&'a B> {
+    /// Follows the dot over a step, on the bench after it.
+    fn follow(&mut self, asked: &Bench<'a, B>, kept: &Kept<&'a B>) -> Result<(), Oom>
+        ensures { OnOk result (self.new ≡ traced_on asked.now kept.now self.old) }
+    {
+        self.track.follow(self.making.dot, asked, kept)
+    }
+}
+
+/// Each presence with the track of a dot that no step has seen.
+fn untraced<'a, B: Allocator>(
+    makings: &[Making],
+    nodes: usize,
+    alloc: &'a B,
+) -> Result<Vec<Traced<&'a B>, &'a B>, Oom>
+    ensures { IfOk result (λ traced. traced.items ≡ map (untraced nodes) makings.now) }
+{
+    let mut traced = Vec::with_capacity(alloc, makings.len())?;
+    for making in makings {
+        let track = Track::new(alloc, nodes)?;
+        traced.push(Traced {
+            making: *making,
+            track,
+        })?;
+    }
+    Ok(traced)
+}
+
+/// Follows each dot over a step, on the bench after it.
+fn follow_step<'a, B: Allocator>(
+    asked: &Bench<'a, B>,
+    traced: &mut [Traced<&'a B>],
+    kept: &Kept<&'a B>,
+) -> Result<(), Oom>
+    ensures { OnOk result (traced.new ≡ map (traced_on asked.now kept.now) traced.old) }
+{
+    for next in traced.iter_mut() {
+        next.follow(asked, kept)?;
+    }
+    Ok(())
+}
+
+/// Follows each dot over the steps, which are asked of the bench once for all.
+fn follow_steps<'a, B: Allocator>(
+    asked: &mut Bench<'a, B>,
+    traced: &mut [Traced<&'a B>],
+    journal: &Journal<'a, B>,
+) -> Result<(), Oom>
+    ensures { OnOk result (traced.new ≡ map (traced_from asked.old (kepts journal.now.steps)) traced.old) }
+{
+    let mut steps = journal.steps();
+    while let Some(kept) = steps.next() {
+        ask(asked, kept)?;
+        follow_step(asked, traced, kept)?;
+    }
+    Ok(())
+}
+
+/// Each of these presences with the track of its dot.
+pub fn traced_of<'a, B: Allocator>(
+    bench: &Bench<'a, B>,
+    makings: &[Making],
+    alloc: &'a B,
+) -> Result<Vec<Traced<&'a B>, &'a B>, Oom>
+    ensures { IfOk result (λ traced. traced.items ≡ map (traced_of bench.now) makings.now) }
+{
+    let mut traced = untraced(makings, bench.names().len(), alloc)?;
+    let mut asked = opened(bench, alloc)?;
+    let answer = follow_steps(&mut asked, &mut traced, bench.remaining());
+    drop(asked);
+    answer?;
+    Ok(traced)
+}
