@@ -66,7 +66,7 @@ all_listed texts all e = go ((length texts == 0) || nat_lt 32 (length texts)) e
     go true e = absurd (cc)
     go false e = listed [] texts all e
 
-few_names : (names all : Texts) → names_of names ≡ Ok all → length names ≤ 32
+pub few_names : (names all : Texts) → names_of names ≡ Ok all → length names ≤ 32
 few_names names all e = go ((length names == 0) || nat_lt 32 (length names)) refl e
   where
     go : (b : Bool) → ((length names == 0) || nat_lt 32 (length names)) ≡ b → (if b then Err WrongCount else with_names [] names) ≡ Ok all →
@@ -75,11 +75,11 @@ few_names names all e = go ((length names == 0) || nat_lt 32 (length names)) ref
     go false is e = grind (arith, nat_tests)
 
 -- a record of what is known of the nodes of a script
-record Nodes (names : Texts) : Type 0 where
-  valid : names_of names ≡ Ok names
-  kept : map unreserved names ≡ names
+pub record Nodes (names : Texts) : Type 0 where
+  pub valid : names_of names ≡ Ok names
+  pub kept : map unreserved names ≡ names
 
-nodes_known : (names : Texts) → AreNodes names → Nodes names
+pub nodes_known : (names : Texts) → AreNodes names → Nodes names
 unfolding node_names
 nodes_known names are = go (names_of (map unreserved names)) refl are
   where
@@ -90,7 +90,7 @@ nodes_known names are = go (names_of (map unreserved names)) refl are
         record { valid = ap names_of (sym kept) ∙ is ∙ ap (λ (ts : Texts). Ok ts) same; kept = kept }
     go (Err fault) is e = absurd (cc)
 
-no_keyword : (names : Texts) (n : ℕ) → Nodes names → n < length names → keyword_of (get_or names n []) ≡ None
+pub no_keyword : (names : Texts) (n : ℕ) → Nodes names → n < length names → keyword_of (get_or names n []) ≡ None
 unfolding unreserved
 no_keyword names n nodes within =
     go (keyword_of (get_or names n [])) refl
@@ -105,7 +105,7 @@ no_keyword names n nodes within =
         let empty : [] ≡ get_or names n [] = sym (ap (λ (o : Option Keyword). if is_some o then [] else get_or names n []) is) ∙ same in
         absurd (true≢false (sym name ∙ ap is_name (sym empty)))
 
-no_consoles : (w : List ℕ) → keyword_of w ≡ None → bytes_eq w (codes "consoles") ≡ false
+pub no_consoles : (w : List ℕ) → keyword_of w ≡ None → bytes_eq w (codes "consoles") ≡ false
 unfolding keyword_of
 no_consoles w none = go (bytes_eq w (codes "nodes")) (bytes_eq w (codes "consoles")) _ none
   where
@@ -117,7 +117,7 @@ no_consoles w none = go (bytes_eq w (codes "nodes")) (bytes_eq w (codes "console
 
 -- the arguments
 
-number_read : (n : ℕ) → IsNumber n → number_at (decimal n) ≡ Ok n
+pub number_read : (n : ℕ) → IsNumber n → number_at (decimal n) ≡ Ok n
 unfolding number_at
 number_read n fits = ap (or_fault kinds.BadNumber) (number_holds n fits)
 
@@ -125,7 +125,7 @@ word_read : (w : List ℕ) → IsWord w → word_at w ≡ Ok w
 unfolding word_at
 word_read w h = let short = (word_fits w h).short in let few : nat_lt 200 (length w) ≡ false = grind (arith, nat_tests) in rw few refl
 
-node_read : (names : Texts) (n : ℕ) → names_of names ≡ Ok names → n < length names → node_at names (name_at names n) ≡ Ok n
+pub node_read : (names : Texts) (n : ℕ) → names_of names ≡ Ok names → n < length names → node_at names (name_at names n) ≡ Ok n
 unfolding node_at
 node_read names n valid within = ap (or_fault kinds.BadName) (name_holds names n valid within)
 
@@ -305,29 +305,29 @@ step_read cast node (Permdown name) valid within h =
 
 -- the words of the line, seen one by one
 
-record FitsLine (ws : Texts) : Type 0 where
-  seen : list_all is_visible ws ≡ true
-  short : length (spaced ws) ≤ 4096
+pub record FitsLine (ws : Texts) : Type 0 where
+  pub seen : list_all is_visible ws ≡ true
+  pub short : length (spaced ws) ≤ 4096
 
-wide_line : (ws : Texts) → AllByRecursion (Fits 200) ws → length ws ≤ 6 → FitsLine ws
+pub wide_line : (ws : Texts) → AllByRecursion (Fits 200) ws → length ws ≤ 6 → FitsLine ws
 wide_line ws all few = record {
   seen = all_seen 200 ws all;
   short = let most = length_spaced ws in let sum = total_wide ws (all_short 200 ws all) in omega (arith, most, sum, few);
 }
 
-narrow_line : (ws : Texts) → AllByRecursion (Fits 16) ws → length ws ≤ 34 → FitsLine ws
+pub narrow_line : (ws : Texts) → AllByRecursion (Fits 16) ws → length ws ≤ 34 → FitsLine ws
 narrow_line ws all few = record {
   seen = all_seen 16 ws all;
   short = let most = length_spaced ws in let sum = total_narrow ws (all_short 16 ws all) in omega (arith, most, sum, few);
 }
 
-wider : (w : List ℕ) → Fits 16 w → Fits 200 w
+pub wider : (w : List ℕ) → Fits 16 w → Fits 200 w
 wider w h = record { seen = h.seen; short = let few = h.short in omega (arith, few) }
 
 node_fits : (names : Texts) (n : ℕ) → names_of names ≡ Ok names → n < length names → Fits 16 (name_at names n)
 node_fits names n valid within = name_fits (name_at names n) (ap is_name (unwrap_or-slice_get names n []) ∙ name_is names n valid within)
 
-verb_fits : (verb : List ℕ) → is_visible verb ≡ true → length verb ≤ 16 → Fits 200 verb
+pub verb_fits : (verb : List ℕ) → is_visible verb ≡ true → length verb ≤ 16 → Fits 200 verb
 verb_fits verb seen few = record { seen = seen; short = omega (arith, few) }
 
 line_fits : (names : Texts) (node : ℕ) (operation : Operation) → names_of names ≡ Ok names → node < length names →
@@ -393,13 +393,13 @@ line_fits names node operation valid within = by operation
 
 -- and so the line
 
-line_read : (reading : Reading) (number : ℕ) (line : List ℕ) (words : Texts) → length line ≤ 4096 → is_text line ≡ true →
+pub line_read : (reading : Reading) (number : ℕ) (line : List ℕ) (words : Texts) → length line ≤ 4096 → is_text line ≡ true →
     words_of line ≡ words → with_line reading number line ≡ with_words reading number words
 unfolding with_line
 line_read reading number line words few text said =
     let low : nat_lt 4096 (length line) ≡ false = grind (arith, nat_tests) in rw (low, text, said) refl
 
-words_read : (cast : Cast) (lines : List Line) (number : ℕ) (first : List ℕ) (rest : Texts) (command : Command) →
+pub words_read : (cast : Cast) (lines : List Line) (number : ℕ) (first : List ℕ) (rest : Texts) (command : Command) →
     (slice_index first 0 == 35) ≡ false → bytes_eq first (codes "consoles") ≡ false → keyword_of first ≡ None →
     command_by None cast first rest ≡ Ok command
     → with_words (record { cast = Some cast; lines = lines }) number (first ∷ rest) ≡

@@ -14,4 +14,4 @@ mod run;
 
 pub use history::report_history;
 pub use prompt::Prompt;
-pub use run::{Played, run_script};
+pub use run::{Played, command, run_script};

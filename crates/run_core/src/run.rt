@@ -11,7 +11,7 @@ use std::alloc::Allocator;
 
 /// What a command does, and prints.
 #[tactic(auto, unfolding(crate::specs::Report::command_text, crate::specs::Report::after_command))]
-fn command<'a, B: Allocator>(
+pub fn command<'a, B: Allocator>(
     text: &mut String<&'a B>,
     bench: &mut Bench<'a, B>,
     command: &Command<&'a B>,
