@@ -1,0 +1,32 @@
+-- Which calls are read back.
+use Rattle.std.specs.Prelude.{◌≡◌, ℕ, ◌+◌, ◌<◌, ◌≤◌, List, [], length, Ok}
+use Rattle.std.specs.List.{AllByRecursion}
+use Rattle.bench_core.specs.Acts.{Action, Do, Undo, Back}
+use Rattle.bench_core.specs.Machine.{Machine}
+use Rattle.bench_core.specs.NameList.{Texts}
+use Rattle.grammar_core.specs.Casts.{Cast}
+use Rattle.grammar_core.specs.Grammar.{with_each}
+use Rattle.run_core.specs.ReadSteps.{AreNodes, IsNumber, IsWritten}
+use Rattle.transcript_core.specs.Scripts.{IsReadBack, cast_of, script_text}
+
+-- these are the names of a `consoles` line, or none
+pub record AreConsoles (nodes consoles : Texts) : Type 0 where
+  pub taken : with_each nodes [] consoles ≡ Ok consoles
+  pub few : length consoles ≤ 16
+
+-- a line of a script can ask it
+abbrev pub CanBeAsked : Cast → ℕ → Action → Type 0
+CanBeAsked cast actor (Do operation) = (actor < length cast.nodes) × IsWritten cast.nodes operation
+CanBeAsked cast actor (Undo number) = (actor < length cast.nodes + length cast.consoles) × IsNumber number
+CanBeAsked cast actor (Back node) = (actor < length cast.nodes + length cast.consoles) × (node < length cast.nodes)
+
+-- nodes and consoles have names of a script, a line of it can ask each call, and all of it isn't too long
+pub record CanBeTold (m : Machine) (consoles : Texts) : Type 0 where
+  pub nodes : AreNodes m.names
+  pub named : AreConsoles m.names consoles
+  pub calls : AllByRecursion (λ e. CanBeAsked (cast_of m consoles) e.actor e.act) m.state.history
+  pub short : length (script_text (cast_of m consoles) m.state.history) ≤ 1048576
+
+-- the script of such calls is read back
+abbrev pub ScriptLaw : Type 0
+ScriptLaw = (m : Machine) (consoles : Texts) → CanBeTold m consoles → IsReadBack m (script_text (cast_of m consoles) m.state.history)

@@ -1,0 +1,5 @@
+pub mod Actors
+pub mod Scripts
+pub mod Steps
+pub mod Refusals
+pub mod Laws

@@ -1,0 +1,112 @@
+//! Who acts, by name: the nodes, and the consoles, of which a session has no names.
+ghost use Rattle.std.specs.Prelude.{◌≡◌, IfOk, OnOk, map};
+ghost use Rattle.report_core.specs.Rows.{name_at};
+ghost use Rattle.transcript_core.specs.Actors.{actor_name, console_count, console_words, free_consoles, named_consoles, with_actor, with_free};
+
+use bench_core::{Bench, History, Names, TextSet};
+use grammar_core::words_of;
+use payload_core::Oom;
+use report_core::name_at;
+use std::alloc::Allocator;
+
+/// Names for consoles that have none, more than nodes and consoles together may take of them.
+pub const CONSOLES: &str =
+    "c1 c2 c3 c4 c5 c6 c7 c8 c9 c10 c11 c12 c13 c14 c15 c16 c17 c18 c19 c20 c21 c22 c23 c24 c25 c26 c27 c28 c29 c30 c31 c32 c33 c34 c35 c36 c37 c38 c39 c40 c41 c42 c43 c44 c45 c46 c47 c48";
+
+/// The name of a console, and nothing where there is no such console.
+pub(crate) fn console_at<A: Allocator>(consoles: &TextSet<A>, number: usize) -> &str
+    ensures { result.now ≡ name_at consoles.now number }
+{
+    match consoles.text(number) {
+        Some(name) => name,
+        None => "",
+    }
+}
+
+/// The name of a node or a console.
+#[tactic(auto, unfolding(crate::specs::Actors::actor_name))]
+pub(crate) fn actor_name<'t, N: Allocator, C: Allocator>(
+    nodes: &'t Names<N>,
+    consoles: &'t TextSet<C>,
+    actor: u16,
+) -> &'t str
+    ensures { result.now ≡ actor_name (record { nodes = nodes.now; consoles = consoles.now }) actor }
+{
+    if (actor as usize) < nodes.len() {
+        return name_at(nodes, actor);
+    }
+    console_at(consoles, actor as usize - nodes.len())
+}
+
+/// How many consoles there are at least, where this many were needed so far and this actor asked something.
+fn with_actor(nodes: usize, count: usize, actor: u16) -> usize
+    ensures { result ≡ with_actor nodes count actor }
+{
+    let needed = (actor as usize + 1).saturating_sub(nodes);
+    if count < needed { needed } else { count }
+}
+
+/// How many consoles asked something, or stand before one that did.
+fn console_count<'a, B: Allocator>(nodes: usize, history: &History<'a, B>) -> usize
+    ensures { result ≡ console_count nodes history.now }
+{
+    let mut count = 0;
+    for place in 0..history.len() {
+        if let Some(event) = history.at(place) {
+            count = with_actor(nodes, count, event.actor);
+        }
+    }
+    count
+}
+
+/// Gives a console this name, where one has none yet and nobody has it.
+fn put_free<A: Allocator + Copy, N: Allocator>(
+    nodes: &Names<N>,
+    count: usize,
+    consoles: &mut TextSet<A>,
+    name: &str,
+) -> Result<(), Oom>
+    ensures { OnOk result (consoles.new ≡ with_free nodes.now count consoles.old name.now) }
+{
+    if consoles.len() < count && nodes.number_of(name).is_none() {
+        let _is_new = consoles.insert(name)?;
+    }
+    Ok(())
+}
+
+/// Names that consoles can have.
+#[tactic(auto, unfolding(crate::specs::Actors::console_words))]
+fn console_words<A: Allocator>(alloc: A) -> Result<Vec<&'static str, A>, Oom>
+    ensures { IfOk result (λ words. map (λ word. word.now) words.items ≡ console_words) }
+{
+    words_of(alloc, CONSOLES)
+}
+
+/// Names for so many consoles: the first of these words that no node has.
+#[tactic(auto, unfolding(crate::specs::Actors::named_consoles))]
+fn named_consoles<A: Allocator + Copy, N: Allocator>(
+    nodes: &Names<N>,
+    count: usize,
+    alloc: A,
+) -> Result<TextSet<A>, Oom>
+    ensures { IfOk result (λ consoles. consoles ≡ named_consoles nodes.now count) }
+{
+    let words = console_words(alloc)?;
+    let mut consoles = TextSet::new(alloc);
+    for word in &words {
+        put_free(nodes, count, &mut consoles, word)?;
+    }
+    Ok(consoles)
+}
+
+/// Names for the consoles of a bench, which has none for them: `c1`, `c2` .., each that no node has.
+#[tactic(auto, unfolding(crate::specs::Actors::free_consoles))]
+pub fn free_consoles<'a, B: Allocator>(
+    alloc: &'a B,
+    bench: &Bench<'a, B>,
+) -> Result<TextSet<&'a B>, Oom>
+    ensures { IfOk result (λ consoles. consoles ≡ free_consoles bench.now) }
+{
+    let nodes = bench.names();
+    named_consoles(nodes, console_count(nodes.len(), bench.history()), alloc)
+}

@@ -1,0 +1,7 @@
+//! A law, as the contract of a function that does nothing.
+ghost use Rattle.transcript_core.specs.Laws.{ScriptLaw};
+
+/// The script of a bench's calls is read as these calls, where nodes and consoles have names of a script and a line can ask each.
+pub fn script_law()
+    ensures { ScriptLaw }
+{}

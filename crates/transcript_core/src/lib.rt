@@ -1,0 +1,22 @@
+//! A run that can be read: its calls as a script that plays them, and its report with each line's call above what it printed.
+//!
+//! It stands on `grammar_core` (scripts as they are read) and `report_core` (what is printed of a bench); its clauses name
+//! `run_core`'s reports. In the order to read them: `actors`, who acts, by name; `lines`, a call as a line; `script`, all calls as
+//! a script, which `read_back` reads again before it goes out; `fault`, why there is none. `steps` prints a report call by call;
+//! `refusals` tells which call was refused first; `laws` says which calls are read back.
+#![tactic(auto)]
+
+mod actors;
+mod fault;
+pub mod laws;
+mod lines;
+mod read_back;
+mod refusals;
+mod script;
+mod steps;
+
+pub use actors::free_consoles;
+pub use fault::TranscriptFault;
+pub use refusals::{Refusal, first_in, first_refused};
+pub use script::script_of_calls;
+pub use steps::{bench_steps, script_steps};

@@ -1,0 +1,36 @@
+//! A call as a line of a script.
+ghost use Rattle.std.specs.Prelude.{◌≡◌, ◌++◌, OnOk, string_bytes};
+ghost use Rattle.bench_core.specs.Acts.{plain_act};
+ghost use Rattle.transcript_core.specs.Scripts.{call_line};
+
+use crate::actors::actor_name;
+use bench_core::{Act, Names, TextSet};
+use payload_core::Oom;
+use report_core::{name_at, put_act};
+use std::alloc::Allocator;
+
+/// `NODE VERB ..`, `ACTOR undo NUMBER` or `ACTOR back NAME`.
+#[tactic(auto, unfolding(crate::specs::Scripts::call_line))]
+pub(crate) fn put_call<A: Allocator, N: Allocator, C: Allocator, W: Allocator>(
+    text: &mut String<A>,
+    nodes: &Names<N>,
+    consoles: &TextSet<C>,
+    actor: u16,
+    act: &Act<W>,
+) -> Result<(), Oom>
+    ensures { OnOk result (string_bytes text.new ≡ string_bytes text.old ++
+        call_line (record { nodes = nodes.now; consoles = consoles.now }) actor (plain_act act.now)) }
+{
+    match act {
+        Act::Do(step) => put_act(text, nodes, actor, step),
+        Act::Undo(number) => {
+            let actor = actor_name(nodes, consoles, actor);
+            Ok(write!(text, "{actor} undo {number}")?)
+        }
+        Act::Back(node) => {
+            let actor = actor_name(nodes, consoles, actor);
+            let node = name_at(nodes, *node);
+            Ok(write!(text, "{actor} back {node}")?)
+        }
+    }
+}

@@ -1,0 +1,132 @@
+//! The calls of a bench as a script.
+ghost use Rattle.std.specs.Prelude.{◌≡◌, ◌++◌, IfErr, IfOk, OnOk, string_bytes};
+ghost use Rattle.transcript_core.specs.Scripts.{IsScriptOf, Refuses, cast_of, cast_text, consoles_text, event_line, event_lines, script_text, spaced_names};
+
+use crate::actors::console_at;
+use crate::fault::TranscriptFault;
+use crate::lines::put_call;
+use crate::read_back::read_back;
+use bench_core::laws::replay_law;
+use bench_core::{Bench, Event, History, Names, TextSet};
+use payload_core::Oom;
+use report_core::name_at;
+use std::alloc::Allocator;
+
+/// Each node's name after a space.
+fn put_nodes<A: Allocator, N: Allocator>(text: &mut String<A>, nodes: &Names<N>) -> Result<(), Oom>
+    ensures { OnOk result (string_bytes text.new ≡ string_bytes text.old ++ spaced_names nodes.now) }
+{
+    for number in 0..nodes.len() as u16 {
+        let name = name_at(nodes, number);
+        write!(text, " {name}")?;
+    }
+    Ok(())
+}
+
+/// Each console's name after a space.
+fn put_each_console<A: Allocator, C: Allocator>(
+    text: &mut String<A>,
+    consoles: &TextSet<C>,
+) -> Result<(), Oom>
+    ensures { OnOk result (string_bytes text.new ≡ string_bytes text.old ++ spaced_names consoles.now) }
+{
+    for number in 0..consoles.len() {
+        let name = console_at(consoles, number);
+        write!(text, " {name}")?;
+    }
+    Ok(())
+}
+
+/// `consoles NAME ..`, if there are any.
+#[tactic(auto, unfolding(crate::specs::Scripts::consoles_text))]
+fn put_consoles<A: Allocator, C: Allocator>(
+    text: &mut String<A>,
+    consoles: &TextSet<C>,
+) -> Result<(), Oom>
+    ensures { OnOk result (string_bytes text.new ≡ string_bytes text.old ++ consoles_text consoles.now) }
+{
+    if consoles.len() == 0 {
+        return Ok(());
+    }
+    text.push_str("consoles")?;
+    put_each_console(text, consoles)?;
+    Ok(text.push_str("\n")?)
+}
+
+/// `nodes NAME ..` and `consoles NAME ..`.
+#[tactic(auto, unfolding(crate::specs::Scripts::cast_text))]
+fn put_cast<A: Allocator, N: Allocator, C: Allocator>(
+    text: &mut String<A>,
+    nodes: &Names<N>,
+    consoles: &TextSet<C>,
+) -> Result<(), Oom>
+    ensures { OnOk result (string_bytes text.new ≡ string_bytes text.old ++ cast_text (record { nodes = nodes.now; consoles = consoles.now })) }
+{
+    text.push_str("nodes")?;
+    put_nodes(text, nodes)?;
+    text.push_str("\n")?;
+    put_consoles(text, consoles)
+}
+
+/// The line of a recorded call.
+fn put_event<A: Allocator, N: Allocator, C: Allocator, W: Allocator>(
+    text: &mut String<A>,
+    nodes: &Names<N>,
+    consoles: &TextSet<C>,
+    event: &Event<W>,
+) -> Result<(), Oom>
+    ensures { OnOk result (string_bytes text.new ≡ string_bytes text.old ++ event_line (record { nodes = nodes.now; consoles = consoles.now }) event.now) }
+{
+    put_call(text, nodes, consoles, event.actor, &event.act)?;
+    Ok(text.push_str("\n")?)
+}
+
+/// A line for each recorded call.
+#[tactic(auto, unfolding(crate::specs::Scripts::event_lines))]
+fn put_events<'a, A: Allocator, B: Allocator, N: Allocator, C: Allocator>(
+    history: &History<'a, B>,
+    text: &mut String<A>,
+    nodes: &Names<N>,
+    consoles: &TextSet<C>,
+) -> Result<(), Oom>
+    ensures { OnOk result (string_bytes text.new ≡ string_bytes text.old ++ event_lines (record { nodes = nodes.now; consoles = consoles.now }) history.now) }
+{
+    for place in 0..history.len() {
+        if let Some(event) = history.at(place) {
+            put_event(text, nodes, consoles, event)?;
+        }
+    }
+    Ok(())
+}
+
+/// The script of the calls, before it is read back.
+#[tactic(auto, unfolding(crate::specs::Scripts::script_text))]
+fn calls_text<'a, A: Allocator, B: Allocator>(
+    bench: &Bench<'a, B>,
+    consoles: &TextSet<&'a B>,
+    alloc: A,
+) -> Result<String<A>, Oom>
+    ensures { IfOk result (λ text. string_bytes text ≡ script_text (cast_of bench.now consoles.now) bench.now.state.history) }
+{
+    let mut text = String::new(alloc);
+    put_cast(&mut text, bench.names(), consoles)?;
+    put_events(bench.history(), &mut text, bench.names(), consoles)?;
+    Ok(text)
+}
+
+/// The recorded calls of a bench as a script, where the consoles have these names. Before it goes out it is read, and compared
+/// with the calls; where it isn't read as these calls, there is none.
+pub fn script_of_calls<'a, B: Allocator>(
+    alloc: &'a B,
+    bench: &Bench<'a, B>,
+    consoles: &TextSet<&'a B>,
+) -> Result<String<&'a B>, TranscriptFault>
+    ensures script { IfOk result (λ text. IsScriptOf bench.now consoles.now (string_bytes text)) }
+    ensures refused { IfErr result (Refuses bench.now consoles.now) }
+{
+    bench.bench_law();
+    replay_law();
+    let text = calls_text(bench, consoles, alloc)?;
+    read_back(bench, text.as_bytes(), alloc)?;
+    Ok(text)
+}

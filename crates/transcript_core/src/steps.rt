@@ -1,0 +1,401 @@
+//! A report with the line of each call above what it printed.
+ghost use Rattle.std.specs.Prelude.{◌≡◌, ◌++◌, IfOk, OnOk, map, string_bytes, true};
+ghost use Rattle.bench_core.specs.Acts.{plain_act};
+ghost use Rattle.grammar_core.specs.Scripts.{plain_command, plain_lines, plain_script};
+ghost use Rattle.run_core.specs.Report.{after_command, call_of, commands_of, played};
+ghost use Rattle.transcript_core.specs.Scripts.{cast_of};
+ghost use Rattle.transcript_core.specs.Steps.{bench_steps, byte_text, command_head, command_steps, head_line, indented, note_text, number_text, recorded, reply_at, script_steps, steps_text, taker_of, taker_text, takers_of, undone_text, unwind_number, unwinds_one, with_reply, with_taker};
+
+use crate::actors::actor_name;
+use crate::lines::put_call;
+use bench_core::{Act, Bench, Event, History, Limits, Names, Reply, TextSet};
+use grammar_core::{Command, Line, Script, console_names, lines, node_names};
+use payload_core::Oom;
+use report_core::{act, name_at};
+use run_core::command as obey;
+use std::alloc::Allocator;
+
+/// After an actor had this reply.
+fn note_reply<A: Allocator>(takers: &mut Vec<Option<u16>, A>, actor: u16, reply: Reply)
+    ensures { takers.new.items ≡ with_reply takers.old.items actor reply }
+{
+    if let Reply::Undone(number) = reply {
+        if let Some(taker) = takers.get_mut(number as usize) {
+            *taker = Some(actor);
+        }
+    }
+}
+
+/// After this call.
+fn note_event<A: Allocator, W: Allocator>(takers: &mut Vec<Option<u16>, A>, event: &Event<W>)
+    ensures { takers.new.items ≡ with_taker takers.old.items event.now }
+{
+    note_reply(takers, event.actor, event.reply);
+}
+
+/// Who took steps back: at the number of each the actor who did, if anybody.
+#[tactic(auto, unfolding(crate::specs::Steps::takers_of))]
+fn takers_of<'a, B: Allocator>(
+    bench: &Bench<'a, B>,
+    alloc: &'a B,
+) -> Result<Vec<Option<u16>, &'a B>, Oom>
+    ensures { IfOk result (λ takers. takers.items ≡ takers_of bench.now.state.history) }
+{
+    bench.bench_law();
+    let history = bench.history();
+    let mut takers = vec![in alloc; None; history.len() + 1]?;
+    for place in 0..history.len() {
+        if let Some(event) = history.at(place) {
+            note_event(&mut takers, event);
+        }
+    }
+    Ok(takers)
+}
+
+/// Who took the step of this number back.
+fn taker_of(takers: &[Option<u16>], number: u64) -> Option<u16>
+    ensures { result ≡ taker_of takers.now number }
+{
+    match takers.get(number as usize) {
+        Some(taker) => *taker,
+        None => None,
+    }
+}
+
+/// The reply that was recorded at this place.
+fn reply_at<'a, B: Allocator>(history: &History<'a, B>, place: usize) -> Option<Reply>
+    ensures { result ≡ reply_at history.now place }
+{
+    match history.at(place) {
+        Some(event) => Some(event.reply),
+        None => None,
+    }
+}
+
+/// The number of the step, or a dash.
+fn put_number<A: Allocator>(text: &mut String<A>, reply: Option<Reply>) -> Result<(), Oom>
+    ensures { OnOk result (string_bytes text.new ≡ string_bytes text.old ++ number_text reply) }
+{
+    match reply {
+        Some(Reply::Taken(number)) => Ok(write!(text, "{number}  ")?),
+        Some(Reply::Undone(number)) => Ok(write!(text, "{number}  ")?),
+        Some(Reply::Refused(_)) => Ok(text.push_str("-  ")?),
+        None => Ok(text.push_str("-  ")?),
+    }
+}
+
+/// Who took the step back.
+fn put_undone<A: Allocator, N: Allocator, C: Allocator>(
+    text: &mut String<A>,
+    nodes: &Names<N>,
+    consoles: &TextSet<C>,
+    actor: u16,
+) -> Result<(), Oom>
+    ensures { OnOk result (string_bytes text.new ≡ string_bytes text.old ++ undone_text (record { nodes = nodes.now; consoles = consoles.now }) actor) }
+{
+    text.push_str("  undone by ")?;
+    Ok(text.push_str(actor_name(nodes, consoles, actor))?)
+}
+
+/// Who took the step back, if anybody.
+fn put_taker<A: Allocator, N: Allocator, C: Allocator>(
+    text: &mut String<A>,
+    nodes: &Names<N>,
+    consoles: &TextSet<C>,
+    taker: Option<u16>,
+) -> Result<(), Oom>
+    ensures { OnOk result (string_bytes text.new ≡ string_bytes text.old ++ taker_text (record { nodes = nodes.now; consoles = consoles.now }) taker) }
+{
+    match taker {
+        Some(actor) => put_undone(text, nodes, consoles, actor),
+        None => Ok(()),
+    }
+}
+
+/// Who took the step back that was taken, if anybody.
+fn put_note<A: Allocator, N: Allocator, C: Allocator>(
+    text: &mut String<A>,
+    nodes: &Names<N>,
+    consoles: &TextSet<C>,
+    takers: &[Option<u16>],
+    reply: Option<Reply>,
+) -> Result<(), Oom>
+    ensures { OnOk result (string_bytes text.new ≡ string_bytes text.old ++
+        note_text (record { nodes = nodes.now; consoles = consoles.now }) takers.now reply) }
+{
+    match reply {
+        Some(Reply::Taken(number)) => put_taker(text, nodes, consoles, taker_of(takers, number)),
+        _ => Ok(()),
+    }
+}
+
+/// `NUMBER  NODE VERB ..`, and who took the step back.
+#[tactic(auto, unfolding(crate::specs::Steps::head_line))]
+fn put_head<A: Allocator, N: Allocator, C: Allocator, W: Allocator>(
+    text: &mut String<A>,
+    nodes: &Names<N>,
+    consoles: &TextSet<C>,
+    takers: &[Option<u16>],
+    actor: u16,
+    act: &Act<W>,
+    reply: Option<Reply>,
+) -> Result<(), Oom>
+    ensures { OnOk result (string_bytes text.new ≡ string_bytes text.old ++
+        head_line (record { nodes = nodes.now; consoles = consoles.now }) takers.now actor (plain_act act.now) reply) }
+{
+    put_number(text, reply)?;
+    put_call(text, nodes, consoles, actor, act)?;
+    put_note(text, nodes, consoles, takers, reply)?;
+    Ok(text.push_str("\n")?)
+}
+
+/// The number of the step that is unwound, or a dash.
+fn put_unwind_number<A: Allocator>(
+    text: &mut String<A>,
+    remains: bool,
+    number: u64,
+) -> Result<(), Oom>
+    ensures { OnOk result (string_bytes text.new ≡ string_bytes text.old ++ unwind_number remains number) }
+{
+    if remains {
+        return Ok(write!(text, "{number}  ")?);
+    }
+    Ok(text.push_str("-  ")?)
+}
+
+/// What stands above what a line printed.
+#[tactic(auto, unfolding(crate::specs::Steps::command_head))]
+fn put_command_head<A: Allocator, N: Allocator, C: Allocator, W: Allocator>(
+    text: &mut String<A>,
+    nodes: &Names<N>,
+    consoles: &TextSet<C>,
+    takers: &[Option<u16>],
+    command: &Command<W>,
+    reply: Option<Reply>,
+    remains: bool,
+) -> Result<(), Oom>
+    ensures { OnOk result (string_bytes text.new ≡ string_bytes text.old ++
+        command_head (record { nodes = nodes.now; consoles = consoles.now }) takers.now (plain_command command.now) reply remains) }
+{
+    match command {
+        Command::Call(actor, act) => put_head(text, nodes, consoles, takers, *actor, act, reply),
+        Command::Unwind(actor, number) => {
+            let actor = actor_name(nodes, consoles, *actor);
+            put_unwind_number(text, remains, *number)?;
+            Ok(writeln!(text, "{actor} unwind {number}")?)
+        }
+        Command::Show(node) => {
+            let name = name_at(nodes, *node);
+            Ok(writeln!(text, "show {name}")?)
+        }
+        Command::Dots(node) => {
+            let name = name_at(nodes, *node);
+            Ok(writeln!(text, "dots {name}")?)
+        }
+        Command::Why(number) => Ok(writeln!(text, "why {number}")?),
+        Command::Journal => Ok(text.push_str("journal\n")?),
+    }
+}
+
+/// A byte, behind two spaces where a line begins.
+fn put_byte<A: Allocator>(out: &mut Vec<u8, A>, begins: bool, byte: u8) -> Result<(), Oom>
+    ensures { OnOk result (out.new.items ≡ out.old.items ++ byte_text begins byte) }
+{
+    if begins {
+        out.push(b' ')?;
+        out.push(b' ')?;
+    }
+    out.push(byte)?;
+    Ok(())
+}
+
+/// Each line behind two spaces.
+#[tactic(auto, unfolding(crate::specs::Steps::indented))]
+fn put_indented<A: Allocator>(out: &mut Vec<u8, A>, text: &[u8]) -> Result<(), Oom>
+    ensures { OnOk result (out.new.items ≡ out.old.items ++ indented true text.now) }
+{
+    let mut begins = true;
+    for byte in text {
+        put_byte(out, begins, *byte)?;
+        begins = *byte == b'\n';
+    }
+    Ok(())
+}
+
+/// A head, and below it what was printed.
+fn put_below<A: Allocator, H: Allocator>(
+    out: &mut Vec<u8, A>,
+    head: &String<H>,
+    printed: &String<H>,
+) -> Result<(), Oom>
+    ensures { OnOk result (out.new.items ≡ out.old.items ++ string_bytes head.now ++ indented true (string_bytes printed.now)) }
+{
+    out.extend_from_slice(head.as_bytes())?;
+    put_indented(out, printed.as_bytes())
+}
+
+/// Whether the step remains that the line unwinds.
+fn unwinds_one<'a, B: Allocator>(bench: &Bench<'a, B>, command: &Command<&'a B>) -> bool
+    ensures { result ≡ unwinds_one bench.now (plain_command command.now) }
+{
+    match command {
+        Command::Unwind(_, number) => bench.remaining().find(*number).is_some(),
+        _ => false,
+    }
+}
+
+/// A line of a script, and below it what it printed.
+#[tactic(auto, unfolding(crate::specs::Steps::command_steps))]
+fn put_line<'a, B: Allocator>(
+    out: &mut Vec<u8, &'a B>,
+    bench: &mut Bench<'a, B>,
+    consoles: &TextSet<&'a B>,
+    takers: &[Option<u16>],
+    command: &Command<&'a B>,
+    alloc: &'a B,
+) -> Result<(), Oom>
+    ensures bench { OnOk result (bench.new ≡ after_command bench.old (plain_command command.now)) }
+    ensures text { OnOk result (out.new.items ≡ out.old.items ++
+        command_steps (cast_of bench.old consoles.now) takers.now bench.old (plain_command command.now)) }
+{
+    let place = bench.history().len();
+    let remains = unwinds_one(bench, command);
+    let mut printed = String::new(alloc);
+    obey(&mut printed, bench, command, alloc)?;
+    let reply = reply_at(bench.history(), place);
+    let mut head = String::new(alloc);
+    put_command_head(
+        &mut head,
+        bench.names(),
+        consoles,
+        takers,
+        command,
+        reply,
+        remains,
+    )?;
+    put_below(out, &head, &printed)
+}
+
+/// A recorded call, and below it what it printed.
+#[tactic(auto, unfolding(crate::specs::Steps::command_steps, crate::specs::Steps::command_head, run_core::specs::Report::command_text, run_core::specs::Report::after_command))]
+fn put_event<'a, B: Allocator>(
+    out: &mut Vec<u8, &'a B>,
+    bench: &mut Bench<'a, B>,
+    consoles: &TextSet<&'a B>,
+    takers: &[Option<u16>],
+    event: &Event<&'a B>,
+    alloc: &'a B,
+) -> Result<(), Oom>
+    ensures bench { OnOk result (bench.new ≡ after_command bench.old (call_of event.now)) }
+    ensures text { OnOk result (out.new.items ≡ out.old.items ++ command_steps (cast_of bench.old consoles.now) takers.now bench.old (call_of event.now)) }
+{
+    let place = bench.history().len();
+    let mut printed = String::new(alloc);
+    act(alloc, &mut printed, bench, event.actor, &event.act)?;
+    let reply = reply_at(bench.history(), place);
+    let mut head = String::new(alloc);
+    put_head(
+        &mut head,
+        bench.names(),
+        consoles,
+        takers,
+        event.actor,
+        &event.act,
+        reply,
+    )?;
+    put_below(out, &head, &printed)
+}
+
+/// The lines of a script, and below each what it printed.
+#[tactic(auto, unfolding(crate::specs::Steps::steps_text))]
+fn put_lines<'a, B: Allocator>(
+    out: &mut Vec<u8, &'a B>,
+    bench: &mut Bench<'a, B>,
+    consoles: &TextSet<&'a B>,
+    takers: &[Option<u16>],
+    lines: &[Line<&'a B>],
+    alloc: &'a B,
+) -> Result<(), Oom>
+    ensures { OnOk result (out.new.items ≡ out.old.items ++
+        steps_text (cast_of bench.old consoles.now) takers.now bench.old (commands_of (plain_lines lines.now))) }
+{
+    for line in lines {
+        put_line(out, bench, consoles, takers, &line.command, alloc)?;
+    }
+    Ok(())
+}
+
+/// The recorded calls, and below each what it printed.
+#[tactic(auto, unfolding(crate::specs::Steps::steps_text))]
+fn put_events<'a, B: Allocator>(
+    out: &mut Vec<u8, &'a B>,
+    bench: &mut Bench<'a, B>,
+    consoles: &TextSet<&'a B>,
+    takers: &[Option<u16>],
+    history: &History<'a, B>,
+    alloc: &'a B,
+) -> Result<(), Oom>
+    ensures { OnOk result (out.new.items ≡ out.old.items ++
+        steps_text (cast_of bench.old consoles.now) takers.now bench.old (map call_of history.now)) }
+{
+    for place in 0..history.len() {
+        if let Some(event) = history.at(place) {
+            put_event(out, bench, consoles, takers, event, alloc)?;
+        }
+    }
+    Ok(())
+}
+
+/// The lines of a script, below each what it printed, where the script was played with these limits and left this bench.
+#[tactic(auto, unfolding(crate::specs::Steps::script_steps))]
+pub fn script_steps<'a, B: Allocator>(
+    alloc: &'a B,
+    script: &Script<&'a B>,
+    limits: Limits,
+    bench: &Bench<'a, B>,
+) -> Result<Vec<u8, &'a B>, Oom>
+    requires { bench.now ≡ played limits (plain_script script.now) }
+    ensures { IfOk result (λ text. text.items ≡ script_steps limits (plain_script script.now)) }
+{
+    let takers = takers_of(bench, alloc)?;
+    let names = node_names(script).try_copy()?;
+    let mut again = Bench::new(alloc, names, limits)?;
+    let mut out = Vec::new(alloc);
+    let put = put_lines(
+        &mut out,
+        &mut again,
+        console_names(script),
+        &takers,
+        lines(script),
+        alloc,
+    );
+    drop(again);
+    put?;
+    Ok(out)
+}
+
+/// The recorded calls of a bench with what they printed: below the line of each, where the consoles have these names.
+#[tactic(auto, unfolding(crate::specs::Steps::bench_steps))]
+pub fn bench_steps<'a, B: Allocator>(
+    alloc: &'a B,
+    bench: &Bench<'a, B>,
+    consoles: &TextSet<&'a B>,
+) -> Result<Vec<u8, &'a B>, Oom>
+    ensures { IfOk result (λ text. text.items ≡ bench_steps bench.now consoles.now) }
+{
+    let takers = takers_of(bench, alloc)?;
+    let names = bench.names().try_copy()?;
+    let mut again = Bench::new(alloc, names, bench.limits())?;
+    let mut out = Vec::new(alloc);
+    let put = put_events(
+        &mut out,
+        &mut again,
+        consoles,
+        &takers,
+        bench.history(),
+        alloc,
+    );
+    drop(again);
+    put?;
+    Ok(out)
+}
