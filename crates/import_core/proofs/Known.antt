@@ -105,7 +105,7 @@ module _ (t : AllTables) where
     sends = λ m e. sent_known n.logged.node event.line.event n.logged.sends m is.sends e;
   }
 
-  notes_known : (lines : List Numbered) (notes : List Note) → AreNotesOf t lines notes → Each IsKnown notes
+  pub notes_known : (lines : List Numbered) (notes : List Note) → AreNotesOf t lines notes → Each IsKnown notes
   notes_known [] [] are = tt
   notes_known [] (n ∷ ns) are = elim are [ ]
   notes_known (l ∷ ls) [] are = elim are [ ]

@@ -3,4 +3,5 @@ pub mod Values
 pub mod Kept
 pub mod LaterNotes
 pub mod Known
+pub mod LeftOut
 pub mod NotedLines

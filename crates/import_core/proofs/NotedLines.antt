@@ -1,5 +1,5 @@
 -- Lines that are noted one after another, and the first that can't be.
-use Rattle.std.proofs.Common.{◌≡◌, ℕ, zero, suc, ◌+◌, ◌<◌, List, [], ◌∷◌, ◌++◌, length, map, take, Option, Some, None, refl, sym, ap, ◌∙◌, subst, arith, append_assoc, append-nil}
+use Rattle.std.proofs.Common.{◌≡◌, ℕ, zero, suc, ◌+◌, ◌<◌, Bool, List, [], ◌∷◌, ◌++◌, length, map, take, Option, Some, None, refl, sym, ap, ◌∙◌, subst, arith, append_assoc, append-nil}
 use Rattle.log_core.specs.declared.line_fault.LineFault.{LineFault}
 use Rattle.log_core.specs.declared.line_fault.LineFault.TheVariants as line_faults
 use Rattle.log_core.specs.Events.{Line}
@@ -12,7 +12,8 @@ use Rattle.import_core.specs.declared.fault.ImportFault.{ImportFault}
 use Rattle.import_core.specs.Tables.{AllTables, Keeps}
 use Rattle.import_core.specs.Notes.{Note, AreNotesOf}
 use Rattle.import_core.specs.Imports.{AreNoted, IsNoted, with_note}
-use Rattle.import_core.specs.Faults.{kind_of_line, kind_of_note, fault_at, IsWrong, IsFirstWrong, IsLineFault, IsOrderFault, IsNotesFault, IsImportFault}
+use Rattle.import_core.specs.Lenient.{Stay}
+use Rattle.import_core.specs.Faults.{kind_of_line, kind_of_note, fault_at, IsWrong, IsFirstWrong, IsLineFault, IsOrderFault, IsNotesFault, IsWholeFault, IsImportFault}
 use Rattle.import_core.proofs.LaterNotes.{later_notes, notes_more}
 
 say_more : (n m : ℕ) (lines : List (List ℕ)) (events : List Numbered) (line : List ℕ) (said : Option Line) → m ≡ n + length lines → Say n lines events → Says line said →
@@ -78,34 +79,38 @@ line_fault lines place OutOfMemory is = tt
 
 -- and with the whole
 
-by_line : (bytes : List ℕ) (line : ℕ) (kind : FaultKind) → IsLineFault (lines_of bytes) (record { line = line; kind = kind }) →
-    IsImportFault bytes (record { line = line; kind = kind })
-by_line bytes line TooLong is = is
-by_line bytes line NotJson is = is
-by_line bytes line BadEvent is = is
-by_line bytes line TooManyNodes is = is
-by_line bytes line NoNodes (place, at, is) = absurd is.wrong
-by_line bytes line Twice (place, at, is) = absurd is.wrong
-by_line bytes line NeverSent (place, at, is) = absurd is.wrong
-by_line bytes line Circle (place, at, is) = absurd is.wrong
-by_line bytes line OutOfMemory is = tt
+by_line : (lenient : Bool) (bytes : List ℕ) (line : ℕ) (kind : FaultKind) → IsLineFault (lines_of bytes) (record { line = line; kind = kind }) →
+    IsImportFault lenient bytes (record { line = line; kind = kind })
+by_line lenient bytes line TooLong is = is
+by_line lenient bytes line NotJson is = is
+by_line lenient bytes line BadEvent is = is
+by_line lenient bytes line TooManyNodes is = is
+by_line lenient bytes line NoNodes (place, at, is) = absurd is.wrong
+by_line lenient bytes line Twice (place, at, is) = absurd is.wrong
+by_line lenient bytes line NeverSent (place, at, is) = absurd is.wrong
+by_line lenient bytes line Circle (place, at, is) = absurd is.wrong
+by_line lenient bytes line OutOfMemory is = tt
 
-pub import_line : (bytes : List ℕ) (fault : ImportFault) → IsLineFault (lines_of bytes) fault → IsImportFault bytes fault
-import_line bytes fault is = by_line bytes fault.line fault.kind is
+pub import_line : (lenient : Bool) (bytes : List ℕ) (fault : ImportFault) → IsLineFault (lines_of bytes) fault → IsImportFault lenient bytes fault
+import_line lenient bytes fault is = by_line lenient bytes fault.line fault.kind is
 
-module _ (bytes : List ℕ) (t : AllTables) (notes : List Note) (are : AreNoted t (lines_of bytes) notes) where
-  by_notes : (line : ℕ) (kind : FaultKind) → IsNotesFault notes (record { line = line; kind = kind }) → IsImportFault bytes (record { line = line; kind = kind })
+module _ (lenient : Bool) (bytes : List ℕ) (t : AllTables) (all notes : List Note) (left_out : List ℕ) (are : AreNoted t (lines_of bytes) all)
+    (stay : Stay lenient all notes left_out) where
+  whole : (fault : ImportFault) → IsNotesFault notes fault → IsWholeFault lenient bytes fault
+  whole fault is = record { tables = t; all = all; notes = notes; left_out = left_out; noted = are; stay = stay; wrong = is }
+
+  by_notes : (line : ℕ) (kind : FaultKind) → IsNotesFault notes (record { line = line; kind = kind }) → IsImportFault lenient bytes (record { line = line; kind = kind })
   by_notes line TooLong is = absurd is
   by_notes line NotJson is = absurd is
   by_notes line BadEvent is = absurd is
   by_notes line TooManyNodes is = absurd is
-  by_notes line NoNodes is = (t, notes, are, is)
-  by_notes line Twice is = (t, notes, are, is)
-  by_notes line NeverSent is = (t, notes, are, is)
-  by_notes line Circle is = (t, notes, are, is)
+  by_notes line NoNodes is = whole (record { line = line; kind = NoNodes }) is
+  by_notes line Twice is = whole (record { line = line; kind = Twice }) is
+  by_notes line NeverSent is = whole (record { line = line; kind = NeverSent }) is
+  by_notes line Circle is = whole (record { line = line; kind = Circle }) is
   by_notes line OutOfMemory is = tt
 
-  pub import_notes : (fault : ImportFault) → IsNotesFault notes fault → IsImportFault bytes fault
+  pub import_notes : (fault : ImportFault) → IsNotesFault notes fault → IsImportFault lenient bytes fault
   import_notes fault is = by_notes fault.line fault.kind is
 
 -- why notes have no order

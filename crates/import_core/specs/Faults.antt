@@ -1,5 +1,5 @@
 -- Why lines give no script.
-use Rattle.std.specs.Prelude.{◌≡◌, ℕ, ◌+◌, ◌<◌, List, [], length, take, slice_index_or, Some}
+use Rattle.std.specs.Prelude.{◌≡◌, ℕ, ◌+◌, ◌<◌, Bool, List, [], length, take, slice_index_or, Some}
 use Rattle.event_order.specs.declared.order_fault.OrderFault as order
 use Rattle.event_order.specs.declared.order_fault.OrderFault.TheVariants as order_faults
 use Rattle.event_order.specs.Ordering.{IsFaultOf}
@@ -15,6 +15,7 @@ use Rattle.import_core.specs.declared.fault.ImportFault.{ImportFault}
 use Rattle.import_core.specs.Tables.{AllTables}
 use Rattle.import_core.specs.Notes.{Note, logged_of}
 use Rattle.import_core.specs.Imports.{AreNoted, number_at}
+use Rattle.import_core.specs.Lenient.{Stay}
 
 abbrev pub kind_of_line : LineFault → FaultKind
 kind_of_line line_faults.TooLong = TooLong
@@ -75,7 +76,7 @@ IsOrderFault notes fault = by fault.kind
     by OutOfMemory = Unit {0}
     by kind = ⊥
 
--- no line says an event; or else the events have no order
+-- no event stays; or else they have no order
 abbrev pub IsNotesFault : List Note → ImportFault → Type 0
 IsNotesFault notes fault = by fault.kind
   where
@@ -83,12 +84,22 @@ IsNotesFault notes fault = by fault.kind
     by NoNodes = (notes ≡ []) × (fault.line ≡ 0)
     by kind = IsOrderFault notes fault
 
--- why the input can't be imported: a line has a fault, the first; or no line has one, and there are no events or they have no order
-abbrev pub IsImportFault : List ℕ → ImportFault → Type 0
-IsImportFault bytes fault = by fault.kind
+-- no line has a fault, but of the events that stay there is none, or they have no order
+pub record IsWholeFault (lenient : Bool) (bytes : List ℕ) (fault : ImportFault) : Type 0 where
+  pub tables : AllTables
+  pub all : List Note
+  pub notes : List Note
+  pub left_out : List ℕ
+  pub noted : AreNoted tables (lines_of bytes) all
+  pub stay : Stay lenient all notes left_out
+  pub wrong : IsNotesFault notes fault
+
+-- why the input can't be imported: a line has a fault, the first; or it is one of the whole
+abbrev pub IsImportFault : Bool → List ℕ → ImportFault → Type 0
+IsImportFault lenient bytes fault = by fault.kind
   where
     whole : Type 0
-    whole = (t : AllTables) × (notes : List Note) × AreNoted t (lines_of bytes) notes × IsNotesFault notes fault
+    whole = IsWholeFault lenient bytes fault
 
     by : FaultKind → Type 0
     by NoNodes = whole

@@ -1,9 +1,10 @@
 -- What an input gives: the notes of its events, and an order of them.
-use Rattle.std.specs.Prelude.{◌≡◌, ℕ, ◌^◌, ◌<◌, ◌≤◌, length, List, [], ◌∷◌, ◌++◌, slice_index_or, Option, Some, None}
+use Rattle.std.specs.Prelude.{◌≡◌, ℕ, ◌^◌, ◌<◌, ◌≤◌, length, List, [], ◌∷◌, ◌++◌, slice_index_or, Bool, Option, Some, None}
 use Rattle.event_order.specs.Ordering.{IsOrdered, no_event}
 use Rattle.log_core.specs.Events.{Line}
 use Rattle.log_core.specs.Lines.{Numbered, Say, Says, lines_of}
 use Rattle.import_core.specs.Tables.{AllTables}
+use Rattle.import_core.specs.Lenient.{Stay}
 use Rattle.import_core.specs.Notes.{Note, IsNoteOf, AreNotesOf, logged_of}
 
 -- the lines say events, and these are their notes
@@ -35,9 +36,11 @@ note_at notes place = slice_index_or notes place no_note
 abbrev pub number_at : List Note → ℕ → ℕ
 number_at notes place = (note_at notes place).number
 
--- the notes of the input, and the nearest order of their events
-pub record IsImportOf (bytes : List ℕ) (t : AllTables) (notes : List Note) (order : List ℕ) : Type 0 where
-  pub noted : AreNoted t (lines_of bytes) notes
+-- the notes of the input's events that stay, the lines of those that are left out, and the nearest order of those that stay
+pub record IsImportOf (lenient : Bool) (bytes : List ℕ) (t : AllTables) (notes : List Note) (order left_out : List ℕ) : Type 0 where
+  pub all : List Note
+  pub noted : AreNoted t (lines_of bytes) all
+  pub stay : Stay lenient all notes left_out
   pub ordered : IsOrdered (logged_of notes) order
   pub some : 0 < length notes
   pub lines : length (lines_of bytes) < 2 ^ 64

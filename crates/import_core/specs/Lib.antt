@@ -2,5 +2,6 @@ pub mod Tables
 pub mod Steps
 pub mod Listed
 pub mod Notes
+pub mod Lenient
 pub mod Imports
 pub mod Faults

@@ -8,6 +8,7 @@ ghost use Rattle.import_core.specs.Imports.{IsImportOf, number_at};
 ghost use Rattle.import_core.specs.Faults.{IsOrderFault, IsNotesFault, IsImportFault};
 
 use crate::fault::{FaultKind, ImportFault};
+use crate::lenient::stay;
 use crate::notes::{Noted, noted_all};
 use crate::tables::Tables;
 use dots_core::Oom;
@@ -17,12 +18,14 @@ use std::alloc::{Allocator, Global};
 /// How many nodes there can be.
 const NODES: u16 = 32;
 
-/// What an input gives: what stands for what, the notes of its events, and an order of them, by their places.
+/// What an input gives: what stands for what, the notes of the events that stay, and an order of them, by their places.
 #[derive(Drop)]
 pub struct Import<A: Allocator> {
     pub tables: Tables<A>,
     pub notes: Vec<Noted<A>, A>,
     pub order: Vec<usize, A>,
+    /// The lines of the deliveries and answers that were left out.
+    pub left_out: Vec<u64, A>,
 }
 
 /// What the line feeds divide.
@@ -101,21 +104,25 @@ fn order_of<A: Allocator + Copy>(
 }
 
 /// The events of the input's lines, with what stands for what and the nearest order; or the first reason why there are none.
+/// Where it is `lenient`, deliveries and answers of messages that no line sends which stays are left out.
 pub fn imported<A: Allocator + Copy>(
     heap: Global,
     alloc: A,
+    lenient: bool,
     bytes: &[u8],
 ) -> Result<Import<A>, ImportFault>
-    ensures import { IfOk result (λ i. IsImportOf bytes.now (all_of i.tables) (map note_of i.notes.items) i.order.items) }
-    ensures fault { IfErr result (IsImportFault bytes.now) }
+    ensures import { IfOk result (λ i. IsImportOf lenient bytes.now (all_of i.tables) (map note_of i.notes.items) i.order.items i.left_out.items) }
+    ensures fault { IfErr result (IsImportFault lenient bytes.now) }
 {
     let lines = lines_of(alloc, bytes)?;
     let mut tables = Tables::new(alloc);
-    let notes = noted_all(heap, alloc, &mut tables, &lines)?;
+    let mut notes = noted_all(heap, alloc, &mut tables, &lines)?;
+    let left_out = stay(alloc, lenient, &mut notes, tables.messages.len())?;
     let order = order_of(alloc, &notes, tables.messages.len())?;
     Ok(Import {
         tables,
         notes,
         order,
+        left_out,
     })
 }

@@ -20,6 +20,7 @@ use Rattle.import_core.specs.Tables.{AllTables, IsWordOf, IsNodeOf}
 use Rattle.import_core.specs.Steps.{NodeIn, AreNodesOf, IsPresenceOf, IsStepOf}
 use Rattle.import_core.specs.Notes.{Note, IsMaybeStepOf, IsNoteOf, AreNotesOf}
 use Rattle.import_core.specs.Imports.{IsImportOf, note_at}
+use Rattle.import_core.proofs.LeftOut.{stay_kept}
 use Rattle.import_core.proofs.Numbers.{at_number}
 use Rattle.run_core.specs.ReadSteps.{IsPresence}
 use Rattle.import_report.specs.Scripts.{in_order}
@@ -117,9 +118,10 @@ ordered_can names notes [] can all = tt
 ordered_can names notes (p ∷ ps) can all =
     (at_place names notes p can (all 0 0 (omega arith)), ordered_can names notes ps can (λ k d low. all (suc k) d (let h = low in omega (arith, h))))
 
-pub import_can : (names : Texts) (bytes : List ℕ) (t : AllTables) (notes : List Note) (order : List ℕ) → length names ≡ length t.nodes →
-    IsImportOf bytes t notes order → All (λ place. place < length notes) order → AllByRecursion (CanBeTold names) (in_order notes order)
-import_can names bytes t notes order same is all =
+pub import_can : (names : Texts) (lenient : Bool) (bytes : List ℕ) (t : AllTables) (notes : List Note) (order left_out : List ℕ) → length names ≡ length t.nodes →
+    IsImportOf lenient bytes t notes order left_out → All (λ place. place < length notes) order → AllByRecursion (CanBeTold names) (in_order notes order)
+import_can names lenient bytes t notes order left_out same is all =
     let few = is.lines in
-    ordered_can names notes order
-    (notes_can names t same is.noted.events notes (say_numbers 1 (lines_of bytes) is.noted.events (omega (arith, few)) is.noted.say) is.noted.noted) all
+    let small = say_numbers 1 (lines_of bytes) is.noted.events (omega (arith, few)) is.noted.say in
+    let kept = stay_kept t (λ e. e.number < 2 ^ 64) lenient is.noted.events is.all notes left_out small is.noted.noted is.stay in
+    ordered_can names notes order (notes_can names t same kept.0 notes kept.1 kept.2) all

@@ -7,6 +7,7 @@ use Rattle.import_core.specs.Tables.{AllTables}
 use Rattle.import_core.specs.Notes.{Note, AreNotesOf, logged_of}
 use Rattle.import_core.specs.Imports.{IsImportOf}
 use Rattle.import_core.proofs.Known.{places_known}
+use Rattle.import_core.proofs.LeftOut.{notes_stay}
 use Rattle.import_core.proofs.Numbers.{at_number}
 use Rattle.import_report.specs.Names.{AreNames, shown_names}
 use Rattle.import_report.specs.Events.{events_text, events_commands}
@@ -23,20 +24,23 @@ noted_nodes t events [] are some = absurd (omega (arith, some))
 noted_nodes t [] (n ∷ ns) are some = elim are [ ]
 noted_nodes t (e ∷ es) (n ∷ ns) are some = let low = (at_number t.nodes e.line.node n.logged.node are.0.node).0 in omega (arith, low)
 
-pub some_nodes : (bytes : List ℕ) (t : AllTables) (notes : List Note) (order : List ℕ) → IsImportOf bytes t notes order → 0 < length t.nodes
-some_nodes bytes t notes order is = noted_nodes t is.noted.events notes is.noted.noted is.some
+pub some_nodes : (lenient : Bool) (bytes : List ℕ) (t : AllTables) (notes : List Note) (order left_out : List ℕ) → IsImportOf lenient bytes t notes order left_out → 0 < length t.nodes
+some_nodes lenient bytes t notes order left_out is =
+    let kept = notes_stay t lenient is.noted.events is.all notes left_out is.noted.noted is.stay in
+    noted_nodes t kept.0 notes kept.1 is.some
 
 -- each place of the order is that of an event
-pub all_places : (bytes : List ℕ) (t : AllTables) (notes : List Note) (order : List ℕ) → IsImportOf bytes t notes order → All (λ place. place < length notes) order
-all_places bytes t notes order is k d low =
+pub all_places : (lenient : Bool) (bytes : List ℕ) (t : AllTables) (notes : List Note) (order left_out : List ℕ) → IsImportOf lenient bytes t notes order left_out →
+    All (λ place. place < length notes) order
+all_places lenient bytes t notes order left_out is k d low =
     subst (λ n. slice_index_or order k d < n) (length-map notes (λ (n : Note). n.logged)) (places_known (logged_of notes) order is.ordered k d low)
 
-pub script_holds : (told : Bool) (limits : Limits) (bytes : List ℕ) (t : AllTables) (notes : List Note) (order text : List ℕ) →
-    IsImportOf bytes t notes order → AreNames (shown_names t.nodes) → length (shown_names t.nodes) ≡ length t.nodes →
+pub script_holds : (lenient told : Bool) (limits : Limits) (bytes : List ℕ) (t : AllTables) (notes : List Note) (order left_out text : List ℕ) →
+    IsImportOf lenient bytes t notes order left_out → AreNames (shown_names t.nodes) → length (shown_names t.nodes) ≡ length t.nodes →
     length t.longs < 2 ^ 64 → text ≡ script_text told limits (shown_names t.nodes) t (in_order notes order) → length text ≤ 1048576 →
     IsScriptOf told limits (shown_names t.nodes) t (in_order notes order) text
 unfolding script_text
-script_holds told limits bytes t notes order text is are count few at short =
+script_holds lenient told limits bytes t notes order left_out text is are count few at short =
     let names = shown_names t.nodes in
     let events = in_order notes order in
     let p = opening limits names (length t.messages) in
@@ -46,5 +50,5 @@ script_holds told limits bytes t notes order text is are count few at short =
       read = subst (λ x. IsReadAs x names (events_commands p events)) (sym at)
           (whole_read names are (comments_text names t ++ events_text told names p events) (events_commands p events) (subst (λ x. length x ≤ 1048576) at short)
           (both_read names (comments_text names t) (events_text told names p events) [] (events_commands p events) (comments_read names are t count few)
-          (events_read names are told p events (import_can names bytes t notes order count is (all_places bytes t notes order is)))));
+          (events_read names are told p events (import_can names lenient bytes t notes order left_out count is (all_places lenient bytes t notes order left_out is)))));
     }

@@ -15,7 +15,7 @@ use Rattle.import_core.specs.Imports.{IsImportOf, note_at}
 use Rattle.import_core.specs.Faults.{IsImportFault}
 use Rattle.import_report.specs.Names.{shown_names}
 use Rattle.import_report.specs.Comments.{comments_text}
-use Rattle.import_report.specs.Events.{Playing, ended, events_text, events_commands}
+use Rattle.import_report.specs.Events.{Playing, after_events, ended, events_text, events_commands}
 
 unfoldable pub spaced_names : Texts → List ℕ
 spaced_names names = flat_map (λ name. codes " " ++ name) names
@@ -52,27 +52,36 @@ pub record IsScriptOf (told : Bool) (limits : Limits) (names : Texts) (t : AllTa
   pub short : length text ≤ 1048576
   pub read : IsReadAs text names (events_commands (opening limits names (length t.messages)) notes)
 
--- the script of an input, and the bench that it leaves when it is played
-pub record IsImported (told : Bool) (limits : Limits) (bytes text : List ℕ) (bench : Machine) : Type 0 where
+-- the script of an input, the bench that it leaves when it is played, and the lines that were left out
+pub record IsImported (lenient told : Bool) (limits : Limits) (bytes text : List ℕ) (bench : Machine) (left_out : List ℕ) : Type 0 where
   pub tables : AllTables
   pub notes : List Note
   pub order : List ℕ
-  pub import : IsImportOf bytes tables notes order
+  pub import : IsImportOf lenient bytes tables notes order left_out
   pub script : IsScriptOf told limits (shown_names tables.nodes) tables (in_order notes order) text
   pub left : bench ≡ played limits script.read.script
+
+-- the bench that the events of an input leave, however long their script would be
+pub record IsBenchOf (lenient : Bool) (limits : Limits) (bytes : List ℕ) (bench : Machine) (left_out : List ℕ) : Type 0 where
+  pub tables : AllTables
+  pub notes : List Note
+  pub order : List ℕ
+  pub import : IsImportOf lenient bytes tables notes order left_out
+  pub left : bench ≡ (after_events (opening limits (shown_names tables.nodes) (length tables.messages)) (in_order notes order)).machine
 
 -- the script of these events is too long to be read
 abbrev pub IsTooLong : Bool → Limits → Texts → AllTables → List Note → Type 0
 IsTooLong told limits names t notes = 1048576 < length (script_text told limits names t notes)
 
 -- why there is no script: the input can't be imported, or the script is too long
-pub record IsLongImport (told : Bool) (limits : Limits) (bytes : List ℕ) : Type 0 where
+pub record IsLongImport (lenient told : Bool) (limits : Limits) (bytes : List ℕ) : Type 0 where
   pub tables : AllTables
   pub notes : List Note
   pub order : List ℕ
-  pub import : IsImportOf bytes tables notes order
+  pub left_out : List ℕ
+  pub import : IsImportOf lenient bytes tables notes order left_out
   pub long : IsTooLong told limits (shown_names tables.nodes) tables (in_order notes order)
 
-abbrev pub IsRefused : Bool → Limits → List ℕ → ImportFault → Type 0
-IsRefused told limits bytes fault =
-    IsImportFault bytes fault ⊎ ((fault ≡ record { line = 0; kind = TooLong }) × IsLongImport told limits bytes)
+abbrev pub IsRefused : Bool → Bool → Limits → List ℕ → ImportFault → Type 0
+IsRefused lenient told limits bytes fault =
+    IsImportFault lenient bytes fault ⊎ ((fault ≡ record { line = 0; kind = TooLong }) × IsLongImport lenient told limits bytes)

@@ -73,19 +73,20 @@ fn answer<'a, B: Allocator>(
 
 /// A step of a node is asked, which sends this message, if any.
 #[tactic(auto, unfolding(crate::specs::Events::after_step))]
-fn play<'a, B: Allocator>(
+pub(crate) fn play<'a, B: Allocator>(
     bench: &mut Bench<'a, B>,
     numbers: &mut [u64],
     node: u16,
     sends: Option<usize>,
     act: &Act<&'a B>,
-) -> Result<(), Oom>
+) -> Result<Reply, Oom>
+    ensures reply { IfOk result (λ reply. reply ≡ reply_of bench.old node (plain_act act.now)) }
     ensures bench { OnOk result (bench.new ≡ after_act bench.old node (plain_act act.now)) }
     ensures numbers { OnOk result (numbers.new ≡ numbers_after (after_act bench.old node (plain_act act.now)) numbers.old node sends (reply_of bench.old node (plain_act act.now))) }
 {
     let reply = answer(bench, node, act)?;
     note_sent(bench, numbers, node, sends, reply);
-    Ok(())
+    Ok(reply)
 }
 
 /// A step of an event: its line, and the bench after it.
@@ -106,7 +107,10 @@ fn put_played<'a, B: Allocator>(
     let act = Act::Do(step);
     let played = play(bench, numbers, node, sends, &act);
     drop(act);
-    played
+    match played {
+        Ok(_reply) => Ok(()),
+        Err(oom) => Err(oom),
+    }
 }
 
 /// An event: its line, and the bench after it.

@@ -1,16 +1,18 @@
-//! From the bytes of logs to a script.
-ghost use Rattle.std.specs.Prelude.{◌≡◌, ◌<◌, ◌≤◌, ◌^◌, IfOk, IfErr, OnOk, length, map, string_bytes};
+//! From the bytes of logs to a script, to a bench, and to where the two part.
+ghost use Rattle.std.specs.Prelude.{◌≡◌, ◌<◌, ◌≤◌, ◌^◌, ◌++◌, ◌==◌, ℕ, Bool, List, IfOk, IfErr, OnOk, length, map, not, string_bytes};
 ghost use Rattle.std.specs.List.{All};
 ghost use Rattle.import_core.specs.Notes.{note_of};
 ghost use Rattle.import_core.specs.Tables.{all_of};
 ghost use Rattle.import_core.specs.Faults.{IsImportFault};
+ghost use Rattle.import_report.specs.Checks.{AreChecked, IsCheckOf, agree_line};
 ghost use Rattle.import_report.specs.Events.{after_events};
 ghost use Rattle.import_report.specs.Names.{AreNames, shown_names};
-ghost use Rattle.import_report.specs.Scripts.{IsImported, IsRefused, in_order, opening, script_text};
+ghost use Rattle.import_report.specs.Scripts.{IsBenchOf, IsImported, IsRefused, in_order, opening, script_text};
 
+use crate::checks::checked;
 use crate::names::shown_names;
-use crate::script::{Scripted, script_of};
-use bench_core::Limits;
+use crate::script::{Scripted, script_of, zeros};
+use bench_core::{Bench, Limits};
 use grammar_core::LONGEST_SCRIPT;
 use import_core::{FaultKind, Import, ImportFault, imported};
 use payload_core::Oom;
@@ -46,21 +48,30 @@ fn script_of_import<'a, B: Allocator>(
     )
 }
 
-/// The script that stands for logs, whose bytes these are, and the bench on which it was played as it was made; with these
-/// limits. `told` says whether each line of it stands behind a comment with the number of its event's line.
+/// The lines of what was left out.
+fn left_out_of<A: Allocator>(import: Import<A>) -> Vec<u64, A>
+    ensures { result.items ≡ import.left_out.items }
+{
+    import.left_out
+}
+
+/// The script that stands for logs, whose bytes these are, and the bench on which it was played as it was made, with these
+/// limits; and the lines of the deliveries and answers that were left out, which none are unless it is `lenient`. `told` says
+/// whether each line of the script stands behind a comment with the number of its event's line.
 pub fn import_script<'a, B: Allocator>(
     heap: Global,
     alloc: &'a B,
     limits: Limits,
+    lenient: bool,
     told: bool,
     bytes: &[u8],
-) -> Result<Scripted<'a, B>, ImportFault>
-    ensures script { IfOk result (λ s. IsImported told limits bytes.now (string_bytes s.text) s.bench) }
-    ensures refused { IfErr result (IsRefused told limits bytes.now) }
+) -> Result<(Scripted<'a, B>, Vec<u64, &'a B>), ImportFault>
+    ensures script { IfOk result (λ s. IsImported lenient told limits bytes.now (string_bytes s.0.text) s.0.bench s.1.items) }
+    ensures refused { IfErr result (IsRefused lenient told limits bytes.now) }
 {
-    let import = imported(heap, alloc, bytes)?;
+    let import = imported(heap, alloc, lenient, bytes)?;
     let scripted = script_of_import(alloc, limits, told, &import);
-    drop(import);
+    let left_out = left_out_of(import);
     let scripted = scripted?;
     if scripted.text.len() > LONGEST_SCRIPT {
         drop(scripted);
@@ -69,5 +80,87 @@ pub fn import_script<'a, B: Allocator>(
             kind: FaultKind::TooLong,
         });
     }
-    Ok(scripted)
+    Ok((scripted, left_out))
+}
+
+/// The bench alone, however long the script would be.
+pub fn import_bench<'a, B: Allocator>(
+    heap: Global,
+    alloc: &'a B,
+    limits: Limits,
+    lenient: bool,
+    bytes: &[u8],
+) -> Result<(Bench<'a, B>, Vec<u64, &'a B>), ImportFault>
+    ensures bench { IfOk result (λ s. IsBenchOf lenient limits bytes.now s.0 s.1.items) }
+    ensures refused { IfErr result (IsImportFault lenient bytes.now) }
+{
+    let import = imported(heap, alloc, lenient, bytes)?;
+    let scripted = script_of_import(alloc, limits, false, &import);
+    let left_out = left_out_of(import);
+    let scripted = scripted?;
+    Ok((bench_of(scripted), left_out))
+}
+
+/// The bench of a script.
+fn bench_of<'a, B: Allocator>(scripted: Scripted<'a, B>) -> Bench<'a, B>
+    ensures { result ≡ scripted.entry.bench }
+{
+    scripted.bench
+}
+
+/// What the bench shows of each event, against what the real node did.
+#[derive(Drop)]
+pub struct Checked<'a, B: Allocator> {
+    pub text: String<&'a B>,
+    /// Whether a list is another, or the bench refused or wasn't asked a step.
+    pub differs: bool,
+}
+
+/// What is told of what was imported.
+fn check_of_import<'a, B: Allocator>(
+    alloc: &'a B,
+    limits: Limits,
+    import: &Import<&'a B>,
+) -> Result<Checked<'a, B>, Oom>
+    requires some { 0 < length import.now.tables.nodes }
+    requires few { length import.now.tables.nodes ≤ 32 }
+    requires places { All (λ place. place < length import.now.notes.items) import.now.order.items }
+    ensures { IfOk result (λ c. (agreements : List Bool) × (told : List ℕ)
+        × AreChecked (shown_names import.now.tables.nodes) (opening limits (shown_names import.now.tables.nodes) (length import.now.tables.messages))
+        (in_order (map note_of import.now.notes.items) import.now.order.items) agreements told
+        × (string_bytes c.text ≡ told ++ agree_line agreements) × (c.differs ≡ not (length told == 0))) }
+{
+    let names = shown_names(alloc, &import.tables.nodes)?;
+    let mut numbers = zeros(alloc, import.tables.messages.len())?;
+    let mut bench = Bench::new(alloc, names, limits)?;
+    let mut text = String::new(alloc);
+    let differs = checked(
+        &mut bench,
+        &mut text,
+        &mut numbers,
+        &import.notes,
+        &import.order,
+        alloc,
+    );
+    drop(bench);
+    let differs = differs?;
+    Ok(Checked { text, differs })
+}
+
+/// Where the bench and the real nodes part, of logs whose bytes these are.
+pub fn import_check<'a, B: Allocator>(
+    heap: Global,
+    alloc: &'a B,
+    limits: Limits,
+    lenient: bool,
+    bytes: &[u8],
+) -> Result<(Checked<'a, B>, Vec<u64, &'a B>), ImportFault>
+    ensures check { IfOk result (λ c. IsCheckOf lenient limits bytes.now (string_bytes c.0.text) c.0.differs c.1.items) }
+    ensures refused { IfErr result (IsImportFault lenient bytes.now) }
+{
+    let import = imported(heap, alloc, lenient, bytes)?;
+    let found = check_of_import(alloc, limits, &import);
+    let left_out = left_out_of(import);
+    let found = found?;
+    Ok((found, left_out))
 }

@@ -59,7 +59,7 @@ fn put_events<'a, B: Allocator>(
 }
 
 /// So many zeros.
-fn zeros<A: Allocator>(alloc: A, count: usize) -> Result<Vec<u64, A>, Oom>
+pub(crate) fn zeros<A: Allocator>(alloc: A, count: usize) -> Result<Vec<u64, A>, Oom>
     ensures { IfOk result (λ v. v.items ≡ replicate count 0) }
 {
     vec![in alloc; 0u64; count]

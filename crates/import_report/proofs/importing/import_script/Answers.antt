@@ -1,6 +1,7 @@
-use Rattle.std.proofs.Common.{◌∙◌, ◌<◌, List, sym, subst, map, length, slice_index_or, string_bytes, arith}
+use Rattle.std.proofs.Common.{◌∙◌, ◌<◌, ℕ, List, sym, subst, map, length, slice_index_or, string_bytes, arith}
 use Rattle.std.proofs.lemmas.List.{length-map}
 use Rattle.import_core.specs.Tables.{AllTables, all_of}
+use Rattle.import_core.specs.Imports.{IsImportOf}
 use Rattle.import_core.specs.Notes.{Note, note_of}
 use Rattle.import_report.specs.Names.{shown_names}
 use Rattle.import_report.specs.Scripts.{in_order}
@@ -12,14 +13,14 @@ pub script_of_import-scripted-requires-clause-some : goal.script_of_import-scrip
 script_of_import-scripted-requires-clause-some g c =
     let import = c.in_ok-import.import in
     let notes : List Note = map note_of import.notes.items in
-    some_nodes c.args.bytes.now (all_of import.tables) notes import.order.items c.in_ok-import.ensures.import
+    some_nodes c.args.lenient c.args.bytes.now (all_of import.tables) notes import.order.items import.left_out.items c.in_ok-import.ensures.import
 
 pub script_of_import-scripted-requires-clause-places : goal.script_of_import-scripted-requires-clause-places
 script_of_import-scripted-requires-clause-places g c =
     let import = c.in_ok-import.import in
     let notes : List Note = map note_of import.notes.items in
     λ k d low. subst (λ n. slice_index_or import.order.items k d < n) (length-map import.notes.items note_of)
-    (all_places c.args.bytes.now (all_of import.tables) notes import.order.items c.in_ok-import.ensures.import k d low)
+    (all_places c.args.lenient c.args.bytes.now (all_of import.tables) notes import.order.items import.left_out.items c.in_ok-import.ensures.import k d low)
 
 pub returns-clause-script : goal.returns-clause-script
 returns-clause-script g c =
@@ -28,14 +29,14 @@ returns-clause-script g c =
     let notes : List Note = map note_of import.notes.items in
     let past = c.if-len-gt-LONGEST_SCRIPT.false in
     let long = c.len.ensures in
-    let script = script_holds c.args.told c.args.limits c.args.bytes.now t notes import.order.items (string_bytes c.in_ok-scripted.scripted.text)
+    let script = script_holds c.args.lenient c.args.told c.args.limits c.args.bytes.now t notes import.order.items import.left_out.items (string_bytes c.in_ok-scripted.scripted.text)
     c.in_ok-import.ensures.import c.in_ok-scripted.ensures.names c.in_ok-scripted.ensures.count c.in_ok-scripted.ensures.longs
     c.in_ok-scripted.ensures.text (omega (arith, past, long)) in
     record {
       tables = t;
       notes = notes;
       order = import.order.items;
-      import = c.in_ok-import.ensures.import;
+      import = subst (λ (lines : List ℕ). IsImportOf c.args.lenient c.args.bytes.now t notes import.order.items lines) (sym c.left_out_of-left_out.ensures) c.in_ok-import.ensures.import;
       script = script;
       left = c.in_ok-scripted.ensures.bench
           ∙ sym (script_leaves c.args.limits (shown_names t.nodes) (length t.messages) (in_order notes import.order.items) (string_bytes c.in_ok-scripted.scripted.text) script.read);
