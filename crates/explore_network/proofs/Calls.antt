@@ -92,10 +92,10 @@ known_is_told p q path c known os counts key left r is among =
 
 -- one state more is known
 pub known_more : (p : Plan) (q : Question) (path : List ℕ) (c : Cluster) (known mid later : List (List ℕ)) (os new : List Outcome) (counts key : List ℕ) (left : ℕ) → IsReady p q path c known os counts left →
-    key ≡ key_of p.tables p.count p.steps p.ranks counts c → Went p q os mid new → IsTold p q new (steps_at p.steps path) → (later ≡ mid) ⊎ (later ≡ mid ++ key ∷ []) → Went p q os later new
-known_more p q path c known mid later os new counts key left r is went told put = record {
+    key ≡ key_of p.tables p.count p.steps p.ranks counts c → Went p q os mid new → IsTold p q new (steps_at p.steps path) → length mid < p.most → (later ≡ mid) ⊎ (later ≡ mid ++ key ∷ []) → Went p q os later new
+known_more p q path c known mid later os new counts key left r is went told lt put = record {
   more = went.more;
-  keeps = keeps_key p q new key mid later went.keeps (record { first = steps_at p.steps path; counts = counts; cluster = c; at = r.at; is = is; told = told }) put;
+  keeps = keeps_key p q new key mid later went.keeps (record { first = steps_at p.steps path; counts = counts; cluster = c; at = r.at; is = is; told = told }) lt put;
 }
 
 -- what holds of what was answered

@@ -133,6 +133,9 @@ copies_pass p f (t ∷ ts) =
     one_turn None = refl
     one_turn (Some m) = copied p t.node m (f t)
 
+not_more : {l m n b : ℕ} → l ≤ m → n ≡ m → n ≤ b → l ≤ b
+not_more long is le = omega (arith, long, is, le)
+
 copies_long : (f : Turn → ℕ) (ts : List Turn) → length (copies f ts) ≤ total f ts
 copies_long f [] = omega arith
 copies_long f (t ∷ ts) =
@@ -293,8 +296,8 @@ module _ (j w : List Kept) (lost again : ℕ) (ts : List Turn) (are : AreTurns j
     missing = copies gone ts;
     repeated = copies excess ts;
     once = copies single ts;
-    few_missing = (let l = copies_long gone ts in let is = missing_is ts w [] in let le : missing ts (counts_of ts w) 0 ≤ lost = leb-true (missing ts (counts_of ts w) 0) lost (both_true _ _ parts.1).0 in omega (arith, l, is, le));
-    few_repeated = (let l = copies_long excess ts in let is = extra_is ts w [] in let le : extra ts (counts_of ts w) 0 ≤ again = leb-true (extra ts (counts_of ts w) 0) again (both_true _ _ parts.1).1 in omega (arith, l, is, le));
+    few_missing = not_more (copies_long gone ts) (missing_is ts w []) (leb-true (missing ts (counts_of ts w) 0) lost (both_true _ _ parts.1).0);
+    few_repeated = not_more (copies_long excess ts) (extra_is ts w []) (leb-true (extra ts (counts_of ts w) 0) again (both_true _ _ parts.1).1);
     of_these = λ p.
         (let both = runs.count_append p (copies excess ts) (copies single ts) in
         let one = copies_pass p excess ts in

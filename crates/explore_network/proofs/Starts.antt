@@ -77,6 +77,7 @@ starts p q path c known os counts left n plan ran no_path is no_keys begins long
     keys = subst (AllByRecursion (IsKeyOf p q os)) (sym no_keys) tt;
     outcomes = subst (AllByRecursion (IsOutcome p)) (sym begins.1.0) (recorded_outcome p begins.0 ran begins.1.1, tt);
     apart = subst (AreApart q) (sym begins.1.0) (tt, tt);
+    few = (let none = ap length no_keys in omega (arith, none));
   };
   at = record {
     ran = ap (λ l. runs p.limits p.count (steps_at p.steps l)) no_path ∙ ap Ok (sym is);

@@ -67,6 +67,7 @@ keeps_outcome p q known os o k is new = record {
   keys = keys_more p q os (os ++ o ∷ []) known (more_one os o) k.keys;
   outcomes = all_append (IsOutcome p) os (o ∷ []) k.outcomes (is, tt);
   apart = apart_push q os o k.apart (none_of (λ (x : Outcome). same_rows (rows_at q x.cluster) (rows_at q o.cluster)) os new);
+  few = k.few;
 }
 
 -- where nothing need come any more

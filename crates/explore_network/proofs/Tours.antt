@@ -55,10 +55,10 @@ key_among p q os key (x ∷ keys) all (inl same) = subst (IsKeyOf p q os) same a
 key_among p q os key (x ∷ keys) all (inr rest) = key_among p q os key keys all.1 rest
 
 -- one key more
-pub keeps_key : (p : Plan) (q : Question) (os : List Outcome) (key : List ℕ) (old new : List (List ℕ)) → Keeps p q old os → IsKeyOf p q os key → (new ≡ old) ⊎ (new ≡ old ++ key ∷ []) → Keeps p q new os
-keeps_key p q os key old new k is (inl same) = subst (λ (l : List (List ℕ)). Keeps p q l os) (sym same) k
-keeps_key p q os key old new k is (inr more) = subst (λ (l : List (List ℕ)). Keeps p q l os) (sym more)
-    (record { keys = all_append (IsKeyOf p q os) old (key ∷ []) k.keys (is, tt); outcomes = k.outcomes; apart = k.apart })
+pub keeps_key : (p : Plan) (q : Question) (os : List Outcome) (key : List ℕ) (old new : List (List ℕ)) → Keeps p q old os → IsKeyOf p q os key → length old < p.most → (new ≡ old) ⊎ (new ≡ old ++ key ∷ []) → Keeps p q new os
+keeps_key p q os key old new k is lt (inl same) = subst (λ (l : List (List ℕ)). Keeps p q l os) (sym same) k
+keeps_key p q os key old new k is lt (inr more) = subst (λ (l : List (List ℕ)). Keeps p q l os) (sym more)
+    (record { keys = all_append (IsKeyOf p q os) old (key ∷ []) k.keys (is, tt); outcomes = k.outcomes; apart = k.apart; few = (let long = length-append old (key ∷ []) in omega (arith, long, lt)) })
 
 -- going on behind a step
 

@@ -23,6 +23,8 @@ pub record Plan : Type 0 where
   pub steps : List Kept
   pub lost : ℕ
   pub again : ℕ
+  -- how many states may be kept
+  pub most : ℕ
   pub turns : List Turn
   pub ranks : List Rank
   pub tables : Tables
@@ -38,14 +40,14 @@ rank_code =
     (λ p. record { turn = p.0; before = p.1.0; number = p.1.1 }) (λ _. refl)
 
 abbrev Stored : Type 0
-Stored = NodeLimits × (ℕ × (List Kept × (ℕ × (ℕ × (List Turn × (List Rank × Tables))))))
+Stored = NodeLimits × (ℕ × (List Kept × (ℕ × (ℕ × (ℕ × (List Turn × (List Rank × Tables)))))))
 
 abbrev pub plan_code : Coded Plan
 plan_code =
     code_by Stored
-    (coded× node_limits_code (coded× coded_ℕ (coded× (coded_list kept_code) (coded× coded_ℕ (coded× coded_ℕ (coded× (coded_list turn_code) (coded× (coded_list rank_code) tables_code)))))))
-    (λ p. (p.limits, (p.count, (p.steps, (p.lost, (p.again, (p.turns, (p.ranks, p.tables))))))))
-    (λ t. record { limits = t.0; count = t.1.0; steps = t.1.1.0; lost = t.1.1.1.0; again = t.1.1.1.1.0; turns = t.1.1.1.1.1.0; ranks = t.1.1.1.1.1.1.0; tables = t.1.1.1.1.1.1.1 }) (λ _. refl)
+    (coded× node_limits_code (coded× coded_ℕ (coded× (coded_list kept_code) (coded× coded_ℕ (coded× coded_ℕ (coded× coded_ℕ (coded× (coded_list turn_code) (coded× (coded_list rank_code) tables_code))))))))
+    (λ p. (p.limits, (p.count, (p.steps, (p.lost, (p.again, (p.most, (p.turns, (p.ranks, p.tables)))))))))
+    (λ t. record { limits = t.0; count = t.1.0; steps = t.1.1.0; lost = t.1.1.1.0; again = t.1.1.1.1.0; most = t.1.1.1.1.1.0; turns = t.1.1.1.1.1.1.0; ranks = t.1.1.1.1.1.1.1.0; tables = t.1.1.1.1.1.1.1.1 }) (λ _. refl)
 
 -- all that is fixed, and the clusters that were told
 abbrev pub walk_of : Plan → (Cluster → Bool) → Walk

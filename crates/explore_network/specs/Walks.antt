@@ -1,5 +1,5 @@
 -- Where a walk stands, what was told, and what is settled by it.
-use Rattle.std.specs.Prelude.{◌≡◌, ℕ, ◌+◌, Bool, true, false, List, [], ◌∷◌, ◌++◌, length, slice_get, Option, Some, None, Ok, refl}
+use Rattle.std.specs.Prelude.{◌≡◌, ℕ, ◌+◌, ◌≤◌, Bool, true, false, List, [], ◌∷◌, ◌++◌, length, slice_get, Option, Some, None, Ok, refl}
 use Rattle.std.specs.Coded.{Coded, code_by, coded×, coded_ℕ, coded_list}
 use Rattle.std.specs.List.{AllByRecursion, list_any}
 use Rattle.node_core.specs.Nodes.{node_code}
@@ -83,6 +83,7 @@ pub record Keeps (p : Plan) (q : Question) (known : List (List ℕ)) (os : List 
   pub keys : AllByRecursion (IsKeyOf p q os) known
   pub outcomes : AllByRecursion (IsOutcome p) os
   pub apart : AreApart q os
+  pub few : length known ≤ p.most
 
 -- there are these outcomes, and perhaps more
 abbrev pub AreMore : List Outcome → List Outcome → Type 0

@@ -52,6 +52,7 @@ fn plan_of<'a, B: Allocator>(
     question: &Question<&'a B>,
     lost: usize,
     again: usize,
+    most: usize,
     alloc: &'a B,
 ) -> Result<Plan<'a, B>, Oom>
     requires few { count ≤ 32 }
@@ -63,6 +64,7 @@ fn plan_of<'a, B: Allocator>(
     ensures steps { IfOk result (λ plan. plan.steps ≡ steps.entry.items) }
     ensures lost { IfOk result (λ plan. plan.lost ≡ lost) }
     ensures again { IfOk result (λ plan. plan.again ≡ again) }
+    ensures most { IfOk result (λ plan. plan.most ≡ most) }
     ensures plan { IfOk result (λ plan. (end : PlainCluster) → runs limits count steps.entry.items ≡ Ok end → IsPlan plan question.now) }
 {
     let turns = turns_of(&steps, count, alloc)?;
@@ -76,6 +78,7 @@ fn plan_of<'a, B: Allocator>(
         steps,
         lost,
         again,
+        most,
         turns,
         ranks,
         cone,
@@ -137,17 +140,16 @@ fn begun<'a, B: Allocator>(tour: &Tour<'_, 'a, B>, alloc: &'a B) -> Result<Walk<
 fn explore_plan<'a, B: Allocator>(
     plan: &Plan<'a, B>,
     question: &Question<&'a B>,
-    most: usize,
     alloc: &'a B,
 ) -> Result<Explored<'a, B>, Stop>
     requires plan { IsPlan plan.now question.now }
     requires ran { Runs plan.now }
-    ensures { IfOk result (λ e. AllIsTold plan.now question.now e.outcomes.items) }
+    ensures told { IfOk result (λ e. AllIsTold plan.now question.now e.outcomes.items) }
+    ensures most { IfOk result (λ e. e.states ≤ plan.now.most) }
 {
     let tour = Tour {
         plan,
         question,
-        most,
         alloc,
     };
     let mut walk = begun(&tour, alloc)?;
@@ -182,6 +184,7 @@ pub fn explore<'a, B: Allocator>(
     ensures invents_nothing { IfOk result (λ e. InventsNothing bench.now lost again e.outcomes.items) }
     ensures distinct { IfOk result (λ e. AreDistinct question.now e.outcomes.items) }
     ensures first { IfOk result (λ e. BeginsAsRecorded bench.now e.outcomes.items) }
+    ensures most { IfOk result (λ e. e.states ≤ most) }
     ensures may_fill { result ≡ Err ExploreFault.MayFill → (node_limits bench.now.limits).entries < made bench.now.state.remaining }
     ensures fills_not { IsOk result → made bench.now.state.remaining ≤ (node_limits bench.now.limits).entries }
 {
@@ -192,8 +195,8 @@ pub fn explore<'a, B: Allocator>(
         return Err(ExploreFault::MayFill);
     }
     let count = bench.names().len() as u16;
-    let plan = plan_of(steps, count, limits, question, lost, again, alloc)?;
-    let explored = explore_plan(&plan, question, most, alloc);
+    let plan = plan_of(steps, count, limits, question, lost, again, most, alloc)?;
+    let explored = explore_plan(&plan, question, alloc);
     drop(plan);
     match explored {
         Ok(explored) => Ok(explored),

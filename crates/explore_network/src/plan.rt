@@ -20,6 +20,8 @@ pub(crate) struct Plan<'a, B: Allocator> {
     pub(crate) lost: usize,
     /// So many may come a second time.
     pub(crate) again: usize,
+    /// So many states may be kept.
+    pub(crate) most: usize,
     pub(crate) turns: Vec<Turn, &'a B>,
     pub(crate) ranks: Vec<Rank, &'a B>,
     pub(crate) cone: Cone<'a, B>,
@@ -38,6 +40,7 @@ impl<'a, B: Allocator> Model for Plan<'a, B> {
       steps = p.steps.items;
       lost = p.lost;
       again = p.again;
+      most = p.most;
       turns = p.turns.items;
       ranks = p.ranks.items;
       tables = p.cone;
@@ -74,6 +77,12 @@ impl<'a, B: Allocator> Plan<'a, B> {
         ensures { result ≡ self.now.again }
     {
         self.again
+    }
+
+    pub(crate) fn most(&self) -> usize
+        ensures { result ≡ self.now.most }
+    {
+        self.most
     }
 
     pub(crate) fn turns(&self) -> &[Turn]

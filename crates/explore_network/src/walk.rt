@@ -25,8 +25,6 @@ use std::alloc::Allocator;
 pub(crate) struct Tour<'t, 'a, B: Allocator> {
     pub(crate) plan: &'t Plan<'a, B>,
     pub(crate) question: &'t Question<&'a B>,
-    /// So many states may be kept.
-    pub(crate) most: usize,
     pub(crate) alloc: &'a B,
 }
 
@@ -323,7 +321,7 @@ fn tell_once<'a, B: Allocator>(
         return Ok(());
     }
     tell_all(tour, walk, counts, left)?;
-    if walk.settled.len() >= tour.most {
+    if walk.settled.len() >= tour.plan.most() {
         return Err(Stop::TooManyStates {
             outcomes: walk.outcomes.len(),
         });

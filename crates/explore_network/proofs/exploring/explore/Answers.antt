@@ -11,7 +11,7 @@ returns-in-Ok-clause-misses_nothing g c =
       steps = c.in_ok-plan.ensures.steps ∙ c.in_ok-steps.ensures ∙ c.remaining.ensures.steps;
       lost = c.in_ok-plan.ensures.lost;
       again = c.in_ok-plan.ensures.again;
-    }) c.in-Ok.explored.outcomes.items c.in-Ok.ensures
+    }) c.in-Ok.explored.outcomes.items c.in-Ok.ensures.told
 
 pub returns-in-Ok-clause-invents_nothing : goal.returns-in-Ok-clause-invents_nothing
 returns-in-Ok-clause-invents_nothing g c =
@@ -21,7 +21,7 @@ returns-in-Ok-clause-invents_nothing g c =
       steps = c.in_ok-plan.ensures.steps ∙ c.in_ok-steps.ensures ∙ c.remaining.ensures.steps;
       lost = c.in_ok-plan.ensures.lost;
       again = c.in_ok-plan.ensures.again;
-    }) c.in-Ok.explored.outcomes.items c.in-Ok.ensures
+    }) c.in-Ok.explored.outcomes.items c.in-Ok.ensures.told
 
 pub returns-in-Ok-clause-distinct : goal.returns-in-Ok-clause-distinct
 returns-in-Ok-clause-distinct g c =
@@ -31,4 +31,4 @@ returns-in-Ok-clause-distinct g c =
       steps = c.in_ok-plan.ensures.steps ∙ c.in_ok-steps.ensures ∙ c.remaining.ensures.steps;
       lost = c.in_ok-plan.ensures.lost;
       again = c.in_ok-plan.ensures.again;
-    }) c.in-Ok.explored.outcomes.items c.in-Ok.ensures
+    }) c.in-Ok.explored.outcomes.items c.in-Ok.ensures.told

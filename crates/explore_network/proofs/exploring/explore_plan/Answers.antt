@@ -8,7 +8,7 @@ visit-requires g c =
     (length c.steps.result.now + c.again.result) (length c.turns.result.now) c.requires.plan c.requires.ran c.in_ok-walk.ensures.path c.in_ok-walk.ensures.cluster c.in_ok-walk.ensures.settled c.in_ok-walk.ensures.outcomes
     (ap length c.turns.ensures) (c.deref.ensures.value ∙ c.in_ok-counts.ensures) (λ i. length (c.steps.ensures i) + c.again.ensures i)
 
-pub returns : goal.returns
-returns g c =
+pub returns-clause-told : goal.returns-clause-told
+returns-clause-told g c =
     ends_told c.args.plan.now c.args.question.now c.in_ok-walk.walk.path.items c.in_ok-walk.walk.outcomes.items c.visit.new.walk.outcomes.items c.visit.new.walk.settled c.in_ok-walk.ensures.path
     c.in_ok-walk.ensures.outcomes c.in_ok-visit.ensures.went c.in_ok-visit.ensures.told

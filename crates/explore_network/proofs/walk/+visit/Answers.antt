@@ -108,7 +108,7 @@ tell_once-returns-then-has-clause-told g t c =
 pub tell_once-returns-clause-went : goal.tell_once-returns-clause-went
 tell_once-returns-clause-went g t c =
     known_more c.args.tour.now.plan.now c.args.tour.now.question.now c.args.walk.now.path.items c.args.walk.now.cluster c.args.walk.now.settled c.tell_all.new.walk.settled c.put.new.self c.args.walk.now.outcomes.items
-    c.tell_all.new.walk.outcomes.items c.args.counts.now c.in_ok-key.key.items c.args.left c.requires c.in_ok-key.ensures c.in_ok-tell_all.ensures.went c.in_ok-tell_all.ensures.told c.in_ok-put.ensures
+    c.tell_all.new.walk.outcomes.items c.args.counts.now c.in_ok-key.key.items c.args.left c.requires c.in_ok-key.ensures c.in_ok-tell_all.ensures.went c.in_ok-tell_all.ensures.told (let lt = c.if-len-most.false in let n = c.len.ensures in let m = c.most.ensures in omega (arith, lt, n, m)) c.in_ok-put.ensures
 
 pub through-returns-in-Err : goal.through-returns-in-Err
 through-returns-in-Err g t c =
