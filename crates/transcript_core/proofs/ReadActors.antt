@@ -53,8 +53,7 @@ taken_by nodes before texts all text e =
     go false a true also e = absurd (cc)
     go false a false also e =
         let first = neither (not (is_name text)) (is_some (keyword_of text)) a in
-        let second = neither (is_some (number_in nodes text)) (list_any (bytes_eq text) before) also in
-        (
+        let second = neither (is_some (number_in nodes text)) (list_any (bytes_eq text) before) also in (
           record {
             name = negated (is_name text) first.0;
             plain = none_of (keyword_of text) first.1;

@@ -100,8 +100,7 @@ module _ (cast : Cast) (are : AreNodes cast.nodes) (consoles : AreConsoles cast.
       let words = codes "back" ∷ name_at cast.nodes node ∷ [] in
       let other : name_at cast.nodes node ≡ actor_name cast node = node_name cast node low in
       let line : FitsLine (name ∷ words) =
-      wide_line (name ∷ words)
-      (
+      wide_line (name ∷ words) (
         wide_name actor within,
         (
           verb_fits (codes "back") refl (omega arith),
