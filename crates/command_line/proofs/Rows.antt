@@ -1,10 +1,10 @@
 -- The name and the rows of a subcommand that was entered, and what they choose.
-use Rattle.std.proofs.Common.{◌≡◌, ℕ, List, codes, Option, Some, None, option_map, inl, inr, refl, sym, subst, ◌∙◌}
+use Rattle.std.proofs.Common.{◌≡◌, ℕ, Bool, List, codes, Option, Some, None, option_map, inl, inr, refl, sym, subst, ◌∙◌}
 use Rattle.std.proofs.lemmas.Option.{IfSome_then}
 use Rattle.command_line.specs.declared.chosen.Choice.{Choice}
 use Rattle.clap.specs.Words.{HasKind, Row, fault_of, first_of, kind_of, subcommand_of}
 use Rattle.clap.specs.declared.error.Error.{Error}
-use Rattle.command_line.specs.Line.{Chooses, IsChoiceOf, IsForm, IsNumber, IsReading, IsRefusal, app}
+use Rattle.command_line.specs.Line.{Chooses, IsChoiceOf, IsFlag, IsForm, IsNumber, IsReading, IsRefusal, app, usual_form}
 
 abbrev pair : {A B C : Type 0} → (A → B) → (A → C) → A → B × C
 pair f g a = (f a, g a)
@@ -23,15 +23,20 @@ pub chosen_alike : (name : List ℕ) (values others : List ℕ → Option (List 
 chosen_alike name values others choice same is =
     let number : (option : List ℕ) (n : Option ℕ) → IsNumber (values option) n → IsNumber (others option) n =
     λ option n h. subst (λ (o : Option (List ℕ)). IsNumber o n) (same option) h in
+    let flag : (option : List ℕ) (b : Bool) → IsFlag (values option) b → IsFlag (others option) b =
+    λ option b h. subst (λ (o : Option (List ℕ)). IsFlag o b) (same option) h in
     record {
       name_is = is.name_is;
-      form = subst (λ (o : Option (List ℕ)). IsForm o choice.form) (same (codes "as")) is.form;
+      form = subst (λ (o : Option (List ℕ)). IsForm (usual_form choice.command) o choice.form) (same (codes "as")) is.form;
       options = is.options;
       options_are = record {
         reading = subst (λ (o : Option (List ℕ)). IsReading o is.options.reading) (same (codes "deliveries")) is.options_are.reading;
         why = number (codes "why") is.options.why is.options_are.why;
         states = number (codes "states") is.options.states is.options_are.states;
         script = number (codes "script") is.options.script is.options_are.script;
+        check = flag (codes "check") is.options.check is.options_are.check;
+        lines = flag (codes "lines") is.options.lines is.options_are.lines;
+        lenient = flag (codes "lenient") is.options.lenient is.options_are.lenient;
       };
       question = is.question;
       question_is = IfSome_then is.question is.question_is (λ question asked. record {

@@ -1,11 +1,11 @@
 -- What the command line takes, and what words choose.
-use Rattle.std.specs.Prelude.{◌≡◌, ◌≢◌, ◌⊎◌, ◌<◌, ◌^◌, ℕ, List, codes, true, ⊤, Option, Some, None, IfSome, unwrap_or}
+use Rattle.std.specs.Prelude.{◌≡◌, ◌≢◌, ◌⊎◌, ◌<◌, ◌^◌, ℕ, List, codes, Bool, true, false, not, ⊤, Option, Some, None, IfSome, unwrap_or}
 use Rattle.std.specs.Str.Parse.{IsNumeral, digits_value, without_leading_plus}
 use Rattle.clap.specs.Words.{App, IsAmong, Row, Rule, fault_of, first_of, new_app, new_rule, with_rule, with_subcommand, subcommand_of}
 use Rattle.command_line.specs.declared.chosen.Form.{Form}
-use Rattle.command_line.specs.declared.chosen.Form.TheVariants.{Report, Session}
+use Rattle.command_line.specs.declared.chosen.Form.TheVariants.{Report, Session, Script}
 use Rattle.command_line.specs.declared.chosen.Subcommand.{Subcommand}
-use Rattle.command_line.specs.declared.chosen.Subcommand.TheVariants.{Play, Race, Load, Explore, Step, Draw, Explain, Whatif}
+use Rattle.command_line.specs.declared.chosen.Subcommand.TheVariants.{Play, Race, Load, Import, Explore, Step, Draw, Explain, Whatif}
 use Rattle.command_line.specs.declared.chosen.Question.{Question}
 use Rattle.command_line.specs.declared.chosen.Choice.{Choice}
 use Rattle.command_line.specs.declared.chosen.Options.{Options}
@@ -35,14 +35,19 @@ number_rule name = record (new_rule name) { long = Some name; value_names = 1 }
 abbrev pub step_app : App
 step_app = new_app (codes "step")
 
--- the option that moves deliveries alone
-abbrev pub deliveries_rule : Rule
-deliveries_rule = record (new_rule (codes "deliveries")) { long = Some (codes "deliveries"); action = Some SetTrue }
+-- an option that takes nothing
+abbrev pub flag_rule : List ℕ → Rule
+flag_rule name = record (new_rule name) { long = Some name; action = Some SetTrue }
 
 abbrev pub explore_app : App
 explore_app =
-    with_rule (with_rule (with_rule (with_rule (new_app (codes "explore")) as_rule) deliveries_rule) (number_rule (codes "states")))
+    with_rule (with_rule (with_rule (with_rule (new_app (codes "explore")) as_rule) (flag_rule (codes "deliveries"))) (number_rule (codes "states")))
     (number_rule (codes "script"))
+
+abbrev pub import_app : App
+import_app =
+    with_rule (with_rule (with_rule (with_rule (new_app (codes "import")) as_rule) (flag_rule (codes "check"))) (flag_rule (codes "lines")))
+    (flag_rule (codes "lenient"))
 
 abbrev pub draw_app : App
 draw_app = with_rule (new_app (codes "draw")) (number_rule (codes "why"))
@@ -70,12 +75,14 @@ bare_app =
 abbrev pub app : App
 app =
     let older = with_subcommand (with_subcommand (with_subcommand (with_subcommand bare_app play_app.top) race_app.top) load_app.top) explore_app.top in
-    with_subcommand (with_subcommand (with_subcommand (with_subcommand older step_app.top) draw_app.top) explain_app.top) whatif_app.top
+    let newer = with_subcommand (with_subcommand (with_subcommand (with_subcommand older step_app.top) draw_app.top) explain_app.top) whatif_app.top in
+    with_subcommand newer import_app.top
 
 abbrev pub name_of : Subcommand → List ℕ
 name_of Play = codes "play"
 name_of Race = codes "race"
 name_of Load = codes "load"
+name_of (Import check lines lenient) = codes "import"
 name_of (Explore reading states outcome) = codes "explore"
 name_of Step = codes "step"
 name_of (Draw why) = codes "draw"
@@ -85,11 +92,22 @@ name_of (Whatif question change) = codes "whatif"
 abbrev pub form_name : Form → List ℕ
 form_name Report = codes "report"
 form_name Session = codes "session"
+form_name Script = codes "script"
 
--- the form that a value names; without a value it is the report
-abbrev pub IsForm : Option (List ℕ) → Form → Type 0
-IsForm None form = form ≡ Report
-IsForm (Some name) form = name ≡ form_name form
+-- the form in which a subcommand prints where none is named
+abbrev pub usual_form : Subcommand → Form
+usual_form (Import check lines lenient) = Script
+usual_form command = Report
+
+-- the form that a value names; without a value it is the usual one
+abbrev pub IsForm : Form → Option (List ℕ) → Form → Type 0
+IsForm usual None form = form ≡ usual
+IsForm usual (Some name) form = name ≡ form_name form
+
+-- an option that takes nothing is there where its value is `true`
+abbrev pub IsFlag : Option (List ℕ) → Bool → Type 0
+IsFlag value true = value ≡ Some (codes "true")
+IsFlag value false = value ≢ Some (codes "true")
 
 -- the number that a value spells, which has at most 64 bits; without a value there is none
 abbrev pub IsNumber : Option (List ℕ) → Option ℕ → Type 0
@@ -108,6 +126,9 @@ pub record AreOptions (values : List ℕ → Option (List ℕ)) (options : Optio
   pub why : IsNumber (values (codes "why")) options.why
   pub states : IsNumber (values (codes "states")) options.states
   pub script : IsNumber (values (codes "script")) options.script
+  pub check : IsFlag (values (codes "check")) options.check
+  pub lines : IsFlag (values (codes "lines")) options.lines
+  pub lenient : IsFlag (values (codes "lenient")) options.lenient
 
 -- the words that come in their places
 pub record IsQuestion (values : List ℕ → Option (List ℕ)) (question : Question) : Type 0 where
@@ -123,31 +144,40 @@ Takes options question (Explore reading states outcome) =
 Takes options question Play = ⊤
 Takes options question Race = ⊤
 Takes options question Load = ⊤
+Takes options question (Import check lines lenient) = (check ≡ options.check) × (lines ≡ options.lines) × (lenient ≡ options.lenient)
 Takes options question Step = ⊤
 Takes options question (Explain asked) = question ≡ Some asked
 Takes options question (Whatif asked change) = (question ≡ Some asked) × (change ≡ options.script)
 
--- of all orders a report alone is printed
-abbrev pub CanPrint : Subcommand → Form → Type 0
-CanPrint (Explore reading states outcome) form = form ≡ Report
-CanPrint Play form = ⊤
-CanPrint Race form = ⊤
-CanPrint Load form = ⊤
-CanPrint Step form = ⊤
-CanPrint (Draw why) form = ⊤
-CanPrint (Explain question) form = ⊤
-CanPrint (Whatif question change) form = ⊤
+abbrev pub is_report : Form → Bool
+is_report Report = true
+is_report form = false
+
+abbrev pub is_script : Form → Bool
+is_script Script = true
+is_script form = false
+
+-- a check is printed in its own form alone
+abbrev pub import_prints : Bool → Form → Bool
+import_prints check Session = not check
+import_prints check form = is_script form
+
+-- all orders are told as a report alone, an import as a script or a session, and all else as a report or a session
+abbrev pub can_print : Subcommand → Form → Bool
+can_print (Explore reading states outcome) form = is_report form
+can_print (Import check lines lenient) form = import_prints check form
+can_print command form = not (is_script form)
 
 -- the subcommand has this name, and the form and the rest those that its options and words give
 pub record IsChoiceOf (name : List ℕ) (values : List ℕ → Option (List ℕ)) (choice : Choice) : Type 0 where
   pub name_is : name ≡ name_of choice.command
-  pub form : IsForm (values (codes "as")) choice.form
+  pub form : IsForm (usual_form choice.command) (values (codes "as")) choice.form
   pub options : Options
   pub options_are : AreOptions values options
   pub question : Option Question
   pub question_is : IfSome question (IsQuestion values)
   pub takes : Takes options question choice.command
-  pub printed : CanPrint choice.command choice.form
+  pub printed : can_print choice.command choice.form ≡ true
 
 -- the subcommand asks
 abbrev pub Asks : Subcommand → Type 0
@@ -156,6 +186,7 @@ Asks (Whatif question change) = ⊤
 Asks Play = ⊥
 Asks Race = ⊥
 Asks Load = ⊥
+Asks (Import check lines lenient) = ⊥
 Asks (Explore reading states outcome) = ⊥
 Asks Step = ⊥
 Asks (Draw why) = ⊥

@@ -26,6 +26,13 @@ pub enum Subcommand<'w> {
     Race,
     /// Plays a saved session again.
     Load,
+    /// Makes a script of the events of logs. With `check` it tells instead where the bench and the real nodes part; with `lines`
+    /// each line stands behind the number of its event's line; `lenient` leaves out what takes a message that no line sends.
+    Import {
+        check: bool,
+        lines: bool,
+        lenient: bool,
+    },
     /// Asks the act lines of a script in every order by a reading, keeping no more different states than so many; prints what they
     /// lead to, or the order of the outcome of this number alone.
     Explore {
@@ -48,13 +55,15 @@ pub enum Subcommand<'w> {
     },
 }
 
-/// What it prints of the bench that was played on.
+/// What it prints.
 #[derive(Clone, Copy, Debug, PartialEq, Eq)]
 pub enum Form {
     /// The report.
     Report,
     /// The session, which can be loaded again.
     Session,
+    /// A script, which can be played.
+    Script,
 }
 
 /// What the words of a command line ask.
@@ -75,4 +84,10 @@ pub struct Options {
     pub states: Option<u64>,
     /// The outcome or the change of `--script`.
     pub script: Option<u64>,
+    /// Whether there is `--check`.
+    pub check: bool,
+    /// Whether there is `--lines`.
+    pub lines: bool,
+    /// Whether there is `--lenient`.
+    pub lenient: bool,
 }

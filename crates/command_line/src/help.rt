@@ -12,6 +12,9 @@ pub const RACE: &str =
 
 pub const LOAD: &str = "Plays the session on standard input again, and compares every reply";
 
+pub const IMPORT: &str =
+    "Makes a script of the events of logs on standard input, a JSON object a line";
+
 pub const EXPLORE: &str =
     "Tells what the act lines of the script on standard input lead to, in every order of its actors";
 
@@ -38,6 +41,14 @@ pub const WHY: &str = "The number of a step, to paint it and all that follows fr
 pub const DELIVERIES: &str =
     "Move the deliveries of each node alone, and leave all other lines where they are";
 
+pub const CHECK: &str =
+    "Print where the bench and the real nodes part instead; the status is 6 where they do";
+
+pub const LINES: &str = "Put a comment with the number of its event's line before each line";
+
+pub const LENIENT: &str =
+    "Leave out what takes a message that no line sends, as where logs begin in the middle";
+
 pub const STATES: &str =
     "The most different states to keep, 100000 as without it; where there are more, that is told";
 
@@ -49,6 +60,9 @@ pub const CHANGE: &str =
 
 pub const FORM: &str =
     "What to print: report (as without it), or session, which load takes; of explore the report alone";
+
+pub const IMPORT_FORM: &str =
+    "What to print: script (as without it), which play takes, or session, which load takes";
 
 /// The whole script language, in one screen.
 pub const LANGUAGE: &str = "\

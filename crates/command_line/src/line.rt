@@ -2,7 +2,7 @@
 ghost use Rattle.std.specs.Prelude.{◌≡◌, ℕ, IfErr, IfNone, IfOk, IfSome, OnErr, Option, codes, map, false};
 ghost use Rattle.clap.specs.Words.{app_of, first_value, found_of, kind_of, new_app, rule_of, with_rule, with_subcommand};
 ghost use Rattle.clap.specs.declared.Command.TheViews.{out-Command as fields_of};
-ghost use Rattle.command_line.specs.Line.{app, as_rule, bare_app, draw_app, explain_app, explore_app, number_rule, deliveries_rule, question_app, step_app, whatif_app, word_rule, AreOptions, Chooses, IsChoiceOf, IsForm, IsNumber, IsQuestion, IsReading, IsRefusal, IsUnnamed, Takes, name_of};
+ghost use Rattle.command_line.specs.Line.{app, as_rule, bare_app, draw_app, explain_app, explore_app, number_rule, flag_rule, import_app, question_app, step_app, whatif_app, word_rule, AreOptions, Chooses, IsChoiceOf, IsFlag, IsForm, IsNumber, IsQuestion, IsReading, IsRefusal, IsUnnamed, Takes, can_print, name_of, usual_form};
 ghost use Rattle.command_line.specs.declared.chosen.Choice.{Choice as Chosen};
 ghost use Rattle.command_line.specs.declared.chosen.Form.{Form as Shown};
 ghost use Rattle.command_line.specs.declared.chosen.Options.{Options as Given};
@@ -10,8 +10,9 @@ ghost use Rattle.command_line.specs.declared.chosen.Question.{Question as Asked}
 
 use crate::chosen::{Choice, Form, Options, Question, Reading, Subcommand};
 use crate::help::{
-    CHANGE, DELIVERIES, DRAW, EXPLAIN, EXPLORE, FORM, KEY, LANGUAGE, LOAD, NODE, ORDER, PLAY,
-    PURPOSE, RACE, STATES, STEP, TOPIC, VERSION, WHATIF, WHY,
+    CHANGE, CHECK, DELIVERIES, DRAW, EXPLAIN, EXPLORE, FORM, IMPORT, IMPORT_FORM, KEY, LANGUAGE,
+    LENIENT, LINES, LOAD, NODE, ORDER, PLAY, PURPOSE, RACE, STATES, STEP, TOPIC, VERSION, WHATIF,
+    WHY,
 };
 use clap::error::ErrorKind;
 use clap::{Arg, ArgAction, ArgMatches, Command, Error};
@@ -22,14 +23,14 @@ use std::convert::AsStr;
 const MOST_STATES: u64 = 100_000;
 
 /// The option that names a form.
-fn form_option<'a>(alloc: Global) -> Arg<'a>
+fn form_option<'a>(alloc: Global, about: &'a str) -> Arg<'a>
     ensures rule { rule_of result ≡ as_rule }
     ensures local { result.global ≡ false }
 {
     Arg::new(alloc, "as")
         .long("as")
         .value_name("FORM")
-        .help(FORM)
+        .help(about)
 }
 
 /// An option that takes a number.
@@ -43,15 +44,15 @@ fn number_option<'a>(alloc: Global, name: &'a str, about: &'a str) -> Arg<'a>
         .help(about)
 }
 
-/// The option that moves deliveries alone.
-fn deliveries_option<'a>(alloc: Global) -> Arg<'a>
-    ensures rule { rule_of result ≡ deliveries_rule }
+/// An option that takes nothing.
+fn flag<'a>(alloc: Global, name: &'a str, about: &'a str) -> Arg<'a>
+    ensures rule { rule_of result ≡ flag_rule name.entry.now }
     ensures local { result.global ≡ false }
 {
-    Arg::new(alloc, "deliveries")
-        .long("deliveries")
+    Arg::new(alloc, name)
+        .long(name)
         .action(ArgAction::SetTrue)
-        .help(DELIVERIES)
+        .help(about)
 }
 
 /// A word that comes in its place.
@@ -75,7 +76,7 @@ fn form_line<'a>(alloc: Global, name: &'a str, about: &'a str) -> Result<Command
     ensures app { IfOk result (λ line. app_of line ≡ with_rule (new_app name.entry.now) as_rule) }
     ensures local { IfOk result (λ line. (fields_of line).has_globals ≡ false) }
 {
-    bare_subcommand(alloc, name, about).arg(form_option(alloc))
+    bare_subcommand(alloc, name, about).arg(form_option(alloc, FORM))
 }
 
 /// The subcommand that tries all orders.
@@ -84,9 +85,21 @@ fn explore_line<'a>(alloc: Global) -> Result<Command<'a>, AllocError>
     ensures local { IfOk result (λ line. (fields_of line).has_globals ≡ false) }
 {
     form_line(alloc, "explore", EXPLORE)?
-        .arg(deliveries_option(alloc))?
+        .arg(flag(alloc, "deliveries", DELIVERIES))?
         .arg(number_option(alloc, "states", STATES))?
         .arg(number_option(alloc, "script", ORDER))
+}
+
+/// The subcommand that makes a script of logs.
+fn import_line<'a>(alloc: Global) -> Result<Command<'a>, AllocError>
+    ensures app { IfOk result (λ line. app_of line ≡ import_app) }
+    ensures local { IfOk result (λ line. (fields_of line).has_globals ≡ false) }
+{
+    bare_subcommand(alloc, "import", IMPORT)
+        .arg(form_option(alloc, IMPORT_FORM))?
+        .arg(flag(alloc, "check", CHECK))?
+        .arg(flag(alloc, "lines", LINES))?
+        .arg(flag(alloc, "lenient", LENIENT))
 }
 
 /// The subcommand that is a prompt.
@@ -185,6 +198,14 @@ fn with_whatif<'a>(line: Command<'a>, alloc: Global) -> Result<Command<'a>, Allo
     line.subcommand(added)
 }
 
+/// The line with one more subcommand, which makes a script of logs.
+fn with_import<'a>(line: Command<'a>, alloc: Global) -> Result<Command<'a>, AllocError>
+    ensures { IfOk result (λ longer. app_of longer ≡ with_subcommand (app_of line.entry) import_app.top) }
+{
+    let added = import_line(alloc)?;
+    line.subcommand(added)
+}
+
 /// The whole line. Each call takes the line before along, so that nothing large lives at an early end.
 fn line<'a>(alloc: Global) -> Result<Command<'a>, AllocError>
     ensures { IfOk result (λ line. app_of line ≡ app) }
@@ -196,7 +217,8 @@ fn line<'a>(alloc: Global) -> Result<Command<'a>, AllocError>
     let line = line.subcommand(step_line(alloc))?;
     let line = with_draw(line, alloc)?;
     let line = with_explain(line, alloc)?;
-    with_whatif(line, alloc)
+    let line = with_whatif(line, alloc)?;
+    with_import(line, alloc)
 }
 
 /// The words that come in their places, where all three are there.
@@ -225,6 +247,11 @@ fn command_of<'a>(
         "play" => Some(Subcommand::Play),
         "race" => Some(Subcommand::Race),
         "load" => Some(Subcommand::Load),
+        "import" => Some(Subcommand::Import {
+            check: options.check,
+            lines: options.lines,
+            lenient: options.lenient,
+        }),
         "explore" => Some(Subcommand::Explore {
             reading: options.reading,
             states: options.states.unwrap_or(MOST_STATES) as usize,
@@ -241,15 +268,49 @@ fn command_of<'a>(
     }
 }
 
-/// The form that a subcommand's words name, the report where they name none.
-fn form_of<'a>(matches: &ArgMatches<'a>) -> Option<Form>
-    ensures some { IfSome result (IsForm (first_value (found_of matches.now) (codes "as"))) }
-    ensures none { IfNone result ((form : Shown) → ¬ IsForm (first_value (found_of matches.now) (codes "as")) form) }
+/// What the subcommand prints where no form is named.
+fn usual_form(command: Subcommand<'_>) -> Form
+    ensures { result ≡ usual_form command.entry }
+{
+    match command {
+        Subcommand::Import { .. } => Form::Script,
+        _ => Form::Report,
+    }
+}
+
+/// The form that a subcommand's words name, the usual one where they name none.
+fn form_of<'a>(matches: &ArgMatches<'a>, usual: Form) -> Option<Form>
+    ensures some { IfSome result (IsForm usual (first_value (found_of matches.now) (codes "as"))) }
+    ensures none { IfNone result ((form : Shown) → ¬ IsForm usual (first_value (found_of matches.now) (codes "as")) form) }
 {
     match matches.get_str("as") {
-        None | Some("report") => Some(Form::Report),
+        None => Some(usual),
+        Some("report") => Some(Form::Report),
         Some("session") => Some(Form::Session),
+        Some("script") => Some(Form::Script),
         Some(_) => None,
+    }
+}
+
+/// Whether the subcommand prints in this form.
+fn can_print(command: Subcommand<'_>, form: Form) -> bool
+    ensures { result ≡ can_print command.entry form }
+{
+    match (command, form) {
+        (Subcommand::Import { check, .. }, Form::Session) => !check,
+        (Subcommand::Import { .. }, _) => form == Form::Script,
+        (Subcommand::Explore { .. }, _) => form == Form::Report,
+        (_, _) => form != Form::Script,
+    }
+}
+
+/// What to tell of a form in which the subcommand doesn't print.
+fn forms_of(command: Subcommand<'_>) -> &'static str {
+    match command {
+        Subcommand::Import { check: true, .. } => "import --check prints what it found alone",
+        Subcommand::Import { .. } => "--as takes script or session",
+        Subcommand::Explore { .. } => "explore prints a report alone",
+        _ => "--as takes report or session",
     }
 }
 
@@ -265,6 +326,13 @@ fn number_of<'a>(matches: &ArgMatches<'a>, option: &str) -> Option<Option<u64>>
             Err(_) => None,
         },
     }
+}
+
+/// Whether a subcommand's words have this option, which takes nothing.
+fn has_flag<'a>(matches: &ArgMatches<'a>, option: &str) -> bool
+    ensures { IsFlag (first_value (found_of matches.now) option.now) result }
+{
+    matches.get_str(option) == Some("true")
 }
 
 /// How a subcommand's words have orders read.
@@ -296,6 +364,9 @@ fn options_of<'a>(matches: &ArgMatches<'a>) -> Result<Options, &'static str>
         why,
         states,
         script,
+        check: has_flag(matches, "check"),
+        lines: has_flag(matches, "lines"),
+        lenient: has_flag(matches, "lenient"),
     })
 }
 
@@ -311,11 +382,11 @@ fn chosen<'a>(name: &str, matches: &ArgMatches<'a>) -> Result<Choice<'a>, &'stat
     let Some(command) = command_of(name, options, question_of(matches)) else {
         return Err("no such subcommand");
     };
-    let Some(form) = form_of(matches) else {
-        return Err("--as takes report or session");
+    let Some(form) = form_of(matches, usual_form(command)) else {
+        return Err(forms_of(command));
     };
-    if form == Form::Session && matches!(command, Subcommand::Explore { .. }) {
-        return Err("explore prints a report alone");
+    if !can_print(command, form) {
+        return Err(forms_of(command));
     }
     Ok(Choice { command, form })
 }

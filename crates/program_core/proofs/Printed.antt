@@ -46,10 +46,13 @@ module _ (form : Form) (limits : Limits) (text : List ℕ) (old new : Option (Li
   ends : (command : Subcommand) (input : List ℕ) (r : Result (Unit {0}) Fault) → Prints command form limits input text →
       EndsAsText text r old new → Ends command form limits input r old new
   ends command input (Ok u) p e = (text, p, e)
-  ends command input (Err (faults.WriteFault written)) p e = (text, p, e.0, e.1)
+  ends command input (Err (faults.WriteFault written)) p e = (text, inl p, e.0, e.1)
   ends command input (Err (faults.Script fault)) p e = elim e [ ]
   ends command input (Err (faults.Session fault)) p e = elim e [ ]
   ends command input (Err faults.LongSession) p e = elim e [ ]
+  ends command input (Err (faults.Import fault)) p e = elim e [ ]
+  ends command input (Err faults.LongImport) p e = elim e [ ]
+  ends command input (Err faults.Differs) p e = elim e [ ]
   ends command input (Err (faults.Race fault)) p e = elim e [ ]
   ends command input (Err (faults.TooManyStates most)) p e = elim e [ ]
   ends command input (Err (faults.Explain fault)) p e = elim e [ ]
@@ -107,6 +110,9 @@ module _ (form : Form) (limits : Limits) (text : List ℕ) (old new : Option (Li
   keeps_before (Err (faults.Script fault)) e = elim e [ ]
   keeps_before (Err (faults.Session fault)) e = elim e [ ]
   keeps_before (Err faults.LongSession) e = elim e [ ]
+  keeps_before (Err (faults.Import fault)) e = elim e [ ]
+  keeps_before (Err faults.LongImport) e = elim e [ ]
+  keeps_before (Err faults.Differs) e = elim e [ ]
   keeps_before (Err (faults.Race fault)) e = elim e [ ]
   keeps_before (Err (faults.TooManyStates most)) e = elim e [ ]
   keeps_before (Err (faults.Explain fault)) e = elim e [ ]
@@ -122,6 +128,9 @@ module _ (form : Form) (limits : Limits) (text : List ℕ) (old new : Option (Li
   tells_memory (Err (faults.Script fault)) e = elim e [ ]
   tells_memory (Err (faults.Session fault)) e = elim e [ ]
   tells_memory (Err faults.LongSession) e = elim e [ ]
+  tells_memory (Err (faults.Import fault)) e = elim e [ ]
+  tells_memory (Err faults.LongImport) e = elim e [ ]
+  tells_memory (Err faults.Differs) e = elim e [ ]
   tells_memory (Err (faults.Race fault)) e = elim e [ ]
   tells_memory (Err (faults.TooManyStates most)) e = elim e [ ]
   tells_memory (Err (faults.Explain fault)) e = elim e [ ]
@@ -138,6 +147,9 @@ module _ (form : Form) (limits : Limits) (text : List ℕ) (old new : Option (Li
   fails_not (Err (faults.Script fault)) before after e same = elim e [ ]
   fails_not (Err (faults.Session fault)) before after e same = elim e [ ]
   fails_not (Err faults.LongSession) before after e same = elim e [ ]
+  fails_not (Err (faults.Import fault)) before after e same = elim e [ ]
+  fails_not (Err faults.LongImport) before after e same = elim e [ ]
+  fails_not (Err faults.Differs) before after e same = elim e [ ]
   fails_not (Err (faults.Race fault)) before after e same = elim e [ ]
   fails_not (Err (faults.TooManyStates most)) before after e same = elim e [ ]
   fails_not (Err (faults.Explain fault)) before after e same = elim e [ ]
@@ -154,11 +166,14 @@ keeps_same None = tt
 keeps_same (Some xs) = refl
 
 -- a fault that comes before the writing, and is the input's
-cause_ends : (command : Subcommand) (form : Form) (limits : Limits) (input : List ℕ) (fault : Fault) (old : Option (List ℕ)) → IsCauseOf command limits input fault →
+pub cause_ends : (command : Subcommand) (form : Form) (limits : Limits) (input : List ℕ) (fault : Fault) (old : Option (List ℕ)) → IsCauseOf command limits input fault →
     IsUnwritten fault → Ends command form limits input (Err fault) old old
 cause_ends command form limits input (faults.Script f) old cause before = (cause, keeps_same old)
 cause_ends command form limits input (faults.Session f) old cause before = (cause, keeps_same old)
 cause_ends command form limits input faults.LongSession old cause before = (cause, keeps_same old)
+cause_ends command form limits input (faults.Import f) old cause before = (cause, keeps_same old)
+cause_ends command form limits input faults.LongImport old cause before = (cause, keeps_same old)
+cause_ends command form limits input faults.Differs old cause before = absurd before
 cause_ends command form limits input (faults.Race f) old cause before = (cause, keeps_same old)
 cause_ends command form limits input (faults.TooManyStates most) old cause before = (cause, keeps_same old)
 cause_ends command form limits input (faults.NoSuchOutcome outcomes) old cause before = (cause, keeps_same old)

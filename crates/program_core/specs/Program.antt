@@ -1,8 +1,7 @@
 -- What the program prints, and how it ends.
-use Rattle.std.specs.Prelude.{◌≡◌, ◌≢◌, ◌⊎◌, ℕ, ◌+◌, ◌<◌, ◌==◌, Bool, true, false, if◌then◌else◌, List, [], ◌∷◌, ◌++◌, length, take, ⊤, Option, None, Some, Result, Ok, Err, OnOk, IfErr, IfOk, IsOkAnd}
+use Rattle.std.specs.Prelude.{◌≡◌, ◌≢◌, ◌⊎◌, ℕ, ◌+◌, ◌<◌, ◌==◌, Bool, true, false, if◌then◌else◌, List, [], ◌∷◌, length, take, ⊤, Option, None, Some, Result, Ok, Err, OnOk, IfErr, IfOk, IsOkAnd}
 use Rattle.std.specs.Io.KnownBytes.{Appends, IsAtEnd, Keeps}
 use Rattle.json.specs.Word.{is_space}
-use Rattle.serde_json.specs.Written.{compact_text}
 use Rattle.bench_core.specs.Limits.{Limits}
 use Rattle.bench_core.specs.Machine.{Machine}
 use Rattle.explain_core.specs.Questions.{IsAnswer, Refuses as RefusesQuestion}
@@ -18,7 +17,6 @@ use Rattle.grammar_core.specs.Scripts.{Script}
 use Rattle.grammar_core.specs.declared.fault.FaultKind.TheVariants as kinds
 use Rattle.script_core.specs.declared.play_fault.PlayFault.{PlayFault}
 use Rattle.script_core.specs.declared.play_fault.PlayFault.TheVariants as plays
-use Rattle.recording_core.specs.Format.{session}
 use Rattle.recording_core.specs.Sessions.{IsSession, Refuses}
 use Rattle.recording_core.specs.declared.session_fault.SessionFault.TheVariants as sessions
 use Rattle.svg_core.specs.Trees.{text_of}
@@ -34,12 +32,17 @@ use Rattle.prompt_core.specs.Ends.{EndsEarly, printed}
 use Rattle.prompt_core.specs.declared.prompt_fault.PromptFault.TheVariants as prompts
 use Rattle.command_line.specs.Help.{language}
 use Rattle.program_core.specs.Races.{IsRaceOf, RefusesRaceOf}
+use Rattle.program_core.specs.Imported.{PrintsImport, RefusesImport, TellsLeft}
+use Rattle.program_core.specs.Sessions.{session_text}
 use Rattle.program_core.specs.Whatifs.{RefusesWhatif, TellsWhatif}
+use Rattle.import_core.specs.declared.fault.FaultKind.{FaultKind}
+use Rattle.import_core.specs.declared.fault.FaultKind.TheVariants as imports
+use Rattle.import_core.specs.declared.fault.ImportFault.{ImportFault}
 use Rattle.command_line.specs.declared.chosen.Choice.{Choice}
 use Rattle.command_line.specs.declared.chosen.Form.{Form}
-use Rattle.command_line.specs.declared.chosen.Form.TheVariants.{Report, Session}
+use Rattle.command_line.specs.declared.chosen.Form.TheVariants.{Report, Session, Script as ScriptForm}
 use Rattle.command_line.specs.declared.chosen.Subcommand.{Subcommand}
-use Rattle.command_line.specs.declared.chosen.Subcommand.TheVariants.{Play, Race, Load, Explore, Step, Draw, Explain, Whatif}
+use Rattle.command_line.specs.declared.chosen.Subcommand.TheVariants.{Play, Race, Load, Import, Explore, Step, Draw, Explain, Whatif}
 use Rattle.program_core.specs.declared.fault.Fault.{Fault}
 use Rattle.program_core.specs.declared.fault.Fault.TheVariants as faults
 
@@ -47,6 +50,9 @@ abbrev pub fault_status : Fault → ℕ
 fault_status (faults.Script fault) = 1
 fault_status (faults.Session fault) = 1
 fault_status faults.LongSession = 1
+fault_status (faults.Import fault) = 1
+fault_status faults.LongImport = 1
+fault_status faults.Differs = 6
 fault_status (faults.Race races.UnknownActor) = 1
 fault_status (faults.Race races.NoRoom) = 1
 fault_status (faults.Race races.WorkerRefused) = 5
@@ -88,9 +94,12 @@ abbrev pub fault_of_ask : AskFault → Fault
 fault_of_ask asks.OutOfMemory = faults.OutOfMemory
 fault_of_ask fault = faults.Explain fault
 
--- the text of a bench's session, and a line feed
-abbrev pub session_text : Machine → List ℕ
-session_text m = compact_text (session 2 m.names m.limits m.state.history) ++ 10 ∷ []
+abbrev pub fault_of_import : ImportFault → Fault
+fault_of_import fault = by fault.kind
+  where
+    by : FaultKind → Fault
+    by imports.OutOfMemory = faults.OutOfMemory
+    by kind = faults.Import fault
 
 -- the input spells this script; so, where it is known
 abbrev pub IsScriptAt : Option (List ℕ) → Script → Type 0
@@ -161,6 +170,7 @@ abbrev pub IsCauseOf : Subcommand → Limits → List ℕ → Fault → Type 0
 IsCauseOf Race limits input fault = RefusesScript input fault ⊎ IsOkAnd (script_of input) (λ s. RefusesRaceOf limits s fault)
 IsCauseOf Play limits input fault = RefusesScript input fault
 IsCauseOf Load limits input fault = RefusesSession input fault
+IsCauseOf (Import check lines lenient) limits input fault = RefusesImport lines lenient limits input fault
 IsCauseOf (Explore reading states outcome) limits input fault = RefusesScript input fault ⊎ IsOkAnd (script_of input) (λ s. RefusesOrders (reading_of reading) states outcome limits s fault)
 IsCauseOf Step limits input fault = ⊥
 IsCauseOf (Draw why) limits input fault = RefusesBench input fault
@@ -189,6 +199,7 @@ RefusesBenchAt (Some input) fault = RefusesBench input fault
 abbrev pub shown : Form → List ℕ → Machine → List ℕ
 shown Report report bench = report
 shown Session report bench = session_text bench
+shown ScriptForm report bench = report
 
 -- the text of a bench's picture, with the future of a step painted
 abbrev pub drawn : Option ℕ → Machine → List ℕ
@@ -199,6 +210,7 @@ drawn why bench = text_of (picture bench (painted_of bench.state why))
 abbrev pub Prints : Subcommand → Form → Limits → List ℕ → List ℕ → Type 0
 Prints Play form limits input text = IsOkAnd (script_of input) (λ s. text ≡ shown form (report_of limits s) (played limits s))
 Prints Race form limits input text = IsOkAnd (script_of input) (λ s. (m : Machine) × IsRaceOf limits s m × (text ≡ shown form (history_text m) m))
+Prints (Import check lines lenient) form limits input text = PrintsImport check lines lenient form limits input false text
 Prints Load form limits input text = (m : Machine) × IsSession input m × (text ≡ shown form (history_text m) m)
 Prints (Explore reading states outcome) form limits input text = IsOkAnd (script_of input) (λ s. TellsOrders (reading_of reading) outcome limits s text)
 Prints Step form limits input text =
@@ -206,6 +218,18 @@ Prints Step form limits input text =
 Prints (Draw why) form limits input text = (m : Machine) × IsBenchOf limits input m × (text ≡ drawn why m)
 Prints (Explain question) form limits input text = (m : Machine) × IsBenchOf limits input m × IsAnswer m (question_of question) text
 Prints (Whatif question change) form limits input text = (m : Machine) × IsBenchOf limits input m × TellsWhatif m question change text
+
+-- the text tells that the bench and the real nodes part
+abbrev pub PrintsApart : Subcommand → Form → Limits → List ℕ → List ℕ → Type 0
+PrintsApart (Import check lines lenient) form limits input text = PrintsImport check lines lenient form limits input true text
+PrintsApart Play form limits input text = ⊥
+PrintsApart Race form limits input text = ⊥
+PrintsApart Load form limits input text = ⊥
+PrintsApart (Explore reading states outcome) form limits input text = ⊥
+PrintsApart Step form limits input text = ⊥
+PrintsApart (Draw why) form limits input text = ⊥
+PrintsApart (Explain question) form limits input text = ⊥
+PrintsApart (Whatif question change) form limits input text = ⊥
 
 -- all of the text went out, or, where the writing failed, its first `written` bytes
 abbrev pub EndsAsText : List ℕ → Result (Unit {0}) Fault → Option (List ℕ) → Option (List ℕ) → Type 0
@@ -218,6 +242,7 @@ abbrev pub HasPrompt : Subcommand → Type 0
 HasPrompt Play = ⊥
 HasPrompt Race = ⊥
 HasPrompt Load = ⊥
+HasPrompt (Import check lines lenient) = ⊥
 HasPrompt (Explore reading states outcome) = ⊥
 HasPrompt Step = ⊤
 HasPrompt (Draw why) = ⊥
@@ -225,11 +250,13 @@ HasPrompt (Explain question) = ⊥
 HasPrompt (Whatif question change) = ⊥
 
 -- what went out, by the answer: what is printed of the input; its first bytes, where a write failed; and else nothing, and the
--- fault is the input's
+-- fault is the input's. That the bench and the real nodes part is told after all of what is printed
 abbrev pub Ends : Subcommand → Form → Limits → List ℕ → Result (Unit {0}) Fault → Option (List ℕ) → Option (List ℕ) → Type 0
 Ends command form limits input (Ok u) old new = (text : List ℕ) × Prints command form limits input text × Appends old new text
 Ends command form limits input (Err (faults.WriteFault written)) old new =
-    (text : List ℕ) × Prints command form limits input text × (written < length text) × Appends old new (take written text)
+    (text : List ℕ) × (Prints command form limits input text ⊎ PrintsApart command form limits input text) × (written < length text)
+    × Appends old new (take written text)
+Ends command form limits input (Err faults.Differs) old new = (text : List ℕ) × PrintsApart command form limits input text × Appends old new text
 Ends command form limits input (Err (faults.Prompt fault)) old new = HasPrompt command
 Ends command form limits input (Err fault) old new = IsCauseOf command limits input fault × Keeps old new
 
@@ -242,6 +269,7 @@ EndsAt command form limits (Some input) result old new = Ends command form limit
 abbrev pub KeepsBefore : Fault → Option (List ℕ) → Option (List ℕ) → Type 0
 KeepsBefore (faults.WriteFault written) old new = ⊤
 KeepsBefore (faults.Prompt fault) old new = ⊤
+KeepsBefore faults.Differs old new = ⊤
 KeepsBefore _ old new = Keeps old new
 
 -- a prompt that ends early has answered all lines that it took in, but for the last
@@ -251,15 +279,17 @@ EndsSoon Step limits result input left old new = ⊤
 EndsSoon Play limits result input left old new = ⊤
 EndsSoon Race limits result input left old new = ⊤
 EndsSoon Load limits result input left old new = ⊤
+EndsSoon (Import check lines lenient) limits result input left old new = ⊤
 EndsSoon (Explore reading states outcome) limits result input left old new = ⊤
 EndsSoon (Draw why) limits result input left old new = ⊤
 EndsSoon (Explain question) limits result input left old new = ⊤
 EndsSoon (Whatif question change) limits result input left old new = ⊤
 
--- it is no fault of a write, nor of a prompt
+-- it is no fault of a write, nor of a prompt, nor of a check
 abbrev pub IsUnwritten : Fault → Type 0
 IsUnwritten (faults.WriteFault written) = ⊥
 IsUnwritten (faults.Prompt fault) = ⊥
+IsUnwritten faults.Differs = ⊥
 IsUnwritten _ = ⊤
 
 -- want of memory is never told as a fault of the input
@@ -268,6 +298,7 @@ TellsMemory (faults.Script fault) = fault.kind ≢ kinds.OutOfMemory
 TellsMemory (faults.Session fault) = fault ≢ sessions.OutOfMemory
 TellsMemory (faults.Race fault) = fault ≢ races.OutOfMemory
 TellsMemory (faults.Explain fault) = fault ≢ asks.OutOfMemory
+TellsMemory (faults.Import fault) = fault.kind ≢ imports.OutOfMemory
 TellsMemory (faults.Whatif fault) = fault ≢ whatifs.OutOfMemory
 TellsMemory _ = ⊤
 
@@ -276,6 +307,18 @@ abbrev pub FailsAs : {X : Type 0} → Result X Fault → Steps → Steps → Typ
 FailsAs (Err faults.ReadFault) old new = new.failed ≡ old.failed + 1
 FailsAs (Err (faults.Prompt prompts.ReadFault)) old new = new.failed ≡ old.failed + 1
 FailsAs _ old new = new.failed ≡ old.failed
+
+-- beside the output nothing is told, or, of the events of logs, what was left out
+abbrev pub TellsAside : Subcommand → Option (List ℕ) → Option (List ℕ) → Option (List ℕ) → Type 0
+TellsAside (Import check lines lenient) input old new = TellsLeft lenient input old new
+TellsAside Play input old new = Keeps old new
+TellsAside Race input old new = Keeps old new
+TellsAside Load input old new = Keeps old new
+TellsAside (Explore reading states outcome) input old new = Keeps old new
+TellsAside Step input old new = Keeps old new
+TellsAside (Draw why) input old new = Keeps old new
+TellsAside (Explain question) input old new = Keeps old new
+TellsAside (Whatif question change) input old new = Keeps old new
 
 -- the status is that of an answer by which the choice may end on the input, with what is left of the input, what went out, and
 -- how often the input was read
@@ -310,3 +353,7 @@ abbrev pub EndsProgram : List (List ℕ) → Option (List ℕ) → Option (List 
 EndsProgram words input left limits status old new before after =
     ((choice : Choice) × Chooses words choice × Exits choice input left limits status old new before after)
     ⊎ ((kind : ErrorKind) × IsRefusal words kind × EndsRefused kind status old new × Keeps input left)
+
+-- a program that ends well told nothing beside its output; or its words choose what may be told
+abbrev pub IsQuiet : List (List ℕ) → Option (List ℕ) → Option (List ℕ) → Option (List ℕ) → Type 0
+IsQuiet words input old new = Keeps old new ⊎ ((choice : Choice) × Chooses words choice × TellsAside choice.command input old new)

@@ -3,6 +3,7 @@ ghost use Rattle.std.specs.Prelude.{◌≡◌};
 ghost use Rattle.program_core.specs.Program.{fault_status};
 
 use explain_core::AskFault;
+use import_core::ImportFault;
 use prompt_core::PromptFault;
 use script_core::{PlayFault, ScriptFault};
 use session_core::SessionFault;
@@ -22,6 +23,15 @@ pub enum Fault {
     /// A text is longer than a session may be.
     #[error("session: TooLong")]
     LongSession,
+    /// Why the events of logs give no script. Want of memory is never in it.
+    #[error("{0}")]
+    Import(ImportFault),
+    /// The events of logs have more bytes than they may.
+    #[error("line 0: TooLong")]
+    LongImport,
+    /// A check found that the bench and the real nodes part. All that is printed went out.
+    #[error("the bench and the real nodes part")]
+    Differs,
     /// Why a race can't be vouched for. Want of memory is never in it.
     #[error("race: {0}")]
     Race(RaceFault),
@@ -58,6 +68,8 @@ impl Fault {
     {
         match self {
             Fault::Script(_) | Fault::Session(_) | Fault::LongSession => 1,
+            Fault::Import(_) | Fault::LongImport => 1,
+            Fault::Differs => 6,
             Fault::Race(RaceFault::UnknownActor | RaceFault::NoRoom) => 1,
             Fault::TooManyStates { .. } | Fault::NoSuchOutcome { .. } => 1,
             Fault::Explain(AskFault::NoSuchNode | AskFault::NoWord) => 1,

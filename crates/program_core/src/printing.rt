@@ -4,10 +4,11 @@ ghost use Rattle.std.specs.Io.KnownBytes.{IsAtEnd};
 ghost use Rattle.command_line.specs.declared.chosen.Form.{Form};
 ghost use Rattle.command_line.specs.declared.chosen.Form.TheVariants as forms;
 ghost use Rattle.command_line.specs.declared.chosen.Subcommand.TheVariants as subcommands;
-ghost use Rattle.program_core.specs.Program.{EndsAt, EndsAsText, EndsSoon, FailsAs, KeepsBefore, TellsMemory, question_of};
+ghost use Rattle.program_core.specs.Program.{EndsAt, EndsAsText, EndsSoon, FailsAs, KeepsBefore, TellsAside, TellsMemory, question_of};
 
 use crate::exploring::{explore_script, reading_of};
 use crate::fault::Fault;
+use crate::importing::import_events;
 use crate::inputs::read_bench;
 use crate::racing::race_script;
 use crate::stepping::step_script;
@@ -25,7 +26,7 @@ use std::sync::ledger::Ledger;
 use std::thread::Threads;
 
 /// Writes the text.
-fn print<W: Write>(writer: &mut W, text: &[u8]) -> Result<(), Fault>
+pub(crate) fn print<W: Write>(writer: &mut W, text: &[u8]) -> Result<(), Fault>
     ensures { EndsAsText text.now result (W.contents writer.old) (W.contents writer.new) }
 {
     match write_out(writer, text) {
@@ -304,14 +305,23 @@ fn tell_changes<B: Allocator, R: Read, W: Write, L: Ledger>(
 
 /// Reads the whole input, plays it as was chosen, and then prints; nothing is written before the whole text stands, but at a
 /// prompt, where each line is answered before the next is read. Limits are those of a script's bench; a session has its own.
-/// JSON takes its memory from `heap`, and all else from `alloc`. `steps` counts the calls of `read`.
-pub fn answer<B: Allocator + Sync, T: Threads + Wait + Sync, R: Read, W: Write, L: Ledger>(
+/// JSON takes its memory from `heap`, and all else from `alloc`. `steps` counts the calls of `read`. Nothing is told on `errors` but
+/// what is left out of the events of logs.
+pub fn answer<
+    B: Allocator + Sync,
+    T: Threads + Wait + Sync,
+    R: Read,
+    W: Write,
+    E: Write,
+    L: Ledger,
+>(
     rt: &T,
     heap: Global,
     alloc: &B,
     choice: Choice<'_>,
     reader: &mut R,
     writer: &mut W,
+    errors: &mut E,
     limits: Limits,
     steps: &mut Steps<L>,
 ) -> Result<(), Fault>
@@ -321,19 +331,36 @@ pub fn answer<B: Allocator + Sync, T: Threads + Wait + Sync, R: Read, W: Write, 
     ensures memory { IfErr result TellsMemory }
     ensures failed { FailsAs result steps.old steps.new }
     ensures early { EndsSoon choice.entry.command limits result (R.remaining reader.old) (R.remaining reader.new) (W.contents writer.old) (W.contents writer.new) }
+    ensures aside { TellsAside choice.entry.command (R.remaining reader.old) (E.contents errors.old) (E.contents errors.new) }
 {
     match (choice.command, choice.form) {
-        (Subcommand::Play, Form::Report) => play_report(alloc, reader, writer, limits, steps),
+        (Subcommand::Play, Form::Report | Form::Script) => play_report(
+            alloc, reader, writer, limits, steps,
+        ),
         (Subcommand::Play, Form::Session) => play_session(
             reader, heap, alloc, writer, limits, steps,
         ),
-        (Subcommand::Race, Form::Report) => race_report(alloc, reader, writer, limits, rt, steps),
+        (Subcommand::Race, Form::Report | Form::Script) => race_report(
+            alloc, reader, writer, limits, rt, steps,
+        ),
         (Subcommand::Race, Form::Session) => race_session(
             rt, heap, alloc, reader, writer, limits, steps,
         ),
-        (Subcommand::Load, Form::Report) => load_report(heap, alloc, reader, writer, limits, steps),
+        (Subcommand::Load, Form::Report | Form::Script) => load_report(
+            heap, alloc, reader, writer, limits, steps,
+        ),
         (Subcommand::Load, Form::Session) => load_session(
             reader, heap, alloc, writer, limits, steps,
+        ),
+        (
+            Subcommand::Import {
+                check,
+                lines,
+                lenient,
+            },
+            form,
+        ) => import_events(
+            heap, alloc, reader, writer, errors, limits, check, lines, lenient, form, steps,
         ),
         (Subcommand::Step, _) => step_script(heap, alloc, reader, writer, limits, steps),
         (

@@ -2,7 +2,7 @@
 ghost use Rattle.std.specs.Prelude.{◌≡◌, map};
 ghost use Rattle.std.specs.Io.KnownBytes.{Keeps};
 ghost use Rattle.clap.specs.Words.{kind_of};
-ghost use Rattle.program_core.specs.Program.{status_of, EndsProgram, EndsRefused, Exits, PrintsHelp, usual};
+ghost use Rattle.program_core.specs.Program.{status_of, EndsProgram, EndsRefused, Exits, IsQuiet, PrintsHelp, TellsAside, usual};
 ghost use Rattle.stream_core.specs.Steps.{Steps as Count};
 
 use crate::fault::Fault;
@@ -10,6 +10,7 @@ use crate::printing::answer;
 use bench_core::Limits;
 use clap::error::ErrorKind;
 use command_line::{Choice, choice};
+use import_core::{FaultKind, ImportFault};
 use script_core::Steps;
 use std::alloc::{Allocator, Global};
 use std::convert::AsStr;
@@ -26,6 +27,22 @@ fn status_of(answer: Result<(), Fault>) -> u8
     match answer {
         Ok(()) => 0,
         Err(fault) => fault.status(),
+    }
+}
+
+/// Tells a fault in a line, and in one more what to do where a script of logs is too long. That a check found what it was asked to
+/// find is no fault to tell.
+fn tell<E: Write>(fault: Fault, errors: &mut E) {
+    if fault == Fault::Differs {
+        return;
+    }
+    let _ = writeln!(errors, "presence_bench: {fault}");
+    let long = ImportFault {
+        line: 0,
+        kind: FaultKind::TooLong,
+    };
+    if fault == Fault::Import(long) {
+        let _ = writeln!(errors, "hint: with --as session it may be longer");
     }
 }
 
@@ -49,11 +66,13 @@ fn run_choice<
     steps: &mut Steps<L>,
 ) -> u8
     ensures exits { Exits choice.entry (R.remaining reader.old) (R.remaining reader.new) limits result (W.contents writer.old) (W.contents writer.new) steps.old steps.new }
-    ensures quiet { result ≡ 0 → Keeps (E.contents errors.old) (E.contents errors.new) }
+    ensures aside { result ≡ 0 → TellsAside choice.entry.command (R.remaining reader.old) (E.contents errors.old) (E.contents errors.new) }
 {
-    let answer = answer(rt, heap, alloc, choice, reader, writer, limits, steps);
+    let answer = answer(
+        rt, heap, alloc, choice, reader, writer, errors, limits, steps,
+    );
     if let Err(fault) = answer {
-        let _ = writeln!(errors, "presence_bench: {fault}");
+        tell(fault, errors);
     }
     status_of(answer)
 }
@@ -115,7 +134,7 @@ pub fn program_counted<
     steps: &mut Steps<L>,
 ) -> u8
     ensures ends { EndsProgram (map S.text words.now) (R.remaining reader.old) (R.remaining reader.new) limits result (W.contents writer.old) (W.contents writer.new) steps.old steps.new }
-    ensures quiet { result ≡ 0 → Keeps (E.contents errors.old) (E.contents errors.new) }
+    ensures quiet { result ≡ 0 → IsQuiet (map S.text words.now) (R.remaining reader.old) (E.contents errors.old) (E.contents errors.new) }
 {
     match choice(heap, words) {
         Ok(choice) => run_choice(
@@ -150,7 +169,7 @@ fn program_from<
     requires parts { blank.parts ≡ L.parts }
     requires two { blank.parts ≡ 2 }
     ensures ends { (before after : Count) × EndsProgram (map S.text words.now.now) (R.remaining reader.old) (R.remaining reader.new) limits result (W.contents writer.old) (W.contents writer.new) before after }
-    ensures quiet { result ≡ 0 → Keeps (E.contents errors.old) (E.contents errors.new) }
+    ensures quiet { result ≡ 0 → IsQuiet (map S.text words.now.now) (R.remaining reader.old) (E.contents errors.old) (E.contents errors.new) }
 {
     let mut steps = Steps::<L>::new(blank);
     program_counted(
@@ -177,7 +196,7 @@ pub fn program_within<
     limits: Limits,
 ) -> u8
     ensures ends { (before after : Count) × EndsProgram (map S.text words.now) (R.remaining reader.old) (R.remaining reader.new) limits result (W.contents writer.old) (W.contents writer.new) before after }
-    ensures quiet { result ≡ 0 → Keeps (E.contents errors.old) (E.contents errors.new) }
+    ensures quiet { result ≡ 0 → IsQuiet (map S.text words.now) (R.remaining reader.old) (E.contents errors.old) (E.contents errors.new) }
 {
     program_from::<S, B, T, R, W, E, Brand>(
         rt,
@@ -210,7 +229,7 @@ pub fn program<
     errors: &mut E,
 ) -> u8
     ensures ends { (before after : Count) × EndsProgram (map S.text words.now) (R.remaining reader.old) (R.remaining reader.new) usual result (W.contents writer.old) (W.contents writer.new) before after }
-    ensures quiet { result ≡ 0 → Keeps (E.contents errors.old) (E.contents errors.new) }
+    ensures quiet { result ≡ 0 → IsQuiet (map S.text words.now) (R.remaining reader.old) (E.contents errors.old) (E.contents errors.new) }
 {
     program_within(
         rt,

@@ -4,7 +4,8 @@ ghost use Rattle.std.specs.Io.KnownBytes.{IsAtEnd};
 ghost use Rattle.stream_core.specs.Inputs.{IsWhole};
 ghost use Rattle.run_core.specs.Report.{history_text};
 ghost use Rattle.grammar_core.specs.Scripts.{plain_script};
-ghost use Rattle.program_core.specs.Program.{FailsAs, IsScriptAt, IsSessionAt, IsUnwritten, RefusesScriptAt, RefusesSessionAt, TellsMemory, session_text};
+ghost use Rattle.program_core.specs.Program.{FailsAs, IsScriptAt, IsSessionAt, IsUnwritten, RefusesScriptAt, RefusesSessionAt, TellsMemory};
+ghost use Rattle.program_core.specs.Sessions.{session_text};
 
 use crate::fault::Fault;
 use bench_core::Bench;

@@ -215,6 +215,20 @@ const TWO_ORDERS: &str = "nodes a\nconsoles desk\na join 1 r alice phone\ndesk u
 
 const SECOND_ORDER: &str = "  nodes a\n  consoles desk\n  desk undo 1\n  a join 1 r alice phone\n";
 
+const LOGGED: &str = concat!(
+    r#"{"node":"a","event":"join","pid":1,"topic":"r","key":"alice","meta":"phone"}"#,
+    "\n",
+    r#"{"node":"b","event":"deliver","from":"a","message":2}"#,
+    "\n",
+    r#"{"node":"a","event":"broadcast","message":2}"#,
+    "\n",
+    r#"{"node":"b","event":"online","rows":[]}"#,
+    "\n"
+);
+
+const LOGGED_SCRIPT: &str =
+    "nodes a b\na join 0 r alice phone\na broadcast\nb deliver a 1\nshow b\n";
+
 /// Words, an input, and what is printed of it.
 const ANSWERED: &[(&[&str], &str, &str)] = &[
     (&["play"], UNWOUND, UNWOUND_REPORT),
@@ -226,6 +240,12 @@ const ANSWERED: &[(&[&str], &str, &str)] = &[
     (&["explain", "a", "r", "alice"], ALONE, ALONE_EXPLAINED),
     (&["draw"], ALONE, ALONE_DRAWN),
     (&["explore", "--script", "2"], TWO_ORDERS, SECOND_ORDER),
+    (&["import"], LOGGED, LOGGED_SCRIPT),
+    (
+        &["import", "--check", "--lenient"],
+        LOGGED,
+        "agree 1 of 1\n",
+    ),
 ];
 
 /// Runs the program with this request for memory refused: it prints all, or nothing and says so. Gives whether the request was

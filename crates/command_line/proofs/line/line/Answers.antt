@@ -1,7 +1,7 @@
 use Rattle.std.proofs.Common.{◌∙◌, ap, ap₂}
 use Rattle.std.proofs.lemmas.Result.{IfOk-weaker}
 use Rattle.clap.specs.Words.{App, with_subcommand}
-use Rattle.command_line.specs.Line.{play_app, race_app, load_app, explore_app, draw_app, explain_app, whatif_app}
+use Rattle.command_line.specs.Line.{play_app, race_app, load_app, explore_app, draw_app, explain_app, whatif_app, import_app}
 use Rattle.command_line.proofs.line.line.Goals as goal
 
 pub returns : goal.returns
@@ -14,4 +14,5 @@ returns c =
     let fifth = c.in_ok-line-5.ensures.shape c.step_line.ensures.local ∙ ap₂ with_subcommand fourth (ap (λ (a : App). a.top) c.step_line.ensures.app) in
     let sixth = c.in_ok-line-6.ensures ∙ ap (put draw_app) fifth in
     let seventh = c.in_ok-line-7.ensures ∙ ap (put explain_app) sixth in
-    IfOk-weaker c.with_whatif.result _ _ (λ r h. h ∙ ap (put whatif_app) seventh) c.with_whatif.ensures
+    let eighth = c.in_ok-line-8.ensures ∙ ap (put whatif_app) seventh in
+    IfOk-weaker c.with_import.result _ _ (λ r h. h ∙ ap (put import_app) eighth) c.with_import.ensures

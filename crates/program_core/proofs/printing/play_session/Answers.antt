@@ -1,6 +1,6 @@
 use Rattle.command_line.specs.declared.chosen.Form.TheVariants as forms
 use Rattle.std.proofs.Common.{◌∙◌, ap}
-use Rattle.program_core.specs.Program.{session_text}
+use Rattle.program_core.specs.Sessions.{session_text}
 use Rattle.program_core.proofs.Printed.{always, ends_play, fails_not, keeps_before, tells_memory}
 use Rattle.program_core.proofs.printing.play_session.Goals as goal
 

@@ -1,0 +1,221 @@
+-- What is made of the events of logs, once it is printed.
+use Rattle.std.proofs.Common.{◌≡◌, inl, inr, ℕ, Bool, true, false, List, [], ◌∷◌, length, take, Option, None, Some, Result, Ok, Err, IfErr, OnOk, refl, sym, ap, subst, ◌∙◌}
+use Rattle.std.specs.Io.KnownBytes.{Appends, Keeps}
+use Rattle.bench_core.specs.Limits.{Limits}
+use Rattle.command_line.specs.declared.chosen.Form.{Form}
+use Rattle.command_line.specs.declared.chosen.Form.TheVariants.{Report, Session, Script}
+use Rattle.command_line.specs.declared.chosen.Subcommand.TheVariants.{Import}
+use Rattle.stream_core.specs.Inputs.{IsWhole}
+use Rattle.stream_core.specs.Steps.{Steps}
+use Rattle.import_core.specs.declared.fault.FaultKind.{FaultKind}
+use Rattle.import_core.specs.declared.fault.FaultKind.TheVariants as kinds
+use Rattle.import_core.specs.declared.fault.ImportFault.{ImportFault}
+use Rattle.import_report.specs.Scripts.{IsRefused}
+use Rattle.program_core.specs.declared.fault.Fault.{Fault}
+use Rattle.program_core.specs.declared.fault.Fault.TheVariants as faults
+use Rattle.program_core.specs.Imported.{EndsAsMade, IsLeftOut, IsMade, RefusesEvents, RefusesEventsAt, RefusesImport, RefusesImportAt, TellsLeft, TellsLines}
+use Rattle.program_core.specs.Program.{EndsAsText, EndsAt, Ends, FailsAs, IsUnwritten, KeepsBefore, TellsMemory, fault_of_import}
+use Rattle.program_core.proofs.Printed.{cause_ends}
+
+-- the fault of an import as the program's
+
+by_kind : (lines lenient : Bool) (limits : Limits) (input : List ℕ) (line : ℕ) (kind : FaultKind) → IsRefused lenient lines limits input (record { line = line; kind = kind }) →
+    RefusesImport lines lenient limits input (fault_of_import (record { line = line; kind = kind }))
+by_kind lines lenient limits input line kinds.TooLong is = is
+by_kind lines lenient limits input line kinds.NotJson is = is
+by_kind lines lenient limits input line kinds.BadEvent is = is
+by_kind lines lenient limits input line kinds.TooManyNodes is = is
+by_kind lines lenient limits input line kinds.NoNodes is = is
+by_kind lines lenient limits input line kinds.Twice is = is
+by_kind lines lenient limits input line kinds.NeverSent is = is
+by_kind lines lenient limits input line kinds.Circle is = is
+by_kind lines lenient limits input line kinds.OutOfMemory is = tt
+
+pub refuses_import : (lines lenient : Bool) (limits : Limits) (input : List ℕ) (fault : ImportFault) → IsRefused lenient lines limits input fault →
+    RefusesImport lines lenient limits input (fault_of_import fault)
+refuses_import lines lenient limits input fault is = by_kind lines lenient limits input fault.line fault.kind is
+
+memory_by : (line : ℕ) (kind : FaultKind) → TellsMemory (fault_of_import (record { line = line; kind = kind }))
+memory_by line kinds.TooLong = λ e. cc
+memory_by line kinds.NotJson = λ e. cc
+memory_by line kinds.BadEvent = λ e. cc
+memory_by line kinds.TooManyNodes = λ e. cc
+memory_by line kinds.NoNodes = λ e. cc
+memory_by line kinds.Twice = λ e. cc
+memory_by line kinds.NeverSent = λ e. cc
+memory_by line kinds.Circle = λ e. cc
+memory_by line kinds.OutOfMemory = tt
+
+pub import_memory : (fault : ImportFault) → TellsMemory (fault_of_import fault)
+import_memory fault = memory_by fault.line fault.kind
+
+unwritten_by : (line : ℕ) (kind : FaultKind) → IsUnwritten (fault_of_import (record { line = line; kind = kind }))
+unwritten_by line kinds.TooLong = tt
+unwritten_by line kinds.NotJson = tt
+unwritten_by line kinds.BadEvent = tt
+unwritten_by line kinds.TooManyNodes = tt
+unwritten_by line kinds.NoNodes = tt
+unwritten_by line kinds.Twice = tt
+unwritten_by line kinds.NeverSent = tt
+unwritten_by line kinds.Circle = tt
+unwritten_by line kinds.OutOfMemory = tt
+
+pub import_unwritten : (fault : ImportFault) → IsUnwritten (fault_of_import fault)
+import_unwritten fault = unwritten_by fault.line fault.kind
+
+read_by : (line : ℕ) (kind : FaultKind) → fault_of_import (record { line = line; kind = kind }) ≡ faults.ReadFault → ⊥
+read_by line kinds.TooLong e = cc
+read_by line kinds.NotJson e = cc
+read_by line kinds.BadEvent e = cc
+read_by line kinds.TooManyNodes e = cc
+read_by line kinds.NoNodes e = cc
+read_by line kinds.Twice e = cc
+read_by line kinds.NeverSent e = cc
+read_by line kinds.Circle e = cc
+read_by line kinds.OutOfMemory e = cc
+
+pub import_unread : (fault : ImportFault) → fault_of_import fault ≡ faults.ReadFault → ⊥
+import_unread fault e = read_by fault.line fault.kind e
+
+-- what was printed
+
+module _ (check lines lenient : Bool) (form : Form) (limits : Limits) (text left_out : List ℕ) (old new : Option (List ℕ)) where
+  ends_made : (input : List ℕ) (differs : Bool) (r : Result (Unit {0}) Fault) → IsMade check lines lenient form limits input text differs left_out →
+      EndsAsMade text differs r old new → Ends (Import check lines lenient) form limits input r old new
+  ends_made input differs (Ok u) is e = (text, (left_out, subst (λ b. IsMade check lines lenient form limits input text b left_out) e.0 is), e.1)
+  ends_made input differs (Err faults.Differs) is e = (text, (left_out, subst (λ b. IsMade check lines lenient form limits input text b left_out) e.0 is), e.1)
+  ends_made input true (Err (faults.WriteFault written)) is e = (text, inr (left_out, is), e.0, e.1)
+  ends_made input false (Err (faults.WriteFault written)) is e = (text, inl (left_out, is), e.0, e.1)
+  ends_made input differs (Err (faults.Script fault)) is e = elim e [ ]
+  ends_made input differs (Err (faults.Session fault)) is e = elim e [ ]
+  ends_made input differs (Err faults.LongSession) is e = elim e [ ]
+  ends_made input differs (Err (faults.Import fault)) is e = elim e [ ]
+  ends_made input differs (Err faults.LongImport) is e = elim e [ ]
+  ends_made input differs (Err (faults.Race fault)) is e = elim e [ ]
+  ends_made input differs (Err (faults.TooManyStates most)) is e = elim e [ ]
+  ends_made input differs (Err (faults.NoSuchOutcome outcomes)) is e = elim e [ ]
+  ends_made input differs (Err (faults.Explain fault)) is e = elim e [ ]
+  ends_made input differs (Err (faults.Whatif fault)) is e = elim e [ ]
+  ends_made input differs (Err (faults.Prompt fault)) is e = elim e [ ]
+  ends_made input differs (Err faults.ReadFault) is e = elim e [ ]
+  ends_made input differs (Err faults.OutOfMemory) is e = elim e [ ]
+
+  pub ends_import : (known : Option (List ℕ)) (bytes : List ℕ) (differs : Bool) (r : Result (Unit {0}) Fault) → IsWhole known bytes →
+      IsMade check lines lenient form limits bytes text differs left_out → EndsAsMade text differs r old new →
+      EndsAt (Import check lines lenient) form limits known r old new
+  ends_import None bytes differs r whole is e = tt
+  ends_import (Some input) bytes differs r whole is e =
+      ends_made input differs r (subst (λ (b : List ℕ). IsMade check lines lenient form limits b text differs left_out) whole is) e
+
+module _ (text : List ℕ) (differs : Bool) (old new : Option (List ℕ)) where
+  pub made_before : (r : Result (Unit {0}) Fault) → EndsAsMade text differs r old new → IfErr r (λ fault. KeepsBefore fault old new)
+  made_before (Ok u) e = tt
+  made_before (Err faults.Differs) e = tt
+  made_before (Err (faults.WriteFault written)) e = tt
+  made_before (Err (faults.Script fault)) e = elim e [ ]
+  made_before (Err (faults.Session fault)) e = elim e [ ]
+  made_before (Err faults.LongSession) e = elim e [ ]
+  made_before (Err (faults.Import fault)) e = elim e [ ]
+  made_before (Err faults.LongImport) e = elim e [ ]
+  made_before (Err (faults.Race fault)) e = elim e [ ]
+  made_before (Err (faults.TooManyStates most)) e = elim e [ ]
+  made_before (Err (faults.NoSuchOutcome outcomes)) e = elim e [ ]
+  made_before (Err (faults.Explain fault)) e = elim e [ ]
+  made_before (Err (faults.Whatif fault)) e = elim e [ ]
+  made_before (Err (faults.Prompt fault)) e = elim e [ ]
+  made_before (Err faults.ReadFault) e = elim e [ ]
+  made_before (Err faults.OutOfMemory) e = elim e [ ]
+
+  pub made_memory : (r : Result (Unit {0}) Fault) → EndsAsMade text differs r old new → IfErr r TellsMemory
+  made_memory (Ok u) e = tt
+  made_memory (Err faults.Differs) e = tt
+  made_memory (Err (faults.WriteFault written)) e = tt
+  made_memory (Err (faults.Script fault)) e = elim e [ ]
+  made_memory (Err (faults.Session fault)) e = elim e [ ]
+  made_memory (Err faults.LongSession) e = elim e [ ]
+  made_memory (Err (faults.Import fault)) e = elim e [ ]
+  made_memory (Err faults.LongImport) e = elim e [ ]
+  made_memory (Err (faults.Race fault)) e = elim e [ ]
+  made_memory (Err (faults.TooManyStates most)) e = elim e [ ]
+  made_memory (Err (faults.NoSuchOutcome outcomes)) e = elim e [ ]
+  made_memory (Err (faults.Explain fault)) e = elim e [ ]
+  made_memory (Err (faults.Whatif fault)) e = elim e [ ]
+  made_memory (Err (faults.Prompt fault)) e = elim e [ ]
+  made_memory (Err faults.ReadFault) e = elim e [ ]
+  made_memory (Err faults.OutOfMemory) e = elim e [ ]
+
+  pub made_fails : (r : Result (Unit {0}) Fault) (before after : Steps) → EndsAsMade text differs r old new → after.failed ≡ before.failed → FailsAs r before after
+  made_fails (Ok u) before after e same = same
+  made_fails (Err faults.Differs) before after e same = same
+  made_fails (Err (faults.WriteFault written)) before after e same = same
+  made_fails (Err (faults.Script fault)) before after e same = elim e [ ]
+  made_fails (Err (faults.Session fault)) before after e same = elim e [ ]
+  made_fails (Err faults.LongSession) before after e same = elim e [ ]
+  made_fails (Err (faults.Import fault)) before after e same = elim e [ ]
+  made_fails (Err faults.LongImport) before after e same = elim e [ ]
+  made_fails (Err (faults.Race fault)) before after e same = elim e [ ]
+  made_fails (Err (faults.TooManyStates most)) before after e same = elim e [ ]
+  made_fails (Err (faults.NoSuchOutcome outcomes)) before after e same = elim e [ ]
+  made_fails (Err (faults.Explain fault)) before after e same = elim e [ ]
+  made_fails (Err (faults.Whatif fault)) before after e same = elim e [ ]
+  made_fails (Err (faults.Prompt fault)) before after e same = elim e [ ]
+  made_fails (Err faults.ReadFault) before after e same = elim e [ ]
+  made_fails (Err faults.OutOfMemory) before after e same = elim e [ ]
+
+-- what refuses them
+
+pub refused_ends : (check lines lenient : Bool) (form : Form) (limits : Limits) (known old : Option (List ℕ)) (fault : Fault) →
+    RefusesImportAt lines lenient limits known fault → IsUnwritten fault → EndsAt (Import check lines lenient) form limits known (Err fault) old old
+refused_ends check lines lenient form limits None old fault cause before = tt
+refused_ends check lines lenient form limits (Some input) old fault cause before = cause_ends (Import check lines lenient) form limits input fault old cause before
+
+pub refuses_whole : (lines lenient : Bool) (limits : Limits) (known : Option (List ℕ)) (bytes : List ℕ) (fault : Fault) → IsWhole known bytes →
+    RefusesImport lines lenient limits bytes fault → RefusesImportAt lines lenient limits known fault
+refuses_whole lines lenient limits None bytes fault whole refuses = tt
+refuses_whole lines lenient limits (Some input) bytes fault whole refuses = subst (λ (b : List ℕ). RefusesImport lines lenient limits b fault) whole refuses
+
+events_refuse : (lines lenient : Bool) (limits : Limits) (input : List ℕ) (fault : Fault) → RefusesEvents input fault → RefusesImport lines lenient limits input fault
+events_refuse lines lenient limits input faults.LongImport refuses = refuses
+events_refuse lines lenient limits input faults.ReadFault refuses = tt
+events_refuse lines lenient limits input faults.OutOfMemory refuses = tt
+events_refuse lines lenient limits input (faults.Script fault) refuses = elim refuses [ ]
+events_refuse lines lenient limits input (faults.Session fault) refuses = elim refuses [ ]
+events_refuse lines lenient limits input faults.LongSession refuses = elim refuses [ ]
+events_refuse lines lenient limits input (faults.Import fault) refuses = elim refuses [ ]
+events_refuse lines lenient limits input faults.Differs refuses = elim refuses [ ]
+events_refuse lines lenient limits input (faults.Race fault) refuses = elim refuses [ ]
+events_refuse lines lenient limits input (faults.TooManyStates most) refuses = elim refuses [ ]
+events_refuse lines lenient limits input (faults.NoSuchOutcome outcomes) refuses = elim refuses [ ]
+events_refuse lines lenient limits input (faults.Explain fault) refuses = elim refuses [ ]
+events_refuse lines lenient limits input (faults.Whatif fault) refuses = elim refuses [ ]
+events_refuse lines lenient limits input (faults.Prompt fault) refuses = elim refuses [ ]
+events_refuse lines lenient limits input (faults.WriteFault written) refuses = elim refuses [ ]
+
+pub events_refuse_at : (lines lenient : Bool) (limits : Limits) (known : Option (List ℕ)) (fault : Fault) → RefusesEventsAt known fault →
+    RefusesImportAt lines lenient limits known fault
+events_refuse_at lines lenient limits None fault refuses = tt
+events_refuse_at lines lenient limits (Some input) fault refuses = events_refuse lines lenient limits input fault refuses
+
+-- what is told beside it
+
+pub told_left : (check lines lenient : Bool) (form : Form) (limits : Limits) (known : Option (List ℕ)) (bytes text : List ℕ) (differs : Bool) (left_out : List ℕ)
+    (old new : Option (List ℕ)) → IsWhole known bytes → IsMade check lines lenient form limits bytes text differs left_out → TellsLines left_out old new →
+    TellsLeft lenient known old new
+told_left check lines lenient form limits None bytes text differs left_out old new whole is told = tt
+told_left check lines lenient form limits (Some input) bytes text differs left_out old new whole is told =
+    inr (left_out, subst (λ (b : List ℕ). IsLeftOut lenient b left_out) whole (by check form is), told)
+  where
+    by : (check : Bool) (form : Form) → IsMade check lines lenient form limits bytes text differs left_out → IsLeftOut lenient bytes left_out
+    by true form is = (is.tables, is.notes, is.order, is.import)
+    by false Session (same, m, is, text) = (is.tables, is.notes, is.order, is.import)
+    by false Script (same, m, is) = (is.tables, is.notes, is.order, is.import)
+    by false Report (same, m, is) = (is.tables, is.notes, is.order, is.import)
+
+pub told_nothing : (lenient : Bool) (known old : Option (List ℕ)) → TellsLeft lenient known old old
+told_nothing lenient None old = tt
+told_nothing lenient (Some input) None = inl tt
+told_nothing lenient (Some input) (Some bytes) = inl refl
+
+pub take_whole : (xs : List ℕ) → take (length xs) xs ≡ xs
+take_whole [] = refl
+take_whole (x ∷ xs) = ap (λ l. x ∷ l) (take_whole xs)

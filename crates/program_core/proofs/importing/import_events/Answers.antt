@@ -1,0 +1,13 @@
+use Rattle.std.proofs.Common.{rules, ◌≡◌, ℕ, List, subst, sym}
+use Rattle.stream_core.specs.Inputs.{IsWhole}
+use Rattle.program_core.specs.Imported.{IsMade, text_bytes}
+use Rattle.program_core.proofs.ImportEnds.{ends_import, events_refuse_at, made_before, made_fails, made_memory, refused_ends, refuses_whole, told_left, told_nothing}
+use Rattle.program_core.proofs.Printed.{always}
+use Rattle.program_core.proofs.importing.import_events.Goals as goal
+
+pub returns-clause-ends : goal.returns-clause-ends
+returns-clause-ends g c =
+    ends_import c.args.check c.args.lines c.args.lenient c.args.form c.args.limits (text_bytes c.in_ok-made.made.text) c.in_ok-made.made.left_out.items
+    _ _ (g.R.Read.remaining c.args.reader.now) c.deref.result.now c.in_ok-made.made.differs c.print_made-printed.result
+    (subst (λ (bytes : List ℕ). IsWhole (g.R.Read.remaining c.args.reader.now) bytes) (sym c.deref.ensures.value) c.in_ok-input.ensures.whole)
+    c.in_ok-made.ensures.made c.print_made-printed.ensures

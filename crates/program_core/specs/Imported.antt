@@ -1,0 +1,86 @@
+-- What is printed of the events of logs, what is told beside it, and why nothing is.
+use Rattle.std.specs.Prelude.{◌≡◌, ◌⊎◌, ℕ, ◌<◌, Bool, true, false, List, ◌++◌, length, take, codes, decimal, string_bytes, ⊤, Option, None, Some, Result, Ok, Err}
+use Rattle.std.specs.Io.KnownBytes.{Appends, Keeps}
+use Rattle.std.specs.List.{flat_map}
+use Rattle.bench_core.specs.Limits.{Limits}
+use Rattle.bench_core.specs.Machine.{Machine}
+use Rattle.command_line.specs.declared.chosen.Form.{Form}
+use Rattle.command_line.specs.declared.chosen.Form.TheVariants.{Report, Session, Script}
+use Rattle.import_core.specs.Faults.{IsImportFault}
+use Rattle.import_core.specs.Imports.{IsImportOf}
+use Rattle.import_core.specs.Notes.{Note}
+use Rattle.import_core.specs.Tables.{AllTables}
+use Rattle.import_report.specs.Checks.{IsCheckOf}
+use Rattle.import_report.specs.Scripts.{IsBenchOf, IsImported, IsRefused}
+use Rattle.program_core.specs.Sessions.{session_text}
+use Rattle.program_core.specs.declared.fault.Fault.{Fault}
+use Rattle.program_core.specs.declared.importing.Text.{Text}
+use Rattle.program_core.specs.declared.importing.Text.TheVariants as texts
+use Rattle.program_core.specs.declared.fault.Fault.TheVariants as faults
+
+-- the bytes of a text, wherever it lies
+abbrev pub text_bytes : {X : Type 0} → Text X → List ℕ
+text_bytes (texts.Own text) = string_bytes text
+text_bytes (texts.Heap bytes) = bytes.items
+
+-- what is made of the events: where the bench and the real nodes part, if they do; the session of the bench that they leave; or else
+-- their script. Beside it, the lines of what is left out
+abbrev pub IsMade : Bool → Bool → Bool → Form → Limits → List ℕ → List ℕ → Bool → List ℕ → Type 0
+IsMade true lines lenient form limits input text differs left_out = IsCheckOf lenient limits input text differs left_out
+IsMade false lines lenient Session limits input text differs left_out = (differs ≡ false) × (m : Machine) × IsBenchOf lenient limits input m left_out × (text ≡ session_text m)
+IsMade false lines lenient Script limits input text differs left_out = (differs ≡ false) × (m : Machine) × IsImported lenient lines limits input text m left_out
+IsMade false lines lenient Report limits input text differs left_out = (differs ≡ false) × (m : Machine) × IsImported lenient lines limits input text m left_out
+
+-- the text is what is printed, and they part or not
+abbrev pub PrintsImport : Bool → Bool → Bool → Form → Limits → List ℕ → Bool → List ℕ → Type 0
+PrintsImport check lines lenient form limits input differs text = (left_out : List ℕ) × IsMade check lines lenient form limits input text differs left_out
+
+-- all of the text went out, and then they part or not; or, where the writing failed, its first `written` bytes
+abbrev pub EndsAsMade : List ℕ → Bool → Result (Unit {0}) Fault → Option (List ℕ) → Option (List ℕ) → Type 0
+EndsAsMade text differs (Ok _) old new = (differs ≡ false) × Appends old new text
+EndsAsMade text differs (Err faults.Differs) old new = (differs ≡ true) × Appends old new text
+EndsAsMade text differs (Err (faults.WriteFault written)) old new = (written < length text) × Appends old new (take written text)
+EndsAsMade text differs (Err _) old new = ⊥
+
+-- the input can't be read as events: it is too long
+abbrev pub RefusesEvents : List ℕ → Fault → Type 0
+RefusesEvents input faults.LongImport = 67108864 < length input
+RefusesEvents input faults.ReadFault = ⊤
+RefusesEvents input faults.OutOfMemory = ⊤
+RefusesEvents input fault = ⊥
+
+abbrev pub RefusesEventsAt : Option (List ℕ) → Fault → Type 0
+RefusesEventsAt None fault = ⊤
+RefusesEventsAt (Some input) fault = RefusesEvents input fault
+
+-- the events give no script: they are too many bytes, they can't be imported, or the script is too long
+abbrev pub RefusesImport : Bool → Bool → Limits → List ℕ → Fault → Type 0
+RefusesImport lines lenient limits input (faults.Import fault) = IsRefused lenient lines limits input fault
+RefusesImport lines lenient limits input faults.LongImport = 67108864 < length input
+RefusesImport lines lenient limits input faults.ReadFault = ⊤
+RefusesImport lines lenient limits input faults.OutOfMemory = ⊤
+RefusesImport lines lenient limits input fault = ⊥
+
+abbrev pub RefusesImportAt : Bool → Bool → Limits → Option (List ℕ) → Fault → Type 0
+RefusesImportAt lines lenient limits None fault = ⊤
+RefusesImportAt lines lenient limits (Some input) fault = RefusesImport lines lenient limits input fault
+
+-- `presence_bench: line L: left out`
+unfoldable pub left_line : ℕ → List ℕ
+left_line line = codes "presence_bench: line " ++ decimal line ++ codes ": left out\n"
+
+unfoldable pub left_lines : List ℕ → List ℕ
+left_lines left_out = flat_map (λ line. left_line line) left_out
+
+-- a beginning of these lines went out
+abbrev pub TellsLines : List ℕ → Option (List ℕ) → Option (List ℕ) → Type 0
+TellsLines left_out old new = (count : ℕ) × Appends old new (take count (left_lines left_out))
+
+-- the lines of what is left out of the input
+abbrev pub IsLeftOut : Bool → List ℕ → List ℕ → Type 0
+IsLeftOut lenient input left_out = (t : AllTables) × (notes : List Note) × (order : List ℕ) × IsImportOf lenient input t notes order left_out
+
+-- beside the output nothing is told, or a beginning of what was left out
+abbrev pub TellsLeft : Bool → Option (List ℕ) → Option (List ℕ) → Option (List ℕ) → Type 0
+TellsLeft lenient None old new = ⊤
+TellsLeft lenient (Some input) old new = Keeps old new ⊎ ((left_out : List ℕ) × IsLeftOut lenient input left_out × TellsLines left_out old new)

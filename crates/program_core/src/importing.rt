@@ -1,0 +1,252 @@
+//! What is printed of the events of logs: a script, a session, or where the bench and the real nodes part.
+ghost use Rattle.std.specs.Prelude.{◌≡◌, ◌≢◌, ◌++◌, Err, IfErr, IfOk, OnOk, true, false, string_bytes};
+ghost use Rattle.std.specs.Io.KnownBytes.{IsAtEnd};
+ghost use Rattle.stream_core.specs.Inputs.{IsWhole};
+ghost use Rattle.command_line.specs.declared.chosen.Form.TheVariants as forms;
+ghost use Rattle.command_line.specs.declared.chosen.Subcommand.TheVariants as subcommands;
+ghost use Rattle.program_core.specs.Imported.{EndsAsMade, IsMade, RefusesEventsAt, RefusesImport, TellsLeft, TellsLines, left_line, left_lines, text_bytes};
+ghost use Rattle.import_report.specs.Scripts.{IsRefused};
+ghost use Rattle.program_core.specs.Program.{EndsAt, FailsAs, IsUnwritten, KeepsBefore, TellsMemory, fault_of_import};
+
+use crate::fault::Fault;
+use crate::printing::print;
+use crate::texts::{LONGEST_SESSION, session_line};
+use bench_core::Limits;
+use command_line::Form;
+use import_core::{FaultKind, ImportFault};
+use import_report::{Checked, Scripted, import_bench, import_check, import_script};
+use payload_core::Oom;
+use script_core::{InputFault, Steps, read_all, write_out};
+use std::alloc::{Allocator, Global};
+use std::io::{Read, Write};
+use std::sync::ledger::Ledger;
+
+/// The bytes of the logs. Of an input that is too long no more is kept than they may have.
+fn read_events<'a, B: Allocator, R: Read, L: Ledger>(
+    alloc: &'a B,
+    reader: &mut R,
+    steps: &mut Steps<L>,
+) -> Result<Vec<u8, &'a B>, Fault>
+    ensures whole { IfOk result (λ bytes. IsWhole (R.remaining reader.old) bytes.items) }
+    ensures cause { IfErr result (RefusesEventsAt (R.remaining reader.old)) }
+    ensures memory { IfErr result TellsMemory }
+    ensures unwritten { IfErr result IsUnwritten }
+    ensures read { OnOk result (IsAtEnd (R.remaining reader.new)) }
+    ensures failed { FailsAs result steps.old steps.new }
+{
+    match read_all(alloc, reader, LONGEST_SESSION, steps) {
+        Ok(input) => Ok(input),
+        Err(InputFault::ReadFault) => Err(Fault::ReadFault),
+        Err(InputFault::TooLong) => Err(Fault::LongImport),
+        Err(InputFault::OutOfMemory) => Err(Fault::OutOfMemory),
+    }
+}
+
+/// `presence_bench: line L: left out`.
+#[tactic(auto, unfolding(crate::specs::Imported::left_line))]
+fn put_left_line<A: Allocator>(text: &mut String<A>, line: u64) -> Result<(), Oom>
+    ensures { OnOk result (string_bytes text.new ≡ string_bytes text.old ++ left_line line) }
+{
+    Ok(writeln!(text, "presence_bench: line {line}: left out")?)
+}
+
+/// That of each of these lines.
+#[tactic(auto, unfolding(crate::specs::Imported::left_lines))]
+fn put_left<A: Allocator>(text: &mut String<A>, left_out: &[u64]) -> Result<(), Oom>
+    ensures { OnOk result (string_bytes text.new ≡ string_bytes text.old ++ left_lines left_out.now) }
+{
+    for line in left_out {
+        put_left_line(text, *line)?;
+    }
+    Ok(())
+}
+
+/// Tells the lines of what was left out, where these can be written.
+fn tell_left<A: Allocator, E: Write>(alloc: A, errors: &mut E, left_out: &[u64]) -> Result<(), Oom>
+    ensures { TellsLines left_out.now (E.contents errors.old) (E.contents errors.new) }
+{
+    let mut text = String::new(alloc);
+    put_left(&mut text, left_out)?;
+    match write_out(errors, text.as_bytes()) {
+        Ok(()) => Ok(()),
+        Err(_unwritten) => Ok(()),
+    }
+}
+
+/// The fault of an import as the program's.
+fn fault_of(fault: ImportFault) -> Fault
+    ensures { result ≡ fault_of_import fault }
+{
+    match fault.kind {
+        FaultKind::OutOfMemory => Fault::OutOfMemory,
+        _ => Fault::Import(fault),
+    }
+}
+
+/// A text, in the memory of a bench or on the heap.
+#[derive(Drop)]
+pub enum Text<A: Allocator> {
+    Own(String<A>),
+    Heap(Vec<u8>),
+}
+
+fn bytes_of<A: Allocator>(text: &Text<A>) -> &[u8]
+    ensures { result.now ≡ text_bytes text.now }
+{
+    match text {
+        Text::Own(text) => text.as_bytes(),
+        Text::Heap(bytes) => bytes,
+    }
+}
+
+/// What is printed of the events: its text, whether it tells that the bench and the real nodes part, and the lines of what is
+/// left out.
+#[derive(Drop)]
+pub struct Made<A: Allocator> {
+    pub text: Text<A>,
+    pub differs: bool,
+    pub left_out: Vec<u64, A>,
+}
+
+/// Their script.
+fn make_script<'a, B: Allocator>(
+    heap: Global,
+    alloc: &'a B,
+    limits: Limits,
+    lines: bool,
+    lenient: bool,
+    input: &[u8],
+) -> Result<Made<&'a B>, ImportFault>
+    ensures made { IfOk result (λ m. IsMade false lines lenient forms.Script limits input.now (text_bytes m.text) m.differs m.left_out.items) }
+    ensures refused { IfErr result (IsRefused lenient lines limits input.now) }
+{
+    let (scripted, left_out) = import_script(heap, alloc, limits, lenient, lines, input)?;
+    Ok(Made {
+        text: Text::Own(text_of(scripted)),
+        differs: false,
+        left_out,
+    })
+}
+
+fn text_of<'a, B: Allocator>(scripted: Scripted<'a, B>) -> String<&'a B>
+    ensures { string_bytes result ≡ string_bytes scripted.entry.text }
+{
+    scripted.text
+}
+
+/// The session of the bench that they leave.
+fn make_session<'a, B: Allocator>(
+    heap: Global,
+    alloc: &'a B,
+    limits: Limits,
+    lines: bool,
+    lenient: bool,
+    input: &[u8],
+) -> Result<Made<&'a B>, ImportFault>
+    ensures made { IfOk result (λ m. IsMade false lines lenient forms.Session limits input.now (text_bytes m.text) m.differs m.left_out.items) }
+    ensures refused { IfErr result (IsRefused lenient lines limits input.now) }
+{
+    let (bench, left_out) = import_bench(heap, alloc, limits, lenient, input)?;
+    let text = session_line(heap, &bench);
+    drop(bench);
+    Ok(Made {
+        text: Text::Heap(text?),
+        differs: false,
+        left_out,
+    })
+}
+
+/// Where the bench and the real nodes part.
+fn make_check<'a, B: Allocator>(
+    heap: Global,
+    alloc: &'a B,
+    limits: Limits,
+    lines: bool,
+    lenient: bool,
+    form: Form,
+    input: &[u8],
+) -> Result<Made<&'a B>, ImportFault>
+    ensures made { IfOk result (λ m. IsMade true lines lenient form limits input.now (text_bytes m.text) m.differs m.left_out.items) }
+    ensures refused { IfErr result (IsRefused lenient lines limits input.now) }
+{
+    let (found, left_out) = import_check(heap, alloc, limits, lenient, input)?;
+    let Checked { text, differs } = found;
+    Ok(Made {
+        text: Text::Own(text),
+        differs,
+        left_out,
+    })
+}
+
+/// What was chosen.
+fn make<'a, B: Allocator>(
+    heap: Global,
+    alloc: &'a B,
+    limits: Limits,
+    check: bool,
+    lines: bool,
+    lenient: bool,
+    form: Form,
+    input: &[u8],
+) -> Result<Made<&'a B>, Fault>
+    ensures made { IfOk result (λ m. IsMade check lines lenient form limits input.now (text_bytes m.text) m.differs m.left_out.items) }
+    ensures refused { IfErr result (RefusesImport lines lenient limits input.now) }
+    ensures memory { IfErr result TellsMemory }
+    ensures unwritten { IfErr result IsUnwritten }
+    ensures unread { result ≢ Err Fault.ReadFault }
+{
+    let made = match form {
+        _ if check => make_check(heap, alloc, limits, lines, lenient, form, input),
+        Form::Session => make_session(heap, alloc, limits, lines, lenient, input),
+        Form::Script | Form::Report => make_script(heap, alloc, limits, lines, lenient, input),
+    };
+    match made {
+        Ok(made) => Ok(made),
+        Err(fault) => Err(fault_of(fault)),
+    }
+}
+
+/// All of the text; then, if it tells that they part, this.
+fn print_made<B: Allocator, W: Write>(writer: &mut W, made: &Made<&B>) -> Result<(), Fault>
+    ensures { EndsAsMade (text_bytes made.now.text) made.now.differs result (W.contents writer.old) (W.contents writer.new) }
+{
+    print(writer, bytes_of(&made.text))?;
+    if made.differs {
+        return Err(Fault::Differs);
+    }
+    Ok(())
+}
+
+/// A script of the events that the input has, or what else was chosen of them. What is left out is told first.
+pub fn import_events<B: Allocator, R: Read, W: Write, E: Write, L: Ledger>(
+    heap: Global,
+    alloc: &B,
+    reader: &mut R,
+    writer: &mut W,
+    errors: &mut E,
+    limits: Limits,
+    check: bool,
+    lines: bool,
+    lenient: bool,
+    form: Form,
+    steps: &mut Steps<L>,
+) -> Result<(), Fault>
+    ensures ends { EndsAt (subcommands.Import check lines lenient) form limits (R.remaining reader.old) result (W.contents writer.old) (W.contents writer.new) }
+    ensures read { OnOk result (IsAtEnd (R.remaining reader.new)) }
+    ensures unwritten { IfErr result (λ fault. KeepsBefore fault (W.contents writer.old) (W.contents writer.new)) }
+    ensures memory { IfErr result TellsMemory }
+    ensures failed { FailsAs result steps.old steps.new }
+    ensures aside { TellsLeft lenient (R.remaining reader.old) (E.contents errors.old) (E.contents errors.new) }
+{
+    let input = read_events(alloc, reader, steps)?;
+    let made = make(heap, alloc, limits, check, lines, lenient, form, &input);
+    drop(input);
+    let made = made?;
+    if tell_left(alloc, errors, &made.left_out).is_err() {
+        drop(made);
+        return Err(Fault::OutOfMemory);
+    }
+    let printed = print_made(writer, &made);
+    drop(made);
+    printed
+}
