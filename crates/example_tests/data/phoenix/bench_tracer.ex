@@ -4,7 +4,7 @@ defmodule BenchTracer do
 
   On each node of the cluster, once, from a remote console or at start-up:
 
-      {:ok, tracer} = BenchTracer.start("/tmp/events.jsonl", [MyApp.Presence_shard0])
+      {:ok, tracer} = BenchTracer.start("events.jsonl", [MyApp.Presence_shard0])
 
   where the names are those of the shards' processes (`Process.registered/0` lists them) or their pids. Trace one shard of a
   tracker at a time, the same one on every node: each shard is a cluster of its own to the bench. `BenchTracer.online(tracer)`
