@@ -1,6 +1,5 @@
 -- The dots of presences that are asked for, one step further.
-use Rattle.std.proofs.Common.{◌≡◌, ◌⊎◌, inl, inr, ℕ, ◌+◌, ◌≤◌, ◌&&◌, ◌||◌, Bool, true, false, List, [], ◌∷◌, ◌++◌, cond, length, drop, take, slice_get, Some, Ok, refl, sym, ap, ◌∙◌, subst, true≢false}
-use Rattle.std.proofs.lemmas.Bool.{eq-eqb}
+use Rattle.std.proofs.Common.{◌≡◌, ◌⊎◌, inl, inr, ℕ, ◌+◌, ◌≤◌, true, List, [], ◌∷◌, ◌++◌, cond, length, drop, take, slice_get, Some, Ok, sym, ap, ◌∙◌, subst}
 use Rattle.dots_core.specs.declared.dot.Dot.{Dot}
 use Rattle.payload_core.specs.Presences.{Presence}
 use Rattle.replica_core.specs.declared.node_limits.NodeLimits.{NodeLimits}
@@ -17,36 +16,20 @@ use Rattle.network_core.proofs.OwnParts.{known_more_run, made_cases, IsNewest}
 use Rattle.order_core.proofs.Places.{from_on, up_to}
 use Rattle.explore_network.specs.Asked.{asked_dots, fresh_of}
 use Rattle.explore_network.specs.Explorations.{is_asked, is_asked_of}
-use Rattle.explore_network.specs.Questions.{Question}
-use Rattle.explore_network.specs.Tables.{is_wanted, same_dot}
+use Rattle.explore_network.specs.Tables.{is_wanted}
 use Rattle.explore_network.specs.Walks.{with_step}
 use Rattle.explore_network.proofs.CountLoops.{all_taken}
+use Rattle.explore_network.proofs.OwnDots.{wanted_first, wanted_last}
 
 -- of the first steps of a run that leads to an end
-pub record AskedSo (l : NodeLimits) (count : ℕ) (steps : List Kept) (place : ℕ) (q : Question) (dots : List Dot) (cluster end : Cluster) : Type 0 where
+pub record AskedSo (l : NodeLimits) (count : ℕ) (steps : List Kept) (place : ℕ) (topic key : List ℕ) (dots : List Dot) (cluster end : Cluster) : Type 0 where
   pub left : then_runs (Ok cluster) (drop place steps) ≡ Ok end
   pub ran : runs l count (take place steps) ≡ Ok cluster
-  pub wants : WantsMade l (take place steps) (is_wanted dots) q.topic q.key
+  pub wants : WantsMade l (take place steps) (is_wanted dots) topic key
 
-wanted_first : (ds more : List Dot) (e : Dot) → is_wanted ds e ≡ true → is_wanted (ds ++ more) e ≡ true
-wanted_first [] more e h = absurd (true≢false (sym h))
-wanted_first (d ∷ ds) more e h = go (same_dot d e) h (λ h. wanted_first ds more e h)
-  where
-    go : (b : Bool) → (b || is_wanted ds e) ≡ true → (is_wanted ds e ≡ true → is_wanted (ds ++ more) e ≡ true) → (b || is_wanted (ds ++ more) e) ≡ true
-    go true h rest = refl
-    go false h rest = rest h
-
-wanted_last : (ds : List Dot) (e : Dot) → is_wanted (ds ++ e ∷ []) e ≡ true
-wanted_last [] e = (λ i. (eq-eqb e.name e.name refl i && eq-eqb e.clock e.clock refl i) || false)
-wanted_last (d ∷ ds) e = go (same_dot d e) (wanted_last ds e)
-  where
-    go : (b : Bool) → is_wanted (ds ++ e ∷ []) e ≡ true → (b || is_wanted (ds ++ e ∷ []) e) ≡ true
-    go true h = refl
-    go false h = h
-
-pub asked_first : (l : NodeLimits) (count : ℕ) (steps : List Kept) (q : Question) (dots : List Dot) (cluster end : Cluster) → cluster ≡ opening_of l count → runs l count steps ≡ Ok end →
-    AskedSo l count steps 0 q dots cluster end
-asked_first l count steps q dots cluster end is run = record {
+pub asked_first : (l : NodeLimits) (count : ℕ) (steps : List Kept) (topic key : List ℕ) (dots : List Dot) (cluster end : Cluster) → cluster ≡ opening_of l count → runs l count steps ≡ Ok end →
+    AskedSo l count steps 0 topic key dots cluster end
+asked_first l count steps topic key dots cluster end is run = record {
   left = ap (λ (c : Cluster). then_runs (Ok c) steps) is ∙ run;
   ran = ap Ok (sym is);
   wants = λ d p m of. absurd (no_parts m.k m.after m.before m.parted);
@@ -56,10 +39,10 @@ asked_first l count steps q dots cluster end is run = record {
     no_parts k after [] e = cc
     no_parts k after (b ∷ bs) e = cc
 
-pub asked_more : (l : NodeLimits) (count : ℕ) (steps : List Kept) (place : ℕ) (q : Question) (dots new : List Dot) (cluster later end : Cluster) (k : Kept) → slice_get steps place ≡ Some k →
-    new ≡ dots ++ asked_dots q k (slice_get cluster k.node) → ((c : Cluster) → then_runs (Ok cluster) (with_step (slice_get steps place) []) ≡ Ok c → later ≡ c) → AskedSo l count steps place q dots cluster end →
-    AskedSo l count steps (place + 1) q new later end
-asked_more l count steps place q dots new cluster later end k at more plays a = record {
+pub asked_more : (l : NodeLimits) (count : ℕ) (steps : List Kept) (place : ℕ) (topic key : List ℕ) (dots new : List Dot) (cluster later end : Cluster) (k : Kept) → slice_get steps place ≡ Some k →
+    new ≡ dots ++ asked_dots topic key k (slice_get cluster k.node) → ((c : Cluster) → then_runs (Ok cluster) (with_step (slice_get steps place) []) ≡ Ok c → later ≡ c) → AskedSo l count steps place topic key dots cluster end →
+    AskedSo l count steps (place + 1) topic key new later end
+asked_more l count steps place topic key dots new cluster later end k at more plays a = record {
   left = ap (λ (c : Cluster). then_runs (Ok c) (drop (place + 1) steps)) same ∙ one.2;
   ran = ran_on ∙ ap Ok (sym same);
   wants = λ e p m of. wanted e p of (made_cases l count (take place steps) k cluster one.0 a.ran one.1 (stepped cluster k.node k.step one.0 one.1) (known_more_run l count (take place steps) cluster a.ran) e p
@@ -75,17 +58,17 @@ asked_more l count steps place q dots new cluster later end k at more plays a = 
     ran_on : runs l count (take (place + 1) steps) ≡ Ok one.0
     ran_on = ap (runs l count) (up_to steps place k at) ∙ runs_append (Ok (opening_of l count)) (take place steps) (k ∷ []) ∙ ap (λ r. then_runs r (k ∷ [])) a.ran ∙ ap (λ r. then_runs r []) one.1
 
-    wanted : (e : Dot) (p : Presence) → is_row_of q.topic q.key (row_of (e, p)) ≡ true →
+    wanted : (e : Dot) (p : Presence) → is_row_of topic key (row_of (e, p)) ≡ true →
         IsMade l (take place steps) e p ⊎ IsNewest l count (take place steps) k cluster one.0 a.ran one.1 (stepped cluster k.node k.step one.0 one.1) (known_more_run l count (take place steps) cluster a.ran) e p →
         is_wanted new e ≡ true
-    wanted e p of (inl old) = ap (λ ds. is_wanted ds e) more ∙ wanted_first dots (asked_dots q k (slice_get cluster k.node)) e (a.wants e p old of)
+    wanted e p of (inl old) = ap (λ ds. is_wanted ds e) more ∙ wanted_first dots (asked_dots topic key k (slice_get cluster k.node)) e (a.wants e p old of)
     wanted e p of (inr newest) =
         let st = stepped cluster k.node k.step one.0 one.1 in
-        let asked : is_asked q.topic q.key k.step ≡ true = ap (is_asked_of q.topic q.key) newest.1 ∙ of in
-        let here : asked_dots q k (slice_get cluster k.node) ≡ e ∷ [] =
+        let asked : is_asked topic key k.step ≡ true = ap (is_asked_of topic key) newest.1 ∙ of in
+        let here : asked_dots topic key k (slice_get cluster k.node) ≡ e ∷ [] =
         ap (λ b. cond b (fresh_of (slice_get cluster k.node)) []) asked ∙ ap fresh_of st.at ∙ ap (λ d. d ∷ []) (fresh_holds l count (take place steps) cluster k.node st.from a.ran st.at ∙ sym newest.0) in
         ap (λ ds. is_wanted ds e) (more ∙ ap (λ l. dots ++ l) here) ∙ wanted_last dots e
 
-pub all_asked : (l : NodeLimits) (count : ℕ) (steps : List Kept) (place : ℕ) (q : Question) (dots : List Dot) (cluster end : Cluster) → length steps ≤ place → AskedSo l count steps place q dots cluster end →
-    WantsMade l steps (is_wanted dots) q.topic q.key
-all_asked l count steps place q dots cluster end le a = subst (λ (ks : List Kept). WantsMade l ks (is_wanted dots) q.topic q.key) (all_taken steps place le) a.wants
+pub all_asked : (l : NodeLimits) (count : ℕ) (steps : List Kept) (place : ℕ) (topic key : List ℕ) (dots : List Dot) (cluster end : Cluster) → length steps ≤ place → AskedSo l count steps place topic key dots cluster end →
+    WantsMade l steps (is_wanted dots) topic key
+all_asked l count steps place topic key dots cluster end le a = subst (λ (ks : List Kept). WantsMade l ks (is_wanted dots) topic key) (all_taken steps place le) a.wants

@@ -1,11 +1,13 @@
 -- From one call of the walk to the next.
-use Rattle.std.proofs.Common.{◌≡◌, ◌⊎◌, ℕ, ◌<◌, ◌+◌, Bool, true, false, Result, Err, IfOk, OnOk, List, [], ◌∷◌, ◌++◌, length, slice_get, Some, None, Ok, sym, ap, ◌∙◌, subst, below_more}
+use Rattle.std.proofs.Common.{◌≡◌, ◌⊎◌, ℕ, ◌<◌, ◌≤◌, ◌+◌, Bool, true, false, Result, Err, IfOk, OnOk, List, [], ◌∷◌, ◌++◌, length, slice_get, Some, None, Ok, sym, ap, ◌∙◌, subst, below_more}
 use Rattle.journal_core.specs.Journals.{Kept}
 use Rattle.bench_core.specs.declared.fault.Fault.{Fault}
 use Rattle.bench_core.specs.Clusters.{Cluster, step}
+use Rattle.explore_network.specs.declared.explore_fault.Stop.{Stop}
+use Rattle.explore_network.specs.declared.explore_fault.Stop.TheVariants.{OutOfMemory}
 use Rattle.explore_network.specs.Plans.{Plan}
 use Rattle.explore_network.specs.Questions.{Question}
-use Rattle.explore_network.specs.Walks.{next_in, steps_at, told_by, AllGoThrough, AreMore, GoesThrough, GoesThroughAt, IsAt, IsBehind, IsFirst, IsReady, IsTold, Keeps, Outcome, Went}
+use Rattle.explore_network.specs.Walks.{next_in, steps_at, told_by, AllGoThrough, AreMore, GoesThrough, GoesThroughAt, HasReason, IsAt, IsBehind, IsFirst, IsReady, IsTold, Keeps, Outcome, Went}
 use Rattle.network_core.specs.NetworkRuns.{IsNetworkRun}
 use Rattle.explore_network.specs.Keys.{IsAmong}
 use Rattle.explore_network.specs.Queries.{key_of}
@@ -13,7 +15,7 @@ use Rattle.explore_network.proofs.Going.{steps_push}
 use Rattle.explore_network.proofs.SameKeys.{same_key}
 use Rattle.explore_network.proofs.Telling.{all_told}
 use Rattle.explore_network.proofs.ToldWalks.{is_walk}
-use Rattle.explore_network.proofs.Tours.{first_told, key_among, keeps_key, more_more, no_more, through_refused, told_by_more, told_more}
+use Rattle.explore_network.proofs.Tours.{first_told, key_among, keeps_key, knows_key, Knows, more_more, no_more, through_refused, told_by_more, told_more}
 
 pub went_nowhere : (p : Plan) (q : Question) (known : List (List ℕ)) (os : List Outcome) → Keeps p q known os → Went p q os known os
 went_nowhere p q known os keeps = record { more = no_more os; keeps = keeps }
@@ -91,12 +93,13 @@ known_is_told p q path c known os counts key left r is among =
     same_key p q r.plan (steps_at p.steps path) k.first counts k.counts c k.cluster r.at k.at (sym is ∙ k.is) (told_by q os) (is_walk p q r.plan os) k.told
 
 -- one state more is known
-pub known_more : (p : Plan) (q : Question) (path : List ℕ) (c : Cluster) (known mid later : List (List ℕ)) (os new : List Outcome) (counts key : List ℕ) (left : ℕ) → IsReady p q path c known os counts left →
-    key ≡ key_of p.tables p.count p.steps p.ranks counts c → Went p q os mid new → IsTold p q new (steps_at p.steps path) → length mid < p.most → (later ≡ mid) ⊎ (later ≡ mid ++ key ∷ []) → Went p q os later new
-known_more p q path c known mid later os new counts key left r is went told lt put = record {
-  more = went.more;
-  keeps = keeps_key p q new key mid later went.keeps (record { first = steps_at p.steps path; counts = counts; cluster = c; at = r.at; is = is; told = told }) lt put;
-}
+pub known_key : (p : Plan) (q : Question) (path : List ℕ) (c : Cluster) (known mid later : List (List ℕ)) (os new : List Outcome) (counts key : List ℕ) (left : ℕ) → IsReady p q path c known os counts left →
+    key ≡ key_of p.tables p.count p.steps p.ranks counts c → Went p q os mid new → IsTold p q new (steps_at p.steps path) → (later ≡ mid) ⊎ ((later ≡ mid ++ key ∷ []) × (IsAmong key mid → ⊥)) → Knows p q new later
+known_key p q path c known mid later os new counts key left r is went told put =
+    knows_key p q new key mid later went.keeps (record { first = steps_at p.steps path; counts = counts; cluster = c; at = r.at; is = is; told = told }) put
+
+pub known_more : (p : Plan) (q : Question) (mid later : List (List ℕ)) (os new : List Outcome) → Went p q os mid new → Knows p q new later → length later ≤ p.most → Went p q os later new
+known_more p q mid later os new went knows few = record { more = went.more; keeps = keeps_key p q new mid later went.keeps knows few }
 
 -- what holds of what was answered
 
@@ -111,3 +114,15 @@ on_ok (Err e) P Q f h = tt
 pub both_ok : {X E : Type 0} (r : Result X E) (P Q R : Type 0) → (P → Q → R) → OnOk r P → OnOk r Q → OnOk r R
 both_ok (Ok x) P Q R f h g = f h g
 both_ok (Err e) P Q R f h g = tt
+
+-- why the walk stopped
+
+pub no_memory : (p : Plan) (q : Question) (s : Stop) → s ≡ OutOfMemory → HasReason p q s
+no_memory p q s is = subst (HasReason p q) (sym is) tt
+
+pub err_same : {X E : Type 0} (e f : E) → ◌≡◌ {A = Result X E} (Err e) (Err f) → e ≡ f
+err_same e f h = cc
+
+pub if_both : {X E : Type 0} (r : Result X E) (P Q R : X → Type 0) → ((x : X) → P x → Q x → R x) → IfOk r P → IfOk r Q → IfOk r R
+if_both (Ok x) P Q R f h g = f x h g
+if_both (Err e) P Q R f h g = tt

@@ -15,11 +15,13 @@ pub mod WantedDots
 pub mod CountLoops
 pub mod KeyLoops
 pub mod SameKeys
+pub mod SameShown
 pub mod ToldWalks
 pub mod Telling
 pub mod FallingRows
 pub mod Results
 pub mod Calls
+pub mod OwnDots
 pub mod Asking
 pub mod Starts
 pub mod Playing

@@ -6,14 +6,15 @@ use Rattle.journal_core.specs.Journals.{Kept}
 use Rattle.bench_core.specs.Clusters.{Cluster, opening_of}
 use Rattle.bench_core.specs.Runs.{runs}
 use Rattle.network_core.specs.Cones.{position}
-use Rattle.network_core.specs.Made.{WantsMade}
 use Rattle.network_core.specs.NetworkRuns.{IsNetworkRun, deliveries, ordered}
 use Rattle.network_core.specs.Room.{made}
 use Rattle.dots_core.specs.declared.dot.Dot.{Dot}
 use Rattle.explore_network.specs.declared.turn.Rank.{Rank}
 use Rattle.explore_network.specs.declared.turn.Turn.{Turn}
 use Rattle.explore_network.specs.Outcomes.{AllIsTold, BeginsWith, IsRecorded, Runs}
-use Rattle.explore_network.specs.Plans.{IsPlan, Plan}
+use Rattle.explore_network.specs.Asked.{AreAllAsked, AreAsked}
+use Rattle.explore_network.specs.Plans.{IsPlan, Plan, Wants}
+use Rattle.explore_network.specs.Keys.{AreDifferent}
 use Rattle.explore_network.specs.Questions.{Question}
 use Rattle.explore_network.specs.Tables.{is_wanted, IsAsked, IsClosed}
 use Rattle.explore_network.specs.Turns.{counts_of, ranks_of, turn_of, turns_of}
@@ -23,26 +24,23 @@ use Rattle.explore_network.proofs.TurnKinds.{own_count}
 
 -- the plan of a run
 
-pub asked_at : (p : Plan) (q : Question) (taken : ℕ) → p.turns ≡ turns_of p.steps p.count → q.node < p.count → ((t : Turn) → slice_get p.turns q.node ≡ Some t → taken ≡ t.recorded) →
-    IsAsked p.tables q.node taken → IsAsked p.tables q.node (position p.steps q.node)
-asked_at p q taken turns lt recorded =
-    subst (IsAsked p.tables q.node) (recorded (turn_of p.steps q.node None) (ap (λ (l : List Turn). slice_get l q.node) turns ∙ own_turn_at p.steps q.node p.count lt)
-    ∙ own_count (turn_of p.steps q.node None) p.steps refl)
+asked_at : (p : Plan) (n : ℕ) → p.turns ≡ turns_of p.steps p.count → n < p.count → ((t : Turn) → slice_get p.turns n ≡ Some t → IsAsked p.tables n t.recorded) → IsAsked p.tables n (position p.steps n)
+asked_at p n turns lt asked =
+    subst (IsAsked p.tables n) (own_count (turn_of p.steps n None) p.steps refl) (asked (turn_of p.steps n None) (ap (λ (l : List Turn). slice_get l n) turns ∙ own_turn_at p.steps n p.count lt))
 
-pub plan_is : (p : Plan) (q : Question) (wanted closed : List Kept) (turns : List Turn) (ranks : List Rank) (node taken : ℕ) (dots : List Dot) (end : Cluster) → p.count ≤ 32 → AreNodeLimits p.limits →
-    p.turns ≡ turns_of p.steps p.count → p.ranks ≡ ranks_of p.turns p.steps → made p.steps ≤ p.limits.entries → closed ≡ p.steps → ranks ≡ p.ranks → IsClosed closed ranks p.tables → node ≡ q.node →
-    IsAsked p.tables node taken → q.node < p.count → turns ≡ p.turns → ((t : Turn) → slice_get turns node ≡ Some t → taken ≡ t.recorded) → wanted ≡ p.steps →
-    ((end : Cluster) → runs p.limits p.count wanted ≡ Ok end → WantsMade p.limits wanted (is_wanted dots) q.topic q.key) → p.tables.dots ≡ dots → runs p.limits p.count p.steps ≡ Ok end → IsPlan p q
-plan_is p q wanted closed turns ranks node taken dots end few limits are_turns are_ranks room same_steps same_ranks is_closed same_node asked lt same_turns recorded same_wanted wants same_dots run = record {
+pub plan_is : (p : Plan) (q : Question) (wanted closed : List Kept) (asked_turns : List Turn) (ranks : List Rank) (dots : List Dot) (end : Cluster) → p.count ≤ 32 → AreNodeLimits p.limits →
+    p.turns ≡ turns_of p.steps p.count → p.ranks ≡ ranks_of p.turns p.steps → made p.steps ≤ p.limits.entries → closed ≡ p.steps → ranks ≡ p.ranks → IsClosed closed ranks p.tables →
+    asked_turns ≡ p.turns → AreAllAsked asked_turns p.count q p.tables → wanted ≡ p.steps → AreAsked p.limits p.count wanted q dots → p.tables.dots ≡ dots → runs p.limits p.count p.steps ≡ Ok end → IsPlan p q
+plan_is p q wanted closed asked_turns ranks dots end few limits are_turns are_ranks room same_steps same_ranks is_closed same_turns asked same_wanted wants same_dots run = record {
   few = few;
   limits = limits;
   turns = are_turns;
   ranks = are_ranks;
   room = room;
   closed = subst (λ (j : List Kept). IsClosed j p.ranks p.tables) same_steps (subst (λ (l : List Rank). IsClosed closed l p.tables) same_ranks is_closed);
-  asked = asked_at p q taken are_turns lt (λ t at. recorded t ((λ i. slice_get (same_turns i) (same_node i)) ∙ at)) (subst (λ n. IsAsked p.tables n taken) same_node asked);
-  wants = subst (λ (l : List Dot). WantsMade p.limits p.steps (is_wanted l) q.topic q.key) (sym same_dots)
-      (subst (λ (j : List Kept). WantsMade p.limits j (is_wanted dots) q.topic q.key) same_wanted (wants end (ap (runs p.limits p.count) same_wanted ∙ run)));
+  asked = λ n lt there. asked_at p n are_turns lt (λ t at. asked n lt there t (ap (λ (l : List Turn). slice_get l n) same_turns ∙ at));
+  wants = subst (λ (l : List Dot). Wants p.limits p.steps p.count (is_wanted l) q) (sym same_dots)
+      (subst (λ (j : List Kept). Wants p.limits j p.count (is_wanted dots) q) same_wanted (wants.wants end (ap (runs p.limits p.count) same_wanted ∙ run)));
 }
 
 -- the recorded run is a run of the network
@@ -75,6 +73,7 @@ starts p q path c known os counts left n plan ran no_path is no_keys begins long
   plan = plan;
   keeps = record {
     keys = subst (AllByRecursion (IsKeyOf p q os)) (sym no_keys) tt;
+    differ = subst AreDifferent (sym no_keys) tt;
     outcomes = subst (AllByRecursion (IsOutcome p)) (sym begins.1.0) (recorded_outcome p begins.0 ran begins.1.1, tt);
     apart = subst (AreApart q) (sym begins.1.0) (tt, tt);
     few = (let none = ap length no_keys in omega (arith, none));

@@ -1,38 +1,34 @@
 -- Telling an outcome, and when all was told that begins with some steps.
-use Rattle.std.proofs.Common.{◌≡◌, ◌⊎◌, ◌||◌, inl, inr, ℕ, suc, ◌+◌, ◌-◌, ◌<◌, ◌≤◌, ◌==◌, not, Bool, true, false, Decides, List, [], ◌∷◌, ◌++◌, length, length-append, drop, slice_get, Option, Some, None, Ok, refl, sym, ap, ◌∙◌, subst, append-nil, true≢false, arith}
+use Rattle.std.proofs.Common.{◌≡◌, ◌⊎◌, ◌||◌, inl, inr, ℕ, suc, ◌+◌, ◌-◌, ◌<◌, ◌≤◌, ◌==◌, not, Bool, true, false, List, [], ◌∷◌, ◌++◌, length, length-append, drop, slice_get, Option, Some, None, Ok, refl, sym, ap, ◌∙◌, subst, append-nil, true≢false, arith}
 use Rattle.std.proofs.lemmas.Bool.{cases_lt, eqb-true, leb-true}
-use Rattle.std.proofs.lemmas.Slice.Eq.{slice_eq-Decides}
 use Rattle.std.specs.List.{AllByRecursion, list_any}
-use Rattle.std.specs.Ordering.{eq_by_cmp}
 use Rattle.node_core.specs.Operations.{Deliver}
 use Rattle.journal_core.specs.Journals.{Kept}
 use Rattle.bench_core.specs.Clusters.{Cluster, step}
+use Rattle.bench_core.specs.Runs.{runs}
 use Rattle.bench_core.specs.Laws.{delivery}
-use Rattle.diff_core.specs.Rows.{Row, row_cmp}
-use Rattle.diff_core.proofs.Order.{is_row-itself, is_row-true}
 use Rattle.order_core.proofs.Places.{from_on}
 use Rattle.network_core.specs.NetworkRuns.{IsNetworkRun, is_delivery, is_ordered, ordered}
 use Rattle.network_core.specs.Settling.{IsWalk}
 use Rattle.network_core.proofs.Settling.{settle_holds}
 use Rattle.explore_network.specs.declared.turn.Turn.{Turn}
 use Rattle.explore_network.specs.Plans.{walk_of, IsPlan, Plan}
-use Rattle.explore_network.specs.Questions.{rows_at, same_rows, Question}
+use Rattle.explore_network.specs.Questions.{shown, Question}
+use Rattle.explore_network.specs.SameShown.{same_shown}
 use Rattle.explore_network.specs.Turns.{count_of, counts_of, delivery_of, is_end, is_whole, is_whole_by}
 use Rattle.explore_network.specs.Walks.{next_in, steps_at, told_by, with_step, AreApart, AreMore, IsAt, IsBehind, IsOutcome, IsTold, Keeps, Outcome}
 use Rattle.explore_network.proofs.AllTurns.{all_append, all_get, each_has, Has}
 use Rattle.explore_network.proofs.Coming.{alike, turns_are, Alike}
 use Rattle.explore_network.proofs.Ends.{ends_run, run_ends, whole_fits}
+use Rattle.explore_network.proofs.Firsts.{run_length}
 use Rattle.explore_network.proofs.Going.{at_more, steps_push}
 use Rattle.explore_network.proofs.Nth.{nth}
 use Rattle.explore_network.proofs.Ranked.{ranked}
+use Rattle.explore_network.proofs.SameShown.{same_shown-Decides}
 use Rattle.explore_network.proofs.SameKeys.{all_have, flip, no_delivery}
 use Rattle.explore_network.proofs.ToldWalks.{all_places}
 use Rattle.explore_network.proofs.Tours.{keys_more, too_long}
 use Rattle.explore_network.proofs.TurnKinds.{both_true, delivers_some, of_turn, own_count}
-
-pub same_rows-Decides : (rows others : List Row) → Decides (same_rows rows others) (rows ≡ others)
-same_rows-Decides rows others = slice_eq-Decides (λ a b. (is_row-true a b, λ e. subst (λ x. eq_by_cmp row_cmp a x ≡ true) e (is_row-itself a))) rows others
-    (same_rows rows others) refl
 
 -- an outcome more
 
@@ -48,7 +44,7 @@ told_last f (x ∷ os) o h = go (f x) (told_last f os o h)
     go false rest = rest
 
 pub tells_itself : (q : Question) (os : List Outcome) (o : Outcome) → told_by q (os ++ o ∷ []) o.cluster ≡ true
-tells_itself q os o = told_last (λ (x : Outcome). same_rows (rows_at q x.cluster) (rows_at q o.cluster)) os o ((same_rows-Decides (rows_at q o.cluster) (rows_at q o.cluster)).1 refl)
+tells_itself q os o = told_last (λ (x : Outcome). same_shown (shown q x.cluster) (shown q o.cluster)) os o ((same_shown-Decides (shown q o.cluster) (shown q o.cluster)).1 refl)
 
 none_of : (f : Outcome → Bool) (os : List Outcome) → list_any f os ≡ false → AllByRecursion (λ (x : Outcome). f x ≡ false) os
 none_of f [] h = tt
@@ -58,15 +54,16 @@ none_of f (x ∷ os) h = go (f x) refl h (λ h. none_of f os h)
     go true is h rest = absurd (true≢false h)
     go false is h rest = (is, rest h)
 
-apart_push : (q : Question) (os : List Outcome) (o : Outcome) → AreApart q os → AllByRecursion (λ (x : Outcome). same_rows (rows_at q x.cluster) (rows_at q o.cluster) ≡ false) os → AreApart q (os ++ o ∷ [])
+apart_push : (q : Question) (os : List Outcome) (o : Outcome) → AreApart q os → AllByRecursion (λ (x : Outcome). same_shown (shown q x.cluster) (shown q o.cluster) ≡ false) os → AreApart q (os ++ o ∷ [])
 apart_push q [] o a all = (tt, tt)
-apart_push q (x ∷ os) o a all = (all_append (λ (y : Outcome). same_rows (rows_at q x.cluster) (rows_at q y.cluster) ≡ false) os (o ∷ []) a.0 (all.0, tt), apart_push q os o a.1 all.1)
+apart_push q (x ∷ os) o a all = (all_append (λ (y : Outcome). same_shown (shown q x.cluster) (shown q y.cluster) ≡ false) os (o ∷ []) a.0 (all.0, tt), apart_push q os o a.1 all.1)
 
 pub keeps_outcome : (p : Plan) (q : Question) (known : List (List ℕ)) (os : List Outcome) (o : Outcome) → Keeps p q known os → IsOutcome p o → told_by q os o.cluster ≡ false → Keeps p q known (os ++ o ∷ [])
 keeps_outcome p q known os o k is new = record {
   keys = keys_more p q os (os ++ o ∷ []) known (more_one os o) k.keys;
+  differ = k.differ;
   outcomes = all_append (IsOutcome p) os (o ∷ []) k.outcomes (is, tt);
-  apart = apart_push q os o k.apart (none_of (λ (x : Outcome). same_rows (rows_at q x.cluster) (rows_at q o.cluster)) os new);
+  apart = apart_push q os o k.apart (none_of (λ (x : Outcome). same_shown (shown q x.cluster) (shown q o.cluster)) os new);
   few = k.few;
 }
 
@@ -163,5 +160,17 @@ short_path j (x ∷ path) = go (slice_get j x) (short_path j path)
 
 -- whether one of those from a place on shows the same
 pub told_on : (q : Question) (os : List Outcome) (i : ℕ) (o : Outcome) (c : Cluster) → slice_get os i ≡ Some o →
-    told_by q (drop i os) c ≡ (same_rows (rows_at q o.cluster) (rows_at q c) || told_by q (drop (i + 1) os) c)
+    told_by q (drop i os) c ≡ (same_shown (shown q o.cluster) (shown q c) || told_by q (drop (i + 1) os) c)
 told_on q os i o c at = ap (λ (l : List Outcome). told_by q l c) (from_on os i o at)
+
+-- the nodes are few, at each end
+
+pub few_nodes : (p : Plan) (q : Question) → IsPlan p q → (w : List Kept) (c : Cluster) → runs p.limits p.count w ≡ Ok c → length c ≤ 32
+few_nodes p q plan w c ran =
+    let long = run_length p w c ran in
+    let few = plan.few in
+    omega (arith, long, few)
+
+pub all_few : (p : Plan) (q : Question) → IsPlan p q → (os : List Outcome) → AllByRecursion (IsOutcome p) os → AllByRecursion (λ (o : Outcome). length o.cluster ≤ 32) os
+all_few p q plan [] all = tt
+all_few p q plan (o ∷ os) all = (few_nodes p q plan (steps_at p.steps o.run) o.cluster all.0.leads, all_few p q plan os all.1)

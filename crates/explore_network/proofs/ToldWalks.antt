@@ -1,29 +1,37 @@
 -- What a plan leaves out makes no difference, to whatever is asked: it is a walk in the sense of the laws.
-use Rattle.std.proofs.Common.{◌≡◌, ℕ, suc, ◌+◌, ◌==◌, ◌&&◌, ◌||◌, not, Bool, true, false, List, [], ◌∷◌, ◌++◌, length, length-append, take, slice_get, Option, Some, None, refl, sym, ap, ◌∙◌, arith}
-use Rattle.std.proofs.lemmas.Bool.{eqb-true}
+use Rattle.std.proofs.Common.{◌≡◌, ℕ, suc, ◌+◌, ◌<◌, ◌==◌, ◌&&◌, ◌||◌, not, Bool, true, false, List, [], ◌∷◌, ◌++◌, length, length-append, take, slice_get, Option, Some, None, refl, sym, ap, ◌∙◌, arith}
+use Rattle.std.proofs.lemmas.Bool.{eq-eqb, eqb-true}
+use Rattle.std.proofs.lemmas.Option.{slice_get_within}
 use Rattle.std.specs.List.{AllByRecursion, list_any}
 use Rattle.std.specs.FinSet as set
 use Rattle.dots_core.specs.declared.dot.Dot.{Dot}
+use Rattle.replica_core.specs.Replicas.{Replica}
 use Rattle.node_core.specs.Nodes.{Node}
 use Rattle.journal_core.specs.Journals.{Kept, sent_by}
-use Rattle.bench_core.specs.Clusters.{Cluster}
+use Rattle.bench_core.specs.Clusters.{Cluster, opening_of}
 use Rattle.bench_core.proofs.OneEntry.{fine_run}
+use Rattle.bench_core.proofs.Openings.{opening_length}
 use Rattle.network_core.specs.Alike.{kept, BothAre, ClusterAlike, NodeAlike, ReplicaAlike}
 use Rattle.network_core.specs.Cones.{cares, position, says, sends_in, IsCone}
 use Rattle.network_core.specs.Made.{WantsMade}
 use Rattle.network_core.specs.NetworkRuns.{is_delivery, is_ordered, ordered}
+use Rattle.network_core.specs.Seen.{WantsSeen}
 use Rattle.network_core.specs.Settling.{IsEnd, IsWalk}
 use Rattle.network_core.proofs.Cones.{sent_count}
 use Rattle.network_core.proofs.Made.{wanted_holds}
 use Rattle.network_core.proofs.OnlineRows.{online_rows_hold}
+use Rattle.network_core.proofs.Keys.{keeps_length}
 use Rattle.network_core.proofs.Rows.{rows_hold}
-use Rattle.explore_network.specs.Plans.{walk_of, IsPlan, Plan}
-use Rattle.explore_network.specs.Questions.{rows_at, rows_in, same_rows, Question}
+use Rattle.network_core.proofs.Seen.{same_replica_holds}
+use Rattle.explore_network.specs.Plans.{walk_of, IsPlan, Plan, Wants}
+use Rattle.explore_network.specs.Questions.{asks, replicas_in, rows_in, shown, OfCluster, OfNode, OfPresence, Question, Replicas, Rows}
+use Rattle.explore_network.specs.SameShown.{same_shown}
 use Rattle.explore_network.specs.Tables.{carried, cone_of, is_wanted, matter, KeepsAt}
 use Rattle.explore_network.specs.Walks.{told_by, Outcome}
 use Rattle.explore_network.proofs.Nth.{nth, parted, same_parts}
 use Rattle.explore_network.proofs.Ranked.{ranked, Ranked}
 use Rattle.explore_network.proofs.SameKeys.{flip, no_delivery}
+use Rattle.explore_network.proofs.SameShown.{all_replicas}
 use Rattle.explore_network.proofs.TurnKinds.{both_true, of_turn, own_count}
 
 pub all_places : {X : Type 0} (P : X → Type 0) (xs : List X) → ((i : ℕ) (x : X) → slice_get xs i ≡ Some x → P x) → AllByRecursion P xs
@@ -83,54 +91,89 @@ module _ (p : Plan) (q : Question) (plan : IsPlan p q) where
           go true wanted has = or_right (is_wanted p.tables.dots d && (set.contains (matter p.tables n (length first)) d.name && false)) true refl
           go false wanted has = λ i. (wanted i && (has i && true)) || false
 
-  -- the dots that are asked for at the node, its own among them
-  abbrev asked : Dot → Bool
-  asked = kept ((cares (cone_of p.tables) p.steps).at q.node) q.node
+  -- at a node that it is asked of, the dots that are asked for matter at the end, and its own
+  module _ (n : ℕ) (lt : n < p.count) (asked_there : asks q n ≡ true) where
+    abbrev asked : Dot → Bool
+    asked = kept ((cares (cone_of p.tables) p.steps).at n) n
 
-  wants : WantsMade p.limits p.steps asked q.topic q.key
-  wants d x made of = go (d.name == q.node) (plan.wants d x made of)
-    where
-      go : (b : Bool) → is_wanted p.tables.dots d ≡ true →
-          ((is_wanted p.tables.dots d && (set.contains (matter p.tables q.node (position p.steps q.node)) d.name && not b)) || b) ≡ true
-      go true wanted = or_right (is_wanted p.tables.dots d && (set.contains (matter p.tables q.node (position p.steps q.node)) d.name && false)) true refl
-      go false wanted = λ i. (wanted i && (plan.asked d wanted i && true)) || false
+    covers : (d : Dot) → is_wanted p.tables.dots d ≡ true → asked d ≡ true
+    covers d wanted = go (d.name == n) wanted
+      where
+        go : (b : Bool) → is_wanted p.tables.dots d ≡ true →
+            ((is_wanted p.tables.dots d && (set.contains (matter p.tables n (position p.steps n)) d.name && not b)) || b) ≡ true
+        go true wanted = or_right (is_wanted p.tables.dots d && (set.contains (matter p.tables n (position p.steps n)) d.name && false)) true refl
+        go false wanted = λ i. (wanted i && (plan.asked n lt asked_there d wanted i && true)) || false
 
   module _ (told : Cluster → Bool) (c d : Cluster) (one : IsEnd (walk_of p told) c) (two : IsEnd (walk_of p told) d) (alike : ClusterAlike (cares (cone_of p.tables) p.steps) c d) where
-    same_asked : (own : ℕ) (e : Dot) → own ≡ q.node → kept asked own e ≡ true → kept ((cares (cone_of p.tables) p.steps).at q.node) own e ≡ true
-    same_asked own e is h = ap (λ o. kept ((cares (cone_of p.tables) p.steps).at q.node) o e) is ∙ go ((cares (cone_of p.tables) p.steps).at q.node e) (e.name == q.node) (sym (ap (λ o. kept asked o e) is) ∙ h)
-      where
-        go : (a b : Bool) → ((a || b) || b) ≡ true → (a || b) ≡ true
-        go true b h = refl
-        go false true h = refl
-        go false false h = h
+    within : (n : ℕ) (x : Node) → slice_get c n ≡ Some x → n < p.count
+    within n x at =
+        let lt = slice_get_within c n x at in
+        let long : length c ≡ p.count = keeps_length (opening_of p.limits p.count) c one.run one.ends ∙ opening_length p.limits p.count in
+        omega (arith, lt, long)
 
-    both_rows : (o u : Option Node) → slice_get c q.node ≡ o → slice_get d q.node ≡ u →
-        BothAre (NodeAlike ((cares (cone_of p.tables) p.steps).at q.node) ((cares (cone_of p.tables) p.steps).of q.node)) o u → rows_in q.topic q.key o ≡ rows_in q.topic q.key u
-    both_rows None None at too b = refl
-    both_rows None (Some y) at too b = absurd b
-    both_rows (Some x) None at too b = absurd b
-    both_rows (Some x) (Some y) at too b =
-        let own : x.replica.own ≡ q.node = ((fine_run p.limits p.count one.run c one.ends).each q.node x at).own in
-        let wider : ReplicaAlike asked x.replica y.replica = record {
-          store = b.replica.store;
-          is = b.replica.is;
-          alike = record {
-            seen = λ e h. b.replica.alike.seen e (same_asked x.replica.own e own h);
-            entries = λ e h. b.replica.alike.entries e (same_asked x.replica.own e own h);
-          };
-        } in
-        online_rows_hold q.topic q.key x.replica y.replica
-        (rows_hold asked q.topic q.key x.replica y.replica wider
-        (wanted_holds p.limits p.count p.steps one.run p.lost p.again q.node asked q.topic q.key c x wants one.is_run one.ends at)
-        (wanted_holds p.limits p.count p.steps two.run p.lost p.again q.node asked q.topic q.key d y wants two.is_run two.ends too))
+    module _ (n : ℕ) (asked_there : asks q n ≡ true) where
+      same_asked : (lt : n < p.count) (own : ℕ) (e : Dot) → own ≡ n → kept (asked n lt asked_there) own e ≡ true → kept ((cares (cone_of p.tables) p.steps).at n) own e ≡ true
+      same_asked lt own e is h =
+          ap (λ o. kept ((cares (cone_of p.tables) p.steps).at n) o e) is
+          ∙ go ((cares (cone_of p.tables) p.steps).at n e) (e.name == n) (sym (ap (λ o. kept (asked n lt asked_there) o e) is) ∙ h)
+        where
+          go : (a b : Bool) → ((a || b) || b) ≡ true → (a || b) ≡ true
+          go true b h = refl
+          go false true h = refl
+          go false false h = h
 
-    pub same_at : rows_at q c ≡ rows_at q d
-    unfolding rows_at
-    same_at = both_rows (slice_get c q.node) (slice_get d q.node) refl refl (alike.each q.node)
+      -- the replicas there are the same as far as those go
+      wider : (x y : Node) (at : slice_get c n ≡ Some x) → NodeAlike ((cares (cone_of p.tables) p.steps).at n) ((cares (cone_of p.tables) p.steps).of n) x y →
+          ReplicaAlike (asked n (within n x at) asked_there) x.replica y.replica
+      wider x y at b =
+          let own : x.replica.own ≡ n = ((fine_run p.limits p.count one.run c one.ends).each n x at).own in
+          record {
+            store = b.replica.store;
+            is = b.replica.is;
+            alike = record {
+              seen = λ e h. b.replica.alike.seen e (same_asked (within n x at) x.replica.own e own h);
+              entries = λ e h. b.replica.alike.entries e (same_asked (within n x at) x.replica.own e own h);
+            };
+          }
+
+      both_rows : (topic key : List ℕ) → WantsMade p.limits p.steps (is_wanted p.tables.dots) topic key → (o u : Option Node) → slice_get c n ≡ o → slice_get d n ≡ u →
+          BothAre (NodeAlike ((cares (cone_of p.tables) p.steps).at n) ((cares (cone_of p.tables) p.steps).of n)) o u → rows_in topic key o ≡ rows_in topic key u
+      both_rows topic key wants None None at too b = refl
+      both_rows topic key wants None (Some y) at too b = absurd b
+      both_rows topic key wants (Some x) None at too b = absurd b
+      both_rows topic key wants (Some x) (Some y) at too b =
+          let lt = within n x at in
+          let all : WantsMade p.limits p.steps (asked n lt asked_there) topic key = λ e made is of. covers n lt asked_there e (wants e made is of) in
+          online_rows_hold topic key x.replica y.replica
+          (rows_hold (asked n lt asked_there) topic key x.replica y.replica (wider x y at b)
+          (wanted_holds p.limits p.count p.steps one.run p.lost p.again n (asked n lt asked_there) topic key c x all one.is_run one.ends at)
+          (wanted_holds p.limits p.count p.steps two.run p.lost p.again n (asked n lt asked_there) topic key d y all two.is_run two.ends too))
+
+      both_replicas : WantsSeen p.limits p.steps p.count (is_wanted p.tables.dots) → (o u : Option Node) → slice_get c n ≡ o → slice_get d n ≡ u →
+          BothAre (NodeAlike ((cares (cone_of p.tables) p.steps).at n) ((cares (cone_of p.tables) p.steps).of n)) o u → replicas_in o ≡ replicas_in u
+      both_replicas wants None None at too b = refl
+      both_replicas wants None (Some y) at too b = absurd b
+      both_replicas wants (Some x) None at too b = absurd b
+      both_replicas wants (Some x) (Some y) at too b =
+          let lt = within n x at in
+          ap (λ (r : Replica). r ∷ []) (sym (same_replica_holds p.limits p.count p.steps one.run two.run p.lost p.again n (asked n lt asked_there) c d x y
+          (λ e given. covers n lt asked_there e (wants e given)) one.is_run two.is_run one.ends two.ends at too (wider x y at b)))
+
+    shows_same : (r : Question) → q ≡ r → Wants p.limits p.steps p.count (is_wanted p.tables.dots) r → shown r c ≡ shown r d
+    unfolding shown
+    shows_same OfCluster is wants =
+        ap Replicas (all_replicas c d (λ n. both_replicas n (ap (λ q. asks q n) is) wants (slice_get c n) (slice_get d n) refl refl (alike.each n)))
+    shows_same (OfNode n) is wants =
+        ap Replicas (both_replicas n (ap (λ q. asks q n) is ∙ eq-eqb n n refl) wants (slice_get c n) (slice_get d n) refl refl (alike.each n))
+    shows_same (OfPresence n topic key) is wants =
+        ap Rows (both_rows n (ap (λ q. asks q n) is ∙ eq-eqb n n refl) topic key wants (slice_get c n) (slice_get d n) refl refl (alike.each n))
+
+    pub same_at : shown q c ≡ shown q d
+    same_at = shows_same q refl plan.wants
 
   pub is_walk : (os : List Outcome) → IsWalk (walk_of p (told_by q os))
   is_walk os = record {
     room = plan.room;
     cone = is_cone;
-    told = λ c d one two alike h. ap (λ rows. list_any (λ (o : Outcome). same_rows (rows_at q o.cluster) rows) os) (same_at (told_by q os) c d one two alike) ∙ h;
+    told = λ c d one two alike h. ap (λ s. list_any (λ (o : Outcome). same_shown (shown q o.cluster) s) os) (same_at (told_by q os) c d one two alike) ∙ h;
   }

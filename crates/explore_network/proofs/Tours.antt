@@ -1,14 +1,15 @@
 -- What each call of the walk tells and keeps.
-use Rattle.std.proofs.Common.{◌≡◌, ◌⊎◌, ◌||◌, inl, inr, ℕ, ◌+◌, ◌<◌, Bool, true, false, List, [], ◌∷◌, ◌++◌, length, length-append, slice_get, Some, Ok, refl, sym, ap, ◌∙◌, subst, append_assoc, append-nil, true≢false, arith}
+use Rattle.std.proofs.Common.{◌≡◌, ◌⊎◌, ◌||◌, inl, inr, ℕ, ◌+◌, ◌<◌, ◌≤◌, Bool, true, false, List, [], ◌∷◌, ◌++◌, length, length-append, slice_get, Some, Ok, refl, sym, ap, ◌∙◌, subst, append_assoc, append-nil, true≢false, arith}
 use Rattle.std.specs.List.{AllByRecursion, list_any}
 use Rattle.journal_core.specs.Journals.{Kept}
 use Rattle.bench_core.specs.Clusters.{Cluster, step}
 use Rattle.network_core.specs.Settling.{IsWalk}
 use Rattle.network_core.proofs.SameMade.{length_holds}
 use Rattle.explore_network.specs.Plans.{walk_of, Plan}
-use Rattle.explore_network.specs.Questions.{rows_at, same_rows, Question}
-use Rattle.explore_network.specs.Walks.{told_by, AreMore, GoesThrough, IsAt, IsFirst, IsKeyOf, IsTold, Keeps, Outcome}
-use Rattle.explore_network.specs.Keys.{IsAmong}
+use Rattle.explore_network.specs.Questions.{shown, Question}
+use Rattle.explore_network.specs.SameShown.{same_shown}
+use Rattle.explore_network.specs.Walks.{told_by, AreMore, GoesThrough, IsAt, IsFirst, IsKeyOf, IsTold, IsTooMany, Keeps, Outcome}
+use Rattle.explore_network.specs.Keys.{AreDifferent, IsAmong}
 use Rattle.explore_network.proofs.AllTurns.{all_append}
 
 -- what was told stays so where more is
@@ -22,12 +23,12 @@ any_more f (o ∷ os) more h = go (f o) h (λ h. any_more f os more h)
     go false h rest = rest h
 
 pub told_by_more : (q : Question) (os new : List Outcome) (c : Cluster) → AreMore os new → told_by q os c ≡ true → told_by q new c ≡ true
-told_by_more q os new c more h = ap (λ (l : List Outcome). told_by q l c) more.1 ∙ any_more (λ o. same_rows (rows_at q o.cluster) (rows_at q c)) os more.0 h
+told_by_more q os new c more h = ap (λ (l : List Outcome). told_by q l c) more.1 ∙ any_more (λ o. same_shown (shown q o.cluster) (shown q c)) os more.0 h
 
 pub told_more : (p : Plan) (q : Question) (os new : List Outcome) (w : List Kept) → AreMore os new → IsTold p q os w → IsTold p q new w
 told_more p q os new w more told c goes =
     ap (λ (l : List Outcome). told_by q l c) more.1
-    ∙ any_more (λ o. same_rows (rows_at q o.cluster) (rows_at q c)) os more.0 (told c (record { rest = goes.rest; is_run = goes.is_run; ends = goes.ends }))
+    ∙ any_more (λ o. same_shown (shown q o.cluster) (shown q c)) os more.0 (told c (record { rest = goes.rest; is_run = goes.is_run; ends = goes.ends }))
 
 pub more_more : (os mid new : List Outcome) → AreMore os mid → AreMore mid new → AreMore os new
 more_more os mid new a b = (a.0 ++ b.0, b.1 ∙ ap (λ (l : List Outcome). l ++ b.0) a.1 ∙ append_assoc os a.0 b.0)
@@ -54,11 +55,41 @@ key_among p q os key [] all among = absurd among
 key_among p q os key (x ∷ keys) all (inl same) = subst (IsKeyOf p q os) same all.0
 key_among p q os key (x ∷ keys) all (inr rest) = key_among p q os key keys all.1 rest
 
+among_more : (key x : List ℕ) (keys : List (List ℕ)) → IsAmong key (keys ++ x ∷ []) → IsAmong key keys ⊎ (x ≡ key)
+among_more key x [] (inl e) = inr e
+among_more key x [] (inr none) = absurd none
+among_more key x (k ∷ keys) (inl e) = inl (inl e)
+among_more key x (k ∷ keys) (inr rest) = go (among_more key x keys rest)
+  where
+    go : IsAmong key keys ⊎ (x ≡ key) → IsAmong key (k ∷ keys) ⊎ (x ≡ key)
+    go (inl h) = inl (inr h)
+    go (inr e) = inr e
+
+differ_more : (key : List ℕ) (keys : List (List ℕ)) → AreDifferent keys → (IsAmong key keys → ⊥) → AreDifferent (keys ++ key ∷ [])
+differ_more key [] differ new = ((λ none. none), tt)
+differ_more key (k ∷ keys) differ new = ((λ h. go (among_more k key keys h)), differ_more key keys differ.1 (λ h. new (inr h)))
+  where
+    go : IsAmong k keys ⊎ (key ≡ k) → ⊥
+    go (inl h) = differ.0 h
+    go (inr e) = new (inl (sym e))
+
 -- one key more
-pub keeps_key : (p : Plan) (q : Question) (os : List Outcome) (key : List ℕ) (old new : List (List ℕ)) → Keeps p q old os → IsKeyOf p q os key → length old < p.most → (new ≡ old) ⊎ (new ≡ old ++ key ∷ []) → Keeps p q new os
-keeps_key p q os key old new k is lt (inl same) = subst (λ (l : List (List ℕ)). Keeps p q l os) (sym same) k
-keeps_key p q os key old new k is lt (inr more) = subst (λ (l : List (List ℕ)). Keeps p q l os) (sym more)
-    (record { keys = all_append (IsKeyOf p q os) old (key ∷ []) k.keys (is, tt); outcomes = k.outcomes; apart = k.apart; few = (let long = length-append old (key ∷ []) in omega (arith, long, lt)) })
+pub record Knows (p : Plan) (q : Question) (os : List Outcome) (known : List (List ℕ)) : Type 0 where
+  pub keys : AllByRecursion (IsKeyOf p q os) known
+  pub differ : AreDifferent known
+
+pub knows_key : (p : Plan) (q : Question) (os : List Outcome) (key : List ℕ) (old new : List (List ℕ)) → Keeps p q old os → IsKeyOf p q os key →
+    (new ≡ old) ⊎ ((new ≡ old ++ key ∷ []) × (IsAmong key old → ⊥)) → Knows p q os new
+knows_key p q os key old new k is (inl same) = subst (Knows p q os) (sym same) (record { keys = k.keys; differ = k.differ })
+knows_key p q os key old new k is (inr more) = subst (Knows p q os) (sym more.0)
+    (record { keys = all_append (IsKeyOf p q os) old (key ∷ []) k.keys (is, tt); differ = differ_more key old k.differ more.1 })
+
+pub keeps_key : (p : Plan) (q : Question) (os : List Outcome) (old new : List (List ℕ)) → Keeps p q old os → Knows p q os new → length new ≤ p.most → Keeps p q new os
+keeps_key p q os old new k knows few = record { keys = knows.keys; differ = knows.differ; outcomes = k.outcomes; apart = k.apart; few = few }
+
+pub too_many : (p : Plan) (q : Question) (os : List Outcome) (old new : List (List ℕ)) (n : ℕ) → Keeps p q old os → Knows p q os new → p.most < length new → length os ≡ n → IsTooMany p q n
+too_many p q os old new n k knows more is =
+    record { known = new; found = os; keys = knows.keys; differ = knows.differ; more = more; outcomes = k.outcomes; apart = k.apart; count = is }
 
 -- going on behind a step
 

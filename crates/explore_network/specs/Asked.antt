@@ -1,27 +1,52 @@
--- The dots of the presences that are asked for.
-use Rattle.std.specs.Prelude.{◌≡◌, ℕ, ◌<◌, if◌then◌else◌, List, [], ◌∷◌, Option, Some, None, Ok}
+-- The dots that are asked for, and where they matter at the end.
+use Rattle.std.specs.Prelude.{◌≡◌, ℕ, ◌<◌, if◌then◌else◌, true, List, [], ◌∷◌, ◌++◌, zero, suc, slice_get, Option, Some, None, Ok}
 use Rattle.std.specs.List.{AllByRecursion}
 use Rattle.dots_core.specs.declared.dot.Dot.{Dot}
+use Rattle.dots_core.specs.Dots.{dot}
 use Rattle.replica_core.specs.declared.node_limits.NodeLimits.{NodeLimits}
-use Rattle.replica_core.specs.Replicas.{fresh}
+use Rattle.replica_core.specs.Replicas.{fresh, last}
 use Rattle.node_core.specs.Nodes.{Node}
 use Rattle.journal_core.specs.Journals.{Kept}
 use Rattle.bench_core.specs.Clusters.{Cluster}
 use Rattle.bench_core.specs.Runs.{runs}
-use Rattle.network_core.specs.Made.{WantsMade}
+use Rattle.explore_network.specs.declared.turn.Turn.{Turn}
 use Rattle.explore_network.specs.Explorations.{is_asked}
-use Rattle.explore_network.specs.Questions.{Question}
-use Rattle.explore_network.specs.Tables.{is_wanted}
+use Rattle.explore_network.specs.Plans.{Wants}
+use Rattle.explore_network.specs.Questions.{asks, Question}
+use Rattle.explore_network.specs.Tables.{is_wanted, IsAsked, Tables}
 
 abbrev pub fresh_of : Option Node → List Dot
 fresh_of None = []
 fresh_of (Some x) = fresh x.replica ∷ []
 
--- the dot of the entry that a step makes, if it is asked for
-abbrev pub asked_dots : Question → Kept → Option Node → List Dot
-asked_dots q k node = if is_asked q.topic q.key k.step then fresh_of node else []
+-- the dot of the entry that a step makes, if it is of this topic and key
+abbrev pub asked_dots : List ℕ → List ℕ → Kept → Option Node → List Dot
+asked_dots topic key k node = if is_asked topic key k.step then fresh_of node else []
 
--- the dots are those of all presences that the steps make and that are asked for, if they can be taken
+-- the dots of a name, up to a clock
+abbrev pub dots_up_to : ℕ → ℕ → List Dot
+dots_up_to name zero = []
+dots_up_to name (suc n) = dots_up_to name n ++ dot name (suc n) ∷ []
+
+-- the dots of its own that a node has seen
+abbrev pub own_of : Option Node → List Dot
+own_of None = []
+own_of (Some x) = dots_up_to (last x.replica).name (last x.replica).clock
+
+-- and those of so many nodes
+unfoldable pub own_of_all : Cluster → ℕ → List Dot
+own_of_all c zero = []
+own_of_all c (suc n) = own_of_all c n ++ own_of (slice_get c n)
+
+-- the dots are all that is asked for, if the steps can be taken
 pub record AreAsked (l : NodeLimits) (count : ℕ) (steps : List Kept) (q : Question) (dots : List Dot) : Type 0 where
   pub names : AllByRecursion (λ (d : Dot). d.name < 32) dots
-  pub wants : (end : Cluster) → runs l count steps ≡ Ok end → WantsMade l steps (is_wanted dots) q.topic q.key
+  pub wants : (end : Cluster) → runs l count steps ≡ Ok end → Wants l steps count (is_wanted dots) q
+
+-- all dots that are asked for matter to this node behind all its own steps, if it is asked what it has
+abbrev pub IsAskedAt : List Turn → Question → ℕ → Tables → Type 0
+IsAskedAt ts q n t = asks q n ≡ true → (turn : Turn) → slice_get ts n ≡ Some turn → IsAsked t n turn.recorded
+
+-- and so of each node
+abbrev pub AreAllAsked : List Turn → ℕ → Question → Tables → Type 0
+AreAllAsked ts count q t = (n : ℕ) → n < count → IsAskedAt ts q n t

@@ -1,5 +1,5 @@
 -- What is told of all that the network could have made of a run.
-use Rattle.std.specs.Prelude.{◌≡◌, ◌≢◌, ◌⊎◌, ℕ, ◌&&◌, Bool, false, List, [], ◌∷◌, length, Option, Some, None, Ok}
+use Rattle.std.specs.Prelude.{◌≡◌, ◌≢◌, ◌⊎◌, ◌<◌, ℕ, ◌&&◌, Bool, false, List, [], ◌∷◌, ◌++◌, length, Option, Some, None, Ok}
 use Rattle.std.specs.List.{AllByRecursion}
 use Rattle.std.specs.Str.{bytes_eq}
 use Rattle.payload_core.specs.Presences.{Presence}
@@ -10,8 +10,8 @@ use Rattle.bench_core.specs.Laws.{presence_made}
 use Rattle.bench_core.specs.Limits.{node_limits}
 use Rattle.bench_core.specs.Machine.{Machine}
 use Rattle.bench_core.specs.Runs.{runs}
-use Rattle.network_core.specs.NetworkRuns.{IsNetworkRun}
-use Rattle.explore_network.specs.Questions.{rows_at, Question}
+use Rattle.network_core.specs.NetworkRuns.{HaveSame, IsNetworkRun, ordered}
+use Rattle.explore_network.specs.Questions.{shown, Question}
 use Rattle.explore_network.specs.Walks.{steps_at, Outcome}
 
 -- one of the list is so
@@ -24,18 +24,18 @@ pub record CanLeadTo (m : Machine) (lost again : ℕ) (run : List Kept) (end : C
   pub is_run : IsNetworkRun m.state.remaining lost again run
   pub leads : runs (node_limits m.limits) (length m.names) run ≡ Ok end
 
--- each end of such a run shows the rows that an outcome shows
+-- each end of such a run shows what an outcome shows
 abbrev pub MissesNothing : Machine → Question → ℕ → ℕ → List Outcome → Type 0
-MissesNothing m q lost again os = (run : List Kept) (end : Cluster) → CanLeadTo m lost again run end → IsAny (λ (o : Outcome). rows_at q o.cluster ≡ rows_at q end) os
+MissesNothing m q lost again os = (run : List Kept) (end : Cluster) → CanLeadTo m lost again run end → IsAny (λ (o : Outcome). shown q o.cluster ≡ shown q end) os
 
 -- each outcome has such a run beside it, by the places of its steps
 abbrev pub InventsNothing : Machine → ℕ → ℕ → List Outcome → Type 0
 InventsNothing m lost again os = AllByRecursion (λ (o : Outcome). CanLeadTo m lost again (steps_at m.state.remaining o.run) o.cluster) os
 
--- no two outcomes show the same rows
+-- no two outcomes show the same
 abbrev pub AreDistinct : Question → List Outcome → Type 0
 AreDistinct q [] = Unit {0}
-AreDistinct q (o ∷ os) = AllByRecursion (λ (x : Outcome). rows_at q o.cluster ≢ rows_at q x.cluster) os × AreDistinct q os
+AreDistinct q (o ∷ os) = AllByRecursion (λ (x : Outcome). shown q o.cluster ≢ shown q x.cluster) os × AreDistinct q os
 
 -- the first is that of the run as it was
 abbrev pub BeginsAsRecorded : Machine → List Outcome → Type 0
@@ -49,3 +49,30 @@ is_asked_of topic key (Some p) = bytes_eq p.topic topic && bytes_eq p.key key
 
 abbrev pub is_asked : List ℕ → List ℕ → Operation → Bool
 is_asked topic key s = is_asked_of topic key (presence_made s)
+
+-- a beginning of such runs: each node took the first of its own steps, and each step is accepted
+pub record CanBegin (m : Machine) (run : List Kept) : Type 0 where
+  pub own : (n : ℕ) → (later : List Kept) × (ordered m.state.remaining n ≡ ordered run n ++ later)
+  pub accepted : (c : Cluster) × (runs (node_limits m.limits) (length m.names) run ≡ Ok c)
+
+-- two beginnings are of one state where the same steps came, each as often, and led to the same cluster
+pub record AreOfOneState (m : Machine) (run other : List Kept) : Type 0 where
+  pub steps : HaveSame run other
+  pub cluster : runs (node_limits m.limits) (length m.names) run ≡ runs (node_limits m.limits) (length m.names) other
+
+-- no two of these, by the places of their steps, are of one state
+abbrev pub AreOfDifferentStates : Machine → List (List ℕ) → Type 0
+AreOfDifferentStates m [] = Unit {0}
+AreOfDifferentStates m (x ∷ xs) =
+    AllByRecursion (λ y. AreOfOneState m (steps_at m.state.remaining x) (steps_at m.state.remaining y) → ⊥) xs × AreOfDifferentStates m xs
+
+-- there are more states than so many, and at least so many outcomes
+pub record AreTooMany (m : Machine) (q : Question) (lost again most found : ℕ) : Type 0 where
+  pub states : List (List ℕ)
+  pub more : most < length states
+  pub begin : AllByRecursion (λ x. CanBegin m (steps_at m.state.remaining x)) states
+  pub differ : AreOfDifferentStates m states
+  pub outcomes : List Outcome
+  pub count : length outcomes ≡ found
+  pub invents_nothing : InventsNothing m lost again outcomes
+  pub distinct : AreDistinct q outcomes

@@ -5,6 +5,7 @@ pub mod Standings
 pub mod Queries
 pub mod Keys
 pub mod Questions
+pub mod SameShown
 pub mod Plans
 pub mod Easy
 pub mod Walks

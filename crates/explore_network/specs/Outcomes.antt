@@ -20,7 +20,7 @@ pub record IsRecorded (p : Plan) (o : Outcome) : Type 0 where
 abbrev pub BeginsWith : Plan → List Outcome → Type 0
 BeginsWith p os = (o : Outcome) × ((os ≡ o ∷ []) × IsRecorded p o)
 
--- each end of a run of the network shows rows that are told, and nothing else is
+-- each end of a run of the network shows what is told, and nothing else is
 pub record AllIsTold (p : Plan) (q : Question) (os : List Outcome) : Type 0 where
   pub told : IsTold p q os []
   pub outcomes : AllByRecursion (IsOutcome p) os

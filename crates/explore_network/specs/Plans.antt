@@ -1,5 +1,5 @@
 -- What is fixed of all runs of the network.
-use Rattle.std.specs.Prelude.{◌≡◌, ℕ, ◌≤◌, Bool, List, Option, refl}
+use Rattle.std.specs.Prelude.{◌≡◌, ℕ, ◌≤◌, ◌<◌, Bool, true, List, Option, refl}
 use Rattle.std.specs.Coded.{Coded, code_by, coded×, coded_ℕ, coded_list, coded_option}
 use Rattle.replica_core.specs.declared.node_limits.NodeLimits.{NodeLimits}
 use Rattle.replica_core.specs.Limits.{node_limits_code, AreNodeLimits}
@@ -7,11 +7,13 @@ use Rattle.journal_core.specs.Journals.{Kept, kept_code}
 use Rattle.bench_core.specs.Clusters.{Cluster}
 use Rattle.network_core.specs.Cones.{position}
 use Rattle.network_core.specs.Made.{WantsMade}
+use Rattle.network_core.specs.Seen.{WantsSeen}
+use Rattle.dots_core.specs.declared.dot.Dot.{Dot}
 use Rattle.network_core.specs.Room.{made}
 use Rattle.network_core.specs.Settling.{Walk}
 use Rattle.explore_network.specs.declared.turn.Turn.{Turn}
 use Rattle.explore_network.specs.declared.turn.Rank.{Rank}
-use Rattle.explore_network.specs.Questions.{Question}
+use Rattle.explore_network.specs.Questions.{asks, Question, OfCluster, OfNode, OfPresence}
 use Rattle.explore_network.specs.Tables.{cone_of, is_wanted, tables_code, IsAsked, IsClosed, Tables}
 use Rattle.explore_network.specs.Turns.{ranks_of, turns_of}
 
@@ -61,6 +63,12 @@ walk_of p told = record {
   told = told;
 }
 
+-- all that the nodes can see of other nodes' dots is wanted, or the dots of the topic and the key alone
+abbrev pub Wants : NodeLimits → List Kept → ℕ → (Dot → Bool) → Question → Type 0
+Wants l j count wanted OfCluster = WantsSeen l j count wanted
+Wants l j count wanted (OfNode node) = WantsSeen l j count wanted
+Wants l j count wanted (OfPresence node topic key) = WantsMade l j wanted topic key
+
 -- the plan is that of its steps, which fill no node; and nothing that matters for the question is left out
 pub record IsPlan (p : Plan) (q : Question) : Type 0 where
   pub few : p.count ≤ 32
@@ -69,5 +77,5 @@ pub record IsPlan (p : Plan) (q : Question) : Type 0 where
   pub ranks : p.ranks ≡ ranks_of p.turns p.steps
   pub room : made p.steps ≤ p.limits.entries
   pub closed : IsClosed p.steps p.ranks p.tables
-  pub asked : IsAsked p.tables q.node (position p.steps q.node)
-  pub wants : WantsMade p.limits p.steps (is_wanted p.tables.dots) q.topic q.key
+  pub asked : (n : ℕ) → n < p.count → asks q n ≡ true → IsAsked p.tables n (position p.steps n)
+  pub wants : Wants p.limits p.steps p.count (is_wanted p.tables.dots) q

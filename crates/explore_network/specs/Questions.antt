@@ -1,31 +1,52 @@
--- Whose presences are asked for, and the rows that a cluster shows of them.
-use Rattle.std.specs.Prelude.{ℕ, Bool, List, [], slice_get, Option, Some, None, refl}
-use Rattle.std.specs.Coded.{Coded, code_by, coded×, coded_ℕ, coded_list}
-use Rattle.std.specs.Ordering.{eq_by_cmp}
-use Rattle.std.specs.Cmp.Lexicographic.{pointwise}
+-- What is asked for, and what a cluster shows of it.
+use Rattle.std.specs.Prelude.{◌<◌, ◌==◌, ℕ, Bool, true, List, [], ◌∷◌, map, slice_get, Option, Some, None}
+use Rattle.replica_core.specs.Replicas.{Replica}
 use Rattle.node_core.specs.Nodes.{Node}
 use Rattle.bench_core.specs.Clusters.{Cluster}
-use Rattle.diff_core.specs.Rows.{Row, row_cmp}
+use Rattle.diff_core.specs.Rows.{Row}
 use Rattle.network_core.specs.Rows.{online_rows_of}
+use Rattle.explore_network.specs.declared.question.Question.{Question as Asked}
+use Rattle.explore_network.specs.declared.question.Question.TheVariants as questions
 
--- the presences of this topic and key, as this node shows them
-pub record Question : Type 0 where
-  pub node : ℕ
-  pub topic : List ℕ
-  pub key : List ℕ
+-- all of the cluster, a node, or the presences of a topic and a key, as a node shows them
+pub data Question : Type 0 where
+  OfCluster : Question
+  OfNode : (node : ℕ) → Question
+  OfPresence : (node : ℕ) (topic key : List ℕ) → Question
 
-abbrev pub question_code : Coded Question
-question_code =
-    code_by (ℕ × (List ℕ × List ℕ)) (coded× coded_ℕ (coded× (coded_list coded_ℕ) (coded_list coded_ℕ))) (λ q. (q.node, (q.topic, q.key)))
-    (λ p. record { node = p.0; topic = p.1.0; key = p.1.1 }) (λ _. refl)
+abbrev pub plain : {X : Type 0} → Asked X → Question
+plain questions.Cluster = OfCluster
+plain (questions.Node node) = OfNode node
+plain (questions.Presence node topic key) = OfPresence node topic key
+
+-- the node, where one is asked for, is one of so many
+abbrev pub IsThere : ℕ → Question → Type 0
+IsThere count OfCluster = Unit {0}
+IsThere count (OfNode node) = node < count
+IsThere count (OfPresence node topic key) = node < count
+
+-- whether it is asked what this node has
+abbrev pub asks : Question → ℕ → Bool
+asks OfCluster n = true
+asks (OfNode node) n = node == n
+asks (OfPresence node topic key) n = node == n
 
 abbrev pub rows_in : List ℕ → List ℕ → Option Node → List Row
 rows_in topic key None = []
 rows_in topic key (Some x) = online_rows_of topic key x.replica
 
--- the rows of the node's online list that are asked for
-unfoldable pub rows_at : Question → Cluster → List Row
-rows_at q c = rows_in q.topic q.key (slice_get c q.node)
+abbrev pub replicas_in : Option Node → List Replica
+replicas_in None = []
+replicas_in (Some x) = x.replica ∷ []
 
-abbrev pub same_rows : List Row → List Row → Bool
-same_rows rows others = pointwise (eq_by_cmp row_cmp) rows others
+-- by what clusters are told apart
+pub data Shown : Type 0 where
+  Rows : List Row → Shown
+  Replicas : List Replica → Shown
+
+-- the rows of the topic and the key in the node's online list, and nothing else; the node's replica, but not the messages that it
+-- sent; the replicas of all nodes
+unfoldable pub shown : Question → Cluster → Shown
+shown OfCluster c = Replicas (map (λ x. x.replica) c)
+shown (OfNode node) c = Replicas (replicas_in (slice_get c node))
+shown (OfPresence node topic key) c = Rows (rows_in topic key (slice_get c node))

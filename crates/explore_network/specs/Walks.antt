@@ -1,5 +1,5 @@
 -- Where a walk stands, what was told, and what is settled by it.
-use Rattle.std.specs.Prelude.{◌≡◌, ℕ, ◌+◌, ◌≤◌, Bool, true, false, List, [], ◌∷◌, ◌++◌, length, slice_get, Option, Some, None, Ok, refl}
+use Rattle.std.specs.Prelude.{◌≡◌, ℕ, ◌+◌, ◌<◌, ◌≤◌, Bool, true, false, List, [], ◌∷◌, ◌++◌, length, slice_get, Option, Some, None, Ok, refl}
 use Rattle.std.specs.Coded.{Coded, code_by, coded×, coded_ℕ, coded_list}
 use Rattle.std.specs.List.{AllByRecursion, list_any}
 use Rattle.node_core.specs.Nodes.{node_code}
@@ -8,9 +8,13 @@ use Rattle.bench_core.specs.Clusters.{Cluster, step}
 use Rattle.bench_core.specs.Runs.{runs}
 use Rattle.network_core.specs.NetworkRuns.{IsNetworkRun, ordered}
 use Rattle.network_core.specs.Settling.{IsSettled, IsWalk}
+use Rattle.explore_network.specs.declared.explore_fault.Stop.{Stop}
+use Rattle.explore_network.specs.declared.explore_fault.Stop.TheVariants.{TooManyStates, OutOfMemory}
+use Rattle.explore_network.specs.Keys.{AreDifferent}
 use Rattle.explore_network.specs.Plans.{walk_of, IsPlan, Plan}
 use Rattle.explore_network.specs.Queries.{key_of}
-use Rattle.explore_network.specs.Questions.{rows_at, same_rows, Question}
+use Rattle.explore_network.specs.Questions.{shown, Question}
+use Rattle.explore_network.specs.SameShown.{same_shown}
 use Rattle.explore_network.specs.Turns.{counts_of, is_next}
 
 -- the places of a run's steps among the recorded ones, and the cluster to which it leads
@@ -31,9 +35,9 @@ abbrev pub steps_at : List Kept → List ℕ → List Kept
 steps_at j [] = []
 steps_at j (p ∷ ps) = with_step (slice_get j p) (steps_at j ps)
 
--- whether an outcome shows the rows that the cluster does
+-- whether an outcome shows what the cluster does
 abbrev pub told_by : Question → List Outcome → Cluster → Bool
-told_by q os c = list_any (λ o. same_rows (rows_at q o.cluster) (rows_at q c)) os
+told_by q os c = list_any (λ o. same_shown (shown q o.cluster) (shown q c)) os
 
 -- after these recorded steps the cluster is this, and the turns came so often; and each node took the first of its own steps
 pub record IsAt (p : Plan) (w : List Kept) (counts : List ℕ) (c : Cluster) : Type 0 where
@@ -42,7 +46,7 @@ pub record IsAt (p : Plan) (w : List Kept) (counts : List ℕ) (c : Cluster) : T
   pub along : (path : List ℕ) × (w ≡ steps_at p.steps path)
   pub own : (n : ℕ) → (later : List Kept) × (ordered p.steps n ≡ ordered w n ++ later)
 
--- whatever a run of the network that begins so leads to shows rows that an outcome shows
+-- whatever a run of the network that begins so leads to shows what an outcome shows
 abbrev pub IsTold : Plan → Question → List Outcome → List Kept → Type 0
 IsTold p q os w = IsSettled (walk_of p (told_by q os)) w
 
@@ -73,17 +77,34 @@ pub record IsOutcome (p : Plan) (o : Outcome) : Type 0 where
   pub is_run : IsNetworkRun p.steps p.lost p.again (steps_at p.steps o.run)
   pub leads : runs p.limits p.count (steps_at p.steps o.run) ≡ Ok o.cluster
 
--- no two outcomes show the same rows
+-- no two outcomes show the same
 abbrev pub AreApart : Question → List Outcome → Type 0
 AreApart q [] = Unit {0}
-AreApart q (o ∷ os) = AllByRecursion (λ (x : Outcome). same_rows (rows_at q o.cluster) (rows_at q x.cluster) ≡ false) os × AreApart q os
+AreApart q (o ∷ os) = AllByRecursion (λ (x : Outcome). same_shown (shown q o.cluster) (shown q x.cluster) ≡ false) os × AreApart q os
 
 -- what each walk keeps
 pub record Keeps (p : Plan) (q : Question) (known : List (List ℕ)) (os : List Outcome) : Type 0 where
   pub keys : AllByRecursion (IsKeyOf p q os) known
+  pub differ : AreDifferent known
   pub outcomes : AllByRecursion (IsOutcome p) os
   pub apart : AreApart q os
   pub few : length known ≤ p.most
+
+-- more states were met than may be kept, and so many outcomes
+pub record IsTooMany (p : Plan) (q : Question) (n : ℕ) : Type 0 where
+  pub known : List (List ℕ)
+  pub found : List Outcome
+  pub keys : AllByRecursion (IsKeyOf p q found) known
+  pub differ : AreDifferent known
+  pub more : p.most < length known
+  pub outcomes : AllByRecursion (IsOutcome p) found
+  pub apart : AreApart q found
+  pub count : length found ≡ n
+
+-- there is a reason for the stop, where it was not want of memory
+abbrev pub HasReason : Plan → Question → Stop → Type 0
+HasReason p q (TooManyStates n) = IsTooMany p q n
+HasReason p q OutOfMemory = Unit {0}
 
 -- there are these outcomes, and perhaps more
 abbrev pub AreMore : List Outcome → List Outcome → Type 0

@@ -1,23 +1,28 @@
 //! The dots of the presences that are asked for.
-ghost use Rattle.std.specs.Prelude.{◌≡◌, ◌≤◌, ◌<◌, ◌++◌, IfOk, OnOk, option_map, slice_get};
+ghost use Rattle.std.specs.Prelude.{◌≡◌, ◌≤◌, ◌<◌, ◌++◌, ℕ, IfOk, OnOk, Ok, option_map, slice_get};
 ghost use Rattle.replica_core.specs.Limits.{AreNodeLimits};
 ghost use Rattle.replica_core.specs.Replicas.{fresh};
 ghost use Rattle.std.specs.List.{AllByRecursion};
 ghost use Rattle.dots_core.specs.declared.dot.Dot.{Dot as PlainDot};
-ghost use Rattle.node_core.specs.Operations.{plain};
-ghost use Rattle.explore_network.specs.Asked.{asked_dots, AreAsked};
+ghost use Rattle.node_core.specs.Operations.{plain as plain_step};
+ghost use Rattle.bench_core.specs.Clusters.{Cluster as PlainCluster};
+ghost use Rattle.bench_core.specs.Runs.{runs};
+ghost use Rattle.explore_network.specs.Asked.{asked_dots, dots_up_to, own_of, own_of_all, AreAsked};
+ghost use Rattle.explore_network.specs.Questions.{plain, OfPresence};
 ghost use Rattle.explore_network.specs.Explorations.{is_asked};
 
 use crate::question::Question;
-use crate::walk::play;
+use crate::steps::places;
+use crate::walk::{play, played};
 use bench_core::{Cluster, Kept, Node, NodeLimits, Step};
 use dots_core::Dot;
 use node_core::Oom;
+use payload_core::Word;
 use std::alloc::Allocator;
 
-/// Whether the step makes a presence that is asked for.
-fn is_asked<A: Allocator>(step: &Step<A>, question: &Question<A>) -> bool
-    ensures { result ≡ is_asked question.now.topic question.now.key (plain step.now) }
+/// Whether the step makes a presence of this topic and key.
+fn is_asked<A: Allocator>(step: &Step<A>, wanted_topic: &Word<A>, wanted_key: &Word<A>) -> bool
+    ensures { result ≡ is_asked wanted_topic.now wanted_key.now (plain_step step.now) }
 {
     match step {
         Step::Join {
@@ -25,13 +30,13 @@ fn is_asked<A: Allocator>(step: &Step<A>, question: &Question<A>) -> bool
             topic,
             key,
             metadata: _,
-        } => *topic == question.topic && *key == question.key,
+        } => *topic == *wanted_topic && *key == *wanted_key,
         Step::Update {
             pid: _,
             topic,
             key,
             metadata: _,
-        } => *topic == question.topic && *key == question.key,
+        } => *topic == *wanted_topic && *key == *wanted_key,
         _ => false,
     }
 }
@@ -49,17 +54,18 @@ fn fresh<'a, B: Allocator>(node: &Node<'a, B>) -> Dot
     }
 }
 
-/// Puts the dot of the entry that a step makes, if it is asked for.
+/// Puts the dot of the entry that a step makes, if it is of this topic and key.
 fn put_asked<'a, B: Allocator>(
     dots: &mut Vec<Dot, &'a B>,
     cluster: &Cluster<'a, B>,
     kept: &Kept<&'a B>,
-    question: &Question<&'a B>,
+    topic: &Word<&'a B>,
+    key: &Word<&'a B>,
 ) -> Result<(), Oom>
-    ensures dots { OnOk result (dots.new.items ≡ dots.old.items ++ asked_dots question.now kept.now (slice_get cluster.now kept.now.node)) }
+    ensures dots { OnOk result (dots.new.items ≡ dots.old.items ++ asked_dots topic.now key.now kept.now (slice_get cluster.now kept.now.node)) }
     ensures names { OnOk result (AllByRecursion (λ (d : PlainDot). d.name < 32) dots.old.items → AllByRecursion (λ (d : PlainDot). d.name < 32) dots.new.items) }
 {
-    if !is_asked(&kept.step, question) {
+    if !is_asked(&kept.step, topic, key) {
         return Ok(());
     }
     match cluster.node(kept.node) {
@@ -68,7 +74,96 @@ fn put_asked<'a, B: Allocator>(
     }
 }
 
-/// The dots of all presences that the steps make and that are asked for.
+/// The dots of all presences of a topic and a key that the steps make.
+fn dots_of_presences<'a, B: Allocator>(
+    steps: &[Kept<&'a B>],
+    count: u16,
+    limits: NodeLimits,
+    topic: &Word<&'a B>,
+    key: &Word<&'a B>,
+    alloc: &'a B,
+) -> Result<Vec<Dot, &'a B>, Oom>
+    requires few { count ≤ 32 }
+    requires limits { AreNodeLimits limits }
+    ensures { IfOk result (λ dots. (node : ℕ) → AreAsked limits count steps.now (OfPresence node topic.now key.now) dots.items) }
+{
+    let mut dots = Vec::new(alloc);
+    let mut cluster = Cluster::new(alloc, count as usize, limits)?;
+    for place in 0..steps.len() {
+        put_asked(&mut dots, &cluster, &steps[place], topic, key)?;
+        play(&mut cluster, steps, place)?;
+    }
+    drop(cluster);
+    Ok(dots)
+}
+
+/// Puts the dots of its own that a node has seen.
+fn put_own<'a, B: Allocator>(dots: &mut Vec<Dot, &'a B>, last: Dot) -> Result<(), Oom>
+    ensures { OnOk result (dots.new.items ≡ dots.old.items ++ dots_up_to last.name last.clock) }
+{
+    for before in 0..last.clock {
+        dots.push(Dot {
+            name: last.name,
+            clock: before + 1,
+        })?;
+    }
+    Ok(())
+}
+
+/// The same of a node, if it is there.
+fn put_own_of<'a, B: Allocator>(
+    dots: &mut Vec<Dot, &'a B>,
+    node: Option<&Node<'a, B>>,
+) -> Result<(), Oom>
+    ensures dots { OnOk result (dots.new.items ≡ dots.old.items ++ own_of (option_map (λ n. n.now) node.entry)) }
+    ensures names { OnOk result (AllByRecursion (λ (d : PlainDot). d.name < 32) dots.old.items → AllByRecursion (λ (d : PlainDot). d.name < 32) dots.new.items) }
+{
+    match node {
+        Some(node) => {
+            node.replica().replica_law();
+            put_own(dots, node.replica().last())
+        }
+        None => Ok(()),
+    }
+}
+
+/// The same of so many nodes.
+fn put_own_of_all<'a, B: Allocator>(
+    dots: &mut Vec<Dot, &'a B>,
+    cluster: &Cluster<'a, B>,
+    count: u16,
+) -> Result<(), Oom>
+    ensures dots { OnOk result (dots.new.items ≡ dots.old.items ++ own_of_all cluster.now count) }
+    ensures names { OnOk result (AllByRecursion (λ (d : PlainDot). d.name < 32) dots.old.items → AllByRecursion (λ (d : PlainDot). d.name < 32) dots.new.items) }
+{
+    for number in 0..count {
+        put_own_of(dots, cluster.node(number))?;
+    }
+    Ok(())
+}
+
+/// The dots of their own that the nodes have seen at the end.
+fn dots_of_nodes<'a, B: Allocator>(
+    steps: &[Kept<&'a B>],
+    count: u16,
+    limits: NodeLimits,
+    alloc: &'a B,
+) -> Result<Vec<Dot, &'a B>, Oom>
+    requires few { count ≤ 32 }
+    requires limits { AreNodeLimits limits }
+    ensures names { IfOk result (λ dots. AllByRecursion (λ (d : PlainDot). d.name < 32) dots.items) }
+    ensures own { IfOk result (λ dots. (end : PlainCluster) → runs limits count steps.now ≡ Ok end → dots.items ≡ own_of_all end count) }
+{
+    let places = places(steps.len(), alloc)?;
+    let cluster = played(steps, &places, count, limits, alloc)?;
+    let mut dots = Vec::new(alloc);
+    put_own_of_all(&mut dots, &cluster, count)?;
+    drop(places);
+    drop(cluster);
+    Ok(dots)
+}
+
+/// The dots that are asked for.
 pub(crate) fn dots_of<'a, B: Allocator>(
     steps: &[Kept<&'a B>],
     count: u16,
@@ -78,14 +173,15 @@ pub(crate) fn dots_of<'a, B: Allocator>(
 ) -> Result<Vec<Dot, &'a B>, Oom>
     requires few { count ≤ 32 }
     requires limits { AreNodeLimits limits }
-    ensures { IfOk result (λ dots. AreAsked limits count steps.now question.now dots.items) }
+    ensures { IfOk result (λ dots. AreAsked limits count steps.now (plain question.now) dots.items) }
 {
-    let mut dots = Vec::new(alloc);
-    let mut cluster = Cluster::new(alloc, count as usize, limits)?;
-    for place in 0..steps.len() {
-        put_asked(&mut dots, &cluster, &steps[place], question)?;
-        play(&mut cluster, steps, place)?;
+    match question {
+        Question::Cluster => dots_of_nodes(steps, count, limits, alloc),
+        Question::Node(_) => dots_of_nodes(steps, count, limits, alloc),
+        Question::Presence {
+            node: _,
+            topic,
+            key,
+        } => dots_of_presences(steps, count, limits, topic, key, alloc),
     }
-    drop(cluster);
-    Ok(dots)
 }

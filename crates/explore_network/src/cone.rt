@@ -7,9 +7,13 @@ ghost use Rattle.node_core.specs.Operations.{plain};
 ghost use Rattle.journal_core.specs.Journals.{Kept as PlainKept};
 ghost use Rattle.explore_network.specs.declared.turn.Rank.{Rank as PlainRank};
 ghost use Rattle.network_core.specs.Cones.{says};
+ghost use Rattle.explore_network.specs.declared.turn.Turn.{Turn as PlainTurn};
+ghost use Rattle.explore_network.specs.Questions.{plain as plain_question};
+ghost use Rattle.explore_network.specs.Asked.{AreAllAsked, IsAskedAt};
 ghost use Rattle.explore_network.specs.Tables.{carried, in_row, is_wanted, matter, names_at, IsAsked, IsClosed, KeepsAt, Within};
 
 use crate::names::{all_names, common, is_within, union};
+use crate::question::Question;
 use crate::turn::{Rank, Turn, delivery};
 use bench_core::{Kept, Step};
 use dots_core::{Dot, NameSet};
@@ -239,6 +243,38 @@ impl<'a, B: Allocator> Cone<'a, B> {
     {
         have_all(self.dots(), self.matter(node, taken))
     }
+
+    /// The same of a node, behind all its own steps, if it is asked what it has.
+    fn is_asked_at<A: Allocator>(&self, turns: &[Turn], question: &Question<A>, node: u16) -> bool
+        ensures { IsTrue result → IsAskedAt turns.now (plain_question question.now) node self.now }
+    {
+        if !question.asks(node) {
+            return true;
+        }
+        self.is_asked(node, recorded(turns, node))
+    }
+
+    /// The same of each node that it is asked of.
+    fn are_asked<A: Allocator>(&self, turns: &[Turn], count: u16, question: &Question<A>) -> bool
+        ensures { IsTrue result → AreAllAsked turns.now count (plain_question question.now) self.now }
+    {
+        for node in 0..count {
+            if !self.is_asked_at(turns, question, node) {
+                return false;
+            }
+        }
+        true
+    }
+}
+
+/// How many steps of the turn at this place were recorded.
+fn recorded(turns: &[Turn], place: u16) -> usize
+    ensures { (t : PlainTurn) → slice_get turns.now place ≡ Some t → result ≡ t.recorded }
+{
+    match turns.get(place as usize) {
+        Some(turn) => turn.recorded,
+        None => 0,
+    }
 }
 
 /// Whether the names have those of all dots.
@@ -290,7 +326,7 @@ fn begun<'a, B: Allocator>(
     dots: Vec<Dot, &'a B>,
     steps: &[Kept<&'a B>],
     turns: &[Turn],
-    asked: u16,
+    question: &Question<&'a B>,
     alloc: &'a B,
 ) -> Result<Cone<'a, B>, Oom>
     ensures { IfOk result (λ cone. cone.dots ≡ dots.entry.items) }
@@ -301,7 +337,7 @@ fn begun<'a, B: Allocator>(
         if turn.delivers.is_some() {
             continue;
         }
-        let names = if turn.node == asked {
+        let names = if question.asks(turn.node) {
             all_names()
         } else {
             NameSet::empty()
@@ -316,24 +352,24 @@ fn begun<'a, B: Allocator>(
     })
 }
 
-/// What matters for these dots at the end of a node that takes so many own steps.
+/// What matters for these dots at the end of the nodes that are asked for.
 pub(crate) fn cone_of<'a, B: Allocator>(
     dots: Vec<Dot, &'a B>,
     steps: &[Kept<&'a B>],
     turns: &[Turn],
     ranks: &[Rank],
-    asked: u16,
-    taken: usize,
+    question: &Question<&'a B>,
+    count: u16,
     alloc: &'a B,
 ) -> Result<Cone<'a, B>, Oom>
     requires { AllByRecursion (λ (d : PlainDot). d.name < 32) dots.items }
     ensures dots { IfOk result (λ cone. cone.dots ≡ dots.entry.items) }
     ensures closed { IfOk result (IsClosed steps.now ranks.now) }
-    ensures asked { IfOk result (λ cone. IsAsked cone asked taken) }
+    ensures asked { IfOk result (AreAllAsked turns.now count (plain_question question.now)) }
 {
-    let mut cone = begun(dots, steps, turns, asked, alloc)?;
+    let mut cone = begun(dots, steps, turns, question, alloc)?;
     cone.close(steps, ranks);
-    if cone.is_closed(steps, ranks) && cone.is_asked(asked, taken) {
+    if cone.is_closed(steps, ranks) && cone.are_asked(turns, count, question) {
         return Ok(cone);
     }
     let Cone {

@@ -1,5 +1,5 @@
 //! `ExploreFault`: why nothing is told.
-ghost use Rattle.std.specs.Prelude.{◌≡◌, ◌≢◌};
+ghost use Rattle.std.specs.Prelude.{◌≡◌, ◌≢◌, ℕ};
 
 use node_core::Oom;
 
@@ -42,7 +42,8 @@ impl From<Oom> for ExploreFault {
 
 /// The same, where the steps fill no node.
 pub(crate) fn fault_of(stop: Stop) -> ExploreFault
-    ensures { result ≢ ExploreFault.MayFill }
+    ensures fills_not { result ≢ ExploreFault.MayFill }
+    ensures same { (found : ℕ) → result ≡ ExploreFault.TooManyStates found → stop ≡ Stop.TooManyStates found }
 {
     match stop {
         Stop::TooManyStates { outcomes } => ExploreFault::TooManyStates { outcomes },

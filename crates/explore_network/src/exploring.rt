@@ -5,12 +5,12 @@ ghost use Rattle.bench_core.specs.Clusters.{opening_of, Cluster as PlainCluster}
 ghost use Rattle.bench_core.specs.Limits.{node_limits};
 ghost use Rattle.bench_core.specs.Runs.{runs};
 ghost use Rattle.std.specs.List.{AllByRecursion};
-ghost use Rattle.journal_core.specs.Journals.{Kept as PlainKept};
 ghost use Rattle.network_core.specs.Room.{made};
-ghost use Rattle.explore_network.specs.Explorations.{AreDistinct, BeginsAsRecorded, InventsNothing, MissesNothing};
+ghost use Rattle.explore_network.specs.Explorations.{AreDistinct, AreTooMany, BeginsAsRecorded, InventsNothing, MissesNothing};
 ghost use Rattle.explore_network.specs.declared.turn.Turn.{Turn as PlainTurn};
 ghost use Rattle.explore_network.specs.Plans.{IsPlan};
-ghost use Rattle.explore_network.specs.Walks.{steps_at, AreApart, IsOutcome, IsTold};
+ghost use Rattle.explore_network.specs.Questions.{plain, IsThere};
+ghost use Rattle.explore_network.specs.Walks.{AreApart, HasReason, IsOutcome, IsTold};
 ghost use Rattle.explore_network.specs.Outcomes.{AllIsTold, BeginsWith, IsRecorded, Runs};
 
 use crate::asked::dots_of;
@@ -19,7 +19,7 @@ use crate::explore_fault::{ExploreFault, Stop, fault_of};
 use crate::outcome::Outcome;
 use crate::plan::Plan;
 use crate::question::Question;
-use crate::steps::{Steps, copied, made};
+use crate::steps::{Steps, copied, made, places};
 use crate::table::Table;
 use crate::turn::{Turn, ranks_of, turns_of};
 use crate::walk::{Tour, Walk, outcome_of, visit};
@@ -32,16 +32,6 @@ use std::alloc::Allocator;
 pub struct Explored<'a, B: Allocator> {
     pub outcomes: Vec<Outcome<'a, B>, &'a B>,
     pub states: usize,
-}
-
-/// How many steps of the turn at this place were recorded.
-fn recorded(turns: &[Turn], place: u16) -> usize
-    ensures { (t : PlainTurn) → slice_get turns.now place ≡ Some t → result ≡ t.recorded }
-{
-    match turns.get(place as usize) {
-        Some(turn) => turn.recorded,
-        None => 0,
-    }
 }
 
 /// The plan of these steps, which fill no node.
@@ -58,20 +48,19 @@ fn plan_of<'a, B: Allocator>(
     requires few { count ≤ 32 }
     requires limits { AreNodeLimits limits }
     requires room { made steps.items ≤ limits.entries }
-    requires there { question.now.node < count }
+    requires there { IsThere count (plain question.now) }
     ensures limits { IfOk result (λ plan. plan.limits ≡ limits) }
     ensures count { IfOk result (λ plan. plan.count ≡ count) }
     ensures steps { IfOk result (λ plan. plan.steps ≡ steps.entry.items) }
     ensures lost { IfOk result (λ plan. plan.lost ≡ lost) }
     ensures again { IfOk result (λ plan. plan.again ≡ again) }
     ensures most { IfOk result (λ plan. plan.most ≡ most) }
-    ensures plan { IfOk result (λ plan. (end : PlainCluster) → runs limits count steps.entry.items ≡ Ok end → IsPlan plan question.now) }
+    ensures plan { IfOk result (λ plan. (end : PlainCluster) → runs limits count steps.entry.items ≡ Ok end → IsPlan plan (plain question.now)) }
 {
     let turns = turns_of(&steps, count, alloc)?;
     let ranks = ranks_of(&turns, &steps, alloc)?;
     let dots = dots_of(&steps, count, limits, question, alloc)?;
-    let end = recorded(&turns, question.node);
-    let cone = cone_of(dots, &steps, &turns, &ranks, question.node, end, alloc)?;
+    let cone = cone_of(dots, &steps, &turns, &ranks, question, count, alloc)?;
     Ok(Plan {
         limits,
         count,
@@ -83,17 +72,6 @@ fn plan_of<'a, B: Allocator>(
         ranks,
         cone,
     })
-}
-
-/// The places of so many steps.
-fn places<'a, B: Allocator>(count: usize, alloc: &'a B) -> Result<Vec<usize, &'a B>, Oom>
-    ensures { IfOk result (λ places. (j : List PlainKept) → length j ≡ count → steps_at j places.items ≡ j) }
-{
-    let mut places = Vec::with_capacity(alloc, count)?;
-    for place in 0..count {
-        places.push(place)?;
-    }
-    Ok(places)
 }
 
 /// So many zeros.
@@ -108,7 +86,7 @@ fn recorded_outcome<'a, B: Allocator>(
     tour: &Tour<'_, 'a, B>,
     alloc: &'a B,
 ) -> Result<Outcome<'a, B>, Oom>
-    requires plan { IsPlan tour.now.plan.now tour.now.question.now }
+    requires plan { IsPlan tour.now.plan.now (plain tour.now.question.now) }
     ensures { IfOk result (IsRecorded tour.now.plan.now) }
 {
     let places = places(tour.plan.steps().len(), alloc)?;
@@ -118,7 +96,7 @@ fn recorded_outcome<'a, B: Allocator>(
 
 /// Where the walk begins.
 fn begun<'a, B: Allocator>(tour: &Tour<'_, 'a, B>, alloc: &'a B) -> Result<Walk<'a, B>, Oom>
-    requires plan { IsPlan tour.now.plan.now tour.now.question.now }
+    requires plan { IsPlan tour.now.plan.now (plain tour.now.question.now) }
     ensures cluster { IfOk result (λ walk. walk.cluster ≡ opening_of tour.now.plan.now.limits tour.now.plan.now.count) }
     ensures path { IfOk result (λ walk. walk.path.items ≡ []) }
     ensures settled { IfOk result (λ walk. walk.settled ≡ []) }
@@ -142,10 +120,11 @@ fn explore_plan<'a, B: Allocator>(
     question: &Question<&'a B>,
     alloc: &'a B,
 ) -> Result<Explored<'a, B>, Stop>
-    requires plan { IsPlan plan.now question.now }
+    requires plan { IsPlan plan.now (plain question.now) }
     requires ran { Runs plan.now }
-    ensures told { IfOk result (λ e. AllIsTold plan.now question.now e.outcomes.items) }
+    ensures told { IfOk result (λ e. AllIsTold plan.now (plain question.now) e.outcomes.items) }
     ensures most { IfOk result (λ e. e.states ≤ plan.now.most) }
+    ensures stops { IfErr result (HasReason plan.now (plain question.now)) }
 {
     let tour = Tour {
         plan,
@@ -179,12 +158,13 @@ pub fn explore<'a, B: Allocator>(
     most: usize,
     alloc: &'a B,
 ) -> Result<Explored<'a, B>, ExploreFault>
-    requires { question.now.node < length bench.now.names }
-    ensures misses_nothing { IfOk result (λ e. MissesNothing bench.now question.now lost again e.outcomes.items) }
+    requires { IsThere (length bench.now.names) (plain question.now) }
+    ensures misses_nothing { IfOk result (λ e. MissesNothing bench.now (plain question.now) lost again e.outcomes.items) }
     ensures invents_nothing { IfOk result (λ e. InventsNothing bench.now lost again e.outcomes.items) }
-    ensures distinct { IfOk result (λ e. AreDistinct question.now e.outcomes.items) }
+    ensures distinct { IfOk result (λ e. AreDistinct (plain question.now) e.outcomes.items) }
     ensures first { IfOk result (λ e. BeginsAsRecorded bench.now e.outcomes.items) }
     ensures most { IfOk result (λ e. e.states ≤ most) }
+    ensures too_many { (found : ℕ) → result ≡ Err (ExploreFault.TooManyStates found) → AreTooMany bench.now (plain question.now) lost again most found }
     ensures may_fill { result ≡ Err ExploreFault.MayFill → (node_limits bench.now.limits).entries < made bench.now.state.remaining }
     ensures fills_not { IsOk result → made bench.now.state.remaining ≤ (node_limits bench.now.limits).entries }
 {

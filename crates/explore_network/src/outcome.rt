@@ -1,10 +1,11 @@
 //! `Outcome`: what a run of the network leads to.
-ghost use Rattle.std.specs.Prelude.{◌≡◌, IfOk};
-ghost use Rattle.explore_network.specs.Questions.{rows_at, same_rows};
-ghost use Rattle.explore_network.specs.Walks.{told_by};
+ghost use Rattle.std.specs.Prelude.{◌≡◌, ◌≤◌, IfOk, length};
+ghost use Rattle.std.specs.List.{AllByRecursion};
+ghost use Rattle.explore_network.specs.Questions.{plain};
+ghost use Rattle.explore_network.specs.Walks.{told_by, Outcome as PlainOutcome};
 
 use crate::question::Question;
-use crate::rows::{rows_at, same_rows};
+use crate::shown::show_same;
 use bench_core::Cluster;
 use node_core::Oom;
 use std::alloc::Allocator;
@@ -47,36 +48,21 @@ impl<'a, B: Allocator> Outcome<'a, B> {
     {
         &self.cluster
     }
-
-    /// Whether it shows the rows that a cluster does.
-    fn shows(
-        &self,
-        cluster: &Cluster<'a, B>,
-        question: &Question<&'a B>,
-        alloc: &'a B,
-    ) -> Result<bool, Oom>
-        ensures { IfOk result (λ same. same ≡ same_rows (rows_at question.now self.now.cluster) (rows_at question.now cluster.now)) }
-    {
-        let rows = rows_at(&self.cluster, question, alloc)?;
-        let others = rows_at(cluster, question, alloc)?;
-        let same = same_rows(rows.as_slice(), others.as_slice());
-        drop(rows);
-        drop(others);
-        Ok(same)
-    }
 }
 
-/// Whether one of the outcomes shows the rows that a cluster does.
+/// Whether one of the outcomes shows what a cluster does.
 pub(crate) fn is_told<'a, B: Allocator>(
     outcomes: &[Outcome<'a, B>],
     cluster: &Cluster<'a, B>,
     question: &Question<&'a B>,
     alloc: &'a B,
 ) -> Result<bool, Oom>
-    ensures { IfOk result (λ told. told ≡ told_by question.now outcomes.now cluster.now) }
+    requires few { length cluster.now ≤ 32 }
+    requires all_few { AllByRecursion (λ (o : PlainOutcome). length o.cluster ≤ 32) outcomes.now }
+    ensures { IfOk result (λ told. told ≡ told_by (plain question.now) outcomes.now cluster.now) }
 {
     for outcome in outcomes {
-        if outcome.shows(cluster, question, alloc)? {
+        if show_same(outcome.cluster(), cluster, question, alloc)? {
             return Ok(true);
         }
     }

@@ -1,22 +1,53 @@
-//! `Question`: whose presences are asked for.
+//! `Question`: what is asked for, by which clusters are told apart.
+ghost use Rattle.std.specs.Prelude.{◌≡◌, ◌↔◌, IsTrue};
+ghost use Rattle.explore_network.specs.Questions.{asks, plain, IsThere};
+
 use payload_core::Word;
 use std::alloc::Allocator;
-use std::marker::Model;
 
-/// The presences of a topic and a key, as a node shows them.
+/// What is asked for.
 #[derive(Drop)]
-pub struct Question<A: Allocator> {
-    pub node: u16,
-    pub topic: Word<A>,
-    pub key: Word<A>,
+pub enum Question<A: Allocator> {
+    /// All of the cluster: the replica of each node.
+    Cluster,
+    /// The replica of a node.
+    Node(u16),
+    /// The presences of a topic and a key, as a node shows them.
+    Presence {
+        node: u16,
+        topic: Word<A>,
+        key: Word<A>,
+    },
 }
 
-impl<A: Allocator> Model for Question<A> {
-    ghost use Rattle.explore_network.specs.Questions.{question_code, Question};
+impl<A: Allocator> Question<A> {
+    /// Whether the node that is asked for, where one is, is one of so many.
+    pub fn is_there(&self, count: usize) -> bool
+        ensures { IsTrue result ↔ IsThere count (plain self.now) }
+    {
+        match self {
+            Question::Cluster => true,
+            Question::Node(node) => (*node as usize) < count,
+            Question::Presence {
+                node,
+                topic: _,
+                key: _,
+            } => (*node as usize) < count,
+        }
+    }
 
-    ghost Value = { Question };
-
-    ghost coded = { question_code };
-
-    ghost view = { λ q. record { node = q.node; topic = q.topic; key = q.key } };
+    /// Whether it is asked what this node has.
+    pub(crate) fn asks(&self, number: u16) -> bool
+        ensures { result ≡ asks (plain self.now) number }
+    {
+        match self {
+            Question::Cluster => true,
+            Question::Node(node) => *node == number,
+            Question::Presence {
+                node,
+                topic: _,
+                key: _,
+            } => *node == number,
+        }
+    }
 }

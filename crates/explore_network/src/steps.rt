@@ -1,5 +1,7 @@
 //! Copies of the steps that remain, and how many entries they make.
-ghost use Rattle.std.specs.Prelude.{◌≡◌, IfOk, count_by};
+ghost use Rattle.std.specs.Prelude.{◌≡◌, List, IfOk, count_by, length};
+ghost use Rattle.journal_core.specs.Journals.{Kept as PlainKept};
+ghost use Rattle.explore_network.specs.Walks.{steps_at};
 ghost use Rattle.journal_core.specs.Holdings.{kepts};
 ghost use Rattle.node_core.specs.Operations.{plain};
 ghost use Rattle.network_core.specs.Room.{made, makes};
@@ -69,4 +71,15 @@ pub(crate) fn made<A: Allocator>(steps: &[Kept<A>]) -> usize
     ensures { result ≡ made steps.now }
 {
     count_made(steps)
+}
+
+/// The places of so many steps.
+pub(crate) fn places<'a, B: Allocator>(count: usize, alloc: &'a B) -> Result<Vec<usize, &'a B>, Oom>
+    ensures { IfOk result (λ places. (j : List PlainKept) → length j ≡ count → steps_at j places.items ≡ j) }
+{
+    let mut places = Vec::with_capacity(alloc, count)?;
+    for place in 0..count {
+        places.push(place)?;
+    }
+    Ok(places)
 }

@@ -48,9 +48,11 @@ impl<'a, B: Allocator> Table<'a, B> {
 
     /// Puts a key behind the others, unless it is among them.
     pub(crate) fn put(&mut self, key: Key<&'a B>) -> Result<(), Oom>
-        ensures { OnOk result ((self.new ≡ self.old) ⊎ (self.new ≡ self.old ++ key.entry.items ∷ [])) }
+        ensures { OnOk result ((self.new ≡ self.old) ⊎ ((self.new ≡ self.old ++ key.entry.items ∷ []) × (IsAmong key.entry.items self.old → ⊥))) }
     {
-        self.known.insert(key).map_err(|_| Oom)?;
-        Ok(())
+        match self.known.insert(key) {
+            Ok(_added) => Ok(()),
+            Err(_refused) => Err(Oom),
+        }
     }
 }

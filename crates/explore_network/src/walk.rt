@@ -1,12 +1,13 @@
 //! `Walk`: the walk over all runs of the network, depth first.
-ghost use Rattle.std.specs.Prelude.{◌≡◌, ◌<◌, ◌≤◌, ◌+◌, ◌^◌, ◌++◌, ◌∷◌, [], ℕ, List, IfOk, OnOk, Ok, Some, length, slice_get, true};
+ghost use Rattle.std.specs.Prelude.{◌≡◌, ◌<◌, ◌≤◌, ◌+◌, ◌^◌, ◌++◌, ◌∷◌, [], ℕ, List, IfErr, IfOk, OnOk, Ok, Some, length, slice_get, true};
 ghost use Rattle.replica_core.specs.Limits.{AreNodeLimits};
 ghost use Rattle.bench_core.specs.Clusters.{Cluster as PlainCluster};
 ghost use Rattle.bench_core.specs.Runs.{runs, then_runs};
 ghost use Rattle.network_core.specs.NetworkRuns.{IsNetworkRun};
 ghost use Rattle.explore_network.specs.Plans.{IsPlan};
 ghost use Rattle.explore_network.specs.Queries.{key_of};
-ghost use Rattle.explore_network.specs.Walks.{next_in, steps_at, told_by, with_step, AllGoThrough, GoesThroughAt, AreMore, GoesThrough, IsAt, IsBehind, IsOutcome, IsReady, IsTold, Keeps, Went};
+ghost use Rattle.explore_network.specs.Questions.{plain};
+ghost use Rattle.explore_network.specs.Walks.{next_in, steps_at, told_by, with_step, AllGoThrough, GoesThroughAt, AreMore, GoesThrough, HasReason, IsAt, IsBehind, IsOutcome, IsReady, IsTold, Keeps, Went};
 
 use crate::explore_fault::Stop;
 use crate::first::first;
@@ -82,13 +83,13 @@ pub(crate) fn play<'a, B: Allocator>(
 
 /// Tells where the path leads, unless an outcome shows the same.
 fn tell<'a, B: Allocator>(tour: &Tour<'_, 'a, B>, walk: &mut Walk<'a, B>) -> Result<(), Oom>
-    requires plan { IsPlan tour.now.plan.now tour.now.question.now }
-    requires keeps { Keeps tour.now.plan.now tour.now.question.now walk.old.settled walk.old.outcomes.items }
+    requires plan { IsPlan tour.now.plan.now (plain tour.now.question.now) }
+    requires keeps { Keeps tour.now.plan.now (plain tour.now.question.now) walk.old.settled walk.old.outcomes.items }
     requires ends { IsOutcome tour.now.plan.now (record { run = walk.old.path.items; cluster = walk.old.cluster }) }
     ensures cluster { OnOk result (walk.new.cluster ≡ walk.old.cluster) }
     ensures path { OnOk result (walk.new.path.items ≡ walk.old.path.items) }
-    ensures went { OnOk result (Went tour.now.plan.now tour.now.question.now walk.old.outcomes.items walk.new.settled walk.new.outcomes.items) }
-    ensures told { OnOk result (told_by tour.now.question.now walk.new.outcomes.items walk.old.cluster ≡ true) }
+    ensures went { OnOk result (Went tour.now.plan.now (plain tour.now.question.now) walk.old.outcomes.items walk.new.settled walk.new.outcomes.items) }
+    ensures told { OnOk result (told_by (plain tour.now.question.now) walk.new.outcomes.items walk.old.cluster ≡ true) }
 {
     if is_told(&walk.outcomes, &walk.cluster, tour.question, tour.alloc)? {
         return Ok(());
@@ -103,7 +104,7 @@ pub(crate) fn outcome_of<'a, B: Allocator>(
     tour: &Tour<'_, 'a, B>,
     path: &[usize],
 ) -> Result<Outcome<'a, B>, Oom>
-    requires plan { IsPlan tour.now.plan.now tour.now.question.now }
+    requires plan { IsPlan tour.now.plan.now (plain tour.now.question.now) }
     ensures run { IfOk result (λ outcome. outcome.run ≡ path.now) }
     ensures leads { IfOk result (λ outcome. (end : PlainCluster) → runs tour.now.plan.now.limits tour.now.plan.now.count (steps_at tour.now.plan.now.steps path.now) ≡ Ok end → outcome.cluster ≡ end) }
 {
@@ -119,14 +120,14 @@ fn tell_end<'a, B: Allocator>(
     walk: &mut Walk<'a, B>,
     counts: &[usize],
 ) -> Result<(), Oom>
-    requires plan { IsPlan tour.now.plan.now tour.now.question.now }
-    requires keeps { Keeps tour.now.plan.now tour.now.question.now walk.old.settled walk.old.outcomes.items }
+    requires plan { IsPlan tour.now.plan.now (plain tour.now.question.now) }
+    requires keeps { Keeps tour.now.plan.now (plain tour.now.question.now) walk.old.settled walk.old.outcomes.items }
     requires at { IsAt tour.now.plan.now (steps_at tour.now.plan.now.steps walk.old.path.items) counts.now walk.old.cluster }
     ensures cluster { OnOk result (walk.new.cluster ≡ walk.old.cluster) }
     ensures path { OnOk result (walk.new.path.items ≡ walk.old.path.items) }
-    ensures went { OnOk result (Went tour.now.plan.now tour.now.question.now walk.old.outcomes.items walk.new.settled walk.new.outcomes.items) }
+    ensures went { OnOk result (Went tour.now.plan.now (plain tour.now.question.now) walk.old.outcomes.items walk.new.settled walk.new.outcomes.items) }
     ensures told { OnOk result (IsNetworkRun tour.now.plan.now.steps tour.now.plan.now.lost tour.now.plan.now.again (steps_at tour.now.plan.now.steps walk.old.path.items) →
-        told_by tour.now.question.now walk.new.outcomes.items walk.old.cluster ≡ true) }
+        told_by (plain tour.now.question.now) walk.new.outcomes.items walk.old.cluster ≡ true) }
 {
     let plan = tour.plan;
     if !is_end(plan.turns(), counts, plan.lost(), plan.again()) {
@@ -173,14 +174,15 @@ fn onward<'a, B: Allocator>(
     place: usize,
     left: u128,
 ) -> Result<(), Stop>
-    requires plan { IsPlan tour.now.plan.now tour.now.question.now }
-    requires keeps { Keeps tour.now.plan.now tour.now.question.now walk.old.settled walk.old.outcomes.items }
+    requires plan { IsPlan tour.now.plan.now (plain tour.now.question.now) }
+    requires keeps { Keeps tour.now.plan.now (plain tour.now.question.now) walk.old.settled walk.old.outcomes.items }
     requires behind { IsBehind tour.now.plan.now walk.old.path.items place kept.now counts.now walk.old.cluster }
     requires left { length (steps_at tour.now.plan.now.steps walk.old.path.items) + left ≡ length tour.now.plan.now.steps + tour.now.plan.now.again }
     ensures cluster { OnOk result (walk.new.cluster ≡ walk.old.cluster) }
     ensures path { OnOk result (walk.new.path.items ≡ walk.old.path.items) }
-    ensures went { OnOk result (Went tour.now.plan.now tour.now.question.now walk.old.outcomes.items walk.new.settled walk.new.outcomes.items) }
-    ensures told { OnOk result (IsTold tour.now.plan.now tour.now.question.now walk.new.outcomes.items (steps_at tour.now.plan.now.steps walk.old.path.items ++ kept.now ∷ [])) }
+    ensures went { OnOk result (Went tour.now.plan.now (plain tour.now.question.now) walk.old.outcomes.items walk.new.settled walk.new.outcomes.items) }
+    ensures told { OnOk result (IsTold tour.now.plan.now (plain tour.now.question.now) walk.new.outcomes.items (steps_at tour.now.plan.now.steps walk.old.path.items ++ kept.now ∷ [])) }
+    ensures stops { IfErr result (HasReason tour.now.plan.now (plain tour.now.question.now)) }
 {
     extend(&mut walk.path, place)?;
     if left > 0 {
@@ -200,12 +202,13 @@ fn through<'a, B: Allocator>(
     place: usize,
     left: u128,
 ) -> Result<bool, Stop>
-    requires ready { IsReady tour.now.plan.now tour.now.question.now walk.old.path.items walk.old.cluster walk.old.settled walk.old.outcomes.items counts.now left }
+    requires ready { IsReady tour.now.plan.now (plain tour.now.question.now) walk.old.path.items walk.old.cluster walk.old.settled walk.old.outcomes.items counts.now left }
     requires next { next_in tour.now.plan.now counts.now place ≡ true }
     ensures cluster { OnOk result (walk.new.cluster ≡ walk.old.cluster) }
     ensures path { OnOk result (walk.new.path.items ≡ walk.old.path.items) }
-    ensures went { OnOk result (Went tour.now.plan.now tour.now.question.now walk.old.outcomes.items walk.new.settled walk.new.outcomes.items) }
-    ensures goes { IfOk result (λ taken. GoesThrough tour.now.plan.now tour.now.question.now (steps_at tour.now.plan.now.steps walk.old.path.items) walk.old.cluster place taken walk.new.outcomes.items) }
+    ensures went { OnOk result (Went tour.now.plan.now (plain tour.now.question.now) walk.old.outcomes.items walk.new.settled walk.new.outcomes.items) }
+    ensures goes { IfOk result (λ taken. GoesThrough tour.now.plan.now (plain tour.now.question.now) (steps_at tour.now.plan.now.steps walk.old.path.items) walk.old.cluster place taken walk.new.outcomes.items) }
+    ensures stops { IfErr result (HasReason tour.now.plan.now (plain tour.now.question.now)) }
 {
     let Some(kept) = tour.plan.steps().get(place) else {
         return Ok(false);
@@ -231,11 +234,12 @@ fn go_at<'a, B: Allocator>(
     place: usize,
     left: u128,
 ) -> Result<(), Stop>
-    requires { IsReady tour.now.plan.now tour.now.question.now walk.old.path.items walk.old.cluster walk.old.settled walk.old.outcomes.items counts.now left }
+    requires { IsReady tour.now.plan.now (plain tour.now.question.now) walk.old.path.items walk.old.cluster walk.old.settled walk.old.outcomes.items counts.now left }
     ensures cluster { OnOk result (walk.new.cluster ≡ walk.old.cluster) }
     ensures path { OnOk result (walk.new.path.items ≡ walk.old.path.items) }
-    ensures went { OnOk result (Went tour.now.plan.now tour.now.question.now walk.old.outcomes.items walk.new.settled walk.new.outcomes.items) }
-    ensures goes { OnOk result (GoesThroughAt tour.now.plan.now tour.now.question.now walk.old.path.items walk.old.cluster counts.now walk.new.outcomes.items place) }
+    ensures went { OnOk result (Went tour.now.plan.now (plain tour.now.question.now) walk.old.outcomes.items walk.new.settled walk.new.outcomes.items) }
+    ensures goes { OnOk result (GoesThroughAt tour.now.plan.now (plain tour.now.question.now) walk.old.path.items walk.old.cluster counts.now walk.new.outcomes.items place) }
+    ensures stops { IfErr result (HasReason tour.now.plan.now (plain tour.now.question.now)) }
 {
     let plan = tour.plan;
     if is_next(plan.turns(), plan.ranks(), counts, plan.again(), place) {
@@ -252,11 +256,12 @@ fn go_on<'a, B: Allocator>(
     counts: &[usize],
     left: u128,
 ) -> Result<(), Stop>
-    requires { IsReady tour.now.plan.now tour.now.question.now walk.old.path.items walk.old.cluster walk.old.settled walk.old.outcomes.items counts.now left }
+    requires { IsReady tour.now.plan.now (plain tour.now.question.now) walk.old.path.items walk.old.cluster walk.old.settled walk.old.outcomes.items counts.now left }
     ensures cluster { OnOk result (walk.new.cluster ≡ walk.old.cluster) }
     ensures path { OnOk result (walk.new.path.items ≡ walk.old.path.items) }
-    ensures went { OnOk result (Went tour.now.plan.now tour.now.question.now walk.old.outcomes.items walk.new.settled walk.new.outcomes.items) }
-    ensures goes { OnOk result (AllGoThrough tour.now.plan.now tour.now.question.now walk.old.path.items walk.old.cluster counts.now walk.new.outcomes.items) }
+    ensures went { OnOk result (Went tour.now.plan.now (plain tour.now.question.now) walk.old.outcomes.items walk.new.settled walk.new.outcomes.items) }
+    ensures goes { OnOk result (AllGoThrough tour.now.plan.now (plain tour.now.question.now) walk.old.path.items walk.old.cluster counts.now walk.new.outcomes.items) }
+    ensures stops { IfErr result (HasReason tour.now.plan.now (plain tour.now.question.now)) }
 {
     for place in 0..tour.plan.steps().len() {
         go_at(tour, walk, counts, place, left)?;
@@ -272,11 +277,12 @@ fn go_first<'a, B: Allocator>(
     counts: &[usize],
     left: u128,
 ) -> Result<bool, Stop>
-    requires { IsReady tour.now.plan.now tour.now.question.now walk.old.path.items walk.old.cluster walk.old.settled walk.old.outcomes.items counts.now left }
+    requires { IsReady tour.now.plan.now (plain tour.now.question.now) walk.old.path.items walk.old.cluster walk.old.settled walk.old.outcomes.items counts.now left }
     ensures cluster { OnOk result (walk.new.cluster ≡ walk.old.cluster) }
     ensures path { OnOk result (walk.new.path.items ≡ walk.old.path.items) }
-    ensures went { OnOk result (Went tour.now.plan.now tour.now.question.now walk.old.outcomes.items walk.new.settled walk.new.outcomes.items) }
-    ensures told { IfOk result (λ taken. taken ≡ true → IsTold tour.now.plan.now tour.now.question.now walk.new.outcomes.items (steps_at tour.now.plan.now.steps walk.old.path.items)) }
+    ensures went { OnOk result (Went tour.now.plan.now (plain tour.now.question.now) walk.old.outcomes.items walk.new.settled walk.new.outcomes.items) }
+    ensures told { IfOk result (λ taken. taken ≡ true → IsTold tour.now.plan.now (plain tour.now.question.now) walk.new.outcomes.items (steps_at tour.now.plan.now.steps walk.old.path.items)) }
+    ensures stops { IfErr result (HasReason tour.now.plan.now (plain tour.now.question.now)) }
 {
     match first(tour.plan, &walk.cluster, counts) {
         Some(place) => through(tour, walk, counts, place, left),
@@ -292,11 +298,12 @@ fn tell_all<'a, B: Allocator>(
     counts: &[usize],
     left: u128,
 ) -> Result<(), Stop>
-    requires { IsReady tour.now.plan.now tour.now.question.now walk.old.path.items walk.old.cluster walk.old.settled walk.old.outcomes.items counts.now left }
+    requires { IsReady tour.now.plan.now (plain tour.now.question.now) walk.old.path.items walk.old.cluster walk.old.settled walk.old.outcomes.items counts.now left }
     ensures cluster { OnOk result (walk.new.cluster ≡ walk.old.cluster) }
     ensures path { OnOk result (walk.new.path.items ≡ walk.old.path.items) }
-    ensures went { OnOk result (Went tour.now.plan.now tour.now.question.now walk.old.outcomes.items walk.new.settled walk.new.outcomes.items) }
-    ensures told { OnOk result (IsTold tour.now.plan.now tour.now.question.now walk.new.outcomes.items (steps_at tour.now.plan.now.steps walk.old.path.items)) }
+    ensures went { OnOk result (Went tour.now.plan.now (plain tour.now.question.now) walk.old.outcomes.items walk.new.settled walk.new.outcomes.items) }
+    ensures told { OnOk result (IsTold tour.now.plan.now (plain tour.now.question.now) walk.new.outcomes.items (steps_at tour.now.plan.now.steps walk.old.path.items)) }
+    ensures stops { IfErr result (HasReason tour.now.plan.now (plain tour.now.question.now)) }
 {
     tell_end(tour, walk, counts)?;
     go_on(tour, walk, counts, left)
@@ -310,23 +317,24 @@ fn tell_once<'a, B: Allocator>(
     counts: &[usize],
     left: u128,
 ) -> Result<(), Stop>
-    requires { IsReady tour.now.plan.now tour.now.question.now walk.old.path.items walk.old.cluster walk.old.settled walk.old.outcomes.items counts.now left }
+    requires { IsReady tour.now.plan.now (plain tour.now.question.now) walk.old.path.items walk.old.cluster walk.old.settled walk.old.outcomes.items counts.now left }
     ensures cluster { OnOk result (walk.new.cluster ≡ walk.old.cluster) }
     ensures path { OnOk result (walk.new.path.items ≡ walk.old.path.items) }
-    ensures went { OnOk result (Went tour.now.plan.now tour.now.question.now walk.old.outcomes.items walk.new.settled walk.new.outcomes.items) }
-    ensures told { OnOk result (IsTold tour.now.plan.now tour.now.question.now walk.new.outcomes.items (steps_at tour.now.plan.now.steps walk.old.path.items)) }
+    ensures went { OnOk result (Went tour.now.plan.now (plain tour.now.question.now) walk.old.outcomes.items walk.new.settled walk.new.outcomes.items) }
+    ensures told { OnOk result (IsTold tour.now.plan.now (plain tour.now.question.now) walk.new.outcomes.items (steps_at tour.now.plan.now.steps walk.old.path.items)) }
+    ensures stops { IfErr result (HasReason tour.now.plan.now (plain tour.now.question.now)) }
 {
     let key = key_at(tour, &walk.cluster, counts)?;
     if walk.settled.has(&key) {
         return Ok(());
     }
     tell_all(tour, walk, counts, left)?;
-    if walk.settled.len() >= tour.plan.most() {
+    walk.settled.put(key)?;
+    if walk.settled.len() > tour.plan.most() {
         return Err(Stop::TooManyStates {
             outcomes: walk.outcomes.len(),
         });
     }
-    walk.settled.put(key)?;
     Ok(())
 }
 
@@ -338,11 +346,12 @@ pub(crate) fn visit<'a, B: Allocator>(
     counts: &[usize],
     left: u128,
 ) -> Result<(), Stop>
-    requires { IsReady tour.now.plan.now tour.now.question.now walk.old.path.items walk.old.cluster walk.old.settled walk.old.outcomes.items counts.now left }
+    requires { IsReady tour.now.plan.now (plain tour.now.question.now) walk.old.path.items walk.old.cluster walk.old.settled walk.old.outcomes.items counts.now left }
     ensures cluster { OnOk result (walk.new.cluster ≡ walk.old.cluster) }
     ensures path { OnOk result (walk.new.path.items ≡ walk.old.path.items) }
-    ensures went { OnOk result (Went tour.now.plan.now tour.now.question.now walk.old.outcomes.items walk.new.settled walk.new.outcomes.items) }
-    ensures told { OnOk result (IsTold tour.now.plan.now tour.now.question.now walk.new.outcomes.items (steps_at tour.now.plan.now.steps walk.old.path.items)) }
+    ensures went { OnOk result (Went tour.now.plan.now (plain tour.now.question.now) walk.old.outcomes.items walk.new.settled walk.new.outcomes.items) }
+    ensures told { OnOk result (IsTold tour.now.plan.now (plain tour.now.question.now) walk.new.outcomes.items (steps_at tour.now.plan.now.steps walk.old.path.items)) }
+    ensures stops { IfErr result (HasReason tour.now.plan.now (plain tour.now.question.now)) }
 {
     if go_first(tour, walk, counts, left)? {
         return Ok(());

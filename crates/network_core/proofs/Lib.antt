@@ -20,5 +20,7 @@ pub mod OwnParts
 pub mod Keys
 pub mod Rows
 pub mod OnlineRows
+pub mod SeenSteps
+pub mod Seen
 pub mod Settling
 pub mod NextDeliveries

@@ -5,6 +5,7 @@ pub mod EasySteps
 pub mod Alike
 pub mod AlikeSteps
 pub mod Made
+pub mod Seen
 pub mod Rows
 pub mod Cones
 pub mod Keys

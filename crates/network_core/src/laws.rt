@@ -9,6 +9,7 @@ ghost use Rattle.network_core.specs.Made.{FreshLaw, MadeLaw, WantedLaw};
 ghost use Rattle.network_core.specs.OwnSteps.{OwnLaw};
 ghost use Rattle.network_core.specs.Room.{NeverFullLaw};
 ghost use Rattle.network_core.specs.Rows.{OnlineRowsLaw, RowsLaw};
+ghost use Rattle.network_core.specs.Seen.{SameReplicaLaw, SeenLaw};
 ghost use Rattle.network_core.specs.Settling.{LengthLaw, NextDeliveryLaw, QuietLaw, SettleLaw};
 
 /// A delivery past a join, a leave, an update, a status of a known name, a broadcast and a request of its node.
@@ -38,6 +39,13 @@ pub fn made_law()
     ensures made { MadeLaw }
     ensures wanted { WantedLaw }
     ensures fresh { FreshLaw }
+{}
+
+/// The dots that nodes have seen are those that the own steps of the recorded run give; and replicas that are the same as far as those
+/// go are the same.
+pub fn seen_law()
+    ensures seen { SeenLaw }
+    ensures same { SameReplicaLaw }
 {}
 
 /// The rows of a topic and a key, as far as the dots go that have them; and so they are in the online list.

@@ -1,26 +1,30 @@
-use Rattle.std.proofs.Common.{◌<◌, sym, subst}
-use Rattle.std.specs.List.{AllByRecursion}
-use Rattle.dots_core.specs.declared.dot.Dot.{Dot}
-use Rattle.explore_network.proofs.Asking.{all_asked, asked_first, asked_more}
-use Rattle.explore_network.proofs.Lookups.{read_at}
+use Rattle.std.proofs.Common.{IfOk, sym, subst}
+use Rattle.explore_network.specs.Asked.{AreAsked}
+use Rattle.explore_network.specs.Questions.{plain, OfCluster, OfNode, OfPresence}
+use Rattle.explore_network.proofs.Calls.{if_both, if_ok}
+use Rattle.explore_network.proofs.OwnDots.{asked_of_cluster, asked_of_node}
 use Rattle.explore_network.proofs.asked.dots_of.Goals as goal
 
-pub loop-place-init : goal.loop-place-init
-loop-place-init g c = record {
-  names = subst (AllByRecursion (λ (d : Dot). d.name < 32)) (sym c.new-dots.ensures.items) tt;
-  asked = λ end run. asked_first c.args.limits c.args.count c.args.steps.now c.args.question.now c.new-dots.result.items c.in_ok-cluster.cluster end c.in_ok-cluster.ensures run;
-}
+pub returns-in-Cluster : goal.returns-in-Cluster
+returns-in-Cluster g c =
+    let l = c.args.limits in
+    let steps = c.args.steps.now in
+    subst (λ q. IfOk c.dots_of_nodes.result (λ dots. AreAsked l c.args.count steps (plain q) dots.items)) (sym c.in-Cluster.is)
+    (if_both c.dots_of_nodes.result _ _ (λ dots. AreAsked l c.args.count steps OfCluster dots.items) (λ dots names own. asked_of_cluster l c.args.count steps dots.items names own)
+    c.dots_of_nodes.ensures.names c.dots_of_nodes.ensures.own)
 
-pub loop-place-preserved : goal.loop-place-preserved
-loop-place-preserved g c = record {
-  names = c.in_ok-put_asked.ensures.names c.loop-place.invariant.names;
-  asked = λ end run. asked_more c.args.limits c.args.count c.args.steps.now c.loop-place.place c.args.question.now c.loop-place.dots.items c.put_asked.new.dots.items c.loop-place.cluster c.play.new.cluster end
-      c.index-steps-place.result (read_at c.args.steps.now c.loop-place.place c.index-steps-place.result c.loop-place-test.true c.index-steps-place.is)
-      c.in_ok-put_asked.ensures.dots c.in_ok-play.ensures (c.loop-place.invariant.asked end run);
-}
+pub returns-in-Node : goal.returns-in-Node
+returns-in-Node g c =
+    let l = c.args.limits in
+    let steps = c.args.steps.now in
+    subst (λ q. IfOk c.dots_of_nodes-in-Node.result (λ dots. AreAsked l c.args.count steps (plain q) dots.items)) (sym c.in-Node.is)
+    (if_both c.dots_of_nodes-in-Node.result _ _ (λ dots. AreAsked l c.args.count steps (OfNode c.in-Node.field-0) dots.items) (λ dots names own. asked_of_node l c.args.count steps dots.items names own c.in-Node.field-0)
+    c.dots_of_nodes-in-Node.ensures.names c.dots_of_nodes-in-Node.ensures.own)
 
-pub returns : goal.returns
-returns g c = record {
-  names = c.loop-place.invariant.names;
-  wants = λ end run. all_asked c.args.limits c.args.count c.args.steps.now c.loop-place.place c.args.question.now c.loop-place.dots.items c.loop-place.cluster end c.loop-place-test.false (c.loop-place.invariant.asked end run);
-}
+pub returns-in-Presence : goal.returns-in-Presence
+returns-in-Presence g c =
+    let l = c.args.limits in
+    let steps = c.args.steps.now in
+    subst (λ q. IfOk c.dots_of_presences.result (λ dots. AreAsked l c.args.count steps (plain q) dots.items)) (sym c.in-Presence.is)
+    (if_ok c.dots_of_presences.result _ (λ dots. AreAsked l c.args.count steps (OfPresence c.in-Presence.node c.in-Presence.topic c.in-Presence.key) dots.items) (λ dots all. all c.in-Presence.node)
+    c.dots_of_presences.ensures)

@@ -1,26 +1,27 @@
 use Rattle.std.proofs.Common.{◌≡◌, ◌∙◌, ◌<◌, ◌+◌, ◌-◌, ◌^◌, ◌++◌, ◌∷◌, [], ℕ, List, true, Some, Ok, IfOk, OnOk, sym, ap, subst, slice_get, slice_set, refl, arith, rules, length, length-append}
 use Rattle.std.specs.Option.{option_copied}
+use Rattle.explore_network.specs.Questions.{plain}
 use Rattle.journal_core.specs.Journals.{Kept}
 use Rattle.bench_core.proofs.Places.{looked_up}
 use Rattle.bench_core.specs.Clusters.{Cluster, step}
 use Rattle.explore_network.specs.Turns.{counts_of}
 use Rattle.explore_network.specs.Walks.{next_in, steps_at, AllGoThrough, GoesThrough, IsAt, IsBehind, IsReady, IsTold, Outcome, Went}
-use Rattle.explore_network.proofs.Calls.{all_is_told, behind, both_ok, first_is_told, goes_further, if_ok, known_is_told, known_more, on_ok, onward_told, refused_there, went_nowhere, went_on}
+use Rattle.explore_network.proofs.Calls.{all_is_told, behind, both_ok, first_is_told, goes_further, if_ok, known_is_told, known_key, known_more, on_ok, onward_told, refused_there, went_nowhere, went_on}
 use Rattle.explore_network.proofs.Telling.{behind_at, none_left, one_longer, short_path}
-use Rattle.explore_network.proofs.Tours.{through_taken}
+use Rattle.explore_network.proofs.Tours.{through_taken, too_many}
 use Rattle.explore_network.proofs.WantedDots.{get_low}
 use Rattle.explore_network.proofs.walk.+visit.Goals as goal
 use Rattle.explore_network.proofs.walk.+visit.Goals.{onward-then-left-gt0+in_ok-counts+in_ok-visit, onward-else-left-gt0, through-in-Ok-give_back, through-in-Err-give_back}
 
 pub go_first-through-requires : goal.go_first-through-requires
 go_first-through-requires g t c =
-    let next : next_in c.args.tour.now.plan.now c.args.counts.now c.in-Some.place ≡ true = (c.in-Some.ensures c.args.tour.now.question.now c.requires.plan).next in
+    let next : next_in c.args.tour.now.plan.now c.args.counts.now c.in-Some.place ≡ true = (c.in-Some.ensures (plain c.args.tour.now.question.now) c.requires.plan).next in
     search (rules, next)
 
 pub go_first-returns-in-Some-clause-told : goal.go_first-returns-in-Some-clause-told
 go_first-returns-in-Some-clause-told g t c =
     let p = c.args.tour.now.plan.now in
-    let q = c.args.tour.now.question.now in
+    let q = (plain c.args.tour.now.question.now) in
     let path = c.args.walk.now.path.items in
     if_ok c.through.result (λ taken. GoesThrough p q (steps_at p.steps path) c.args.walk.now.cluster c.in-Some.place taken c.through.new.walk.outcomes.items)
     (λ taken. taken ≡ true → IsTold p q c.through.new.walk.outcomes.items (steps_at p.steps path))
@@ -30,7 +31,7 @@ go_first-returns-in-Some-clause-told g t c =
 pub go_on-loop-place-preserved : goal.go_on-loop-place-preserved
 go_on-loop-place-preserved g t c =
     let p = c.args.tour.now.plan.now in
-    let q = c.args.tour.now.question.now in
+    let q = (plain c.args.tour.now.question.now) in
     let inv = c.loop-place.invariant in
     record {
       cluster = c.in_ok-go_at.ensures.cluster ∙ inv.cluster;
@@ -51,7 +52,7 @@ go_on-returns-clause-goes g t c = λ place k d next here took.
 pub onward-visit-requires : goal.onward-visit-requires
 onward-visit-requires g t c =
     let p = c.args.tour.now.plan.now in
-    let q = c.args.tour.now.question.now in
+    let q = (plain c.args.tour.now.question.now) in
     let path = c.args.walk.now.path.items in
     let longer = c.in_ok-extend.ensures in
     let short = short_path p.steps path in
@@ -75,7 +76,7 @@ onward-visit-requires g t c =
 pub onward-returns-clause-told : goal.onward-returns-clause-told
 onward-returns-clause-told g t c =
     let p = c.args.tour.now.plan.now in
-    let q = c.args.tour.now.question.now in
+    let q = (plain c.args.tour.now.question.now) in
     let path = c.args.walk.now.path.items in
     elim c.if-left-gt0.branch [
       | onward-then-left-gt0+in_ok-counts+in_ok-visit w ↦ subst (λ (os : List Outcome). IsTold p q os (steps_at p.steps path ++ c.args.kept.now ∷ [])) (sym (ap (λ x. x.outcomes.items) w.walk-is))
@@ -86,14 +87,14 @@ onward-returns-clause-told g t c =
 pub tell_all-returns-clause-went : goal.tell_all-returns-clause-went
 tell_all-returns-clause-went g t c =
     let p = c.args.tour.now.plan.now in
-    let q = c.args.tour.now.question.now in
+    let q = (plain c.args.tour.now.question.now) in
     on_ok c.go_on.result (Went p q c.tell_end.new.walk.outcomes.items c.go_on.new.walk.settled c.go_on.new.walk.outcomes.items) _
     (went_on p q c.tell_end.new.walk.settled c.go_on.new.walk.settled c.args.walk.now.outcomes.items c.tell_end.new.walk.outcomes.items c.go_on.new.walk.outcomes.items c.in_ok-tell_end.ensures.went) c.go_on.ensures.went
 
 pub tell_all-returns-clause-told : goal.tell_all-returns-clause-told
 tell_all-returns-clause-told g t c =
     let p = c.args.tour.now.plan.now in
-    let q = c.args.tour.now.question.now in
+    let q = (plain c.args.tour.now.question.now) in
     both_ok c.go_on.result (Went p q c.tell_end.new.walk.outcomes.items c.go_on.new.walk.settled c.go_on.new.walk.outcomes.items)
     (AllGoThrough p q c.tell_end.new.walk.path.items c.tell_end.new.walk.cluster c.args.counts.now c.go_on.new.walk.outcomes.items) _
     (λ went goes. all_is_told p q c.args.walk.now.path.items c.tell_end.new.walk.path.items c.args.walk.now.cluster c.tell_end.new.walk.cluster c.args.walk.now.settled c.args.walk.now.outcomes.items
@@ -102,18 +103,34 @@ tell_all-returns-clause-told g t c =
 
 pub tell_once-returns-then-has-clause-told : goal.tell_once-returns-then-has-clause-told
 tell_once-returns-then-has-clause-told g t c =
-    known_is_told c.args.tour.now.plan.now c.args.tour.now.question.now c.args.walk.now.path.items c.args.walk.now.cluster c.args.walk.now.settled c.args.walk.now.outcomes.items c.args.counts.now c.in_ok-key.key.items
+    known_is_told c.args.tour.now.plan.now (plain c.args.tour.now.question.now) c.args.walk.now.path.items c.args.walk.now.cluster c.args.walk.now.settled c.args.walk.now.outcomes.items c.args.counts.now c.in_ok-key.key.items
     c.args.left c.requires c.in_ok-key.ensures (c.if-has.ensures refl)
 
 pub tell_once-returns-clause-went : goal.tell_once-returns-clause-went
 tell_once-returns-clause-went g t c =
-    known_more c.args.tour.now.plan.now c.args.tour.now.question.now c.args.walk.now.path.items c.args.walk.now.cluster c.args.walk.now.settled c.tell_all.new.walk.settled c.put.new.self c.args.walk.now.outcomes.items
-    c.tell_all.new.walk.outcomes.items c.args.counts.now c.in_ok-key.key.items c.args.left c.requires c.in_ok-key.ensures c.in_ok-tell_all.ensures.went c.in_ok-tell_all.ensures.told (let lt = c.if-len-most.false in let n = c.len.ensures in let m = c.most.ensures in omega (arith, lt, n, m)) c.in_ok-put.ensures
+    let p = c.args.tour.now.plan.now in
+    let q = (plain c.args.tour.now.question.now) in
+    let mid = c.tell_all.new.walk.settled in
+    let new = c.tell_all.new.walk.outcomes.items in
+    known_more p q mid c.put.new.self c.args.walk.now.outcomes.items new c.in_ok-tell_all.ensures.went
+    (known_key p q c.args.walk.now.path.items c.args.walk.now.cluster c.args.walk.now.settled mid c.put.new.self c.args.walk.now.outcomes.items new c.args.counts.now c.in_ok-key.key.items c.args.left c.requires
+    c.in_ok-key.ensures c.in_ok-tell_all.ensures.went c.in_ok-tell_all.ensures.told c.in_ok-put.ensures) (let le = c.if-len-most.false in let n = c.len.ensures in let m = c.most.ensures in omega (arith, le, n, m))
+
+pub tell_once-returns-then-len-most-clause-stops : goal.tell_once-returns-then-len-most-clause-stops
+tell_once-returns-then-len-most-clause-stops g t c =
+    let p = c.args.tour.now.plan.now in
+    let q = (plain c.args.tour.now.question.now) in
+    let mid = c.tell_all.new.walk.settled in
+    let new = c.tell_all.new.walk.outcomes.items in
+    too_many p q new mid c.put.new.self _ c.in_ok-tell_all.ensures.went.keeps
+    (known_key p q c.args.walk.now.path.items c.args.walk.now.cluster c.args.walk.now.settled mid c.put.new.self c.args.walk.now.outcomes.items new c.args.counts.now c.in_ok-key.key.items c.args.left c.requires
+    c.in_ok-key.ensures c.in_ok-tell_all.ensures.went c.in_ok-tell_all.ensures.told c.in_ok-put.ensures) (let lt = c.if-len-most.true in let n = c.len.ensures in let m = c.most.ensures in omega (arith, lt, n, m))
+    (let ok = c.tell_all.new.walk.outcomes.ok in let n = c.len-then-len-most.ensures in omega (arith, ok.0, n))
 
 pub through-returns-in-Err : goal.through-returns-in-Err
 through-returns-in-Err g t c =
     let p = c.args.tour.now.plan.now in
-    let q = c.args.tour.now.question.now in
+    let q = (plain c.args.tour.now.question.now) in
     let here : slice_get p.steps c.args.place ≡ Some c.in-Some.kept.now =
     ap (λ (l : List Kept). slice_get l c.args.place) (sym c.steps.ensures) ∙ sym (looked_up c.get.result c.steps.result.now c.args.place c.get.ensures.lookup.0 c.get.ensures.lookup.1) ∙ ap option_copied c.in-Some.is in
     record {
@@ -122,12 +139,13 @@ through-returns-in-Err g t c =
       went = went_nowhere p q c.args.walk.now.settled c.args.walk.now.outcomes.items c.requires.ready.keeps;
       goes = refused_there p q (steps_at p.steps c.args.walk.now.path.items) c.args.walk.now.cluster c.args.place c.args.walk.now.outcomes.items c.in-Some.kept.now c.in-Err.field-0 here
           ((λ i. step c.args.walk.now.cluster (sym c.kept.view_is i).node (sym c.kept.view_is i).step) ∙ c.in-Err.ensures.refused (λ same. search rules));
+      stops = tt;
     }
 
 pub through-onward-requires : goal.through-onward-requires
 through-onward-requires g t c =
     let p = c.args.tour.now.plan.now in
-    let q = c.args.tour.now.question.now in
+    let q = (plain c.args.tour.now.question.now) in
     let here : slice_get p.steps c.args.place ≡ Some c.in-Some.kept.now =
     ap (λ (l : List Kept). slice_get l c.args.place) (sym c.steps.ensures) ∙ sym (looked_up c.get.result c.steps.result.now c.args.place c.get.ensures.lookup.0 c.get.ensures.lookup.1) ∙ ap option_copied c.in-Some.is in
     let took : step c.args.walk.now.cluster c.in-Some.kept.now.node c.in-Some.kept.now.step ≡ Ok c.step.new.self =
@@ -156,7 +174,7 @@ through-returns-clause-cluster g t c =
 pub through-returns-clause-goes : goal.through-returns-clause-goes
 through-returns-clause-goes g t c =
     let p = c.args.tour.now.plan.now in
-    let q = c.args.tour.now.question.now in
+    let q = (plain c.args.tour.now.question.now) in
     let here : slice_get p.steps c.args.place ≡ Some c.in-Some.kept.now =
     ap (λ (l : List Kept). slice_get l c.args.place) (sym c.steps.ensures) ∙ sym (looked_up c.get.result c.steps.result.now c.args.place c.get.ensures.lookup.0 c.get.ensures.lookup.1) ∙ ap option_copied c.in-Some.is in
     let took : step c.args.walk.now.cluster c.in-Some.kept.now.node c.in-Some.kept.now.step ≡ Ok c.step.new.self =
@@ -170,7 +188,14 @@ through-returns-clause-goes g t c =
 pub visit-returns-clause-went : goal.visit-returns-clause-went
 visit-returns-clause-went g t c =
     let p = c.args.tour.now.plan.now in
-    let q = c.args.tour.now.question.now in
+    let q = (plain c.args.tour.now.question.now) in
     on_ok c.tell_once.result (Went p q c.go_first.new.walk.outcomes.items c.tell_once.new.walk.settled c.tell_once.new.walk.outcomes.items) _
     (went_on p q c.go_first.new.walk.settled c.tell_once.new.walk.settled c.args.walk.now.outcomes.items c.go_first.new.walk.outcomes.items c.tell_once.new.walk.outcomes.items c.in_ok-go_first.ensures.went)
     c.tell_once.ensures.went
+
+pub visit-returns-clause-told : goal.visit-returns-clause-told
+visit-returns-clause-told g t c =
+    let p = c.args.tour.now.plan.now in
+    let q = (plain c.args.tour.now.question.now) in
+    on_ok c.tell_once.result (IsTold p q c.tell_once.new.walk.outcomes.items (steps_at p.steps c.go_first.new.walk.path.items)) _
+    (subst (λ (path : List ℕ). IsTold p q c.tell_once.new.walk.outcomes.items (steps_at p.steps path)) c.in_ok-go_first.ensures.path) c.tell_once.ensures.told

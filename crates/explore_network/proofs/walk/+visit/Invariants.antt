@@ -1,4 +1,5 @@
 use Rattle.std.proofs.Common.{◌≡◌, ◌+◌, ◌*◌, ◌<◌, ℕ}
+use Rattle.explore_network.specs.Questions.{plain}
 use Rattle.explore_network.specs.Walks.{GoesThroughAt, Went}
 use Rattle.explore_network.proofs.walk.+visit.Given as goal
 
@@ -31,6 +32,6 @@ abbrev pub invariant-go_on-loop-place : goal.invariant-go_on-loop-place
 invariant-go_on-loop-place g l = record {
   cluster : l.walk.cluster ≡ l.initial.walk.cluster;
   path : l.walk.path.items ≡ l.initial.walk.path.items;
-  went : Went l.tour.plan.now l.tour.question.now l.initial.walk.outcomes.items l.walk.settled l.walk.outcomes.items;
-  goes : (place : ℕ) → place < l.place → GoesThroughAt l.tour.plan.now l.tour.question.now l.initial.walk.path.items l.initial.walk.cluster l.counts l.walk.outcomes.items place;
+  went : Went l.tour.plan.now (plain l.tour.question.now) l.initial.walk.outcomes.items l.walk.settled l.walk.outcomes.items;
+  goes : (place : ℕ) → place < l.place → GoesThroughAt l.tour.plan.now (plain l.tour.question.now) l.initial.walk.path.items l.initial.walk.cluster l.counts l.walk.outcomes.items place;
 }

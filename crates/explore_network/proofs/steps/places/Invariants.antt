@@ -1,7 +1,7 @@
 use Rattle.std.proofs.Common.{◌≡◌, List, length, take}
 use Rattle.journal_core.specs.Journals.{Kept}
 use Rattle.explore_network.specs.Walks.{steps_at}
-use Rattle.explore_network.proofs.exploring.places.Given as goal
+use Rattle.explore_network.proofs.steps.places.Given as goal
 
 -- those of the first steps
 abbrev pub invariant-loop-place : goal.invariant-loop-place

@@ -5,7 +5,7 @@ use Rattle.explore_network.specs.Walks.{steps_at}
 use Rattle.explore_network.proofs.CountLoops.{all_taken}
 use Rattle.explore_network.proofs.Going.{steps_push}
 use Rattle.explore_network.proofs.Lookups.{there}
-use Rattle.explore_network.proofs.exploring.places.Goals as goal
+use Rattle.explore_network.proofs.steps.places.Goals as goal
 
 pub loop-place-preserved : goal.loop-place-preserved
 loop-place-preserved g c = λ j long.

@@ -1,6 +1,6 @@
 use Rattle.std.proofs.Common.{◌≡◌, filter, take}
 use Rattle.network_core.specs.Rows.{is_row_of}
-use Rattle.explore_network.proofs.rows.rows_of.Given as goal
+use Rattle.explore_network.proofs.shown.rows_of.Given as goal
 
 -- those of the first rows
 abbrev pub invariant-loop-row : goal.invariant-loop-row

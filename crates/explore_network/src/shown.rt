@@ -1,0 +1,130 @@
+//! Whether two clusters show the same of what is asked.
+ghost use Rattle.std.specs.Prelude.{◌≡◌, ◌↔◌, ◌≤◌, IfOk, IsTrue, filter, length, map, option_map, slice_get};
+ghost use Rattle.network_core.specs.Rows.{is_row_of};
+ghost use Rattle.explore_network.specs.Questions.{plain, replicas_in, rows_in, shown};
+ghost use Rattle.explore_network.specs.SameShown.{same_rows};
+
+use crate::question::Question;
+use bench_core::{Cluster, Node};
+use diff_core::{OnlineRow, online_list};
+use node_core::Oom;
+use payload_core::Word;
+use std::alloc::Allocator;
+
+type Rows<A> = Vec<OnlineRow<A>, A>;
+
+/// Whether the row is of this topic and key.
+fn is_of<A: Allocator>(row: &OnlineRow<A>, topic: &Word<A>, key: &Word<A>) -> bool
+    ensures { result ≡ is_row_of topic.now key.now row.now }
+{
+    row.topic == *topic && row.key == *key
+}
+
+/// Copies of the rows of this topic and key.
+fn rows_of<A: Allocator + Copy>(
+    alloc: A,
+    rows: &[OnlineRow<A>],
+    topic: &Word<A>,
+    key: &Word<A>,
+) -> Result<Rows<A>, Oom>
+    ensures { IfOk result (λ found. found.items ≡ filter (is_row_of topic.now key.now) rows.now) }
+{
+    let mut found = Vec::new(alloc);
+    for row in rows {
+        if is_of(row, topic, key) {
+            found.push(row.try_copy()?)?;
+        }
+    }
+    Ok(found)
+}
+
+/// The rows of the node's online list with this topic and key; none where there is no such node.
+pub fn rows_in<'a, B: Allocator>(
+    found: Option<&Node<'a, B>>,
+    topic: &Word<&'a B>,
+    key: &Word<&'a B>,
+    alloc: &'a B,
+) -> Result<Rows<&'a B>, Oom>
+    ensures { IfOk result (λ rows. rows.items ≡ rows_in topic.now key.now (option_map (λ n. n.now) found.entry)) }
+{
+    let Some(found) = found else {
+        return Ok(Vec::new(alloc));
+    };
+    let listed = online_list(alloc, found.replica())?;
+    let rows = rows_of(alloc, listed.as_slice(), topic, key);
+    drop(listed);
+    rows
+}
+
+/// Whether the rows are the same.
+fn same_rows<A: Allocator>(rows: &[OnlineRow<A>], others: &[OnlineRow<A>]) -> bool
+    ensures { result ≡ same_rows rows.now others.now }
+{
+    rows == others
+}
+
+/// Whether a node of both has the same rows of this topic and key.
+fn same_rows_in<'a, B: Allocator>(
+    one: Option<&Node<'a, B>>,
+    other: Option<&Node<'a, B>>,
+    topic: &Word<&'a B>,
+    key: &Word<&'a B>,
+    alloc: &'a B,
+) -> Result<bool, Oom>
+    ensures { IfOk result (λ same. IsTrue same ↔ (rows_in topic.now key.now (option_map (λ n. n.now) one.entry) ≡ rows_in topic.now key.now (option_map (λ n. n.now) other.entry))) }
+{
+    let rows = rows_in(one, topic, key, alloc)?;
+    let others = rows_in(other, topic, key, alloc)?;
+    let same = same_rows(rows.as_slice(), others.as_slice());
+    drop(rows);
+    drop(others);
+    Ok(same)
+}
+
+/// Whether a node of both has the same replica.
+fn same_replica<'a, B: Allocator>(one: Option<&Node<'a, B>>, other: Option<&Node<'a, B>>) -> bool
+    ensures { IsTrue result ↔ (replicas_in (option_map (λ n. n.now) one.entry) ≡ replicas_in (option_map (λ n. n.now) other.entry)) }
+{
+    match one {
+        None => other.is_none(),
+        Some(one) => match other {
+            None => false,
+            Some(other) => one.replica().same(other.replica()),
+        },
+    }
+}
+
+/// Whether each node of both has the same replica.
+fn same_replicas<'a, B: Allocator>(one: &Cluster<'a, B>, other: &Cluster<'a, B>) -> bool
+    requires few { length one.now ≤ 32 }
+    requires few_too { length other.now ≤ 32 }
+    ensures { IsTrue result ↔ (map (λ x. x.replica) one.now ≡ map (λ x. x.replica) other.now) }
+{
+    for number in 0..32u16 {
+        if !same_replica(one.node(number), other.node(number)) {
+            return false;
+        }
+    }
+    true
+}
+
+/// Whether both clusters show the same.
+#[tactic(auto, unfolding(crate::specs::Questions::shown))]
+pub(crate) fn show_same<'a, B: Allocator>(
+    one: &Cluster<'a, B>,
+    other: &Cluster<'a, B>,
+    question: &Question<&'a B>,
+    alloc: &'a B,
+) -> Result<bool, Oom>
+    requires few { length one.now ≤ 32 }
+    requires few_too { length other.now ≤ 32 }
+    ensures { IfOk result (λ same. IsTrue same ↔ (shown (plain question.now) one.now ≡ shown (plain question.now) other.now)) }
+{
+    match question {
+        Question::Cluster => Ok(same_replicas(one, other)),
+        Question::Node(node) => Ok(same_replica(one.node(*node), other.node(*node))),
+        Question::Presence { node, topic, key } => {
+            same_rows_in(one.node(*node), other.node(*node), topic, key, alloc)
+        }
+    }
+}
