@@ -5,4 +5,5 @@ pub mod NodeNames
 pub mod Pieces
 pub mod Whole
 pub mod Played
+pub mod PlainTexts
 pub mod ReadComments

@@ -56,7 +56,7 @@ pub record CanBeTold (names : Texts) (note : Note) : Type 0 where
 
 -- a line of words
 
-words_line : (r : Reading) (number : ℕ) (line : List ℕ) (words : Texts) → length line ≤ 4096 → is_text line ≡ true → words_of line ≡ words →
+pub words_line : (r : Reading) (number : ℕ) (line : List ℕ) (words : Texts) → length line ≤ 4096 → is_text line ≡ true → words_of line ≡ words →
     with_line r number line ≡ with_words r number words
 unfolding with_line
 words_line r number line words few text said = let low : nat_lt 4096 (length line) ≡ false = grind (arith, nat_tests) in rw (low, text, said) refl
@@ -67,7 +67,7 @@ spaced_line r number words seen few = words_line r number (spaced words) words f
 
 -- comments
 
-comment_words : (r : Reading) (number : ℕ) (words : Texts) → with_words r number (codes "#" ∷ words) ≡ Ok r
+pub comment_words : (r : Reading) (number : ℕ) (words : Texts) → with_words r number (codes "#" ∷ words) ≡ Ok r
 unfolding with_words
 comment_words r number words = refl
 

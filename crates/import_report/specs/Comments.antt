@@ -1,22 +1,19 @@
 -- What the names of nodes and the marks of cut words stand for, as comments.
-use Rattle.std.specs.Prelude.{ℕ, ◌+◌, true, nat_le, if◌then◌else◌, List, [], ◌∷◌, ◌++◌, length, take, codes, decimal}
+use Rattle.std.specs.Prelude.{ℕ, ◌+◌, nat_le, if◌then◌else◌, List, [], ◌∷◌, ◌++◌, length, take, codes, decimal}
 use Rattle.std.specs.Str.{bytes_eq}
 use Rattle.bench_core.specs.NameList.{Texts}
-use Rattle.spelling_core.specs.WordText.{spelled}
 use Rattle.report_core.specs.Rows.{name_at}
 use Rattle.import_core.specs.Tables.{AllTables}
+use Rattle.import_report.specs.Ascii.{ascii_text, string_text}
 use Rattle.import_report.specs.Events.{ended}
 
--- a text by the rule of words; of one that is too long for a line the beginning
+-- of a text that is too long for a line the beginning
 abbrev pub shortened : List ℕ → List ℕ
 shortened bytes = if nat_le (length bytes) 4000 then bytes else take 4000 bytes ++ codes ".."
 
-abbrev pub told_text : List ℕ → List ℕ
-told_text text = shortened (spelled true text)
-
 -- `# n0 is "app@10.0.0.1"`, where the node has another name in the script
 abbrev pub node_line : List ℕ → List ℕ → List ℕ
-node_line name node = codes "# " ++ name ++ codes " is \"" ++ told_text node ++ codes "\""
+node_line name node = codes "# " ++ name ++ codes " is \"" ++ shortened (string_text node) ++ codes "\""
 
 abbrev pub node_comment : List ℕ → List ℕ → List ℕ
 node_comment name node = if bytes_eq name node then [] else ended (node_line name node)
@@ -28,7 +25,7 @@ nodes_comments names n (node ∷ nodes) = node_comment (name_at names n) node ++
 
 -- `# ~0 is ..`, the text of the value whose word was cut under this number
 abbrev pub word_line : ℕ → List ℕ → List ℕ
-word_line number text = codes "# ~" ++ decimal number ++ codes " is " ++ told_text text
+word_line number text = codes "# ~" ++ decimal number ++ codes " is " ++ shortened (ascii_text text)
 
 unfoldable pub words_comments : ℕ → Texts → List ℕ
 words_comments n [] = []

@@ -1,16 +1,16 @@
 //! What the names of nodes and the marks of cut words stand for, as comments.
-ghost use Rattle.std.specs.Prelude.{◌≡◌, ◌++◌, ◌<◌, ◌≤◌, ◌^◌, IfOk, OnOk, length, string_bytes};
-ghost use Rattle.spelling_core.specs.WordText.{IsVisible};
+ghost use Rattle.std.specs.Prelude.{◌≡◌, ◌++◌, ◌<◌, ◌≤◌, ◌^◌, true, IfOk, OnOk, length, string_bytes};
+ghost use Rattle.grammar_core.specs.Words.{is_text};
 ghost use Rattle.import_core.specs.Tables.{all_of};
-ghost use Rattle.import_report.specs.Comments.{comments_text, node_comment, nodes_comments, shortened, told_text, word_line, words_comments};
+ghost use Rattle.import_report.specs.Comments.{comments_text, node_comment, nodes_comments, shortened, word_line, words_comments};
 ghost use Rattle.import_report.specs.Events.{ended};
 
+use crate::ascii::{ascii_text, string_text};
 use crate::names::text_at;
 use bench_core::{Names, TextSet};
 use import_core::Tables;
 use payload_core::Oom;
 use report_core::name_at;
-use spelling_core::spelled;
 use std::alloc::Allocator;
 
 /// The most bytes of a text in a comment.
@@ -18,7 +18,7 @@ const LONGEST_TOLD: usize = 4000;
 
 /// The text, or the beginning of one that is too long for a line.
 fn shortened<A: Allocator>(alloc: A, text: &str) -> Result<String<A>, Oom>
-    requires { IsVisible text.now }
+    requires { is_text text.now ≡ true }
     ensures { IfOk result (λ s. string_bytes s ≡ shortened text.now) }
 {
     if text.len() <= LONGEST_TOLD {
@@ -27,14 +27,6 @@ fn shortened<A: Allocator>(alloc: A, text: &str) -> Result<String<A>, Oom>
     let mut short = String::from_str(alloc, &text[..LONGEST_TOLD])?;
     short.push_str("..")?;
     Ok(short)
-}
-
-/// A text by the rule of words, or the beginning of one that is too long.
-fn told_text<A: Allocator + Copy>(alloc: A, text: &str) -> Result<String<A>, Oom>
-    ensures { IfOk result (λ s. string_bytes s ≡ told_text text.now) }
-{
-    let spelled = spelled(alloc, true, text)?;
-    shortened(alloc, &spelled)
 }
 
 /// `# n0 is "app@10.0.0.1"`, where the node has another name in the script.
@@ -49,7 +41,7 @@ fn put_node<A: Allocator + Copy>(
     if name == node {
         return Ok(());
     }
-    let told = told_text(alloc, node)?;
+    let told = shortened(alloc, &string_text(alloc, node)?)?;
     write!(text, "# {name} is \"")?;
     text.push_str(&told)?;
     Ok(text.push_str("\"\n")?)
@@ -81,7 +73,7 @@ fn put_word<A: Allocator + Copy>(
 ) -> Result<(), Oom>
     ensures { OnOk result (string_bytes text.new ≡ string_bytes text.old ++ ended (word_line number value.now)) }
 {
-    let told = told_text(alloc, value)?;
+    let told = shortened(alloc, &ascii_text(alloc, value)?)?;
     write!(text, "# ~{number} is ")?;
     text.push_str(&told)?;
     Ok(text.push_str("\n")?)

@@ -1,4 +1,4 @@
-use Rattle.std.proofs.Common.{◌≡◌, ◌++◌, [], ℕ, List, Option, Some, None, option_map, refl, sym, ap, ◌∙◌, subst, append-nil, string_bytes}
+use Rattle.std.proofs.Common.{◌≡◌, ◌++◌, [], option_map, refl, sym, ap, ◌∙◌, subst, append-nil, string_bytes}
 use Rattle.std.proofs.lemmas.Result.{on_ok_weaker}
 use Rattle.node_core.specs.Operations.{Operation, plain}
 use Rattle.bench_core.specs.Acts.{Do}
@@ -6,7 +6,7 @@ use Rattle.bench_core.specs.Machine.{Machine}
 use Rattle.report_core.specs.ActTexts.{reply_of}
 use Rattle.import_core.specs.Notes.{Note, note_of}
 use Rattle.import_report.specs.Checks.{IsAskedChecked, IsEventChecked, refusal_text, unsent_text}
-use Rattle.import_report.specs.Events.{Asked, asked, asked_by, nothing, step, step_or_nothing}
+use Rattle.import_report.specs.Events.{Asked, asked_by, nothing, step, step_or_nothing}
 use Rattle.import_report.proofs.checks.check_event.Goals as goal
 
 pub returns-in-Some-2-clause-told : goal.returns-in-Some-2-clause-told

@@ -1,9 +1,8 @@
-use Rattle.std.proofs.Common.{◌∙◌, ◌<◌, ℕ, List, sym, subst, map, length, slice_index_or, string_bytes, arith}
+use Rattle.std.proofs.Common.{◌<◌, ℕ, List, sym, subst, map, slice_index_or}
 use Rattle.std.proofs.lemmas.List.{length-map}
 use Rattle.import_core.specs.Tables.{AllTables, all_of}
 use Rattle.import_core.specs.Imports.{IsImportOf}
 use Rattle.import_core.specs.Notes.{Note, note_of}
-use Rattle.import_report.specs.Names.{shown_names}
 use Rattle.import_report.proofs.Whole.{some_nodes, all_places}
 use Rattle.import_report.proofs.importing.import_check.Goals as goal
 

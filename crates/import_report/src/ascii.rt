@@ -1,0 +1,102 @@
+//! JSON in ASCII: a character that is no visible byte and no space is escaped.
+ghost use Rattle.std.specs.Prelude.{◌≡◌, ◌++◌, ◌∷◌, [], ◌<◌, IfOk, OnOk, string_bytes};
+ghost use Rattle.import_report.specs.Ascii.{ascii_char, ascii_text, escaped_char, escaped_unit, hex_digit, string_char, string_text};
+
+use payload_core::Oom;
+use std::alloc::Allocator;
+
+fn hex_digit(value: u32) -> char
+    requires { value < 16 }
+    ensures { result ≡ hex_digit value }
+{
+    if value < 10 {
+        (b'0' + value as u8) as char
+    } else {
+        (b'W' + value as u8) as char
+    }
+}
+
+/// A character of ASCII.
+fn put_ascii<A: Allocator>(text: &mut String<A>, c: char) -> Result<(), Oom>
+    requires { c < 128 }
+    ensures { OnOk result (string_bytes text.new ≡ string_bytes text.old ++ c ∷ []) }
+{
+    Ok(text.push(c)?)
+}
+
+/// One of the digits of a unit.
+fn put_digit<A: Allocator>(text: &mut String<A>, value: u32) -> Result<(), Oom>
+    requires { value < 16 }
+    ensures { OnOk result (string_bytes text.new ≡ string_bytes text.old ++ hex_digit value ∷ []) }
+{
+    put_ascii(text, hex_digit(value))
+}
+
+/// A unit of UTF-16, as in `\u00e9`.
+#[tactic(auto, unfolding(crate::specs::Ascii::escaped_unit))]
+fn put_unit<A: Allocator>(text: &mut String<A>, unit: u32) -> Result<(), Oom>
+    ensures { OnOk result (string_bytes text.new ≡ string_bytes text.old ++ escaped_unit unit) }
+{
+    text.push_str("\\u")?;
+    put_digit(text, unit / 4096 % 16)?;
+    put_digit(text, unit / 256 % 16)?;
+    put_digit(text, unit / 16 % 16)?;
+    put_digit(text, unit % 16)
+}
+
+/// The units of a character.
+#[tactic(auto, unfolding(crate::specs::Ascii::escaped_char))]
+fn put_escaped<A: Allocator>(text: &mut String<A>, c: char) -> Result<(), Oom>
+    ensures { OnOk result (string_bytes text.new ≡ string_bytes text.old ++ escaped_char c) }
+{
+    let c = c as u32;
+    if c < 0x10000 {
+        return put_unit(text, c);
+    }
+    put_unit(text, 0xD800 + (c - 0x10000) / 0x400)?;
+    put_unit(text, 0xDC00 + (c - 0x10000) % 0x400)
+}
+
+#[tactic(auto, unfolding(crate::specs::Ascii::ascii_char))]
+fn put_char<A: Allocator>(text: &mut String<A>, c: char) -> Result<(), Oom>
+    ensures { OnOk result (string_bytes text.new ≡ string_bytes text.old ++ ascii_char c) }
+{
+    if c >= ' ' && c <= '~' {
+        return put_ascii(text, c);
+    }
+    put_escaped(text, c)
+}
+
+/// A character of a string.
+#[tactic(auto, unfolding(crate::specs::Ascii::string_char))]
+fn put_string_char<A: Allocator>(text: &mut String<A>, c: char) -> Result<(), Oom>
+    ensures { OnOk result (string_bytes text.new ≡ string_bytes text.old ++ string_char c) }
+{
+    if c == '"' || c == '\\' {
+        text.push_str("\\")?;
+        return put_ascii(text, c);
+    }
+    put_char(text, c)
+}
+
+/// The text of a value of JSON in ASCII.
+pub(crate) fn ascii_text<A: Allocator>(alloc: A, json: &str) -> Result<String<A>, Oom>
+    ensures { IfOk result (λ s. string_bytes s ≡ ascii_text json.now) }
+{
+    let mut text = String::new(alloc);
+    for c in json.chars() {
+        put_char(&mut text, c)?;
+    }
+    Ok(text)
+}
+
+/// What stands between the quotation marks of a string of JSON in ASCII.
+pub(crate) fn string_text<A: Allocator>(alloc: A, string: &str) -> Result<String<A>, Oom>
+    ensures { IfOk result (λ s. string_bytes s ≡ string_text string.now) }
+{
+    let mut text = String::new(alloc);
+    for c in string.chars() {
+        put_string_char(&mut text, c)?;
+    }
+    Ok(text)
+}
