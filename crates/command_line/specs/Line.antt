@@ -1,16 +1,16 @@
 -- What the command line takes, and what words choose.
-use Rattle.std.specs.Prelude.{◌≡◌, ◌≢◌, ◌⊎◌, ◌<◌, ◌^◌, ℕ, List, codes, Bool, true, false, not, ⊤, Option, Some, None, IfSome, unwrap_or}
+use Rattle.std.specs.Prelude.{◌≡◌, ◌≢◌, ◌⊎◌, ◌<◌, ◌^◌, ℕ, Bool, List, [], ◌∷◌, ◌++◌, codes, false, true, not, ⊤, Option, Some, None, IfSome, unwrap_or}
 use Rattle.std.specs.Str.Parse.{IsNumeral, digits_value, without_leading_plus}
 use Rattle.clap.specs.Words.{App, IsAmong, Row, Rule, fault_of, first_of, new_app, new_rule, with_rule, with_subcommand, subcommand_of}
 use Rattle.command_line.specs.declared.chosen.Form.{Form}
-use Rattle.command_line.specs.declared.chosen.Form.TheVariants.{Report, Session, Script}
+use Rattle.command_line.specs.declared.chosen.Form.TheVariants.{Report, Steps, Script, Session}
 use Rattle.command_line.specs.declared.chosen.Subcommand.{Subcommand}
 use Rattle.command_line.specs.declared.chosen.Subcommand.TheVariants.{Play, Race, Load, Import, Explore, Step, Draw, Explain, Whatif}
 use Rattle.command_line.specs.declared.chosen.Question.{Question}
 use Rattle.command_line.specs.declared.chosen.Choice.{Choice}
 use Rattle.command_line.specs.declared.chosen.Options.{Options}
-use Rattle.command_line.specs.declared.chosen.Reading.{Reading}
-use Rattle.command_line.specs.declared.chosen.Reading.TheVariants.{EveryOrder, Deliveries}
+use Rattle.command_line.specs.declared.chosen.About.{About}
+use Rattle.command_line.specs.declared.chosen.About.TheVariants.{Cluster, Node, Presence}
 use Rattle.clap.specs.declared.builder.action.ArgAction.TheVariants.{SetTrue}
 use Rattle.clap.specs.declared.error.kind.ErrorKind.{ErrorKind}
 use Rattle.clap.specs.declared.error.kind.ErrorKind.TheVariants.{InvalidValue, MissingSubcommand, OutOfMemory}
@@ -19,14 +19,22 @@ use Rattle.clap.specs.declared.error.kind.ErrorKind.TheVariants.{InvalidValue, M
 abbrev pub as_rule : Rule
 as_rule = record (new_rule (codes "as")) { long = Some (codes "as"); value_names = 1 }
 
+-- an option without a value
+abbrev pub flag_rule : List ℕ → Rule
+flag_rule name = record (new_rule name) { long = Some name; action = Some SetTrue }
+
+-- a subcommand of this name with a form, which may be strict
+abbrev pub strict_app : List ℕ → App
+strict_app name = with_rule (with_rule (new_app name) as_rule) (flag_rule (codes "strict"))
+
 abbrev pub play_app : App
-play_app = with_rule (new_app (codes "play")) as_rule
+play_app = strict_app (codes "play")
 
 abbrev pub race_app : App
 race_app = with_rule (new_app (codes "race")) as_rule
 
 abbrev pub load_app : App
-load_app = with_rule (new_app (codes "load")) as_rule
+load_app = strict_app (codes "load")
 
 -- an option that takes a number
 abbrev pub number_rule : List ℕ → Rule
@@ -34,15 +42,6 @@ number_rule name = record (new_rule name) { long = Some name; value_names = 1 }
 
 abbrev pub step_app : App
 step_app = new_app (codes "step")
-
--- an option that takes nothing
-abbrev pub flag_rule : List ℕ → Rule
-flag_rule name = record (new_rule name) { long = Some name; action = Some SetTrue }
-
-abbrev pub explore_app : App
-explore_app =
-    with_rule (with_rule (with_rule (with_rule (new_app (codes "explore")) as_rule) (flag_rule (codes "deliveries"))) (number_rule (codes "states")))
-    (number_rule (codes "script"))
 
 abbrev pub import_app : App
 import_app =
@@ -59,6 +58,21 @@ word_rule name = record (new_rule name) { required = true }
 -- a subcommand of this name with the words that ask
 abbrev pub question_app : List ℕ → App
 question_app name = with_rule (with_rule (with_rule (new_app name) (word_rule (codes "NODE"))) (word_rule (codes "TOPIC"))) (word_rule (codes "KEY"))
+
+-- a word that may come in its place
+abbrev pub optional_rule : List ℕ → Rule
+optional_rule name = new_rule name
+
+-- a subcommand of this name that may be asked of a node, and of a topic and a key there
+abbrev pub about_app : List ℕ → App
+about_app name =
+    with_rule (with_rule (with_rule (new_app name) (optional_rule (codes "NODE"))) (optional_rule (codes "TOPIC"))) (optional_rule (codes "KEY"))
+
+abbrev pub network_app : App
+network_app = with_rule (with_rule (about_app (codes "explore")) (number_rule (codes "lost"))) (number_rule (codes "again"))
+
+abbrev pub explore_app : App
+explore_app = with_rule (with_rule network_app (number_rule (codes "states"))) (number_rule (codes "script"))
 
 abbrev pub explain_app : App
 explain_app = question_app (codes "explain")
@@ -79,11 +93,11 @@ app =
     with_subcommand newer import_app.top
 
 abbrev pub name_of : Subcommand → List ℕ
-name_of Play = codes "play"
+name_of (Play strict) = codes "play"
 name_of Race = codes "race"
-name_of Load = codes "load"
+name_of (Load strict) = codes "load"
 name_of (Import check lines lenient) = codes "import"
-name_of (Explore reading states outcome) = codes "explore"
+name_of (Explore about lost again states outcome) = codes "explore"
 name_of Step = codes "step"
 name_of (Draw why) = codes "draw"
 name_of (Explain question) = codes "explain"
@@ -91,8 +105,9 @@ name_of (Whatif question change) = codes "whatif"
 
 abbrev pub form_name : Form → List ℕ
 form_name Report = codes "report"
-form_name Session = codes "session"
+form_name Steps = codes "steps"
 form_name Script = codes "script"
+form_name Session = codes "session"
 
 -- the form in which a subcommand prints where none is named
 abbrev pub usual_form : Subcommand → Form
@@ -104,26 +119,23 @@ abbrev pub IsForm : Form → Option (List ℕ) → Form → Type 0
 IsForm usual None form = form ≡ usual
 IsForm usual (Some name) form = name ≡ form_name form
 
--- an option that takes nothing is there where its value is `true`
-abbrev pub IsFlag : Option (List ℕ) → Bool → Type 0
-IsFlag value true = value ≡ Some (codes "true")
-IsFlag value false = value ≢ Some (codes "true")
-
 -- the number that a value spells, which has at most 64 bits; without a value there is none
 abbrev pub IsNumber : Option (List ℕ) → Option ℕ → Type 0
 IsNumber None number = number ≡ None
 IsNumber (Some digits) number =
     let ds = without_leading_plus digits in IsNumeral 10 ds × (digits_value 10 ds < 2 ^ 64) × (number ≡ Some (digits_value 10 ds))
 
--- deliveries alone move where the value is `true`
-abbrev pub IsReading : Option (List ℕ) → Reading → Type 0
-IsReading value EveryOrder = value ≢ Some (codes "true")
-IsReading value Deliveries = value ≡ Some (codes "true")
+-- an option without a value was entered where the value is `true`
+abbrev pub IsFlag : Option (List ℕ) → Bool → Type 0
+IsFlag value false = value ≢ Some (codes "true")
+IsFlag value true = value ≡ Some (codes "true")
 
 -- what options give
 pub record AreOptions (values : List ℕ → Option (List ℕ)) (options : Options) : Type 0 where
-  pub reading : IsReading (values (codes "deliveries")) options.reading
+  pub strict : IsFlag (values (codes "strict")) options.strict
   pub why : IsNumber (values (codes "why")) options.why
+  pub lost : IsNumber (values (codes "lost")) options.lost
+  pub again : IsNumber (values (codes "again")) options.again
   pub states : IsNumber (values (codes "states")) options.states
   pub script : IsNumber (values (codes "script")) options.script
   pub check : IsFlag (values (codes "check")) options.check
@@ -136,37 +148,46 @@ pub record IsQuestion (values : List ℕ → Option (List ℕ)) (question : Ques
   pub topic : values (codes "TOPIC") ≡ Some question.topic.now
   pub key : values (codes "KEY") ≡ Some question.key.now
 
--- the subcommand has these of the options and words that it takes; of states 100,000 are kept where it is not told how many
-abbrev pub Takes : Options → Option Question → Subcommand → Type 0
-Takes options question (Draw why) = why ≡ options.why
-Takes options question (Explore reading states outcome) =
-    (reading ≡ options.reading) × (states ≡ unwrap_or options.states 100000) × (outcome ≡ options.script)
-Takes options question Play = ⊤
-Takes options question Race = ⊤
-Takes options question Load = ⊤
-Takes options question (Import check lines lenient) = (check ≡ options.check) × (lines ≡ options.lines) × (lenient ≡ options.lenient)
-Takes options question Step = ⊤
-Takes options question (Explain asked) = question ≡ Some asked
-Takes options question (Whatif asked change) = (question ≡ Some asked) × (change ≡ options.script)
+-- those that may: a node, and a topic and a key
+abbrev pub IsAbout : (List ℕ → Option (List ℕ)) → About → Type 0
+IsAbout values Cluster = values (codes "NODE") ≡ None
+IsAbout values (Node name) = (values (codes "NODE") ≡ Some name.now) × (values (codes "TOPIC") ≡ None)
+IsAbout values (Presence question) = IsQuestion values question
 
-abbrev pub is_report : Form → Bool
-is_report Report = true
-is_report form = false
+-- the subcommand has these of the options and words that it takes; of states 100,000 are kept where it is not told how many, and no
+-- delivery is lost or comes again
+abbrev pub Takes : Options → Option Question → Option About → Subcommand → Type 0
+Takes options question about (Draw why) = why ≡ options.why
+Takes options question about (Explore asked lost again states outcome) =
+    (about ≡ Some asked) × (lost ≡ unwrap_or options.lost 0) × (again ≡ unwrap_or options.again 0) × (states ≡ unwrap_or options.states 100000) ×
+    (outcome ≡ options.script)
+Takes options question about (Play strict) = strict ≡ options.strict
+Takes options question about Race = ⊤
+Takes options question about (Load strict) = strict ≡ options.strict
+Takes options question about (Import check lines lenient) = (check ≡ options.check) × (lines ≡ options.lines) × (lenient ≡ options.lenient)
+Takes options question about Step = ⊤
+Takes options question about (Explain asked) = question ≡ Some asked
+Takes options question about (Whatif asked change) = (question ≡ Some asked) × (change ≡ options.script)
 
 abbrev pub is_script : Form → Bool
 is_script Script = true
 is_script form = false
+
+abbrev pub race_prints : Form → Bool
+race_prints Report = true
+race_prints Session = true
+race_prints form = false
 
 -- a check is printed in its own form alone
 abbrev pub import_prints : Bool → Form → Bool
 import_prints check Session = not check
 import_prints check form = is_script form
 
--- all orders are told as a report alone, an import as a script or a session, and all else as a report or a session
+-- a race is printed as a report or a session, and an import as a script or a session
 abbrev pub can_print : Subcommand → Form → Bool
-can_print (Explore reading states outcome) form = is_report form
 can_print (Import check lines lenient) form = import_prints check form
-can_print command form = not (is_script form)
+can_print Race form = race_prints form
+can_print command form = true
 
 -- the subcommand has this name, and the form and the rest those that its options and words give
 pub record IsChoiceOf (name : List ℕ) (values : List ℕ → Option (List ℕ)) (choice : Choice) : Type 0 where
@@ -176,28 +197,29 @@ pub record IsChoiceOf (name : List ℕ) (values : List ℕ → Option (List ℕ)
   pub options_are : AreOptions values options
   pub question : Option Question
   pub question_is : IfSome question (IsQuestion values)
-  pub takes : Takes options question choice.command
+  pub about : Option About
+  pub about_is : IfSome about (IsAbout values)
+  pub takes : Takes options question about choice.command
   pub printed : can_print choice.command choice.form ≡ true
 
--- the subcommand asks
-abbrev pub Asks : Subcommand → Type 0
-Asks (Explain question) = ⊤
-Asks (Whatif question change) = ⊤
-Asks Play = ⊥
-Asks Race = ⊥
-Asks Load = ⊥
-Asks (Import check lines lenient) = ⊥
-Asks (Explore reading states outcome) = ⊥
-Asks Step = ⊥
-Asks (Draw why) = ⊥
+-- the words that the subcommand takes aren't there
+abbrev pub Lacks : Option Question → Option About → Subcommand → Type 0
+Lacks question about (Explain asked) = question ≡ None
+Lacks question about (Whatif asked change) = question ≡ None
+Lacks question about (Explore asked lost again states outcome) = about ≡ None
+Lacks question about (Play strict) = ⊥
+Lacks question about Race = ⊥
+Lacks question about (Load strict) = ⊥
+Lacks question about (Import check lines lenient) = ⊥
+Lacks question about Step = ⊥
+Lacks question about (Draw why) = ⊥
 
--- no subcommand has this name; or one that asks alone does, and there is no question
-abbrev pub IsUnnamed : List ℕ → Option Question → Type 0
-IsUnnamed name None = (command : Subcommand) → name ≡ name_of command → Asks command
-IsUnnamed name (Some question) = (command : Subcommand) → name ≢ name_of command
+-- no subcommand has this name, but for one that lacks its words
+abbrev pub IsUnnamed : List ℕ → Option Question → Option About → Type 0
+IsUnnamed name question about = (command : Subcommand) → name ≡ name_of command → Lacks question about command
 
--- the choice is that of the subcommand which the command line finds in the words, with its options
-pub record Chooses (words : List (List ℕ)) (choice : Choice) : Type 0 where
+-- the words spell a choice: that of the subcommand which the command line finds in them, with its options
+pub record Spells (words : List (List ℕ)) (choice : Choice) : Type 0 where
   pub name : List ℕ
   pub rows : List Row
   pub command : subcommand_of app words ≡ Some (name, rows)
@@ -207,8 +229,24 @@ pub record Chooses (words : List (List ℕ)) (choice : Choice) : Type 0 where
 abbrev pub IsUnchosen : ErrorKind → Type 0
 IsUnchosen kind = (kind ≡ InvalidValue) ⊎ (kind ≡ MissingSubcommand)
 
--- words are refused with this kind of fault: want of memory; what the command line finds wrong in them, or help that they ask
+-- the words spell none, for this kind of fault: want of memory; what the command line finds wrong in them, or help that they ask
 -- for; or they choose nothing
+abbrev pub Misspells : List (List ℕ) → ErrorKind → Type 0
+Misspells words kind =
+    (kind ≡ OutOfMemory) ⊎ (IsAmong kind (fault_of app words) ⊎ (IsUnchosen kind × ((choice : Choice) → ¬ Spells words choice)))
+
+-- the last word is `-`, and those before it spell the choice
+abbrev pub SpellsBefore : List (List ℕ) → Choice → Type 0
+SpellsBefore words choice = (before : List (List ℕ)) × (words ≡ before ++ codes "-" ∷ []) × Spells before choice
+
+-- where the last word is `-`, those before it spell none
+abbrev pub NeedsLast : List (List ℕ) → Type 0
+NeedsLast words = (before : List (List ℕ)) → words ≡ before ++ codes "-" ∷ [] → (kind : ErrorKind) × Misspells before kind
+
+-- what the words choose, where a last word `-` that can be left out stands for standard input
+abbrev pub Chooses : List (List ℕ) → Choice → Type 0
+Chooses words choice = SpellsBefore words choice ⊎ (NeedsLast words × Spells words choice)
+
+-- the words choose nothing, for this kind of fault
 abbrev pub IsRefusal : List (List ℕ) → ErrorKind → Type 0
-IsRefusal words kind =
-    (kind ≡ OutOfMemory) ⊎ (IsAmong kind (fault_of app words) ⊎ (IsUnchosen kind × ((choice : Choice) → ¬ Chooses words choice)))
+IsRefusal words kind = (kind ≡ OutOfMemory) ⊎ (NeedsLast words × Misspells words kind)

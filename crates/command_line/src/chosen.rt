@@ -8,24 +8,30 @@ pub struct Question<'w> {
     pub key: &'w str,
 }
 
-/// In which orders the act lines of a script are asked.
+/// What is asked of what the network could have done.
 #[derive(Clone, Copy, Debug, PartialEq, Eq)]
-pub enum Reading {
-    /// Each actor's lines keep their order, and those of different actors come in any.
-    EveryOrder,
-    /// The deliveries of each node come in any order among themselves, and all other lines stay where they are.
-    Deliveries,
+pub enum About<'w> {
+    /// Where the whole cluster ends.
+    Cluster,
+    /// Where the node of this name does.
+    Node(&'w str),
+    /// Which presences of a topic and a key a node lists then.
+    Presence(Question<'w>),
 }
 
 /// What the program does.
 #[derive(Clone, Copy, Debug, PartialEq, Eq)]
 pub enum Subcommand<'w> {
-    /// Plays a script.
-    Play,
+    /// Plays a script; strictly, where a refused act is a fault.
+    Play {
+        strict: bool,
+    },
     /// Has the act lines of a script asked by a worker for each actor.
     Race,
-    /// Plays a saved session again.
-    Load,
+    /// Plays a saved session again; strictly, where a refused act is a fault.
+    Load {
+        strict: bool,
+    },
     /// Makes a script of the events of logs. With `check` it tells instead where the bench and the real nodes part; with `lines`
     /// each line stands behind the number of its event's line; `lenient` leaves out what takes a message that no line sends.
     Import {
@@ -33,10 +39,12 @@ pub enum Subcommand<'w> {
         lines: bool,
         lenient: bool,
     },
-    /// Asks the act lines of a script in every order by a reading, keeping no more different states than so many; prints what they
-    /// lead to, or the order of the outcome of this number alone.
+    /// Tells what the network could have made of what happened, where so many deliveries may be lost and so many come again, keeping
+    /// no more different states than so many; or the run of the outcome of this number, alone.
     Explore {
-        reading: Reading,
+        about: About<'w>,
+        lost: usize,
+        again: usize,
         states: usize,
         outcome: Option<u64>,
     },
@@ -55,15 +63,17 @@ pub enum Subcommand<'w> {
     },
 }
 
-/// What it prints.
+/// What it prints of the bench that was played on.
 #[derive(Clone, Copy, Debug, PartialEq, Eq)]
 pub enum Form {
     /// The report.
     Report,
+    /// The report, with each line above what it printed.
+    Steps,
+    /// The calls as a script.
+    Script,
     /// The session, which can be loaded again.
     Session,
-    /// A script, which can be played.
-    Script,
 }
 
 /// What the words of a command line ask.
@@ -76,10 +86,14 @@ pub struct Choice<'w> {
 /// What options give, but for a form.
 #[derive(Clone, Copy, Debug, PartialEq, Eq)]
 pub struct Options {
-    /// How orders are read, by `--deliveries`.
-    pub reading: Reading,
+    /// Whether a refused act is a fault, by `--strict`.
+    pub strict: bool,
     /// The step of `--why`.
     pub why: Option<u64>,
+    /// How many deliveries `--lost` allows to be missing.
+    pub lost: Option<u64>,
+    /// How many `--again` allows to come a second time.
+    pub again: Option<u64>,
     /// How many states `--states` allows.
     pub states: Option<u64>,
     /// The outcome or the change of `--script`.

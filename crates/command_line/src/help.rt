@@ -16,7 +16,7 @@ pub const IMPORT: &str =
     "Makes a script of the events of logs on standard input, a JSON object a line";
 
 pub const EXPLORE: &str =
-    "Tells what the act lines of the script on standard input lead to, in every order of its actors";
+    "Tells what the network could have made of what happened, each outcome with a run that leads there";
 
 pub const STEP: &str =
     "Takes a script line by line from standard input, and answers each line at once";
@@ -38,8 +38,9 @@ pub const KEY: &str = "The key under which they are tracked";
 
 pub const WHY: &str = "The number of a step, to paint it and all that follows from it";
 
-pub const DELIVERIES: &str =
-    "Move the deliveries of each node alone, and leave all other lines where they are";
+pub const LOST: &str = "How many deliveries may be missing, 0 as without it";
+
+pub const AGAIN: &str = "How many deliveries may come a second time, 0 as without it";
 
 pub const CHECK: &str =
     "Print where the bench and the real nodes part instead; the status is 6 where they do";
@@ -52,19 +53,49 @@ pub const LENIENT: &str =
 pub const STATES: &str =
     "The most different states to keep, 100000 as without it; where there are more, that is told";
 
-pub const ORDER: &str =
-    "The number of an outcome, to print its order alone, as a script that play takes";
+pub const OUTCOME: &str =
+    "The number of an outcome, to print its run alone, as a script that play takes";
 
 pub const CHANGE: &str =
     "The number of a change, to print the run with it alone, as a script that play takes";
 
-pub const FORM: &str =
-    "What to print: report (as without it), or session, which load takes; of explore the report alone";
+pub const STRICT: &str = "End with status 6 where an act was refused, and tell the first";
 
-pub const IMPORT_FORM: &str =
-    "What to print: script (as without it), which play takes, or session, which load takes";
+pub const FORMS: &str = "What to print: report (as without it), steps, script or session";
 
-/// The whole script language, in one screen.
+pub const RACE_FORMS: &str = "What to print: report (as without it) or session";
+
+pub const IMPORT_FORMS: &str = "What to print: script (as without it) or session";
+
+pub const PLAY_USAGE: &str = "presence_bench play [OPTIONS] < SCRIPT";
+
+pub const RACE_USAGE: &str = "presence_bench race [OPTIONS] < SCRIPT";
+
+pub const LOAD_USAGE: &str = "presence_bench load [OPTIONS] < SESSION";
+
+pub const IMPORT_USAGE: &str = "presence_bench import [OPTIONS] < EVENTS";
+
+pub const EXPLORE_USAGE: &str =
+    "presence_bench explore [OPTIONS] [NODE [TOPIC KEY]] < SCRIPT_OR_SESSION";
+
+pub const STEP_USAGE: &str = "presence_bench step";
+
+pub const DRAW_USAGE: &str = "presence_bench draw [OPTIONS] < SCRIPT_OR_SESSION";
+
+pub const EXPLAIN_USAGE: &str = "presence_bench explain NODE TOPIC KEY < SCRIPT_OR_SESSION";
+
+pub const WHATIF_USAGE: &str = "presence_bench whatif [OPTIONS] NODE TOPIC KEY < SCRIPT_OR_SESSION";
+
+pub const PLAY_EXAMPLE: &str = "\
+Example:
+  printf 'nodes a b\\na join 1 r alice phone\\nb up a\\na broadcast\\nb deliver a 1\\n' |
+    presence_bench play --as steps";
+
+pub const LOAD_EXAMPLE: &str = "\
+Example:
+  (presence_bench load --as script < run.json; cat) | presence_bench step";
+
+/// The whole script language, and what its faults mean.
 pub const LANGUAGE: &str = "\
 Script lines (words between spaces; a line that begins with # is a comment):
   nodes NAME ..                   the nodes, 1 to 32; this line comes first
@@ -93,4 +124,14 @@ come the rows that left (-) and joined (+) the online list of the step's node.
 With the subcommand step, a line that can't be taken is told and changes nothing;
 :save prints the session so far, :explain NODE TOPIC KEY why somebody is online at
 a node or isn't, :whatif NODE TOPIC KEY what would have made a difference to that,
-and :help this text.";
+and :help this text.
+What a fault of a line says (line L: KIND):
+  NotText      a tab, a carriage return or UTF-8 stands there: ASCII and spaces alone
+  BadName      a name is 1 to 16 of a-z 0-9 _ and no word above; or no node has it
+  UnknownWord  no verb above is written so, or nobody has this name
+  WrongCount   the line has more or fewer words than above
+  BadNumber    a number has digits alone, and no zero in front
+  Twice        a name stands twice, or a line of nodes or consoles does
+  NotAllowed   a console undoes, goes back and unwinds, and no more
+  NoNodes      the first line is that of the nodes; a session is for load
+  TooLong      a word has 200 bytes at most, a line 4096, a script 1048576";

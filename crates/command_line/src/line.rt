@@ -2,35 +2,38 @@
 ghost use Rattle.std.specs.Prelude.{◌≡◌, ℕ, IfErr, IfNone, IfOk, IfSome, OnErr, Option, codes, map, false};
 ghost use Rattle.clap.specs.Words.{app_of, first_value, found_of, kind_of, new_app, rule_of, with_rule, with_subcommand};
 ghost use Rattle.clap.specs.declared.Command.TheViews.{out-Command as fields_of};
-ghost use Rattle.command_line.specs.Line.{app, as_rule, bare_app, draw_app, explain_app, explore_app, number_rule, flag_rule, import_app, question_app, step_app, whatif_app, word_rule, AreOptions, Chooses, IsChoiceOf, IsFlag, IsForm, IsNumber, IsQuestion, IsReading, IsRefusal, IsUnnamed, Takes, can_print, name_of, usual_form};
+ghost use Rattle.clap.specs.declared.error.kind.ErrorKind.TheVariants.{OutOfMemory};
+ghost use Rattle.command_line.specs.Line.{about_app, app, as_rule, bare_app, draw_app, explain_app, explore_app, flag_rule, import_app, network_app, number_rule, optional_rule, question_app, race_app, step_app, strict_app, whatif_app, word_rule, AreOptions, Chooses, IsChoiceOf, IsAbout, IsFlag, IsForm, IsNumber, IsQuestion, IsRefusal, IsUnnamed, Misspells, NeedsLast, Spells, SpellsBefore, Takes, can_print, name_of, usual_form};
+ghost use Rattle.command_line.specs.declared.chosen.About.{About as Of};
 ghost use Rattle.command_line.specs.declared.chosen.Choice.{Choice as Chosen};
 ghost use Rattle.command_line.specs.declared.chosen.Form.{Form as Shown};
 ghost use Rattle.command_line.specs.declared.chosen.Options.{Options as Given};
 ghost use Rattle.command_line.specs.declared.chosen.Question.{Question as Asked};
 
-use crate::chosen::{Choice, Form, Options, Question, Reading, Subcommand};
+use crate::chosen::{About, Choice, Form, Options, Question, Subcommand};
 use crate::help::{
-    CHANGE, CHECK, DELIVERIES, DRAW, EXPLAIN, EXPLORE, FORM, IMPORT, IMPORT_FORM, KEY, LANGUAGE,
-    LENIENT, LINES, LOAD, NODE, ORDER, PLAY, PURPOSE, RACE, STATES, STEP, TOPIC, VERSION, WHATIF,
-    WHY,
+    AGAIN, CHANGE, CHECK, DRAW, DRAW_USAGE, EXPLAIN, EXPLAIN_USAGE, EXPLORE, EXPLORE_USAGE, FORMS,
+    IMPORT, IMPORT_FORMS, IMPORT_USAGE, KEY, LANGUAGE, LENIENT, LINES, LOAD, LOAD_EXAMPLE,
+    LOAD_USAGE, LOST, NODE, OUTCOME, PLAY, PLAY_EXAMPLE, PLAY_USAGE, PURPOSE, RACE, RACE_FORMS,
+    RACE_USAGE, STATES, STEP, STEP_USAGE, STRICT, TOPIC, VERSION, WHATIF, WHATIF_USAGE, WHY,
 };
 use clap::error::ErrorKind;
 use clap::{Arg, ArgAction, ArgMatches, Command, Error};
 use std::alloc::{AllocError, Global};
 use std::convert::AsStr;
 
-/// The most different states that are kept of all orders, where it is not told how many.
+/// The most different states that are kept, where it is not told how many.
 const MOST_STATES: u64 = 100_000;
 
 /// The option that names a form.
-fn form_option<'a>(alloc: Global, about: &'a str) -> Arg<'a>
+fn form_option<'a>(alloc: Global, forms: &'a str) -> Arg<'a>
     ensures rule { rule_of result ≡ as_rule }
     ensures local { result.global ≡ false }
 {
     Arg::new(alloc, "as")
         .long("as")
         .value_name("FORM")
-        .help(about)
+        .help(forms)
 }
 
 /// An option that takes a number.
@@ -44,8 +47,8 @@ fn number_option<'a>(alloc: Global, name: &'a str, about: &'a str) -> Arg<'a>
         .help(about)
 }
 
-/// An option that takes nothing.
-fn flag<'a>(alloc: Global, name: &'a str, about: &'a str) -> Arg<'a>
+/// An option without a value.
+fn flag_option<'a>(alloc: Global, name: &'a str, about: &'a str) -> Arg<'a>
     ensures rule { rule_of result ≡ flag_rule name.entry.now }
     ensures local { result.global ≡ false }
 {
@@ -63,31 +66,83 @@ fn word_place<'a>(alloc: Global, name: &'a str, about: &'a str) -> Arg<'a>
     Arg::new(alloc, name).required(true).help(about)
 }
 
+/// A word that may come in its place.
+fn optional_place<'a>(alloc: Global, name: &'a str, about: &'a str) -> Arg<'a>
+    ensures rule { rule_of result ≡ optional_rule name.entry.now }
+    ensures local { result.global ≡ false }
+{
+    Arg::new(alloc, name).help(about)
+}
+
 /// A subcommand with neither options nor words.
-fn bare_subcommand<'a>(alloc: Global, name: &'a str, about: &'a str) -> Command<'a>
+fn bare_subcommand<'a>(alloc: Global, name: &'a str, about: &'a str, usage: &'a str) -> Command<'a>
     ensures app { app_of result ≡ new_app name.entry.now }
     ensures local { (fields_of result).has_globals ≡ false }
 {
-    Command::new(alloc, name).about(about)
+    Command::new(alloc, name).about(about).override_usage(usage)
 }
 
 /// A subcommand with the option of a form.
-fn form_line<'a>(alloc: Global, name: &'a str, about: &'a str) -> Result<Command<'a>, AllocError>
+fn form_line<'a>(
+    alloc: Global,
+    name: &'a str,
+    about: &'a str,
+    usage: &'a str,
+    forms: &'a str,
+) -> Result<Command<'a>, AllocError>
     ensures app { IfOk result (λ line. app_of line ≡ with_rule (new_app name.entry.now) as_rule) }
     ensures local { IfOk result (λ line. (fields_of line).has_globals ≡ false) }
 {
-    bare_subcommand(alloc, name, about).arg(form_option(alloc, FORM))
+    bare_subcommand(alloc, name, about, usage).arg(form_option(alloc, forms))
 }
 
-/// The subcommand that tries all orders.
+/// A subcommand with the option of a form, which may be strict.
+fn strict_line<'a>(
+    alloc: Global,
+    name: &'a str,
+    about: &'a str,
+    usage: &'a str,
+) -> Result<Command<'a>, AllocError>
+    ensures app { IfOk result (λ line. app_of line ≡ strict_app name.entry.now) }
+    ensures local { IfOk result (λ line. (fields_of line).has_globals ≡ false) }
+{
+    form_line(alloc, name, about, usage, FORMS)?.arg(flag_option(alloc, "strict", STRICT))
+}
+
+/// A subcommand that may be asked of a node, and of a topic and a key there.
+fn about_line<'a>(
+    alloc: Global,
+    name: &'a str,
+    about: &'a str,
+    usage: &'a str,
+) -> Result<Command<'a>, AllocError>
+    ensures app { IfOk result (λ line. app_of line ≡ about_app name.entry.now) }
+    ensures local { IfOk result (λ line. (fields_of line).has_globals ≡ false) }
+{
+    bare_subcommand(alloc, name, about, usage)
+        .arg(optional_place(alloc, "NODE", NODE))?
+        .arg(optional_place(alloc, "TOPIC", TOPIC))?
+        .arg(optional_place(alloc, "KEY", KEY))
+}
+
+/// The same with how many deliveries may be lost and come again.
+fn network_line<'a>(alloc: Global) -> Result<Command<'a>, AllocError>
+    ensures app { IfOk result (λ line. app_of line ≡ network_app) }
+    ensures local { IfOk result (λ line. (fields_of line).has_globals ≡ false) }
+{
+    about_line(alloc, "explore", EXPLORE, EXPLORE_USAGE)?
+        .arg(number_option(alloc, "lost", LOST))?
+        .arg(number_option(alloc, "again", AGAIN))
+}
+
+/// The subcommand that tells what the network could have done.
 fn explore_line<'a>(alloc: Global) -> Result<Command<'a>, AllocError>
     ensures app { IfOk result (λ line. app_of line ≡ explore_app) }
     ensures local { IfOk result (λ line. (fields_of line).has_globals ≡ false) }
 {
-    form_line(alloc, "explore", EXPLORE)?
-        .arg(flag(alloc, "deliveries", DELIVERIES))?
+    network_line(alloc)?
         .arg(number_option(alloc, "states", STATES))?
-        .arg(number_option(alloc, "script", ORDER))
+        .arg(number_option(alloc, "script", OUTCOME))
 }
 
 /// The subcommand that makes a script of logs.
@@ -95,11 +150,10 @@ fn import_line<'a>(alloc: Global) -> Result<Command<'a>, AllocError>
     ensures app { IfOk result (λ line. app_of line ≡ import_app) }
     ensures local { IfOk result (λ line. (fields_of line).has_globals ≡ false) }
 {
-    bare_subcommand(alloc, "import", IMPORT)
-        .arg(form_option(alloc, IMPORT_FORM))?
-        .arg(flag(alloc, "check", CHECK))?
-        .arg(flag(alloc, "lines", LINES))?
-        .arg(flag(alloc, "lenient", LENIENT))
+    form_line(alloc, "import", IMPORT, IMPORT_USAGE, IMPORT_FORMS)?
+        .arg(flag_option(alloc, "check", CHECK))?
+        .arg(flag_option(alloc, "lines", LINES))?
+        .arg(flag_option(alloc, "lenient", LENIENT))
 }
 
 /// The subcommand that is a prompt.
@@ -107,7 +161,7 @@ fn step_line<'a>(alloc: Global) -> Command<'a>
     ensures app { app_of result ≡ step_app }
     ensures local { (fields_of result).has_globals ≡ false }
 {
-    bare_subcommand(alloc, "step", STEP)
+    bare_subcommand(alloc, "step", STEP, STEP_USAGE)
 }
 
 /// The subcommand that draws.
@@ -115,7 +169,7 @@ fn draw_line<'a>(alloc: Global) -> Result<Command<'a>, AllocError>
     ensures app { IfOk result (λ line. app_of line ≡ draw_app) }
     ensures local { IfOk result (λ line. (fields_of line).has_globals ≡ false) }
 {
-    bare_subcommand(alloc, "draw", DRAW).arg(number_option(alloc, "why", WHY))
+    bare_subcommand(alloc, "draw", DRAW, DRAW_USAGE).arg(number_option(alloc, "why", WHY))
 }
 
 /// A subcommand that asks of a node, a topic and a key.
@@ -123,11 +177,12 @@ fn question_line<'a>(
     alloc: Global,
     name: &'a str,
     about: &'a str,
+    usage: &'a str,
 ) -> Result<Command<'a>, AllocError>
     ensures app { IfOk result (λ line. app_of line ≡ question_app name.entry.now) }
     ensures local { IfOk result (λ line. (fields_of line).has_globals ≡ false) }
 {
-    bare_subcommand(alloc, name, about)
+    bare_subcommand(alloc, name, about, usage)
         .arg(word_place(alloc, "NODE", NODE))?
         .arg(word_place(alloc, "TOPIC", TOPIC))?
         .arg(word_place(alloc, "KEY", KEY))
@@ -138,7 +193,9 @@ fn whatif_line<'a>(alloc: Global) -> Result<Command<'a>, AllocError>
     ensures app { IfOk result (λ line. app_of line ≡ whatif_app) }
     ensures local { IfOk result (λ line. (fields_of line).has_globals ≡ false) }
 {
-    question_line(alloc, "whatif", WHATIF)?.arg(number_option(alloc, "script", CHANGE))
+    question_line(alloc, "whatif", WHATIF, WHATIF_USAGE)?.arg(number_option(
+        alloc, "script", CHANGE,
+    ))
 }
 
 /// The line without its subcommands.
@@ -153,20 +210,30 @@ fn bare_line<'a>(alloc: Global) -> Command<'a>
         .subcommand_required(true)
 }
 
-/// The line with one more subcommand, which has the option of a form.
-fn with_form<'a>(
+/// The line with one more subcommand, which races.
+fn with_race<'a>(line: Command<'a>, alloc: Global) -> Result<Command<'a>, AllocError>
+    ensures { IfOk result (λ longer. app_of longer ≡ with_subcommand (app_of line.entry) race_app.top) }
+{
+    let added = form_line(alloc, "race", RACE, RACE_USAGE, RACE_FORMS)?;
+    line.subcommand(added)
+}
+
+/// The line with one more subcommand, which may be strict.
+fn with_strict<'a>(
     line: Command<'a>,
     alloc: Global,
     name: &'a str,
     about: &'a str,
+    usage: &'a str,
+    example: &'a str,
 ) -> Result<Command<'a>, AllocError>
-    ensures { IfOk result (λ longer. app_of longer ≡ with_subcommand (app_of line.entry) (with_rule (new_app name.entry.now) as_rule).top) }
+    ensures { IfOk result (λ longer. app_of longer ≡ with_subcommand (app_of line.entry) (strict_app name.entry.now).top) }
 {
-    let added = form_line(alloc, name, about)?;
+    let added = strict_line(alloc, name, about, usage)?.after_help(example);
     line.subcommand(added)
 }
 
-/// The line with one more subcommand, which tries all orders.
+/// The line with one more subcommand, which tells what the network could have done.
 fn with_explore<'a>(line: Command<'a>, alloc: Global) -> Result<Command<'a>, AllocError>
     ensures { IfOk result (λ longer. app_of longer ≡ with_subcommand (app_of line.entry) explore_app.top) }
 {
@@ -186,7 +253,7 @@ fn with_draw<'a>(line: Command<'a>, alloc: Global) -> Result<Command<'a>, AllocE
 fn with_explain<'a>(line: Command<'a>, alloc: Global) -> Result<Command<'a>, AllocError>
     ensures { IfOk result (λ longer. app_of longer ≡ with_subcommand (app_of line.entry) explain_app.top) }
 {
-    let added = question_line(alloc, "explain", EXPLAIN)?;
+    let added = question_line(alloc, "explain", EXPLAIN, EXPLAIN_USAGE)?;
     line.subcommand(added)
 }
 
@@ -210,9 +277,10 @@ fn with_import<'a>(line: Command<'a>, alloc: Global) -> Result<Command<'a>, Allo
 fn line<'a>(alloc: Global) -> Result<Command<'a>, AllocError>
     ensures { IfOk result (λ line. app_of line ≡ app) }
 {
-    let line = with_form(bare_line(alloc), alloc, "play", PLAY)?;
-    let line = with_form(line, alloc, "race", RACE)?;
-    let line = with_form(line, alloc, "load", LOAD)?;
+    let line = bare_line(alloc);
+    let line = with_strict(line, alloc, "play", PLAY, PLAY_USAGE, PLAY_EXAMPLE)?;
+    let line = with_race(line, alloc)?;
+    let line = with_strict(line, alloc, "load", LOAD, LOAD_USAGE, LOAD_EXAMPLE)?;
     let line = with_explore(line, alloc)?;
     let line = line.subcommand(step_line(alloc))?;
     let line = with_draw(line, alloc)?;
@@ -233,27 +301,49 @@ fn question_of<'a>(matches: &ArgMatches<'a>) -> Option<Question<'a>>
     })
 }
 
+/// What is asked of the network: of the cluster, of a node, or of a topic and a key at one; nothing where a topic has no key.
+fn about_of<'a>(matches: &ArgMatches<'a>) -> Option<About<'a>>
+    ensures some { IfSome result (IsAbout (λ id. first_value (found_of matches.now) id)) }
+    ensures none { IfNone result ((about : Of) → ¬ IsAbout (λ id. first_value (found_of matches.now) id) about) }
+{
+    let Some(node) = matches.get_str("NODE") else {
+        return Some(About::Cluster);
+    };
+    let Some(topic) = matches.get_str("TOPIC") else {
+        return Some(About::Node(node));
+    };
+    let key = matches.get_str("KEY")?;
+    Some(About::Presence(Question { node, topic, key }))
+}
+
 /// The subcommand of this name, with those of the options and words that it takes.
 fn command_of<'a>(
     name: &str,
     options: Options,
     question: Option<Question<'a>>,
+    about: Option<About<'a>>,
 ) -> Option<Subcommand<'a>>
     ensures name { IfSome result (λ command. name.now ≡ name_of command) }
-    ensures takes { IfSome result (Takes options question.entry) }
-    ensures none { IfNone result (IsUnnamed name.now question.entry) }
+    ensures takes { IfSome result (Takes options question.entry about.entry) }
+    ensures none { IfNone result (IsUnnamed name.now question.entry about.entry) }
 {
     match name {
-        "play" => Some(Subcommand::Play),
+        "play" => Some(Subcommand::Play {
+            strict: options.strict,
+        }),
         "race" => Some(Subcommand::Race),
-        "load" => Some(Subcommand::Load),
+        "load" => Some(Subcommand::Load {
+            strict: options.strict,
+        }),
         "import" => Some(Subcommand::Import {
             check: options.check,
             lines: options.lines,
             lenient: options.lenient,
         }),
         "explore" => Some(Subcommand::Explore {
-            reading: options.reading,
+            about: about?,
+            lost: options.lost.unwrap_or(0) as usize,
+            again: options.again.unwrap_or(0) as usize,
             states: options.states.unwrap_or(MOST_STATES) as usize,
             outcome: options.script,
         }),
@@ -286,31 +376,10 @@ fn form_of<'a>(matches: &ArgMatches<'a>, usual: Form) -> Option<Form>
     match matches.get_str("as") {
         None => Some(usual),
         Some("report") => Some(Form::Report),
-        Some("session") => Some(Form::Session),
+        Some("steps") => Some(Form::Steps),
         Some("script") => Some(Form::Script),
+        Some("session") => Some(Form::Session),
         Some(_) => None,
-    }
-}
-
-/// Whether the subcommand prints in this form.
-fn can_print(command: Subcommand<'_>, form: Form) -> bool
-    ensures { result ≡ can_print command.entry form }
-{
-    match (command, form) {
-        (Subcommand::Import { check, .. }, Form::Session) => !check,
-        (Subcommand::Import { .. }, _) => form == Form::Script,
-        (Subcommand::Explore { .. }, _) => form == Form::Report,
-        (_, _) => form != Form::Script,
-    }
-}
-
-/// What to tell of a form in which the subcommand doesn't print.
-fn forms_of(command: Subcommand<'_>) -> &'static str {
-    match command {
-        Subcommand::Import { check: true, .. } => "import --check prints what it found alone",
-        Subcommand::Import { .. } => "--as takes script or session",
-        Subcommand::Explore { .. } => "explore prints a report alone",
-        _ => "--as takes report or session",
     }
 }
 
@@ -328,21 +397,11 @@ fn number_of<'a>(matches: &ArgMatches<'a>, option: &str) -> Option<Option<u64>>
     }
 }
 
-/// Whether a subcommand's words have this option, which takes nothing.
+/// Whether a subcommand's words have this option, which has no value.
 fn has_flag<'a>(matches: &ArgMatches<'a>, option: &str) -> bool
     ensures { IsFlag (first_value (found_of matches.now) option.now) result }
 {
-    matches.get_str(option) == Some("true")
-}
-
-/// How a subcommand's words have orders read.
-fn reading_of<'a>(matches: &ArgMatches<'a>) -> Reading
-    ensures { IsReading (first_value (found_of matches.now) (codes "deliveries")) result }
-{
-    match matches.get_str("deliveries") {
-        Some("true") => Reading::Deliveries,
-        _ => Reading::EveryOrder,
-    }
+    matches!(matches.get_str(option), Some("true"))
 }
 
 /// What the options of a subcommand's words give; or what to tell of a number that is none.
@@ -353,6 +412,12 @@ fn options_of<'a>(matches: &ArgMatches<'a>) -> Result<Options, &'static str>
     let Some(why) = number_of(matches, "why") else {
         return Err("--why takes the number of a step");
     };
+    let Some(lost) = number_of(matches, "lost") else {
+        return Err("--lost takes a number of deliveries");
+    };
+    let Some(again) = number_of(matches, "again") else {
+        return Err("--again takes a number of deliveries");
+    };
     let Some(states) = number_of(matches, "states") else {
         return Err("--states takes a number of states");
     };
@@ -360,14 +425,46 @@ fn options_of<'a>(matches: &ArgMatches<'a>) -> Result<Options, &'static str>
         return Err("--script takes the number of an outcome or of a change");
     };
     Ok(Options {
-        reading: reading_of(matches),
-        why,
-        states,
-        script,
+        strict: has_flag(matches, "strict"),
         check: has_flag(matches, "check"),
         lines: has_flag(matches, "lines"),
         lenient: has_flag(matches, "lenient"),
+        why,
+        lost,
+        again,
+        states,
+        script,
     })
+}
+
+/// Whether the subcommand prints in this form.
+fn can_print(command: Subcommand<'_>, form: Form) -> bool
+    ensures { result ≡ can_print command.entry form }
+{
+    match (command, form) {
+        (Subcommand::Import { check, .. }, Form::Session) => !check,
+        (Subcommand::Import { .. }, _) => form == Form::Script,
+        (Subcommand::Race, _) => form == Form::Report || form == Form::Session,
+        (_, _) => true,
+    }
+}
+
+/// What to tell of a form in which the subcommand doesn't print.
+fn forms_of(command: Subcommand<'_>) -> &'static str {
+    match command {
+        Subcommand::Import { check: true, .. } => "import --check prints what it found alone",
+        Subcommand::Import { .. } => "import prints a script or a session",
+        Subcommand::Race => "race prints a report or a session",
+        _ => "--as takes report, steps, script or session",
+    }
+}
+
+/// What to tell of a name that chooses nothing.
+fn unnamed(name: &str) -> &'static str {
+    match name {
+        "explore" => "explore takes a node, or a node, a topic and a key, or none",
+        _ => "no such subcommand",
+    }
 }
 
 /// What a subcommand's name and words choose; or what to tell where they choose nothing.
@@ -379,8 +476,8 @@ fn chosen<'a>(name: &str, matches: &ArgMatches<'a>) -> Result<Choice<'a>, &'stat
         Ok(options) => options,
         Err(told) => return Err(told),
     };
-    let Some(command) = command_of(name, options, question_of(matches)) else {
-        return Err("no such subcommand");
+    let Some(command) = command_of(name, options, question_of(matches), about_of(matches)) else {
+        return Err(unnamed(name));
     };
     let Some(form) = form_of(matches, usual_form(command)) else {
         return Err(forms_of(command));
@@ -391,11 +488,11 @@ fn chosen<'a>(name: &str, matches: &ArgMatches<'a>) -> Result<Choice<'a>, &'stat
     Ok(Choice { command, form })
 }
 
-/// What the words choose by this line.
+/// The choice that the words spell by this line.
 fn choice_by<'a, S: AsStr>(line: &mut Command<'a>, words: &'a [S]) -> Result<Choice<'a>, Error>
     requires { app_of line.old ≡ app }
-    ensures ok { IfOk result (Chooses (map S.text words.entry.now)) }
-    ensures err { IfErr result (λ fault. IsRefusal (map S.text words.entry.now) (kind_of fault)) }
+    ensures ok { IfOk result (Spells (map S.text words.entry.now)) }
+    ensures err { IfErr result (λ fault. Misspells (map S.text words.entry.now) (kind_of fault)) }
 {
     let matches = line.try_get_matches_from_mut(words)?;
     let Some((name, entered)) = matches.subcommand() else {
@@ -410,13 +507,44 @@ fn choice_by<'a, S: AsStr>(line: &mut Command<'a>, words: &'a [S]) -> Result<Cho
     }
 }
 
-/// What the words after the program's name choose.
-pub fn choice<'a, S: AsStr>(alloc: Global, words: &'a [S]) -> Result<Choice<'a>, Error>
-    ensures chosen { IfOk result (Chooses (map S.text words.entry.now)) }
-    ensures refused { IfErr result (λ fault. IsRefusal (map S.text words.entry.now) (kind_of fault)) }
+/// The choice that the words spell.
+fn spelled<'a, S: AsStr>(alloc: Global, words: &'a [S]) -> Result<Choice<'a>, Error>
+    ensures spells { IfOk result (Spells (map S.text words.entry.now)) }
+    ensures misspells { IfErr result (λ fault. Misspells (map S.text words.entry.now) (kind_of fault)) }
 {
     let mut line = line(alloc)?;
     let choice = choice_by(&mut line, words);
     drop(line);
     choice
+}
+
+/// The choice that the words before a last word `-` spell, where there is one.
+fn spelled_before<'a, S: AsStr>(alloc: Global, words: &'a [S]) -> Result<Option<Choice<'a>>, Error>
+    ensures some { IfOk result (λ choice. IfSome choice (SpellsBefore (map S.text words.entry.now))) }
+    ensures none { IfOk result (λ choice. IfNone choice (NeedsLast (map S.text words.entry.now))) }
+    ensures memory { IfErr result (λ fault. kind_of fault ≡ OutOfMemory) }
+{
+    let Some((last, before)) = words.split_last() else {
+        return Ok(None);
+    };
+    if last.as_str() != "-" {
+        return Ok(None);
+    }
+    match spelled(alloc, before) {
+        Ok(choice) => Ok(Some(choice)),
+        Err(fault) if fault.kind() == ErrorKind::OutOfMemory => Err(fault),
+        Err(_fault) => Ok(None),
+    }
+}
+
+/// What the words after the program's name choose. A last word `-` that can be left out stands for standard input.
+pub fn choice<'a, S: AsStr>(alloc: Global, words: &'a [S]) -> Result<Choice<'a>, Error>
+    ensures chosen { IfOk result (Chooses (map S.text words.entry.now)) }
+    ensures refused { IfErr result (λ fault. IsRefusal (map S.text words.entry.now) (kind_of fault)) }
+{
+    match spelled_before(alloc, words) {
+        Ok(Some(choice)) => Ok(choice),
+        Ok(None) => spelled(alloc, words),
+        Err(fault) => Err(fault),
+    }
 }

@@ -51,6 +51,10 @@ verdict_text Unsent = codes "unsent"
 unfoldable pub finding_text : Machine → List ℕ → Finding → List ℕ
 finding_text m what finding = what ++ codes " " ++ verdict_text finding.verdict ++ codes "\n" ++ step_lines m (codes "by") finding.steps
 
+-- `dot NODE CLOCK`: the presence's dot, by its name and its clock
+unfoldable pub dot_line : Texts → Dot → List ℕ
+dot_line names d = codes "dot " ++ name_at names d.name ++ codes " " ++ decimal d.clock ++ codes "\n"
+
 -- where it has left at its own node: by which step
 unfoldable pub left_text : Machine → Dot → Track → List ℕ
 left_text m d t = if has_left m d then step_line_if m (codes "left") (stand_at t.stands d.name).by else []
@@ -67,11 +71,11 @@ node_text m node d t = finding_text m (codes "at " ++ name_at m.names node) (fin
 unfoldable pub status_text : Machine → ℕ → Dot → List ℕ
 status_text m node d = step_line_if m (codes "status") (last_status None m.state.remaining node d.name)
 
--- of a presence: the step that made it, the one by which it left, how it stands at the node, the status of its name there, and
+-- of a presence: the step that made it, its dot, the step by which it left, how it stands at the node, the status of its name there, and
 -- where it should have gone, why it didn't
 unfoldable pub tracked_text : Machine → ℕ → Making → Track → List ℕ
 tracked_text m node making t =
-    step_line m (codes "made") making.number ++ left_text m making.dot t ++ node_text m node making.dot t ++
+    step_line m (codes "made") making.number ++ dot_line m.names making.dot ++ left_text m making.dot t ++ node_text m node making.dot t ++
     status_text m node making.dot ++ removal_text m node making.dot t
 
 unfoldable pub making_text : Machine → ℕ → Making → List ℕ

@@ -1,6 +1,6 @@
 //! The text of an explanation.
 ghost use Rattle.std.specs.Prelude.{◌≡◌, ◌++◌, IfOk, OnOk, codes, string_bytes};
-ghost use Rattle.explain_core.specs.Explanations.{explanation, finding_text, head_line, labelled, left_text, making_text, making_texts, node_text, removal_text, status_text, step_line, step_line_if, step_lines, tracked_text, verdict_text};
+ghost use Rattle.explain_core.specs.Explanations.{dot_line, explanation, finding_text, head_line, labelled, left_text, making_text, making_texts, node_text, removal_text, status_text, step_line, step_line_if, step_lines, tracked_text, verdict_text};
 
 use crate::finding::{Finding, Verdict, finding_of, has_left, last_status, missing};
 use crate::making::{Making, makings_of};
@@ -148,6 +148,20 @@ fn put_node<'a, A: Allocator, B: Allocator>(
     put_steps(bench, text, "by", &finding.steps)
 }
 
+/// `dot NODE CLOCK`.
+#[tactic(auto, unfolding(crate::specs::Explanations::dot_line))]
+fn put_dot<'a, A: Allocator, B: Allocator>(
+    bench: &Bench<'a, B>,
+    text: &mut String<A>,
+    dot: Dot,
+) -> Result<(), Oom>
+    ensures { OnOk result (string_bytes text.new ≡ string_bytes text.old ++ dot_line bench.now.names dot) }
+{
+    let name = name_at(bench.names(), dot.name);
+    let clock = dot.clock;
+    Ok(writeln!(text, "dot {name} {clock}")?)
+}
+
 /// The last status step of the node about the presence's name.
 #[tactic(auto, unfolding(crate::specs::Explanations::status_text))]
 fn put_status<'a, A: Allocator, B: Allocator>(
@@ -195,6 +209,7 @@ fn put_tracked<'a, A: Allocator, B: Allocator>(
     ensures { OnOk result (string_bytes text.new ≡ string_bytes text.old ++ tracked_text bench.now node making track.now) }
 {
     put_step(bench, text, "made", making.number)?;
+    put_dot(bench, text, making.dot)?;
     put_left(bench, text, making.dot, track)?;
     put_node(bench, text, node, making.dot, track, alloc)?;
     put_status(bench, text, node, making.dot)?;

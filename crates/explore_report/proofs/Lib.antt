@@ -1,4 +1,1 @@
-pub mod Calls
-pub mod Places
-pub mod Printed
-pub mod Reported
+pub mod Told

@@ -1,5 +1,4 @@
-pub mod Grouped
-pub mod OrderText
-pub mod Ranks
-pub mod ReportText
-pub mod Reports
+pub mod Texts
+pub mod Faults
+pub mod Asked
+pub mod Answers

@@ -1,18 +1,18 @@
-//! What all orders of a script's act lines lead to, as a text, and the order of each outcome as a script.
+//! What the network could have made of the steps of a bench, as a text; and the run of one outcome as a script.
 //!
-//! It stands on `explore_core` (all orders), `grammar_core` (scripts) and `report_core` (what is printed of a bench); it names
-//! the plain types of `bench_core`. In the order to read them: `grouping`, the lines of each actor; `order_text`, an order as a
-//! script that plays it; `report_text`, the text; `ranking`, outcomes by how many orders lead to them; `report_fault`;
-//! `reporting`, from a script to its text; `laws`, which calls an order's actors give.
+//! It stands on `explore_network`, which finds the outcomes, on `report_core`, which prints rows and nodes, and on `transcript_core`,
+//! which prints steps as lines of a script. In the order to read them: `run_text`, a run as a script; `shown_text`, what an outcome
+//! shows; `telling`, the whole text; `question`, what is asked by words; `asking`, from that to the text; and `report_fault`, why
+//! nothing is told.
 #![tactic(auto)]
 
-mod grouping;
-pub mod laws;
-mod order_text;
-mod ranking;
+mod asking;
+mod question;
 mod report_fault;
-mod report_text;
-mod reporting;
+mod run_text;
+mod shown_text;
+mod telling;
 
+pub use asking::{explore_asked, run_of_outcome};
+pub use question::{About, Question};
 pub use report_fault::ReportFault;
-pub use reporting::{order_of_outcome, report_orders};

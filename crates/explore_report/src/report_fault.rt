@@ -1,20 +1,26 @@
-//! `ReportFault`: why there is no text.
+//! `ReportFault`: why nothing is told.
 ghost use Rattle.std.specs.Prelude.{◌≡◌};
+ghost use Rattle.explore_report.specs.Faults.{fault_of_explore};
 
-use explore_core::ExploreFault;
-use grammar_core::ScriptFault;
-use payload_core::Oom;
+use explore_network::ExploreFault;
+use payload_core::{Oom, WordFault};
 use thiserror::Error;
 
-/// Why what all orders of a script's lines lead to isn't told.
+/// Why nothing is told.
 #[derive(Clone, Copy, Debug, PartialEq, Eq, Error)]
 pub enum ReportFault {
-    /// A line is no act line. Want of memory is never in it.
-    #[error("{0}")]
-    Script(ScriptFault),
-    /// More different states would be kept than may be.
-    #[error("TooManyStates")]
-    TooManyStates,
+    /// No node has this name.
+    #[error("NoSuchNode")]
+    NoSuchNode,
+    /// The text is no word, so nothing is tracked under it.
+    #[error("NoWord")]
+    NoWord,
+    /// So many states were kept, which is all that may be, and there was another; so many outcomes had been found.
+    #[error("TooManyStates, more than {states}, outcomes so far {outcomes}")]
+    TooManyStates { states: usize, outcomes: usize },
+    /// In some order the joins and updates could fill a node.
+    #[error("MayFill")]
+    MayFill,
     /// There are so many outcomes, and none has the number that was asked for.
     #[error("NoSuchOutcome, there are {outcomes}")]
     NoSuchOutcome { outcomes: usize },
@@ -33,15 +39,28 @@ impl From<Oom> for ReportFault {
     }
 }
 
-impl From<ExploreFault> for ReportFault {
-    ghost use Rattle.explore_report.specs.Reports.{fault_of_explore};
+impl From<WordFault> for ReportFault {
+    ghost use Rattle.explore_report.specs.Faults.{fault_of_word};
 
-    ghost from_gives = { λ fault given. given ≡ fault_of_explore fault };
+    ghost from_gives = { λ fault given. given ≡ fault_of_word fault };
 
-    fn from(fault: ExploreFault) -> ReportFault {
+    fn from(fault: WordFault) -> ReportFault {
         match fault {
-            ExploreFault::TooMany { .. } => ReportFault::TooManyStates,
-            ExploreFault::OutOfMemory => ReportFault::OutOfMemory,
+            WordFault::BadWord => ReportFault::NoWord,
+            WordFault::OutOfMemory => ReportFault::OutOfMemory,
         }
+    }
+}
+
+/// The same of a walk that may keep so many states.
+pub(crate) fn fault_of(fault: ExploreFault, states: usize) -> ReportFault
+    ensures { result ≡ fault_of_explore states fault }
+{
+    match fault {
+        ExploreFault::TooManyStates { outcomes } => {
+            ReportFault::TooManyStates { states, outcomes }
+        }
+        ExploreFault::MayFill => ReportFault::MayFill,
+        ExploreFault::OutOfMemory => ReportFault::OutOfMemory,
     }
 }

@@ -3,37 +3,37 @@ use Rattle.std.proofs.Common.{◌≡◌, inl, inr, ℕ, Bool, true, false, List,
 use Rattle.std.specs.Io.KnownBytes.{Appends, Keeps}
 use Rattle.bench_core.specs.Limits.{Limits}
 use Rattle.command_line.specs.declared.chosen.Form.{Form}
-use Rattle.command_line.specs.declared.chosen.Form.TheVariants.{Report, Session, Script}
+use Rattle.command_line.specs.declared.chosen.Form.TheVariants as forms
 use Rattle.command_line.specs.declared.chosen.Subcommand.TheVariants.{Import}
 use Rattle.stream_core.specs.Inputs.{IsWhole}
 use Rattle.stream_core.specs.Steps.{Steps}
 use Rattle.import_core.specs.declared.fault.FaultKind.{FaultKind}
 use Rattle.import_core.specs.declared.fault.FaultKind.TheVariants as kinds
 use Rattle.import_core.specs.declared.fault.ImportFault.{ImportFault}
-use Rattle.import_report.specs.Scripts.{IsRefused}
 use Rattle.program_core.specs.declared.fault.Fault.{Fault}
 use Rattle.program_core.specs.declared.fault.Fault.TheVariants as faults
-use Rattle.program_core.specs.Imported.{EndsAsMade, IsLeftOut, IsMade, RefusesEvents, RefusesEventsAt, RefusesImport, RefusesImportAt, TellsLeft, TellsLines}
+use Rattle.program_core.specs.Imported.{EndsAsMade, IsLeftOut, IsMade, IsUnmade, RefusesEvents, RefusesEventsAt, RefusesImport, RefusesImportAt, TellsLeft, TellsLines}
 use Rattle.program_core.specs.Program.{EndsAsText, EndsAt, Ends, FailsAs, IsUnwritten, KeepsBefore, TellsMemory, fault_of_import}
 use Rattle.program_core.proofs.Printed.{cause_ends}
 
 -- the fault of an import as the program's
 
-by_kind : (lines lenient : Bool) (limits : Limits) (input : List ℕ) (line : ℕ) (kind : FaultKind) → IsRefused lenient lines limits input (record { line = line; kind = kind }) →
-    RefusesImport lines lenient limits input (fault_of_import (record { line = line; kind = kind }))
-by_kind lines lenient limits input line kinds.TooLong is = is
-by_kind lines lenient limits input line kinds.NotJson is = is
-by_kind lines lenient limits input line kinds.BadEvent is = is
-by_kind lines lenient limits input line kinds.TooManyNodes is = is
-by_kind lines lenient limits input line kinds.NoNodes is = is
-by_kind lines lenient limits input line kinds.Twice is = is
-by_kind lines lenient limits input line kinds.NeverSent is = is
-by_kind lines lenient limits input line kinds.Circle is = is
-by_kind lines lenient limits input line kinds.OutOfMemory is = tt
+module _ (check lines lenient : Bool) (form : Form) (limits : Limits) (input : List ℕ) where
+  by_kind : (line : ℕ) (kind : FaultKind) → IsUnmade check lines lenient form limits input (record { line = line; kind = kind }) →
+      RefusesImport check lines lenient form limits input (fault_of_import (record { line = line; kind = kind }))
+  by_kind line kinds.TooLong is = is
+  by_kind line kinds.NotJson is = is
+  by_kind line kinds.BadEvent is = is
+  by_kind line kinds.TooManyNodes is = is
+  by_kind line kinds.NoNodes is = is
+  by_kind line kinds.Twice is = is
+  by_kind line kinds.NeverSent is = is
+  by_kind line kinds.Circle is = is
+  by_kind line kinds.OutOfMemory is = tt
 
-pub refuses_import : (lines lenient : Bool) (limits : Limits) (input : List ℕ) (fault : ImportFault) → IsRefused lenient lines limits input fault →
-    RefusesImport lines lenient limits input (fault_of_import fault)
-refuses_import lines lenient limits input fault is = by_kind lines lenient limits input fault.line fault.kind is
+  pub refuses_import : (fault : ImportFault) → IsUnmade check lines lenient form limits input fault →
+      RefusesImport check lines lenient form limits input (fault_of_import fault)
+  refuses_import fault is = by_kind fault.line fault.kind is
 
 memory_by : (line : ℕ) (kind : FaultKind) → TellsMemory (fault_of_import (record { line = line; kind = kind }))
 memory_by line kinds.TooLong = λ e. cc
@@ -82,7 +82,7 @@ import_unread fault e = read_by fault.line fault.kind e
 module _ (check lines lenient : Bool) (form : Form) (limits : Limits) (text left_out : List ℕ) (old new : Option (List ℕ)) where
   ends_made : (input : List ℕ) (differs : Bool) (r : Result (Unit {0}) Fault) → IsMade check lines lenient form limits input text differs left_out →
       EndsAsMade text differs r old new → Ends (Import check lines lenient) form limits input r old new
-  ends_made input differs (Ok u) is e = (text, (left_out, subst (λ b. IsMade check lines lenient form limits input text b left_out) e.0 is), e.1)
+  ends_made input differs (Ok u) is e = (text, (left_out, subst (λ b. IsMade check lines lenient form limits input text b left_out) e.0 is), e.1, refl)
   ends_made input differs (Err faults.Differs) is e = (text, (left_out, subst (λ b. IsMade check lines lenient form limits input text b left_out) e.0 is), e.1)
   ends_made input true (Err (faults.WriteFault written)) is e = (text, inr (left_out, is), e.0, e.1)
   ends_made input false (Err (faults.WriteFault written)) is e = (text, inl (left_out, is), e.0, e.1)
@@ -92,10 +92,11 @@ module _ (check lines lenient : Bool) (form : Form) (limits : Limits) (text left
   ends_made input differs (Err (faults.Import fault)) is e = elim e [ ]
   ends_made input differs (Err faults.LongImport) is e = elim e [ ]
   ends_made input differs (Err (faults.Race fault)) is e = elim e [ ]
-  ends_made input differs (Err (faults.TooManyStates most)) is e = elim e [ ]
-  ends_made input differs (Err (faults.NoSuchOutcome outcomes)) is e = elim e [ ]
+  ends_made input differs (Err (faults.Explore fault)) is e = elim e [ ]
   ends_made input differs (Err (faults.Explain fault)) is e = elim e [ ]
   ends_made input differs (Err (faults.Whatif fault)) is e = elim e [ ]
+  ends_made input differs (Err (faults.Transcript fault)) is e = elim e [ ]
+  ends_made input differs (Err (faults.Refused act)) is e = elim e [ ]
   ends_made input differs (Err (faults.Prompt fault)) is e = elim e [ ]
   ends_made input differs (Err faults.ReadFault) is e = elim e [ ]
   ends_made input differs (Err faults.OutOfMemory) is e = elim e [ ]
@@ -118,10 +119,11 @@ module _ (text : List ℕ) (differs : Bool) (old new : Option (List ℕ)) where
   made_before (Err (faults.Import fault)) e = elim e [ ]
   made_before (Err faults.LongImport) e = elim e [ ]
   made_before (Err (faults.Race fault)) e = elim e [ ]
-  made_before (Err (faults.TooManyStates most)) e = elim e [ ]
-  made_before (Err (faults.NoSuchOutcome outcomes)) e = elim e [ ]
+  made_before (Err (faults.Explore fault)) e = elim e [ ]
   made_before (Err (faults.Explain fault)) e = elim e [ ]
   made_before (Err (faults.Whatif fault)) e = elim e [ ]
+  made_before (Err (faults.Transcript fault)) e = elim e [ ]
+  made_before (Err (faults.Refused act)) e = elim e [ ]
   made_before (Err (faults.Prompt fault)) e = elim e [ ]
   made_before (Err faults.ReadFault) e = elim e [ ]
   made_before (Err faults.OutOfMemory) e = elim e [ ]
@@ -136,10 +138,11 @@ module _ (text : List ℕ) (differs : Bool) (old new : Option (List ℕ)) where
   made_memory (Err (faults.Import fault)) e = elim e [ ]
   made_memory (Err faults.LongImport) e = elim e [ ]
   made_memory (Err (faults.Race fault)) e = elim e [ ]
-  made_memory (Err (faults.TooManyStates most)) e = elim e [ ]
-  made_memory (Err (faults.NoSuchOutcome outcomes)) e = elim e [ ]
+  made_memory (Err (faults.Explore fault)) e = elim e [ ]
   made_memory (Err (faults.Explain fault)) e = elim e [ ]
   made_memory (Err (faults.Whatif fault)) e = elim e [ ]
+  made_memory (Err (faults.Transcript fault)) e = elim e [ ]
+  made_memory (Err (faults.Refused act)) e = elim e [ ]
   made_memory (Err (faults.Prompt fault)) e = elim e [ ]
   made_memory (Err faults.ReadFault) e = elim e [ ]
   made_memory (Err faults.OutOfMemory) e = elim e [ ]
@@ -154,47 +157,49 @@ module _ (text : List ℕ) (differs : Bool) (old new : Option (List ℕ)) where
   made_fails (Err (faults.Import fault)) before after e same = elim e [ ]
   made_fails (Err faults.LongImport) before after e same = elim e [ ]
   made_fails (Err (faults.Race fault)) before after e same = elim e [ ]
-  made_fails (Err (faults.TooManyStates most)) before after e same = elim e [ ]
-  made_fails (Err (faults.NoSuchOutcome outcomes)) before after e same = elim e [ ]
+  made_fails (Err (faults.Explore fault)) before after e same = elim e [ ]
   made_fails (Err (faults.Explain fault)) before after e same = elim e [ ]
   made_fails (Err (faults.Whatif fault)) before after e same = elim e [ ]
+  made_fails (Err (faults.Transcript fault)) before after e same = elim e [ ]
+  made_fails (Err (faults.Refused act)) before after e same = elim e [ ]
   made_fails (Err (faults.Prompt fault)) before after e same = elim e [ ]
   made_fails (Err faults.ReadFault) before after e same = elim e [ ]
   made_fails (Err faults.OutOfMemory) before after e same = elim e [ ]
 
 -- what refuses them
 
-pub refused_ends : (check lines lenient : Bool) (form : Form) (limits : Limits) (known old : Option (List ℕ)) (fault : Fault) →
-    RefusesImportAt lines lenient limits known fault → IsUnwritten fault → EndsAt (Import check lines lenient) form limits known (Err fault) old old
-refused_ends check lines lenient form limits None old fault cause before = tt
-refused_ends check lines lenient form limits (Some input) old fault cause before = cause_ends (Import check lines lenient) form limits input fault old cause before
+module _ (check lines lenient : Bool) (form : Form) (limits : Limits) where
+  pub refused_ends : (known old : Option (List ℕ)) (fault : Fault) → RefusesImportAt check lines lenient form limits known fault → IsUnwritten fault →
+      EndsAt (Import check lines lenient) form limits known (Err fault) old old
+  refused_ends None old fault cause before = tt
+  refused_ends (Some input) old fault cause before = cause_ends (Import check lines lenient) form limits input fault old cause before
 
-pub refuses_whole : (lines lenient : Bool) (limits : Limits) (known : Option (List ℕ)) (bytes : List ℕ) (fault : Fault) → IsWhole known bytes →
-    RefusesImport lines lenient limits bytes fault → RefusesImportAt lines lenient limits known fault
-refuses_whole lines lenient limits None bytes fault whole refuses = tt
-refuses_whole lines lenient limits (Some input) bytes fault whole refuses = subst (λ (b : List ℕ). RefusesImport lines lenient limits b fault) whole refuses
+  pub refuses_whole : (known : Option (List ℕ)) (bytes : List ℕ) (fault : Fault) → IsWhole known bytes →
+      RefusesImport check lines lenient form limits bytes fault → RefusesImportAt check lines lenient form limits known fault
+  refuses_whole None bytes fault whole refuses = tt
+  refuses_whole (Some input) bytes fault whole refuses = subst (λ (b : List ℕ). RefusesImport check lines lenient form limits b fault) whole refuses
 
-events_refuse : (lines lenient : Bool) (limits : Limits) (input : List ℕ) (fault : Fault) → RefusesEvents input fault → RefusesImport lines lenient limits input fault
-events_refuse lines lenient limits input faults.LongImport refuses = refuses
-events_refuse lines lenient limits input faults.ReadFault refuses = tt
-events_refuse lines lenient limits input faults.OutOfMemory refuses = tt
-events_refuse lines lenient limits input (faults.Script fault) refuses = elim refuses [ ]
-events_refuse lines lenient limits input (faults.Session fault) refuses = elim refuses [ ]
-events_refuse lines lenient limits input faults.LongSession refuses = elim refuses [ ]
-events_refuse lines lenient limits input (faults.Import fault) refuses = elim refuses [ ]
-events_refuse lines lenient limits input faults.Differs refuses = elim refuses [ ]
-events_refuse lines lenient limits input (faults.Race fault) refuses = elim refuses [ ]
-events_refuse lines lenient limits input (faults.TooManyStates most) refuses = elim refuses [ ]
-events_refuse lines lenient limits input (faults.NoSuchOutcome outcomes) refuses = elim refuses [ ]
-events_refuse lines lenient limits input (faults.Explain fault) refuses = elim refuses [ ]
-events_refuse lines lenient limits input (faults.Whatif fault) refuses = elim refuses [ ]
-events_refuse lines lenient limits input (faults.Prompt fault) refuses = elim refuses [ ]
-events_refuse lines lenient limits input (faults.WriteFault written) refuses = elim refuses [ ]
+  events_refuse : (input : List ℕ) (fault : Fault) → RefusesEvents input fault → RefusesImport check lines lenient form limits input fault
+  events_refuse input faults.LongImport refuses = refuses
+  events_refuse input faults.ReadFault refuses = tt
+  events_refuse input faults.OutOfMemory refuses = tt
+  events_refuse input (faults.Script fault) refuses = elim refuses [ ]
+  events_refuse input (faults.Session fault) refuses = elim refuses [ ]
+  events_refuse input faults.LongSession refuses = elim refuses [ ]
+  events_refuse input (faults.Import fault) refuses = elim refuses [ ]
+  events_refuse input faults.Differs refuses = elim refuses [ ]
+  events_refuse input (faults.Race fault) refuses = elim refuses [ ]
+  events_refuse input (faults.Explore fault) refuses = elim refuses [ ]
+  events_refuse input (faults.Explain fault) refuses = elim refuses [ ]
+  events_refuse input (faults.Whatif fault) refuses = elim refuses [ ]
+  events_refuse input (faults.Transcript fault) refuses = elim refuses [ ]
+  events_refuse input (faults.Refused act) refuses = elim refuses [ ]
+  events_refuse input (faults.Prompt fault) refuses = elim refuses [ ]
+  events_refuse input (faults.WriteFault written) refuses = elim refuses [ ]
 
-pub events_refuse_at : (lines lenient : Bool) (limits : Limits) (known : Option (List ℕ)) (fault : Fault) → RefusesEventsAt known fault →
-    RefusesImportAt lines lenient limits known fault
-events_refuse_at lines lenient limits None fault refuses = tt
-events_refuse_at lines lenient limits (Some input) fault refuses = events_refuse lines lenient limits input fault refuses
+  pub events_refuse_at : (known : Option (List ℕ)) (fault : Fault) → RefusesEventsAt known fault → RefusesImportAt check lines lenient form limits known fault
+  events_refuse_at None fault refuses = tt
+  events_refuse_at (Some input) fault refuses = events_refuse input fault refuses
 
 -- what is told beside it
 
@@ -207,9 +212,10 @@ told_left check lines lenient form limits (Some input) bytes text differs left_o
   where
     by : (check : Bool) (form : Form) → IsMade check lines lenient form limits bytes text differs left_out → IsLeftOut lenient bytes left_out
     by true form is = (is.tables, is.notes, is.order, is.import)
-    by false Session (same, m, is, text) = (is.tables, is.notes, is.order, is.import)
-    by false Script (same, m, is) = (is.tables, is.notes, is.order, is.import)
-    by false Report (same, m, is) = (is.tables, is.notes, is.order, is.import)
+    by false forms.Session (same, m, is, text) = (is.tables, is.notes, is.order, is.import)
+    by false forms.Script (same, m, is) = (is.tables, is.notes, is.order, is.import)
+    by false forms.Report (same, m, is) = (is.tables, is.notes, is.order, is.import)
+    by false forms.Steps (same, m, is) = (is.tables, is.notes, is.order, is.import)
 
 pub told_nothing : (lenient : Bool) (known old : Option (List ℕ)) → TellsLeft lenient known old old
 told_nothing lenient None old = tt

@@ -2,3 +2,4 @@ pub mod Fronts
 pub mod Printed
 pub mod Raced
 pub mod ImportEnds
+pub mod ShownEnds

@@ -1,5 +1,5 @@
 -- What a text that was written is, for the input that it was made of.
-use Rattle.std.proofs.Common.{◌≡◌, inl, inr, List, ℕ, Option, None, Some, Result, Ok, Err, IfErr, IfOk, IsOkAnd, OnOk, refl, sym, subst, arith}
+use Rattle.std.proofs.Common.{◌≡◌, ◌≢◌, inl, inr, List, ℕ, Option, None, Some, Result, Ok, Err, IfErr, IfOk, IsOkAnd, OnOk, refl, sym, subst, arith}
 use Rattle.std.proofs.lemmas.Bool.Decides.{nat_tests}
 use Rattle.std.specs.Io.KnownBytes.{Appends, Keeps}
 use Rattle.bench_core.specs.Limits.{Limits}
@@ -12,24 +12,27 @@ use Rattle.whatif_report.specs.declared.whatif_fault.WhatifFault.TheVariants as 
 use Rattle.command_line.specs.declared.chosen.Question.{Question}
 use Rattle.grammar_core.specs.Grammar.{script_of}
 use Rattle.stream_core.specs.Inputs.{IsLonger}
-use Rattle.run_core.specs.Report.{history_text, played, report_of}
+use Rattle.run_core.specs.Report.{history_text, report_of}
 use Rattle.grammar_core.specs.Scripts.{Script}
 use Rattle.grammar_core.specs.declared.fault.FaultKind.TheVariants.{TooLong}
 use Rattle.command_line.specs.declared.chosen.Form.{Form}
+use Rattle.command_line.specs.declared.chosen.Form.TheVariants as forms
 use Rattle.command_line.specs.declared.chosen.Subcommand.{Subcommand}
-use Rattle.command_line.specs.declared.chosen.Subcommand.TheVariants.{Play, Race, Load, Explore, Step, Draw, Explain, Whatif}
+use Rattle.command_line.specs.declared.chosen.Subcommand.TheVariants.{Race, Explore, Step, Draw, Explain, Whatif}
 use Rattle.program_core.specs.declared.fault.Fault.{Fault}
 use Rattle.program_core.specs.declared.fault.Fault.TheVariants as faults
 use Rattle.grammar_core.specs.declared.fault.ScriptFault.{ScriptFault}
-use Rattle.command_line.specs.declared.chosen.Reading.{Reading}
-use Rattle.program_core.specs.Explored.{TellsOrders, reading_of}
+use Rattle.command_line.specs.declared.chosen.About.{About}
+use Rattle.explore_report.specs.declared.report_fault.ReportFault.{ReportFault}
+use Rattle.explore_report.specs.declared.report_fault.ReportFault.TheVariants as reports
+use Rattle.program_core.specs.Explored.{RefusesExplored, TellsExplored, asked_of, fault_of_explore}
 use Rattle.prompt_core.specs.Ends.{Answers, EndsEarly, ReportLaw, printed}
 use Rattle.prompt_core.specs.declared.prompt_fault.PromptFault.{PromptFault}
 use Rattle.stream_core.specs.Steps.{Steps}
 use Rattle.command_line.specs.Help.{language}
 use Rattle.program_core.specs.Races.{IsRaceOf}
 use Rattle.program_core.specs.Whatifs.{RefusesWhatif, TellsWhatif, fault_of_whatif}
-use Rattle.program_core.specs.Program.{FailsAs, IsBenchAt, IsBenchOf, IsCauseOf, IsUnwritten, RefusesBenchAt, fault_of_ask, IsScriptAt, IsSessionAt, Prints, RefusesScriptAt, drawn, Ends, EndsAt, EndsAsText, EndsSoon, KeepsBefore, TellsMemory, question_of, shown}
+use Rattle.program_core.specs.Program.{FailsAs, IsBenchAt, IsBenchOf, IsCauseOf, IsUnwritten, RefusesBenchAt, fault_of_ask, IsScriptAt, Prints, RefusesScriptAt, Tells, drawn, Ends, EndsAt, EndsAsText, EndsSoon, KeepsBefore, TellsMemory, question_of, shown}
 
 -- an input past the limit has that fault
 pub too_long : (known : Option (List ℕ)) → IsLonger known 1048576 → RefusesScriptAt known (faults.Script (record { line = 0; kind = TooLong }))
@@ -42,51 +45,48 @@ pub always : (r : Result (Unit {0}) Fault) (X : Type 0) → X → OnOk r X
 always (Ok u) X x = x
 always (Err fault) X x = tt
 
+-- but for a session the report is what is shown
+pub shown_report : (form : Form) (report : List ℕ) (bench : Machine) → form ≢ forms.Session → report ≡ shown form report bench
+shown_report forms.Report report bench other = refl
+shown_report forms.Steps report bench other = refl
+shown_report forms.Script report bench other = refl
+shown_report forms.Session report bench other = absurd (other refl)
+
 module _ (form : Form) (limits : Limits) (text : List ℕ) (old new : Option (List ℕ)) where
-  ends : (command : Subcommand) (input : List ℕ) (r : Result (Unit {0}) Fault) → Prints command form limits input text →
+  ends : (command : Subcommand) (input : List ℕ) (r : Result (Unit {0}) Fault) → Prints command form limits input text → Tells command limits input None →
       EndsAsText text r old new → Ends command form limits input r old new
-  ends command input (Ok u) p e = (text, p, e)
-  ends command input (Err (faults.WriteFault written)) p e = (text, inl p, e.0, e.1)
-  ends command input (Err (faults.Script fault)) p e = elim e [ ]
-  ends command input (Err (faults.Session fault)) p e = elim e [ ]
-  ends command input (Err faults.LongSession) p e = elim e [ ]
-  ends command input (Err (faults.Import fault)) p e = elim e [ ]
-  ends command input (Err faults.LongImport) p e = elim e [ ]
-  ends command input (Err faults.Differs) p e = elim e [ ]
-  ends command input (Err (faults.Race fault)) p e = elim e [ ]
-  ends command input (Err (faults.TooManyStates most)) p e = elim e [ ]
-  ends command input (Err (faults.Explain fault)) p e = elim e [ ]
-  ends command input (Err (faults.Whatif fault)) p e = elim e [ ]
-  ends command input (Err (faults.Prompt fault)) p e = elim e [ ]
-  ends command input (Err (faults.NoSuchOutcome outcomes)) p e = elim e [ ]
-  ends command input (Err faults.ReadFault) p e = elim e [ ]
-  ends command input (Err faults.OutOfMemory) p e = elim e [ ]
-
-  pub ends_play : (known : Option (List ℕ)) (s : Script) (r : Result (Unit {0}) Fault) → IsScriptAt known s →
-      text ≡ shown form (report_of limits s) (played limits s) → EndsAsText text r old new → EndsAt Play form limits known r old new
-  ends_play None s r k is e = tt
-  ends_play (Some input) s r k is e =
-      ends Play input r (subst (λ o. IsOkAnd o (λ s. text ≡ shown form (report_of limits s) (played limits s))) (sym k) is) e
-
-  pub ends_load : (known : Option (List ℕ)) (m : Machine) (r : Result (Unit {0}) Fault) → IsSessionAt known m →
-      text ≡ shown form (history_text m) m → EndsAsText text r old new → EndsAt Load form limits known r old new
-  ends_load None m r k is e = tt
-  ends_load (Some input) m r k is e = ends Load input r (m, k, is) e
+  ends command input (Ok u) p none e = (text, p, e, none)
+  ends command input (Err (faults.WriteFault written)) p none e = (text, inl p, e.0, e.1)
+  ends command input (Err (faults.Script fault)) p none e = elim e [ ]
+  ends command input (Err (faults.Session fault)) p none e = elim e [ ]
+  ends command input (Err faults.LongSession) p none e = elim e [ ]
+  ends command input (Err (faults.Import fault)) p none e = elim e [ ]
+  ends command input (Err faults.LongImport) p none e = elim e [ ]
+  ends command input (Err faults.Differs) p none e = elim e [ ]
+  ends command input (Err (faults.Race fault)) p none e = elim e [ ]
+  ends command input (Err (faults.Explore fault)) p none e = elim e [ ]
+  ends command input (Err (faults.Explain fault)) p none e = elim e [ ]
+  ends command input (Err (faults.Whatif fault)) p none e = elim e [ ]
+  ends command input (Err (faults.Prompt fault)) p none e = elim e [ ]
+  ends command input (Err faults.ReadFault) p none e = elim e [ ]
+  ends command input (Err (faults.Transcript fault)) p none e = elim e [ ]
+  ends command input (Err (faults.Refused act)) p none e = elim e [ ]
+  ends command input (Err faults.OutOfMemory) p none e = elim e [ ]
 
   pub ends_draw : (why : Option ℕ) (known : Option (List ℕ)) (m : Machine) (r : Result (Unit {0}) Fault) → IsBenchAt limits known m →
       text ≡ drawn why m → EndsAsText text r old new → EndsAt (Draw why) form limits known r old new
   ends_draw why None m r k is e = tt
-  ends_draw why (Some input) m r k is e = ends (Draw why) input r (m, k, is) e
+  ends_draw why (Some input) m r k is e = ends (Draw why) input r (m, k, is) refl e
 
   pub ends_explain : (question : Question) (known : Option (List ℕ)) (m : Machine) (r : Result (Unit {0}) Fault) → IsBenchAt limits known m →
       IsAnswer m (question_of question) text → EndsAsText text r old new → EndsAt (Explain question) form limits known r old new
   ends_explain question None m r k told e = tt
-  ends_explain question (Some input) m r k told e = ends (Explain question) input r (m, k, told) e
+  ends_explain question (Some input) m r k told e = ends (Explain question) input r (m, k, told) refl e
 
   pub ends_whatif : (question : Question) (change : Option ℕ) (known : Option (List ℕ)) (m : Machine) (r : Result (Unit {0}) Fault) → IsBenchAt limits known m →
       TellsWhatif m question change text → EndsAsText text r old new → EndsAt (Whatif question change) form limits known r old new
   ends_whatif question change None m r k told e = tt
-  ends_whatif question change (Some input) m r k told e = ends (Whatif question change) input r (m, k, told) e
+  ends_whatif question change (Some input) m r k told e = ends (Whatif question change) input r (m, k, told) refl e
 
   pub ends_race : (known : Option (List ℕ)) (s : Script) (m : Machine) (r : Result (Unit {0}) Fault) → IsScriptAt known s →
       IsRaceOf limits s m → text ≡ shown form (history_text m) m → EndsAsText text r old new → EndsAt Race form limits known r old new
@@ -94,14 +94,12 @@ module _ (form : Form) (limits : Limits) (text : List ℕ) (old new : Option (Li
   ends_race (Some input) s m r k raced is e =
       let P : Result Script ScriptFault → Type 0 =
       λ o. IsOkAnd o (λ s. (m : Machine) × IsRaceOf limits s m × (text ≡ shown form (history_text m) m)) in
-      ends Race input r (subst P (sym k) (m, raced, is)) e
+      ends Race input r (subst P (sym k) (m, raced, is)) refl e
 
-  pub ends_explore : (reading : Reading) (states : ℕ) (outcome : Option ℕ) (known : Option (List ℕ)) (s : Script) (r : Result (Unit {0}) Fault) → IsScriptAt known s →
-      TellsOrders (reading_of reading) outcome limits s text → EndsAsText text r old new → EndsAt (Explore reading states outcome) form limits known r old new
-  ends_explore reading states outcome None s r k told e = tt
-  ends_explore reading states outcome (Some input) s r k told e =
-      let P : Result Script ScriptFault → Type 0 = λ o. IsOkAnd o (λ s. TellsOrders (reading_of reading) outcome limits s text) in
-      ends (Explore reading states outcome) input r (subst P (sym k) told) e
+  pub ends_explore : (about : About) (lost again states : ℕ) (outcome : Option ℕ) (known : Option (List ℕ)) (m : Machine) (r : Result (Unit {0}) Fault) → IsBenchAt limits known m →
+      TellsExplored m (asked_of about lost again states) outcome text → EndsAsText text r old new → EndsAt (Explore about lost again states outcome) form limits known r old new
+  ends_explore about lost again states outcome None m r k told e = tt
+  ends_explore about lost again states outcome (Some input) m r k told e = ends (Explore about lost again states outcome) input r (m, k, told) refl e
 
   -- a text that goes out meets no fault but that of a write
   pub keeps_before : (r : Result (Unit {0}) Fault) → EndsAsText text r old new → IfErr r (λ fault. KeepsBefore fault old new)
@@ -114,12 +112,13 @@ module _ (form : Form) (limits : Limits) (text : List ℕ) (old new : Option (Li
   keeps_before (Err faults.LongImport) e = elim e [ ]
   keeps_before (Err faults.Differs) e = elim e [ ]
   keeps_before (Err (faults.Race fault)) e = elim e [ ]
-  keeps_before (Err (faults.TooManyStates most)) e = elim e [ ]
+  keeps_before (Err (faults.Explore fault)) e = elim e [ ]
   keeps_before (Err (faults.Explain fault)) e = elim e [ ]
   keeps_before (Err (faults.Whatif fault)) e = elim e [ ]
   keeps_before (Err (faults.Prompt fault)) e = elim e [ ]
-  keeps_before (Err (faults.NoSuchOutcome outcomes)) e = elim e [ ]
   keeps_before (Err faults.ReadFault) e = elim e [ ]
+  keeps_before (Err (faults.Transcript fault)) e = elim e [ ]
+  keeps_before (Err (faults.Refused act)) e = elim e [ ]
   keeps_before (Err faults.OutOfMemory) e = elim e [ ]
 
   pub tells_memory : (r : Result (Unit {0}) Fault) → EndsAsText text r old new → IfErr r TellsMemory
@@ -132,12 +131,13 @@ module _ (form : Form) (limits : Limits) (text : List ℕ) (old new : Option (Li
   tells_memory (Err faults.LongImport) e = elim e [ ]
   tells_memory (Err faults.Differs) e = elim e [ ]
   tells_memory (Err (faults.Race fault)) e = elim e [ ]
-  tells_memory (Err (faults.TooManyStates most)) e = elim e [ ]
+  tells_memory (Err (faults.Explore fault)) e = elim e [ ]
   tells_memory (Err (faults.Explain fault)) e = elim e [ ]
   tells_memory (Err (faults.Whatif fault)) e = elim e [ ]
   tells_memory (Err (faults.Prompt fault)) e = elim e [ ]
-  tells_memory (Err (faults.NoSuchOutcome outcomes)) e = elim e [ ]
   tells_memory (Err faults.ReadFault) e = elim e [ ]
+  tells_memory (Err (faults.Transcript fault)) e = elim e [ ]
+  tells_memory (Err (faults.Refused act)) e = elim e [ ]
   tells_memory (Err faults.OutOfMemory) e = elim e [ ]
 
   -- nor does a read fail then
@@ -151,22 +151,23 @@ module _ (form : Form) (limits : Limits) (text : List ℕ) (old new : Option (Li
   fails_not (Err faults.LongImport) before after e same = elim e [ ]
   fails_not (Err faults.Differs) before after e same = elim e [ ]
   fails_not (Err (faults.Race fault)) before after e same = elim e [ ]
-  fails_not (Err (faults.TooManyStates most)) before after e same = elim e [ ]
+  fails_not (Err (faults.Explore fault)) before after e same = elim e [ ]
   fails_not (Err (faults.Explain fault)) before after e same = elim e [ ]
   fails_not (Err (faults.Whatif fault)) before after e same = elim e [ ]
   fails_not (Err (faults.Prompt fault)) before after e same = elim e [ ]
-  fails_not (Err (faults.NoSuchOutcome outcomes)) before after e same = elim e [ ]
   fails_not (Err faults.ReadFault) before after e same = elim e [ ]
+  fails_not (Err (faults.Transcript fault)) before after e same = elim e [ ]
+  fails_not (Err (faults.Refused act)) before after e same = elim e [ ]
   fails_not (Err faults.OutOfMemory) before after e same = elim e [ ]
 
 -- where no text was written
 
-keeps_same : (old : Option (List ℕ)) → Keeps old old
+pub keeps_same : (old : Option (List ℕ)) → Keeps old old
 keeps_same None = tt
 keeps_same (Some xs) = refl
 
 -- a fault that comes before the writing, and is the input's
-pub cause_ends : (command : Subcommand) (form : Form) (limits : Limits) (input : List ℕ) (fault : Fault) (old : Option (List ℕ)) → IsCauseOf command limits input fault →
+pub cause_ends : (command : Subcommand) (form : Form) (limits : Limits) (input : List ℕ) (fault : Fault) (old : Option (List ℕ)) → IsCauseOf command form limits input fault →
     IsUnwritten fault → Ends command form limits input (Err fault) old old
 cause_ends command form limits input (faults.Script f) old cause before = (cause, keeps_same old)
 cause_ends command form limits input (faults.Session f) old cause before = (cause, keeps_same old)
@@ -175,14 +176,15 @@ cause_ends command form limits input (faults.Import f) old cause before = (cause
 cause_ends command form limits input faults.LongImport old cause before = (cause, keeps_same old)
 cause_ends command form limits input faults.Differs old cause before = absurd before
 cause_ends command form limits input (faults.Race f) old cause before = (cause, keeps_same old)
-cause_ends command form limits input (faults.TooManyStates most) old cause before = (cause, keeps_same old)
-cause_ends command form limits input (faults.NoSuchOutcome outcomes) old cause before = (cause, keeps_same old)
+cause_ends command form limits input (faults.Explore f) old cause before = (cause, keeps_same old)
 cause_ends command form limits input (faults.Explain f) old cause before = (cause, keeps_same old)
 cause_ends command form limits input (faults.Whatif f) old cause before = (cause, keeps_same old)
 cause_ends command form limits input faults.ReadFault old cause before = (cause, keeps_same old)
 cause_ends command form limits input faults.OutOfMemory old cause before = (cause, keeps_same old)
 cause_ends command form limits input (faults.WriteFault written) old cause before = absurd before
 cause_ends command form limits input (faults.Prompt f) old cause before = absurd before
+cause_ends command form limits input (faults.Transcript f) old cause before = absurd before
+cause_ends command form limits input (faults.Refused act) old cause before = absurd before
 
 module _ (form : Form) (limits : Limits) (known old : Option (List ℕ)) where
   pub refused_explain : (question : Question) (fault : Fault) → RefusesBenchAt known fault → IsUnwritten fault → EndsAt (Explain question) form limits known (Err fault) old old
@@ -229,6 +231,31 @@ module _ (form : Form) (limits : Limits) (known old : Option (List ℕ)) where
       go None is = tt
       go (Some input) is = cause input fault is refused
 
+  pub refused_explore : (about : About) (lost again states : ℕ) (outcome : Option ℕ) (fault : Fault) → RefusesBenchAt known fault → IsUnwritten fault →
+      EndsAt (Explore about lost again states outcome) form limits known (Err fault) old old
+  refused_explore about lost again states outcome fault cause before = go known cause
+    where
+      go : (known : Option (List ℕ)) → RefusesBenchAt known fault → EndsAt (Explore about lost again states outcome) form limits known (Err fault) old old
+      go None cause = tt
+      go (Some input) cause = cause_ends (Explore about lost again states outcome) form limits input fault old (inl cause) before
+
+  pub asked_explore : (about : About) (lost again states : ℕ) (outcome : Option ℕ) (m : Machine) (fault : ReportFault) → IsBenchAt limits known m →
+      RefusesExplored m (asked_of about lost again states) outcome fault → EndsAt (Explore about lost again states outcome) form limits known (Err (fault_of_explore fault)) old old
+  asked_explore about lost again states outcome m fault is refused = go known is
+    where
+      cause : (input : List ℕ) (fault : ReportFault) → IsBenchOf limits input m → RefusesExplored m (asked_of about lost again states) outcome fault →
+          Ends (Explore about lost again states outcome) form limits input (Err (fault_of_explore fault)) old old
+      cause input reports.OutOfMemory is refused = (inl ((λ e. tt), (λ e. tt)), keeps_same old)
+      cause input reports.NoSuchNode is refused = (inr (m, is, refused), keeps_same old)
+      cause input reports.NoWord is refused = (inr (m, is, refused), keeps_same old)
+      cause input (reports.TooManyStates most found) is refused = (inr (m, is, refused), keeps_same old)
+      cause input reports.MayFill is refused = (inr (m, is, refused), keeps_same old)
+      cause input (reports.NoSuchOutcome there_are) is refused = (inr (m, is, refused), keeps_same old)
+
+      go : (known : Option (List ℕ)) → IsBenchAt limits known m → EndsAt (Explore about lost again states outcome) form limits known (Err (fault_of_explore fault)) old old
+      go None is = tt
+      go (Some input) is = cause input fault is refused
+
 -- at a prompt
 
 if_ok_each : (r : Result Script ScriptFault) (P : Script → Type 0) → ((s : Script) → r ≡ Ok s → P s) → IfOk r P
@@ -242,6 +269,7 @@ ends_step law form limits help is (Some input) old new answered = (
   printed language limits input,
   (refl, if_ok_each (script_of input) (λ s. printed language limits input ≡ report_of limits s) (law language limits input)),
   subst (λ (help : List ℕ). Appends old new (printed help limits input)) is answered,
+  refl,
 )
 
 pub ends_prompt : (form : Form) (limits : Limits) (fault : PromptFault) (known old new : Option (List ℕ)) →

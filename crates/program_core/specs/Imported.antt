@@ -5,31 +5,24 @@ use Rattle.std.specs.List.{flat_map}
 use Rattle.bench_core.specs.Limits.{Limits}
 use Rattle.bench_core.specs.Machine.{Machine}
 use Rattle.command_line.specs.declared.chosen.Form.{Form}
-use Rattle.command_line.specs.declared.chosen.Form.TheVariants.{Report, Session, Script}
+use Rattle.command_line.specs.declared.chosen.Form.TheVariants.{Session}
 use Rattle.import_core.specs.Faults.{IsImportFault}
 use Rattle.import_core.specs.Imports.{IsImportOf}
 use Rattle.import_core.specs.Notes.{Note}
 use Rattle.import_core.specs.Tables.{AllTables}
+use Rattle.import_core.specs.declared.fault.ImportFault.{ImportFault}
 use Rattle.import_report.specs.Checks.{IsCheckOf}
 use Rattle.import_report.specs.Scripts.{IsBenchOf, IsImported, IsRefused}
-use Rattle.program_core.specs.Sessions.{session_text}
+use Rattle.program_core.specs.Texts.{session_text}
 use Rattle.program_core.specs.declared.fault.Fault.{Fault}
-use Rattle.program_core.specs.declared.importing.Text.{Text}
-use Rattle.program_core.specs.declared.importing.Text.TheVariants as texts
 use Rattle.program_core.specs.declared.fault.Fault.TheVariants as faults
-
--- the bytes of a text, wherever it lies
-abbrev pub text_bytes : {X : Type 0} → Text X → List ℕ
-text_bytes (texts.Own text) = string_bytes text
-text_bytes (texts.Heap bytes) = bytes.items
 
 -- what is made of the events: where the bench and the real nodes part, if they do; the session of the bench that they leave; or else
 -- their script. Beside it, the lines of what is left out
 abbrev pub IsMade : Bool → Bool → Bool → Form → Limits → List ℕ → List ℕ → Bool → List ℕ → Type 0
 IsMade true lines lenient form limits input text differs left_out = IsCheckOf lenient limits input text differs left_out
 IsMade false lines lenient Session limits input text differs left_out = (differs ≡ false) × (m : Machine) × IsBenchOf lenient limits input m left_out × (text ≡ session_text m)
-IsMade false lines lenient Script limits input text differs left_out = (differs ≡ false) × (m : Machine) × IsImported lenient lines limits input text m left_out
-IsMade false lines lenient Report limits input text differs left_out = (differs ≡ false) × (m : Machine) × IsImported lenient lines limits input text m left_out
+IsMade false lines lenient _ limits input text differs left_out = (differs ≡ false) × (m : Machine) × IsImported lenient lines limits input text m left_out
 
 -- the text is what is printed, and they part or not
 abbrev pub PrintsImport : Bool → Bool → Bool → Form → Limits → List ℕ → Bool → List ℕ → Type 0
@@ -53,17 +46,23 @@ abbrev pub RefusesEventsAt : Option (List ℕ) → Fault → Type 0
 RefusesEventsAt None fault = ⊤
 RefusesEventsAt (Some input) fault = RefusesEvents input fault
 
--- the events give no script: they are too many bytes, they can't be imported, or the script is too long
-abbrev pub RefusesImport : Bool → Bool → Limits → List ℕ → Fault → Type 0
-RefusesImport lines lenient limits input (faults.Import fault) = IsRefused lenient lines limits input fault
-RefusesImport lines lenient limits input faults.LongImport = 67108864 < length input
-RefusesImport lines lenient limits input faults.ReadFault = ⊤
-RefusesImport lines lenient limits input faults.OutOfMemory = ⊤
-RefusesImport lines lenient limits input fault = ⊥
+-- why nothing is made of them: they can't be imported; or, where their script is printed, it is too long
+abbrev pub IsUnmade : Bool → Bool → Bool → Form → Limits → List ℕ → ImportFault → Type 0
+IsUnmade true lines lenient form limits input fault = IsImportFault lenient input fault
+IsUnmade false lines lenient Session limits input fault = IsImportFault lenient input fault
+IsUnmade false lines lenient _ limits input fault = IsRefused lenient lines limits input fault
 
-abbrev pub RefusesImportAt : Bool → Bool → Limits → Option (List ℕ) → Fault → Type 0
-RefusesImportAt lines lenient limits None fault = ⊤
-RefusesImportAt lines lenient limits (Some input) fault = RefusesImport lines lenient limits input fault
+-- nothing is printed of the input: it has too many bytes, or nothing is made of its events
+abbrev pub RefusesImport : Bool → Bool → Bool → Form → Limits → List ℕ → Fault → Type 0
+RefusesImport check lines lenient form limits input (faults.Import fault) = IsUnmade check lines lenient form limits input fault
+RefusesImport check lines lenient form limits input faults.LongImport = 67108864 < length input
+RefusesImport check lines lenient form limits input faults.ReadFault = ⊤
+RefusesImport check lines lenient form limits input faults.OutOfMemory = ⊤
+RefusesImport check lines lenient form limits input fault = ⊥
+
+abbrev pub RefusesImportAt : Bool → Bool → Bool → Form → Limits → Option (List ℕ) → Fault → Type 0
+RefusesImportAt check lines lenient form limits None fault = ⊤
+RefusesImportAt check lines lenient form limits (Some input) fault = RefusesImport check lines lenient form limits input fault
 
 -- `presence_bench: line L: left out`
 unfoldable pub left_line : ℕ → List ℕ

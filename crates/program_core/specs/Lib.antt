@@ -2,5 +2,6 @@ pub mod Races
 pub mod Explored
 pub mod Program
 pub mod Whatifs
-pub mod Sessions
+pub mod Texts
 pub mod Imported
+pub mod Shown

@@ -13,6 +13,10 @@ use Rattle.picture_core.specs.Pictures.{picture}
 use Rattle.picture_core.specs.Standings.{painted_of}
 use Rattle.grammar_core.specs.Grammar.{script_of}
 use Rattle.run_core.specs.Report.{history_text, played, report_of}
+use Rattle.transcript_core.specs.Actors.{free_consoles}
+use Rattle.transcript_core.specs.Scripts.{Refuses as RefusesScriptOf}
+use Rattle.transcript_core.specs.declared.fault.TranscriptFault.{TranscriptFault}
+use Rattle.transcript_core.specs.declared.fault.TranscriptFault.TheVariants as transcripts
 use Rattle.grammar_core.specs.Scripts.{Script}
 use Rattle.grammar_core.specs.declared.fault.FaultKind.TheVariants as kinds
 use Rattle.script_core.specs.declared.play_fault.PlayFault.{PlayFault}
@@ -27,24 +31,28 @@ use Rattle.command_line.specs.Line.{Chooses, IsRefusal}
 use Rattle.receipt_core.specs.declared.race_fault.RaceFault.{RaceFault}
 use Rattle.whatif_report.specs.declared.whatif_fault.WhatifFault.TheVariants as whatifs
 use Rattle.receipt_core.specs.declared.race_fault.RaceFault.TheVariants as races
-use Rattle.program_core.specs.Explored.{TellsOrders, RefusesOrders, reading_of}
+use Rattle.explore_report.specs.declared.question.Question.{Question as Asked}
+use Rattle.explore_report.specs.declared.report_fault.ReportFault.TheVariants as reports
+use Rattle.program_core.specs.Explored.{RefusesExplored, TellsExplored, asked_of}
 use Rattle.prompt_core.specs.Ends.{EndsEarly, printed}
 use Rattle.prompt_core.specs.declared.prompt_fault.PromptFault.TheVariants as prompts
 use Rattle.command_line.specs.Help.{language}
 use Rattle.program_core.specs.Races.{IsRaceOf, RefusesRaceOf}
 use Rattle.program_core.specs.Imported.{PrintsImport, RefusesImport, TellsLeft}
-use Rattle.program_core.specs.Sessions.{session_text}
+use Rattle.program_core.specs.Texts.{session_text}
+use Rattle.program_core.specs.Shown.{PrintsBench, PrintsPlay, refused_act, refused_line}
 use Rattle.program_core.specs.Whatifs.{RefusesWhatif, TellsWhatif}
 use Rattle.import_core.specs.declared.fault.FaultKind.{FaultKind}
 use Rattle.import_core.specs.declared.fault.FaultKind.TheVariants as imports
 use Rattle.import_core.specs.declared.fault.ImportFault.{ImportFault}
 use Rattle.command_line.specs.declared.chosen.Choice.{Choice}
 use Rattle.command_line.specs.declared.chosen.Form.{Form}
-use Rattle.command_line.specs.declared.chosen.Form.TheVariants.{Report, Session, Script as ScriptForm}
+use Rattle.command_line.specs.declared.chosen.Form.TheVariants.{Report, Script as ScriptForm, Session}
 use Rattle.command_line.specs.declared.chosen.Subcommand.{Subcommand}
 use Rattle.command_line.specs.declared.chosen.Subcommand.TheVariants.{Play, Race, Load, Import, Explore, Step, Draw, Explain, Whatif}
 use Rattle.program_core.specs.declared.fault.Fault.{Fault}
 use Rattle.program_core.specs.declared.fault.Fault.TheVariants as faults
+use Rattle.program_core.specs.declared.fault.Refused.{Refused}
 
 abbrev pub fault_status : Fault → ℕ
 fault_status (faults.Script fault) = 1
@@ -58,8 +66,12 @@ fault_status (faults.Race races.NoRoom) = 1
 fault_status (faults.Race races.WorkerRefused) = 5
 fault_status (faults.Race races.OutOfMemory) = 4
 fault_status (faults.Race races.LogsDisagree) = 5
-fault_status (faults.TooManyStates most) = 1
-fault_status (faults.NoSuchOutcome outcomes) = 1
+fault_status (faults.Explore reports.NoSuchNode) = 1
+fault_status (faults.Explore reports.NoWord) = 1
+fault_status (faults.Explore (reports.TooManyStates states outcomes)) = 1
+fault_status (faults.Explore reports.MayFill) = 1
+fault_status (faults.Explore (reports.NoSuchOutcome outcomes)) = 1
+fault_status (faults.Explore reports.OutOfMemory) = 4
 fault_status (faults.Explain asks.NoSuchNode) = 1
 fault_status (faults.Explain asks.NoWord) = 1
 fault_status (faults.Explain asks.OutOfMemory) = 4
@@ -67,6 +79,10 @@ fault_status (faults.Whatif whatifs.NoSuchNode) = 1
 fault_status (faults.Whatif whatifs.NoWord) = 1
 fault_status (faults.Whatif (whatifs.NoSuchChange changes)) = 1
 fault_status (faults.Whatif whatifs.OutOfMemory) = 4
+fault_status (faults.Transcript (transcripts.NoScript fault)) = 1
+fault_status (faults.Transcript transcripts.OtherCalls) = 1
+fault_status (faults.Transcript transcripts.OutOfMemory) = 4
+fault_status (faults.Refused act) = 6
 fault_status (faults.Prompt prompts.TooLong) = 1
 fault_status (faults.Prompt prompts.ReadFault) = 3
 fault_status (faults.Prompt prompts.WriteFault) = 3
@@ -164,18 +180,25 @@ abbrev pub RefusesChanges : Limits → Chosen → Option ℕ → List ℕ → Fa
 RefusesChanges limits question change input (faults.Whatif fault) = (m : Machine) × IsBenchOf limits input m × RefusesWhatif m question change fault
 RefusesChanges limits question change input fault = ⊥
 
--- what refuses the input of this command: of a race also that a line is no act line, or that the race can't be had; of all orders
--- that a line is no act line, that there are too many states, or that there is no such outcome; and of what is asked that nothing is explained
-abbrev pub IsCauseOf : Subcommand → Limits → List ℕ → Fault → Type 0
-IsCauseOf Race limits input fault = RefusesScript input fault ⊎ IsOkAnd (script_of input) (λ s. RefusesRaceOf limits s fault)
-IsCauseOf Play limits input fault = RefusesScript input fault
-IsCauseOf Load limits input fault = RefusesSession input fault
-IsCauseOf (Import check lines lenient) limits input fault = RefusesImport lines lenient limits input fault
-IsCauseOf (Explore reading states outcome) limits input fault = RefusesScript input fault ⊎ IsOkAnd (script_of input) (λ s. RefusesOrders (reading_of reading) states outcome limits s fault)
-IsCauseOf Step limits input fault = ⊥
-IsCauseOf (Draw why) limits input fault = RefusesBench input fault
-IsCauseOf (Explain question) limits input fault = RefusesBench input fault ⊎ RefusesAsked limits question input fault
-IsCauseOf (Whatif question change) limits input fault = RefusesBench input fault ⊎ RefusesChanges limits question change input fault
+-- of that bench it isn't told what the network could have done
+abbrev pub RefusesNetwork : Limits → Asked → Option ℕ → List ℕ → Fault → Type 0
+RefusesNetwork limits question outcome input (faults.Explore fault) =
+    (m : Machine) × IsBenchOf limits input m × RefusesExplored m question outcome fault
+RefusesNetwork limits question outcome input fault = ⊥
+
+-- what refuses the input of this command: of a race also that a line is no act line, or that the race can't be had; and of what is asked
+-- that nothing is told
+abbrev pub IsCauseOf : Subcommand → Form → Limits → List ℕ → Fault → Type 0
+IsCauseOf Race form limits input fault = RefusesScript input fault ⊎ IsOkAnd (script_of input) (λ s. RefusesRaceOf limits s fault)
+IsCauseOf (Play strict) form limits input fault = RefusesScript input fault
+IsCauseOf (Load strict) form limits input fault = RefusesSession input fault
+IsCauseOf (Import check lines lenient) form limits input fault = RefusesImport check lines lenient form limits input fault
+IsCauseOf (Explore about lost again states outcome) form limits input fault =
+    RefusesBench input fault ⊎ RefusesNetwork limits (asked_of about lost again states) outcome input fault
+IsCauseOf Step form limits input fault = ⊥
+IsCauseOf (Draw why) form limits input fault = RefusesBench input fault
+IsCauseOf (Explain question) form limits input fault = RefusesBench input fault ⊎ RefusesAsked limits question input fault
+IsCauseOf (Whatif question change) form limits input fault = RefusesBench input fault ⊎ RefusesChanges limits question change input fault
 
 -- the same, where the reader's bytes are known
 
@@ -197,22 +220,21 @@ RefusesBenchAt (Some input) fault = RefusesBench input fault
 
 -- what is shown of a bench that has this report
 abbrev pub shown : Form → List ℕ → Machine → List ℕ
-shown Report report bench = report
 shown Session report bench = session_text bench
-shown ScriptForm report bench = report
+shown _ report bench = report
 
 -- the text of a bench's picture, with the future of a step painted
 abbrev pub drawn : Option ℕ → Machine → List ℕ
 drawn why bench = text_of (picture bench (painted_of bench.state why))
 
--- the text is what the subcommand prints of the input: of a script's bench, of a session's, of either's, of all orders of a script's
--- lines, or at a prompt; there too it is the report of a script without faults
+-- the text is what the subcommand prints of the input: of a script's bench, of a session's, of either's, or at a prompt; there too it is the report of a script without faults
 abbrev pub Prints : Subcommand → Form → Limits → List ℕ → List ℕ → Type 0
-Prints Play form limits input text = IsOkAnd (script_of input) (λ s. text ≡ shown form (report_of limits s) (played limits s))
+Prints (Play strict) form limits input text = IsOkAnd (script_of input) (λ s. PrintsPlay form limits s text)
 Prints Race form limits input text = IsOkAnd (script_of input) (λ s. (m : Machine) × IsRaceOf limits s m × (text ≡ shown form (history_text m) m))
 Prints (Import check lines lenient) form limits input text = PrintsImport check lines lenient form limits input false text
-Prints Load form limits input text = (m : Machine) × IsSession input m × (text ≡ shown form (history_text m) m)
-Prints (Explore reading states outcome) form limits input text = IsOkAnd (script_of input) (λ s. TellsOrders (reading_of reading) outcome limits s text)
+Prints (Load strict) form limits input text = (m : Machine) × IsSession input m × PrintsBench form m text
+Prints (Explore about lost again states outcome) form limits input text =
+    (m : Machine) × IsBenchOf limits input m × TellsExplored m (asked_of about lost again states) outcome text
 Prints Step form limits input text =
     (text ≡ printed language limits input) × IfOk (script_of input) (λ s. text ≡ report_of limits s)
 Prints (Draw why) form limits input text = (m : Machine) × IsBenchOf limits input m × (text ≡ drawn why m)
@@ -222,10 +244,10 @@ Prints (Whatif question change) form limits input text = (m : Machine) × IsBenc
 -- the text tells that the bench and the real nodes part
 abbrev pub PrintsApart : Subcommand → Form → Limits → List ℕ → List ℕ → Type 0
 PrintsApart (Import check lines lenient) form limits input text = PrintsImport check lines lenient form limits input true text
-PrintsApart Play form limits input text = ⊥
+PrintsApart (Play strict) form limits input text = ⊥
 PrintsApart Race form limits input text = ⊥
-PrintsApart Load form limits input text = ⊥
-PrintsApart (Explore reading states outcome) form limits input text = ⊥
+PrintsApart (Load strict) form limits input text = ⊥
+PrintsApart (Explore about lost again states outcome) form limits input text = ⊥
 PrintsApart Step form limits input text = ⊥
 PrintsApart (Draw why) form limits input text = ⊥
 PrintsApart (Explain question) form limits input text = ⊥
@@ -239,26 +261,47 @@ EndsAsText text (Err fault) old new = ⊥
 
 -- a prompt's faults come at a prompt alone, where they are all that comes; what went out before is told by `EndsSoon`
 abbrev pub HasPrompt : Subcommand → Type 0
-HasPrompt Play = ⊥
+HasPrompt (Play strict) = ⊥
 HasPrompt Race = ⊥
-HasPrompt Load = ⊥
+HasPrompt (Load strict) = ⊥
 HasPrompt (Import check lines lenient) = ⊥
-HasPrompt (Explore reading states outcome) = ⊥
+HasPrompt (Explore about lost again states outcome) = ⊥
 HasPrompt Step = ⊤
 HasPrompt (Draw why) = ⊥
 HasPrompt (Explain question) = ⊥
 HasPrompt (Whatif question change) = ⊥
 
+-- the first act that was refused, where that is a fault
+abbrev pub Tells : Subcommand → Limits → List ℕ → Option Refused → Type 0
+Tells (Play strict) limits input refused = IsOkAnd (script_of input) (λ s. refused ≡ refused_line strict limits s)
+Tells (Load strict) limits input refused = (m : Machine) × IsSession input m × (refused ≡ refused_act strict m)
+Tells (Import check lines lenient) limits input refused = refused ≡ None
+Tells Race limits input refused = refused ≡ None
+Tells (Explore about lost again states outcome) limits input refused = refused ≡ None
+Tells Step limits input refused = refused ≡ None
+Tells (Draw why) limits input refused = refused ≡ None
+Tells (Explain question) limits input refused = refused ≡ None
+Tells (Whatif question change) limits input refused = refused ≡ None
+
+-- the calls of the input's bench are no script, where one was asked for
+abbrev pub IsUntold : Subcommand → Form → Limits → List ℕ → TranscriptFault → Type 0
+IsUntold (Play strict) ScriptForm limits input fault = IsOkAnd (script_of input) (λ s. RefusesScriptOf (played limits s) s.cast.consoles fault)
+IsUntold (Load strict) ScriptForm limits input fault = (m : Machine) × IsSession input m × RefusesScriptOf m (free_consoles m) fault
+IsUntold _ form limits input fault = ⊥
+
 -- what went out, by the answer: what is printed of the input; its first bytes, where a write failed; and else nothing, and the
--- fault is the input's. That the bench and the real nodes part is told after all of what is printed
+-- fault is the input's. That an act was refused, and that the bench and the real nodes part, is told after all of what is printed
 abbrev pub Ends : Subcommand → Form → Limits → List ℕ → Result (Unit {0}) Fault → Option (List ℕ) → Option (List ℕ) → Type 0
-Ends command form limits input (Ok u) old new = (text : List ℕ) × Prints command form limits input text × Appends old new text
+Ends command form limits input (Ok u) old new = (text : List ℕ) × Prints command form limits input text × Appends old new text × Tells command limits input None
+Ends command form limits input (Err (faults.Refused act)) old new =
+    (text : List ℕ) × Prints command form limits input text × Appends old new text × Tells command limits input (Some act)
+Ends command form limits input (Err (faults.Transcript fault)) old new = IsUntold command form limits input fault × Keeps old new
 Ends command form limits input (Err (faults.WriteFault written)) old new =
     (text : List ℕ) × (Prints command form limits input text ⊎ PrintsApart command form limits input text) × (written < length text)
     × Appends old new (take written text)
 Ends command form limits input (Err faults.Differs) old new = (text : List ℕ) × PrintsApart command form limits input text × Appends old new text
 Ends command form limits input (Err (faults.Prompt fault)) old new = HasPrompt command
-Ends command form limits input (Err fault) old new = IsCauseOf command limits input fault × Keeps old new
+Ends command form limits input (Err fault) old new = IsCauseOf command form limits input fault × Keeps old new
 
 -- the same, where the reader's bytes are known
 abbrev pub EndsAt : Subcommand → Form → Limits → Option (List ℕ) → Result (Unit {0}) Fault → Option (List ℕ) → Option (List ℕ) → Type 0
@@ -270,25 +313,28 @@ abbrev pub KeepsBefore : Fault → Option (List ℕ) → Option (List ℕ) → T
 KeepsBefore (faults.WriteFault written) old new = ⊤
 KeepsBefore (faults.Prompt fault) old new = ⊤
 KeepsBefore faults.Differs old new = ⊤
+KeepsBefore (faults.Refused act) old new = ⊤
 KeepsBefore _ old new = Keeps old new
 
 -- a prompt that ends early has answered all lines that it took in, but for the last
 abbrev pub EndsSoon : Subcommand → Limits → Result (Unit {0}) Fault → Option (List ℕ) → Option (List ℕ) → Option (List ℕ) → Option (List ℕ) → Type 0
 EndsSoon Step limits (Err (faults.Prompt fault)) input left old new = EndsEarly language limits fault input left old new
 EndsSoon Step limits result input left old new = ⊤
-EndsSoon Play limits result input left old new = ⊤
+EndsSoon (Play strict) limits result input left old new = ⊤
 EndsSoon Race limits result input left old new = ⊤
-EndsSoon Load limits result input left old new = ⊤
+EndsSoon (Load strict) limits result input left old new = ⊤
 EndsSoon (Import check lines lenient) limits result input left old new = ⊤
-EndsSoon (Explore reading states outcome) limits result input left old new = ⊤
+EndsSoon (Explore about lost again states outcome) limits result input left old new = ⊤
 EndsSoon (Draw why) limits result input left old new = ⊤
 EndsSoon (Explain question) limits result input left old new = ⊤
 EndsSoon (Whatif question change) limits result input left old new = ⊤
 
--- it is no fault of a write, nor of a prompt, nor of a check
+-- it is no fault of a write, nor of a prompt, nor of what was read, nor of a check
 abbrev pub IsUnwritten : Fault → Type 0
 IsUnwritten (faults.WriteFault written) = ⊥
 IsUnwritten (faults.Prompt fault) = ⊥
+IsUnwritten (faults.Refused act) = ⊥
+IsUnwritten (faults.Transcript fault) = ⊥
 IsUnwritten faults.Differs = ⊥
 IsUnwritten _ = ⊤
 
@@ -300,6 +346,7 @@ TellsMemory (faults.Race fault) = fault ≢ races.OutOfMemory
 TellsMemory (faults.Explain fault) = fault ≢ asks.OutOfMemory
 TellsMemory (faults.Import fault) = fault.kind ≢ imports.OutOfMemory
 TellsMemory (faults.Whatif fault) = fault ≢ whatifs.OutOfMemory
+TellsMemory (faults.Transcript fault) = fault ≢ transcripts.OutOfMemory
 TellsMemory _ = ⊤
 
 -- a call of `read` failed exactly where a read fault is answered, and then one alone: it wasn't tried again
@@ -311,10 +358,10 @@ FailsAs _ old new = new.failed ≡ old.failed
 -- beside the output nothing is told, or, of the events of logs, what was left out
 abbrev pub TellsAside : Subcommand → Option (List ℕ) → Option (List ℕ) → Option (List ℕ) → Type 0
 TellsAside (Import check lines lenient) input old new = TellsLeft lenient input old new
-TellsAside Play input old new = Keeps old new
+TellsAside (Play strict) input old new = Keeps old new
 TellsAside Race input old new = Keeps old new
-TellsAside Load input old new = Keeps old new
-TellsAside (Explore reading states outcome) input old new = Keeps old new
+TellsAside (Load strict) input old new = Keeps old new
+TellsAside (Explore about lost again states outcome) input old new = Keeps old new
 TellsAside Step input old new = Keeps old new
 TellsAside (Draw why) input old new = Keeps old new
 TellsAside (Explain question) input old new = Keeps old new

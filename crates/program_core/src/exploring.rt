@@ -1,59 +1,53 @@
-//! What all orders of a script's act lines lead to.
-ghost use Rattle.std.specs.Prelude.{◌≡◌, IfOk, IfErr};
-ghost use Rattle.grammar_core.specs.Scripts.{plain_script};
-ghost use Rattle.program_core.specs.Program.{TellsMemory, IsUnwritten};
-ghost use Rattle.program_core.specs.Explored.{fault_of_report, reading_of, TellsOrders, RefusesOrders};
+//! What the network could have made of the steps of a bench.
+ghost use Rattle.std.specs.Prelude.{◌≡◌, IfErr, IfOk, string_bytes};
+ghost use Rattle.program_core.specs.Explored.{RefusesExplored, TellsExplored, about_of, asked_of};
 
-use crate::fault::Fault;
-use bench_core::Limits;
-use explore_core::Reading;
-use explore_report::{ReportFault, order_of_outcome, report_orders};
-use script_core::Script;
+use bench_core::Bench;
+use explore_report::{About, Question, ReportFault, explore_asked, run_of_outcome};
 use std::alloc::Allocator;
 
-/// The reading that was chosen.
-pub fn reading_of(chosen: command_line::Reading) -> Reading
-    ensures { result ≡ reading_of chosen }
+/// What was chosen to be asked.
+fn about_of<'w>(chosen: command_line::About<'w>) -> About<'w>
+    ensures { result ≡ about_of chosen.entry }
 {
     match chosen {
-        command_line::Reading::EveryOrder => Reading::EveryOrder,
-        command_line::Reading::Deliveries => Reading::Deliveries,
+        command_line::About::Cluster => About::Cluster,
+        command_line::About::Node(node) => About::Node(node),
+        command_line::About::Presence(command_line::Question { node, topic, key }) => {
+            About::Presence { node, topic, key }
+        }
     }
 }
 
-/// The fault of a report of at most so many states as the program's.
-fn fault_of(fault: ReportFault, most: usize) -> Fault
-    ensures { result ≡ fault_of_report most fault }
-{
-    match fault {
-        ReportFault::Script(fault) => Fault::Script(fault),
-        ReportFault::TooManyStates => Fault::TooManyStates { most },
-        ReportFault::NoSuchOutcome { outcomes } => Fault::NoSuchOutcome { outcomes },
-        ReportFault::OutOfMemory => Fault::OutOfMemory,
-    }
-}
-
-/// The text of what all orders of the script's act lines lead to, by this reading, of which no more different states than `states` are kept; where
-/// there is the number of an outcome, the order that it tells beside that outcome, as a script.
-pub fn explore_script<'a, B: Allocator>(
-    alloc: &'a B,
-    script: &Script<&'a B>,
-    limits: Limits,
-    reading: Reading,
+/// The whole question.
+pub fn asked_of<'w>(
+    chosen: command_line::About<'w>,
+    lost: usize,
+    again: usize,
     states: usize,
-    outcome: Option<u64>,
-) -> Result<Vec<u8, &'a B>, Fault>
-    ensures told { IfOk result (λ text. TellsOrders reading outcome limits (plain_script script.now) text.items) }
-    ensures cause { IfErr result (RefusesOrders reading states outcome limits (plain_script script.now)) }
-    ensures memory { IfErr result TellsMemory }
-    ensures unwritten { IfErr result IsUnwritten }
+) -> Question<'w>
+    ensures { result ≡ asked_of chosen.entry lost again states }
 {
-    let told = match outcome {
-        None => report_orders(alloc, script, limits, reading, states),
-        Some(number) => order_of_outcome(alloc, script, limits, reading, states, number),
-    };
-    match told {
-        Ok(text) => Ok(text),
-        Err(fault) => Err(fault_of(fault, states)),
+    Question {
+        about: about_of(chosen),
+        lost,
+        again,
+        states,
+    }
+}
+
+/// The outcomes of what the network could have done; where there is the number of one, a run that leads there, as a script.
+pub fn tell_explored<'a, B: Allocator>(
+    alloc: &'a B,
+    bench: &Bench<'a, B>,
+    question: Question<'_>,
+    outcome: Option<u64>,
+) -> Result<String<&'a B>, ReportFault>
+    ensures told { IfOk result (λ text. TellsExplored bench.now question.entry outcome (string_bytes text)) }
+    ensures refused { IfErr result (RefusesExplored bench.now question.entry outcome) }
+{
+    match outcome {
+        None => explore_asked(alloc, bench, question),
+        Some(number) => run_of_outcome(alloc, bench, question, number),
     }
 }

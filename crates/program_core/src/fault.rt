@@ -3,13 +3,30 @@ ghost use Rattle.std.specs.Prelude.{◌≡◌};
 ghost use Rattle.program_core.specs.Program.{fault_status};
 
 use explain_core::AskFault;
+use explore_report::ReportFault;
 use import_core::ImportFault;
 use prompt_core::PromptFault;
 use script_core::{PlayFault, ScriptFault};
 use session_core::SessionFault;
 use thiserror::Error;
+use transcript_core::TranscriptFault;
 use whatif_report::WhatifFault;
 use worker_core::RaceFault;
+
+/// An act that was refused in a strict run: by the number of its line in a script, or by its own in a session.
+#[derive(Clone, Copy, Debug, PartialEq, Eq, Error)]
+pub enum Refused {
+    #[error("line {number}: {fault}")]
+    Line {
+        number: u64,
+        fault: bench_core::Fault,
+    },
+    #[error("act {number}: {fault}")]
+    Act {
+        number: u64,
+        fault: bench_core::Fault,
+    },
+}
 
 /// Why the program ends early. Printed, it is what the line on standard error tells.
 #[derive(Clone, Copy, Debug, PartialEq, Eq, Error)]
@@ -35,18 +52,21 @@ pub enum Fault {
     /// Why a race can't be vouched for. Want of memory is never in it.
     #[error("race: {0}")]
     Race(RaceFault),
-    /// More different states than so many would be kept of all orders.
-    #[error("explore: TooManyStates, more than {most}")]
-    TooManyStates { most: usize },
-    /// All orders lead to so many outcomes, and none has the number that was asked for.
-    #[error("explore: NoSuchOutcome, there are {outcomes}")]
-    NoSuchOutcome { outcomes: usize },
+    /// Why it isn't told what the network could have done. Want of memory is never in it.
+    #[error("explore: {0}")]
+    Explore(ReportFault),
     /// Why nothing is explained. Want of memory is never in it.
     #[error("explain: {0}")]
     Explain(AskFault),
     /// Why it isn't told what would have made a difference. Want of memory is never in it.
     #[error("whatif: {0}")]
     Whatif(WhatifFault),
+    /// Why there is no script of a bench's calls. Want of memory is never in it.
+    #[error("script: {0}")]
+    Transcript(TranscriptFault),
+    /// An act was refused in a strict run. All that is printed went out.
+    #[error("{0}")]
+    Refused(Refused),
     /// A prompt ended early, after what it had answered.
     #[error("{0}")]
     Prompt(PromptFault),
@@ -71,10 +91,14 @@ impl Fault {
             Fault::Import(_) | Fault::LongImport => 1,
             Fault::Differs => 6,
             Fault::Race(RaceFault::UnknownActor | RaceFault::NoRoom) => 1,
-            Fault::TooManyStates { .. } | Fault::NoSuchOutcome { .. } => 1,
+            Fault::Explore(ReportFault::NoSuchNode | ReportFault::NoWord) => 1,
+            Fault::Explore(ReportFault::TooManyStates { .. } | ReportFault::MayFill) => 1,
+            Fault::Explore(ReportFault::NoSuchOutcome { .. }) => 1,
             Fault::Explain(AskFault::NoSuchNode | AskFault::NoWord) => 1,
             Fault::Whatif(WhatifFault::NoSuchNode | WhatifFault::NoWord) => 1,
             Fault::Whatif(WhatifFault::NoSuchChange { .. }) => 1,
+            Fault::Transcript(TranscriptFault::NoScript { .. }) => 1,
+            Fault::Transcript(TranscriptFault::OtherCalls) => 1,
             Fault::Prompt(PromptFault::TooLong) => 1,
             Fault::Prompt(PromptFault::ReadFault | PromptFault::WriteFault) => 3,
             Fault::Prompt(PromptFault::OutOfMemory) => 4,
@@ -82,7 +106,10 @@ impl Fault {
             Fault::Race(RaceFault::OutOfMemory) | Fault::OutOfMemory => 4,
             Fault::Explain(AskFault::OutOfMemory) => 4,
             Fault::Whatif(WhatifFault::OutOfMemory) => 4,
+            Fault::Explore(ReportFault::OutOfMemory) => 4,
+            Fault::Transcript(TranscriptFault::OutOfMemory) => 4,
             Fault::Race(RaceFault::WorkerRefused | RaceFault::LogsDisagree) => 5,
+            Fault::Refused(_) => 6,
         }
     }
 }
@@ -129,6 +156,43 @@ impl From<WhatifFault> for Fault {
             WhatifFault::NoSuchNode
             | WhatifFault::NoWord
             | WhatifFault::NoSuchChange { changes: _ } => Fault::Whatif(fault),
+        }
+    }
+}
+
+impl From<TranscriptFault> for Fault {
+    ghost use Rattle.std.specs.Prelude.{◌≡◌};
+    ghost use Rattle.program_core.specs.Shown.{fault_of_transcript};
+
+    ghost from_gives = { λ fault given. given ≡ fault_of_transcript fault };
+
+    fn from(fault: TranscriptFault) -> Fault {
+        match fault {
+            TranscriptFault::OutOfMemory => Fault::OutOfMemory,
+            TranscriptFault::NoScript { fault: _ } | TranscriptFault::OtherCalls => {
+                Fault::Transcript(fault)
+            }
+        }
+    }
+}
+
+impl From<ReportFault> for Fault {
+    ghost use Rattle.std.specs.Prelude.{◌≡◌};
+    ghost use Rattle.program_core.specs.Explored.{fault_of_explore};
+
+    ghost from_gives = { λ fault given. given ≡ fault_of_explore fault };
+
+    fn from(fault: ReportFault) -> Fault {
+        match fault {
+            ReportFault::OutOfMemory => Fault::OutOfMemory,
+            ReportFault::NoSuchNode
+            | ReportFault::NoWord
+            | ReportFault::TooManyStates {
+                states: _,
+                outcomes: _,
+            }
+            | ReportFault::MayFill
+            | ReportFault::NoSuchOutcome { outcomes: _ } => Fault::Explore(fault),
         }
     }
 }

@@ -4,12 +4,13 @@ ghost use Rattle.std.specs.Io.KnownBytes.{IsAtEnd};
 ghost use Rattle.stream_core.specs.Inputs.{IsWhole};
 ghost use Rattle.command_line.specs.declared.chosen.Form.TheVariants as forms;
 ghost use Rattle.command_line.specs.declared.chosen.Subcommand.TheVariants as subcommands;
-ghost use Rattle.program_core.specs.Imported.{EndsAsMade, IsMade, RefusesEventsAt, RefusesImport, TellsLeft, TellsLines, left_line, left_lines, text_bytes};
-ghost use Rattle.import_report.specs.Scripts.{IsRefused};
+ghost use Rattle.program_core.specs.Imported.{EndsAsMade, IsMade, IsUnmade, RefusesEventsAt, RefusesImport, TellsLeft, TellsLines, left_line, left_lines};
+ghost use Rattle.program_core.specs.Texts.{text_bytes};
 ghost use Rattle.program_core.specs.Program.{EndsAt, FailsAs, IsUnwritten, KeepsBefore, TellsMemory, fault_of_import};
 
 use crate::fault::Fault;
 use crate::printing::print;
+use crate::text::{Text, bytes_of};
 use crate::texts::{LONGEST_SESSION, session_line};
 use bench_core::Limits;
 use command_line::Form;
@@ -83,22 +84,6 @@ fn fault_of(fault: ImportFault) -> Fault
     }
 }
 
-/// A text, in the memory of a bench or on the heap.
-#[derive(Drop)]
-pub enum Text<A: Allocator> {
-    Own(String<A>),
-    Heap(Vec<u8>),
-}
-
-fn bytes_of<A: Allocator>(text: &Text<A>) -> &[u8]
-    ensures { result.now ≡ text_bytes text.now }
-{
-    match text {
-        Text::Own(text) => text.as_bytes(),
-        Text::Heap(bytes) => bytes,
-    }
-}
-
 /// What is printed of the events: its text, whether it tells that the bench and the real nodes part, and the lines of what is
 /// left out.
 #[derive(Drop)]
@@ -118,7 +103,7 @@ fn make_script<'a, B: Allocator>(
     input: &[u8],
 ) -> Result<Made<&'a B>, ImportFault>
     ensures made { IfOk result (λ m. IsMade false lines lenient forms.Script limits input.now (text_bytes m.text) m.differs m.left_out.items) }
-    ensures refused { IfErr result (IsRefused lenient lines limits input.now) }
+    ensures refused { IfErr result (IsUnmade false lines lenient forms.Script limits input.now) }
 {
     let (scripted, left_out) = import_script(heap, alloc, limits, lenient, lines, input)?;
     Ok(Made {
@@ -128,10 +113,10 @@ fn make_script<'a, B: Allocator>(
     })
 }
 
-fn text_of<'a, B: Allocator>(scripted: Scripted<'a, B>) -> String<&'a B>
-    ensures { string_bytes result ≡ string_bytes scripted.entry.text }
+fn text_of<'a, B: Allocator>(scripted: Scripted<'a, B>) -> Vec<u8, &'a B>
+    ensures { result.items ≡ string_bytes scripted.entry.text }
 {
-    scripted.text
+    scripted.text.into_bytes()
 }
 
 /// The session of the bench that they leave.
@@ -144,7 +129,7 @@ fn make_session<'a, B: Allocator>(
     input: &[u8],
 ) -> Result<Made<&'a B>, ImportFault>
     ensures made { IfOk result (λ m. IsMade false lines lenient forms.Session limits input.now (text_bytes m.text) m.differs m.left_out.items) }
-    ensures refused { IfErr result (IsRefused lenient lines limits input.now) }
+    ensures refused { IfErr result (IsUnmade false lines lenient forms.Session limits input.now) }
 {
     let (bench, left_out) = import_bench(heap, alloc, limits, lenient, input)?;
     let text = session_line(heap, &bench);
@@ -167,12 +152,12 @@ fn make_check<'a, B: Allocator>(
     input: &[u8],
 ) -> Result<Made<&'a B>, ImportFault>
     ensures made { IfOk result (λ m. IsMade true lines lenient form limits input.now (text_bytes m.text) m.differs m.left_out.items) }
-    ensures refused { IfErr result (IsRefused lenient lines limits input.now) }
+    ensures refused { IfErr result (IsUnmade true lines lenient form limits input.now) }
 {
     let (found, left_out) = import_check(heap, alloc, limits, lenient, input)?;
     let Checked { text, differs } = found;
     Ok(Made {
-        text: Text::Own(text),
+        text: Text::Own(text.into_bytes()),
         differs,
         left_out,
     })
@@ -190,7 +175,7 @@ fn make<'a, B: Allocator>(
     input: &[u8],
 ) -> Result<Made<&'a B>, Fault>
     ensures made { IfOk result (λ m. IsMade check lines lenient form limits input.now (text_bytes m.text) m.differs m.left_out.items) }
-    ensures refused { IfErr result (RefusesImport lines lenient limits input.now) }
+    ensures refused { IfErr result (RefusesImport check lines lenient form limits input.now) }
     ensures memory { IfErr result TellsMemory }
     ensures unwritten { IfErr result IsUnwritten }
     ensures unread { result ≢ Err Fault.ReadFault }
@@ -198,7 +183,7 @@ fn make<'a, B: Allocator>(
     let made = match form {
         _ if check => make_check(heap, alloc, limits, lines, lenient, form, input),
         Form::Session => make_session(heap, alloc, limits, lines, lenient, input),
-        Form::Script | Form::Report => make_script(heap, alloc, limits, lines, lenient, input),
+        _ => make_script(heap, alloc, limits, lines, lenient, input),
     };
     match made {
         Ok(made) => Ok(made),

@@ -7,6 +7,7 @@ ghost use Rattle.run_core.specs.Report.{played};
 ghost use Rattle.recording_core.specs.Sessions.{IsSession};
 ghost use Rattle.program_core.specs.Program.{FailsAs, IsBenchAt, IsUnwritten, RefusesBenchAt, RefusesScript, RefusesSession, TellsMemory, begins_session};
 
+use crate::aside::Aside;
 use crate::fault::Fault;
 use crate::texts::LONGEST_SESSION;
 use bench_core::{Bench, Limits};
@@ -64,6 +65,7 @@ fn play_bytes<'a, B: Allocator>(
     alloc: &'a B,
     bytes: &[u8],
     limits: Limits,
+    aside: &mut Aside,
 ) -> Result<Bench<'a, B>, Fault>
     ensures played { IfOk result (λ bench. IsOkAnd (script_of bytes.now) (λ script. bench ≡ played limits script)) }
     ensures cause { IfErr result (RefusesScript bytes.now) }
@@ -74,7 +76,10 @@ fn play_bytes<'a, B: Allocator>(
     let script = match parse_script(alloc, bytes) {
         Ok(script) => script,
         Err(fault) if fault.kind == FaultKind::OutOfMemory => return Err(Fault::OutOfMemory),
-        Err(fault) => return Err(Fault::Script(fault)),
+        Err(fault) => {
+            aside.of_script(bytes, fault);
+            return Err(Fault::Script(fault));
+        }
     };
     let played = run_script(alloc, &script, limits);
     drop(script);
@@ -93,6 +98,7 @@ pub fn read_bench<'a, B: Allocator, R: Read, L: Ledger>(
     alloc: &'a B,
     reader: &mut R,
     limits: Limits,
+    aside: &mut Aside,
     steps: &mut Steps<L>,
 ) -> Result<Bench<'a, B>, Fault>
     ensures bench { IfOk result (IsBenchAt limits (R.remaining reader.old)) }
@@ -111,5 +117,5 @@ pub fn read_bench<'a, B: Allocator, R: Read, L: Ledger>(
     if begins_session(&input) {
         return load_bytes(heap, alloc, &input);
     }
-    play_bytes(alloc, &input, limits)
+    play_bytes(alloc, &input, limits, aside)
 }

@@ -1,24 +1,26 @@
 //! What each choice of the command line prints of the input.
-ghost use Rattle.std.specs.Prelude.{◌≡◌, IfErr, OnOk};
+ghost use Rattle.std.specs.Prelude.{◌≡◌, ◌≢◌, IfErr, OnOk};
 ghost use Rattle.std.specs.Io.KnownBytes.{IsAtEnd};
 ghost use Rattle.command_line.specs.declared.chosen.Form.{Form};
 ghost use Rattle.command_line.specs.declared.chosen.Form.TheVariants as forms;
 ghost use Rattle.command_line.specs.declared.chosen.Subcommand.TheVariants as subcommands;
 ghost use Rattle.program_core.specs.Program.{EndsAt, EndsAsText, EndsSoon, FailsAs, KeepsBefore, TellsAside, TellsMemory, question_of};
 
-use crate::exploring::{explore_script, reading_of};
+use crate::aside::Aside;
+use crate::exploring::{asked_of, tell_explored};
 use crate::fault::Fault;
 use crate::importing::import_events;
 use crate::inputs::read_bench;
 use crate::racing::race_script;
+use crate::shown::{load_shown, play_shown};
 use crate::stepping::step_script;
-use crate::texts::{read_script, read_session, session_line, tell_session};
+use crate::texts::{read_script, session_line};
 use crate::whatifs::tell_whatif;
 use bench_core::Limits;
-use command_line::{Choice, Form, Reading, Subcommand};
+use command_line::{About, Choice, Form, Subcommand};
 use explain_core::{Question, explain_asked};
 use picture_core::draw;
-use script_core::{Steps, play_counted, report_history, run_script, write_out};
+use script_core::{Steps, report_history, write_out};
 use std::alloc::{Allocator, Global};
 use std::io::{Read, Write};
 use std::sync::Wait;
@@ -37,56 +39,6 @@ pub(crate) fn print<W: Write>(writer: &mut W, text: &[u8]) -> Result<(), Fault>
     }
 }
 
-/// A script's report.
-fn play_report<B: Allocator, R: Read, W: Write, L: Ledger>(
-    alloc: &B,
-    reader: &mut R,
-    writer: &mut W,
-    limits: Limits,
-    steps: &mut Steps<L>,
-) -> Result<(), Fault>
-    ensures ends { EndsAt subcommands.Play forms.Report limits (R.remaining reader.old) result (W.contents writer.old) (W.contents writer.new) }
-    ensures read { OnOk result (IsAtEnd (R.remaining reader.new)) }
-    ensures unwritten { IfErr result (λ fault. KeepsBefore fault (W.contents writer.old) (W.contents writer.new)) }
-    ensures memory { IfErr result TellsMemory }
-    ensures failed { FailsAs result steps.old steps.new }
-{
-    let answer = play_counted(alloc, reader, writer, limits, steps);
-    if let Err(fault) = answer {
-        return Err(Fault::from(fault));
-    }
-    Ok(())
-}
-
-/// The session of the bench that a script was played on.
-fn play_session<B: Allocator, R: Read, W: Write, L: Ledger>(
-    reader: &mut R,
-    heap: Global,
-    alloc: &B,
-    writer: &mut W,
-    limits: Limits,
-    steps: &mut Steps<L>,
-) -> Result<(), Fault>
-    ensures ends { EndsAt subcommands.Play forms.Session limits (R.remaining reader.old) result (W.contents writer.old) (W.contents writer.new) }
-    ensures read { OnOk result (IsAtEnd (R.remaining reader.new)) }
-    ensures unwritten { IfErr result (λ fault. KeepsBefore fault (W.contents writer.old) (W.contents writer.new)) }
-    ensures memory { IfErr result TellsMemory }
-    ensures failed { FailsAs result steps.old steps.new }
-{
-    let script = read_script(alloc, reader, steps)?;
-    let played = run_script(alloc, &script, limits);
-    drop(script);
-    let Ok(played) = played else {
-        return Err(Fault::OutOfMemory);
-    };
-    let text = session_line(heap, &played.bench);
-    drop(played);
-    let Ok(text) = text else {
-        return Err(Fault::OutOfMemory);
-    };
-    print(writer, &text)
-}
-
 /// What the calls print in a report that a race of a script's lines recorded.
 fn race_report<B: Allocator + Sync, T: Threads + Wait + Sync, R: Read, W: Write, L: Ledger>(
     alloc: &B,
@@ -94,15 +46,18 @@ fn race_report<B: Allocator + Sync, T: Threads + Wait + Sync, R: Read, W: Write,
     writer: &mut W,
     limits: Limits,
     rt: &T,
+    form: Form,
+    aside: &mut Aside,
     steps: &mut Steps<L>,
 ) -> Result<(), Fault>
-    ensures ends { EndsAt subcommands.Race forms.Report limits (R.remaining reader.old) result (W.contents writer.old) (W.contents writer.new) }
+    requires { form ≢ forms.Session }
+    ensures ends { EndsAt subcommands.Race form limits (R.remaining reader.old) result (W.contents writer.old) (W.contents writer.new) }
     ensures read { OnOk result (IsAtEnd (R.remaining reader.new)) }
     ensures unwritten { IfErr result (λ fault. KeepsBefore fault (W.contents writer.old) (W.contents writer.new)) }
     ensures memory { IfErr result TellsMemory }
     ensures failed { FailsAs result steps.old steps.new }
 {
-    let script = read_script(alloc, reader, steps)?;
+    let script = read_script(alloc, reader, aside, steps)?;
     let bench = race_script(rt, alloc, &script, limits);
     drop(script);
     let bench = bench?;
@@ -122,6 +77,7 @@ fn race_session<B: Allocator + Sync, T: Threads + Wait + Sync, R: Read, W: Write
     reader: &mut R,
     writer: &mut W,
     limits: Limits,
+    aside: &mut Aside,
     steps: &mut Steps<L>,
 ) -> Result<(), Fault>
     ensures ends { EndsAt subcommands.Race forms.Session limits (R.remaining reader.old) result (W.contents writer.old) (W.contents writer.new) }
@@ -130,7 +86,7 @@ fn race_session<B: Allocator + Sync, T: Threads + Wait + Sync, R: Read, W: Write
     ensures memory { IfErr result TellsMemory }
     ensures failed { FailsAs result steps.old steps.new }
 {
-    let script = read_script(alloc, reader, steps)?;
+    let script = read_script(alloc, reader, aside, steps)?;
     let bench = race_script(rt, alloc, &script, limits);
     drop(script);
     let bench = bench?;
@@ -139,75 +95,6 @@ fn race_session<B: Allocator + Sync, T: Threads + Wait + Sync, R: Read, W: Write
     let Ok(text) = text else {
         return Err(Fault::OutOfMemory);
     };
-    print(writer, &text)
-}
-
-/// What the calls of a session print in a report.
-fn load_report<B: Allocator, R: Read, W: Write, L: Ledger>(
-    heap: Global,
-    alloc: &B,
-    reader: &mut R,
-    writer: &mut W,
-    limits: Limits,
-    steps: &mut Steps<L>,
-) -> Result<(), Fault>
-    ensures ends { EndsAt subcommands.Load forms.Report limits (R.remaining reader.old) result (W.contents writer.old) (W.contents writer.new) }
-    ensures read { OnOk result (IsAtEnd (R.remaining reader.new)) }
-    ensures unwritten { IfErr result (λ fault. KeepsBefore fault (W.contents writer.old) (W.contents writer.new)) }
-    ensures memory { IfErr result TellsMemory }
-    ensures failed { FailsAs result steps.old steps.new }
-{
-    let told = tell_session(heap, alloc, reader, steps)?;
-    let printed = print(writer, &told.report);
-    drop(told);
-    printed
-}
-
-/// A session, once it was played again.
-fn load_session<B: Allocator, R: Read, W: Write, L: Ledger>(
-    reader: &mut R,
-    heap: Global,
-    alloc: &B,
-    writer: &mut W,
-    limits: Limits,
-    steps: &mut Steps<L>,
-) -> Result<(), Fault>
-    ensures ends { EndsAt subcommands.Load forms.Session limits (R.remaining reader.old) result (W.contents writer.old) (W.contents writer.new) }
-    ensures read { OnOk result (IsAtEnd (R.remaining reader.new)) }
-    ensures unwritten { IfErr result (λ fault. KeepsBefore fault (W.contents writer.old) (W.contents writer.new)) }
-    ensures memory { IfErr result TellsMemory }
-    ensures failed { FailsAs result steps.old steps.new }
-{
-    let bench = read_session(heap, alloc, reader, steps)?;
-    let text = session_line(heap, &bench);
-    drop(bench);
-    let Ok(text) = text else {
-        return Err(Fault::OutOfMemory);
-    };
-    print(writer, &text)
-}
-
-/// What all orders of a script's act lines lead to, or the order of an outcome.
-fn explore_orders<B: Allocator, R: Read, W: Write, L: Ledger>(
-    alloc: &B,
-    reader: &mut R,
-    writer: &mut W,
-    limits: Limits,
-    reading: Reading,
-    states: usize,
-    outcome: Option<u64>,
-    steps: &mut Steps<L>,
-) -> Result<(), Fault>
-    ensures ends { (form : Form) → EndsAt (subcommands.Explore reading states outcome) form limits (R.remaining reader.old) result (W.contents writer.old) (W.contents writer.new) }
-    ensures read { OnOk result (IsAtEnd (R.remaining reader.new)) }
-    ensures unwritten { IfErr result (λ fault. KeepsBefore fault (W.contents writer.old) (W.contents writer.new)) }
-    ensures memory { IfErr result TellsMemory }
-    ensures failed { FailsAs result steps.old steps.new }
-{
-    let script = read_script(alloc, reader, steps)?;
-    let text = explore_script(alloc, &script, limits, reading_of(reading), states, outcome);
-    drop(script);
-    let text = text?;
     print(writer, &text)
 }
 
@@ -220,6 +107,7 @@ fn draw_bench<B: Allocator, R: Read, W: Write, L: Ledger>(
     limits: Limits,
     form: Form,
     why: Option<u64>,
+    aside: &mut Aside,
     steps: &mut Steps<L>,
 ) -> Result<(), Fault>
     ensures ends { EndsAt (subcommands.Draw why) form limits (R.remaining reader.old) result (W.contents writer.old) (W.contents writer.new) }
@@ -228,7 +116,7 @@ fn draw_bench<B: Allocator, R: Read, W: Write, L: Ledger>(
     ensures memory { IfErr result TellsMemory }
     ensures failed { FailsAs result steps.old steps.new }
 {
-    let bench = read_bench(heap, alloc, reader, limits, steps)?;
+    let bench = read_bench(heap, alloc, reader, limits, aside, steps)?;
     let picture = draw(alloc, &bench, why);
     drop(bench);
     let Ok(text) = picture else {
@@ -257,6 +145,7 @@ fn explain_bench<B: Allocator, R: Read, W: Write, L: Ledger>(
     limits: Limits,
     form: Form,
     question: command_line::Question<'_>,
+    aside: &mut Aside,
     steps: &mut Steps<L>,
 ) -> Result<(), Fault>
     ensures ends { EndsAt (subcommands.Explain question.entry) form limits (R.remaining reader.old) result (W.contents writer.old) (W.contents writer.new) }
@@ -265,7 +154,7 @@ fn explain_bench<B: Allocator, R: Read, W: Write, L: Ledger>(
     ensures memory { IfErr result TellsMemory }
     ensures failed { FailsAs result steps.old steps.new }
 {
-    let bench = read_bench(heap, alloc, reader, limits, steps)?;
+    let bench = read_bench(heap, alloc, reader, limits, aside, steps)?;
     let told = explain_asked(alloc, &bench, question_of(question));
     drop(bench);
     let text = match told {
@@ -285,6 +174,7 @@ fn tell_changes<B: Allocator, R: Read, W: Write, L: Ledger>(
     form: Form,
     question: command_line::Question<'_>,
     change: Option<u64>,
+    aside: &mut Aside,
     steps: &mut Steps<L>,
 ) -> Result<(), Fault>
     ensures ends { EndsAt (subcommands.Whatif question.entry change) form limits (R.remaining reader.old) result (W.contents writer.old) (W.contents writer.new) }
@@ -293,8 +183,41 @@ fn tell_changes<B: Allocator, R: Read, W: Write, L: Ledger>(
     ensures memory { IfErr result TellsMemory }
     ensures failed { FailsAs result steps.old steps.new }
 {
-    let bench = read_bench(heap, alloc, reader, limits, steps)?;
+    let bench = read_bench(heap, alloc, reader, limits, aside, steps)?;
     let told = tell_whatif(alloc, &bench, question, change);
+    drop(bench);
+    let text = match told {
+        Ok(text) => text,
+        Err(fault) => return Err(Fault::from(fault)),
+    };
+    print(writer, text.as_bytes())
+}
+
+/// What the network could have made of the bench that the input gives, or a run of one outcome.
+fn explore_bench<B: Allocator, R: Read, W: Write, L: Ledger>(
+    heap: Global,
+    alloc: &B,
+    reader: &mut R,
+    writer: &mut W,
+    limits: Limits,
+    form: Form,
+    about: About<'_>,
+    lost: usize,
+    again: usize,
+    states: usize,
+    outcome: Option<u64>,
+    aside: &mut Aside,
+    steps: &mut Steps<L>,
+) -> Result<(), Fault>
+    ensures ends { EndsAt (subcommands.Explore about.entry lost again states outcome) form limits (R.remaining reader.old) result (W.contents writer.old) (W.contents writer.new) }
+    ensures read { OnOk result (IsAtEnd (R.remaining reader.new)) }
+    ensures unwritten { IfErr result (λ fault. KeepsBefore fault (W.contents writer.old) (W.contents writer.new)) }
+    ensures memory { IfErr result TellsMemory }
+    ensures failed { FailsAs result steps.old steps.new }
+{
+    let bench = read_bench(heap, alloc, reader, limits, aside, steps)?;
+    let question = asked_of(about, lost, again, states);
+    let told = tell_explored(alloc, &bench, question, outcome);
     drop(bench);
     let text = match told {
         Ok(text) => text,
@@ -323,6 +246,7 @@ pub fn answer<
     writer: &mut W,
     errors: &mut E,
     limits: Limits,
+    aside: &mut Aside,
     steps: &mut Steps<L>,
 ) -> Result<(), Fault>
     ensures ends { EndsAt choice.entry.command choice.entry.form limits (R.remaining reader.old) result (W.contents writer.old) (W.contents writer.new) }
@@ -334,23 +258,17 @@ pub fn answer<
     ensures aside { TellsAside choice.entry.command (R.remaining reader.old) (E.contents errors.old) (E.contents errors.new) }
 {
     match (choice.command, choice.form) {
-        (Subcommand::Play, Form::Report | Form::Script) => play_report(
-            alloc, reader, writer, limits, steps,
+        (Subcommand::Play { strict }, form) => play_shown(
+            heap, alloc, reader, writer, limits, form, strict, aside, steps,
         ),
-        (Subcommand::Play, Form::Session) => play_session(
-            reader, heap, alloc, writer, limits, steps,
-        ),
-        (Subcommand::Race, Form::Report | Form::Script) => race_report(
-            alloc, reader, writer, limits, rt, steps,
+        (Subcommand::Load { strict }, form) => load_shown(
+            heap, alloc, reader, writer, limits, form, strict, aside, steps,
         ),
         (Subcommand::Race, Form::Session) => race_session(
-            rt, heap, alloc, reader, writer, limits, steps,
+            rt, heap, alloc, reader, writer, limits, aside, steps,
         ),
-        (Subcommand::Load, Form::Report | Form::Script) => load_report(
-            heap, alloc, reader, writer, limits, steps,
-        ),
-        (Subcommand::Load, Form::Session) => load_session(
-            reader, heap, alloc, writer, limits, steps,
+        (Subcommand::Race, form) => race_report(
+            alloc, reader, writer, limits, rt, form, aside, steps,
         ),
         (
             Subcommand::Import {
@@ -365,22 +283,25 @@ pub fn answer<
         (Subcommand::Step, _) => step_script(heap, alloc, reader, writer, limits, steps),
         (
             Subcommand::Explore {
-                reading,
+                about,
+                lost,
+                again,
                 states,
                 outcome,
             },
-            _,
-        ) => explore_orders(
-            alloc, reader, writer, limits, reading, states, outcome, steps,
+            form,
+        ) => explore_bench(
+            heap, alloc, reader, writer, limits, form, about, lost, again, states, outcome, aside,
+            steps,
         ),
         (Subcommand::Draw { why }, form) => draw_bench(
-            heap, alloc, reader, writer, limits, form, why, steps,
+            heap, alloc, reader, writer, limits, form, why, aside, steps,
         ),
         (Subcommand::Explain(question), form) => explain_bench(
-            heap, alloc, reader, writer, limits, form, question, steps,
+            heap, alloc, reader, writer, limits, form, question, aside, steps,
         ),
         (Subcommand::Whatif { question, change }, form) => tell_changes(
-            heap, alloc, reader, writer, limits, form, question, change, steps,
+            heap, alloc, reader, writer, limits, form, question, change, aside, steps,
         ),
     }
 }

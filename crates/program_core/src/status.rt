@@ -5,6 +5,7 @@ ghost use Rattle.clap.specs.Words.{kind_of};
 ghost use Rattle.program_core.specs.Program.{status_of, EndsProgram, EndsRefused, Exits, IsQuiet, PrintsHelp, TellsAside, usual};
 ghost use Rattle.stream_core.specs.Steps.{Steps as Count};
 
+use crate::aside::Aside;
 use crate::fault::Fault;
 use crate::printing::answer;
 use bench_core::Limits;
@@ -46,7 +47,8 @@ fn tell<E: Write>(fault: Fault, errors: &mut E) {
     }
 }
 
-/// Does what was chosen, and gives the status. A fault goes as one line to the errors, where these can be written.
+/// Does what was chosen, and gives the status. A fault goes as one line to the errors, and behind it a hint where there is one,
+/// where these can be written.
 fn run_choice<
     B: Allocator + Sync,
     T: Threads + Wait + Sync,
@@ -68,12 +70,15 @@ fn run_choice<
     ensures exits { Exits choice.entry (R.remaining reader.old) (R.remaining reader.new) limits result (W.contents writer.old) (W.contents writer.new) steps.old steps.new }
     ensures aside { result ≡ 0 → TellsAside choice.entry.command (R.remaining reader.old) (E.contents errors.old) (E.contents errors.new) }
 {
+    let mut aside = Aside::new(heap);
     let answer = answer(
-        rt, heap, alloc, choice, reader, writer, errors, limits, steps,
+        rt, heap, alloc, choice, reader, writer, errors, limits, &mut aside, steps,
     );
     if let Err(fault) = answer {
         tell(fault, errors);
+        aside.put(errors);
     }
+    drop(aside);
     status_of(answer)
 }
 
@@ -97,6 +102,10 @@ fn print_help<W: Write, E: Write>(help: &clap::Error, writer: &mut W, errors: &m
     0
 }
 
+/// What is told of a word that isn't taken, which is mostly the name of a file.
+const FILE_HINT: &str =
+    "hint: the input is read from standard input; put < before the name of a file\n";
+
 /// Answers words that choose nothing: help and the version go to the output, a fault of the words to the errors.
 fn refuse<W: Write, E: Write>(fault: &clap::Error, writer: &mut W, errors: &mut E) -> u8
     ensures ends { EndsRefused (kind_of fault.now) result (W.contents writer.old) (W.contents writer.new) }
@@ -105,6 +114,10 @@ fn refuse<W: Write, E: Write>(fault: &clap::Error, writer: &mut W, errors: &mut 
     match fault.kind() {
         ErrorKind::OutOfMemory => want_of_memory(errors),
         ErrorKind::DisplayHelp | ErrorKind::DisplayVersion => print_help(fault, writer, errors),
+        ErrorKind::UnknownArgument => {
+            let _ = write!(errors, "{fault}{FILE_HINT}");
+            2
+        }
         _ => {
             let _ = write!(errors, "{fault}");
             2

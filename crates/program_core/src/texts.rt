@@ -5,14 +5,15 @@ ghost use Rattle.stream_core.specs.Inputs.{IsWhole};
 ghost use Rattle.run_core.specs.Report.{history_text};
 ghost use Rattle.grammar_core.specs.Scripts.{plain_script};
 ghost use Rattle.program_core.specs.Program.{FailsAs, IsScriptAt, IsSessionAt, IsUnwritten, RefusesScriptAt, RefusesSessionAt, TellsMemory};
-ghost use Rattle.program_core.specs.Sessions.{session_text};
+ghost use Rattle.program_core.specs.Texts.{session_text};
 
+use crate::aside::Aside;
 use crate::fault::Fault;
 use bench_core::Bench;
 use script_core::{
     FaultKind, InputFault, Played, Script, ScriptFault, Steps, parse_script, read_all,
 };
-use session_core::{SessionFault, load, save};
+use session_core::{SessionFault, save};
 use session_report::report_session;
 use std::alloc::{AllocError, Allocator, Global};
 use std::io::Read;
@@ -28,6 +29,7 @@ pub const LONGEST_SESSION: usize = 67_108_864;
 pub fn read_script<'a, B: Allocator, R: Read, L: Ledger>(
     alloc: &'a B,
     reader: &mut R,
+    aside: &mut Aside,
     steps: &mut Steps<L>,
 ) -> Result<Script<&'a B>, Fault>
     ensures script { IfOk result (λ script. IsScriptAt (R.remaining reader.old) (plain_script script)) }
@@ -41,17 +43,22 @@ pub fn read_script<'a, B: Allocator, R: Read, L: Ledger>(
         Ok(input) => input,
         Err(InputFault::ReadFault) => return Err(Fault::ReadFault),
         Err(InputFault::TooLong) => {
-            return Err(Fault::Script(ScriptFault {
+            let fault = ScriptFault {
                 line: 0,
                 kind: FaultKind::TooLong,
-            }));
+            };
+            aside.of_script(&[], fault);
+            return Err(Fault::Script(fault));
         }
         Err(InputFault::OutOfMemory) => return Err(Fault::OutOfMemory),
     };
     match parse_script(alloc, &input) {
         Ok(script) => Ok(script),
         Err(fault) if fault.kind == FaultKind::OutOfMemory => Err(Fault::OutOfMemory),
-        Err(fault) => Err(Fault::Script(fault)),
+        Err(fault) => {
+            aside.of_script(&input, fault);
+            Err(Fault::Script(fault))
+        }
     }
 }
 
@@ -76,33 +83,12 @@ fn session_input<'a, B: Allocator, R: Read, L: Ledger>(
     }
 }
 
-/// The bench of the session that the input is.
-pub fn read_session<'a, B: Allocator, R: Read, L: Ledger>(
-    heap: Global,
-    alloc: &'a B,
-    reader: &mut R,
-    steps: &mut Steps<L>,
-) -> Result<Bench<'a, B>, Fault>
-    ensures session { IfOk result (IsSessionAt (R.remaining reader.old)) }
-    ensures cause { IfErr result (RefusesSessionAt (R.remaining reader.old)) }
-    ensures memory { IfErr result TellsMemory }
-    ensures unwritten { IfErr result IsUnwritten }
-    ensures read { OnOk result (IsAtEnd (R.remaining reader.new)) }
-    ensures failed { FailsAs result steps.old steps.new }
-{
-    let input = session_input(alloc, reader, steps)?;
-    match load(heap, alloc, &input) {
-        Ok(bench) => Ok(bench),
-        Err(SessionFault::OutOfMemory) => Err(Fault::OutOfMemory),
-        Err(fault) => Err(Fault::Session(fault)),
-    }
-}
-
 /// The bench of the session that the input is, with what its calls print.
 pub fn tell_session<'a, B: Allocator, R: Read, L: Ledger>(
     heap: Global,
     alloc: &'a B,
     reader: &mut R,
+    aside: &mut Aside,
     steps: &mut Steps<L>,
 ) -> Result<Played<'a, B>, Fault>
     ensures session { IfOk result (λ told. IsSessionAt (R.remaining reader.old) told.bench) }
@@ -117,7 +103,12 @@ pub fn tell_session<'a, B: Allocator, R: Read, L: Ledger>(
     match report_session(heap, alloc, &input) {
         Ok(told) => Ok(told),
         Err(SessionFault::OutOfMemory) => Err(Fault::OutOfMemory),
-        Err(refusal) => Err(Fault::Session(refusal)),
+        Err(refusal) => {
+            if refusal == SessionFault::NotJson {
+                aside.of_session(&input);
+            }
+            Err(Fault::Session(refusal))
+        }
     }
 }
 

@@ -33,7 +33,14 @@ const REFUSED: &[(&[&str], ErrorKind)] = &[
     (&["play", "--states", "7"], ErrorKind::UnknownArgument),
     (&["draw", "--script", "1"], ErrorKind::UnknownArgument),
     (&["draw", "--as", "session"], ErrorKind::UnknownArgument),
-    (&["explore", "--as", "session"], ErrorKind::InvalidValue),
+    (&["explore", "--as", "session"], ErrorKind::UnknownArgument),
+    (&["explore", "--lost", "x"], ErrorKind::InvalidValue),
+    (&["explore", "b", "--again="], ErrorKind::InvalidValue),
+    (&["explore", "b", "lobby"], ErrorKind::InvalidValue),
+    (
+        &["explore", "b", "lobby", "alice", "x"],
+        ErrorKind::UnknownArgument,
+    ),
     (
         &["explain", "b", "lobby"],
         ErrorKind::MissingRequiredArgument,
@@ -192,7 +199,8 @@ const EVERY_ACT: &str = concat!(
 const ALONE: &str = "{\"acts\":[[0,[\"do\",\"join\",1,\"r\",\"alice\",\"phone\"],[\"ok\",1]]],\
 \"limits\":[10,10,10,10],\"nodes\":[\"a\"],\"version\":2}";
 
-const ALONE_EXPLAINED: &str = "explain a r alice 1\nmade 1 a join 1 r alice phone\nat a online\n";
+const ALONE_EXPLAINED: &str =
+    "explain a r alice 1\nmade 1 a join 1 r alice phone\ndot a 1\nat a online\n";
 
 const ALONE_DRAWN: &str = concat!(
     r#"<svg xmlns="http://www.w3.org/2000/svg" width="400" height="100">"#,
@@ -211,9 +219,11 @@ const ALONE_DRAWN: &str = concat!(
     r#"</title><circle r="8"></circle><text dy="-18">1</text><text dy="30">join</text></g></g></svg>"#
 );
 
-const TWO_ORDERS: &str = "nodes a\nconsoles desk\na join 1 r alice phone\ndesk undo 1\n";
+/// A delivery that the network could have made before its sender was known, and then brings nothing.
+const ONE_DELIVERY: &str =
+    "nodes a b\na join 1 r alice phone\na broadcast\nb up a\nb deliver a 1\n";
 
-const SECOND_ORDER: &str = "  nodes a\n  consoles desk\n  desk undo 1\n  a join 1 r alice phone\n";
+const TOO_EARLY: &str = "nodes a b\na join 1 r alice phone\na broadcast\nb deliver a 1\nb up a\n";
 
 const LOGGED: &str = concat!(
     r#"{"node":"a","event":"join","pid":1,"topic":"r","key":"alice","meta":"phone"}"#,
@@ -239,7 +249,7 @@ const ANSWERED: &[(&[&str], &str, &str)] = &[
     (&["load", "--as", "session"], EVERY_ACT, EVERY_ACT),
     (&["explain", "a", "r", "alice"], ALONE, ALONE_EXPLAINED),
     (&["draw"], ALONE, ALONE_DRAWN),
-    (&["explore", "--script", "2"], TWO_ORDERS, SECOND_ORDER),
+    (&["explore", "b", "--script", "2"], ONE_DELIVERY, TOO_EARLY),
     (&["import"], LOGGED, LOGGED_SCRIPT),
     (
         &["import", "--check", "--lenient"],

@@ -6,3 +6,4 @@ pub mod StepsTold
 pub mod ReadActors
 pub mod ReadCalls
 pub mod ReadScripts
+pub mod ReadRuns

@@ -1,17 +1,17 @@
 -- The script of a bench's calls is read back.
 use Rattle.std.proofs.Common.{◌≡◌, ℕ, zero, suc, ◌+◌, ◌<◌, ◌≤◌, ◌==◌, ◌&&◌, ◌||◌, nat_lt, nat_le, Bool, true, false, not, if◌then◌else◌, List, [], ◌∷◌, ◌++◌, length, map, All}
-use Rattle.std.proofs.Common.{get_or, Some, None, Ok, Err, refl, sym, ap, ◌∙◌, subst, append_assoc, append-nil, true≢false, arith, codes}
-use Rattle.std.specs.List.{list_all, AllByRecursion}
+use Rattle.std.proofs.Common.{get_or, None, Ok, Err, refl, sym, ap, ◌∙◌, append_assoc, append-nil, true≢false, arith, codes}
+use Rattle.std.specs.List.{AllByRecursion}
 use Rattle.std.proofs.lemmas.List.Splits.{slice_split_at}
 use Rattle.std.proofs.lemmas.Bool.Decides.{nat_tests}
 use Rattle.payload_core.specs.Answers.{◌>>=◌}
-use Rattle.bench_core.specs.Machine.{Event, Machine}
+use Rattle.bench_core.specs.Machine.{Event}
 use Rattle.bench_core.specs.NameText.{is_name}
 use Rattle.bench_core.specs.NameList.{Texts}
 use Rattle.grammar_core.specs.declared.fault.FaultKind.TheVariants as kinds
 use Rattle.grammar_core.specs.Casts.{Cast}
-use Rattle.grammar_core.specs.Scripts.{Command, Call, Line}
-use Rattle.grammar_core.specs.Words.{lines_of, words_of, is_text, is_visible}
+use Rattle.grammar_core.specs.Scripts.{Command, Line}
+use Rattle.grammar_core.specs.Words.{lines_of, words_of, is_text}
 use Rattle.grammar_core.specs.Grammar.{Reading, at_line, opening, script_of, with_consoles, with_each, with_line, with_lines, with_words, with_words_by}
 use Rattle.run_core.specs.Report.{call_of, commands_of}
 use Rattle.run_core.specs.ReadSteps.{AreNodes}
@@ -20,9 +20,9 @@ use Rattle.run_core.proofs.ReadNames.{opened}
 use Rattle.run_core.proofs.Spaced.{spaced, text_spaced, words_spaced}
 use Rattle.run_core.proofs.Visible.{Fits, all_names, name_fits}
 use Rattle.transcript_core.specs.Laws.{AreConsoles, CanBeAsked, ScriptLaw}
-use Rattle.transcript_core.specs.Scripts.{IsReadBack, cast_of, cast_text, consoles_text, ended, event_line, event_lines, script_text, spaced_names}
+use Rattle.transcript_core.specs.Scripts.{cast_of, cast_text, consoles_text, ended, event_lines, script_text, spaced_names}
 use Rattle.transcript_core.proofs.ReadActors.{each_named}
-use Rattle.transcript_core.proofs.ReadCalls.{ReadsAs, call_read, reading}
+use Rattle.transcript_core.proofs.ReadCalls.{call_read, reading}
 
 -- a line that is read is text, and has no line feed
 
@@ -66,12 +66,12 @@ empty_line r number = refl
 -- the calls
 
 -- so many lines are read, which ask these
-record Reads (cast : Cast) (lines : List Line) (number : ℕ) (text : List ℕ) (commands : List Command) : Type 0 where
-  more : List Line
-  read : with_lines (reading cast lines) number (lines_of text) ≡ Ok (reading cast (lines ++ more))
-  asked : commands_of more ≡ commands
+pub record Reads (cast : Cast) (lines : List Line) (number : ℕ) (text : List ℕ) (commands : List Command) : Type 0 where
+  pub more : List Line
+  pub read : with_lines (reading cast lines) number (lines_of text) ≡ Ok (reading cast (lines ++ more))
+  pub asked : commands_of more ≡ commands
 
-calls_read : (cast : Cast) → AreNodes cast.nodes → AreConsoles cast.nodes cast.consoles → (events : List Event) →
+pub calls_read : (cast : Cast) → AreNodes cast.nodes → AreConsoles cast.nodes cast.consoles → (events : List Event) →
     AllByRecursion (λ e. CanBeAsked cast e.actor e.act) events → (lines : List Line) (number : ℕ) →
     Reads cast lines number (event_lines cast events) (map call_of events)
 unfolding event_lines
@@ -109,7 +109,7 @@ each_of (n ∷ ns) each = (each 0 (omega arith), each_of ns (λ k low. each (suc
 spaced_line : (r : Reading) (number : ℕ) (words : Texts) → FitsLine words → with_line r number (spaced words) ≡ with_words r number words
 spaced_line r number words fits = line_read r number (spaced words) words fits.short (text_spaced words fits.seen) (words_spaced words fits.seen)
 
-abbrev unread : Reading
+abbrev pub unread : Reading
 unread = record { cast = None; lines = [] }
 
 abbrev no_consoles_yet : Texts → Cast
@@ -149,7 +149,7 @@ consoles_read nodes consoles number are some =
 
 -- and the whole
 
-head_read : (nodes consoles : Texts) → AreNodes nodes → AreConsoles nodes consoles → (rest : List ℕ) →
+pub head_read : (nodes consoles : Texts) → AreNodes nodes → AreConsoles nodes consoles → (rest : List ℕ) →
     (number : ℕ) × (with_lines unread 1 (lines_of (cast_text (whole_cast nodes consoles) ++ rest)) ≡
     with_lines (reading (whole_cast nodes consoles) []) number (lines_of rest))
 unfolding cast_text consoles_text

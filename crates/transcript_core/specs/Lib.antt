@@ -3,3 +3,4 @@ pub mod Scripts
 pub mod Steps
 pub mod Refusals
 pub mod Laws
+pub mod Runs

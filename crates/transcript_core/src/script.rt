@@ -13,7 +13,10 @@ use report_core::name_at;
 use std::alloc::Allocator;
 
 /// Each node's name after a space.
-fn put_nodes<A: Allocator, N: Allocator>(text: &mut String<A>, nodes: &Names<N>) -> Result<(), Oom>
+pub(crate) fn put_nodes<A: Allocator, N: Allocator>(
+    text: &mut String<A>,
+    nodes: &Names<N>,
+) -> Result<(), Oom>
     ensures { OnOk result (string_bytes text.new ≡ string_bytes text.old ++ spaced_names nodes.now) }
 {
     for number in 0..nodes.len() as u16 {

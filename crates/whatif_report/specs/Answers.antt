@@ -1,5 +1,5 @@
 -- What is asked for by words: the differences, or the run with one of them.
-use Rattle.std.specs.Prelude.{◌≡◌, ◌⊎◌, ℕ, false, true, List, Option, None, Some, IsSome, length}
+use Rattle.std.specs.Prelude.{◌≡◌, ◌⊎◌, ℕ, false, true, List, [], Option, None, Some, IsSome, length}
 use Rattle.payload_core.specs.Messages.{numbered}
 use Rattle.payload_core.specs.Words.{is_word}
 use Rattle.payload_core.specs.declared.word.WordFault.{WordFault}
@@ -15,7 +15,8 @@ use Rattle.change_core.specs.Questions.{Question as Plain}
 use Rattle.whatif_report.specs.declared.asking.Question.{Question}
 use Rattle.whatif_report.specs.declared.whatif_fault.WhatifFault.{WhatifFault}
 use Rattle.whatif_report.specs.declared.whatif_fault.WhatifFault.TheVariants as faults
-use Rattle.whatif_report.specs.Texts.{run_text, whatif_text}
+use Rattle.transcript_core.specs.Runs.{run_text}
+use Rattle.whatif_report.specs.Texts.{whatif_text}
 
 abbrev pub fault_of_word : WordFault → WhatifFault
 fault_of_word words.BadWord = faults.NoWord
@@ -39,7 +40,7 @@ pub record IsAnswer (m : Machine) (question : Question) (text : List ℕ) : Type
 pub record IsScriptWith (m : Machine) (c : Change) (text : List ℕ) : Type 0 where
   pub run : List Kept
   pub ordered : order_of (changed m.state.remaining c) ≡ Some run
-  pub script : text ≡ run_text m.names run
+  pub script : text ≡ run_text [] m.names run
 
 -- it is that with the change that is told under this number, beside the nearest place
 pub record IsRun (m : Machine) (question : Question) (number : ℕ) (text : List ℕ) : Type 0 where

@@ -1,6 +1,5 @@
--- The text of what would have made a difference, and of the run with a change as a script.
+-- The text of what would have made a difference.
 use Rattle.std.specs.Prelude.{ℕ, zero, suc, ◌+◌, nat_lt, if◌then◌else◌, List, [], ◌∷◌, ◌++◌, length, codes, decimal, slice_get, Option, Some, None}
-use Rattle.std.specs.List.{flat_map}
 use Rattle.journal_core.specs.Journals.{Kept}
 use Rattle.bench_core.specs.Machine.{Machine}
 use Rattle.bench_core.specs.NameList.{Texts}
@@ -67,16 +66,3 @@ unfoldable pub whatif_text : Machine → Question → List ℕ
 whatif_text m q =
     head_line m.names q (length (changes m.state.remaining)) (tally_of m q) ++ row_lines (codes "= ") m.names (rows_before m q) ++
     differences_text m.names m.state.remaining (rows_before m q) 1 (tally_of m q).told
-
-unfoldable pub spaced_names : Texts → List ℕ
-spaced_names names = flat_map (λ name. codes " " ++ name) names
-
-abbrev pub run_line : Texts → Kept → List ℕ
-run_line names k = act_line names k.node k.step ++ codes "\n"
-
-unfoldable pub run_lines : Texts → List Kept → List ℕ
-run_lines names ks = flat_map (run_line names) ks
-
--- `nodes NAME ..`, and each step on a line
-unfoldable pub run_text : Texts → List Kept → List ℕ
-run_text names ks = codes "nodes" ++ spaced_names names ++ codes "\n" ++ run_lines names ks

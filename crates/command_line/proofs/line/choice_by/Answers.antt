@@ -4,7 +4,7 @@ use Rattle.clap.specs.Words.{App, HasKind, HasMatchesOf, fault_of, is_simple, is
 use Rattle.clap.proofs.OnLiterals.{clap_on_literals}
 use Rattle.clap.proofs.WalkLemmas.{first_value-rows}
 use Rattle.command_line.specs.declared.chosen.Choice.{Choice}
-use Rattle.command_line.specs.Line.{Chooses, app}
+use Rattle.command_line.specs.Line.{Spells, app}
 use Rattle.command_line.proofs.Rows.{both_parts, chooses_nothing, chosen_alike, refused_by}
 use Rattle.command_line.proofs.line.choice_by.Goals as goal
 
@@ -48,7 +48,7 @@ returns-in_ok-error-in-Err-clause-err g c =
     subst (λ (a : App). HasMatchesOf a words m) c.requires c.in_ok-matches.ensures.ok.2 in
     let found = found_of c.in-Some.entered.now in
     let met : subcommand_rows_of m ≡ Some (c.in-Some.name.now, rows_of found) = both_parts _ _ _ _ _ c.in-Some.ensures.name c.in-Some.ensures.rows in
-    let nothing : (choice : Choice) → ¬ Chooses words choice =
+    let nothing : (choice : Choice) → ¬ Spells words choice =
     chooses_nothing words c.in-Some.name.now (rows_of found) (sym (matched simple).1 ∙ met)
     (λ choice is. c.in-Err.ensures.err choice (chosen_alike _ _ _ _ (λ option. sym (first_value-rows found option)) is)) in
     inr (inr (inl c.in_ok-error-in-Err.ensures.kind, nothing))

@@ -5,14 +5,11 @@ use Rattle.command_line.proofs.line.explore_line.Goals as goal
 
 pub returns-clause-app : goal.returns-clause-app
 returns-clause-app c =
-    let first = c.in_ok-arg.ensures.shape c.flag.ensures.local ∙ ap₂ with_rule c.in_ok-form_line.ensures.app c.flag.ensures.rule in
-    let second = c.in_ok-arg-2.ensures.shape c.number_option.ensures.local ∙ ap₂ with_rule first c.number_option.ensures.rule in
-    IfOk-weaker c.arg-3.result _ _ (λ line adds. adds.shape c.number_option-2.ensures.local ∙ ap₂ with_rule second c.number_option-2.ensures.rule)
-    c.arg-3.ensures
+    let first = c.in_ok-arg.ensures.shape c.number_option.ensures.local ∙ ap₂ with_rule c.in_ok-network_line.ensures.app c.number_option.ensures.rule in
+    IfOk-weaker c.arg-2.result _ _ (λ line adds. adds.shape c.number_option-2.ensures.local ∙ ap₂ with_rule first c.number_option-2.ensures.rule) c.arg-2.ensures
 
 pub returns-clause-local : goal.returns-clause-local
 returns-clause-local c =
     let or : Bool → Bool → Bool = λ one other. one || other in
-    let first = c.in_ok-arg.ensures.globals ∙ ap₂ or c.in_ok-form_line.ensures.local c.flag.ensures.local in
-    let second = c.in_ok-arg-2.ensures.globals ∙ ap₂ or first c.number_option.ensures.local in
-    IfOk-weaker c.arg-3.result _ _ (λ line adds. adds.globals ∙ ap₂ or second c.number_option-2.ensures.local) c.arg-3.ensures
+    let first = c.in_ok-arg.ensures.globals ∙ ap₂ or c.in_ok-network_line.ensures.local c.number_option.ensures.local in
+    IfOk-weaker c.arg-2.result _ _ (λ line adds. adds.globals ∙ ap₂ or first c.number_option-2.ensures.local) c.arg-2.ensures

@@ -7,7 +7,7 @@ use Rattle.command_line.proofs.line.line.Goals as goal
 pub returns : goal.returns
 returns c =
     let put : App → App → App = λ added line. with_subcommand line added.top in
-    let first = c.in_ok-line.ensures ∙ ap (put play_app) c.bare_line.ensures in
+    let first = c.in_ok-line.ensures ∙ ap (put play_app) c.bare_line-line.ensures in
     let second = c.in_ok-line-2.ensures ∙ ap (put race_app) first in
     let third = c.in_ok-line-3.ensures ∙ ap (put load_app) second in
     let fourth = c.in_ok-line-4.ensures ∙ ap (put explore_app) third in

@@ -1,8 +1,0 @@
-use Rattle.std.proofs.Common.{◌≡◌, ◌++◌, drop, string_bytes}
-use Rattle.explore_report.specs.OrderText.{spaced_names}
-use Rattle.explore_report.proofs.order_text.put_nodes.Given as goal
-
--- the names so far, and then those that are left
-abbrev pub invariant-loop-number : goal.invariant-loop-number
-invariant-loop-number g l =
-    string_bytes l.text ++ spaced_names (drop l.number l.names) ≡ string_bytes l.fn.text ++ spaced_names l.names

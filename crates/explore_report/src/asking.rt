@@ -1,0 +1,88 @@
+//! What the network could have made of a run, asked by words.
+ghost use Rattle.std.specs.Prelude.{◌≡◌, ◌≤◌, IfErr, IfOk, length, option_map, string_bytes};
+ghost use Rattle.payload_core.specs.Messages.{numbered};
+ghost use Rattle.explore_network.specs.Questions.{plain, IsThere};
+ghost use Rattle.explore_report.specs.Answers.{AreOutcomes, IsAnswer, IsRun, Refuses, RefusesRun, StopsShort};
+
+use crate::question::{Question, asked};
+use crate::report_fault::{ReportFault, fault_of};
+use crate::run_text::script_of;
+use crate::telling::tell;
+use bench_core::Bench;
+use explore_network::{Explored, Outcome, Question as Plain, explore};
+use std::alloc::Allocator;
+
+/// The outcomes of what is asked.
+fn explored<'a, B: Allocator>(
+    bench: &Bench<'a, B>,
+    asked: &Plain<&'a B>,
+    question: Question<'_>,
+    alloc: &'a B,
+) -> Result<Explored<'a, B>, ReportFault>
+    requires there { IsThere (length bench.now.names) (plain asked.now) }
+    ensures outcomes { IfOk result (λ e. AreOutcomes bench.now (plain asked.now) question.entry.lost question.entry.again e.outcomes.items) }
+    ensures few { IfOk result (λ e. e.states ≤ question.entry.states) }
+    ensures refused { IfErr result (StopsShort bench.now question.entry (plain asked.now)) }
+{
+    let Question {
+        about: _,
+        lost,
+        again,
+        states,
+    } = question;
+    match explore(bench, asked, lost, again, states, alloc) {
+        Ok(explored) => Ok(explored),
+        Err(fault) => Err(fault_of(fault, states)),
+    }
+}
+
+/// What the network could have made of the remaining steps, as a text: each outcome, and a run that leads there.
+pub fn explore_asked<'a, B: Allocator>(
+    alloc: &'a B,
+    bench: &Bench<'a, B>,
+    question: Question<'_>,
+) -> Result<String<&'a B>, ReportFault>
+    ensures answer { IfOk result (λ text. IsAnswer bench.now question.entry (string_bytes text)) }
+    ensures refused { IfErr result (Refuses bench.now question.entry) }
+{
+    let asked = asked(bench, question.about, alloc)?;
+    let explored = explored(bench, &asked, question, alloc)?;
+    let text = tell(bench, &asked, &explored, alloc);
+    drop(explored);
+    drop(asked);
+    Ok(text?)
+}
+
+/// The outcome that is told under this number, from 1.
+fn outcome_at<'l, 'a, B: Allocator>(
+    outcomes: &'l [Outcome<'a, B>],
+    number: u64,
+) -> Option<&'l Outcome<'a, B>>
+    ensures { option_map (λ outcome. outcome.now) result ≡ numbered outcomes.now number }
+{
+    let place = number.checked_sub(1)?;
+    outcomes.get(place as usize)
+}
+
+/// The run of the outcome that is told under this number, as a script that plays it.
+pub fn run_of_outcome<'a, B: Allocator>(
+    alloc: &'a B,
+    bench: &Bench<'a, B>,
+    question: Question<'_>,
+    number: u64,
+) -> Result<String<&'a B>, ReportFault>
+    ensures run { IfOk result (λ text. IsRun bench.now question.entry number (string_bytes text)) }
+    ensures refused { IfErr result (RefusesRun bench.now question.entry number) }
+{
+    let asked = asked(bench, question.about, alloc)?;
+    let explored = explored(bench, &asked, question, alloc)?;
+    drop(asked);
+    let Some(outcome) = outcome_at(explored.outcomes.as_slice(), number) else {
+        let outcomes = explored.outcomes.len();
+        drop(explored);
+        return Err(ReportFault::NoSuchOutcome { outcomes });
+    };
+    let text = script_of(bench, outcome.run(), alloc);
+    drop(explored);
+    Ok(text?)
+}

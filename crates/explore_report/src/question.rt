@@ -1,0 +1,63 @@
+//! What is asked, by words.
+ghost use Rattle.std.specs.Prelude.{IfErr, IfOk, length};
+ghost use Rattle.explore_network.specs.Questions.{IsThere, plain};
+ghost use Rattle.explore_report.specs.Asked.{Asks, IsUnasked};
+
+use crate::report_fault::ReportFault;
+use bench_core::Bench;
+use explore_network::Question as Plain;
+use payload_core::Word;
+use std::alloc::Allocator;
+
+/// By what outcomes are told apart.
+#[derive(Clone, Copy, Debug, PartialEq, Eq)]
+pub enum About<'q> {
+    /// The whole cluster.
+    Cluster,
+    /// The node of this name.
+    Node(&'q str),
+    /// The presences of this topic and key at the node of this name.
+    Presence {
+        node: &'q str,
+        topic: &'q str,
+        key: &'q str,
+    },
+}
+
+/// What the network could have made of the steps that remain: with up to `lost` deliveries missing, and up to `again` that come a
+/// second time. At most so many states are kept.
+#[derive(Clone, Copy, Debug, PartialEq, Eq)]
+pub struct Question<'q> {
+    pub about: About<'q>,
+    pub lost: usize,
+    pub again: usize,
+    pub states: usize,
+}
+
+/// The same by a node's number and by words.
+pub(crate) fn asked<'a, B: Allocator>(
+    bench: &Bench<'a, B>,
+    about: About<'_>,
+    alloc: &'a B,
+) -> Result<Plain<&'a B>, ReportFault>
+    ensures asks { IfOk result (λ question. Asks bench.now about.entry (plain question)) }
+    ensures there { IfOk result (λ question. IsThere (length bench.now.names) (plain question)) }
+    ensures refused { IfErr result (IsUnasked bench.now about.entry) }
+{
+    let names = bench.names();
+    match about {
+        About::Cluster => Ok(Plain::Cluster),
+        About::Node(name) => match names.number_of(name) {
+            Some(node) => Ok(Plain::Node(node)),
+            None => Err(ReportFault::NoSuchNode),
+        },
+        About::Presence { node, topic, key } => {
+            let Some(node) = names.number_of(node) else {
+                return Err(ReportFault::NoSuchNode);
+            };
+            let topic = Word::new(alloc, topic)?;
+            let key = Word::new(alloc, key)?;
+            Ok(Plain::Presence { node, topic, key })
+        }
+    }
+}

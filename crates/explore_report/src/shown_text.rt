@@ -1,0 +1,113 @@
+//! What an outcome shows of what is asked.
+ghost use Rattle.std.specs.Prelude.{◌≡◌, ◌++◌, IfOk, OnOk, codes, length, option_map, string_bytes};
+ghost use Rattle.explore_network.specs.Questions.{plain, rows_in};
+ghost use Rattle.report_core.specs.Rows.{online_text, row_lines};
+ghost use Rattle.report_core.specs.Shown.{rows_in as listed_in};
+ghost use Rattle.explore_report.specs.Texts.{node_text, nodes_text, shown_text};
+
+use bench_core::{Cluster, Names, Node};
+use diff_core::{OnlineRow, online_list};
+use explore_network::{Question, rows_in};
+use payload_core::{Oom, Word};
+use report_core::{name_at, put_dots, put_rows};
+use std::alloc::Allocator;
+
+/// The node's online list; an empty one where there is no such node.
+fn listed<'a, B: Allocator>(
+    found: Option<&Node<'a, B>>,
+    alloc: &'a B,
+) -> Result<Vec<OnlineRow<&'a B>, &'a B>, Oom>
+    ensures { IfOk result (λ rows. rows.items ≡ listed_in (option_map (λ n. n.now) found.entry)) }
+{
+    match found {
+        Some(found) => online_list(alloc, found.replica()),
+        None => Ok(Vec::new(alloc)),
+    }
+}
+
+/// `online NODE COUNT`, and the rows.
+#[tactic(auto, unfolding(report_core::specs::Rows::online_text))]
+fn put_online<A: Allocator, N: Allocator, R: Allocator>(
+    text: &mut String<A>,
+    names: &Names<N>,
+    node: u16,
+    rows: &[OnlineRow<R>],
+) -> Result<(), Oom>
+    ensures { OnOk result (string_bytes text.new ≡ string_bytes text.old ++ online_text names.now node rows.now) }
+{
+    let node = name_at(names, node);
+    let count = rows.len();
+    writeln!(text, "online {node} {count}")?;
+    put_rows(text, "= ", names, rows)
+}
+
+/// What `show` and `dots` print of a node.
+#[tactic(auto, unfolding(crate::specs::Texts::node_text))]
+fn put_node<'a, A: Allocator, N: Allocator, B: Allocator>(
+    cluster: &Cluster<'a, B>,
+    text: &mut String<A>,
+    names: &Names<N>,
+    node: u16,
+    alloc: &'a B,
+) -> Result<(), Oom>
+    ensures { OnOk result (string_bytes text.new ≡ string_bytes text.old ++ node_text names.now cluster.now node) }
+{
+    let rows = listed(cluster.node(node), alloc)?;
+    let put = put_online(text, names, node, rows.as_slice());
+    drop(rows);
+    put?;
+    put_dots(cluster.node(node), text, names)
+}
+
+/// The same of each node.
+fn put_nodes<'a, A: Allocator, N: Allocator, B: Allocator>(
+    cluster: &Cluster<'a, B>,
+    text: &mut String<A>,
+    names: &Names<N>,
+    alloc: &'a B,
+) -> Result<(), Oom>
+    ensures { OnOk result (string_bytes text.new ≡ string_bytes text.old ++ nodes_text names.now cluster.now (length names.now)) }
+{
+    for node in 0..names.len() as u16 {
+        put_node(cluster, text, names, node, alloc)?;
+    }
+    Ok(())
+}
+
+/// The rows of a topic and a key at a node, each after `= `.
+fn put_presences<'a, A: Allocator, N: Allocator, B: Allocator>(
+    found: Option<&Node<'a, B>>,
+    text: &mut String<A>,
+    names: &Names<N>,
+    topic: &Word<&'a B>,
+    key: &Word<&'a B>,
+    alloc: &'a B,
+) -> Result<(), Oom>
+    ensures { OnOk result (string_bytes text.new ≡ string_bytes text.old ++
+        row_lines (codes "= ") names.now (rows_in topic.now key.now (option_map (λ n. n.now) found.entry))) }
+{
+    let rows = rows_in(found, topic, key, alloc)?;
+    let put = put_rows(text, "= ", names, rows.as_slice());
+    drop(rows);
+    put
+}
+
+/// What the cluster shows of what is asked.
+#[tactic(auto, unfolding(crate::specs::Texts::shown_text))]
+pub(crate) fn put_shown<'a, A: Allocator, N: Allocator, B: Allocator>(
+    cluster: &Cluster<'a, B>,
+    text: &mut String<A>,
+    names: &Names<N>,
+    question: &Question<&'a B>,
+    alloc: &'a B,
+) -> Result<(), Oom>
+    ensures { OnOk result (string_bytes text.new ≡ string_bytes text.old ++ shown_text names.now (plain question.now) cluster.now) }
+{
+    match question {
+        Question::Cluster => put_nodes(cluster, text, names, alloc),
+        Question::Node(node) => put_node(cluster, text, names, *node, alloc),
+        Question::Presence { node, topic, key } => {
+            put_presences(cluster.node(*node), text, names, topic, key, alloc)
+        }
+    }
+}

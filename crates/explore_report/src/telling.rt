@@ -1,0 +1,132 @@
+//! The text of what the network could have made of a run.
+ghost use Rattle.std.specs.Prelude.{◌≡◌, ◌++◌, IfOk, OnOk, string_bytes};
+ghost use Rattle.explore_network.specs.Questions.{plain, OfPresence};
+ghost use Rattle.explore_report.specs.Texts.{asked_words, explore_text, head_line, outcome_text, outcomes_text};
+
+use crate::run_text::put_run;
+use crate::shown_text::put_shown;
+use bench_core::{Bench, Names};
+use explore_network::{Explored, Outcome, Question};
+use payload_core::{Oom, Word};
+use report_core::name_at;
+use std::alloc::Allocator;
+
+/// ` NODE TOPIC KEY`.
+fn put_presence<A: Allocator, N: Allocator, W: Allocator>(
+    text: &mut String<A>,
+    names: &Names<N>,
+    node: u16,
+    topic: &Word<W>,
+    key: &Word<W>,
+) -> Result<(), Oom>
+    ensures { OnOk result (string_bytes text.new ≡ string_bytes text.old ++ asked_words names.now (OfPresence node topic.now key.now)) }
+{
+    let node = name_at(names, node);
+    let topic = topic.as_str();
+    let key = key.as_str();
+    Ok(write!(text, " {node} {topic} {key}")?)
+}
+
+/// What is asked, after a space.
+fn put_asked<A: Allocator, N: Allocator, W: Allocator>(
+    text: &mut String<A>,
+    names: &Names<N>,
+    question: &Question<W>,
+) -> Result<(), Oom>
+    ensures { OnOk result (string_bytes text.new ≡ string_bytes text.old ++ asked_words names.now (plain question.now)) }
+{
+    match question {
+        Question::Cluster => Ok(()),
+        Question::Node(node) => {
+            let node = name_at(names, *node);
+            Ok(write!(text, " {node}")?)
+        }
+        Question::Presence { node, topic, key } => put_presence(text, names, *node, topic, key),
+    }
+}
+
+/// `explore [NODE [TOPIC KEY]] outcomes M states S`.
+#[tactic(auto, unfolding(crate::specs::Texts::head_line))]
+fn put_head<A: Allocator, N: Allocator, W: Allocator>(
+    text: &mut String<A>,
+    names: &Names<N>,
+    question: &Question<W>,
+    outcomes: usize,
+    states: usize,
+) -> Result<(), Oom>
+    ensures { OnOk result (string_bytes text.new ≡ string_bytes text.old ++ head_line names.now (plain question.now) outcomes states) }
+{
+    text.push_str("explore")?;
+    put_asked(text, names, question)?;
+    Ok(writeln!(text, " outcomes {outcomes} states {states}")?)
+}
+
+/// `outcome K`, what it shows, and the run that leads there.
+#[tactic(auto, unfolding(crate::specs::Texts::outcome_text))]
+fn put_outcome<'a, B: Allocator>(
+    bench: &Bench<'a, B>,
+    text: &mut String<&'a B>,
+    question: &Question<&'a B>,
+    number: usize,
+    outcome: &Outcome<'a, B>,
+    alloc: &'a B,
+) -> Result<(), Oom>
+    ensures { OnOk result (string_bytes text.new ≡ string_bytes text.old ++ outcome_text bench.now (plain question.now) number outcome.now) }
+{
+    writeln!(text, "outcome {number}")?;
+    put_shown(outcome.cluster(), text, bench.names(), question, alloc)?;
+    put_run(bench, text, "  ", outcome.run())
+}
+
+/// Each outcome, numbered from 1.
+fn put_outcomes<'a, B: Allocator>(
+    bench: &Bench<'a, B>,
+    text: &mut String<&'a B>,
+    question: &Question<&'a B>,
+    outcomes: &[Outcome<'a, B>],
+    alloc: &'a B,
+) -> Result<(), Oom>
+    ensures { OnOk result (string_bytes text.new ≡ string_bytes text.old ++ outcomes_text bench.now (plain question.now) 1 outcomes.now) }
+{
+    for place in 0..outcomes.len() {
+        put_outcome(bench, text, question, place + 1, &outcomes[place], alloc)?;
+    }
+    Ok(())
+}
+
+/// The whole text.
+#[tactic(auto, unfolding(crate::specs::Texts::explore_text))]
+fn put_explored<'a, B: Allocator>(
+    bench: &Bench<'a, B>,
+    text: &mut String<&'a B>,
+    question: &Question<&'a B>,
+    explored: &Explored<'a, B>,
+    alloc: &'a B,
+) -> Result<(), Oom>
+    ensures { OnOk result (string_bytes text.new ≡ string_bytes text.old ++
+        explore_text bench.now (plain question.now) explored.now.outcomes.items explored.now.states) }
+{
+    let outcomes = explored.outcomes.as_slice();
+    put_head(
+        text,
+        bench.names(),
+        question,
+        outcomes.len(),
+        explored.states,
+    )?;
+    put_outcomes(bench, text, question, outcomes, alloc)
+}
+
+/// What was found, as a text.
+pub(crate) fn tell<'a, B: Allocator>(
+    bench: &Bench<'a, B>,
+    question: &Question<&'a B>,
+    explored: &Explored<'a, B>,
+    alloc: &'a B,
+) -> Result<String<&'a B>, Oom>
+    ensures { IfOk result (λ text. string_bytes text ≡ explore_text bench.now (plain question.now) explored.now.outcomes.items explored.now.states) }
+{
+    let mut text = String::new(alloc);
+    put_explored(bench, &mut text, question, explored, alloc)?;
+    Ok(text)
+}

@@ -1,0 +1,168 @@
+-- Which hint a fault of a script has.
+use Rattle.std.specs.Prelude.{ℕ, ◌+◌, ◌-◌, nat_le, nat_lt, not, ◌==◌, ◌&&◌, ◌||◌, Bool, true, false, List, [], ◌∷◌, ◌++◌, length, take, drop, find}
+use Rattle.std.specs.Prelude.{codes, Option, None, Some, is_some, slice_get, unwrap_or, option_map, if◌then◌else◌}
+use Rattle.std.specs.Str.{bytes_eq}
+use Rattle.bench_core.specs.NameList.{Texts}
+use Rattle.bench_core.specs.NameText.{is_name, is_name_byte}
+use Rattle.grammar_core.specs.Words.{lines_of}
+use Rattle.grammar_core.specs.Grammar.{keyword_of}
+use Rattle.grammar_core.specs.declared.fault.FaultKind.{FaultKind}
+use Rattle.grammar_core.specs.declared.fault.FaultKind.TheVariants.{NotText, TooLong, NoNodes, Twice, UnknownWord, WrongCount, NotAllowed, BadNumber}
+use Rattle.grammar_core.specs.declared.fault.FaultKind.TheVariants.{BadName, OutOfMemory}
+use Rattle.grammar_core.specs.declared.fault.ScriptFault.{ScriptFault}
+use Rattle.hint_core.specs.Hints.{Hint, Plain, About, Byte, Letter, line_of}
+use Rattle.hint_core.specs.LineWords.{few_words, word_at, is_begun, is_node, is_console, first_again}
+use Rattle.hint_core.specs.Forms.{form}
+use Rattle.hint_core.specs.Sessions.{begins_object, is_blank, is_marked}
+
+-- one about a word, where there is one
+abbrev pub about : List ℕ → List ℕ → List ℕ → Option Hint
+about before word after = if length word == 0 then None else Some (About before word after)
+
+-- NotText: the first byte of the line that no text has
+
+abbrev pub is_text_byte : ℕ → Bool
+is_text_byte byte = nat_le 32 byte && nat_le byte 126
+
+-- what such a byte is, and what to do
+unfoldable pub byte_text : ℕ → List ℕ
+byte_text byte =
+    if byte == 9 then codes ", a tab; spaces divide words"
+    else (if byte == 13 then codes ", a carriage return; `tr -d '\\r'` takes them out"
+    else (if nat_lt byte 128 then codes ", a control character; words have none"
+    else codes ", beyond ASCII; words may spell such bytes, as `%C3%BC` does"))
+
+-- the first such byte, of those from this place on
+abbrev pub byte_from : ℕ → List ℕ → Option Hint
+byte_from place [] = None
+byte_from place (byte ∷ bytes) = if is_text_byte byte then byte_from (place + 1) bytes else Some (Byte place byte (byte_text byte))
+
+unfoldable pub not_text : ℕ → List ℕ → Option Hint
+not_text number line =
+    if (number == 1) && is_marked line then Some (Plain (codes "the input begins with a byte order mark; save it without one"))
+    else byte_from 1 line
+
+-- TooLong: the line, or its first topic, key or metadata that is
+unfoldable pub too_long : List ℕ → Texts → Option Hint
+too_long line words =
+    if nat_lt 4096 (length line) then Some (Plain (codes "a line has at most 4096 bytes"))
+    else about [] (unwrap_or (find (λ word. nat_lt 200 (length word)) (drop 3 words)) []) (codes " has more than 200 bytes, too many for a word")
+
+-- NoNodes: the line's first word
+unfoldable pub no_nodes : Texts → Option Hint
+no_nodes words = about (codes "the first line is `nodes NAME ..`, and not ") (word_at words 0) (codes " ..")
+
+-- Twice: the line, or the first word that stands before: in the line, or as the name of a node
+abbrev pub names_actors : List ℕ → Bool
+names_actors first = bytes_eq first (codes "nodes") || bytes_eq first (codes "consoles")
+
+abbrev pub again : List ℕ → Option Hint
+again word = about [] word (codes " was named before; each name stands once")
+
+unfoldable pub twice : Texts → Texts → Option Hint
+twice lines words =
+    if not (names_actors (word_at words 0)) then again (first_again [] [] (drop 2 words))
+    else (if is_begun (word_at words 0) lines then about (codes "a line ") (word_at words 0) (codes " stands before this one, and names them all")
+    else again (first_again lines [] (drop 1 words)))
+
+-- UnknownWord: the verb of somebody who is named, or the line's first word
+abbrev pub is_console_verb : List ℕ → Bool
+is_console_verb verb = bytes_eq verb (codes "undo") || bytes_eq verb (codes "back") || bytes_eq verb (codes "unwind")
+
+unfoldable pub unknown_word : Texts → Texts → Option Hint
+unknown_word lines words =
+    if is_node lines (word_at words 0) || is_console lines (word_at words 0) then about [] (word_at words 1) (codes " is no verb; `presence_bench --help` has them all")
+    else (if is_console_verb (word_at words 1) && not (is_begun (codes "consoles") lines) then about (codes "nobody is named ") (word_at words 0) (codes "; a line `consoles NAME ..` names consoles")
+    else about (codes "nobody is named ") (word_at words 0) (codes "; the line `nodes` names the nodes"))
+
+-- WrongCount: the form of the line
+unfoldable pub wrong_count : Texts → Option Hint
+wrong_count words = Some (Plain (form (word_at words 0) (word_at words 1)))
+
+-- NotAllowed: a line that is no act where acts alone are taken, or a console's verb
+unfoldable pub not_allowed : Texts → Option Hint
+not_allowed words =
+    if is_some (keyword_of (word_at words 0)) then about (codes "only act lines are taken here, and ") (word_at words 0) (codes " is none")
+    else (if bytes_eq (word_at words 1) (codes "unwind") then about (codes "only act lines are taken here, and ") (word_at words 1) (codes " is none")
+    else about [] (word_at words 1) (codes " is for nodes; a console may undo, go back and unwind"))
+
+-- BadNumber: the word in the place of the line's number
+abbrev pub number_place : List ℕ → List ℕ → ℕ
+number_place first verb =
+    if bytes_eq first (codes "why") then 1
+    else (if bytes_eq verb (codes "deliver") || bytes_eq verb (codes "answer") then 3 else 2)
+
+unfoldable pub bad_number : Texts → Option Hint
+bad_number words =
+    about [] (word_at words (number_place (word_at words 0) (word_at words 1))) (codes " is no number of at most 18446744073709551615, as 0 or 17")
+
+-- BadName: in the lines `nodes` and `consoles` the first that can't be a name, and why; elsewhere the first that is no node's
+abbrev pub is_reserved : List ℕ → Bool
+is_reserved word = is_some (keyword_of word)
+
+-- the first byte of the word that is in no name, of those from this place on
+abbrev pub letter_from : List ℕ → ℕ → List ℕ → Option Hint
+letter_from word place [] = None
+letter_from word place (byte ∷ bytes) = if is_name_byte byte then letter_from word (place + 1) bytes else Some (Letter word place)
+
+unfoldable pub no_name_hint : List ℕ → Option Hint
+no_name_hint word =
+    if is_reserved word then about [] word (codes " is a word of the language, and no name")
+    else (if nat_lt 16 (length word) then about [] word (codes " is too long; a name has 1 to 16 bytes of a-z, 0-9 and _")
+    else letter_from word 1 word)
+
+abbrev pub is_given_name : List ℕ → Bool
+is_given_name word = is_name word && not (is_reserved word)
+
+-- the place of a line's first name of a node
+abbrev pub name_place : List ℕ → ℕ
+name_place first = if is_reserved first then 1 else 2
+
+unfoldable pub bad_name : Texts → Texts → Option Hint
+bad_name lines words =
+    if names_actors (word_at words 0)
+    then no_name_hint (unwrap_or (find (λ word. not (is_given_name word)) (drop 1 words)) [])
+    else about (codes "no node is named ")
+    (unwrap_or (find (λ word. not (is_node lines word)) (drop (name_place (word_at words 0)) words)) [])
+    (codes "; the line `nodes` names them all")
+
+-- that of a line, behind these lines
+unfoldable pub hint_of_line : ℕ → Texts → List ℕ → FaultKind → Option Hint
+hint_of_line number lines line NotText = not_text number line
+hint_of_line number lines line TooLong = too_long line (few_words line)
+hint_of_line number lines line NoNodes = no_nodes (few_words line)
+hint_of_line number lines line Twice = twice lines (few_words line)
+hint_of_line number lines line UnknownWord = unknown_word lines (few_words line)
+hint_of_line number lines line WrongCount = wrong_count (few_words line)
+hint_of_line number lines line NotAllowed = not_allowed (few_words line)
+hint_of_line number lines line BadNumber = bad_number (few_words line)
+hint_of_line number lines line BadName = bad_name lines (few_words line)
+hint_of_line number lines line OutOfMemory = None
+
+-- that of the whole input
+unfoldable pub hint_of_whole : List ℕ → FaultKind → Option Hint
+hint_of_whole bytes TooLong = Some (Plain (codes "a script has at most 1048576 bytes; a session may have 67108864"))
+hint_of_whole bytes NoNodes =
+    if is_blank bytes then Some (Plain (codes "the input is empty; the first line of a script is `nodes NAME ..`"))
+    else Some (Plain (codes "no line names the nodes; the first line is `nodes NAME ..`"))
+hint_of_whole bytes _ = None
+
+abbrev pub hint_at : List ℕ → ℕ → Option (List ℕ) → FaultKind → Option Hint
+hint_at bytes number None kind = None
+hint_at bytes number (Some line) kind = hint_of_line number (take (number - 1) (lines_of bytes)) line kind
+
+abbrev pub wants_memory : FaultKind → Bool
+wants_memory OutOfMemory = true
+wants_memory _ = false
+
+-- the hint of the first fault of a script, memory apart: that it is none, as it begins with a brace, or what is wrong with the line
+unfoldable pub hint_of : List ℕ → ScriptFault → Option Hint
+hint_of bytes fault =
+    if wants_memory fault.kind then None
+    else (if begins_object bytes then Some (Plain (codes "the input begins with `{`: `load` takes sessions, and `import` events"))
+    else (if fault.line == 0 then hint_of_whole bytes fault.kind
+    else hint_at bytes fault.line (slice_get (lines_of bytes) (fault.line - 1)) fault.kind))
+
+-- and its line
+abbrev pub hint_line : List ℕ → ScriptFault → Option (List ℕ)
+hint_line bytes fault = option_map line_of (hint_of bytes fault)

@@ -1,0 +1,5 @@
+pub mod Hints
+pub mod LineWords
+pub mod Forms
+pub mod Choices
+pub mod Sessions

@@ -1,0 +1,43 @@
+-- The words of the line that was refused, and what the lines before it name.
+use Rattle.std.specs.Prelude.{ℕ, Bool, false, ◌&&◌, ◌||◌, List, [], ◌∷◌, ◌++◌, take, codes, slice_get, unwrap_or, if◌then◌else◌}
+use Rattle.std.specs.List.{list_any}
+use Rattle.std.specs.Str.{bytes_eq}
+use Rattle.bench_core.specs.NameList.{Texts}
+use Rattle.grammar_core.specs.Words.{is_text, words_of}
+
+-- the words that are looked at, of a line that is text: no line of a script has more than 34
+abbrev pub few_words : List ℕ → Texts
+few_words line = if is_text line then take 34 (words_of line) else []
+
+-- the word at a place, from 0, or nothing
+abbrev pub word_at : Texts → ℕ → List ℕ
+word_at words place = unwrap_or (slice_get words place) []
+
+-- whether a line begins with the keyword, and then has the word
+abbrev pub names_among : List ℕ → List ℕ → Texts → Bool
+names_among keyword word [] = false
+names_among keyword word (first ∷ rest) = bytes_eq first keyword && list_any (bytes_eq word) rest
+
+unfoldable pub names : List ℕ → List ℕ → List ℕ → Bool
+names keyword word line = names_among keyword word (few_words line)
+
+unfoldable pub begins : List ℕ → List ℕ → Bool
+begins keyword line = bytes_eq (word_at (few_words line) 0) keyword
+
+-- whether one of these lines begins with the keyword
+abbrev pub is_begun : List ℕ → Texts → Bool
+is_begun keyword lines = list_any (begins keyword) lines
+
+-- whether one of these lines names a node so
+abbrev pub is_node : Texts → List ℕ → Bool
+is_node lines word = list_any (names (codes "nodes") word) lines
+
+-- or a console
+abbrev pub is_console : Texts → List ℕ → Bool
+is_console lines word = list_any (names (codes "consoles") word) lines
+
+-- the first of the words that is a node in these lines, or stands among those before it, or nothing
+unfoldable pub first_again : Texts → Texts → Texts → List ℕ
+first_again lines before [] = []
+first_again lines before (word ∷ words) =
+    if is_node lines word || list_any (bytes_eq word) before then word else first_again lines (before ++ word ∷ []) words

@@ -1,0 +1,30 @@
+-- What the first bytes of an input tell, and the hint of one that is no JSON.
+use Rattle.std.specs.Prelude.{ℕ, ◌==◌, ◌&&◌, ◌||◌, Bool, true, false, List, [], ◌∷◌, Option, None, Some, codes, if◌then◌else◌}
+use Rattle.hint_core.specs.Hints.{Hint, Plain}
+
+-- a space, a tab, a line feed or a carriage return
+abbrev pub is_space : ℕ → Bool
+is_space byte = (byte == 32) || (byte == 9) || (byte == 10) || (byte == 13)
+
+-- whether all bytes are white space
+abbrev pub is_blank : List ℕ → Bool
+is_blank [] = true
+is_blank (byte ∷ bytes) = if is_space byte then is_blank bytes else false
+
+-- whether the first that is none is `{`
+abbrev pub begins_object : List ℕ → Bool
+begins_object [] = false
+begins_object (byte ∷ bytes) = if is_space byte then begins_object bytes else byte == 123
+
+-- the three bytes of a byte order mark
+abbrev pub is_marked : List ℕ → Bool
+is_marked (a ∷ b ∷ c ∷ rest) = (a == 239) && (b == 187) && (c == 191)
+is_marked _ = false
+
+-- the hint of an input that is no JSON, by how it begins
+unfoldable pub json_hint : List ℕ → Option Hint
+json_hint bytes =
+    if is_blank bytes then Some (Plain (codes "the input is empty; `play --as session` prints a session"))
+    else (if is_marked bytes then Some (Plain (codes "the input begins with a byte order mark; save it without one"))
+    else (if begins_object bytes then None
+    else Some (Plain (codes "a session begins with `{`, and this input doesn't; `play` takes scripts"))))

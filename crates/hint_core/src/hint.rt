@@ -1,0 +1,172 @@
+//! `Hint`: what is told of a fault, and its text.
+ghost use Rattle.std.specs.Prelude.{◌≡◌, ◌++◌, ◌<◌, OnOk, IfOk, length, take, decimal, option_map};
+ghost use Rattle.hint_core.specs.Hints.{shown, byte_body, letter_tail, body, line_of, plain_hint};
+ghost use Rattle.hint_core.specs.Choices.{about};
+
+use crate::Oom;
+use std::alloc::Allocator;
+
+/// The most bytes that are shown of a word.
+const SHOWN: usize = 32;
+
+/// What is told of a fault.
+#[derive(Clone, Copy)]
+pub enum Hint<'l> {
+    /// A text alone.
+    Plain(&'static str),
+    /// A word of the line, between two texts.
+    About {
+        before: &'static str,
+        word: &'l str,
+        after: &'static str,
+    },
+    /// A byte of the line, by its place from 1.
+    Byte {
+        place: usize,
+        byte: u8,
+        after: &'static str,
+    },
+    /// A word in which the byte at a place, from 1, is none of a name.
+    Letter {
+        word: &'l str,
+        place: usize,
+    },
+}
+
+/// A hint about a word, where there is one.
+pub fn about<'l>(before: &'static str, word: &'l str, after: &'static str) -> Option<Hint<'l>>
+    ensures { option_map plain_hint result ≡ about before.now word.now after.now }
+{
+    if word.is_empty() {
+        return None;
+    }
+    Some(Hint::About {
+        before,
+        word,
+        after,
+    })
+}
+
+fn put_text<A: Allocator>(line: &mut Vec<u8, A>, text: &str) -> Result<(), Oom>
+    ensures { OnOk result (line.new.items ≡ line.old.items ++ text.now) }
+{
+    line.extend_from_slice(text.as_bytes())
+}
+
+/// The first bytes of a long word.
+fn beginning(word: &str) -> &[u8]
+    requires { 32 < length word.now }
+    ensures { result.now ≡ take 32 word.now }
+{
+    &word.as_bytes()[..SHOWN]
+}
+
+/// A word in quotes; of one that is long the beginning.
+fn put_word<A: Allocator>(line: &mut Vec<u8, A>, word: &str) -> Result<(), Oom>
+    ensures { OnOk result (line.new.items ≡ line.old.items ++ shown word.now) }
+{
+    put_text(line, "`")?;
+    if word.len() <= SHOWN {
+        put_text(line, word)?;
+        return put_text(line, "`");
+    }
+    line.extend_from_slice(beginning(word))?;
+    put_text(line, "..`")
+}
+
+fn put_about<A: Allocator>(
+    line: &mut Vec<u8, A>,
+    before: &str,
+    word: &str,
+    after: &str,
+) -> Result<(), Oom>
+    ensures { OnOk result (line.new.items ≡ line.old.items ++ (before.now ++ shown word.now ++ after.now)) }
+{
+    put_text(line, before)?;
+    put_word(line, word)?;
+    put_text(line, after)
+}
+
+fn put_number<A: Allocator + Copy>(
+    alloc: A,
+    line: &mut Vec<u8, A>,
+    number: usize,
+) -> Result<(), Oom>
+    ensures { OnOk result (line.new.items ≡ line.old.items ++ decimal number) }
+{
+    let text = format!(in alloc; "{number}")?;
+    put_text(line, &text)
+}
+
+/// A number between two texts.
+fn put_numbered<A: Allocator + Copy>(
+    alloc: A,
+    line: &mut Vec<u8, A>,
+    before: &str,
+    number: usize,
+    after: &str,
+) -> Result<(), Oom>
+    ensures { OnOk result (line.new.items ≡ line.old.items ++ (before.now ++ decimal number ++ after.now)) }
+{
+    put_text(line, before)?;
+    put_number(alloc, line, number)?;
+    put_text(line, after)
+}
+
+fn put_byte<A: Allocator + Copy>(
+    alloc: A,
+    line: &mut Vec<u8, A>,
+    place: usize,
+    byte: u8,
+    after: &str,
+) -> Result<(), Oom>
+    ensures { OnOk result (line.new.items ≡ line.old.items ++ byte_body place byte after.now) }
+{
+    put_numbered(alloc, line, "byte ", place, " of the line is ")?;
+    put_numbered(alloc, line, "", byte as usize, after)
+}
+
+fn put_letter<A: Allocator + Copy>(
+    alloc: A,
+    line: &mut Vec<u8, A>,
+    word: &str,
+    place: usize,
+) -> Result<(), Oom>
+    ensures { OnOk result (line.new.items ≡ line.old.items ++ (shown word.now ++ letter_tail place)) }
+{
+    put_word(line, word)?;
+    put_numbered(
+        alloc,
+        line,
+        " is no name: byte ",
+        place,
+        " of it is none of a-z, 0-9 and _",
+    )
+}
+
+fn put_body<A: Allocator + Copy>(alloc: A, line: &mut Vec<u8, A>, hint: Hint<'_>) -> Result<(), Oom>
+    ensures { OnOk result (line.new.items ≡ line.old.items ++ body (plain_hint hint.entry)) }
+{
+    match hint {
+        Hint::Plain(text) => put_text(line, text),
+        Hint::About {
+            before,
+            word,
+            after,
+        } => put_about(line, before, word, after),
+        Hint::Byte { place, byte, after } => put_byte(alloc, line, place, byte, after),
+        Hint::Letter { word, place } => put_letter(alloc, line, word, place),
+    }
+}
+
+/// The line of a hint, with its line feed.
+#[tactic(auto, unfolding(crate::specs::Hints::line_of))]
+pub fn line_of<A: Allocator + Copy>(alloc: A, hint: Hint<'_>) -> Result<Vec<u8, A>, Oom>
+    ensures { IfOk result (λ line. line.items ≡ line_of (plain_hint hint.entry)) }
+{
+    let mut line = Vec::new(alloc);
+    put_text(&mut line, "hint: ")?;
+    put_body(alloc, &mut line, hint)?;
+    put_text(&mut line, "\n")?;
+    Ok(line)
+}

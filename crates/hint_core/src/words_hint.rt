@@ -1,0 +1,121 @@
+//! The hints about the words of a line: their kind and their count.
+ghost use Rattle.std.specs.Prelude.{◌≡◌, option_map, map, take, is_some};
+ghost use Rattle.grammar_core.specs.Words.{lines_of};
+ghost use Rattle.hint_core.specs.Hints.{plain_hint};
+ghost use Rattle.hint_core.specs.Choices.{no_nodes, is_console_verb, unknown_word, wrong_count, not_allowed, number_place, bad_number, is_reserved};
+
+use crate::forms::form;
+use crate::hint::{Hint, about};
+use crate::line_words::{is_begun, is_console, is_node, word_at};
+
+/// Whether the word is one of the six that are no names.
+#[tactic(auto, unfolding(grammar_core::specs::Grammar::keyword_of))]
+pub fn is_reserved(word: &str) -> bool
+    ensures { result ≡ is_reserved word.now }
+{
+    matches!(
+        word,
+        "nodes" | "consoles" | "show" | "dots" | "why" | "journal"
+    )
+}
+
+/// Of a first line that isn't `nodes`.
+#[tactic(auto, unfolding(crate::specs::Choices::no_nodes))]
+pub fn no_nodes<'l>(words: &[&'l str]) -> Option<Hint<'l>>
+    ensures { option_map plain_hint result ≡ no_nodes (map (λ word. word.now) words.now) }
+{
+    about(
+        "the first line is `nodes NAME ..`, and not ",
+        word_at(words, 0),
+        " ..",
+    )
+}
+
+/// Whether a console may use the verb.
+fn is_console_verb(verb: &str) -> bool
+    ensures { result ≡ is_console_verb verb.now }
+{
+    verb == "undo" || verb == "back" || verb == "unwind"
+}
+
+/// Of a line of nobody who is named before, or without a verb that is one.
+#[tactic(auto, unfolding(crate::specs::Choices::unknown_word))]
+pub fn unknown_word<'l>(bytes: &[u8], count: usize, words: &[&'l str]) -> Option<Hint<'l>>
+    ensures { option_map plain_hint result ≡ unknown_word (take count (lines_of bytes.now)) (map (λ word. word.now) words.now) }
+{
+    let first = word_at(words, 0);
+    let verb = word_at(words, 1);
+    if is_node(bytes, count, first) || is_console(bytes, count, first) {
+        return about(
+            "",
+            verb,
+            " is no verb; `presence_bench --help` has them all",
+        );
+    }
+    if is_console_verb(verb) && !is_begun(bytes, count, "consoles") {
+        return about(
+            "nobody is named ",
+            first,
+            "; a line `consoles NAME ..` names consoles",
+        );
+    }
+    about(
+        "nobody is named ",
+        first,
+        "; the line `nodes` names the nodes",
+    )
+}
+
+/// Of a line with too few words, or too many.
+#[tactic(auto, unfolding(crate::specs::Choices::wrong_count))]
+pub fn wrong_count(words: &[&str]) -> Option<Hint<'static>>
+    ensures { option_map plain_hint result ≡ wrong_count (map (λ word. word.now) words.now) }
+{
+    Some(Hint::Plain(form(word_at(words, 0), word_at(words, 1))))
+}
+
+/// Of a line that is no act where acts alone are taken, and of a console's that is a node's.
+#[tactic(auto, unfolding(crate::specs::Choices::not_allowed))]
+pub fn not_allowed<'l>(words: &[&'l str]) -> Option<Hint<'l>>
+    ensures { option_map plain_hint result ≡ not_allowed (map (λ word. word.now) words.now) }
+{
+    let first = word_at(words, 0);
+    let verb = word_at(words, 1);
+    if is_reserved(first) {
+        return about("only act lines are taken here, and ", first, " is none");
+    }
+    if verb == "unwind" {
+        return about("only act lines are taken here, and ", verb, " is none");
+    }
+    about(
+        "",
+        verb,
+        " is for nodes; a console may undo, go back and unwind",
+    )
+}
+
+/// The place of a line's number.
+fn number_place(first: &str, verb: &str) -> usize
+    ensures { result ≡ number_place first.now verb.now }
+{
+    if first == "why" {
+        1
+    } else if verb == "deliver" || verb == "answer" {
+        3
+    } else {
+        2
+    }
+}
+
+/// Of a line whose number is none.
+#[tactic(auto, unfolding(crate::specs::Choices::bad_number))]
+pub fn bad_number<'l>(words: &[&'l str]) -> Option<Hint<'l>>
+    ensures { option_map plain_hint result ≡ bad_number (map (λ word. word.now) words.now) }
+{
+    let place = number_place(word_at(words, 0), word_at(words, 1));
+    about(
+        "",
+        word_at(words, place),
+        " is no number of at most 18446744073709551615, as 0 or 17",
+    )
+}

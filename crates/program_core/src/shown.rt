@@ -1,0 +1,278 @@
+//! What is shown of a script that is played, and of a session that is played again: by the form that was chosen, and strictly or not.
+ghost use Rattle.std.specs.Prelude.{◌≡◌, IfErr, IfOk, OnOk};
+ghost use Rattle.std.specs.Io.KnownBytes.{IsAtEnd};
+ghost use Rattle.grammar_core.specs.Scripts.{plain_script};
+ghost use Rattle.run_core.specs.Report.{history_text, played};
+ghost use Rattle.transcript_core.specs.Scripts.{IsScriptOf};
+ghost use Rattle.transcript_core.specs.Steps.{bench_steps, script_steps};
+ghost use Rattle.command_line.specs.declared.chosen.Subcommand.TheVariants as subcommands;
+ghost use Rattle.program_core.specs.Program.{EndsAt, FailsAs, KeepsBefore, TellsMemory};
+ghost use Rattle.program_core.specs.Shown.{EndsAsShown, IsWant, PrintsBench, PrintsPlay, RefusesBench, RefusesCalls, RefusesPlay, ShowsBench, ShowsScript, line_refused, act_refused, refused_act, refused_line};
+ghost use Rattle.program_core.specs.Texts.{session_text, text_bytes};
+
+use crate::aside::Aside;
+use crate::fault::{Fault, Refused};
+use crate::printing::print;
+use crate::text::{Text, bytes_of};
+use crate::texts::{read_script, session_line, tell_session};
+use bench_core::{Bench, Limits, TextSet};
+use command_line::Form;
+use script_core::{Played, Script, Steps, console_names, run_script};
+use std::alloc::{Allocator, Global};
+use std::io::{Read, Write};
+use std::sync::ledger::Ledger;
+use transcript_core::{
+    bench_steps, first_in, first_refused, free_consoles, script_of_calls, script_steps,
+};
+
+/// A text, and the first act that was refused, where that is a fault.
+#[derive(Drop)]
+pub struct Shown<A: Allocator> {
+    pub text: Text<A>,
+    pub refused: Option<Refused>,
+}
+
+/// The report with each line above what it printed.
+fn steps_of_script<'a, B: Allocator>(
+    alloc: &'a B,
+    script: &Script<&'a B>,
+    limits: Limits,
+    bench: &Bench<'a, B>,
+) -> Result<Text<&'a B>, Fault>
+    requires { bench.now ≡ played limits (plain_script script.now) }
+    ensures ok { IfOk result (λ text. text_bytes text ≡ script_steps limits (plain_script script.now)) }
+    ensures err { IfErr result IsWant }
+{
+    match script_steps(alloc, script, limits, bench) {
+        Ok(text) => Ok(Text::Own(text)),
+        Err(_) => Err(Fault::OutOfMemory),
+    }
+}
+
+/// The same of the calls that a bench recorded.
+fn steps_of_bench<'a, B: Allocator>(
+    alloc: &'a B,
+    bench: &Bench<'a, B>,
+    consoles: &TextSet<&'a B>,
+) -> Result<Text<&'a B>, Fault>
+    ensures ok { IfOk result (λ text. text_bytes text ≡ bench_steps bench.now consoles.now) }
+    ensures err { IfErr result IsWant }
+{
+    match bench_steps(alloc, bench, consoles) {
+        Ok(text) => Ok(Text::Own(text)),
+        Err(_) => Err(Fault::OutOfMemory),
+    }
+}
+
+/// The recorded calls as a script.
+fn calls_of<'a, B: Allocator>(
+    alloc: &'a B,
+    bench: &Bench<'a, B>,
+    consoles: &TextSet<&'a B>,
+) -> Result<Text<&'a B>, Fault>
+    ensures ok { IfOk result (λ text. IsScriptOf bench.now consoles.now (text_bytes text)) }
+    ensures err { IfErr result (RefusesCalls bench.now consoles.now) }
+{
+    match script_of_calls(alloc, bench, consoles) {
+        Ok(text) => Ok(Text::Own(text.into_bytes())),
+        Err(fault) => Err(Fault::from(fault)),
+    }
+}
+
+/// The session.
+fn session_of<'a, B: Allocator>(heap: Global, bench: &Bench<'a, B>) -> Result<Text<&'a B>, Fault>
+    ensures ok { IfOk result (λ text. text_bytes text ≡ session_text bench.now) }
+    ensures err { IfErr result IsWant }
+{
+    match session_line(heap, bench) {
+        Ok(text) => Ok(Text::Heap(text)),
+        Err(_) => Err(Fault::OutOfMemory),
+    }
+}
+
+/// What is printed of a script that was played.
+fn played_text<'a, B: Allocator>(
+    heap: Global,
+    alloc: &'a B,
+    script: &Script<&'a B>,
+    limits: Limits,
+    form: Form,
+) -> Result<Text<&'a B>, Fault>
+    ensures ok { IfOk result (λ text. PrintsPlay form limits (plain_script script.now) (text_bytes text)) }
+    ensures err { IfErr result (RefusesPlay form limits (plain_script script.now)) }
+{
+    let Ok(played) = run_script(alloc, script, limits) else {
+        return Err(Fault::OutOfMemory);
+    };
+    let Played { bench, report } = played;
+    let text = match form {
+        Form::Report => Ok(Text::Own(report)),
+        Form::Steps => steps_of_script(alloc, script, limits, &bench),
+        Form::Script => calls_of(alloc, &bench, console_names(script)),
+        Form::Session => session_of(heap, &bench),
+    };
+    drop(bench);
+    text
+}
+
+/// What is printed of a session that was played again.
+fn told_text<'a, B: Allocator>(
+    heap: Global,
+    alloc: &'a B,
+    told: Played<'a, B>,
+    form: Form,
+) -> Result<Text<&'a B>, Fault>
+    requires { told.report.items ≡ history_text told.bench }
+    ensures ok { IfOk result (λ text. PrintsBench form told.entry.bench (text_bytes text)) }
+    ensures err { IfErr result (RefusesBench form told.entry.bench) }
+{
+    let Played { bench, report } = told;
+    let Ok(consoles) = free_consoles(alloc, &bench) else {
+        drop(bench);
+        return Err(Fault::OutOfMemory);
+    };
+    let text = match form {
+        Form::Report => Ok(Text::Own(report)),
+        Form::Steps => steps_of_bench(alloc, &bench, &consoles),
+        Form::Script => calls_of(alloc, &bench, &consoles),
+        Form::Session => session_of(heap, &bench),
+    };
+    drop(bench);
+    text
+}
+
+/// The first line of a script that is refused, where that is a fault.
+fn refused_line<'a, B: Allocator>(
+    alloc: &'a B,
+    script: &Script<&'a B>,
+    limits: Limits,
+    strict: bool,
+) -> Result<Option<Refused>, Fault>
+    ensures ok { IfOk result (λ refused. refused ≡ refused_line strict limits (plain_script script.now)) }
+    ensures err { IfErr result IsWant }
+{
+    if !strict {
+        return Ok(None);
+    }
+    match first_refused(alloc, script, limits) {
+        Ok(Some(refusal)) => Ok(Some(Refused::Line {
+            number: refusal.number,
+            fault: refusal.fault,
+        })),
+        Ok(None) => Ok(None),
+        Err(_) => Err(Fault::OutOfMemory),
+    }
+}
+
+/// The first recorded call of a bench that was refused, where that is a fault.
+fn refused_act<'a, B: Allocator>(bench: &Bench<'a, B>, strict: bool) -> Option<Refused>
+    ensures { result ≡ refused_act strict bench.now }
+{
+    if !strict {
+        return None;
+    }
+    match first_in(bench) {
+        Some(refusal) => Some(Refused::Act {
+            number: refusal.number,
+            fault: refusal.fault,
+        }),
+        None => None,
+    }
+}
+
+/// What is shown of a script.
+fn show_script<'a, B: Allocator>(
+    heap: Global,
+    alloc: &'a B,
+    script: &Script<&'a B>,
+    limits: Limits,
+    form: Form,
+    strict: bool,
+) -> Result<Shown<&'a B>, Fault>
+    ensures ok { IfOk result (λ shown. ShowsScript strict form limits (plain_script script.now) (text_bytes shown.text) shown.refused) }
+    ensures err { IfErr result (RefusesPlay form limits (plain_script script.now)) }
+{
+    let refused = refused_line(alloc, script, limits, strict)?;
+    let text = played_text(heap, alloc, script, limits, form)?;
+    Ok(Shown { text, refused })
+}
+
+/// What is shown of a session.
+fn show_session<'a, B: Allocator>(
+    heap: Global,
+    alloc: &'a B,
+    told: Played<'a, B>,
+    form: Form,
+    strict: bool,
+) -> Result<Shown<&'a B>, Fault>
+    requires { told.report.items ≡ history_text told.bench }
+    ensures ok { IfOk result (λ shown. ShowsBench strict form told.entry.bench (text_bytes shown.text) shown.refused) }
+    ensures err { IfErr result (RefusesBench form told.entry.bench) }
+{
+    let refused = refused_act(&told.bench, strict);
+    let text = told_text(heap, alloc, told, form)?;
+    Ok(Shown { text, refused })
+}
+
+/// Writes the text, and then tells the act that was refused.
+fn finish<W: Write, A: Allocator>(writer: &mut W, shown: &Shown<A>) -> Result<(), Fault>
+    ensures { EndsAsShown (text_bytes shown.now.text) shown.now.refused result (W.contents writer.old) (W.contents writer.new) }
+{
+    print(writer, bytes_of(&shown.text))?;
+    match shown.refused {
+        Some(refused) => Err(Fault::Refused(refused)),
+        None => Ok(()),
+    }
+}
+
+/// Plays a script, and prints what was chosen of it.
+pub fn play_shown<B: Allocator, R: Read, W: Write, L: Ledger>(
+    heap: Global,
+    alloc: &B,
+    reader: &mut R,
+    writer: &mut W,
+    limits: Limits,
+    form: Form,
+    strict: bool,
+    aside: &mut Aside,
+    steps: &mut Steps<L>,
+) -> Result<(), Fault>
+    ensures ends { EndsAt (subcommands.Play strict) form limits (R.remaining reader.old) result (W.contents writer.old) (W.contents writer.new) }
+    ensures read { OnOk result (IsAtEnd (R.remaining reader.new)) }
+    ensures unwritten { IfErr result (λ fault. KeepsBefore fault (W.contents writer.old) (W.contents writer.new)) }
+    ensures memory { IfErr result TellsMemory }
+    ensures failed { FailsAs result steps.old steps.new }
+{
+    let script = read_script(alloc, reader, aside, steps)?;
+    let shown = show_script(heap, alloc, &script, limits, form, strict);
+    drop(script);
+    match shown {
+        Ok(shown) => finish(writer, &shown),
+        Err(fault) => Err(fault),
+    }
+}
+
+/// Plays a session again, and prints what was chosen of it.
+pub fn load_shown<B: Allocator, R: Read, W: Write, L: Ledger>(
+    heap: Global,
+    alloc: &B,
+    reader: &mut R,
+    writer: &mut W,
+    limits: Limits,
+    form: Form,
+    strict: bool,
+    aside: &mut Aside,
+    steps: &mut Steps<L>,
+) -> Result<(), Fault>
+    ensures ends { EndsAt (subcommands.Load strict) form limits (R.remaining reader.old) result (W.contents writer.old) (W.contents writer.new) }
+    ensures read { OnOk result (IsAtEnd (R.remaining reader.new)) }
+    ensures unwritten { IfErr result (λ fault. KeepsBefore fault (W.contents writer.old) (W.contents writer.new)) }
+    ensures memory { IfErr result TellsMemory }
+    ensures failed { FailsAs result steps.old steps.new }
+{
+    let told = tell_session(heap, alloc, reader, aside, steps)?;
+    match show_session(heap, alloc, told, form, strict) {
+        Ok(shown) => finish(writer, &shown),
+        Err(fault) => Err(fault),
+    }
+}

@@ -1,0 +1,20 @@
+//! `Text`: bytes to be printed, in the memory of a bench or on the heap.
+ghost use Rattle.std.specs.Prelude.{◌≡◌};
+ghost use Rattle.program_core.specs.Texts.{text_bytes};
+
+use std::alloc::Allocator;
+
+#[derive(Drop)]
+pub enum Text<A: Allocator> {
+    Own(Vec<u8, A>),
+    Heap(Vec<u8>),
+}
+
+pub(crate) fn bytes_of<A: Allocator>(text: &Text<A>) -> &[u8]
+    ensures { result.now ≡ text_bytes text.now }
+{
+    match text {
+        Text::Own(bytes) => bytes,
+        Text::Heap(bytes) => bytes,
+    }
+}

@@ -1,7 +1,0 @@
-use Rattle.std.proofs.Common.{◌≡◌, ◌++◌, take, string_bytes}
-use Rattle.whatif_report.specs.Texts.{run_lines}
-use Rattle.whatif_report.proofs.run_text.put_lines.Given as goal
-
--- those of the first steps
-abbrev pub invariant-loop-kept : goal.invariant-loop-kept
-invariant-loop-kept g l = string_bytes l.text ≡ string_bytes l.fn.text ++ run_lines l.names (take l.kept-index l.run)
