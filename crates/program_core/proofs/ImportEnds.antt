@@ -1,6 +1,5 @@
 -- What is made of the events of logs, once it is printed.
-use Rattle.std.proofs.Common.{◌≡◌, inl, inr, ℕ, Bool, true, false, List, [], ◌∷◌, length, take, Option, None, Some, Result, Ok, Err, IfErr, OnOk, refl, sym, ap, subst, ◌∙◌}
-use Rattle.std.specs.Io.KnownBytes.{Appends, Keeps}
+use Rattle.std.proofs.Common.{◌≡◌, inl, inr, ℕ, Bool, true, false, List, [], ◌∷◌, length, take, Option, None, Some, Result, Ok, Err, IfErr, refl, ap, subst}
 use Rattle.bench_core.specs.Limits.{Limits}
 use Rattle.command_line.specs.declared.chosen.Form.{Form}
 use Rattle.command_line.specs.declared.chosen.Form.TheVariants as forms
@@ -13,7 +12,7 @@ use Rattle.import_core.specs.declared.fault.ImportFault.{ImportFault}
 use Rattle.program_core.specs.declared.fault.Fault.{Fault}
 use Rattle.program_core.specs.declared.fault.Fault.TheVariants as faults
 use Rattle.program_core.specs.Imported.{EndsAsMade, IsLeftOut, IsMade, IsUnmade, RefusesEvents, RefusesEventsAt, RefusesImport, RefusesImportAt, TellsLeft, TellsLines}
-use Rattle.program_core.specs.Program.{EndsAsText, EndsAt, Ends, FailsAs, IsUnwritten, KeepsBefore, TellsMemory, fault_of_import}
+use Rattle.program_core.specs.Program.{EndsAt, Ends, FailsAs, IsUnwritten, KeepsBefore, TellsMemory, fault_of_import}
 use Rattle.program_core.proofs.Printed.{cause_ends}
 
 -- the fault of an import as the program's

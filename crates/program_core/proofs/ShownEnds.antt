@@ -1,6 +1,5 @@
 -- How a play, and a load, end by what is shown.
-use Rattle.std.proofs.Common.{inl, ◌≡◌, ◌≢◌, ℕ, Bool, List, Option, None, Some, Result, Ok, Err, IfErr, IsOkAnd, refl, sym, subst, ◌∙◌, ap}
-use Rattle.std.specs.Io.KnownBytes.{Keeps}
+use Rattle.std.proofs.Common.{inl, ◌≡◌, ℕ, Bool, List, Option, None, Some, Result, Ok, Err, IfErr, IsOkAnd, sym, subst, ◌∙◌}
 use Rattle.bench_core.specs.Limits.{Limits}
 use Rattle.bench_core.specs.Machine.{Machine}
 use Rattle.grammar_core.specs.Grammar.{script_of}
@@ -18,7 +17,7 @@ use Rattle.program_core.specs.declared.fault.Fault.{Fault}
 use Rattle.program_core.specs.declared.fault.Fault.TheVariants as faults
 use Rattle.program_core.specs.declared.fault.Refused.{Refused}
 use Rattle.program_core.specs.Program.{Ends, EndsAt, FailsAs, IsScriptAt, IsSessionAt, KeepsBefore, Prints, Tells, TellsMemory}
-use Rattle.program_core.specs.Shown.{EndsAsShown, IsWant, PrintsBench, PrintsPlay, RefusesBench, RefusesCalls, RefusesPlay, ShowsBench, ShowsScript, refused_act, refused_line}
+use Rattle.program_core.specs.Shown.{EndsAsShown, IsWant, PrintsPlay, RefusesBench, RefusesCalls, RefusesPlay, ShowsBench, ShowsScript, refused_line}
 use Rattle.program_core.proofs.Printed.{keeps_same}
 
 module _ (limits : Limits) (form : Form) (strict : Bool) (known old : Option (List ℕ)) where

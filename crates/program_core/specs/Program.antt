@@ -47,7 +47,7 @@ use Rattle.import_core.specs.declared.fault.FaultKind.TheVariants as imports
 use Rattle.import_core.specs.declared.fault.ImportFault.{ImportFault}
 use Rattle.command_line.specs.declared.chosen.Choice.{Choice}
 use Rattle.command_line.specs.declared.chosen.Form.{Form}
-use Rattle.command_line.specs.declared.chosen.Form.TheVariants.{Report, Script as ScriptForm, Session}
+use Rattle.command_line.specs.declared.chosen.Form.TheVariants.{Script as ScriptForm, Session}
 use Rattle.command_line.specs.declared.chosen.Subcommand.{Subcommand}
 use Rattle.command_line.specs.declared.chosen.Subcommand.TheVariants.{Play, Race, Load, Import, Explore, Step, Draw, Explain, Whatif}
 use Rattle.program_core.specs.declared.fault.Fault.{Fault}

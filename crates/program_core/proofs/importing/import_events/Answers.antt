@@ -1,9 +1,7 @@
-use Rattle.std.proofs.Common.{rules, ◌≡◌, ℕ, List, subst, sym}
+use Rattle.std.proofs.Common.{ℕ, List, subst, sym}
 use Rattle.stream_core.specs.Inputs.{IsWhole}
-use Rattle.program_core.specs.Imported.{IsMade}
 use Rattle.program_core.specs.Texts.{text_bytes}
-use Rattle.program_core.proofs.ImportEnds.{ends_import, events_refuse_at, made_before, made_fails, made_memory, refused_ends, refuses_whole, told_left, told_nothing}
-use Rattle.program_core.proofs.Printed.{always}
+use Rattle.program_core.proofs.ImportEnds.{ends_import}
 use Rattle.program_core.proofs.importing.import_events.Goals as goal
 
 pub returns-clause-ends : goal.returns-clause-ends

@@ -1,6 +1,5 @@
 use Rattle.std.proofs.Common.{rules, ℕ, List, Err, subst, subst₂, sym}
 use Rattle.explore_report.specs.declared.question.Question.{Question as Asked}
-use Rattle.explore_report.specs.declared.report_fault.ReportFault.{ReportFault}
 use Rattle.command_line.specs.declared.chosen.Subcommand.TheVariants.{Explore}
 use Rattle.program_core.specs.Explored.{RefusesExplored, TellsExplored}
 use Rattle.program_core.specs.Program.{EndsAt}
