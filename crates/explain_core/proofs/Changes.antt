@@ -289,10 +289,10 @@ module _ (c next : Cluster) (k : Kept) (d : Dot) (fine : Fine c) (taken : step c
   abbrev s : Stepped c k.node k.step next
   s = stepped c k.node k.step next taken
 
-  was : standing_of (slice_get c k.node) d ≡ standing_of (Some s.from) d
+  pub was : standing_of (slice_get c k.node) d ≡ standing_of (Some s.from) d
   was = ap (λ (o : Option Node). standing_of o d) s.at
 
-  is : standing_of (slice_get next k.node) d ≡ standing_of (Some s.to) d
+  pub is : standing_of (slice_get next k.node) d ≡ standing_of (Some s.to) d
   is = ap (λ (o : Option Node). standing_of o d) (ap (λ (d : Cluster). slice_get d k.node) s.gives ∙ get-set_same c k.node s.from s.to s.at)
 
   pub sent_stays : sends k.step ≡ true → standing_of (slice_get next k.node) d ≡ standing_of (slice_get c k.node) d

@@ -102,16 +102,16 @@ pub record Along (m : Machine) (d : Dot) (first : List Kept) (c : Cluster) (aske
 module _ (m : Machine) (d : Dot) (first rest : List Kept) (k : Kept) (c next : Cluster) (asked : Machine) (t : Track)
     (rises : NumbersRise 0 (first ++ k ∷ rest)) (room : 2 * length first + 2 ≤ m.limits.acts)
     (taken : step c k.node k.step ≡ Ok next) (old : Along m d first c asked t) where
-  abbrev now : Machine
+  abbrev pub now : Machine
   now = after_step asked k
 
   abbrev longer : List Kept
   longer = first ++ k ∷ []
 
-  abbrev before : Stand
+  abbrev pub before : Stand
   before = stand_at t.stands k.node
 
-  abbrev s : Stepped c k.node k.step next
+  abbrev pub s : Stepped c k.node k.step next
   s = stepped c k.node k.step next taken
 
   low : AreBelow k.number first
@@ -132,11 +132,11 @@ module _ (m : Machine) (d : Dot) (first rest : List Kept) (k : Kept) (c next : C
   in_step_now : InStep m (length first + 1) next now
   in_step_now = next_in_step m (length first) c next asked k old.size room old.in_step taken
 
-  at_node : (n : ℕ) → standing_at now n d ≡ standing_of (slice_get next n) d
+  pub at_node : (n : ℕ) → standing_at now n d ≡ standing_of (slice_get next n) d
   unfolding standing_at
   at_node n = ap (λ (o : Option Node). standing_of o d) (node_there m (length first + 1) next now n in_step_now)
 
-  at_message : (n p : ℕ) → standing_sent now n p d ≡ told_in next n p d
+  pub at_message : (n p : ℕ) → standing_sent now n p d ≡ told_in next n p d
   unfolding standing_sent
   at_message n p = ap (λ (o : Option Node). standing_told (outbox_of o p) d) (node_there m (length first + 1) next now n in_step_now)
 
@@ -248,7 +248,7 @@ module _ (m : Machine) (d : Dot) (first rest : List Kept) (k : Kept) (c next : C
       ∙ ap (λ (xs : List Message). standing_told (numbered xs p) d) (same_messages silent)
       ∙ ap (λ (o : Option Node). standing_told (outbox_of o p) d) (sym s.at)
 
-  told_same : sends k.step ≡ false → (n p : ℕ) → told_in next n p d ≡ told_in c n p d
+  pub told_same : sends k.step ≡ false → (n p : ℕ) → told_in next n p d ≡ told_in c n p d
   told_same silent n p = go (cases_eq n k.node)
     where
       go : (n ≡ k.node) ⊎ (n ≢ k.node) → told_in next n p d ≡ told_in c n p d
@@ -275,7 +275,7 @@ module _ (m : Machine) (d : Dot) (first rest : List Kept) (k : Kept) (c next : C
       let place : last_message now k.node ≡ suc (length (sent_by first k.node)) = last ∙ omega (arith, count, longer) in
       ap (sender_of (first ++ k ∷ []) k.node) place ∙ sender_there first [] k sending
 
-  fine : Fine c
+  pub fine : Fine c
   fine = fine_run (node_limits m.limits) (length m.names) first c old.run
 
   -- where a delivery changes how the dot stands, it stands as it was told

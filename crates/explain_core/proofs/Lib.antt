@@ -8,3 +8,5 @@ pub mod Followed
 pub mod Tracked
 pub mod Lawful
 pub mod TracedTogether
+pub mod Apart
+pub mod SoFar

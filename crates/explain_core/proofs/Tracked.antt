@@ -84,7 +84,7 @@ told_nowhere l count n p d = go (slice_get (opening_of l count) n) refl
         ap (λ (x : Node). standing_told (outbox_of (Some x) p) d) (opening_at l count n node is)
         ∙ ap (λ o. standing_told o d) (empty p)
 
-at_start : (m : Machine) (d : Dot) → Along m d [] (opening_of (node_limits m.limits) (length m.names)) (opened m) (no_track (length m.names))
+pub at_start : (m : Machine) (d : Dot) → Along m d [] (opening_of (node_limits m.limits) (length m.names)) (opened m) (no_track (length m.names))
 at_start m d = record {
   run = refl;
   in_step = opened_in_step m;

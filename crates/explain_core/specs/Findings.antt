@@ -1,5 +1,5 @@
 -- Why a presence is online at a node, or why not.
-use Rattle.std.specs.Prelude.{ℕ, ◌==◌, ◌&&◌, ◌||◌, not, Bool, true, false, if◌then◌else◌, List, [], ◌∷◌, ◌++◌, map, filter, reverse, Option, Some, None}
+use Rattle.std.specs.Prelude.{◌≡◌, ℕ, ◌<◌, ◌==◌, ◌&&◌, ◌||◌, not, Bool, true, false, if◌then◌else◌, List, [], ◌∷◌, ◌++◌, length, map, filter, reverse, slice_get, Option, Some, None}
 use Rattle.dots_core.specs.declared.dot.Dot.{Dot}
 use Rattle.node_core.specs.Nodes.{Node}
 use Rattle.node_core.specs.Operations.{Operation, Up, Down, Permdown}
@@ -127,3 +127,7 @@ unfoldable pub last_status : Option ℕ → List Kept → ℕ → ℕ → Option
 last_status o [] node name = o
 last_status o (k ∷ ks) node name =
     last_status (if (k.node == node) && is_status_of name k.step then Some k.number else o) ks node name
+
+-- the last status steps of the node about the first names, by number
+abbrev pub AreStatuses : List Kept → ℕ → List (Option ℕ) → Type 0
+AreStatuses ks node statuses = (name : ℕ) → name < length statuses → slice_get statuses name ≡ Some (last_status None ks node name)

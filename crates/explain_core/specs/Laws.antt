@@ -1,5 +1,5 @@
 -- What holds of explanations, told by the remaining steps and the cluster that they give.
-use Rattle.std.specs.Prelude.{◌≡◌, ◌≢◌, ℕ, ◌||◌, true, List, [], ◌∷◌, reverse, Option, Some, None}
+use Rattle.std.specs.Prelude.{◌≡◌, ◌≢◌, ℕ, ◌||◌, true, List, [], ◌∷◌, reverse, Option, Some}
 use Rattle.std.specs.List.{Contains}
 use Rattle.dots_core.specs.declared.dot.Dot.{Dot}
 use Rattle.node_core.specs.Operations.{Deliver, Permdown, delivers, sends}

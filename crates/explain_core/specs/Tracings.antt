@@ -1,8 +1,9 @@
 -- Presences with the tracks of their dots.
-use Rattle.std.specs.Prelude.{ℕ, List, length}
+use Rattle.std.specs.Prelude.{◌≡◌, ℕ, false, List}
+use Rattle.std.specs.List.{All}
 use Rattle.journal_core.specs.Journals.{Kept}
 use Rattle.bench_core.specs.Machine.{Machine}
-use Rattle.explain_core.specs.Tracks.{Track, followed, no_track, track_from, track_of}
+use Rattle.explain_core.specs.Tracks.{Track, followed, no_track, reaches, track_from, track_of}
 use Rattle.explain_core.specs.declared.making.Making.{Making}
 
 -- a presence that a step made, and the track of its dot, as far as the steps were followed
@@ -25,3 +26,10 @@ traced_from asked ks t = record { making = t.making; track = track_from t.making
 -- after all
 abbrev pub traced_of : Machine → Making → Traced
 traced_of m making = record { making = making; track = track_of m making.dot }
+
+-- a dot that a step doesn't reach is left as it is
+abbrev pub IsLeft : Machine → Kept → Traced → Type 0
+IsLeft asked k t = reaches asked k t.making.dot ≡ false → traced_on asked k t ≡ t
+
+abbrev pub AreLeft : Machine → Kept → List Traced → Type 0
+AreLeft asked k ts = All (IsLeft asked k) ts

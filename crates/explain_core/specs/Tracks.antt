@@ -1,8 +1,8 @@
 -- How a dot came to stand as it does at each node: the remaining steps, asked again of a bench that was asked nothing.
-use Rattle.std.specs.Prelude.{ℕ, ◌==◌, ◌&&◌, Bool, true, false, if◌then◌else◌, List, [], ◌∷◌, ◌++◌, find, length, replicate, slice_get, slice_set}
+use Rattle.std.specs.Prelude.{ℕ, ◌==◌, ◌&&◌, Bool, true, false, not, if◌then◌else◌, List, [], ◌∷◌, ◌++◌, find, length, replicate, slice_get, slice_set}
 use Rattle.std.specs.Prelude.{unwrap_or, Option, Some, None, option_map}
 use Rattle.dots_core.specs.declared.dot.Dot.{Dot}
-use Rattle.node_core.specs.Operations.{delivers, sends}
+use Rattle.node_core.specs.Operations.{Operation, Join, Leave, LeaveAll, Update, Permdown, delivers, sends}
 use Rattle.journal_core.specs.Journals.{Kept}
 use Rattle.bench_core.specs.Acts.{Do}
 use Rattle.bench_core.specs.Machine.{Machine, opening_machine}
@@ -102,3 +102,24 @@ no_track nodes = record { stands = replicate nodes never_seen; hops = [] }
 -- the track of a dot
 unfoldable pub track_of : Machine → Dot → Track
 track_of m d = track_from d (opened m) m.state.remaining (no_track (length m.names))
+
+-- whether a step reaches a dot, on the machine after it: it sent or delivered a message with the dot, changed what its own node tracks, or
+-- took the dot's name permanently down
+
+abbrev pub is_told : Machine → ℕ → ℕ → Dot → Bool
+is_told asked node p d = not (is_same (standing_sent asked node p d) Unseen)
+
+abbrev pub is_changed : Operation → ℕ → ℕ → Bool
+is_changed (Join p) node name = name == node
+is_changed (Leave pid topic key) node name = name == node
+is_changed (LeaveAll pid) node name = name == node
+is_changed (Update p) node name = name == node
+is_changed (Permdown other) node name = name == other
+is_changed _ node name = false
+
+abbrev pub reaches_by : Machine → Kept → Dot → Option (ℕ × ℕ) → Bool
+reaches_by asked k d None = is_changed k.step k.node d.name
+reaches_by asked k d (Some m) = is_told asked m.0 m.1 d
+
+unfoldable pub reaches : Machine → Kept → Dot → Bool
+reaches asked k d = if sends k.step then is_told asked k.node (last_message asked k.node) d else reaches_by asked k d (delivers k.step)

@@ -1,8 +1,11 @@
 //! The text of an explanation.
 ghost use Rattle.std.specs.Prelude.{◌≡◌, ◌++◌, IfOk, OnOk, codes, string_bytes};
+ghost use Rattle.explain_core.specs.Findings.{AreStatuses};
 ghost use Rattle.explain_core.specs.Explanations.{dot_line, explanation, finding_text, head_line, labelled, left_text, making_text, making_texts, node_text, removal_text, status_text, step_line, step_line_if, step_lines, tracked_text, verdict_text};
 
-use crate::finding::{Finding, Verdict, finding_of, has_left, last_status, missing};
+use crate::finding::{
+    Finding, Verdict, finding_of, has_left, last_statuses, missing, status_among,
+};
 use crate::making::{Making, makings_of};
 use crate::standing::{Standing, standing_at};
 use crate::tracing::traced_of;
@@ -167,12 +170,14 @@ fn put_dot<'a, A: Allocator, B: Allocator>(
 fn put_status<'a, A: Allocator, B: Allocator>(
     bench: &Bench<'a, B>,
     text: &mut String<A>,
+    statuses: &[Option<u64>],
     node: u16,
     dot: Dot,
 ) -> Result<(), Oom>
+    requires { AreStatuses bench.now.state.remaining node statuses.now }
     ensures { OnOk result (string_bytes text.new ≡ string_bytes text.old ++ status_text bench.now node dot) }
 {
-    let status = last_status(bench.remaining(), node, dot.name);
+    let status = status_among(bench.remaining(), statuses, node, dot.name);
     put_step_if(bench, text, "status", status)
 }
 
@@ -201,18 +206,20 @@ fn put_removal<'a, A: Allocator, B: Allocator>(
 fn put_tracked<'a, A: Allocator, B: Allocator>(
     bench: &Bench<'a, B>,
     text: &mut String<A>,
+    statuses: &[Option<u64>],
     node: u16,
     making: Making,
     track: &Track<&'a B>,
     alloc: &'a B,
 ) -> Result<(), Oom>
+    requires { AreStatuses bench.now.state.remaining node statuses.now }
     ensures { OnOk result (string_bytes text.new ≡ string_bytes text.old ++ tracked_text bench.now node making track.now) }
 {
     put_step(bench, text, "made", making.number)?;
     put_dot(bench, text, making.dot)?;
     put_left(bench, text, making.dot, track)?;
     put_node(bench, text, node, making.dot, track, alloc)?;
-    put_status(bench, text, node, making.dot)?;
+    put_status(bench, text, statuses, node, making.dot)?;
     put_removal(bench, text, node, making.dot, track, alloc)
 }
 
@@ -227,9 +234,19 @@ fn put_some<'a, A: Allocator, B: Allocator>(
 ) -> Result<(), Oom>
     ensures { OnOk result (string_bytes text.new ≡ string_bytes text.old ++ making_texts bench.now node makings.now) }
 {
+    let names = bench.names().len() as u16;
+    let statuses = last_statuses(bench.remaining(), node, names, alloc)?;
     let traced = traced_of(bench, makings, alloc)?;
     for next in &traced {
-        put_tracked(bench, text, node, next.making, &next.track, alloc)?;
+        put_tracked(
+            bench,
+            text,
+            &statuses,
+            node,
+            next.making,
+            &next.track,
+            alloc,
+        )?;
     }
     Ok(())
 }

@@ -3,7 +3,7 @@ ghost use Rattle.std.specs.Prelude.{◌≡◌, IfOk};
 ghost use Rattle.journal_core.specs.Holdings.{kepts};
 ghost use Rattle.node_core.specs.Operations.{plain};
 ghost use Rattle.std.specs.Prelude.{None as Nothing};
-ghost use Rattle.explain_core.specs.Findings.{chain, finding_of, forgotten_or, is_forgotten_at, is_link, is_missed_at, is_sent_as, is_status_of, is_up_at, last_status, missing, numbers_of, has_left};
+ghost use Rattle.explain_core.specs.Findings.{AreStatuses, chain, finding_of, forgotten_or, is_forgotten_at, is_link, is_missed_at, is_sent_as, is_status_of, is_up_at, last_status, missing, numbers_of, has_left};
 
 use crate::hop::{Hop, Kind};
 use crate::standing::{Standing, standing_at};
@@ -244,7 +244,7 @@ fn is_status_of<A: Allocator>(step: &Step<A>, name: u16) -> bool
 
 /// The last status step of the node about the name, if any remains.
 #[tactic(auto, unfolding(crate::specs::Findings::last_status))]
-pub fn last_status<'a, B: Allocator>(journal: &Journal<'a, B>, node: u16, name: u16) -> Option<u64>
+fn last_status<'a, B: Allocator>(journal: &Journal<'a, B>, node: u16, name: u16) -> Option<u64>
     ensures { result ≡ last_status Nothing (kepts journal.now.steps) node name }
 {
     let mut last = None;
@@ -255,4 +255,36 @@ pub fn last_status<'a, B: Allocator>(journal: &Journal<'a, B>, node: u16, name: 
         }
     }
     last
+}
+
+/// The last status steps of the node about the first names, by number.
+pub fn last_statuses<'a, B: Allocator>(
+    journal: &Journal<'a, B>,
+    node: u16,
+    names: u16,
+    alloc: &'a B,
+) -> Result<Vec<Option<u64>, &'a B>, Oom>
+    ensures { IfOk result (λ statuses. AreStatuses (kepts journal.now.steps) node statuses.items) }
+{
+    let mut statuses = Vec::with_capacity(alloc, names as usize)?;
+    for name in 0..names {
+        statuses.push(last_status(journal, node, name))?;
+    }
+    Ok(statuses)
+}
+
+/// That about one name, by those about the first names.
+pub fn status_among<'a, B: Allocator>(
+    journal: &Journal<'a, B>,
+    statuses: &[Option<u64>],
+    node: u16,
+    name: u16,
+) -> Option<u64>
+    requires { AreStatuses (kepts journal.now.steps) node statuses.now }
+    ensures { result ≡ last_status Nothing (kepts journal.now.steps) node name }
+{
+    match statuses.get(name as usize) {
+        Some(status) => *status,
+        None => last_status(journal, node, name),
+    }
 }

@@ -1,12 +1,13 @@
 //! Presences with the tracks of their dots, which are followed over the remaining steps together.
-ghost use Rattle.std.specs.Prelude.{◌≡◌, IfOk, OnOk, map};
-ghost use Rattle.journal_core.specs.Holdings.{kepts};
-ghost use Rattle.explain_core.specs.Tracings.{traced_from, traced_of, traced_on, untraced};
+ghost use Rattle.std.specs.Prelude.{◌≡◌, IfOk, List, OnOk, length, map};
+ghost use Rattle.explain_core.specs.declared.making.Making.{Making as Made};
+ghost use Rattle.explain_core.specs.Tracks.{opened};
+ghost use Rattle.explain_core.specs.Tracings.{AreLeft, IsLeft, traced_from, traced_of, traced_on, untraced};
 
 use crate::making::Making;
-use crate::track::Track;
+use crate::track::{Track, reaches};
 use crate::tracking::{ask, opened};
-use bench_core::{Bench, Journal, Kept};
+use bench_core::{Bench, Kept};
 use payload_core::Oom;
 use std::alloc::Allocator;
 use std::marker::Model;
@@ -27,10 +28,14 @@ impl<A: Allocator> Model for Traced<A> {
 }
 
 impl<'a, B: Allocator> Traced<&'a B> {
-    /// Follows the dot over a step, on the bench after it.
+    /// Follows the dot over a step, on the bench after it, where the step reaches it.
     fn follow(&mut self, asked: &Bench<'a, B>, kept: &Kept<&'a B>) -> Result<(), Oom>
+        requires { IsLeft asked.now kept.now self.old }
         ensures { OnOk result (self.new ≡ traced_on asked.now kept.now self.old) }
     {
+        if !reaches(asked, kept, self.making.dot) {
+            return Ok(());
+        }
         self.track.follow(self.making.dot, asked, kept)
     }
 }
@@ -60,6 +65,7 @@ fn follow_step<'a, B: Allocator>(
     traced: &mut [Traced<&'a B>],
     kept: &Kept<&'a B>,
 ) -> Result<(), Oom>
+    requires { AreLeft asked.now kept.now traced.old }
     ensures { OnOk result (traced.new ≡ map (traced_on asked.now kept.now) traced.old) }
 {
     for next in traced.iter_mut() {
@@ -68,15 +74,18 @@ fn follow_step<'a, B: Allocator>(
     Ok(())
 }
 
-/// Follows each dot over the steps, which are asked of the bench once for all.
+/// Follows each dot over the steps that remain of a bench, which are asked of another once for all.
 fn follow_steps<'a, B: Allocator>(
+    bench: &Bench<'a, B>,
     asked: &mut Bench<'a, B>,
     traced: &mut [Traced<&'a B>],
-    journal: &Journal<'a, B>,
 ) -> Result<(), Oom>
-    ensures { OnOk result (traced.new ≡ map (traced_from asked.old (kepts journal.now.steps)) traced.old) }
+    requires opened { asked.old ≡ opened bench.now }
+    requires untraced { (makings : List Made) × (traced.old ≡ map (untraced (length bench.now.names)) makings) }
+    ensures { OnOk result (traced.new ≡ map (traced_from asked.old bench.now.state.remaining) traced.old) }
 {
-    let mut steps = journal.steps();
+    bench.bench_law();
+    let mut steps = bench.remaining().steps();
     while let Some(kept) = steps.next() {
         ask(asked, kept)?;
         follow_step(asked, traced, kept)?;
@@ -94,7 +103,7 @@ pub fn traced_of<'a, B: Allocator>(
 {
     let mut traced = untraced(makings, bench.names().len(), alloc)?;
     let mut asked = opened(bench, alloc)?;
-    let answer = follow_steps(&mut asked, &mut traced, bench.remaining());
+    let answer = follow_steps(bench, &mut asked, &mut traced);
     drop(asked);
     answer?;
     Ok(traced)

@@ -1,11 +1,12 @@
 //! `Track`: how a dot came to stand as it does at each node.
 ghost use Rattle.std.specs.Prelude.{◌≡◌, IfOk, OnOk};
-ghost use Rattle.explain_core.specs.Tracks.{delivered_hop, followed, hop_at, no_track, other_hop, sender_among, sent_hop, stand_at, with_hop, with_stand};
+ghost use Rattle.node_core.specs.Operations.{plain};
+ghost use Rattle.explain_core.specs.Tracks.{delivered_hop, followed, hop_at, is_changed, is_told, no_track, other_hop, reaches, sender_among, sent_hop, stand_at, with_hop, with_stand};
 ghost use Rattle.explain_core.specs.Standings.{standing_at};
 
 use crate::hop::{Hop, Kind, Stand};
 use crate::standing::{Standing, last_message, standing_at, standing_sent};
-use bench_core::{Bench, Kept};
+use bench_core::{Bench, Kept, Step};
 use dots_core::Dot;
 use payload_core::Oom;
 use std::alloc::Allocator;
@@ -155,6 +156,40 @@ fn hop_at<'a, B: Allocator>(
             let told = standing_sent(asked, sender, message, dot);
             received_hop(kept, hops, before, told, now, sender, message)
         }
+    }
+}
+
+/// Whether a message has the dot.
+fn is_told<'a, B: Allocator>(asked: &Bench<'a, B>, node: u16, message: u64, dot: Dot) -> bool
+    ensures { result ≡ is_told asked.now node message dot }
+{
+    !standing_sent(asked, node, message, dot).is_same(Standing::Unseen)
+}
+
+/// Whether the step may change what its node holds of a name, other than by a message.
+fn is_changed<A: Allocator>(step: &Step<A>, node: u16, name: u16) -> bool
+    ensures { result ≡ is_changed (plain step.now) node name }
+{
+    match step {
+        Step::Join { .. } | Step::Leave { .. } | Step::LeaveAll { .. } | Step::Update { .. } => {
+            name == node
+        }
+        Step::Permdown { name: other } => name == *other,
+        _ => false,
+    }
+}
+
+/// Whether the step may have done something to the dot, on the bench after it. It is cheaper to know than what it did.
+#[tactic(auto, unfolding(crate::specs::Tracks::reaches))]
+pub fn reaches<'a, B: Allocator>(asked: &Bench<'a, B>, kept: &Kept<&'a B>, dot: Dot) -> bool
+    ensures { result ≡ reaches asked.now kept.now dot }
+{
+    if kept.step.sends() {
+        return is_told(asked, kept.node, last_message(asked, kept.node), dot);
+    }
+    match kept.step.delivers() {
+        Some((sender, message)) => is_told(asked, sender, message, dot),
+        None => is_changed(&kept.step, kept.node, dot.name),
     }
 }
 
