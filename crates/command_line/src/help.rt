@@ -122,9 +122,16 @@ Script lines (words between spaces; a line that begins with # is a comment):
 A step prints NUMBER ok, an undo undone NUMBER, a refusal no and its name; then
 come the rows that left (-) and joined (+) the online list of the step's node.
 With the subcommand step, a line that can't be taken is told and changes nothing;
-:save prints the session so far, :explain NODE TOPIC KEY why somebody is online at
-a node or isn't, :whatif NODE TOPIC KEY what would have made a difference to that,
-and :help this text.
+these are for it alone:
+  :save                           prints the session so far
+  :steps                          prints each act above what it printed
+  :script                         prints the acts as a script
+  :draw                           prints a picture, in SVG
+  :sent NODE                      prints what a node has sent
+  :explain NODE TOPIC KEY         tells why somebody is online at a node, or isn't
+  :whatif NODE TOPIC KEY          tells what would have made a difference to that
+  :help                           prints this text
+  :quit                           ends it
 What a fault of a line says (line L: KIND):
   NotText      a tab, a carriage return or UTF-8 stands there: ASCII and spaces alone
   BadName      a name is 1 to 16 of a-z 0-9 _ and no word above; or no node has it

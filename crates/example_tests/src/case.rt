@@ -24,6 +24,8 @@ pub struct Case {
     /// How many bytes the output takes before a write fails.
     pub room: usize,
     pub limits: Limits,
+    /// Whether the input is a terminal.
+    pub terminal: bool,
     /// Whether the output may go on behind what the case has of it.
     pub begins: bool,
     pub output: Vec<u8>,
@@ -46,6 +48,7 @@ impl Case {
             fails: false,
             room: usize::MAX,
             limits: Limits::usual(),
+            terminal: false,
             begins: false,
             output: Vec::new(heap),
             errors: Vec::new(heap),
@@ -63,6 +66,7 @@ impl Case {
         self.fails = false;
         self.room = usize::MAX;
         self.limits = Limits::usual();
+        self.terminal = false;
         self.begins = false;
         self.output.clear();
         self.errors.clear();

@@ -90,6 +90,7 @@ fn set(case: &mut Case, text: &str) -> io::Result<()> {
     match name {
         "fails" => case.fails = true,
         "begins" => case.begins = true,
+        "terminal" => case.terminal = true,
         "room" => case.room = number(rest)?,
         "limits" => case.limits = limits(rest)?,
         "front" => case.front = number(rest)?,

@@ -1,6 +1,7 @@
 //! Whether a case comes out as it says, and what is told where it doesn't.
 use crate::case::Case;
 use program_core::program_within;
+use progress_core::FakeClock;
 use script_core::{FakeReader, FakeWriter};
 use std::io;
 use std::sync::Wait;
@@ -28,6 +29,7 @@ fn run_case<T: Threads + Wait + Sync>(
     };
     let mut output = FakeWriter::new(heap, case.room);
     let mut errors = FakeWriter::new(heap, usize::MAX);
+    let clock = FakeClock::new(0);
     let status = program_within(
         threads,
         heap,
@@ -37,6 +39,8 @@ fn run_case<T: Threads + Wait + Sync>(
         &mut output,
         &mut errors,
         case.limits,
+        case.terminal,
+        &clock,
     );
     Ok(Ended {
         status,

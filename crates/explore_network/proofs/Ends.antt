@@ -176,7 +176,7 @@ weight_sum p t f g h sum = go t.delivers
     go None = omega arith
     go (Some m) = pick (p t.node (Deliver m.0 m.1))
 
-total_zero : (f : Turn → ℕ) (ts : List Turn) → AllByRecursion (λ (t : Turn). f t ≡ 0) ts → total f ts ≡ 0
+pub total_zero : (f : Turn → ℕ) (ts : List Turn) → AllByRecursion (λ (t : Turn). f t ≡ 0) ts → total f ts ≡ 0
 total_zero f [] all = refl
 total_zero f (t ∷ ts) all = let rest = total_zero f ts all.1 in let first = all.0 in omega (arith, rest, first)
 

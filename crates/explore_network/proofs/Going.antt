@@ -14,6 +14,7 @@ use Rattle.explore_network.specs.Turns.{count_of, counts_of, delivery_of, extra,
 use Rattle.explore_network.specs.Walks.{next_in, steps_at, with_step, IsAt}
 use Rattle.explore_network.proofs.Nth.{parted, same_parts}
 use Rattle.explore_network.proofs.Ranked.{next_is, ranked, Ranked}
+use Rattle.explore_network.proofs.Within.{within_more}
 use Rattle.explore_network.proofs.TurnKinds.{both_true, delivers_none, delivers_some, of_turn, own_count}
 
 pub ordered_in : (k : Kept) → is_delivery k.step ≡ false → is_ordered k.node k ≡ true
@@ -72,6 +73,7 @@ module _ (p : Plan) (q : Question) (plan : IsPlan p q) (w : List Kept) (counts :
     counted = counted;
     along = (at.along.0 ++ place ∷ [], ap (λ (l : List Kept). l ++ k ∷ []) at.along.1 ∙ sym (steps_push p.steps at.along.0 place k here));
     own = λ n. by_node n (is_ordered n k) refl;
+    within = within_more p q plan w counts c at place k here next;
   }
     where
       by_node : (n : ℕ) (b : Bool) → is_ordered n k ≡ b → (later : List Kept) × (ordered p.steps n ≡ ordered (w ++ k ∷ []) n ++ later)

@@ -5,7 +5,9 @@ pub mod TurnKinds
 pub mod AllTurns
 pub mod Nth
 pub mod Ranked
+pub mod Within
 pub mod Going
+pub mod GoingOn
 pub mod Tours
 pub mod Sums
 pub mod Coming

@@ -6,17 +6,18 @@ use Rattle.bench_core.specs.Clusters.{Cluster}
 use Rattle.bench_core.specs.Limits.{node_limits}
 use Rattle.bench_core.specs.Machine.{Machine}
 use Rattle.bench_core.specs.Runs.{runs}
-use Rattle.network_core.specs.NetworkRuns.{HaveSame, IsNetworkRun, ordered}
+use Rattle.network_core.specs.NetworkRuns.{HaveSame, IsNetworkRun}
 use Rattle.explore_network.specs.declared.turn.Turn.{Turn}
 use Rattle.explore_network.specs.Keys.{AreDifferent, IsAmong}
 use Rattle.explore_network.specs.Queries.{key_of}
 use Rattle.explore_network.specs.Turns.{count_of, counts_of, delivery_of, same_message}
 use Rattle.explore_network.specs.Explorations.{AreDistinct, AreOfDifferentStates, AreOfOneState, AreTooMany, BeginsAsRecorded, CanBegin, InventsNothing, IsAny, MissesNothing}
 use Rattle.explore_network.specs.Outcomes.{AllIsTold}
-use Rattle.explore_network.specs.Plans.{Plan}
+use Rattle.explore_network.specs.Plans.{IsPlan, Plan}
 use Rattle.explore_network.specs.Questions.{shown, Question}
 use Rattle.explore_network.specs.SameShown.{same_shown}
 use Rattle.explore_network.specs.Walks.{steps_at, told_by, AreApart, IsKeyOf, IsOutcome, IsTooMany, Outcome}
+use Rattle.explore_network.proofs.GoingOn.{goes_on, rest_of}
 use Rattle.explore_network.proofs.SameShown.{same_shown-Decides}
 
 -- the plan is of the machine's remaining steps
@@ -100,15 +101,16 @@ module _ (m : Machine) (q : Question) (lost again : ℕ) (p : Plan) (of : IsPlan
   path_is : (os : List Outcome) (k : List ℕ) (x : IsKeyOf p q os k) → steps_of x.at.along.0 ≡ x.first
   path_is os k x = ap (λ j. steps_at j x.at.along.0) (sym of.steps) ∙ sym x.at.along.1
 
-  begins : (os : List Outcome) (k : List ℕ) (x : IsKeyOf p q os k) → CanBegin m (steps_of x.at.along.0)
-  begins os k x = subst (CanBegin m) (sym (path_is os k x)) (record {
-    own = λ n. let o = x.at.own n in (o.0, ap (λ (j : List Kept). ordered j n) (sym of.steps) ∙ o.1);
+  begins : IsPlan p q → (os : List Outcome) (k : List ℕ) (x : IsKeyOf p q os k) → CanBegin m lost again (steps_of x.at.along.0)
+  begins plan os k x = subst (CanBegin m lost again) (sym (path_is os k x)) (record {
+    rest = rest_of p q plan x.first x.counts x.cluster x.at;
+    goes_on = moved (sym of.steps) (sym of.lost) (sym of.again) refl (goes_on p q plan x.first x.counts x.cluster x.at);
     accepted = (x.cluster, (λ i. runs (sym of.limits i) (sym of.count i) x.first) ∙ x.at.ran);
   })
 
-  all_begin : (os : List Outcome) (known : List (List ℕ)) (all : AllByRecursion (IsKeyOf p q os) known) → AllByRecursion (λ x. CanBegin m (steps_of x)) (paths os known all)
-  all_begin os [] all = tt
-  all_begin os (k ∷ known) all = (begins os k all.0, all_begin os known all.1)
+  all_begin : IsPlan p q → (os : List Outcome) (known : List (List ℕ)) (all : AllByRecursion (IsKeyOf p q os) known) → AllByRecursion (λ x. CanBegin m lost again (steps_of x)) (paths os known all)
+  all_begin plan os [] all = tt
+  all_begin plan os (k ∷ known) all = (begins plan os k all.0, all_begin plan os known all.1)
 
   same_key : (os : List Outcome) (k j : List ℕ) (x : IsKeyOf p q os k) (y : IsKeyOf p q os j) → AreOfOneState m (steps_of x.at.along.0) (steps_of y.at.along.0) → j ≡ k
   same_key os k j x y same =
@@ -134,7 +136,7 @@ module _ (m : Machine) (q : Question) (lost again : ℕ) (p : Plan) (of : IsPlan
   are_too_many most found same t = record {
     states = paths t.found t.known t.keys;
     more = (let more = t.more in let long = as_many t.found t.known t.keys in omega (arith, more, long, same));
-    begin = all_begin t.found t.known t.keys;
+    begin = all_begin t.plan t.found t.known t.keys;
     differ = all_differ t.found t.known t.keys t.differ;
     outcomes = t.found;
     count = t.count;

@@ -18,9 +18,10 @@ use Rattle.explore_network.specs.Keys.{AreDifferent}
 use Rattle.explore_network.specs.Questions.{Question}
 use Rattle.explore_network.specs.Tables.{is_wanted, IsAsked, IsClosed}
 use Rattle.explore_network.specs.Turns.{counts_of, ranks_of, turn_of, turns_of}
-use Rattle.explore_network.specs.Walks.{steps_at, AreApart, IsKeyOf, IsOutcome, IsReady, IsTold, Outcome, Went}
+use Rattle.explore_network.specs.Walks.{steps_at, AreApart, IsKeyOf, IsOutcome, IsReady, IsTold, IsWithin, Outcome, Went}
 use Rattle.explore_network.proofs.AllTurns.{own_turn_at}
 use Rattle.explore_network.proofs.TurnKinds.{own_count}
+use Rattle.explore_network.proofs.Within.{none_within}
 
 -- the plan of a run
 
@@ -83,6 +84,7 @@ starts p q path c known os counts left n plan ran no_path is no_keys begins long
     counted = zeros ∙ ap (λ n. replicate n 0) long ∙ none_came p.turns ∙ ap (λ l. counts_of p.turns (steps_at p.steps l)) (sym no_path);
     along = (path, refl);
     own = λ n. (ordered p.steps n, ap (λ l. ordered (steps_at p.steps l) n ++ ordered p.steps n) (sym no_path));
+    within = subst (λ (l : List ℕ). IsWithin p (steps_at p.steps l)) (sym no_path) (none_within p);
   };
   left = ap (λ l. length (steps_at p.steps l) + left) no_path ∙ (let m = most in omega (arith, m));
 }

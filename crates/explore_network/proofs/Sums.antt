@@ -39,7 +39,7 @@ pub total_le : (f g : Turn → ℕ) (ts : List Turn) → AllByRecursion (λ (t :
 total_le f g [] all = omega arith
 total_le f g (t ∷ ts) all = let rest = total_le f g ts all.1 in let first = all.0 in omega (arith, rest, first)
 
-total_sum : (f g h : Turn → ℕ) (ts : List Turn) → ((t : Turn) → f t ≡ g t + h t) → total f ts ≡ total g ts + total h ts
+pub total_sum : (f g h : Turn → ℕ) (ts : List Turn) → ((t : Turn) → f t ≡ g t + h t) → total f ts ≡ total g ts + total h ts
 total_sum f g h [] all = omega arith
 total_sum f g h (t ∷ ts) all = let rest = total_sum f g h ts all in let first = all t in omega (arith, rest, first)
 

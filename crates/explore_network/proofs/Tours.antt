@@ -5,7 +5,7 @@ use Rattle.journal_core.specs.Journals.{Kept}
 use Rattle.bench_core.specs.Clusters.{Cluster, step}
 use Rattle.network_core.specs.Settling.{IsWalk}
 use Rattle.network_core.proofs.SameMade.{length_holds}
-use Rattle.explore_network.specs.Plans.{walk_of, Plan}
+use Rattle.explore_network.specs.Plans.{walk_of, IsPlan, Plan}
 use Rattle.explore_network.specs.Questions.{shown, Question}
 use Rattle.explore_network.specs.SameShown.{same_shown}
 use Rattle.explore_network.specs.Walks.{told_by, AreMore, GoesThrough, IsAt, IsFirst, IsKeyOf, IsTold, IsTooMany, Keeps, Outcome}
@@ -87,9 +87,9 @@ knows_key p q os key old new k is (inr more) = subst (Knows p q os) (sym more.0)
 pub keeps_key : (p : Plan) (q : Question) (os : List Outcome) (old new : List (List ℕ)) → Keeps p q old os → Knows p q os new → length new ≤ p.most → Keeps p q new os
 keeps_key p q os old new k knows few = record { keys = knows.keys; differ = knows.differ; outcomes = k.outcomes; apart = k.apart; few = few }
 
-pub too_many : (p : Plan) (q : Question) (os : List Outcome) (old new : List (List ℕ)) (n : ℕ) → Keeps p q old os → Knows p q os new → p.most < length new → length os ≡ n → IsTooMany p q n
-too_many p q os old new n k knows more is =
-    record { known = new; found = os; keys = knows.keys; differ = knows.differ; more = more; outcomes = k.outcomes; apart = k.apart; count = is }
+pub too_many : (p : Plan) (q : Question) (os : List Outcome) (old new : List (List ℕ)) (n : ℕ) → IsPlan p q → Keeps p q old os → Knows p q os new → p.most < length new → length os ≡ n → IsTooMany p q n
+too_many p q os old new n plan k knows more is =
+    record { plan = plan; known = new; found = os; keys = knows.keys; differ = knows.differ; more = more; outcomes = k.outcomes; apart = k.apart; count = is }
 
 -- going on behind a step
 

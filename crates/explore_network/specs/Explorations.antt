@@ -10,7 +10,7 @@ use Rattle.bench_core.specs.Laws.{presence_made}
 use Rattle.bench_core.specs.Limits.{node_limits}
 use Rattle.bench_core.specs.Machine.{Machine}
 use Rattle.bench_core.specs.Runs.{runs}
-use Rattle.network_core.specs.NetworkRuns.{HaveSame, IsNetworkRun, ordered}
+use Rattle.network_core.specs.NetworkRuns.{HaveSame, IsNetworkRun}
 use Rattle.explore_network.specs.Questions.{shown, Question}
 use Rattle.explore_network.specs.Walks.{steps_at, Outcome}
 
@@ -50,9 +50,10 @@ is_asked_of topic key (Some p) = bytes_eq p.topic topic && bytes_eq p.key key
 abbrev pub is_asked : List ℕ → List ℕ → Operation → Bool
 is_asked topic key s = is_asked_of topic key (presence_made s)
 
--- a beginning of such runs: each node took the first of its own steps, and each step is accepted
-pub record CanBegin (m : Machine) (run : List Kept) : Type 0 where
-  pub own : (n : ℕ) → (later : List Kept) × (ordered m.state.remaining n ≡ ordered run n ++ later)
+-- a beginning of such runs: it goes on to one, and each of its own steps is accepted
+pub record CanBegin (m : Machine) (lost again : ℕ) (run : List Kept) : Type 0 where
+  pub rest : List Kept
+  pub goes_on : IsNetworkRun m.state.remaining lost again (run ++ rest)
   pub accepted : (c : Cluster) × (runs (node_limits m.limits) (length m.names) run ≡ Ok c)
 
 -- two beginnings are of one state where the same steps came, each as often, and led to the same cluster
@@ -70,7 +71,7 @@ AreOfDifferentStates m (x ∷ xs) =
 pub record AreTooMany (m : Machine) (q : Question) (lost again most found : ℕ) : Type 0 where
   pub states : List (List ℕ)
   pub more : most < length states
-  pub begin : AllByRecursion (λ x. CanBegin m (steps_at m.state.remaining x)) states
+  pub begin : AllByRecursion (λ x. CanBegin m lost again (steps_at m.state.remaining x)) states
   pub differ : AreOfDifferentStates m states
   pub outcomes : List Outcome
   pub count : length outcomes ≡ found

@@ -1,5 +1,5 @@
 -- Where a walk stands, what was told, and what is settled by it.
-use Rattle.std.specs.Prelude.{◌≡◌, ℕ, ◌+◌, ◌<◌, ◌≤◌, Bool, true, false, List, [], ◌∷◌, ◌++◌, length, slice_get, Option, Some, None, Ok, refl}
+use Rattle.std.specs.Prelude.{◌≡◌, ℕ, ◌+◌, ◌-◌, ◌<◌, ◌≤◌, Bool, true, false, List, [], ◌∷◌, ◌++◌, length, slice_get, Option, Some, None, Ok, refl}
 use Rattle.std.specs.Coded.{Coded, code_by, coded×, coded_ℕ, coded_list}
 use Rattle.std.specs.List.{AllByRecursion, list_any}
 use Rattle.node_core.specs.Nodes.{node_code}
@@ -15,7 +15,8 @@ use Rattle.explore_network.specs.Plans.{walk_of, IsPlan, Plan}
 use Rattle.explore_network.specs.Queries.{key_of}
 use Rattle.explore_network.specs.Questions.{shown, Question}
 use Rattle.explore_network.specs.SameShown.{same_shown}
-use Rattle.explore_network.specs.Turns.{counts_of, is_next}
+use Rattle.explore_network.specs.declared.turn.Turn.{Turn}
+use Rattle.explore_network.specs.Turns.{count_of, counts_of, extra, is_next}
 
 -- the places of a run's steps among the recorded ones, and the cluster to which it leads
 pub record Outcome : Type 0 where
@@ -39,12 +40,18 @@ steps_at j (p ∷ ps) = with_step (slice_get j p) (steps_at j ps)
 abbrev pub told_by : Question → List Outcome → Cluster → Bool
 told_by q os c = list_any (λ o. same_shown (shown q o.cluster) (shown q c)) os
 
+-- no more came again than may, and no delivery more than twice as often as it was recorded
+pub record IsWithin (p : Plan) (w : List Kept) : Type 0 where
+  pub again : extra p.turns (counts_of p.turns w) 0 ≤ p.again
+  pub twice : AllByRecursion (λ (t : Turn). count_of t w - t.recorded ≤ t.recorded) p.turns
+
 -- after these recorded steps the cluster is this, and the turns came so often; and each node took the first of its own steps
 pub record IsAt (p : Plan) (w : List Kept) (counts : List ℕ) (c : Cluster) : Type 0 where
   pub ran : runs p.limits p.count w ≡ Ok c
   pub counted : counts ≡ counts_of p.turns w
   pub along : (path : List ℕ) × (w ≡ steps_at p.steps path)
   pub own : (n : ℕ) → (later : List Kept) × (ordered p.steps n ≡ ordered w n ++ later)
+  pub within : IsWithin p w
 
 -- whatever a run of the network that begins so leads to shows what an outcome shows
 abbrev pub IsTold : Plan → Question → List Outcome → List Kept → Type 0
@@ -92,6 +99,7 @@ pub record Keeps (p : Plan) (q : Question) (known : List (List ℕ)) (os : List 
 
 -- more states were met than may be kept, and so many outcomes
 pub record IsTooMany (p : Plan) (q : Question) (n : ℕ) : Type 0 where
+  pub plan : IsPlan p q
   pub known : List (List ℕ)
   pub found : List Outcome
   pub keys : AllByRecursion (IsKeyOf p q found) known

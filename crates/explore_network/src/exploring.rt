@@ -6,6 +6,7 @@ ghost use Rattle.bench_core.specs.Limits.{node_limits};
 ghost use Rattle.bench_core.specs.Runs.{runs};
 ghost use Rattle.std.specs.List.{AllByRecursion};
 ghost use Rattle.network_core.specs.Room.{made};
+ghost use Rattle.progress_core.specs.Watches.{Watched};
 ghost use Rattle.explore_network.specs.Explorations.{AreDistinct, AreTooMany, BeginsAsRecorded, InventsNothing, MissesNothing};
 ghost use Rattle.explore_network.specs.declared.turn.Turn.{Turn as PlainTurn};
 ghost use Rattle.explore_network.specs.Plans.{IsPlan};
@@ -17,14 +18,16 @@ use crate::asked::dots_of;
 use crate::cone::cone_of;
 use crate::explore_fault::{ExploreFault, Stop, fault_of};
 use crate::outcome::Outcome;
-use crate::plan::Plan;
+use crate::plan::{Plan, Steps};
 use crate::question::Question;
-use crate::steps::{Steps, copied, made, places};
+use crate::steps::{made, places};
 use crate::table::Table;
 use crate::turn::{Turn, ranks_of, turns_of};
 use crate::walk::{Tour, Walk, outcome_of, visit};
 use bench_core::{Bench, Cluster, NodeLimits};
+use change_core::copied;
 use node_core::Oom;
+use progress_core::{Walked, Watch};
 use std::alloc::Allocator;
 
 /// What was found, and how many states were kept.
@@ -115,16 +118,18 @@ fn begun<'a, B: Allocator>(tour: &Tour<'_, 'a, B>, alloc: &'a B) -> Result<Walk<
 }
 
 /// All outcomes of a plan, of whose recorded run each step is accepted.
-fn explore_plan<'a, B: Allocator>(
+fn explore_plan<'a, B: Allocator, W: Watch<Walked>>(
     plan: &Plan<'a, B>,
     question: &Question<&'a B>,
     alloc: &'a B,
+    watch: &mut W,
 ) -> Result<Explored<'a, B>, Stop>
     requires plan { IsPlan plan.now (plain question.now) }
     requires ran { Runs plan.now }
     ensures told { IfOk result (λ e. AllIsTold plan.now (plain question.now) e.outcomes.items) }
     ensures most { IfOk result (λ e. e.states ≤ plan.now.most) }
     ensures stops { IfErr result (HasReason plan.now (plain question.now)) }
+    ensures watched { Watched W.told watch.old watch.new }
 {
     let tour = Tour {
         plan,
@@ -134,7 +139,7 @@ fn explore_plan<'a, B: Allocator>(
     let mut walk = begun(&tour, alloc)?;
     let counts = zeros(plan.turns().len(), alloc)?;
     let left = plan.steps().len() as u128 + plan.again() as u128;
-    visit(&tour, &mut walk, &counts, left)?;
+    visit(&tour, &mut walk, &counts, left, watch)?;
     let Walk {
         cluster,
         path,
@@ -149,14 +154,15 @@ fn explore_plan<'a, B: Allocator>(
 }
 
 /// All outcomes of what the network could have made of the steps that remain: with up to so many deliveries missing, and up to
-/// so many that come a second time. At most so many states are kept.
-pub fn explore<'a, B: Allocator>(
+/// so many that come a second time. At most so many states are kept. The watcher is told how far the walk has come.
+pub fn explore<'a, B: Allocator, W: Watch<Walked>>(
     bench: &Bench<'a, B>,
     question: &Question<&'a B>,
     lost: usize,
     again: usize,
     most: usize,
     alloc: &'a B,
+    watch: &mut W,
 ) -> Result<Explored<'a, B>, ExploreFault>
     requires { IsThere (length bench.now.names) (plain question.now) }
     ensures misses_nothing { IfOk result (λ e. MissesNothing bench.now (plain question.now) lost again e.outcomes.items) }
@@ -167,6 +173,7 @@ pub fn explore<'a, B: Allocator>(
     ensures too_many { (found : ℕ) → result ≡ Err (ExploreFault.TooManyStates found) → AreTooMany bench.now (plain question.now) lost again most found }
     ensures may_fill { result ≡ Err ExploreFault.MayFill → (node_limits bench.now.limits).entries < made bench.now.state.remaining }
     ensures fills_not { IsOk result → made bench.now.state.remaining ≤ (node_limits bench.now.limits).entries }
+    ensures watched { Watched W.told watch.old watch.new }
 {
     bench.bench_law();
     let limits = bench.limits().of_node();
@@ -176,7 +183,7 @@ pub fn explore<'a, B: Allocator>(
     }
     let count = bench.names().len() as u16;
     let plan = plan_of(steps, count, limits, question, lost, again, most, alloc)?;
-    let explored = explore_plan(&plan, question, alloc);
+    let explored = explore_plan(&plan, question, alloc, watch);
     drop(plan);
     match explored {
         Ok(explored) => Ok(explored),

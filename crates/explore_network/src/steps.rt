@@ -1,42 +1,13 @@
-//! Copies of the steps that remain, and how many entries they make.
+//! How many entries steps make, and the places of steps.
 ghost use Rattle.std.specs.Prelude.{◌≡◌, List, IfOk, count_by, length};
 ghost use Rattle.journal_core.specs.Journals.{Kept as PlainKept};
 ghost use Rattle.explore_network.specs.Walks.{steps_at};
-ghost use Rattle.journal_core.specs.Holdings.{kepts};
 ghost use Rattle.node_core.specs.Operations.{plain};
 ghost use Rattle.network_core.specs.Room.{made, makes};
 
-use bench_core::{Journal, Kept, Step};
+use bench_core::{Kept, Step};
 use node_core::Oom;
 use std::alloc::Allocator;
-
-pub(crate) type Steps<A> = Vec<Kept<A>, A>;
-
-/// A step with the same number, of the same node.
-fn copy_of<A: Allocator + Copy>(kept: &Kept<A>) -> Result<Kept<A>, Oom>
-    ensures { IfOk result (λ copy. copy ≡ kept.now) }
-{
-    Ok(Kept {
-        number: kept.number,
-        node: kept.node,
-        step: kept.step.try_copy()?,
-    })
-}
-
-/// Copies of the steps that remain.
-pub(crate) fn copied<'a, B: Allocator>(
-    journal: &Journal<'a, B>,
-    alloc: &'a B,
-) -> Result<Steps<&'a B>, Oom>
-    ensures { IfOk result (λ copies. copies.items ≡ kepts journal.now.steps) }
-{
-    let mut copies = Vec::with_capacity(alloc, journal.len())?;
-    let mut steps = journal.steps();
-    while let Some(kept) = steps.next() {
-        copies.push(copy_of(kept)?)?;
-    }
-    Ok(copies)
-}
 
 /// Whether the step makes an entry.
 fn makes<A: Allocator>(step: &Step<A>) -> bool

@@ -4,6 +4,7 @@ ghost use Rattle.replica_core.specs.Limits.{AreNodeLimits};
 ghost use Rattle.bench_core.specs.Clusters.{Cluster as PlainCluster};
 ghost use Rattle.bench_core.specs.Runs.{runs, then_runs};
 ghost use Rattle.network_core.specs.NetworkRuns.{IsNetworkRun};
+ghost use Rattle.progress_core.specs.Watches.{Watched};
 ghost use Rattle.explore_network.specs.Plans.{IsPlan};
 ghost use Rattle.explore_network.specs.Queries.{key_of};
 ghost use Rattle.explore_network.specs.Questions.{plain};
@@ -19,6 +20,7 @@ use crate::question::Question;
 use crate::table::Table;
 use bench_core::{Cluster, Fault, Kept, NodeLimits};
 use node_core::Oom;
+use progress_core::{Walked, Watch};
 use std::alloc::Allocator;
 
 /// What does not change while the walk goes.
@@ -166,13 +168,14 @@ fn extend<A: Allocator>(path: &mut Vec<usize, A>, place: usize) -> Result<(), Oo
 
 /// Goes on behind a step that was taken.
 #[cycle(visit)]
-fn onward<'a, B: Allocator>(
+fn onward<'a, B: Allocator, W: Watch<Walked>>(
     tour: &Tour<'_, 'a, B>,
     walk: &mut Walk<'a, B>,
     counts: &[usize],
     kept: &Kept<&'a B>,
     place: usize,
     left: u128,
+    watch: &mut W,
 ) -> Result<(), Stop>
     requires plan { IsPlan tour.now.plan.now (plain tour.now.question.now) }
     requires keeps { Keeps tour.now.plan.now (plain tour.now.question.now) walk.old.settled walk.old.outcomes.items }
@@ -183,11 +186,12 @@ fn onward<'a, B: Allocator>(
     ensures went { OnOk result (Went tour.now.plan.now (plain tour.now.question.now) walk.old.outcomes.items walk.new.settled walk.new.outcomes.items) }
     ensures told { OnOk result (IsTold tour.now.plan.now (plain tour.now.question.now) walk.new.outcomes.items (steps_at tour.now.plan.now.steps walk.old.path.items ++ kept.now ∷ [])) }
     ensures stops { IfErr result (HasReason tour.now.plan.now (plain tour.now.question.now)) }
+    ensures watched { Watched W.told watch.old watch.new }
 {
     extend(&mut walk.path, place)?;
     if left > 0 {
         let counts = counted(tour.plan.turns(), counts, kept, tour.alloc)?;
-        visit(tour, walk, &counts, left - 1)?;
+        visit(tour, walk, &counts, left - 1, watch)?;
     }
     let _ = walk.path.pop();
     Ok(())
@@ -195,12 +199,13 @@ fn onward<'a, B: Allocator>(
 
 /// Goes on with the step at this place, if it is accepted, and back.
 #[cycle(visit)]
-fn through<'a, B: Allocator>(
+fn through<'a, B: Allocator, W: Watch<Walked>>(
     tour: &Tour<'_, 'a, B>,
     walk: &mut Walk<'a, B>,
     counts: &[usize],
     place: usize,
     left: u128,
+    watch: &mut W,
 ) -> Result<bool, Stop>
     requires ready { IsReady tour.now.plan.now (plain tour.now.question.now) walk.old.path.items walk.old.cluster walk.old.settled walk.old.outcomes.items counts.now left }
     requires next { next_in tour.now.plan.now counts.now place ≡ true }
@@ -209,6 +214,7 @@ fn through<'a, B: Allocator>(
     ensures went { OnOk result (Went tour.now.plan.now (plain tour.now.question.now) walk.old.outcomes.items walk.new.settled walk.new.outcomes.items) }
     ensures goes { IfOk result (λ taken. GoesThrough tour.now.plan.now (plain tour.now.question.now) (steps_at tour.now.plan.now.steps walk.old.path.items) walk.old.cluster place taken walk.new.outcomes.items) }
     ensures stops { IfErr result (HasReason tour.now.plan.now (plain tour.now.question.now)) }
+    ensures watched { Watched W.told watch.old watch.new }
 {
     let Some(kept) = tour.plan.steps().get(place) else {
         return Ok(false);
@@ -218,7 +224,7 @@ fn through<'a, B: Allocator>(
         Err(Fault::OutOfMemory) => return Err(Stop::OutOfMemory),
         Err(_) => return Ok(false),
     };
-    onward(tour, walk, counts, kept, place, left)?;
+    onward(tour, walk, counts, kept, place, left, watch)?;
     match walk.cluster.give_back(kept.node, inverse) {
         Ok(()) => Ok(true),
         Err(_) => Err(Stop::OutOfMemory),
@@ -227,12 +233,13 @@ fn through<'a, B: Allocator>(
 
 /// Goes on with the step at this place, if it may come next.
 #[cycle(visit)]
-fn go_at<'a, B: Allocator>(
+fn go_at<'a, B: Allocator, W: Watch<Walked>>(
     tour: &Tour<'_, 'a, B>,
     walk: &mut Walk<'a, B>,
     counts: &[usize],
     place: usize,
     left: u128,
+    watch: &mut W,
 ) -> Result<(), Stop>
     requires { IsReady tour.now.plan.now (plain tour.now.question.now) walk.old.path.items walk.old.cluster walk.old.settled walk.old.outcomes.items counts.now left }
     ensures cluster { OnOk result (walk.new.cluster ≡ walk.old.cluster) }
@@ -240,21 +247,23 @@ fn go_at<'a, B: Allocator>(
     ensures went { OnOk result (Went tour.now.plan.now (plain tour.now.question.now) walk.old.outcomes.items walk.new.settled walk.new.outcomes.items) }
     ensures goes { OnOk result (GoesThroughAt tour.now.plan.now (plain tour.now.question.now) walk.old.path.items walk.old.cluster counts.now walk.new.outcomes.items place) }
     ensures stops { IfErr result (HasReason tour.now.plan.now (plain tour.now.question.now)) }
+    ensures watched { Watched W.told watch.old watch.new }
 {
     let plan = tour.plan;
     if is_next(plan.turns(), plan.ranks(), counts, plan.again(), place) {
-        through(tour, walk, counts, place, left)?;
+        through(tour, walk, counts, place, left, watch)?;
     }
     Ok(())
 }
 
 /// Goes on with each step that may come next, in the order in which they were recorded.
 #[cycle(visit)]
-fn go_on<'a, B: Allocator>(
+fn go_on<'a, B: Allocator, W: Watch<Walked>>(
     tour: &Tour<'_, 'a, B>,
     walk: &mut Walk<'a, B>,
     counts: &[usize],
     left: u128,
+    watch: &mut W,
 ) -> Result<(), Stop>
     requires { IsReady tour.now.plan.now (plain tour.now.question.now) walk.old.path.items walk.old.cluster walk.old.settled walk.old.outcomes.items counts.now left }
     ensures cluster { OnOk result (walk.new.cluster ≡ walk.old.cluster) }
@@ -262,20 +271,22 @@ fn go_on<'a, B: Allocator>(
     ensures went { OnOk result (Went tour.now.plan.now (plain tour.now.question.now) walk.old.outcomes.items walk.new.settled walk.new.outcomes.items) }
     ensures goes { OnOk result (AllGoThrough tour.now.plan.now (plain tour.now.question.now) walk.old.path.items walk.old.cluster counts.now walk.new.outcomes.items) }
     ensures stops { IfErr result (HasReason tour.now.plan.now (plain tour.now.question.now)) }
+    ensures watched { Watched W.told watch.old watch.new }
 {
     for place in 0..tour.plan.steps().len() {
-        go_at(tour, walk, counts, place, left)?;
+        go_at(tour, walk, counts, place, left, watch)?;
     }
     Ok(())
 }
 
 /// Goes on with the first step that can come before all that needs not come first, and says whether there is such.
 #[cycle(visit)]
-fn go_first<'a, B: Allocator>(
+fn go_first<'a, B: Allocator, W: Watch<Walked>>(
     tour: &Tour<'_, 'a, B>,
     walk: &mut Walk<'a, B>,
     counts: &[usize],
     left: u128,
+    watch: &mut W,
 ) -> Result<bool, Stop>
     requires { IsReady tour.now.plan.now (plain tour.now.question.now) walk.old.path.items walk.old.cluster walk.old.settled walk.old.outcomes.items counts.now left }
     ensures cluster { OnOk result (walk.new.cluster ≡ walk.old.cluster) }
@@ -283,20 +294,22 @@ fn go_first<'a, B: Allocator>(
     ensures went { OnOk result (Went tour.now.plan.now (plain tour.now.question.now) walk.old.outcomes.items walk.new.settled walk.new.outcomes.items) }
     ensures told { IfOk result (λ taken. taken ≡ true → IsTold tour.now.plan.now (plain tour.now.question.now) walk.new.outcomes.items (steps_at tour.now.plan.now.steps walk.old.path.items)) }
     ensures stops { IfErr result (HasReason tour.now.plan.now (plain tour.now.question.now)) }
+    ensures watched { Watched W.told watch.old watch.new }
 {
     match first(tour.plan, &walk.cluster, counts) {
-        Some(place) => through(tour, walk, counts, place, left),
+        Some(place) => through(tour, walk, counts, place, left, watch),
         None => Ok(false),
     }
 }
 
 /// Tells where the path leads, if it may end here, and all that goes on.
 #[cycle(visit)]
-fn tell_all<'a, B: Allocator>(
+fn tell_all<'a, B: Allocator, W: Watch<Walked>>(
     tour: &Tour<'_, 'a, B>,
     walk: &mut Walk<'a, B>,
     counts: &[usize],
     left: u128,
+    watch: &mut W,
 ) -> Result<(), Stop>
     requires { IsReady tour.now.plan.now (plain tour.now.question.now) walk.old.path.items walk.old.cluster walk.old.settled walk.old.outcomes.items counts.now left }
     ensures cluster { OnOk result (walk.new.cluster ≡ walk.old.cluster) }
@@ -304,18 +317,20 @@ fn tell_all<'a, B: Allocator>(
     ensures went { OnOk result (Went tour.now.plan.now (plain tour.now.question.now) walk.old.outcomes.items walk.new.settled walk.new.outcomes.items) }
     ensures told { OnOk result (IsTold tour.now.plan.now (plain tour.now.question.now) walk.new.outcomes.items (steps_at tour.now.plan.now.steps walk.old.path.items)) }
     ensures stops { IfErr result (HasReason tour.now.plan.now (plain tour.now.question.now)) }
+    ensures watched { Watched W.told watch.old watch.new }
 {
     tell_end(tour, walk, counts)?;
-    go_on(tour, walk, counts, left)
+    go_on(tour, walk, counts, left, watch)
 }
 
 /// Tells all outcomes of what can come from here on, unless they were told.
 #[cycle(visit)]
-fn tell_once<'a, B: Allocator>(
+fn tell_once<'a, B: Allocator, W: Watch<Walked>>(
     tour: &Tour<'_, 'a, B>,
     walk: &mut Walk<'a, B>,
     counts: &[usize],
     left: u128,
+    watch: &mut W,
 ) -> Result<(), Stop>
     requires { IsReady tour.now.plan.now (plain tour.now.question.now) walk.old.path.items walk.old.cluster walk.old.settled walk.old.outcomes.items counts.now left }
     ensures cluster { OnOk result (walk.new.cluster ≡ walk.old.cluster) }
@@ -323,12 +338,13 @@ fn tell_once<'a, B: Allocator>(
     ensures went { OnOk result (Went tour.now.plan.now (plain tour.now.question.now) walk.old.outcomes.items walk.new.settled walk.new.outcomes.items) }
     ensures told { OnOk result (IsTold tour.now.plan.now (plain tour.now.question.now) walk.new.outcomes.items (steps_at tour.now.plan.now.steps walk.old.path.items)) }
     ensures stops { IfErr result (HasReason tour.now.plan.now (plain tour.now.question.now)) }
+    ensures watched { Watched W.told watch.old watch.new }
 {
     let key = key_at(tour, &walk.cluster, counts)?;
     if walk.settled.has(&key) {
         return Ok(());
     }
-    tell_all(tour, walk, counts, left)?;
+    tell_all(tour, walk, counts, left, watch)?;
     walk.settled.put(key)?;
     if walk.settled.len() > tour.plan.most() {
         return Err(Stop::TooManyStates {
@@ -338,13 +354,14 @@ fn tell_once<'a, B: Allocator>(
     Ok(())
 }
 
-/// Tells all outcomes of what can come from here on.
+/// Tells all outcomes of what can come from here on. The watcher is told how far the walk has come.
 #[cycle(visit)]
-pub(crate) fn visit<'a, B: Allocator>(
+pub(crate) fn visit<'a, B: Allocator, W: Watch<Walked>>(
     tour: &Tour<'_, 'a, B>,
     walk: &mut Walk<'a, B>,
     counts: &[usize],
     left: u128,
+    watch: &mut W,
 ) -> Result<(), Stop>
     requires { IsReady tour.now.plan.now (plain tour.now.question.now) walk.old.path.items walk.old.cluster walk.old.settled walk.old.outcomes.items counts.now left }
     ensures cluster { OnOk result (walk.new.cluster ≡ walk.old.cluster) }
@@ -352,9 +369,15 @@ pub(crate) fn visit<'a, B: Allocator>(
     ensures went { OnOk result (Went tour.now.plan.now (plain tour.now.question.now) walk.old.outcomes.items walk.new.settled walk.new.outcomes.items) }
     ensures told { OnOk result (IsTold tour.now.plan.now (plain tour.now.question.now) walk.new.outcomes.items (steps_at tour.now.plan.now.steps walk.old.path.items)) }
     ensures stops { IfErr result (HasReason tour.now.plan.now (plain tour.now.question.now)) }
+    ensures watched { Watched W.told watch.old watch.new }
 {
-    if go_first(tour, walk, counts, left)? {
+    watch.tell(Walked {
+        states: walk.settled.len(),
+        outcomes: walk.outcomes.len(),
+        left,
+    });
+    if go_first(tour, walk, counts, left, watch)? {
         return Ok(());
     }
-    tell_once(tour, walk, counts, left)
+    tell_once(tour, walk, counts, left, watch)
 }

@@ -3,6 +3,7 @@ ghost use Rattle.std.specs.Prelude.{◌≡◌, ◌≤◌, IfErr, IfOk, length, o
 ghost use Rattle.payload_core.specs.Messages.{numbered};
 ghost use Rattle.explore_network.specs.Questions.{plain, IsThere};
 ghost use Rattle.explore_report.specs.Answers.{AreOutcomes, IsAnswer, IsRun, Refuses, RefusesRun, StopsShort};
+ghost use Rattle.progress_core.specs.Watches.{Watched};
 
 use crate::question::{Question, asked};
 use crate::report_fault::{ReportFault, fault_of};
@@ -10,19 +11,22 @@ use crate::run_text::script_of;
 use crate::telling::tell;
 use bench_core::Bench;
 use explore_network::{Explored, Outcome, Question as Plain, explore};
+use progress_core::{Walked, Watch};
 use std::alloc::Allocator;
 
 /// The outcomes of what is asked.
-fn explored<'a, B: Allocator>(
+fn explored<'a, B: Allocator, W: Watch<Walked>>(
     bench: &Bench<'a, B>,
     asked: &Plain<&'a B>,
     question: Question<'_>,
     alloc: &'a B,
+    watch: &mut W,
 ) -> Result<Explored<'a, B>, ReportFault>
     requires there { IsThere (length bench.now.names) (plain asked.now) }
     ensures outcomes { IfOk result (λ e. AreOutcomes bench.now (plain asked.now) question.entry.lost question.entry.again e.outcomes.items) }
     ensures few { IfOk result (λ e. e.states ≤ question.entry.states) }
     ensures refused { IfErr result (StopsShort bench.now question.entry (plain asked.now)) }
+    ensures watched { Watched W.told watch.old watch.new }
 {
     let Question {
         about: _,
@@ -30,23 +34,25 @@ fn explored<'a, B: Allocator>(
         again,
         states,
     } = question;
-    match explore(bench, asked, lost, again, states, alloc) {
+    match explore(bench, asked, lost, again, states, alloc, watch) {
         Ok(explored) => Ok(explored),
         Err(fault) => Err(fault_of(fault, states)),
     }
 }
 
 /// What the network could have made of the remaining steps, as a text: each outcome, and a run that leads there.
-pub fn explore_asked<'a, B: Allocator>(
+pub fn explore_asked<'a, B: Allocator, W: Watch<Walked>>(
     alloc: &'a B,
     bench: &Bench<'a, B>,
     question: Question<'_>,
+    watch: &mut W,
 ) -> Result<String<&'a B>, ReportFault>
     ensures answer { IfOk result (λ text. IsAnswer bench.now question.entry (string_bytes text)) }
     ensures refused { IfErr result (Refuses bench.now question.entry) }
+    ensures watched { Watched W.told watch.old watch.new }
 {
     let asked = asked(bench, question.about, alloc)?;
-    let explored = explored(bench, &asked, question, alloc)?;
+    let explored = explored(bench, &asked, question, alloc, watch)?;
     let text = tell(bench, &asked, &explored, alloc);
     drop(explored);
     drop(asked);
@@ -65,17 +71,19 @@ fn outcome_at<'l, 'a, B: Allocator>(
 }
 
 /// The run of the outcome that is told under this number, as a script that plays it.
-pub fn run_of_outcome<'a, B: Allocator>(
+pub fn run_of_outcome<'a, B: Allocator, W: Watch<Walked>>(
     alloc: &'a B,
     bench: &Bench<'a, B>,
     question: Question<'_>,
     number: u64,
+    watch: &mut W,
 ) -> Result<String<&'a B>, ReportFault>
     ensures run { IfOk result (λ text. IsRun bench.now question.entry number (string_bytes text)) }
     ensures refused { IfErr result (RefusesRun bench.now question.entry number) }
+    ensures watched { Watched W.told watch.old watch.new }
 {
     let asked = asked(bench, question.about, alloc)?;
-    let explored = explored(bench, &asked, question, alloc)?;
+    let explored = explored(bench, &asked, question, alloc, watch)?;
     drop(asked);
     let Some(outcome) = outcome_at(explored.outcomes.as_slice(), number) else {
         let outcomes = explored.outcomes.len();

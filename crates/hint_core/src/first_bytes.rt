@@ -10,7 +10,7 @@ fn is_space(byte: u8) -> bool
 }
 
 /// Whether all bytes are white space.
-pub fn is_blank(bytes: &[u8]) -> bool
+pub(crate) fn is_blank(bytes: &[u8]) -> bool
     ensures { result ≡ is_blank bytes.now }
 {
     for byte in bytes {
@@ -22,7 +22,7 @@ pub fn is_blank(bytes: &[u8]) -> bool
 }
 
 /// Whether the first byte that is no white space is `{`.
-pub fn begins_object(bytes: &[u8]) -> bool
+pub(crate) fn begins_object(bytes: &[u8]) -> bool
     ensures { result ≡ begins_object bytes.now }
 {
     for byte in bytes {
@@ -34,7 +34,7 @@ pub fn begins_object(bytes: &[u8]) -> bool
 }
 
 /// Whether a byte order mark stands first.
-pub fn is_marked(bytes: &[u8]) -> bool
+pub(crate) fn is_marked(bytes: &[u8]) -> bool
     ensures { result ≡ is_marked bytes.now }
 {
     match bytes {

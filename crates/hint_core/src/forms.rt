@@ -29,7 +29,7 @@ fn actor_form(verb: &str) -> &'static str
 
 /// By the first word and the second.
 #[tactic(auto, unfolding(crate::specs::Forms::form))]
-pub fn form(first: &str, verb: &str) -> &'static str
+pub(crate) fn form(first: &str, verb: &str) -> &'static str
     ensures { result.now ≡ form first.now verb.now }
 {
     match first {

@@ -34,7 +34,11 @@ pub enum Hint<'l> {
 }
 
 /// A hint about a word, where there is one.
-pub fn about<'l>(before: &'static str, word: &'l str, after: &'static str) -> Option<Hint<'l>>
+pub(crate) fn about<'l>(
+    before: &'static str,
+    word: &'l str,
+    after: &'static str,
+) -> Option<Hint<'l>>
     ensures { option_map plain_hint result ≡ about before.now word.now after.now }
 {
     if word.is_empty() {
@@ -161,7 +165,7 @@ fn put_body<A: Allocator + Copy>(alloc: A, line: &mut Vec<u8, A>, hint: Hint<'_>
 
 /// The line of a hint, with its line feed.
 #[tactic(auto, unfolding(crate::specs::Hints::line_of))]
-pub fn line_of<A: Allocator + Copy>(alloc: A, hint: Hint<'_>) -> Result<Vec<u8, A>, Oom>
+pub(crate) fn line_of<A: Allocator + Copy>(alloc: A, hint: Hint<'_>) -> Result<Vec<u8, A>, Oom>
     ensures { IfOk result (λ line. line.items ≡ line_of (plain_hint hint.entry)) }
 {
     let mut line = Vec::new(alloc);

@@ -31,7 +31,7 @@ fn text_of(line: &[u8]) -> Option<&str>
 }
 
 /// The words of a line that is text, as many as a line of a script may have.
-pub fn few_words(line: &[u8]) -> ArrayVec<&str, MOST>
+pub(crate) fn few_words(line: &[u8]) -> ArrayVec<&str, MOST>
     ensures { map (λ word. word.now) result.items ≡ few_words line.now }
 {
     let mut words = ArrayVec::new();
@@ -45,7 +45,7 @@ pub fn few_words(line: &[u8]) -> ArrayVec<&str, MOST>
 }
 
 /// The word at a place, or nothing.
-pub fn word_at<'l>(words: &[&'l str], place: usize) -> &'l str
+pub(crate) fn word_at<'l>(words: &[&'l str], place: usize) -> &'l str
     ensures { result.now ≡ word_at (map (λ word. word.now) words.now) place }
 {
     match words.get(place) {
@@ -55,7 +55,7 @@ pub fn word_at<'l>(words: &[&'l str], place: usize) -> &'l str
 }
 
 /// The words behind the first few.
-pub fn behind<'w, 'l>(words: &'w [&'l str], count: usize) -> &'w [&'l str]
+pub(crate) fn behind<'w, 'l>(words: &'w [&'l str], count: usize) -> &'w [&'l str]
     ensures { map (λ word. word.now) result.now ≡ drop count (map (λ word. word.now) words.now) }
 {
     if count <= words.len() {
@@ -97,7 +97,7 @@ fn begins(line: &[u8], keyword: &str) -> bool
 }
 
 /// Whether one of the first lines begins with the keyword.
-pub fn is_begun(bytes: &[u8], count: usize, keyword: &str) -> bool
+pub(crate) fn is_begun(bytes: &[u8], count: usize, keyword: &str) -> bool
     ensures { result ≡ is_begun keyword.now (take count (lines_of bytes.now)) }
 {
     bytes
@@ -117,14 +117,14 @@ fn is_named(bytes: &[u8], count: usize, keyword: &str, word: &str) -> bool
 }
 
 /// Whether one of the first lines names a node so.
-pub fn is_node(bytes: &[u8], count: usize, word: &str) -> bool
+pub(crate) fn is_node(bytes: &[u8], count: usize, word: &str) -> bool
     ensures { result ≡ is_node (take count (lines_of bytes.now)) word.now }
 {
     is_named(bytes, count, "nodes", word)
 }
 
 /// Whether one of the first lines names a console so.
-pub fn is_console(bytes: &[u8], count: usize, word: &str) -> bool
+pub(crate) fn is_console(bytes: &[u8], count: usize, word: &str) -> bool
     ensures { result ≡ is_console (take count (lines_of bytes.now)) word.now }
 {
     is_named(bytes, count, "consoles", word)
@@ -132,7 +132,7 @@ pub fn is_console(bytes: &[u8], count: usize, word: &str) -> bool
 
 /// The first of the words that is a node in the first lines, or stands among those before it, or nothing.
 #[tactic(auto, unfolding(crate::specs::LineWords::first_again))]
-pub fn first_again<'l>(bytes: &[u8], count: usize, words: &[&'l str]) -> &'l str
+pub(crate) fn first_again<'l>(bytes: &[u8], count: usize, words: &[&'l str]) -> &'l str
     ensures { result.now ≡ first_again (take count (lines_of bytes.now)) [] (map (λ word. word.now) words.now) }
 {
     for (at, word) in words.iter().enumerate() {

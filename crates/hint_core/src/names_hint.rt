@@ -26,7 +26,7 @@ fn again<'l>(word: &'l str) -> Option<Hint<'l>>
 
 /// Of a second line `nodes` or `consoles`, and of a name that stands before.
 #[tactic(auto, unfolding(crate::specs::Choices::twice))]
-pub fn twice<'l>(bytes: &[u8], count: usize, words: &[&'l str]) -> Option<Hint<'l>>
+pub(crate) fn twice<'l>(bytes: &[u8], count: usize, words: &[&'l str]) -> Option<Hint<'l>>
     ensures { option_map plain_hint result ≡ twice (take count (lines_of bytes.now)) (map (λ word. word.now) words.now) }
 {
     let first = word_at(words, 0);
@@ -116,7 +116,7 @@ fn name_place(first: &str) -> usize
 
 /// Of a name that can't be one, or is no node's.
 #[tactic(auto, unfolding(crate::specs::Choices::bad_name))]
-pub fn bad_name<'l>(bytes: &[u8], count: usize, words: &[&'l str]) -> Option<Hint<'l>>
+pub(crate) fn bad_name<'l>(bytes: &[u8], count: usize, words: &[&'l str]) -> Option<Hint<'l>>
     ensures { option_map plain_hint result ≡ bad_name (take count (lines_of bytes.now)) (map (λ word. word.now) words.now) }
 {
     let first = word_at(words, 0);

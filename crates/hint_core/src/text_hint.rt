@@ -44,7 +44,7 @@ fn byte_hint(line: &[u8]) -> Option<Hint<'static>>
 
 /// Of a line that is no text.
 #[tactic(auto, unfolding(crate::specs::Choices::not_text))]
-pub fn not_text(number: u64, line: &[u8]) -> Option<Hint<'static>>
+pub(crate) fn not_text(number: u64, line: &[u8]) -> Option<Hint<'static>>
     ensures { option_map plain_hint result ≡ not_text number line.now }
 {
     if number == 1 && is_marked(line) {
@@ -67,7 +67,7 @@ fn long_word<'l>(words: &[&'l str]) -> &'l str
 
 /// Of a line that is too long, or has a word that is.
 #[tactic(auto, unfolding(crate::specs::Choices::too_long))]
-pub fn too_long<'l>(line: &[u8], words: &[&'l str]) -> Option<Hint<'l>>
+pub(crate) fn too_long<'l>(line: &[u8], words: &[&'l str]) -> Option<Hint<'l>>
     ensures { option_map plain_hint result ≡ too_long line.now (map (λ word. word.now) words.now) }
 {
     if line.len() > 4096 {

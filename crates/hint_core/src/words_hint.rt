@@ -10,7 +10,7 @@ use crate::line_words::{is_begun, is_console, is_node, word_at};
 
 /// Whether the word is one of the six that are no names.
 #[tactic(auto, unfolding(grammar_core::specs::Grammar::keyword_of))]
-pub fn is_reserved(word: &str) -> bool
+pub(crate) fn is_reserved(word: &str) -> bool
     ensures { result ≡ is_reserved word.now }
 {
     matches!(
@@ -21,7 +21,7 @@ pub fn is_reserved(word: &str) -> bool
 
 /// Of a first line that isn't `nodes`.
 #[tactic(auto, unfolding(crate::specs::Choices::no_nodes))]
-pub fn no_nodes<'l>(words: &[&'l str]) -> Option<Hint<'l>>
+pub(crate) fn no_nodes<'l>(words: &[&'l str]) -> Option<Hint<'l>>
     ensures { option_map plain_hint result ≡ no_nodes (map (λ word. word.now) words.now) }
 {
     about(
@@ -40,7 +40,7 @@ fn is_console_verb(verb: &str) -> bool
 
 /// Of a line of nobody who is named before, or without a verb that is one.
 #[tactic(auto, unfolding(crate::specs::Choices::unknown_word))]
-pub fn unknown_word<'l>(bytes: &[u8], count: usize, words: &[&'l str]) -> Option<Hint<'l>>
+pub(crate) fn unknown_word<'l>(bytes: &[u8], count: usize, words: &[&'l str]) -> Option<Hint<'l>>
     ensures { option_map plain_hint result ≡ unknown_word (take count (lines_of bytes.now)) (map (λ word. word.now) words.now) }
 {
     let first = word_at(words, 0);
@@ -68,7 +68,7 @@ pub fn unknown_word<'l>(bytes: &[u8], count: usize, words: &[&'l str]) -> Option
 
 /// Of a line with too few words, or too many.
 #[tactic(auto, unfolding(crate::specs::Choices::wrong_count))]
-pub fn wrong_count(words: &[&str]) -> Option<Hint<'static>>
+pub(crate) fn wrong_count(words: &[&str]) -> Option<Hint<'static>>
     ensures { option_map plain_hint result ≡ wrong_count (map (λ word. word.now) words.now) }
 {
     Some(Hint::Plain(form(word_at(words, 0), word_at(words, 1))))
@@ -76,7 +76,7 @@ pub fn wrong_count(words: &[&str]) -> Option<Hint<'static>>
 
 /// Of a line that is no act where acts alone are taken, and of a console's that is a node's.
 #[tactic(auto, unfolding(crate::specs::Choices::not_allowed))]
-pub fn not_allowed<'l>(words: &[&'l str]) -> Option<Hint<'l>>
+pub(crate) fn not_allowed<'l>(words: &[&'l str]) -> Option<Hint<'l>>
     ensures { option_map plain_hint result ≡ not_allowed (map (λ word. word.now) words.now) }
 {
     let first = word_at(words, 0);
@@ -109,7 +109,7 @@ fn number_place(first: &str, verb: &str) -> usize
 
 /// Of a line whose number is none.
 #[tactic(auto, unfolding(crate::specs::Choices::bad_number))]
-pub fn bad_number<'l>(words: &[&'l str]) -> Option<Hint<'l>>
+pub(crate) fn bad_number<'l>(words: &[&'l str]) -> Option<Hint<'l>>
     ensures { option_map plain_hint result ≡ bad_number (map (λ word. word.now) words.now) }
 {
     let place = number_place(word_at(words, 0), word_at(words, 1));

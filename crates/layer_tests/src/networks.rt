@@ -6,6 +6,7 @@ use bench_core::{Bench, Cluster, Limits};
 use dots_core::Dot;
 use explore_network::{ExploreFault, Explored, Outcome, Question, explore};
 use payload_core::Word;
+use progress_core::{Silent, Walked, Watch};
 use std::process::Abort;
 use test_alloc::Refusing;
 
@@ -161,7 +162,7 @@ fn explored<'a>(
 ) -> Result<Explored<'a, Heap>, ExploreFault> {
     assert!(rt; asked.is_there(bench.names().len()), "a node");
     let (lost, again) = changes;
-    explore(bench, asked, lost, again, most, heap)
+    explore(bench, asked, lost, again, most, heap, &mut Silent)
 }
 
 /// Whether the outcomes have these runs.
@@ -334,4 +335,44 @@ fn each_request_for_memory_is_refused(rt: HostRuntime) {
     explore_refused(&bench, &Question::Node(1), &heap, &rt);
     explore_refused(&bench, &Question::Cluster, &heap, &rt);
     drop(bench);
+}
+
+/// How often it was told, of how many states at last, and whether ever of fewer than before.
+#[derive(Drop)]
+struct Counting {
+    calls: u64,
+    states: usize,
+    falls: bool,
+}
+
+impl Watch<Walked> for Counting {
+    ghost use Rattle.std.specs.Prelude.{⊤};
+
+    ghost told = { λ _ _. ⊤ };
+
+    fn tell(&mut self, work: Walked) {
+        self.calls = self.calls.saturating_add(1);
+        self.falls |= work.states < self.states;
+        self.states = work.states;
+    }
+}
+
+/// A join, a broadcast, an up and a delivery, and a delivery and an up: seven times the walk stands somewhere, and the last two times it
+/// has kept what is behind the first up.
+#[test]
+fn a_watcher_is_told_how_far_the_walk_is(rt: HostRuntime) {
+    let heap = Refusing::new(rt.alloc());
+    let bench = played(UP_LATE, Limits::usual(), &heap, &rt);
+    let asked = presence(1, "x", &heap, &rt);
+    let mut watch = Counting {
+        calls: 0,
+        states: 0,
+        falls: false,
+    };
+    assert!(rt; asked.is_there(bench.names().len()), "a node");
+    let told = explore(&bench, &asked, 0, 0, 1000, &heap, &mut watch);
+    drop(asked);
+    drop(bench);
+    holds!(&rt, told.is_ok_and(|told| told.outcomes.len() == 2));
+    holds!(&rt, watch.calls == 7 && watch.states == 2 && !watch.falls);
 }

@@ -3,3 +3,4 @@ pub mod Printed
 pub mod Raced
 pub mod ImportEnds
 pub mod ShownEnds
+pub mod Told

@@ -1,5 +1,5 @@
 -- What the program prints, and how it ends.
-use Rattle.std.specs.Prelude.{◌≡◌, ◌≢◌, ◌⊎◌, ℕ, ◌+◌, ◌<◌, ◌==◌, Bool, true, false, if◌then◌else◌, List, [], ◌∷◌, length, take, ⊤, Option, None, Some, Result, Ok, Err, OnOk, IfErr, IfOk, IsOkAnd}
+use Rattle.std.specs.Prelude.{◌≡◌, ◌≢◌, ◌⊎◌, ℕ, ◌+◌, ◌<◌, ◌==◌, Bool, true, false, if◌then◌else◌, List, [], ◌∷◌, ◌++◌, length, take, codes, ⊤, Option, None, Some, Result, Ok, Err, OnOk, IfErr, IfOk, IsOkAnd}
 use Rattle.std.specs.Io.KnownBytes.{Appends, IsAtEnd, Keeps}
 use Rattle.json.specs.Word.{is_space}
 use Rattle.bench_core.specs.Limits.{Limits}
@@ -34,7 +34,9 @@ use Rattle.receipt_core.specs.declared.race_fault.RaceFault.TheVariants as races
 use Rattle.explore_report.specs.declared.question.Question.{Question as Asked}
 use Rattle.explore_report.specs.declared.report_fault.ReportFault.TheVariants as reports
 use Rattle.program_core.specs.Explored.{RefusesExplored, TellsExplored, asked_of}
-use Rattle.prompt_core.specs.Ends.{EndsEarly, printed}
+use Rattle.progress_core.specs.Lines.{TellsTried, TellsWalked}
+use Rattle.prompt_core.specs.Ends.{EndsEarly, IsRead, printed}
+use Rattle.prompt_core.specs.Signs.{Shows}
 use Rattle.prompt_core.specs.declared.prompt_fault.PromptFault.TheVariants as prompts
 use Rattle.command_line.specs.Help.{language}
 use Rattle.program_core.specs.Races.{IsRaceOf, RefusesRaceOf}
@@ -355,17 +357,59 @@ FailsAs (Err faults.ReadFault) old new = new.failed ≡ old.failed + 1
 FailsAs (Err (faults.Prompt prompts.ReadFault)) old new = new.failed ≡ old.failed + 1
 FailsAs _ old new = new.failed ≡ old.failed
 
--- beside the output nothing is told, or, of the events of logs, what was left out
+-- beside the output nothing is told; or, of the events of logs, what was left out, and of long work, how far it has come
 abbrev pub TellsAside : Subcommand → Option (List ℕ) → Option (List ℕ) → Option (List ℕ) → Type 0
 TellsAside (Import check lines lenient) input old new = TellsLeft lenient input old new
 TellsAside (Play strict) input old new = Keeps old new
 TellsAside Race input old new = Keeps old new
 TellsAside (Load strict) input old new = Keeps old new
-TellsAside (Explore about lost again states outcome) input old new = Keeps old new
+TellsAside (Explore about lost again states outcome) input old new = TellsWalked old new
 TellsAside Step input old new = Keeps old new
 TellsAside (Draw why) input old new = Keeps old new
 TellsAside (Explain question) input old new = Keeps old new
-TellsAside (Whatif question change) input old new = Keeps old new
+TellsAside (Whatif question change) input old new = TellsTried old new
+
+-- the word that chooses a command
+abbrev pub word_of : Subcommand → List ℕ
+word_of (Play strict) = codes "play"
+word_of Race = codes "race"
+word_of (Load strict) = codes "load"
+word_of (Import check lines lenient) = codes "import"
+word_of (Explore about lost again states outcome) = codes "explore"
+word_of Step = codes "step"
+word_of (Draw why) = codes "draw"
+word_of (Explain question) = codes "explain"
+word_of (Whatif question change) = codes "whatif"
+
+-- `presence_bench: reads standard input: presence_bench COMMAND < FILE`
+unfoldable pub input_line : Subcommand → List ℕ
+input_line command = codes "presence_bench: reads standard input: presence_bench " ++ word_of command ++ codes " < FILE\n"
+
+-- a beginning of that line went out
+abbrev pub TellsInput : Subcommand → Option (List ℕ) → Option (List ℕ) → Type 0
+TellsInput command old new = (count : ℕ) × Appends old new (take count (input_line command))
+
+-- it did, where the input is a terminal, and the command isn't a prompt
+abbrev pub Announces : Bool → Subcommand → Option (List ℕ) → Option (List ℕ) → Type 0
+Announces false command old new = new ≡ old
+Announces true Step old new = new ≡ old
+Announces true command old new = TellsInput command old new
+
+-- what is told behind it: at a prompt on a terminal the signs
+abbrev pub TellsOn : Bool → Limits → Subcommand → Option (List ℕ) → Option (List ℕ) → Option (List ℕ) → Type 0
+TellsOn terminal limits Step input old new = Shows terminal language limits input old new
+TellsOn terminal limits command input old new = TellsAside command input old new
+
+-- all that is told beside the output
+abbrev pub TellsBeside : Bool → Limits → Subcommand → Option (List ℕ) → Option (List ℕ) → Option (List ℕ) → Type 0
+TellsBeside false limits command input old new = TellsAside command input old new
+TellsBeside true limits Step input old new = Shows true language limits input old new
+TellsBeside true limits command input old new = (middle : Option (List ℕ)) × TellsInput command old middle × TellsAside command input middle new
+
+-- the input was read to its end; at a prompt, or up to a line that ends it
+abbrev pub IsReadBy : Subcommand → Option (List ℕ) → Option (List ℕ) → Type 0
+IsReadBy Step input left = IsRead input left
+IsReadBy _ input left = IsAtEnd left
 
 -- the status is that of an answer by which the choice may end on the input, with what is left of the input, what went out, and
 -- how often the input was read
@@ -374,7 +418,7 @@ pub record Exits (choice : Choice) (input left : Option (List ℕ)) (limits : Li
   pub answer : Result (Unit {0}) Fault
   pub status_is : status ≡ status_of answer
   pub ends : EndsAt choice.command choice.form limits input answer old new
-  pub read : OnOk answer (IsAtEnd left)
+  pub read : OnOk answer (IsReadBy choice.command input left)
   pub unwritten : IfErr answer (λ fault. KeepsBefore fault old new)
   pub memory : IfErr answer TellsMemory
   pub early : EndsSoon choice.command limits answer input left old new
@@ -404,3 +448,8 @@ EndsProgram words input left limits status old new before after =
 -- a program that ends well told nothing beside its output; or its words choose what may be told
 abbrev pub IsQuiet : List (List ℕ) → Option (List ℕ) → Option (List ℕ) → Option (List ℕ) → Type 0
 IsQuiet words input old new = Keeps old new ⊎ ((choice : Choice) × Chooses words choice × TellsAside choice.command input old new)
+
+-- the same of a program on a terminal, or not
+abbrev pub IsQuietOn : Bool → Limits → List (List ℕ) → Option (List ℕ) → Option (List ℕ) → Option (List ℕ) → Type 0
+IsQuietOn terminal limits words input old new =
+    Keeps old new ⊎ ((choice : Choice) × Chooses words choice × TellsBeside terminal limits choice.command input old new)

@@ -1,9 +1,11 @@
 //! What the network could have made of the steps of a bench.
 ghost use Rattle.std.specs.Prelude.{◌≡◌, IfErr, IfOk, string_bytes};
 ghost use Rattle.program_core.specs.Explored.{RefusesExplored, TellsExplored, about_of, asked_of};
+ghost use Rattle.progress_core.specs.Watches.{Watched};
 
 use bench_core::Bench;
 use explore_report::{About, Question, ReportFault, explore_asked, run_of_outcome};
+use progress_core::{Walked, Watch};
 use std::alloc::Allocator;
 
 /// What was chosen to be asked.
@@ -37,17 +39,19 @@ pub fn asked_of<'w>(
 }
 
 /// The outcomes of what the network could have done; where there is the number of one, a run that leads there, as a script.
-pub fn tell_explored<'a, B: Allocator>(
+pub fn tell_explored<'a, B: Allocator, W: Watch<Walked>>(
     alloc: &'a B,
     bench: &Bench<'a, B>,
     question: Question<'_>,
     outcome: Option<u64>,
+    watch: &mut W,
 ) -> Result<String<&'a B>, ReportFault>
     ensures told { IfOk result (λ text. TellsExplored bench.now question.entry outcome (string_bytes text)) }
     ensures refused { IfErr result (RefusesExplored bench.now question.entry outcome) }
+    ensures watched { Watched W.told watch.old watch.new }
 {
     match outcome {
-        None => explore_asked(alloc, bench, question),
-        Some(number) => run_of_outcome(alloc, bench, question, number),
+        None => explore_asked(alloc, bench, question, watch),
+        Some(number) => run_of_outcome(alloc, bench, question, number, watch),
     }
 }

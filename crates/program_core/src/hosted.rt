@@ -2,8 +2,9 @@
 ghost use Rattle.std.specs.Prelude.{◌≡◌, ℕ};
 ghost use Rattle.std.specs.Process.{exit_status};
 
-use crate::status::{program, want_of_memory};
-use std::io::Write;
+use crate::status::{program_within, want_of_memory};
+use bench_core::Limits;
+use std::io::{IsTerminal, Write};
 use std::marker::Model;
 use std::process::{ExitCode, Termination};
 use std::sync::Wait;
@@ -38,7 +39,7 @@ pub fn run<T: Threads + Wait + Sync>(rt: &HostRuntime, threads: &T) -> Ended {
     }
 }
 
-/// The status of `program`. Words that can't be read choose nothing, and are told.
+/// The status of the program. Words that can't be read choose nothing, and are told.
 fn status<T: Threads + Wait + Sync>(rt: &HostRuntime, threads: &T) -> u8 {
     let mut errors = rt.stderr();
     let words = match env::args(rt) {
@@ -54,8 +55,9 @@ fn status<T: Threads + Wait + Sync>(rt: &HostRuntime, threads: &T) -> u8 {
     let Ok(words) = words.skip(1).collect::<Vec<String>>(rt.alloc()) else {
         return want_of_memory(&mut errors);
     };
+    let terminal = rt.stdin().is_terminal();
     let mut output = io::writer(rt);
-    program(
+    program_within(
         threads,
         rt.alloc(),
         &rt.alloc(),
@@ -63,5 +65,8 @@ fn status<T: Threads + Wait + Sync>(rt: &HostRuntime, threads: &T) -> u8 {
         &mut rt.reader(),
         &mut output,
         &mut errors,
+        Limits::usual(),
+        terminal,
+        rt,
     )
 }

@@ -4,7 +4,8 @@ ghost use Rattle.std.specs.Io.KnownBytes.{IsAtEnd};
 ghost use Rattle.command_line.specs.declared.chosen.Form.{Form};
 ghost use Rattle.command_line.specs.declared.chosen.Form.TheVariants as forms;
 ghost use Rattle.command_line.specs.declared.chosen.Subcommand.TheVariants as subcommands;
-ghost use Rattle.program_core.specs.Program.{EndsAt, EndsAsText, EndsSoon, FailsAs, KeepsBefore, TellsAside, TellsMemory, question_of};
+ghost use Rattle.progress_core.specs.Lines.{TellsTried, TellsWalked};
+ghost use Rattle.program_core.specs.Program.{EndsAt, EndsAsText, EndsSoon, FailsAs, IsReadBy, KeepsBefore, TellsMemory, TellsOn, question_of};
 
 use crate::aside::Aside;
 use crate::exploring::{asked_of, tell_explored};
@@ -20,12 +21,14 @@ use bench_core::Limits;
 use command_line::{About, Choice, Form, Subcommand};
 use explain_core::{Question, explain_asked};
 use picture_core::draw;
+use progress_core::Teller;
 use script_core::{Steps, report_history, write_out};
 use std::alloc::{Allocator, Global};
 use std::io::{Read, Write};
 use std::sync::Wait;
 use std::sync::ledger::Ledger;
 use std::thread::Threads;
+use std::time::Clock;
 
 /// Writes the text.
 pub(crate) fn print<W: Write>(writer: &mut W, text: &[u8]) -> Result<(), Fault>
@@ -164,8 +167,9 @@ fn explain_bench<B: Allocator, R: Read, W: Write, L: Ledger>(
     print(writer, text.as_bytes())
 }
 
-/// What would have made a difference to presences at a node of the bench that the input gives, or the run with one change.
-fn tell_changes<B: Allocator, R: Read, W: Write, L: Ledger>(
+/// What would have made a difference to presences at a node of the bench that the input gives, or the run with one change. Lines on
+/// `errors` tell how many changes were tried.
+fn tell_changes<B: Allocator, R: Read, W: Write, L: Ledger, C: Clock, E: Write>(
     heap: Global,
     alloc: &B,
     reader: &mut R,
@@ -176,15 +180,19 @@ fn tell_changes<B: Allocator, R: Read, W: Write, L: Ledger>(
     change: Option<u64>,
     aside: &mut Aside,
     steps: &mut Steps<L>,
+    clock: &C,
+    errors: &mut E,
 ) -> Result<(), Fault>
     ensures ends { EndsAt (subcommands.Whatif question.entry change) form limits (R.remaining reader.old) result (W.contents writer.old) (W.contents writer.new) }
     ensures read { OnOk result (IsAtEnd (R.remaining reader.new)) }
     ensures unwritten { IfErr result (λ fault. KeepsBefore fault (W.contents writer.old) (W.contents writer.new)) }
     ensures memory { IfErr result TellsMemory }
     ensures failed { FailsAs result steps.old steps.new }
+    ensures progress { TellsTried (E.contents errors.old) (E.contents errors.new) }
 {
     let bench = read_bench(heap, alloc, reader, limits, aside, steps)?;
-    let told = tell_whatif(alloc, &bench, question, change);
+    let mut teller = Teller::new(heap, clock, errors);
+    let told = tell_whatif(alloc, &bench, question, change, &mut teller);
     drop(bench);
     let text = match told {
         Ok(text) => text,
@@ -193,8 +201,9 @@ fn tell_changes<B: Allocator, R: Read, W: Write, L: Ledger>(
     print(writer, text.as_bytes())
 }
 
-/// What the network could have made of the bench that the input gives, or a run of one outcome.
-fn explore_bench<B: Allocator, R: Read, W: Write, L: Ledger>(
+/// What the network could have made of the bench that the input gives, or a run of one outcome. Lines on `errors` tell how far the
+/// walk has come.
+fn explore_bench<B: Allocator, R: Read, W: Write, L: Ledger, C: Clock, E: Write>(
     heap: Global,
     alloc: &B,
     reader: &mut R,
@@ -208,16 +217,20 @@ fn explore_bench<B: Allocator, R: Read, W: Write, L: Ledger>(
     outcome: Option<u64>,
     aside: &mut Aside,
     steps: &mut Steps<L>,
+    clock: &C,
+    errors: &mut E,
 ) -> Result<(), Fault>
     ensures ends { EndsAt (subcommands.Explore about.entry lost again states outcome) form limits (R.remaining reader.old) result (W.contents writer.old) (W.contents writer.new) }
     ensures read { OnOk result (IsAtEnd (R.remaining reader.new)) }
     ensures unwritten { IfErr result (λ fault. KeepsBefore fault (W.contents writer.old) (W.contents writer.new)) }
     ensures memory { IfErr result TellsMemory }
     ensures failed { FailsAs result steps.old steps.new }
+    ensures progress { TellsWalked (E.contents errors.old) (E.contents errors.new) }
 {
     let bench = read_bench(heap, alloc, reader, limits, aside, steps)?;
     let question = asked_of(about, lost, again, states);
-    let told = tell_explored(alloc, &bench, question, outcome);
+    let mut teller = Teller::new(heap, clock, errors);
+    let told = tell_explored(alloc, &bench, question, outcome, &mut teller);
     drop(bench);
     let text = match told {
         Ok(text) => text,
@@ -229,7 +242,7 @@ fn explore_bench<B: Allocator, R: Read, W: Write, L: Ledger>(
 /// Reads the whole input, plays it as was chosen, and then prints; nothing is written before the whole text stands, but at a
 /// prompt, where each line is answered before the next is read. Limits are those of a script's bench; a session has its own.
 /// JSON takes its memory from `heap`, and all else from `alloc`. `steps` counts the calls of `read`. Nothing is told on `errors` but
-/// what is left out of the events of logs.
+/// what is left out of the events of logs, at a prompt on a terminal its signs, and how far long work has come.
 pub fn answer<
     B: Allocator + Sync,
     T: Threads + Wait + Sync,
@@ -237,6 +250,7 @@ pub fn answer<
     W: Write,
     E: Write,
     L: Ledger,
+    C: Clock,
 >(
     rt: &T,
     heap: Global,
@@ -246,16 +260,18 @@ pub fn answer<
     writer: &mut W,
     errors: &mut E,
     limits: Limits,
+    terminal: bool,
     aside: &mut Aside,
     steps: &mut Steps<L>,
+    clock: &C,
 ) -> Result<(), Fault>
     ensures ends { EndsAt choice.entry.command choice.entry.form limits (R.remaining reader.old) result (W.contents writer.old) (W.contents writer.new) }
-    ensures read { OnOk result (IsAtEnd (R.remaining reader.new)) }
+    ensures read { OnOk result (IsReadBy choice.entry.command (R.remaining reader.old) (R.remaining reader.new)) }
     ensures unwritten { IfErr result (λ fault. KeepsBefore fault (W.contents writer.old) (W.contents writer.new)) }
     ensures memory { IfErr result TellsMemory }
     ensures failed { FailsAs result steps.old steps.new }
     ensures early { EndsSoon choice.entry.command limits result (R.remaining reader.old) (R.remaining reader.new) (W.contents writer.old) (W.contents writer.new) }
-    ensures aside { TellsAside choice.entry.command (R.remaining reader.old) (E.contents errors.old) (E.contents errors.new) }
+    ensures aside { TellsOn terminal limits choice.entry.command (R.remaining reader.old) (E.contents errors.old) (E.contents errors.new) }
 {
     match (choice.command, choice.form) {
         (Subcommand::Play { strict }, form) => play_shown(
@@ -280,7 +296,9 @@ pub fn answer<
         ) => import_events(
             heap, alloc, reader, writer, errors, limits, check, lines, lenient, form, steps,
         ),
-        (Subcommand::Step, _) => step_script(heap, alloc, reader, writer, limits, steps),
+        (Subcommand::Step, _) => step_script(
+            heap, alloc, reader, writer, errors, limits, terminal, steps,
+        ),
         (
             Subcommand::Explore {
                 about,
@@ -292,7 +310,7 @@ pub fn answer<
             form,
         ) => explore_bench(
             heap, alloc, reader, writer, limits, form, about, lost, again, states, outcome, aside,
-            steps,
+            steps, clock, errors,
         ),
         (Subcommand::Draw { why }, form) => draw_bench(
             heap, alloc, reader, writer, limits, form, why, aside, steps,
@@ -301,7 +319,8 @@ pub fn answer<
             heap, alloc, reader, writer, limits, form, question, aside, steps,
         ),
         (Subcommand::Whatif { question, change }, form) => tell_changes(
-            heap, alloc, reader, writer, limits, form, question, change, aside, steps,
+            heap, alloc, reader, writer, limits, form, question, change, aside, steps, clock,
+            errors,
         ),
     }
 }

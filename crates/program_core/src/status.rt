@@ -1,8 +1,8 @@
-//! `program`: from the words to the status, with the streams lent.
-ghost use Rattle.std.specs.Prelude.{◌≡◌, map};
+//! `program`: from the words to the status, with the streams and the clock lent.
+ghost use Rattle.std.specs.Prelude.{◌≡◌, IfErr, IfOk, OnOk, map, string_bytes};
 ghost use Rattle.std.specs.Io.KnownBytes.{Keeps};
 ghost use Rattle.clap.specs.Words.{kind_of};
-ghost use Rattle.program_core.specs.Program.{status_of, EndsProgram, EndsRefused, Exits, IsQuiet, PrintsHelp, TellsAside, usual};
+ghost use Rattle.program_core.specs.Program.{status_of, Announces, EndsAt, EndsProgram, EndsRefused, EndsSoon, Exits, FailsAs, IsQuiet, IsQuietOn, IsReadBy, KeepsBefore, PrintsHelp, TellsMemory, TellsBeside, TellsInput, input_line, usual, word_of};
 ghost use Rattle.stream_core.specs.Steps.{Steps as Count};
 
 use crate::aside::Aside;
@@ -10,9 +10,10 @@ use crate::fault::Fault;
 use crate::printing::answer;
 use bench_core::Limits;
 use clap::error::ErrorKind;
-use command_line::{Choice, choice};
+use command_line::{Choice, Subcommand, choice};
 use import_core::{FaultKind, ImportFault};
-use script_core::Steps;
+use payload_core::Oom;
+use script_core::{Steps, write_out};
 use std::alloc::{Allocator, Global};
 use std::convert::AsStr;
 use std::io::{Read, Write};
@@ -20,6 +21,7 @@ use std::marker::Brand;
 use std::sync::Wait;
 use std::sync::ledger::{Blank, Ledger};
 use std::thread::Threads;
+use std::time::Clock;
 
 /// The status of an answer.
 fn status_of(answer: Result<(), Fault>) -> u8
@@ -47,15 +49,64 @@ fn tell<E: Write>(fault: Fault, errors: &mut E) {
     }
 }
 
-/// Does what was chosen, and gives the status. A fault goes as one line to the errors, and behind it a hint where there is one,
-/// where these can be written.
-fn run_choice<
+/// The word that chooses a command.
+fn word_of(command: Subcommand<'_>) -> &'static str
+    ensures { result.now ≡ word_of command.entry }
+{
+    match command {
+        Subcommand::Play { .. } => "play",
+        Subcommand::Race => "race",
+        Subcommand::Load { .. } => "load",
+        Subcommand::Import { .. } => "import",
+        Subcommand::Explore { .. } => "explore",
+        Subcommand::Step => "step",
+        Subcommand::Draw { .. } => "draw",
+        Subcommand::Explain(_) => "explain",
+        Subcommand::Whatif { .. } => "whatif",
+    }
+}
+
+/// That the command reads standard input.
+#[tactic(auto, unfolding(crate::specs::Program::input_line))]
+fn input_line(heap: Global, command: Subcommand<'_>) -> Result<String, Oom>
+    ensures { IfOk result (λ line. string_bytes line ≡ input_line command.entry) }
+{
+    let word = word_of(command);
+    Ok(format!(in heap; "presence_bench: reads standard input: presence_bench {word} < FILE\n")?)
+}
+
+/// Tells that the command reads standard input, which is a terminal, where that can be written.
+fn tell_input<E: Write>(heap: Global, command: Subcommand<'_>, errors: &mut E)
+    ensures { TellsInput command.entry (E.contents errors.old) (E.contents errors.new) }
+{
+    let Ok(line) = input_line(heap, command) else {
+        return;
+    };
+    let _ = write_out(errors, line.as_bytes());
+}
+
+/// Tells it, where the input is a terminal and the command isn't a prompt.
+fn announce<E: Write>(heap: Global, command: Subcommand<'_>, errors: &mut E, terminal: bool)
+    ensures { Announces terminal command.entry (E.contents errors.old) (E.contents errors.new) }
+{
+    if !terminal {
+        return;
+    }
+    match command {
+        Subcommand::Step => {}
+        _ => tell_input(heap, command, errors),
+    }
+}
+
+/// Tells what waits for a terminal, and then does what was chosen.
+fn answer_on<
     B: Allocator + Sync,
     T: Threads + Wait + Sync,
     R: Read,
     W: Write,
     E: Write,
     L: Ledger,
+    C: Clock,
 >(
     rt: &T,
     heap: Global,
@@ -65,14 +116,54 @@ fn run_choice<
     writer: &mut W,
     errors: &mut E,
     limits: Limits,
+    terminal: bool,
+    aside: &mut Aside,
     steps: &mut Steps<L>,
+    clock: &C,
+) -> Result<(), Fault>
+    ensures ends { EndsAt choice.entry.command choice.entry.form limits (R.remaining reader.old) result (W.contents writer.old) (W.contents writer.new) }
+    ensures read { OnOk result (IsReadBy choice.entry.command (R.remaining reader.old) (R.remaining reader.new)) }
+    ensures unwritten { IfErr result (λ fault. KeepsBefore fault (W.contents writer.old) (W.contents writer.new)) }
+    ensures memory { IfErr result TellsMemory }
+    ensures failed { FailsAs result steps.old steps.new }
+    ensures early { EndsSoon choice.entry.command limits result (R.remaining reader.old) (R.remaining reader.new) (W.contents writer.old) (W.contents writer.new) }
+    ensures aside { TellsBeside terminal limits choice.entry.command (R.remaining reader.old) (E.contents errors.old) (E.contents errors.new) }
+{
+    announce(heap, choice.command, errors, terminal);
+    answer(
+        rt, heap, alloc, choice, reader, writer, errors, limits, terminal, aside, steps, clock,
+    )
+}
+
+/// Does what was chosen, and gives the status. A fault goes as one line to the errors, and behind it a hint where there is one,
+/// where these can be written.
+fn run_choice<
+    B: Allocator + Sync,
+    T: Threads + Wait + Sync,
+    R: Read,
+    W: Write,
+    E: Write,
+    L: Ledger,
+    C: Clock,
+>(
+    rt: &T,
+    heap: Global,
+    alloc: &B,
+    choice: Choice<'_>,
+    reader: &mut R,
+    writer: &mut W,
+    errors: &mut E,
+    limits: Limits,
+    terminal: bool,
+    steps: &mut Steps<L>,
+    clock: &C,
 ) -> u8
     ensures exits { Exits choice.entry (R.remaining reader.old) (R.remaining reader.new) limits result (W.contents writer.old) (W.contents writer.new) steps.old steps.new }
-    ensures aside { result ≡ 0 → TellsAside choice.entry.command (R.remaining reader.old) (E.contents errors.old) (E.contents errors.new) }
+    ensures aside { result ≡ 0 → TellsBeside terminal limits choice.entry.command (R.remaining reader.old) (E.contents errors.old) (E.contents errors.new) }
 {
     let mut aside = Aside::new(heap);
-    let answer = answer(
-        rt, heap, alloc, choice, reader, writer, errors, limits, &mut aside, steps,
+    let answer = answer_on(
+        rt, heap, alloc, choice, reader, writer, errors, limits, terminal, &mut aside, steps, clock,
     );
     if let Err(fault) = answer {
         tell(fault, errors);
@@ -126,7 +217,9 @@ fn refuse<W: Write, E: Write>(fault: &clap::Error, writer: &mut W, errors: &mut 
 }
 
 /// Does what the words after the program's name ask, on benches with these limits, and gives the status. The words and JSON are
-/// read in memory of `heap`, and all else is done in that of `alloc`. `steps` counts the calls of `read`.
+/// read in memory of `heap`, and all else is done in that of `alloc`. Where the reader is a terminal, a prompt shows its signs on
+/// `errors`, and any other command tells there what it reads. `steps` counts the calls of `read`; by `clock` long work tells at times
+/// how far it has come.
 pub fn program_counted<
     S: AsStr,
     B: Allocator + Sync,
@@ -135,6 +228,7 @@ pub fn program_counted<
     W: Write,
     E: Write,
     L: Ledger,
+    C: Clock,
 >(
     rt: &T,
     heap: Global,
@@ -144,14 +238,16 @@ pub fn program_counted<
     writer: &mut W,
     errors: &mut E,
     limits: Limits,
+    terminal: bool,
     steps: &mut Steps<L>,
+    clock: &C,
 ) -> u8
     ensures ends { EndsProgram (map S.text words.now) (R.remaining reader.old) (R.remaining reader.new) limits result (W.contents writer.old) (W.contents writer.new) steps.old steps.new }
-    ensures quiet { result ≡ 0 → IsQuiet (map S.text words.now) (R.remaining reader.old) (E.contents errors.old) (E.contents errors.new) }
+    ensures quiet { result ≡ 0 → IsQuietOn terminal limits (map S.text words.now) (R.remaining reader.old) (E.contents errors.old) (E.contents errors.new) }
 {
     match choice(heap, words) {
         Ok(choice) => run_choice(
-            rt, heap, alloc, choice, reader, writer, errors, limits, steps,
+            rt, heap, alloc, choice, reader, writer, errors, limits, terminal, steps, clock,
         ),
         Err(fault) => refuse(&fault, writer, errors),
     }
@@ -167,6 +263,7 @@ fn program_from<
     W: Write,
     E: Write,
     L: Ledger,
+    C: Clock,
 >(
     rt: &T,
     heap: Global,
@@ -176,17 +273,19 @@ fn program_from<
     writer: &mut W,
     errors: &mut E,
     limits: Limits,
+    terminal: bool,
     blank: Blank,
+    clock: &C,
 ) -> u8
     requires name { blank.name ≡ L.name }
     requires parts { blank.parts ≡ L.parts }
     requires two { blank.parts ≡ 2 }
     ensures ends { (before after : Count) × EndsProgram (map S.text words.now.now) (R.remaining reader.old) (R.remaining reader.new) limits result (W.contents writer.old) (W.contents writer.new) before after }
-    ensures quiet { result ≡ 0 → IsQuiet (map S.text words.now.now) (R.remaining reader.old) (E.contents errors.old) (E.contents errors.new) }
+    ensures quiet { result ≡ 0 → IsQuietOn terminal limits (map S.text words.now.now) (R.remaining reader.old) (E.contents errors.old) (E.contents errors.new) }
 {
     let mut steps = Steps::<L>::new(blank);
     program_counted(
-        rt, heap, alloc, *words, reader, writer, errors, limits, &mut steps,
+        rt, heap, alloc, *words, reader, writer, errors, limits, terminal, &mut steps, clock,
     )
 }
 
@@ -198,6 +297,7 @@ pub fn program_within<
     R: Read,
     W: Write,
     E: Write,
+    C: Clock,
 >(
     rt: &T,
     heap: Global,
@@ -207,11 +307,13 @@ pub fn program_within<
     writer: &mut W,
     errors: &mut E,
     limits: Limits,
+    terminal: bool,
+    clock: &C,
 ) -> u8
     ensures ends { (before after : Count) × EndsProgram (map S.text words.now) (R.remaining reader.old) (R.remaining reader.new) limits result (W.contents writer.old) (W.contents writer.new) before after }
-    ensures quiet { result ≡ 0 → IsQuiet (map S.text words.now) (R.remaining reader.old) (E.contents errors.old) (E.contents errors.new) }
+    ensures quiet { result ≡ 0 → IsQuietOn terminal limits (map S.text words.now) (R.remaining reader.old) (E.contents errors.old) (E.contents errors.new) }
 {
-    program_from::<S, B, T, R, W, E, Brand>(
+    program_from::<S, B, T, R, W, E, Brand, C>(
         rt,
         heap,
         alloc,
@@ -220,11 +322,13 @@ pub fn program_within<
         writer,
         errors,
         limits,
+        terminal,
         Blank::new(2),
+        clock,
     )
 }
 
-/// The program: `program_within` the usual limits.
+/// The program: `program_within` the usual limits, where the reader is no terminal.
 pub fn program<
     S: AsStr,
     B: Allocator + Sync,
@@ -232,6 +336,7 @@ pub fn program<
     R: Read,
     W: Write,
     E: Write,
+    C: Clock,
 >(
     rt: &T,
     heap: Global,
@@ -240,6 +345,7 @@ pub fn program<
     reader: &mut R,
     writer: &mut W,
     errors: &mut E,
+    clock: &C,
 ) -> u8
     ensures ends { (before after : Count) × EndsProgram (map S.text words.now) (R.remaining reader.old) (R.remaining reader.new) usual result (W.contents writer.old) (W.contents writer.new) before after }
     ensures quiet { result ≡ 0 → IsQuiet (map S.text words.now) (R.remaining reader.old) (E.contents errors.old) (E.contents errors.new) }
@@ -253,5 +359,7 @@ pub fn program<
         writer,
         errors,
         Limits::usual(),
+        false,
+        clock,
     )
 }

@@ -1,7 +1,8 @@
 //! A prompt from the program's input to its output.
 ghost use Rattle.std.specs.Prelude.{◌≡◌, IfErr, OnOk};
-ghost use Rattle.std.specs.Io.KnownBytes.{IsAtEnd};
 ghost use Rattle.command_line.specs.Help.{language};
+ghost use Rattle.prompt_core.specs.Ends.{IsRead};
+ghost use Rattle.prompt_core.specs.Signs.{Shows};
 ghost use Rattle.program_core.specs.Program.{EndsAt, EndsSoon, FailsAs, KeepsBefore, TellsMemory};
 ghost use Rattle.command_line.specs.declared.chosen.Form.{Form};
 ghost use Rattle.command_line.specs.declared.chosen.Subcommand.TheVariants as subcommands;
@@ -24,24 +25,37 @@ fn help() -> &'static str
     LANGUAGE
 }
 
-/// Answers the lines of a script one by one, each before the next is read.
-pub fn step_script<B: Allocator, R: Read, W: Write, L: Ledger>(
+/// Answers the lines of a script one by one, each before the next is read; on a terminal with a sign before each.
+pub fn step_script<B: Allocator, R: Read, W: Write, E: Write, L: Ledger>(
     heap: Global,
     alloc: &B,
     reader: &mut R,
     writer: &mut W,
+    errors: &mut E,
     limits: Limits,
+    terminal: bool,
     steps: &mut Steps<L>,
 ) -> Result<(), Fault>
     ensures ends { (form : Form) → EndsAt subcommands.Step form limits (R.remaining reader.old) result (W.contents writer.old) (W.contents writer.new) }
-    ensures read { OnOk result (IsAtEnd (R.remaining reader.new)) }
+    ensures read { OnOk result (IsRead (R.remaining reader.old) (R.remaining reader.new)) }
     ensures unwritten { IfErr result (λ fault. KeepsBefore fault (W.contents writer.old) (W.contents writer.new)) }
     ensures memory { IfErr result TellsMemory }
     ensures failed { FailsAs result steps.old steps.new }
     ensures early { EndsSoon subcommands.Step limits result (R.remaining reader.old) (R.remaining reader.new) (W.contents writer.old) (W.contents writer.new) }
+    ensures signs { Shows terminal language limits (R.remaining reader.old) (E.contents errors.old) (E.contents errors.new) }
 {
     report_law();
-    match step_counted(heap, alloc, reader, writer, limits, help(), steps) {
+    match step_counted(
+        heap,
+        alloc,
+        reader,
+        writer,
+        errors,
+        limits,
+        help(),
+        terminal,
+        steps,
+    ) {
         Ok(()) => Ok(()),
         Err(fault) => Err(Fault::Prompt(fault)),
     }

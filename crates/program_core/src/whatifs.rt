@@ -1,8 +1,10 @@
 //! What would have made a difference on a bench.
 ghost use Rattle.std.specs.Prelude.{◌≡◌, IfErr, IfOk, string_bytes};
 ghost use Rattle.program_core.specs.Whatifs.{RefusesWhatif, TellsWhatif, question_of};
+ghost use Rattle.progress_core.specs.Watches.{Watched};
 
 use bench_core::Bench;
+use progress_core::{Tried, Watch};
 use std::alloc::Allocator;
 use whatif_report::{Question, WhatifFault, run_with_change, whatif_asked};
 
@@ -18,17 +20,19 @@ fn question_of<'w>(chosen: command_line::Question<'w>) -> Question<'w>
 }
 
 /// The changes that would have made a difference; where there is the number of one, the run with it, as a script.
-pub fn tell_whatif<'a, B: Allocator>(
+pub fn tell_whatif<'a, B: Allocator, W: Watch<Tried>>(
     alloc: &'a B,
     bench: &Bench<'a, B>,
     question: command_line::Question<'_>,
     change: Option<u64>,
+    watch: &mut W,
 ) -> Result<String<&'a B>, WhatifFault>
     ensures told { IfOk result (λ text. TellsWhatif bench.now question.entry change (string_bytes text)) }
     ensures refused { IfErr result (RefusesWhatif bench.now question.entry change) }
+    ensures watched { Watched W.told watch.old watch.new }
 {
     match change {
-        None => whatif_asked(alloc, bench, question_of(question)),
-        Some(number) => run_with_change(alloc, bench, question_of(question), number),
+        None => whatif_asked(alloc, bench, question_of(question), watch),
+        Some(number) => run_with_change(alloc, bench, question_of(question), number, watch),
     }
 }

@@ -1,14 +1,13 @@
--- What is kept of a line has the line's answer.
-use Rattle.std.proofs.Common.{◌≡◌, ℕ, ◌<◌, ◌≤◌, nat_lt, Bool, true, false, List, [], codes, length, Err, refl, sym, ap, ◌∙◌, arith}
-use Rattle.std.proofs.lemmas.Bool.{false_from_ne_true, lt-ltb, ltb-false, ltb-true}
+-- What is kept of a line has the line's answer, and ends the prompt where the line does.
+use Rattle.std.proofs.Common.{◌≡◌, ℕ, ◌<◌, ◌≤◌, ◌==◌, ◌&&◌, nat_lt, Bool, true, false, List, [], length, Err, refl, sym, ap, ◌∙◌, arith}
+use Rattle.std.proofs.lemmas.Bool.{lt-leb, lt-ltb, ltb-false, ltb-true}
 use Rattle.std.proofs.lemmas.List.{length-take-le, take_all}
-use Rattle.std.proofs.lemmas.Slice.Eq.{bytes_eq-Decides}
-use Rattle.std.specs.Str.{bytes_eq}
 use Rattle.grammar_core.specs.Grammar.{Reading, with_line}
+use Rattle.grammar_core.specs.Words.{words_of}
 use Rattle.run_core.specs.Prompts.{Prompt, answered, taken}
 use Rattle.grammar_core.specs.declared.fault.FaultKind.TheVariants.{TooLong}
 use Rattle.prompt_core.specs.declared.stepping.TheConstants.{KEPT}
-use Rattle.prompt_core.specs.Answers.{answer, answer_by, fault_line, faulty, own_answer}
+use Rattle.prompt_core.specs.Answers.{answer, answer_by, are_quits, fault_line, is_quit, own_answer}
 use Rattle.stream_core.specs.NextLines.{kept}
 
 -- the answer to a line that is too long
@@ -21,22 +20,15 @@ not_taken : (prompt : Prompt) (line : List ℕ) → 4096 < length line → taken
 unfolding taken
 not_taken prompt line long = ap (answered prompt []) (refused (record { cast = prompt.cast; lines = [] }) 0 line long)
 
-other_word : (line word : List ℕ) → length word < length line → bytes_eq line word ≡ false
-other_word line word longer =
-    false_from_ne_true (bytes_eq line word)
-    (λ same. let is : length line ≡ length word = ap length ((bytes_eq-Decides line word).0 same) in omega arith)
-
-told : (help : List ℕ) (prompt : Prompt) (number : ℕ) (line : List ℕ) → 4096 < length line →
-    own_answer help prompt.machine number line TooLong ≡ fault_line number TooLong
-unfolding own_answer faulty
-told help prompt number line long =
-    rw (other_word line (codes ":help") (omega arith), other_word line (codes ":save") (omega arith)) refl
+told : (help : List ℕ) (prompt : Prompt) (number : ℕ) (line : List ℕ) → own_answer help prompt number line TooLong ≡ fault_line number TooLong
+unfolding own_answer
+told help prompt number line = refl
 
 long_answer : (help : List ℕ) (prompt : Prompt) (number : ℕ) (line : List ℕ) → 4096 < length line →
     answer help prompt number line ≡ (prompt, fault_line number TooLong)
 unfolding answer
 long_answer help prompt number line long =
-    ap (answer_by help prompt number line) (not_taken prompt line long) ∙ ap (λ (text : List ℕ). (prompt, text)) (told help prompt number line long)
+    ap (answer_by help prompt number line) (not_taken prompt line long) ∙ ap (λ (text : List ℕ). (prompt, text)) (told help prompt number line)
 
 -- of a line that is too long enough is kept to tell that it is
 long_kept : (line : List ℕ) → 4096 < length line → 4096 < length (kept KEPT line)
@@ -56,3 +48,17 @@ kept_answer help prompt number line = go (nat_lt 4096 (length line)) refl
         let long = ltb-true 4096 (length line) is in
         long_answer help prompt number (kept KEPT line) (long_kept line long) ∙ sym (long_answer help prompt number line long)
     go false is = ap (answer help prompt number) (short_kept line (ltb-false 4096 (length line) is))
+
+-- a line that is too long ends no prompt
+long_on : (line : List ℕ) → 4096 < length line → is_quit line ≡ false
+unfolding is_quit
+long_on line long = ap (λ (b : Bool). b && (are_quits (words_of line) && (length (words_of line) == 1))) (lt-leb (length line) 4096 long)
+
+pub kept_quit : (line : List ℕ) → is_quit (kept KEPT line) ≡ is_quit line
+kept_quit line = go (nat_lt 4096 (length line)) refl
+  where
+    go : (b : Bool) → nat_lt 4096 (length line) ≡ b → is_quit (kept KEPT line) ≡ is_quit line
+    go true is =
+        let long = ltb-true 4096 (length line) is in
+        long_on (kept KEPT line) (long_kept line long) ∙ sym (long_on line long)
+    go false is = ap is_quit (short_kept line (ltb-false 4096 (length line) is))

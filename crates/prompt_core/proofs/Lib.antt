@@ -1,5 +1,8 @@
-pub mod Kept
 pub mod Split
+pub mod Endings
+pub mod Kept
 pub mod Printed
 pub mod Texts
 pub mod Turns
+pub mod SentText
+pub mod Shown

@@ -1,5 +1,5 @@
 -- What is printed at a prompt.
-use Rattle.std.proofs.Common.{◌≡◌, ℕ, ◌+◌, List, [], ◌∷◌, ◌++◌, Option, Some, None, Result, Ok, Err, refl, sym, ap, subst, ◌∙◌, append_assoc, append-nil}
+use Rattle.std.proofs.Common.{◌≡◌, ℕ, ◌+◌, if◌then◌else◌, Bool, true, false, List, [], ◌∷◌, ◌++◌, Option, Some, None, Result, Ok, Err, refl, sym, ap, subst, ◌∙◌, append_assoc, append-nil}
 use Rattle.payload_core.specs.Answers.{◌>>=◌}
 use Rattle.bench_core.specs.Limits.{Limits}
 use Rattle.bench_core.specs.Machine.{Machine}
@@ -12,7 +12,8 @@ use Rattle.std.specs.Io.BufRead.{drop_through, first_piece}
 use Rattle.prompt_core.proofs.Split.{IsSplit, More, Last, split}
 use Rattle.run_core.specs.Prompts.{Prompt, PromptLaw, all_taken, answered, asked, new_prompt, opened, taken}
 use Rattle.run_core.specs.Report.{commands_of, commands_text, report_of}
-use Rattle.prompt_core.specs.Answers.{answer, answer_by, answers}
+use Rattle.prompt_core.specs.Answers.{answer, answer_by, answers, is_quit}
+use Rattle.prompt_core.proofs.Endings.{empty_on, taken_on}
 
 abbrev Next : Type 0
 Next = Prompt × List ℕ
@@ -49,6 +50,14 @@ answer_is : (help : List ℕ) (prompt : Prompt) (number : ℕ) (line : List ℕ)
 unfolding answer
 answer_is help prompt number line next is = ap (answer_by help prompt number line) is
 
+-- the answers to a line and those behind it, where the line doesn't end the prompt
+pub answers_on : (help : List ℕ) (prompt : Prompt) (number : ℕ) (line : List ℕ) (lines : List (List ℕ)) → is_quit line ≡ false →
+    answers help prompt number (line ∷ lines)
+    ≡ (answer help prompt number line).1 ++ answers help (answer help prompt number line).0 (number + 1) lines
+unfolding answers
+answers_on help prompt number line lines on =
+    ap (λ (b : Bool). if b then [] else (answer help prompt number line).1 ++ answers help (answer help prompt number line).0 (number + 1) lines) on
+
 none_answered : (help : List ℕ) (prompt : Prompt) (number : ℕ) (text : List ℕ) (last : Next) → all_taken prompt text [] ≡ Ok last →
     text ++ answers help prompt number [] ≡ last.1
 unfolding all_taken answers
@@ -58,11 +67,11 @@ none_answered help prompt number text last is =
 one_answered : (help : List ℕ) (prompt : Prompt) (number : ℕ) (text line : List ℕ) (lines : List (List ℕ)) (next : Next) (end : List ℕ) →
     taken prompt text line ≡ Ok next → next.1 ++ answers help next.0 (number + 1) lines ≡ end
     → text ++ answers help prompt number (line ∷ lines) ≡ end
-unfolding answers
 one_answered help prompt number text line lines next end is rest =
     let prints = taken_prints prompt text line next is in
     let here : answer help prompt number line ≡ (next.0, prints.printed) = answer_is help prompt number line (next.0, prints.printed) prints.alone in
-    ap (λ (n : Next). text ++ (n.1 ++ answers help n.0 (number + 1) lines)) here
+    ap (λ t. text ++ t) (answers_on help prompt number line lines (taken_on prompt text line next is))
+    ∙ ap (λ (n : Next). text ++ (n.1 ++ answers help n.0 (number + 1) lines)) here
     ∙ sym (append_assoc text prints.printed (answers help next.0 (number + 1) lines))
     ∙ ap (λ t. t ++ answers help next.0 (number + 1) lines) (sym prints.behind) ∙ rest
 
@@ -100,20 +109,22 @@ blank help prompt number = blank_by prompt.limits prompt.cast (opened prompt.lim
 
 pub none_left : (help : List ℕ) (prompt : Prompt) (number : ℕ) → answers help prompt number (lines_of []) ≡ []
 unfolding answers
-none_left help prompt number = ap (λ t. t ++ []) (blank help prompt number)
+none_left help prompt number = answers_on help prompt number [] [] empty_on ∙ ap (λ t. t ++ []) (blank help prompt number)
 
 -- the first line of what is left, and then the rest
 pub next_answered : (help : List ℕ) (prompt : Prompt) (number : ℕ) (left : List ℕ) →
     answers help prompt number (lines_of left)
-    ≡ (answer help prompt number (first_piece 10 left)).1 ++ answers help (answer help prompt number (first_piece 10 left)).0 (number + 1) (lines_of (drop_through 10 left))
+    ≡ (if is_quit (first_piece 10 left) then []
+    else (answer help prompt number (first_piece 10 left)).1 ++ answers help (answer help prompt number (first_piece 10 left)).0 (number + 1) (lines_of (drop_through 10 left)))
 unfolding answers
 next_answered help prompt number left = go (split left)
   where
     go : IsSplit left → answers help prompt number (lines_of left)
-        ≡ (answer help prompt number (first_piece 10 left)).1 ++ answers help (answer help prompt number (first_piece 10 left)).0 (number + 1) (lines_of (drop_through 10 left))
+        ≡ (if is_quit (first_piece 10 left) then []
+        else (answer help prompt number (first_piece 10 left)).1 ++ answers help (answer help prompt number (first_piece 10 left)).0 (number + 1) (lines_of (drop_through 10 left)))
     go (More e) = ap (answers help prompt number) e
     go (Last e none) =
         ap (answers help prompt number) e
-        ∙ ap (λ t. (answer help prompt number (first_piece 10 left)).1 ++ t)
+        ∙ ap (λ t. if is_quit (first_piece 10 left) then [] else (answer help prompt number (first_piece 10 left)).1 ++ t)
         (sym (ap (λ (l : List ℕ). answers help (answer help prompt number (first_piece 10 left)).0 (number + 1) (lines_of l)) none
         ∙ none_left help (answer help prompt number (first_piece 10 left)).0 (number + 1)))

@@ -1,10 +1,10 @@
 -- A turn of a prompt: a line is taken in, and its answer goes out.
-use Rattle.std.proofs.Common.{◌≡◌, ℕ, ◌+◌, ◌-◌, ◌^◌, ◌<◌, ◌≤◌, List, [], ◌++◌, length, take, drop, Option, Some, None, Result, Ok, Err, IfOk, ◌≢◌, refl, sym, ap, ap₂, ◌∙◌, subst, append_assoc, append-nil, arith}
+use Rattle.std.proofs.Common.{◌≡◌, ℕ, ◌+◌, ◌-◌, ◌^◌, ◌<◌, ◌≤◌, if◌then◌else◌, Bool, true, false, List, [], ◌∷◌, ◌++◌, length, take, drop, Option, Some, None, Result, Ok, Err, IfOk, ◌≢◌, refl, sym, ap, ap₂, ◌∙◌, subst, append_assoc, append-nil, arith}
 use Rattle.std.proofs.KnownBytes.{Appends-nil, Appends-trans}
 use Rattle.std.proofs.Math.Seq.{take-append_seam}
 use Rattle.std.proofs.lemmas.List.{length-append, take-append-drop}
 use Rattle.std.proofs.lemmas.List.Elements.{All-nil, All-take}
-use Rattle.std.specs.List.{All}
+use Rattle.std.specs.List.{All, list_any}
 use Rattle.std.specs.Io.{StartsWith, StopsAt}
 use Rattle.std.specs.Io.BufRead.{drop_through, first_piece, take_through}
 use Rattle.std.specs.Io.KnownBytes.{Appends}
@@ -15,17 +15,18 @@ use Rattle.run_core.specs.Report.{report_of}
 use Rattle.grammar_core.specs.Scripts.{Script}
 use Rattle.grammar_core.specs.declared.fault.ScriptFault.{ScriptFault}
 use Rattle.grammar_core.specs.Words.{lines_of}
-use Rattle.prompt_core.specs.Answers.{answer, answers}
+use Rattle.prompt_core.specs.Answers.{answer, answers, is_quit}
 use Rattle.stream_core.specs.NextLines.{IsEndless, IsNext, TakesLine, TakesPart, kept}
 use Rattle.stream_core.specs.Steps.{FailsAs as InputFailsAs, Steps}
-use Rattle.prompt_core.specs.Ends.{Answers, EndsEarly, FailsAs, IsCutShort, ReportLaw, Reports, of_input, printed}
+use Rattle.prompt_core.specs.Ends.{Answers, EndsEarly, FailsAs, HasNoQuit, IsCutShort, IsRead, ReportLaw, Reports, of_input, printed, unread}
 use Rattle.prompt_core.specs.declared.stepping.TheConstants.{KEPT}
 use Rattle.prompt_core.specs.declared.prompt_fault.PromptFault.{PromptFault}
 use Rattle.prompt_core.specs.declared.prompt_fault.PromptFault.TheVariants as prompts
 use Rattle.prompt_core.specs.declared.prompt_fault.PromptFault.TheVariants.{ReadFault, WriteFault}
 use Rattle.stream_core.specs.declared.stream_fault.InputFault.{InputFault}
 use Rattle.stream_core.specs.declared.stream_fault.InputFault.TheVariants as inputs
-use Rattle.prompt_core.proofs.Kept.{kept_answer}
+use Rattle.prompt_core.proofs.Endings.{next_quits, none_quits, quits, unread_ended, unread_none, unread_on}
+use Rattle.prompt_core.proofs.Kept.{kept_answer, kept_quit}
 use Rattle.stream_core.proofs.Pieces.{first_stays, is_line, rest_stays, some_taken, taken_whole}
 use Rattle.prompt_core.proofs.Printed.{next_answered, none_left}
 
@@ -44,6 +45,8 @@ pub record HasCome (help : List ℕ) (limits : Limits) (input left : List ℕ) (
   pub out : Appends old new text
   pub counted : number ≤ length answered + 1
   pub goes_on : (more behind : List ℕ) → left ≡ more ++ behind → printed help limits (answered ++ more) ≡ text ++ answers help prompt number (lines_of more)
+  pub unended : (more behind : List ℕ) → left ≡ more ++ behind → quits (answered ++ more) ≡ quits more
+  pub unread_is : unread input ≡ unread left
 
 -- the same, where the reader's bytes are known
 abbrev pub HasComeSo : List ℕ → Limits → Option (List ℕ) → Option (List ℕ) → Prompt → ℕ → Option (List ℕ) → Option (List ℕ) → Type 0
@@ -53,18 +56,30 @@ HasComeSo help limits (Some input) (Some left) prompt number old new = HasCome h
 
 -- the lines of an input of which no more than these are left
 next_first : (help : List ℕ) (prompt : Prompt) (number : ℕ) (left more behind : List ℕ) → drop_through 10 left ≡ more ++ behind →
+    is_quit (first_piece 10 left) ≡ false →
     answers help prompt number (lines_of (take_through 10 left ++ more))
     ≡ (answer help prompt number (first_piece 10 left)).1 ++ answers help (answer help prompt number (first_piece 10 left)).0 (number + 1) (lines_of more)
-next_first help prompt number left more behind is =
+next_first help prompt number left more behind is on =
     next_answered help prompt number (take_through 10 left ++ more)
-    ∙ ap₂ (λ (l m : List ℕ). (answer help prompt number l).1 ++ answers help (answer help prompt number l).0 (number + 1) (lines_of m))
+    ∙ ap₂ (λ (l m : List ℕ). if is_quit l then [] else (answer help prompt number l).1 ++ answers help (answer help prompt number l).0 (number + 1) (lines_of m))
     (first_stays left more behind is) (rest_stays left more behind is)
+    ∙ ap (λ (b : Bool). if b then []
+    else (answer help prompt number (first_piece 10 left)).1 ++ answers help (answer help prompt number (first_piece 10 left)).0 (number + 1) (lines_of more)) on
 
 module _ (help : List ℕ) (limits : Limits) where
   -- before the first line
   pub begins : (input old : Option (List ℕ)) → HasComeSo help limits input input (new_prompt limits) 1 old old
   begins None old = tt
-  begins (Some input) old = record { answered = []; text = []; taken = refl; out = Appends-nil old; counted = omega arith; goes_on = λ more behind is. refl }
+  begins (Some input) old = record {
+    answered = [];
+    text = [];
+    taken = refl;
+    out = Appends-nil old;
+    counted = omega arith;
+    goes_on = λ more behind is. refl;
+    unended = λ more behind is. refl;
+    unread_is = refl;
+  }
 
   -- what went out is what is printed of what was answered
   module _ (input left : List ℕ) (prompt : Prompt) (number : ℕ) (old new : Option (List ℕ)) where
@@ -73,11 +88,27 @@ module _ (help : List ℕ) (limits : Limits) where
         ap (printed help limits) (sym (append-nil come.answered)) ∙ come.goes_on [] left refl
         ∙ ap (λ (t : List ℕ). come.text ++ t) (none_left help prompt number) ∙ append-nil come.text
 
+    -- and no line of it ends the prompt
+    unended_is : (come : HasCome help limits input left prompt number old new) → HasNoQuit come.answered
+    unended_is come = ap quits (sym (append-nil come.answered)) ∙ come.unended [] left refl ∙ none_quits
+
     -- an input that is at its end is answered
     end : HasCome help limits input left prompt number old new → left ≡ [] → Appends old new (printed help limits input)
     end come none =
         let all : input ≡ come.answered = come.taken ∙ ap (λ (l : List ℕ). come.answered ++ l) none ∙ append-nil come.answered in
         appends_as old new come.text (printed help limits input) (sym (ap (printed help limits) all ∙ text_is come)) come.out
+
+    -- one whose next line ends the prompt
+    end_by : HasCome help limits input left prompt number old new → is_quit (first_piece 10 left) ≡ true → Appends old new (printed help limits input)
+    end_by come ends =
+        let none : answers help prompt number (lines_of left) ≡ [] =
+        next_answered help prompt number left
+        ∙ ap (λ (b : Bool). if b then []
+        else (answer help prompt number (first_piece 10 left)).1
+        ++ answers help (answer help prompt number (first_piece 10 left)).0 (number + 1) (lines_of (drop_through 10 left))) ends in
+        appends_as old new come.text (printed help limits input)
+        (sym (ap (printed help limits) come.taken ∙ come.goes_on left [] (sym (append-nil left)) ∙ ap (λ (t : List ℕ). come.text ++ t) none ∙ append-nil come.text))
+        come.out
 
     -- no more than a line was taken in
     cut : (fault : PromptFault) (last rest : List ℕ) → HasCome help limits input left prompt number old new → left ≡ last ++ rest →
@@ -96,6 +127,7 @@ module _ (help : List ℕ) (limits : Limits) where
               (come.goes_on last rest is ∙ ap (λ (t : List ℕ). t ++ answers help prompt number (lines_of last)) out_is);
           unwritten = λ other. refl;
           within_line = within;
+          unended = unended_is come;
         }
 
   -- a line was taken in
@@ -104,9 +136,9 @@ module _ (help : List ℕ) (limits : Limits) where
     here = answer help prompt number (first_piece 10 left)
 
     -- and its answer went out
-    turn : left ≢ [] → (after : Prompt) → HasCome help limits input left prompt number old middle → text ≡ here.1 → after ≡ here.0 →
-        Appends middle new text → HasCome help limits input (drop_through 10 left) after (number + 1) old new
-    turn some after come text_is_so after_is out =
+    turn : left ≢ [] → is_quit (first_piece 10 left) ≡ false → (after : Prompt) → HasCome help limits input left prompt number old middle →
+        text ≡ here.1 → after ≡ here.0 → Appends middle new text → HasCome help limits input (drop_through 10 left) after (number + 1) old new
+    turn some on after come text_is_so after_is out =
         record {
           answered = come.answered ++ take_through 10 left;
           text = come.text ++ text;
@@ -121,15 +153,21 @@ module _ (help : List ℕ) (limits : Limits) where
               ap (printed help limits) (append_assoc come.answered (take_through 10 left) more)
               ∙ come.goes_on (take_through 10 left ++ more) behind
               (sym (taken_whole left) ∙ ap (λ (l : List ℕ). take_through 10 left ++ l) is ∙ sym (append_assoc (take_through 10 left) more behind))
-              ∙ ap (λ (t : List ℕ). come.text ++ t) (next_first help prompt number left more behind is)
+              ∙ ap (λ (t : List ℕ). come.text ++ t) (next_first help prompt number left more behind is on)
               ∙ ap₂ (λ (t : List ℕ) (p : Prompt). come.text ++ (t ++ answers help p (number + 1) (lines_of more))) (sym text_is_so) (sym after_is)
               ∙ sym (append_assoc come.text text (answers help after (number + 1) (lines_of more)));
+          unended = λ more behind is.
+              ap quits (append_assoc come.answered (take_through 10 left) more)
+              ∙ come.unended (take_through 10 left ++ more) behind
+              (sym (taken_whole left) ∙ ap (λ (l : List ℕ). take_through 10 left ++ l) is ∙ sym (append_assoc (take_through 10 left) more behind))
+              ∙ next_quits left more behind is on;
+          unread_is = come.unread_is ∙ unread_on left on;
         }
 
     -- and a beginning of its answer went out
-    cut_part : (count : ℕ) → HasCome help limits input left prompt number old middle → text ≡ here.1 → Appends middle new (take count text) →
+    cut_part : (count : ℕ) → is_quit (first_piece 10 left) ≡ false → HasCome help limits input left prompt number old middle → text ≡ here.1 → Appends middle new (take count text) →
         IsCutShort help limits WriteFault input (drop_through 10 left) old new
-    cut_part count come text_is_so out =
+    cut_part count on come text_is_so out =
         let part = take count text in
         let behind = drop count text ++ answers help here.0 (number + 1) (lines_of []) in
         let so_far : come.text ≡ printed help limits come.answered = sym (text_is input left prompt number old middle come) in
@@ -146,12 +184,13 @@ module _ (help : List ℕ) (limits : Limits) where
               starts_as (printed help limits (come.answered ++ take_through 10 left)) (printed help limits come.answered ++ part) behind
               (come.goes_on (take_through 10 left) (drop_through 10 left) (sym (taken_whole left))
               ∙ ap (λ (l : List ℕ). come.text ++ answers help prompt number (lines_of l)) (sym (append-nil (take_through 10 left)))
-              ∙ ap (λ (t : List ℕ). come.text ++ t) (next_first help prompt number left [] (drop_through 10 left) refl)
+              ∙ ap (λ (t : List ℕ). come.text ++ t) (next_first help prompt number left [] (drop_through 10 left) refl on)
               ∙ ap (λ (t : List ℕ). come.text ++ (t ++ answers help here.0 (number + 1) (lines_of []))) (sym text_is_so ∙ sym (take-append-drop count text))
               ∙ ap (λ (t : List ℕ). come.text ++ t) (append_assoc part (drop count text) (answers help here.0 (number + 1) (lines_of [])))
               ∙ sym (append_assoc come.text part behind) ∙ ap (λ (t : List ℕ). (t ++ part) ++ behind) so_far);
           unwritten = λ other. absurd (other refl);
           within_line = λ is. cc;
+          unended = unended_is input left prompt number old middle come;
         }
 
   -- the same, where the reader's bytes are known
@@ -160,14 +199,17 @@ module _ (help : List ℕ) (limits : Limits) where
       answer help prompt number line ≡ answer help prompt number (first_piece 10 left)
   answer_is prompt number left line is = ap (answer help prompt number) is ∙ kept_answer help prompt number (first_piece 10 left)
 
+  quits_as : (left line : List ℕ) (b : Bool) → line ≡ kept KEPT (first_piece 10 left) → is_quit line ≡ b → is_quit (first_piece 10 left) ≡ b
+  quits_as left line b is quits_so = sym (kept_quit (first_piece 10 left)) ∙ ap is_quit (sym is) ∙ quits_so
+
   pub turned : (input left rest : Option (List ℕ)) (prompt after : Prompt) (number : ℕ) (old middle new : Option (List ℕ)) (line text : List ℕ) →
-      HasComeSo help limits input left prompt number old middle → IsNext KEPT left rest (Some line) → text ≡ (answer help prompt number line).1 →
-      after ≡ (answer help prompt number line).0 → Appends middle new text → HasComeSo help limits input rest after (number + 1) old new
-  turned None left rest prompt after number old middle new line text come next told moved out = tt
-  turned (Some input) None rest prompt after number old middle new line text come next told moved out = absurd come
-  turned (Some input) (Some left) rest prompt after number old middle new line text come next told moved out =
+      HasComeSo help limits input left prompt number old middle → IsNext KEPT left rest (Some line) → is_quit line ≡ false →
+      text ≡ (answer help prompt number line).1 → after ≡ (answer help prompt number line).0 → Appends middle new text → HasComeSo help limits input rest after (number + 1) old new
+  turned None left rest prompt after number old middle new line text come next on told moved out = tt
+  turned (Some input) None rest prompt after number old middle new line text come next on told moved out = absurd come
+  turned (Some input) (Some left) rest prompt after number old middle new line text come next on told moved out =
       subst (λ (r : Option (List ℕ)). HasComeSo help limits (Some input) r after (number + 1) old new) (sym next.2)
-      (turn input left prompt number old middle new text next.0 after come
+      (turn input left prompt number old middle new text next.0 (quits_as left line false next.1 on) after come
       (told ∙ ap (λ (a : Prompt × List ℕ). a.1) (answer_is prompt number left line next.1))
       (moved ∙ ap (λ (a : Prompt × List ℕ). a.0) (answer_is prompt number left line next.1)) out)
 
@@ -176,6 +218,31 @@ module _ (help : List ℕ) (limits : Limits) where
   ended None left rest prompt number old new come next = tt
   ended (Some input) None rest prompt number old new come next = absurd come
   ended (Some input) (Some left) rest prompt number old new come next = end input left prompt number old new come next.0
+
+  -- to its end
+  pub end_read : (input left rest : Option (List ℕ)) (prompt : Prompt) (number : ℕ) (old new : Option (List ℕ)) →
+      HasComeSo help limits input left prompt number old new → IsNext KEPT left rest None → IsRead input rest
+  end_read None left rest prompt number old new come next = tt
+  end_read (Some input) None rest prompt number old new come next = absurd come
+  end_read (Some input) (Some left) rest prompt number old new come next =
+      subst (λ (r : Option (List ℕ)). IsRead (Some input) r) (sym next.1) (sym (come.unread_is ∙ ap unread next.0 ∙ unread_none))
+
+  -- a line was taken in that ends the prompt
+
+  pub ended_by : (input left rest : Option (List ℕ)) (prompt : Prompt) (number : ℕ) (old new : Option (List ℕ)) (line : List ℕ) →
+      HasComeSo help limits input left prompt number old new → IsNext KEPT left rest (Some line) → is_quit line ≡ true → Answers help limits input old new
+  ended_by None left rest prompt number old new line come next ends = tt
+  ended_by (Some input) None rest prompt number old new line come next ends = absurd come
+  ended_by (Some input) (Some left) rest prompt number old new line come next ends =
+      end_by input left prompt number old new come (quits_as left line true next.1 ends)
+
+  pub read_by : (input left rest : Option (List ℕ)) (prompt : Prompt) (number : ℕ) (old new : Option (List ℕ)) (line : List ℕ) →
+      HasComeSo help limits input left prompt number old new → IsNext KEPT left rest (Some line) → is_quit line ≡ true → IsRead input rest
+  read_by None left rest prompt number old new line come next ends = tt
+  read_by (Some input) None rest prompt number old new line come next ends = absurd come
+  read_by (Some input) (Some left) rest prompt number old new line come next ends =
+      subst (λ (r : Option (List ℕ)). IsRead (Some input) r) (sym next.2)
+      (sym (come.unread_is ∙ unread_ended left (quits_as left line true next.1 ends)))
 
   pub cut_short : (fault : PromptFault) (input left rest : Option (List ℕ)) (prompt : Prompt) (number : ℕ) (old new : Option (List ℕ)) →
       HasComeSo help limits input left prompt number old new → TakesLine left rest → fault ≢ ReadFault → EndsEarly help limits fault input rest old new
@@ -213,13 +280,13 @@ module _ (help : List ℕ) (limits : Limits) where
       cut input left prompt number old new fault [] left come refl (All-nil (λ b. b ≢ 10)) (λ is. All-nil (λ b. b ≢ 10))
 
   pub cut_writing : (input left rest : Option (List ℕ)) (prompt : Prompt) (number : ℕ) (old middle new : Option (List ℕ)) (line text : List ℕ) (count : ℕ) →
-      HasComeSo help limits input left prompt number old middle → IsNext KEPT left rest (Some line) → text ≡ (answer help prompt number line).1 →
-      Appends middle new (take count text) → EndsEarly help limits WriteFault input rest old new
-  cut_writing None left rest prompt number old middle new line text count come next told out = tt
-  cut_writing (Some input) None rest prompt number old middle new line text count come next told out = absurd come
-  cut_writing (Some input) (Some left) rest prompt number old middle new line text count come next told out =
+      HasComeSo help limits input left prompt number old middle → IsNext KEPT left rest (Some line) → is_quit line ≡ false →
+      text ≡ (answer help prompt number line).1 → Appends middle new (take count text) → EndsEarly help limits WriteFault input rest old new
+  cut_writing None left rest prompt number old middle new line text count come next on told out = tt
+  cut_writing (Some input) None rest prompt number old middle new line text count come next on told out = absurd come
+  cut_writing (Some input) (Some left) rest prompt number old middle new line text count come next on told out =
       subst (λ (r : Option (List ℕ)). EndsEarly help limits WriteFault (Some input) r old new) (sym next.2)
-      (cut_part input left prompt number old middle new text count come
+      (cut_part input left prompt number old middle new text count (quits_as left line false next.1 on) come
       (told ∙ ap (λ (a : Prompt × List ℕ). a.1) (answer_is prompt number left line next.1)) out)
 
   -- there are no numbers left

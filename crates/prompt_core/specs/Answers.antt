@@ -1,11 +1,13 @@
 -- What is printed of each line at a prompt.
-use Rattle.std.specs.Prelude.{ℕ, ◌+◌, ◌&&◌, Bool, true, false, List, [], ◌∷◌, ◌++◌, codes, decimal, if◌then◌else◌, Option, Some, None, Result, Ok, Err}
+use Rattle.std.specs.Prelude.{ℕ, ◌+◌, ◌==◌, ◌&&◌, nat_le, nat_lt, length, Bool, true, false, List, [], ◌∷◌, ◌++◌, codes, decimal, if◌then◌else◌, Option, Some, None, Result, Ok, Err}
+use Rattle.std.specs.List.{list_all}
 use Rattle.std.specs.Str.{bytes_eq}
 use Rattle.serde_json.specs.Written.{compact_text}
 use Rattle.payload_core.specs.Words.{is_word}
 use Rattle.bench_core.specs.Machine.{Machine}
 use Rattle.bench_core.specs.NameList.{Texts, number_in}
 use Rattle.run_core.specs.Prompts.{Prompt, taken}
+use Rattle.grammar_core.specs.Casts.{Cast}
 use Rattle.grammar_core.specs.Words.{words_of}
 use Rattle.grammar_core.specs.declared.fault.FaultKind.{FaultKind}
 use Rattle.grammar_core.specs.declared.fault.FaultKind.TheVariants.{NotText, TooLong, NoNodes, Twice, UnknownWord, WrongCount, NotAllowed, BadNumber}
@@ -13,6 +15,12 @@ use Rattle.grammar_core.specs.declared.fault.FaultKind.TheVariants.{BadName, Out
 use Rattle.recording_core.specs.Format.{session}
 use Rattle.explain_core.specs.Explanations.{explanation}
 use Rattle.whatif_report.specs.Texts.{whatif_text}
+use Rattle.svg_core.specs.Trees.{text_of}
+use Rattle.picture_core.specs.Pictures.{picture}
+use Rattle.picture_core.specs.Standings.{painted_of}
+use Rattle.transcript_core.specs.Scripts.{cast_of, script_text}
+use Rattle.transcript_core.specs.Steps.{bench_steps}
+use Rattle.prompt_core.specs.Sent.{sent_text}
 
 unfoldable pub kind_name : FaultKind → List ℕ
 kind_name NotText = codes "NotText"
@@ -58,39 +66,96 @@ changes number None words = fault_line number NoNodes
 changes number (Some m) (node ∷ topic ∷ key ∷ []) = changes_at number m (number_in m.names node) topic key
 changes number (Some m) words = fault_line number WrongCount
 
--- the answer to the words of a line of which a script doesn't know the first
-unfoldable pub worded : ℕ → Option Machine → Texts → List ℕ
-worded number machine [] = fault_line number UnknownWord
-worded number machine (first ∷ words) =
-    if bytes_eq first (codes ":explain") then explained number machine words
-    else (if bytes_eq first (codes ":whatif") then changes number machine words else fault_line number UnknownWord)
+-- the picture of the bench, once the nodes are named
+abbrev pub drawn : ℕ → Option Machine → List ℕ
+drawn number None = fault_line number NoNodes
+drawn number (Some m) = text_of (picture m (painted_of m.state None)) ++ codes "\n"
 
-abbrev pub is_unknown : FaultKind → Bool
-is_unknown UnknownWord = true
-is_unknown _ = false
+-- a text of the run, by the names of its consoles, once the nodes are named
+abbrev pub told_by : (Machine → Texts → List ℕ) → ℕ → Option Cast → Option Machine → List ℕ
+told_by text number None machine = fault_line number NoNodes
+told_by text number (Some cast) None = fault_line number NoNodes
+told_by text number (Some cast) (Some m) = text m cast.consoles
 
--- the answer to a line that has this fault in a script
-unfoldable pub faulty : ℕ → Option Machine → List ℕ → FaultKind → List ℕ
-faulty number machine line kind =
-    if is_unknown kind then worded number machine (words_of line) else fault_line number kind
+-- the recorded calls, each above what it printed
+abbrev pub told_steps : ℕ → Option Cast → Option Machine → List ℕ
+told_steps number cast machine = told_by bench_steps number cast machine
+
+-- a script that isn't too long for one
+abbrev pub script_within : ℕ → List ℕ → List ℕ
+script_within number text = if nat_lt 1048576 (length text) then fault_line number TooLong else text
+
+-- the recorded calls as a script
+abbrev pub told_script : ℕ → Option Cast → Option Machine → List ℕ
+told_script number cast machine =
+    told_by (λ m consoles. script_within number (script_text (cast_of m consoles) m.state.history)) number cast machine
+
+-- what a node has sent, or what is wrong with its name
+abbrev pub sent_at : ℕ → Machine → Option ℕ → List ℕ
+sent_at number m None = fault_line number BadName
+sent_at number m (Some node) = sent_text m node
+
+-- what the word behind `:sent` asks for, once the nodes are named
+unfoldable pub told_sent : ℕ → Option Machine → Texts → List ℕ
+told_sent number None words = fault_line number NoNodes
+told_sent number (Some m) (node ∷ []) = sent_at number m (number_in m.names node)
+told_sent number (Some m) words = fault_line number WrongCount
+
+-- what a word of the prompt's own tells that stands alone
+abbrev pub alone : ℕ → Texts → List ℕ → List ℕ
+alone number [] text = text
+alone number (word ∷ words) text = fault_line number WrongCount
+
+-- what these words tell of the run
+unfoldable pub run_word : Prompt → ℕ → FaultKind → List ℕ → Texts → List ℕ
+run_word prompt number kind first words =
+    if bytes_eq first (codes ":draw") then alone number words (drawn number prompt.machine)
+    else (if bytes_eq first (codes ":steps") then alone number words (told_steps number prompt.cast prompt.machine)
+    else (if bytes_eq first (codes ":script") then alone number words (told_script number prompt.cast prompt.machine)
+    else (if bytes_eq first (codes ":sent") then told_sent number prompt.machine words
+    else fault_line number kind)))
+
+-- the answer to these words, which have this fault in a script: what the first asks, where that is one of the prompt's own
+unfoldable pub worded : List ℕ → Prompt → ℕ → FaultKind → Texts → List ℕ
+worded help prompt number kind [] = fault_line number kind
+worded help prompt number kind (first ∷ words) =
+    if bytes_eq first (codes ":help") then alone number words (help ++ codes "\n")
+    else (if bytes_eq first (codes ":quit") then alone number words []
+    else (if bytes_eq first (codes ":save") then alone number words (saved number prompt.machine)
+    else (if bytes_eq first (codes ":explain") then explained number prompt.machine words
+    else (if bytes_eq first (codes ":whatif") then changes number prompt.machine words
+    else run_word prompt number kind first words))))
+
+-- a fault of the first word
+abbrev pub is_first : FaultKind → Bool
+is_first UnknownWord = true
+is_first NoNodes = true
+is_first _ = false
 
 -- the answer to a line that is none of a script, which has this fault there: one of the prompt's own, or the fault
-unfoldable pub own_answer : List ℕ → Option Machine → ℕ → List ℕ → FaultKind → List ℕ
-own_answer help machine number line kind =
-    if bytes_eq line (codes ":help") then help ++ codes "\n"
-    else (if bytes_eq line (codes ":save") then saved number machine
-    else faulty number machine line kind)
+unfoldable pub own_answer : List ℕ → Prompt → ℕ → List ℕ → FaultKind → List ℕ
+own_answer help prompt number line kind =
+    if is_first kind then worded help prompt number kind (words_of line) else fault_line number kind
 
 abbrev pub answer_by : List ℕ → Prompt → ℕ → List ℕ → Result (Prompt × List ℕ) FaultKind → Prompt × List ℕ
 answer_by help prompt number line (Ok next) = next
-answer_by help prompt number line (Err kind) = (prompt, own_answer help prompt.machine number line kind)
+answer_by help prompt number line (Err kind) = (prompt, own_answer help prompt number line kind)
 
 -- the prompt after a line, and the answer: what a line of a script prints, or else its own answer
 unfoldable pub answer : List ℕ → Prompt → ℕ → List ℕ → Prompt × List ℕ
 answer help prompt number line = answer_by help prompt number line (taken prompt [] line)
 
--- the answers to the lines from this number on, in order
+-- each of these words is `:quit`
+abbrev pub are_quits : Texts → Bool
+are_quits words = list_all (λ word. bytes_eq word (codes ":quit")) words
+
+-- the line ends the prompt: it has one word, which is `:quit`
+unfoldable pub is_quit : List ℕ → Bool
+is_quit line = nat_le (length line) 4096 && (are_quits (words_of line) && (length (words_of line) == 1))
+
+-- the answers to the lines from this number on, in order, up to one that ends the prompt
 unfoldable pub answers : List ℕ → Prompt → ℕ → List (List ℕ) → List ℕ
 answers help prompt number [] = []
 answers help prompt number (line ∷ lines) =
-    (answer help prompt number line).1 ++ answers help (answer help prompt number line).0 (number + 1) lines
+    if is_quit line then []
+    else (answer help prompt number line).1 ++ answers help (answer help prompt number line).0 (number + 1) lines

@@ -1,7 +1,7 @@
 -- What a prompt reads and writes, until its input ends or a fault ends it early.
-use Rattle.std.specs.Prelude.{◌≡◌, ◌≢◌, ℕ, ◌+◌, List, [], ◌++◌, ⊤, Option, None, Some, Result, Ok, Err, IfOk}
+use Rattle.std.specs.Prelude.{◌≡◌, ◌≢◌, ℕ, ◌+◌, ◌==◌, false, if◌then◌else◌, List, [], ◌∷◌, ◌++◌, ⊤, Option, None, Some, Result, Ok, Err, IfOk}
 use Rattle.std.specs.Io.{StartsWith, StopsAt}
-use Rattle.std.specs.List.{All}
+use Rattle.std.specs.List.{All, list_any}
 use Rattle.std.specs.Io.KnownBytes.{Appends}
 use Rattle.bench_core.specs.Limits.{Limits}
 use Rattle.grammar_core.specs.Grammar.{script_of}
@@ -9,7 +9,7 @@ use Rattle.run_core.specs.Prompts.{new_prompt}
 use Rattle.run_core.specs.Report.{report_of}
 use Rattle.grammar_core.specs.Scripts.{Script}
 use Rattle.grammar_core.specs.Words.{lines_of}
-use Rattle.prompt_core.specs.Answers.{answers}
+use Rattle.prompt_core.specs.Answers.{answers, is_quit}
 use Rattle.stream_core.specs.Steps.{Steps}
 use Rattle.stream_core.specs.declared.stream_fault.InputFault.{InputFault}
 use Rattle.stream_core.specs.declared.stream_fault.InputFault.TheVariants as inputs
@@ -30,6 +30,26 @@ FailsAs (Err prompts.ReadFault) old new = new.failed ≡ old.failed + 1
 FailsAs (Err prompts.WriteFault) old new = new.failed ≡ old.failed
 FailsAs (Err prompts.TooLong) old new = new.failed ≡ old.failed
 FailsAs (Err prompts.OutOfMemory) old new = new.failed ≡ old.failed
+
+-- what stands behind the first line that ends the prompt, or nothing; these bytes are in front, of the same line
+unfoldable pub unread_behind : List ℕ → List ℕ → List ℕ
+unread_behind line [] = []
+unread_behind line (byte ∷ bytes) =
+    if byte == 10 then (if is_quit line then bytes else unread_behind [] bytes) else unread_behind (line ++ byte ∷ []) bytes
+
+-- what a prompt leaves of an input: what stands behind the first line that ends it
+abbrev pub unread : List ℕ → List ℕ
+unread input = unread_behind [] input
+
+-- an input was read to its end, or up to the first line that ends the prompt, and no further
+abbrev pub IsRead : Option (List ℕ) → Option (List ℕ) → Type 0
+IsRead None left = ⊤
+IsRead (Some input) None = ⊥
+IsRead (Some input) (Some left) = left ≡ unread input
+
+-- none of its lines ends the prompt
+abbrev pub HasNoQuit : List ℕ → Type 0
+HasNoQuit input = list_any is_quit (lines_of input) ≡ false
 
 -- all that is printed of an input
 abbrev pub printed : List ℕ → Limits → List ℕ → List ℕ
@@ -62,6 +82,7 @@ pub record IsCutShort (help : List ℕ) (limits : Limits) (fault : PromptFault) 
   pub beginning : StartsWith (printed help limits (answered ++ last)) (printed help limits answered ++ part)
   pub unwritten : fault ≢ WriteFault → part ≡ []
   pub within_line : fault ≡ ReadFault → All (λ b. b ≢ 10) last
+  pub unended : HasNoQuit answered
 
 -- the same, where the reader's bytes are known
 abbrev pub EndsEarly : List ℕ → Limits → PromptFault → Option (List ℕ) → Option (List ℕ) → Option (List ℕ) → Option (List ℕ) → Type 0

@@ -1,2 +1,4 @@
+pub mod Sent
 pub mod Answers
+pub mod Signs
 pub mod Ends

@@ -1,55 +1,51 @@
 //! The answers to lines that are none of a script.
-ghost use Rattle.std.specs.Prelude.{◌≡◌, ◌++◌, OnOk, map, true};
+ghost use Rattle.std.specs.Prelude.{◌≡◌, ◌++◌, [], OnOk, codes, map, true};
 ghost use Rattle.bench_core.specs.NameList.{number_in};
 ghost use Rattle.grammar_core.specs.Words.{is_text};
-ghost use Rattle.prompt_core.specs.Answers.{changes, changes_at, explained, explained_at, fault_line, faulty, is_unknown, kind_name, own_answer, saved, worded};
+ghost use Rattle.prompt_core.specs.Answers.{alone, changes, changes_at, explained, explained_at, is_first, own_answer, saved, worded};
 
+use crate::fault_line::{put_fault, put_text};
+use crate::runs::put_run;
 use bench_core::Bench;
 use explain_core::{AskFault, Question, explain_asked};
 use grammar_core::{FaultKind, words_of};
 use payload_core::Oom;
+use progress_core::Silent;
 use run_core::Prompt;
 use session_core::save;
 use std::alloc::{Allocator, Global};
 use whatif_report::{WhatifFault, whatif_asked};
 
-#[tactic(auto, unfolding(crate::specs::Answers::kind_name))]
-fn kind_name(kind: FaultKind) -> &'static str
-    ensures { result.now ≡ kind_name kind }
+/// What `:help` tells, where no word stands behind it.
+fn put_help<A: Allocator + Copy>(
+    alloc: A,
+    answer: &mut Vec<u8, A>,
+    help: &str,
+    number: u64,
+    words: &[&str],
+) -> Result<(), Oom>
+    ensures { OnOk result (answer.new.items ≡ answer.old.items ++ alone number (map (λ word. word.now) words.now) (help.now ++ codes "\n")) }
 {
-    match kind {
-        FaultKind::NotText => "NotText",
-        FaultKind::TooLong => "TooLong",
-        FaultKind::NoNodes => "NoNodes",
-        FaultKind::Twice => "Twice",
-        FaultKind::UnknownWord => "UnknownWord",
-        FaultKind::WrongCount => "WrongCount",
-        FaultKind::NotAllowed => "NotAllowed",
-        FaultKind::BadNumber => "BadNumber",
-        FaultKind::BadName => "BadName",
-        FaultKind::OutOfMemory => "OutOfMemory",
-    }
+    let [_, ..] = words else {
+        put_text(answer, help)?;
+        return put_text(answer, "\n");
+    };
+    put_fault(alloc, answer, number, FaultKind::WrongCount)
 }
 
-fn put_text<A: Allocator>(answer: &mut Vec<u8, A>, text: &str) -> Result<(), Oom>
-    ensures { OnOk result (answer.new.items ≡ answer.old.items ++ text.now) }
-{
-    Ok(answer.extend_from_slice(text.as_bytes())?)
-}
-
-/// The fault of a line.
-#[tactic(auto, unfolding(crate::specs::Answers::fault_line))]
-fn put_fault<A: Allocator + Copy>(
+/// Nothing, where no word stands behind `:quit`.
+fn put_quit<A: Allocator + Copy>(
     alloc: A,
     answer: &mut Vec<u8, A>,
     number: u64,
-    kind: FaultKind,
+    words: &[&str],
 ) -> Result<(), Oom>
-    ensures { OnOk result (answer.new.items ≡ answer.old.items ++ fault_line number kind) }
+    ensures { OnOk result (answer.new.items ≡ answer.old.items ++ alone number (map (λ word. word.now) words.now) []) }
 {
-    let name = kind_name(kind);
-    let line = format!(in alloc; "line {number}: {name}\n")?;
-    put_text(answer, &line)
+    let [_, ..] = words else {
+        return Ok(());
+    };
+    put_fault(alloc, answer, number, FaultKind::WrongCount)
 }
 
 /// The session so far, once the nodes are named.
@@ -68,6 +64,23 @@ fn put_saved<'a, B: Allocator>(
     let session = save(heap, bench)?;
     answer.extend_from_slice(&session)?;
     put_text(answer, "\n")
+}
+
+/// The session so far, where no word stands behind `:save`.
+fn put_save<'a, B: Allocator>(
+    prompt: &Prompt<'a, B>,
+    heap: Global,
+    alloc: &'a B,
+    answer: &mut Vec<u8, &'a B>,
+    number: u64,
+    words: &[&str],
+) -> Result<(), Oom>
+    ensures { OnOk result (answer.new.items ≡ answer.old.items ++ alone number (map (λ word. word.now) words.now) (saved number prompt.now.machine)) }
+{
+    let [_, ..] = words else {
+        return put_saved(prompt, heap, alloc, answer, number);
+    };
+    put_fault(alloc, answer, number, FaultKind::WrongCount)
 }
 
 /// The explanation that is asked for, or what is wrong with the question.
@@ -121,7 +134,7 @@ fn put_whatif<'a, B: Allocator>(
     ensures { OnOk result (answer.new.items ≡ answer.old.items ++
         changes_at number bench.now (number_in bench.now.names question.entry.node.now) question.entry.topic.now question.entry.key.now) }
 {
-    match whatif_asked(alloc, bench, question) {
+    match whatif_asked(alloc, bench, question, &mut Silent) {
         Ok(text) => put_text(answer, text.as_str()),
         Err(WhatifFault::NoSuchNode) => put_fault(alloc, answer, number, FaultKind::BadName),
         Err(WhatifFault::NoWord) => put_fault(alloc, answer, number, FaultKind::TooLong),
@@ -151,59 +164,48 @@ fn put_changes<'a, B: Allocator>(
     put_whatif(bench, alloc, answer, number, question)
 }
 
-/// The answer to the words of a line of which a script doesn't know the first.
+/// The answer to words that have this fault in a script.
 #[tactic(auto, unfolding(crate::specs::Answers::worded))]
 fn put_worded<'a, B: Allocator>(
     prompt: &Prompt<'a, B>,
+    heap: Global,
     alloc: &'a B,
     answer: &mut Vec<u8, &'a B>,
+    help: &str,
     number: u64,
+    kind: FaultKind,
     words: &[&str],
 ) -> Result<(), Oom>
-    ensures { OnOk result (answer.new.items ≡ answer.old.items ++ worded number prompt.now.machine (map (λ word. word.now) words.now)) }
+    ensures { OnOk result (answer.new.items ≡ answer.old.items ++ worded help.now prompt.now number kind (map (λ word. word.now) words.now)) }
 {
     let [first, rest @ ..] = words else {
-        return put_fault(alloc, answer, number, FaultKind::UnknownWord);
+        return put_fault(alloc, answer, number, kind);
     };
+    if *first == ":help" {
+        return put_help(alloc, answer, help, number, rest);
+    }
+    if *first == ":quit" {
+        return put_quit(alloc, answer, number, rest);
+    }
+    if *first == ":save" {
+        return put_save(prompt, heap, alloc, answer, number, rest);
+    }
     if *first == ":explain" {
         return put_explained(prompt, alloc, answer, number, rest);
     }
     if *first == ":whatif" {
         return put_changes(prompt, alloc, answer, number, rest);
     }
-    put_fault(alloc, answer, number, FaultKind::UnknownWord)
+    put_run(prompt, alloc, answer, number, kind, first, rest)
 }
 
-fn is_unknown(kind: FaultKind) -> bool
-    ensures { result ≡ is_unknown kind }
+fn is_first(kind: FaultKind) -> bool
+    ensures { result ≡ is_first kind }
 {
-    matches!(kind, FaultKind::UnknownWord)
+    matches!(kind, FaultKind::UnknownWord | FaultKind::NoNodes)
 }
 
-/// The answer to a line that has this fault in a script. Where a script doesn't know its first word, it is text.
-#[tactic(auto, unfolding(crate::specs::Answers::faulty))]
-fn put_faulty<'a, B: Allocator>(
-    prompt: &Prompt<'a, B>,
-    alloc: &'a B,
-    answer: &mut Vec<u8, &'a B>,
-    number: u64,
-    line: &[u8],
-    kind: FaultKind,
-) -> Result<(), Oom>
-    requires { is_unknown kind ≡ true → is_text line.now ≡ true }
-    ensures { OnOk result (answer.new.items ≡ answer.old.items ++ faulty number prompt.now.machine line.now kind) }
-{
-    if !is_unknown(kind) {
-        return put_fault(alloc, answer, number, kind);
-    }
-    let Ok(text) = str::from_utf8(line) else {
-        unreachable!()
-    };
-    let words = words_of(alloc, text)?;
-    put_worded(prompt, alloc, answer, number, &words)
-}
-
-/// The answer to a line that is none of a script, which has this fault there.
+/// The answer to a line that is none of a script, which has this fault there. Where that is one of its first word, the line is text.
 #[tactic(auto, unfolding(crate::specs::Answers::own_answer))]
 pub fn put_own<'a, B: Allocator>(
     prompt: &Prompt<'a, B>,
@@ -215,15 +217,15 @@ pub fn put_own<'a, B: Allocator>(
     line: &[u8],
     kind: FaultKind,
 ) -> Result<(), Oom>
-    requires { is_unknown kind ≡ true → is_text line.now ≡ true }
-    ensures { OnOk result (answer.new.items ≡ answer.old.items ++ own_answer help.now prompt.now.machine number line.now kind) }
+    requires { is_first kind ≡ true → is_text line.now ≡ true }
+    ensures { OnOk result (answer.new.items ≡ answer.old.items ++ own_answer help.now prompt.now number line.now kind) }
 {
-    if line == b":help".as_slice() {
-        put_text(answer, help)?;
-        return put_text(answer, "\n");
+    if !is_first(kind) {
+        return put_fault(alloc, answer, number, kind);
     }
-    if line == b":save".as_slice() {
-        return put_saved(prompt, heap, alloc, answer, number);
-    }
-    put_faulty(prompt, alloc, answer, number, line, kind)
+    let Ok(text) = str::from_utf8(line) else {
+        unreachable!()
+    };
+    let words = words_of(alloc, text)?;
+    put_worded(prompt, heap, alloc, answer, help, number, kind, &words)
 }

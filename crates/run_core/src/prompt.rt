@@ -1,5 +1,5 @@
 //! `Prompt`: the lines of a script one by one, each answered before the next is read.
-ghost use Rattle.std.specs.Prelude.{◌≡◌, ◌≢◌, OnOk, IfErr, option_copied, string_bytes};
+ghost use Rattle.std.specs.Prelude.{◌≡◌, ◌≢◌, OnOk, IfErr, option_copied, option_map, string_bytes};
 ghost use Rattle.grammar_core.specs.Answers.{Gives};
 ghost use Rattle.run_core.specs.Prompts.{asked, new_prompt, opened, taken};
 ghost use Rattle.run_core.specs.Report.{commands_of};
@@ -7,7 +7,7 @@ ghost use Rattle.grammar_core.specs.Scripts.{plain_lines};
 ghost use Rattle.grammar_core.specs.declared.fault.FaultKind.TheVariants.{OutOfMemory};
 
 use crate::run;
-use bench_core::{Bench, Limits};
+use bench_core::{Bench, Limits, TextSet};
 use grammar_core::{Cast, FaultKind, Line, Reading, read_line};
 use payload_core::Oom;
 use std::alloc::Allocator;
@@ -52,6 +52,16 @@ impl<'a, B: Allocator> Prompt<'a, B> {
         ensures { option_copied result ≡ self.now.machine }
     {
         self.bench.as_ref()
+    }
+
+    /// The names of the consoles, once the nodes are named.
+    pub fn consoles(&self) -> Option<&TextSet<&'a B>>
+        ensures { option_copied result ≡ option_map (λ cast. cast.consoles) self.now.cast }
+    {
+        match &self.cast {
+            Some(cast) => Some(cast.consoles()),
+            None => None,
+        }
     }
 
     /// Opens the bench, once the nodes are named.

@@ -3,6 +3,7 @@
 use clap::error::ErrorKind;
 use command_line::choice;
 use program_core::{Fault, program, run};
+use progress_core::FakeClock;
 use script_core::{FakeReader, FakeWriter};
 use std::alloc::{Allocator, Global};
 use std::process::{Abort, Termination};
@@ -75,7 +76,17 @@ fn ended<T: Threads + Wait + Sync + Abort, B: Allocator + Sync>(
     let [room, errors_room] = rooms;
     let mut writer = FakeWriter::new(heap, room);
     let mut errors = FakeWriter::new(heap, errors_room);
-    let status = program(rt, heap, alloc, words, reader, &mut writer, &mut errors);
+    let clock = FakeClock::new(0);
+    let status = program(
+        rt,
+        heap,
+        alloc,
+        words,
+        reader,
+        &mut writer,
+        &mut errors,
+        &clock,
+    );
     (status, writer, errors)
 }
 
@@ -308,6 +319,74 @@ fn want_of_memory_prints_nothing(rt: HostRuntime) {
     let heap = Refusing::new(rt.alloc());
     for answered in ANSWERED {
         assert!(rt; 10 <= early_ends(&rt, rt.alloc(), &heap, *answered));
+    }
+}
+
+/// An incident that has 79 single changes.
+const PERMDOWN: &str = "nodes a b\n\
+b up a\n\
+a join 1 lobby alice phone\n\
+a broadcast\n\
+b deliver a 1\n\
+a leave 1 lobby alice\n\
+a broadcast\n\
+b deliver a 2\n\
+b down a\n\
+b permdown a\n\
+b up a\n\
+b deliver a 1\n\
+b deliver a 2\n";
+
+/// By how many milliseconds the clock is later at each look, how much room the errors have, and what is told there. The clock is looked
+/// at once, and then at each sixteenth change.
+const WORKED: &[(u64, usize, &str)] = &[
+    (
+        1000,
+        1000,
+        "presence_bench: 16 of 79 changes tried\npresence_bench: 32 of 79 changes tried\n\
+presence_bench: 48 of 79 changes tried\npresence_bench: 64 of 79 changes tried\n",
+    ),
+    (
+        500,
+        1000,
+        "presence_bench: 32 of 79 changes tried\npresence_bench: 64 of 79 changes tried\n",
+    ),
+    (0, 1000, ""),
+    (1000, 20, "presence_bench: 16 o"),
+];
+
+/// Whether long work tells this of how far it has come, and ends well.
+fn tells_work<T: Threads + Wait + Sync + Abort>(
+    heap: Global,
+    worked: (u64, usize, &str),
+    rt: &T,
+) -> bool {
+    let (step, room, told) = worked;
+    let words = ["whatif", "b", "lobby", "alice"];
+    let mut reader = FakeReader::ending(PERMDOWN.as_bytes());
+    let mut writer = FakeWriter::new(heap, 10_000);
+    let mut errors = FakeWriter::new(heap, room);
+    let clock = FakeClock::new(step);
+    let status = program(
+        rt,
+        heap,
+        &heap,
+        &words,
+        &mut reader,
+        &mut writer,
+        &mut errors,
+        &clock,
+    );
+    let is_so = status == 0 && errors.taken() == told.as_bytes();
+    drop(errors);
+    drop(writer);
+    is_so
+}
+
+#[test]
+fn long_work_tells_how_far_it_has_come(rt: HostRuntime) {
+    for worked in WORKED {
+        assert!(rt; tells_work(rt.alloc(), *worked, &rt));
     }
 }
 

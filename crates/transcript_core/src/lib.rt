@@ -20,5 +20,5 @@ pub use actors::free_consoles;
 pub use fault::TranscriptFault;
 pub use refusals::{Refusal, first_in, first_refused};
 pub use run_lines::{put_nodes_line, put_step_line};
-pub use script::script_of_calls;
+pub use script::{calls_text, script_of_calls};
 pub use steps::{bench_steps, script_steps};

@@ -102,9 +102,9 @@ fn put_events<'a, A: Allocator, B: Allocator, N: Allocator, C: Allocator>(
     Ok(())
 }
 
-/// The script of the calls, before it is read back.
+/// The script of the calls, which isn't read back.
 #[tactic(auto, unfolding(crate::specs::Scripts::script_text))]
-fn calls_text<'a, A: Allocator, B: Allocator>(
+pub fn calls_text<'a, A: Allocator, B: Allocator>(
     bench: &Bench<'a, B>,
     consoles: &TextSet<&'a B>,
     alloc: A,

@@ -5,6 +5,7 @@ ghost use Rattle.whatif_core.specs.Differences.{nothing, tally_from, tally_of};
 ghost use Rattle.change_core.specs.Ends.{rows_before};
 ghost use Rattle.whatif_core.specs.Exact.{AreExactly};
 ghost use Rattle.change_core.specs.Searches.{IsSearch};
+ghost use Rattle.progress_core.specs.Watches.{Watched};
 
 use crate::changes::changes;
 use crate::difference::{Difference, Tally};
@@ -13,6 +14,7 @@ use bench_core::{Bench, Kept};
 use change_core::{Change, Search, copied, rows_before};
 use diff_core::OnlineRow;
 use payload_core::{Oom, Word};
+use progress_core::{Tried, Watch};
 use std::alloc::Allocator;
 
 /// What would have made a difference.
@@ -30,8 +32,8 @@ pub struct Differences<A: Allocator> {
     pub told: Vec<Difference<A>, A>,
 }
 
-/// Counts these changes of the bench's steps by where they lead.
-fn count_all<'a, B: Allocator>(
+/// Counts these changes of the bench's steps by where they lead. The watcher is told of each that was tried.
+fn count_all<'a, B: Allocator, W: Watch<Tried>>(
     tally: &mut Tally<&'a B>,
     search: &mut Search<'a, B>,
     bench: &Bench<'a, B>,
@@ -42,24 +44,30 @@ fn count_all<'a, B: Allocator>(
     topic: &Word<&'a B>,
     key: &Word<&'a B>,
     alloc: &'a B,
+    watch: &mut W,
 ) -> Result<(), Oom>
     requires steps { steps.now ≡ bench.now.state.remaining }
     requires tried { tried.now ≡ changes steps.now }
     requires before { before.now ≡ rows_before bench.now (record { node = node; topic = topic.now; key = key.now }) }
     requires search { IsSearch bench.now (record { node = node; topic = topic.now; key = key.now }) steps.now search.old }
     requires none { tally.old ≡ nothing }
-    ensures { OnOk result (tally.new ≡ tally_of bench.now (record { node = node; topic = topic.now; key = key.now })) }
+    ensures tally { OnOk result (tally.new ≡ tally_of bench.now (record { node = node; topic = topic.now; key = key.now })) }
+    ensures watched { Watched W.told watch.old watch.new }
 {
     for place in 0..tried.len() {
         let change = tried[place];
         let rows = search.rows_after(steps, change, node, topic, key, alloc)?;
         tally.count(before, change, rows, alloc)?;
+        watch.tell(Tried {
+            done: place + 1,
+            all: tried.len(),
+        });
     }
     Ok(())
 }
 
 /// The changes that make a difference, of all these.
-fn tally_of<'a, B: Allocator>(
+fn tally_of<'a, B: Allocator, W: Watch<Tried>>(
     bench: &Bench<'a, B>,
     steps: &[Kept<&'a B>],
     tried: &[Change],
@@ -68,11 +76,13 @@ fn tally_of<'a, B: Allocator>(
     topic: &Word<&'a B>,
     key: &Word<&'a B>,
     alloc: &'a B,
+    watch: &mut W,
 ) -> Result<Tally<&'a B>, Oom>
     requires steps { steps.now ≡ bench.now.state.remaining }
     requires tried { tried.now ≡ changes steps.now }
     requires before { before.now ≡ rows_before bench.now (record { node = node; topic = topic.now; key = key.now }) }
-    ensures { IfOk result (λ tally. tally ≡ tally_of bench.now (record { node = node; topic = topic.now; key = key.now })) }
+    ensures tally { IfOk result (λ tally. tally ≡ tally_of bench.now (record { node = node; topic = topic.now; key = key.now })) }
+    ensures watched { Watched W.told watch.old watch.new }
 {
     let mut search = Search::new(bench, steps, before, alloc)?;
     let mut tally = Tally::new(alloc);
@@ -87,6 +97,7 @@ fn tally_of<'a, B: Allocator>(
         topic,
         key,
         alloc,
+        watch,
     );
     drop(search);
     if counted.is_err() {
@@ -98,12 +109,14 @@ fn tally_of<'a, B: Allocator>(
 
 /// The changes of the remaining steps that make a difference to the rows of this topic and key at the node, each with the rows
 /// that it leads to. (Each single change of what a node did is played in an order in which no message comes before it is sent.)
-pub fn whatif<'a, B: Allocator>(
+/// The watcher is told how many were tried.
+pub fn whatif<'a, B: Allocator, W: Watch<Tried>>(
     bench: &Bench<'a, B>,
     node: u16,
     topic: &Word<&'a B>,
     key: &Word<&'a B>,
     alloc: &'a B,
+    watch: &mut W,
 ) -> Result<Differences<&'a B>, Oom>
     ensures before { IfOk result (λ it. it.before.items ≡ rows_before bench.now (record { node = node; topic = topic.now; key = key.now })) }
     ensures tried { IfOk result (λ it. it.tried ≡ length (changes bench.now.state.remaining)) }
@@ -111,6 +124,7 @@ pub fn whatif<'a, B: Allocator>(
     ensures differ { IfOk result (λ it. it.differ ≡ (tally_of bench.now (record { node = node; topic = topic.now; key = key.now })).differ) }
     ensures told { IfOk result (λ it. it.told.items ≡ (tally_of bench.now (record { node = node; topic = topic.now; key = key.now })).told) }
     ensures exactly { IfOk result (λ it. AreExactly bench.now (record { node = node; topic = topic.now; key = key.now }) it.told.items) }
+    ensures watched { Watched W.told watch.old watch.new }
 {
     exact_law();
     let steps = copied(bench.remaining(), alloc)?;
@@ -125,6 +139,7 @@ pub fn whatif<'a, B: Allocator>(
         topic,
         key,
         alloc,
+        watch,
     );
     drop(steps);
     let Tally {

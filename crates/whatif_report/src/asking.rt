@@ -3,6 +3,7 @@ ghost use Rattle.std.specs.Prelude.{◌≡◌, IfErr, IfOk, length, option_map, 
 ghost use Rattle.payload_core.specs.Messages.{numbered};
 ghost use Rattle.whatif_core.specs.Differences.{nearest_change};
 ghost use Rattle.whatif_core.specs.Exact.{HasOrder};
+ghost use Rattle.progress_core.specs.Watches.{Watched};
 ghost use Rattle.whatif_report.specs.Answers.{IsAnswer, IsRun, IsScriptWith, Refuses, RefusesRun};
 
 use crate::run_text::script_of;
@@ -10,6 +11,7 @@ use crate::telling::tell;
 use crate::whatif_fault::WhatifFault;
 use bench_core::Bench;
 use payload_core::{Oom, Word};
+use progress_core::{Tried, Watch};
 use std::alloc::Allocator;
 use whatif_core::laws::exact_law;
 use whatif_core::{Change, Difference, run_with, whatif};
@@ -23,20 +25,22 @@ pub struct Question<'q> {
 }
 
 /// What would have made a difference, as a text: each single change of what the nodes did that changes the rows asked for, and how.
-pub fn whatif_asked<'a, B: Allocator>(
+pub fn whatif_asked<'a, B: Allocator, W: Watch<Tried>>(
     alloc: &'a B,
     bench: &Bench<'a, B>,
     question: Question<'_>,
+    watch: &mut W,
 ) -> Result<String<&'a B>, WhatifFault>
     ensures answer { IfOk result (λ text. IsAnswer bench.now question.entry (string_bytes text)) }
     ensures refused { IfErr result (Refuses bench.now question.entry) }
+    ensures watched { Watched W.told watch.old watch.new }
 {
     let Some(node) = bench.names().number_of(question.node) else {
         return Err(WhatifFault::NoSuchNode);
     };
     let topic = Word::new(alloc, question.topic)?;
     let key = Word::new(alloc, question.key)?;
-    Ok(tell(bench, node, &topic, &key, alloc)?)
+    Ok(tell(bench, node, &topic, &key, alloc, watch)?)
 }
 
 /// The change that is told under this number, from 1.
@@ -72,14 +76,16 @@ fn script_with<'a, B: Allocator>(
 }
 
 /// The run with the change that is told under this number, as a script that plays it.
-pub fn run_with_change<'a, B: Allocator>(
+pub fn run_with_change<'a, B: Allocator, W: Watch<Tried>>(
     alloc: &'a B,
     bench: &Bench<'a, B>,
     question: Question<'_>,
     number: u64,
+    watch: &mut W,
 ) -> Result<String<&'a B>, WhatifFault>
     ensures run { IfOk result (λ text. IsRun bench.now question.entry number (string_bytes text)) }
     ensures refused { IfErr result (RefusesRun bench.now question.entry number) }
+    ensures watched { Watched W.told watch.old watch.new }
 {
     exact_law();
     let Some(node) = bench.names().number_of(question.node) else {
@@ -87,7 +93,7 @@ pub fn run_with_change<'a, B: Allocator>(
     };
     let topic = Word::new(alloc, question.topic)?;
     let key = Word::new(alloc, question.key)?;
-    let found = whatif(bench, node, &topic, &key, alloc)?;
+    let found = whatif(bench, node, &topic, &key, alloc, watch)?;
     let changes = found.told.len();
     let change = change_at(found.told.as_slice(), number);
     drop(found);

@@ -5,12 +5,14 @@ ghost use Rattle.change_core.specs.Changes.{changes};
 ghost use Rattle.whatif_core.specs.Differences.{Tally, tally_of};
 ghost use Rattle.change_core.specs.Ends.{rows_before};
 ghost use Rattle.change_core.specs.Questions.{Question};
+ghost use Rattle.progress_core.specs.Watches.{Watched};
 ghost use Rattle.whatif_report.specs.Texts.{differences_text, head_line, whatif_text};
 
 use crate::change_text::put_difference;
 use bench_core::{Bench, Journal, Names};
 use diff_core::OnlineRow;
 use payload_core::{Oom, Word};
+use progress_core::{Tried, Watch};
 use report_core::{name_at, put_rows};
 use std::alloc::Allocator;
 use whatif_core::{Difference, Differences, whatif};
@@ -86,16 +88,18 @@ fn put_found<'a, A: Allocator, B: Allocator>(
 }
 
 /// What would have made a difference to the rows of this topic and key at the node, as a text.
-pub(crate) fn tell<'a, B: Allocator>(
+pub(crate) fn tell<'a, B: Allocator, W: Watch<Tried>>(
     bench: &Bench<'a, B>,
     node: u16,
     topic: &Word<&'a B>,
     key: &Word<&'a B>,
     alloc: &'a B,
+    watch: &mut W,
 ) -> Result<String<&'a B>, Oom>
-    ensures { IfOk result (λ text. string_bytes text ≡ whatif_text bench.now (record { node = node; topic = topic.now; key = key.now })) }
+    ensures text { IfOk result (λ text. string_bytes text ≡ whatif_text bench.now (record { node = node; topic = topic.now; key = key.now })) }
+    ensures watched { Watched W.told watch.old watch.new }
 {
-    let found = whatif(bench, node, topic, key, alloc)?;
+    let found = whatif(bench, node, topic, key, alloc, watch)?;
     let mut text = String::new(alloc);
     let put = put_found(bench, &mut text, node, topic, key, &found, alloc);
     drop(found);

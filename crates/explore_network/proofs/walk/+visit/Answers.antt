@@ -39,6 +39,7 @@ go_on-loop-place-preserved g t c =
       went = went_on p q c.loop-place.walk.settled c.go_at.new.walk.settled c.args.walk.now.outcomes.items c.loop-place.walk.outcomes.items c.go_at.new.walk.outcomes.items inv.went c.in_ok-go_at.ensures.went;
       goes = goes_further p q c.args.walk.now.path.items c.loop-place.walk.path.items c.args.walk.now.cluster c.loop-place.walk.cluster c.args.counts.now c.args.walk.now.outcomes.items c.loop-place.walk.outcomes.items
           c.go_at.new.walk.outcomes.items c.loop-place.place inv.path inv.cluster c.in_ok-go_at.ensures.went.more inv.goes c.in_ok-go_at.ensures.goes;
+      watched = λ start told. c.in_ok-go_at.ensures.watched start (inv.watched start told);
     }
 
 pub go_on-returns-clause-goes : goal.go_on-returns-clause-goes
@@ -122,7 +123,7 @@ tell_once-returns-then-len-most-clause-stops g t c =
     let q = (plain c.args.tour.now.question.now) in
     let mid = c.tell_all.new.walk.settled in
     let new = c.tell_all.new.walk.outcomes.items in
-    too_many p q new mid c.put.new.self _ c.in_ok-tell_all.ensures.went.keeps
+    too_many p q new mid c.put.new.self _ c.requires.plan c.in_ok-tell_all.ensures.went.keeps
     (known_key p q c.args.walk.now.path.items c.args.walk.now.cluster c.args.walk.now.settled mid c.put.new.self c.args.walk.now.outcomes.items new c.args.counts.now c.in_ok-key.key.items c.args.left c.requires
     c.in_ok-key.ensures c.in_ok-tell_all.ensures.went c.in_ok-tell_all.ensures.told c.in_ok-put.ensures) (let lt = c.if-len-most.true in let n = c.len.ensures in let m = c.most.ensures in omega (arith, lt, n, m))
     (let ok = c.tell_all.new.walk.outcomes.ok in let n = c.len-then-len-most.ensures in omega (arith, ok.0, n))
@@ -140,6 +141,7 @@ through-returns-in-Err g t c =
       goes = refused_there p q (steps_at p.steps c.args.walk.now.path.items) c.args.walk.now.cluster c.args.place c.args.walk.now.outcomes.items c.in-Some.kept.now c.in-Err.field-0 here
           ((λ i. step c.args.walk.now.cluster (sym c.kept.view_is i).node (sym c.kept.view_is i).step) ∙ c.in-Err.ensures.refused (λ same. search rules));
       stops = tt;
+      watched = λ start told. told;
     }
 
 pub through-onward-requires : goal.through-onward-requires

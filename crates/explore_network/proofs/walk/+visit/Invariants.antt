@@ -1,4 +1,5 @@
 use Rattle.std.proofs.Common.{◌≡◌, ◌+◌, ◌*◌, ◌<◌, ℕ}
+use Rattle.progress_core.specs.Watches.{Watched}
 use Rattle.explore_network.specs.Questions.{plain}
 use Rattle.explore_network.specs.Walks.{GoesThroughAt, Went}
 use Rattle.explore_network.proofs.walk.+visit.Given as goal
@@ -34,4 +35,5 @@ invariant-go_on-loop-place g l = record {
   path : l.walk.path.items ≡ l.initial.walk.path.items;
   went : Went l.tour.plan.now (plain l.tour.question.now) l.initial.walk.outcomes.items l.walk.settled l.walk.outcomes.items;
   goes : (place : ℕ) → place < l.place → GoesThroughAt l.tour.plan.now (plain l.tour.question.now) l.initial.walk.path.items l.initial.walk.cluster l.counts l.walk.outcomes.items place;
+  watched : Watched g.W.Watch.told l.initial.watch l.watch;
 }

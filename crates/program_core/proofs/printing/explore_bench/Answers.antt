@@ -1,10 +1,12 @@
-use Rattle.std.proofs.Common.{rules, ℕ, List, Err, subst, subst₂, sym}
+use Rattle.std.proofs.Common.{◌≡◌, ◌∙◌, refl, rules, ℕ, List, Err, subst, subst₂, sym}
 use Rattle.explore_report.specs.declared.question.Question.{Question as Asked}
 use Rattle.command_line.specs.declared.chosen.Subcommand.TheVariants.{Explore}
 use Rattle.program_core.specs.Explored.{RefusesExplored, TellsExplored}
 use Rattle.program_core.specs.Program.{EndsAt}
 use Rattle.program_core.specs.declared.fault.Fault.{Fault}
 use Rattle.program_core.proofs.Printed.{asked_explore, ends_explore, fails_not, refused_explore}
+use Rattle.progress_core.specs.Lines.{walked_line, TellsWalked}
+use Rattle.progress_core.proofs.Telling.{tells_nothing, told_nothing}
 use Rattle.program_core.proofs.printing.explore_bench.Goals as goal
 
 -- the input gives no bench
@@ -28,3 +30,21 @@ returns-clause-ends g c =
 
 pub returns-clause-failed : goal.returns-clause-failed
 returns-clause-failed g c = fails_not c.args.form c.args.limits c.as_bytes.result.now _ _ c.print.result _ _ c.print.ensures c.in_ok-bench.ensures.failed
+
+pub returns-in_err-bench-clause-progress : goal.returns-in_err-bench-clause-progress
+returns-in_err-bench-clause-progress g c = tells_nothing (λ work. walked_line work) _
+
+-- what the stream holds is what the teller left behind its reference
+pub returns-in-Err-clause-progress : goal.returns-in-Err-clause-progress
+returns-in-Err-clause-progress g c =
+    let start = c.new-teller.result in
+    let told = c.tell_explored-told.ensures.watched start (refl, told_nothing (λ work. walked_line work) start.able (g.E.Write.contents start.errors.now)) in
+    let same = c.errors-1.given.1 (sym (told.0 ∙ c.new-teller.ensures.same_reference)) in
+    subst₂ (λ old new. TellsWalked (g.E.Write.contents old) (g.E.Write.contents new)) c.new-teller.ensures.kept (sym same) told.1.part
+
+pub returns-clause-progress : goal.returns-clause-progress
+returns-clause-progress g c =
+    let start = c.new-teller.result in
+    let told = c.tell_explored-told.ensures.watched start (refl, told_nothing (λ work. walked_line work) start.able (g.E.Write.contents start.errors.now)) in
+    let same = c.errors-1.given.1 (sym (told.0 ∙ c.new-teller.ensures.same_reference)) in
+    subst₂ (λ old new. TellsWalked (g.E.Write.contents old) (g.E.Write.contents new)) c.new-teller.ensures.kept (sym same) told.1.part

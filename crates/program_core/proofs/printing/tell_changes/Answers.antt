@@ -1,9 +1,11 @@
-use Rattle.std.proofs.Common.{rules, ℕ, List, Err, subst, sym}
+use Rattle.std.proofs.Common.{◌≡◌, ◌∙◌, refl, rules, ℕ, List, Err, subst, subst₂, sym}
 use Rattle.program_core.specs.Whatifs.{TellsWhatif}
 use Rattle.program_core.proofs.Printed.{asked_whatif, ends_whatif, fails_not, refused_whatif}
 use Rattle.command_line.specs.declared.chosen.Subcommand.TheVariants.{Whatif}
 use Rattle.program_core.specs.declared.fault.Fault.{Fault}
 use Rattle.program_core.specs.Program.{EndsAt}
+use Rattle.progress_core.specs.Lines.{tried_line, TellsTried}
+use Rattle.progress_core.proofs.Telling.{tells_nothing, told_nothing}
 use Rattle.program_core.proofs.printing.tell_changes.Goals as goal
 
 -- the input gives no bench
@@ -26,3 +28,21 @@ returns-clause-ends g c =
 
 pub returns-clause-failed : goal.returns-clause-failed
 returns-clause-failed g c = fails_not c.args.form c.args.limits c.as_bytes.result.now _ _ c.print.result _ _ c.print.ensures c.in_ok-bench.ensures.failed
+
+pub returns-in_err-bench-clause-progress : goal.returns-in_err-bench-clause-progress
+returns-in_err-bench-clause-progress g c = tells_nothing (λ work. tried_line work) _
+
+-- what the stream holds is what the teller left behind its reference
+pub returns-in-Err-clause-progress : goal.returns-in-Err-clause-progress
+returns-in-Err-clause-progress g c =
+    let start = c.new-teller.result in
+    let told = c.tell_whatif-told.ensures.watched start (refl, told_nothing (λ work. tried_line work) start.able (g.E.Write.contents start.errors.now)) in
+    let same = c.errors-1.given.1 (sym (told.0 ∙ c.new-teller.ensures.same_reference)) in
+    subst₂ (λ old new. TellsTried (g.E.Write.contents old) (g.E.Write.contents new)) c.new-teller.ensures.kept (sym same) told.1.part
+
+pub returns-clause-progress : goal.returns-clause-progress
+returns-clause-progress g c =
+    let start = c.new-teller.result in
+    let told = c.tell_whatif-told.ensures.watched start (refl, told_nothing (λ work. tried_line work) start.able (g.E.Write.contents start.errors.now)) in
+    let same = c.errors-1.given.1 (sym (told.0 ∙ c.new-teller.ensures.same_reference)) in
+    subst₂ (λ old new. TellsTried (g.E.Write.contents old) (g.E.Write.contents new)) c.new-teller.ensures.kept (sym same) told.1.part

@@ -3,6 +3,7 @@ use Rattle.std.specs.Result.{OnOk}
 use Rattle.bench_core.specs.Limits.{Limits}
 use Rattle.run_core.specs.Prompts.{Prompt}
 use Rattle.prompt_core.specs.Ends.{Answers}
+use Rattle.prompt_core.specs.Signs.{Shows}
 use Rattle.prompt_core.proofs.stepping.step_counted.Goals as goal
 
 pub answer_each-ended-requires : goal.answer_each-ended-requires
@@ -15,3 +16,11 @@ returns-clause-answers g c =
     let written = g.W.Write.contents c.answer_each-ended.new.writer in
     subst (λ (l : Limits). OnOk c.answer_each-ended.result (Answers c.args.help.now l input output written))
     (ap (λ (p : Prompt). p.limits) c.new-prompt.ensures) c.answer_each-ended.ensures.answers
+
+pub returns-clause-signs : goal.returns-clause-signs
+returns-clause-signs g c =
+    let input = g.R.Read.remaining c.args.reader.now in
+    let told = g.E.Write.contents c.args.errors.now in
+    let shown = g.E.Write.contents c.answer_each-ended.new.errors in
+    subst (λ (l : Limits). Shows c.args.has_signs c.args.help.now l input told shown) (ap (λ (p : Prompt). p.limits) c.new-prompt.ensures)
+    c.answer_each-ended.ensures.signs

@@ -28,7 +28,8 @@ loop-place-preserved g c = record {
   possible = possible_fits c.args.before.now c.loop-place.tally c.count.new.self _ _ c.loop-place.place c.in_ok-count.ensures c.loop-place.invariant.possible;
   differ = differ_fits c.args.before.now c.loop-place.tally c.count.new.self _ _ c.loop-place.place c.in_ok-count.ensures c.loop-place.invariant.differ;
   search = (c.in_ok-rows.ensures c.args.bench.now c.requires.steps c.loop-place.invariant.search).search;
+  watched = λ start told. c.tell.ensures start (c.loop-place.invariant.watched start told);
 }
 
-pub returns : goal.returns
-returns g c = all_counted _ _ c.args.steps.now c.args.tried.now c.loop-place.place c.loop-place.tally c.requires.steps c.requires.tried c.loop-place-test.false c.loop-place.invariant.counted
+pub returns-clause-tally : goal.returns-clause-tally
+returns-clause-tally g c = all_counted _ _ c.args.steps.now c.args.tried.now c.loop-place.place c.loop-place.tally c.requires.steps c.requires.tried c.loop-place-test.false c.loop-place.invariant.counted

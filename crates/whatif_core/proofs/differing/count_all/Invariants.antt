@@ -1,6 +1,7 @@
 use Rattle.std.proofs.Common.{◌≡◌, ◌≤◌, drop}
 use Rattle.whatif_core.specs.Differences.{nothing, tally_from}
 use Rattle.change_core.specs.Searches.{IsSearch}
+use Rattle.progress_core.specs.Watches.{Watched}
 use Rattle.whatif_core.proofs.differing.count_all.Given as goal
 
 -- what is left is counted behind what was
@@ -11,4 +12,5 @@ invariant-loop-place g l = record {
   possible : l.tally.possible ≤ l.place;
   differ : l.tally.differ ≤ l.place;
   search : IsSearch l.bench (record { node = l.node; topic = l.topic; key = l.key }) l.steps l.search;
+  watched : Watched g.W.Watch.told l.fn.watch l.watch;
 }

@@ -1,7 +1,7 @@
 use Rattle.std.proofs.Common.{length}
 use Rattle.std.proofs.KnownBytes.{Appends-kept}
 use Rattle.std.proofs.Math.Seq.{take-length}
-use Rattle.prompt_core.proofs.stepping.put_out.Goals as goal
+use Rattle.prompt_core.proofs.out.put_out.Goals as goal
 
 -- the whole answer went out, and wasn't flushed
 pub returns-in-Err-flush-clause-err : goal.returns-in-Err-flush-clause-err

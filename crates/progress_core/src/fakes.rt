@@ -1,0 +1,33 @@
+//! A clock for tests.
+use std::cell::Cell;
+use std::io;
+use std::time::{Clock, Duration};
+
+/// At each look it is later by the same time.
+#[derive(Drop)]
+pub struct FakeClock {
+    now: Cell<u64>,
+    step: u64,
+}
+
+impl FakeClock {
+    /// By so many milliseconds.
+    pub fn new(step: u64) -> FakeClock {
+        FakeClock {
+            now: Cell::new(0),
+            step,
+        }
+    }
+}
+
+impl Clock for FakeClock {
+    fn monotonic(&self) -> io::Result<Duration> {
+        let now = self.now.get();
+        self.now.set(now.saturating_add(self.step));
+        Ok(Duration::from_millis(now))
+    }
+
+    fn since_1970(&self) -> io::Result<Duration> {
+        self.monotonic()
+    }
+}

@@ -1,0 +1,17 @@
+//! Who is told how far long work has come, and who tells it as lines.
+//!
+//! It stands on `stream_core` alone. In the order to read them: `work`, how far work has come; `watch`, who is told of it; `line`, it as a
+//! line; `pace`, when a line is due; `teller`, who tells lines; `fakes`, a clock for tests.
+#![tactic(auto)]
+
+mod fakes;
+mod line;
+mod pace;
+mod teller;
+mod watch;
+mod work;
+
+pub use fakes::FakeClock;
+pub use teller::Teller;
+pub use watch::{Silent, Watch};
+pub use work::{Tried, Walked};

@@ -1,0 +1,22 @@
+//! `Watch`: who is told how far work has come.
+ghost use Rattle.progress_core.specs.Watches.{Watched};
+
+/// Who is told how far work has come, at each piece of it. Its relation says what may lie between one time and a later one.
+pub trait Watch<P: Copy> {
+    ghost told: { Self → Self → Type 0 };
+
+    fn tell(&mut self, work: P)
+        ensures { Watched told self.old self.new };
+}
+
+/// Tells nobody.
+#[derive(Clone, Copy, Debug)]
+pub struct Silent;
+
+impl<P: Copy> Watch<P> for Silent {
+    ghost use Rattle.std.specs.Prelude.{⊤};
+
+    ghost told = { λ _ _. ⊤ };
+
+    fn tell(&mut self, _work: P) {}
+}

@@ -1,0 +1,16 @@
+//! How far work has come.
+
+/// How many changes were tried, of how many there are.
+#[derive(Clone, Copy, Debug, PartialEq, Eq)]
+pub struct Tried {
+    pub done: usize,
+    pub all: usize,
+}
+
+/// How many states a walk has kept, how many outcomes it has found, and how many steps may come yet where it stands.
+#[derive(Clone, Copy, Debug, PartialEq, Eq)]
+pub struct Walked {
+    pub states: usize,
+    pub outcomes: usize,
+    pub left: u128,
+}

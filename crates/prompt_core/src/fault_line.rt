@@ -1,0 +1,47 @@
+//! The fault of a line, as it is told.
+ghost use Rattle.std.specs.Prelude.{◌≡◌, ◌++◌, OnOk};
+ghost use Rattle.prompt_core.specs.Answers.{fault_line, kind_name};
+
+use grammar_core::FaultKind;
+use payload_core::Oom;
+use std::alloc::Allocator;
+
+#[tactic(auto, unfolding(crate::specs::Answers::kind_name))]
+fn kind_name(kind: FaultKind) -> &'static str
+    ensures { result.now ≡ kind_name kind }
+{
+    match kind {
+        FaultKind::NotText => "NotText",
+        FaultKind::TooLong => "TooLong",
+        FaultKind::NoNodes => "NoNodes",
+        FaultKind::Twice => "Twice",
+        FaultKind::UnknownWord => "UnknownWord",
+        FaultKind::WrongCount => "WrongCount",
+        FaultKind::NotAllowed => "NotAllowed",
+        FaultKind::BadNumber => "BadNumber",
+        FaultKind::BadName => "BadName",
+        FaultKind::OutOfMemory => "OutOfMemory",
+    }
+}
+
+/// A text behind an answer.
+pub fn put_text<A: Allocator>(answer: &mut Vec<u8, A>, text: &str) -> Result<(), Oom>
+    ensures { OnOk result (answer.new.items ≡ answer.old.items ++ text.now) }
+{
+    Ok(answer.extend_from_slice(text.as_bytes())?)
+}
+
+/// The fault of a line.
+#[tactic(auto, unfolding(crate::specs::Answers::fault_line))]
+pub fn put_fault<A: Allocator + Copy>(
+    alloc: A,
+    answer: &mut Vec<u8, A>,
+    number: u64,
+    kind: FaultKind,
+) -> Result<(), Oom>
+    ensures { OnOk result (answer.new.items ≡ answer.old.items ++ fault_line number kind) }
+{
+    let name = kind_name(kind);
+    let line = format!(in alloc; "line {number}: {name}\n")?;
+    put_text(answer, &line)
+}

@@ -1,0 +1,23 @@
+//! Bytes that go out at once.
+ghost use Rattle.std.specs.Prelude.{◌≡◌, ℕ, IfErr, OnErr, OnOk, take};
+ghost use Rattle.std.specs.Io.KnownBytes.{Appends};
+ghost use Rattle.prompt_core.specs.declared.prompt_fault.PromptFault.TheVariants.{WriteFault};
+
+use crate::prompt_fault::PromptFault;
+use std::io::Write;
+use stream_core::write_out;
+
+/// Writes an answer, and flushes it.
+pub fn put_out<W: Write>(writer: &mut W, answer: &[u8]) -> Result<(), PromptFault>
+    ensures ok { OnOk result (Appends (W.contents writer.old) (W.contents writer.new) answer.now) }
+    ensures err { OnErr result ((count : ℕ) × Appends (W.contents writer.old) (W.contents writer.new) (take count answer.now)) }
+    ensures fault { IfErr result (λ fault. fault ≡ WriteFault) }
+{
+    if let Err(_fault) = write_out(writer, answer) {
+        return Err(PromptFault::WriteFault);
+    }
+    match writer.flush() {
+        Ok(()) => Ok(()),
+        Err(_) => Err(PromptFault::WriteFault),
+    }
+}

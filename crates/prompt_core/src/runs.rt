@@ -1,0 +1,192 @@
+//! What the prompt's own words tell of the run so far: its picture, its steps, its script, what a node has sent.
+ghost use Rattle.std.specs.Prelude.{◌≡◌, ◌++◌, OnOk, map};
+ghost use Rattle.bench_core.specs.NameList.{number_in};
+ghost use Rattle.prompt_core.specs.Answers.{alone, drawn, run_word, script_within, sent_at, told_script, told_sent, told_steps};
+
+use crate::fault_line::{put_fault, put_text};
+use crate::sent::put_sent;
+use bench_core::Bench;
+use grammar_core::{FaultKind, LONGEST_SCRIPT};
+use payload_core::Oom;
+use picture_core::draw;
+use run_core::Prompt;
+use std::alloc::Allocator;
+use transcript_core::{bench_steps, calls_text};
+
+/// The picture of the bench, once the nodes are named.
+fn put_picture<'a, B: Allocator>(
+    prompt: &Prompt<'a, B>,
+    alloc: &'a B,
+    answer: &mut Vec<u8, &'a B>,
+    number: u64,
+) -> Result<(), Oom>
+    ensures { OnOk result (answer.new.items ≡ answer.old.items ++ drawn number prompt.now.machine) }
+{
+    let Some(bench) = prompt.bench() else {
+        return put_fault(alloc, answer, number, FaultKind::NoNodes);
+    };
+    let picture = draw(alloc, bench, None)?;
+    answer.extend_from_slice(&picture)?;
+    put_text(answer, "\n")
+}
+
+/// The same, where no word stands behind `:draw`.
+fn put_draw<'a, B: Allocator>(
+    prompt: &Prompt<'a, B>,
+    alloc: &'a B,
+    answer: &mut Vec<u8, &'a B>,
+    number: u64,
+    words: &[&str],
+) -> Result<(), Oom>
+    ensures { OnOk result (answer.new.items ≡ answer.old.items ++ alone number (map (λ word. word.now) words.now) (drawn number prompt.now.machine)) }
+{
+    let [_, ..] = words else {
+        return put_picture(prompt, alloc, answer, number);
+    };
+    put_fault(alloc, answer, number, FaultKind::WrongCount)
+}
+
+/// The recorded calls, each above what it printed, once the nodes are named.
+fn put_bench_steps<'a, B: Allocator>(
+    prompt: &Prompt<'a, B>,
+    alloc: &'a B,
+    answer: &mut Vec<u8, &'a B>,
+    number: u64,
+) -> Result<(), Oom>
+    ensures { OnOk result (answer.new.items ≡ answer.old.items ++ told_steps number prompt.now.cast prompt.now.machine) }
+{
+    let Some(consoles) = prompt.consoles() else {
+        return put_fault(alloc, answer, number, FaultKind::NoNodes);
+    };
+    let Some(bench) = prompt.bench() else {
+        return put_fault(alloc, answer, number, FaultKind::NoNodes);
+    };
+    let steps = bench_steps(alloc, bench, consoles)?;
+    Ok(answer.extend_from_slice(&steps)?)
+}
+
+/// The same, where no word stands behind `:steps`.
+fn put_steps<'a, B: Allocator>(
+    prompt: &Prompt<'a, B>,
+    alloc: &'a B,
+    answer: &mut Vec<u8, &'a B>,
+    number: u64,
+    words: &[&str],
+) -> Result<(), Oom>
+    ensures { OnOk result (answer.new.items ≡ answer.old.items ++ alone number (map (λ word. word.now) words.now) (told_steps number prompt.now.cast prompt.now.machine)) }
+{
+    let [_, ..] = words else {
+        return put_bench_steps(prompt, alloc, answer, number);
+    };
+    put_fault(alloc, answer, number, FaultKind::WrongCount)
+}
+
+/// A script, unless it is too long for one.
+fn put_within<A: Allocator + Copy>(
+    alloc: A,
+    answer: &mut Vec<u8, A>,
+    number: u64,
+    script: &str,
+) -> Result<(), Oom>
+    ensures { OnOk result (answer.new.items ≡ answer.old.items ++ script_within number script.now) }
+{
+    if script.len() > LONGEST_SCRIPT {
+        return put_fault(alloc, answer, number, FaultKind::TooLong);
+    }
+    put_text(answer, script)
+}
+
+/// The recorded calls as a script, once the nodes are named.
+fn put_calls<'a, B: Allocator>(
+    prompt: &Prompt<'a, B>,
+    alloc: &'a B,
+    answer: &mut Vec<u8, &'a B>,
+    number: u64,
+) -> Result<(), Oom>
+    ensures { OnOk result (answer.new.items ≡ answer.old.items ++ told_script number prompt.now.cast prompt.now.machine) }
+{
+    let Some(consoles) = prompt.consoles() else {
+        return put_fault(alloc, answer, number, FaultKind::NoNodes);
+    };
+    let Some(bench) = prompt.bench() else {
+        return put_fault(alloc, answer, number, FaultKind::NoNodes);
+    };
+    let script = calls_text(bench, consoles, alloc)?;
+    put_within(alloc, answer, number, &script)
+}
+
+/// The same, where no word stands behind `:script`.
+fn put_script<'a, B: Allocator>(
+    prompt: &Prompt<'a, B>,
+    alloc: &'a B,
+    answer: &mut Vec<u8, &'a B>,
+    number: u64,
+    words: &[&str],
+) -> Result<(), Oom>
+    ensures { OnOk result (answer.new.items ≡ answer.old.items ++ alone number (map (λ word. word.now) words.now) (told_script number prompt.now.cast prompt.now.machine)) }
+{
+    let [_, ..] = words else {
+        return put_calls(prompt, alloc, answer, number);
+    };
+    put_fault(alloc, answer, number, FaultKind::WrongCount)
+}
+
+/// What the node of this name has sent, or what is wrong with the name.
+fn put_sent_at<'a, B: Allocator>(
+    bench: &Bench<'a, B>,
+    alloc: &'a B,
+    answer: &mut Vec<u8, &'a B>,
+    number: u64,
+    name: &str,
+) -> Result<(), Oom>
+    ensures { OnOk result (answer.new.items ≡ answer.old.items ++ sent_at number bench.now (number_in bench.now.names name.now)) }
+{
+    let Some(node) = bench.names().number_of(name) else {
+        return put_fault(alloc, answer, number, FaultKind::BadName);
+    };
+    let mut text = String::new(alloc);
+    put_sent(&mut text, bench, node)?;
+    put_text(answer, &text)
+}
+
+/// What the word behind `:sent` asks for, once the nodes are named.
+#[tactic(auto, unfolding(crate::specs::Answers::told_sent))]
+fn put_told_sent<'a, B: Allocator>(
+    prompt: &Prompt<'a, B>,
+    alloc: &'a B,
+    answer: &mut Vec<u8, &'a B>,
+    number: u64,
+    words: &[&str],
+) -> Result<(), Oom>
+    ensures { OnOk result (answer.new.items ≡ answer.old.items ++ told_sent number prompt.now.machine (map (λ word. word.now) words.now)) }
+{
+    let Some(bench) = prompt.bench() else {
+        return put_fault(alloc, answer, number, FaultKind::NoNodes);
+    };
+    let [node] = words else {
+        return put_fault(alloc, answer, number, FaultKind::WrongCount);
+    };
+    put_sent_at(bench, alloc, answer, number, node)
+}
+
+/// What the words tell of the run; of others the fault.
+#[tactic(auto, unfolding(crate::specs::Answers::run_word))]
+pub fn put_run<'a, B: Allocator>(
+    prompt: &Prompt<'a, B>,
+    alloc: &'a B,
+    answer: &mut Vec<u8, &'a B>,
+    number: u64,
+    kind: FaultKind,
+    first: &str,
+    words: &[&str],
+) -> Result<(), Oom>
+    ensures { OnOk result (answer.new.items ≡ answer.old.items ++ run_word prompt.now number kind first.now (map (λ word. word.now) words.now)) }
+{
+    match first {
+        ":draw" => put_draw(prompt, alloc, answer, number, words),
+        ":steps" => put_steps(prompt, alloc, answer, number, words),
+        ":script" => put_script(prompt, alloc, answer, number, words),
+        ":sent" => put_told_sent(prompt, alloc, answer, number, words),
+        _ => put_fault(alloc, answer, number, kind),
+    }
+}
