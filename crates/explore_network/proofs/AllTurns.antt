@@ -4,8 +4,9 @@ use Rattle.std.proofs.lemmas.Bool.{ne_eqb}
 use Rattle.std.specs.List.{AllByRecursion}
 use Rattle.std.specs.Option.{is_some}
 use Rattle.journal_core.specs.Journals.{Kept}
-use Rattle.explore_network.specs.declared.turn.Turn.{Turn}
-use Rattle.explore_network.specs.Turns.{count_of, delivery_of, is_of, noted, noted_all, own_turns, place_from, place_of, same_message, turn_of, turns_of}
+use Rattle.network_rules.specs.declared.turn.Turn.{Turn}
+use Rattle.explore_network.specs.Turns.{count_of, noted, noted_all, own_turns, place_from, place_of, turn_of, turns_of}
+use Rattle.network_rules.specs.Turns.{delivery_of, is_of, same_message}
 use Rattle.explore_network.proofs.TurnKinds.{of_named}
 
 more_cases : (n m : ℕ) → (n < m) ⊎ (n ≡ m) → (suc n < suc m) ⊎ (suc n ≡ suc m)
@@ -74,11 +75,6 @@ get_next (x ∷ xs) ys y = get_next xs ys y
 pub all_append : {X : Type 0} (P : X → Type 0) (xs ys : List X) → AllByRecursion P xs → AllByRecursion P ys → AllByRecursion P (xs ++ ys)
 all_append P [] ys a b = b
 all_append P (x ∷ xs) ys a b = (a.0, all_append P xs ys a.1 b)
-
-pub all_get : {X : Type 0} (P : X → Type 0) (xs : List X) (i : ℕ) (x : X) → AllByRecursion P xs → slice_get xs i ≡ Some x → P x
-all_get P [] i x all h = absurd (cc)
-all_get P (y ∷ xs) zero x all h = let same : y ≡ x = cc in subst P same all.0
-all_get P (y ∷ xs) (suc i) x all h = all_get P xs i x all.1 h
 
 abbrev pub Has : List Turn → Kept → Type 0
 Has ts k = (i : ℕ) × Found ts k i

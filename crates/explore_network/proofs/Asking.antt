@@ -16,7 +16,7 @@ use Rattle.network_core.proofs.OwnParts.{known_more_run, made_cases, IsNewest}
 use Rattle.order_core.proofs.Places.{from_on, up_to}
 use Rattle.explore_network.specs.Asked.{asked_dots, fresh_of}
 use Rattle.explore_network.specs.Explorations.{is_asked, is_asked_of}
-use Rattle.explore_network.specs.Tables.{is_wanted}
+use Rattle.network_rules.specs.Tables.{is_wanted}
 use Rattle.explore_network.specs.Walks.{with_step}
 use Rattle.explore_network.proofs.CountLoops.{all_taken}
 use Rattle.explore_network.proofs.OwnDots.{wanted_first, wanted_last}

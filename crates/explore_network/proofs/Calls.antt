@@ -10,7 +10,7 @@ use Rattle.explore_network.specs.Questions.{Question}
 use Rattle.explore_network.specs.Walks.{next_in, steps_at, told_by, AllGoThrough, AreMore, GoesThrough, GoesThroughAt, HasReason, IsAt, IsBehind, IsFirst, IsReady, IsTold, Keeps, Outcome, Went}
 use Rattle.network_core.specs.NetworkRuns.{IsNetworkRun}
 use Rattle.explore_network.specs.Keys.{IsAmong}
-use Rattle.explore_network.specs.Queries.{key_of}
+use Rattle.network_rules.specs.Queries.{key_of}
 use Rattle.explore_network.proofs.Going.{steps_push}
 use Rattle.explore_network.proofs.SameKeys.{same_key}
 use Rattle.explore_network.proofs.Telling.{all_told}

@@ -10,12 +10,14 @@ use Rattle.network_core.specs.NetworkRuns.{IsNetworkRun, how_many, is_of_kind, i
 use Rattle.network_core.specs.Settling.{MayCome}
 use Rattle.network_core.proofs.Counts as counts_of_runs
 use Rattle.network_core.proofs.NextDeliveries.{next_delivery_holds, total as all_of_kind}
-use Rattle.explore_network.specs.declared.turn.Turn.{Turn}
+use Rattle.network_rules.specs.declared.turn.Turn.{Turn}
 use Rattle.explore_network.specs.Plans.{walk_of, IsPlan, Plan}
 use Rattle.explore_network.specs.Questions.{Question}
-use Rattle.explore_network.specs.Turns.{count_of, delivery_of, extra, is_next_by, is_of, named, same_message}
+use Rattle.explore_network.specs.Turns.{count_of, named}
+use Rattle.network_rules.specs.Turns.{delivery_of, extra, is_next_by, is_of, same_message}
 use Rattle.explore_network.specs.Walks.{next_in, IsAt}
-use Rattle.explore_network.proofs.AllTurns.{all_get, are_turns, AreTurns}
+use Rattle.network_rules.proofs.Lookups.{all_get}
+use Rattle.explore_network.proofs.AllTurns.{are_turns, AreTurns}
 use Rattle.explore_network.proofs.Going.{ordered_in}
 use Rattle.explore_network.proofs.Nth.{nth, parted, same_parts, Nth}
 use Rattle.explore_network.proofs.Ranked.{next_is, ranked, Ranked}

@@ -9,12 +9,15 @@ use Rattle.bench_core.specs.Laws.{delivery}
 use Rattle.network_core.specs.NetworkRuns.{IsNetworkRun, deliveries, how_many, is_delivery, ordered}
 use Rattle.network_core.proofs.Counts as runs
 use Rattle.network_core.proofs.NextDeliveries.{repeated_once, total as all_of_kind}
-use Rattle.explore_network.specs.declared.turn.Turn.{Turn}
-use Rattle.explore_network.specs.Turns.{count_at, count_of, counts_of, delivery_of, extra, is_end, is_of, is_whole, is_whole_by, missing}
-use Rattle.explore_network.proofs.AllTurns.{all_get, get_next, same_turn, AreApart, AreTurns, Found, Has}
+use Rattle.network_rules.specs.declared.turn.Turn.{Turn}
+use Rattle.network_rules.specs.Turns.{count_at, delivery_of, extra, is_end, is_of, is_whole, is_whole_by, missing}
+use Rattle.explore_network.specs.Turns.{count_of, counts_of}
+use Rattle.network_rules.proofs.Lookups.{all_get}
+use Rattle.explore_network.proofs.AllTurns.{get_next, same_turn, AreApart, AreTurns, Found, Has}
 use Rattle.explore_network.proofs.Coming.{extra_few}
 use Rattle.explore_network.proofs.Sums.{count_cons, both_of, extra_is, few, missing_is, one, total, total_le}
-use Rattle.explore_network.proofs.TurnKinds.{both_true, delivers_none, delivers_some, kind_count, of_turn, own_count}
+use Rattle.network_rules.proofs.Tests.{both_true}
+use Rattle.explore_network.proofs.TurnKinds.{delivers_none, delivers_some, kind_count, of_turn, own_count}
 
 -- of each turn, whether it is whole
 

@@ -19,19 +19,23 @@ use Rattle.network_core.specs.NetworkRuns.{how_many, is_of_kind}
 use Rattle.network_core.specs.Settling.{IsQuiet, IsSettled, IsSpent}
 use Rattle.network_core.proofs.NextDeliveries.{quiet_holds}
 use Rattle.network_core.proofs.Settling.{settle_holds}
-use Rattle.explore_network.specs.declared.turn.Turn.{Turn}
-use Rattle.explore_network.specs.Easy.{BringsNone, CanGoFirst, GoesFirst, IsEasyAt, IsIdleStep, IsOwn, IsKnownUp, IsOwnStep}
-use Rattle.explore_network.specs.Plans.{walk_of, IsPlan, Plan}
+use Rattle.network_rules.specs.declared.turn.Turn.{Turn}
+use Rattle.network_rules.specs.Easy.{BringsNone, IsEasyAt, IsOwn, IsKnownUp}
+use Rattle.explore_network.specs.Easy.{CanGoFirst, GoesFirst, IsIdleStep, IsOwnStep}
+use Rattle.explore_network.specs.Plans.{cone_of, walk_of, IsPlan, Plan}
 use Rattle.explore_network.specs.Questions.{Question}
-use Rattle.explore_network.specs.Tables.{cone_of, is_wanted, matter}
-use Rattle.explore_network.specs.Turns.{count_at, count_of, is_of, named, turn_of, AreSpent}
+use Rattle.network_rules.specs.Tables.{is_wanted, matter}
+use Rattle.network_rules.specs.Turns.{count_at, is_of, AreSpent}
+use Rattle.explore_network.specs.Turns.{count_of, named, turn_of}
 use Rattle.explore_network.specs.Walks.{next_in, CanBeFirst, IsAt, IsFirst}
-use Rattle.explore_network.proofs.AllTurns.{all_get, own_turn_at}
+use Rattle.network_rules.proofs.Lookups.{all_get, get_map}
+use Rattle.explore_network.proofs.AllTurns.{own_turn_at}
 use Rattle.explore_network.proofs.Coming.{turns_are}
 use Rattle.explore_network.proofs.Going.{own_next}
 use Rattle.explore_network.proofs.Nth.{nth}
-use Rattle.explore_network.proofs.Ranked.{came_so, get_map, ranked, Ranked}
-use Rattle.explore_network.proofs.TurnKinds.{both_true, delivers_some, kind_count, of_turn, own_count}
+use Rattle.explore_network.proofs.Ranked.{came_so, ranked, Ranked}
+use Rattle.network_rules.proofs.Tests.{both_true}
+use Rattle.explore_network.proofs.TurnKinds.{delivers_some, kind_count, of_turn, own_count}
 use Rattle.std.proofs.lemmas.Option.{slice_get_within}
 use Rattle.std.specs.Option.{unwrap_or}
 

@@ -10,12 +10,14 @@ use Rattle.network_core.specs.NetworkRuns.{is_delivery, is_ordered, ordered}
 use Rattle.network_core.specs.Settling.{IsNext}
 use Rattle.explore_network.specs.Plans.{walk_of, IsPlan, Plan}
 use Rattle.explore_network.specs.Questions.{Question}
-use Rattle.explore_network.specs.Turns.{count_of, counts_of, delivery_of, extra, is_next_by}
+use Rattle.explore_network.specs.Turns.{count_of, counts_of}
+use Rattle.network_rules.specs.Turns.{delivery_of, extra, is_next_by}
 use Rattle.explore_network.specs.Walks.{next_in, steps_at, with_step, IsAt}
 use Rattle.explore_network.proofs.Nth.{parted, same_parts}
 use Rattle.explore_network.proofs.Ranked.{next_is, ranked, Ranked}
 use Rattle.explore_network.proofs.Within.{within_more}
-use Rattle.explore_network.proofs.TurnKinds.{both_true, delivers_none, delivers_some, of_turn, own_count}
+use Rattle.network_rules.proofs.Tests.{both_true}
+use Rattle.explore_network.proofs.TurnKinds.{delivers_none, delivers_some, of_turn, own_count}
 
 pub ordered_in : (k : Kept) → is_delivery k.step ≡ false → is_ordered k.node k ≡ true
 ordered_in k own = λ i. eq-eqb k.node k.node refl i && not (own i)

@@ -1,24 +1,26 @@
 -- A beginning goes on to a run of the network: by what is missing of each turn, as it was recorded.
-use Rattle.std.proofs.Common.{◌≡◌, ◌⊎◌, inl, inr, ℕ, zero, suc, ◌+◌, ◌-◌, ◌<◌, ◌≤◌, ◌==◌, ◌&&◌, not, nat_le, nat_lt, Bool, true, false, cond, List, [], ◌∷◌, ◌++◌, drop, filter, length, length-append, slice_get, Option, Some, None, refl, sym, ap, ◌∙◌, subst, append-nil, true≢false, arith}
+use Rattle.std.proofs.Common.{◌≡◌, ◌⊎◌, inl, inr, ℕ, zero, suc, ◌+◌, ◌-◌, ◌<◌, ◌≤◌, ◌==◌, ◌&&◌, not, nat_lt, Bool, true, false, cond, List, [], ◌∷◌, ◌++◌, drop, length, length-append, Option, Some, None, refl, sym, ap, ◌∙◌, subst, append-nil, true≢false, arith}
 use Rattle.std.proofs.lemmas.Bool.{cases_lt, eqb-true, le-leb, lt-ltb, ltb-true}
 use Rattle.std.proofs.lemmas.List.Elements.{filter-append}
 use Rattle.std.specs.List.{AllByRecursion}
 use Rattle.journal_core.specs.Journals.{Kept}
 use Rattle.bench_core.specs.Clusters.{Cluster}
 use Rattle.network_core.specs.NetworkRuns.{IsNetworkRun, is_delivery, is_ordered, ordered}
-use Rattle.explore_network.specs.declared.turn.Turn.{Turn}
+use Rattle.network_rules.specs.declared.turn.Turn.{Turn}
 use Rattle.explore_network.specs.Plans.{IsPlan, Plan}
 use Rattle.explore_network.specs.Questions.{Question}
-use Rattle.explore_network.specs.Turns.{count_of, counts_of, delivery_of, extra, is_end, is_of, is_whole_by, missing, named}
+use Rattle.explore_network.specs.Turns.{count_of, counts_of, named}
+use Rattle.network_rules.specs.Turns.{extra, is_end, is_of, is_whole_by, missing}
 use Rattle.explore_network.specs.Walks.{IsAt}
 use Rattle.explore_network.proofs.AllTurns.{all_append, each_has, AreTurns, Has}
 use Rattle.explore_network.proofs.Coming.{turns_are}
 use Rattle.explore_network.proofs.Ends.{ends_run, fits_whole, total_zero, FitsAll}
 use Rattle.explore_network.proofs.Going.{done, undone}
 use Rattle.explore_network.proofs.SameKeys.{all_have, flip, no_delivery}
-use Rattle.explore_network.proofs.Sums.{count_append, count_cons, count_push, extra_is, missing_is, one, total, total_le}
+use Rattle.explore_network.proofs.Sums.{count_append, count_cons, count_push, extra_is, missing_is, one, total_le}
 use Rattle.explore_network.proofs.ToldWalks.{all_places}
-use Rattle.explore_network.proofs.TurnKinds.{both_true, named_steps, own_count}
+use Rattle.network_rules.proofs.Tests.{both_true}
+use Rattle.explore_network.proofs.TurnKinds.{named_steps, own_count}
 
 not_lt : (a b : ℕ) → nat_lt a b ≡ false → b ≤ a
 not_lt a b h = go (cases_lt a b)

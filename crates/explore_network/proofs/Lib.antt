@@ -1,5 +1,3 @@
-pub mod NameSets
-pub mod Lookups
 pub mod RanksOf
 pub mod TurnKinds
 pub mod AllTurns
@@ -13,17 +11,15 @@ pub mod Sums
 pub mod Coming
 pub mod Ends
 pub mod Firsts
-pub mod WantedDots
 pub mod CountLoops
-pub mod KeyLoops
+pub mod KnownKeys
 pub mod SameKeys
 pub mod SameShown
 pub mod ToldWalks
 pub mod Telling
-pub mod FallingRows
 pub mod Results
 pub mod Calls
 pub mod OwnDots
 pub mod Asking
 pub mod Starts
-pub mod Playing
+pub mod Played

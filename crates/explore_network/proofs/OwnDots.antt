@@ -20,7 +20,7 @@ use Rattle.network_core.proofs.Keys.{keeps_length}
 use Rattle.network_core.proofs.Made.{fresh_holds}
 use Rattle.explore_network.specs.Asked.{dots_up_to, own_of, own_of_all, AreAsked}
 use Rattle.explore_network.specs.Questions.{OfCluster, OfNode}
-use Rattle.explore_network.specs.Tables.{is_wanted, same_dot}
+use Rattle.network_rules.specs.Tables.{is_wanted, same_dot}
 use Rattle.explore_network.proofs.AllTurns.{all_append}
 
 pub wanted_first : (ds more : List Dot) (e : Dot) → is_wanted ds e ≡ true → is_wanted (ds ++ more) e ≡ true

@@ -1,13 +1,15 @@
 -- Where the recorded steps stand among those of their turn.
-use Rattle.std.proofs.Common.{◌≡◌, ℕ, zero, suc, nat_lt, true, List, [], ◌∷◌, ◌++◌, length, map, take, slice_get, Option, Some, None, refl, sym, ap, ◌∙◌, subst, append_assoc, append-nil}
+use Rattle.std.proofs.Common.{◌≡◌, ℕ, zero, suc, nat_lt, true, List, [], ◌∷◌, ◌++◌, length, take, slice_get, Option, Some, None, refl, sym, ap, ◌∙◌, subst, append_assoc, append-nil}
 use Rattle.std.specs.Option.{unwrap_or}
 use Rattle.journal_core.specs.Journals.{Kept, sent_by}
 use Rattle.bench_core.specs.Clusters.{Cluster}
-use Rattle.explore_network.specs.declared.turn.Rank.{Rank}
-use Rattle.explore_network.specs.declared.turn.Turn.{Turn}
+use Rattle.network_rules.specs.declared.turn.Rank.{Rank}
+use Rattle.network_rules.specs.declared.turn.Turn.{Turn}
+use Rattle.network_rules.proofs.Lookups.{get_map}
 use Rattle.explore_network.specs.Plans.{IsPlan, Plan}
 use Rattle.explore_network.specs.Questions.{Question}
-use Rattle.explore_network.specs.Turns.{count_at, count_of, extra, is_next_at, is_next_by, is_next_of, is_of, place_of, rank_of, ranks_from}
+use Rattle.network_rules.specs.Turns.{count_at, extra, is_next_at, is_next_by, is_next_of, is_of}
+use Rattle.explore_network.specs.Turns.{count_of, place_of, rank_of, ranks_from}
 use Rattle.explore_network.specs.Walks.{next_in, IsAt}
 use Rattle.explore_network.proofs.AllTurns.{each_has, found, not_missed, Has}
 use Rattle.explore_network.proofs.TurnKinds.{named_steps}
@@ -28,11 +30,6 @@ pub record Ranked (p : Plan) (place : ℕ) (k : Kept) : Type 0 where
   pub is : is_of turn k ≡ true
   pub before : rank.before ≡ count_of turn (take place p.steps)
   pub number : rank.number ≡ suc (length (sent_by (take place p.steps) k.node))
-
-pub get_map : {X Y : Type 0} (f : X → Y) (xs : List X) (i : ℕ) (x : X) → slice_get xs i ≡ Some x → slice_get (map f xs) i ≡ Some (f x)
-get_map f [] i x h = absurd (cc)
-get_map f (y ∷ xs) zero x h = let same : y ≡ x = cc in ap (λ y. Some (f y)) same
-get_map f (y ∷ xs) (suc i) x h = get_map f xs i x h
 
 pub ranked : (p : Plan) (q : Question) → IsPlan p q → (place : ℕ) (k : Kept) → slice_get p.steps place ≡ Some k → Ranked p place k
 ranked p q plan place k at = with_place (place_of p.turns k) refl

@@ -3,8 +3,8 @@ use Rattle.std.proofs.Common.{◌≡◌, ℕ, ◌+◌, ◌≤◌, List, [], ◌�
 use Rattle.std.proofs.lemmas.List.{drop_all}
 use Rattle.journal_core.specs.Journals.{Kept}
 use Rattle.order_core.proofs.Places.{from_on, up_to}
-use Rattle.explore_network.specs.declared.turn.Rank.{Rank}
-use Rattle.explore_network.specs.declared.turn.Turn.{Turn}
+use Rattle.network_rules.specs.declared.turn.Rank.{Rank}
+use Rattle.network_rules.specs.declared.turn.Turn.{Turn}
 use Rattle.explore_network.specs.Turns.{rank_of, ranks_from}
 
 pub ranked_more : (ts : List Turn) (steps : List Kept) (p : ℕ) (k : Kept) (old new all : List Rank) (x : Rank) → slice_get steps p ≡ Some k → new ≡ old ++ x ∷ [] →

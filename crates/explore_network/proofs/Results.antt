@@ -7,10 +7,11 @@ use Rattle.bench_core.specs.Limits.{node_limits}
 use Rattle.bench_core.specs.Machine.{Machine}
 use Rattle.bench_core.specs.Runs.{runs}
 use Rattle.network_core.specs.NetworkRuns.{HaveSame, IsNetworkRun}
-use Rattle.explore_network.specs.declared.turn.Turn.{Turn}
+use Rattle.network_rules.specs.declared.turn.Turn.{Turn}
 use Rattle.explore_network.specs.Keys.{AreDifferent, IsAmong}
-use Rattle.explore_network.specs.Queries.{key_of}
-use Rattle.explore_network.specs.Turns.{count_of, counts_of, delivery_of, same_message}
+use Rattle.network_rules.specs.Queries.{key_of}
+use Rattle.explore_network.specs.Turns.{count_of, counts_of}
+use Rattle.network_rules.specs.Turns.{delivery_of, same_message}
 use Rattle.explore_network.specs.Explorations.{AreDistinct, AreOfDifferentStates, AreOfOneState, AreTooMany, BeginsAsRecorded, CanBegin, InventsNothing, IsAny, MissesNothing}
 use Rattle.explore_network.specs.Outcomes.{AllIsTold}
 use Rattle.explore_network.specs.Plans.{IsPlan, Plan}

@@ -20,22 +20,25 @@ use Rattle.network_core.specs.NetworkRuns.{is_delivery, is_ordered, ordered}
 use Rattle.network_core.specs.Settling.{IsSettled, IsWalk}
 use Rattle.network_core.proofs.Cones.{sent_count}
 use Rattle.network_core.proofs.Settling.{settle_holds}
-use Rattle.explore_network.specs.declared.turn.Rank.{Rank}
-use Rattle.explore_network.specs.declared.turn.Turn.{Turn}
-use Rattle.explore_network.specs.Plans.{walk_of, IsPlan, Plan}
-use Rattle.explore_network.specs.Queries.{answer, answers, at_node, in_message, key_of, message_queries, message_query, node_queries, node_query, queries, queries_at_nodes, queries_of_messages, sends_held, sent_queries, AtNode, InMessage, Query}
+use Rattle.network_rules.specs.declared.turn.Rank.{Rank}
+use Rattle.network_rules.specs.declared.turn.Turn.{Turn}
+use Rattle.explore_network.specs.Plans.{cone_of, walk_of, IsPlan, Plan}
+use Rattle.network_rules.specs.Queries.{answer, answers, at_node, in_message, key_of, message_queries, message_query, node_queries, node_query, queries, queries_at_nodes, queries_of_messages, sends_held, sent_queries, AtNode, InMessage, Query}
 use Rattle.explore_network.specs.Questions.{Question}
-use Rattle.explore_network.specs.Tables.{carried, cone_of, is_wanted, matter, Tables}
-use Rattle.explore_network.specs.Turns.{count_at, count_of, counts_of, delivery_of}
+use Rattle.network_rules.specs.Tables.{carried, is_wanted, matter, Tables}
+use Rattle.network_rules.specs.Turns.{count_at, delivery_of}
+use Rattle.explore_network.specs.Turns.{count_of, counts_of}
 use Rattle.explore_network.specs.Walks.{steps_at, with_step, IsAt}
-use Rattle.explore_network.proofs.AllTurns.{all_get, each_has, Has}
+use Rattle.network_rules.proofs.Lookups.{all_get}
+use Rattle.explore_network.proofs.AllTurns.{each_has, Has}
 use Rattle.explore_network.proofs.Coming.{turns_are}
 use Rattle.explore_network.proofs.Ends.{passes, total_same}
 use Rattle.explore_network.proofs.Firsts.{in_count, taken}
 use Rattle.explore_network.proofs.Nth.{nth, parted, same_parts}
 use Rattle.explore_network.proofs.Ranked.{ranked}
-use Rattle.explore_network.proofs.WantedDots.{get_low, wanted_at}
-use Rattle.explore_network.proofs.TurnKinds.{both_true, of_turn, own_count}
+use Rattle.network_rules.proofs.WantedDots.{get_low, wanted_at}
+use Rattle.network_rules.proofs.Tests.{both_true}
+use Rattle.explore_network.proofs.TurnKinds.{of_turn, own_count}
 
 -- lists of numbers that begin with as many
 

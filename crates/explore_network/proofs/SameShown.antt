@@ -12,7 +12,7 @@ use Rattle.diff_core.specs.Rows.{Row, row_cmp}
 use Rattle.diff_core.proofs.Order.{is_row-itself, is_row-true}
 use Rattle.explore_network.specs.Questions.{replicas_in, Shown, Rows, Replicas}
 use Rattle.explore_network.specs.SameShown.{same_code, same_replicas, same_rows, same_shown}
-use Rattle.explore_network.proofs.TurnKinds.{both_true}
+use Rattle.network_rules.proofs.Tests.{both_true}
 
 code_itself : (a : Gv) → same_code a a ≡ true
 code_itself gnil = refl

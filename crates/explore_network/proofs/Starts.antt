@@ -9,14 +9,14 @@ use Rattle.network_core.specs.Cones.{position}
 use Rattle.network_core.specs.NetworkRuns.{IsNetworkRun, deliveries, ordered}
 use Rattle.network_core.specs.Room.{made}
 use Rattle.dots_core.specs.declared.dot.Dot.{Dot}
-use Rattle.explore_network.specs.declared.turn.Rank.{Rank}
-use Rattle.explore_network.specs.declared.turn.Turn.{Turn}
+use Rattle.network_rules.specs.declared.turn.Rank.{Rank}
+use Rattle.network_rules.specs.declared.turn.Turn.{Turn}
 use Rattle.explore_network.specs.Outcomes.{AllIsTold, BeginsWith, IsRecorded, Runs}
-use Rattle.explore_network.specs.Asked.{AreAllAsked, AreAsked}
+use Rattle.network_rules.specs.Tables.{is_wanted, AreAllAsked, IsAsked, IsClosed}
+use Rattle.explore_network.specs.Asked.{AreAsked}
 use Rattle.explore_network.specs.Plans.{IsPlan, Plan, Wants}
 use Rattle.explore_network.specs.Keys.{AreDifferent}
-use Rattle.explore_network.specs.Questions.{Question}
-use Rattle.explore_network.specs.Tables.{is_wanted, IsAsked, IsClosed}
+use Rattle.explore_network.specs.Questions.{node_of, Question}
 use Rattle.explore_network.specs.Turns.{counts_of, ranks_of, turn_of, turns_of}
 use Rattle.explore_network.specs.Walks.{steps_at, AreApart, IsKeyOf, IsOutcome, IsReady, IsTold, IsWithin, Outcome, Went}
 use Rattle.explore_network.proofs.AllTurns.{own_turn_at}
@@ -31,7 +31,7 @@ asked_at p n turns lt asked =
 
 pub plan_is : (p : Plan) (q : Question) (wanted closed : List Kept) (asked_turns : List Turn) (ranks : List Rank) (dots : List Dot) (end : Cluster) → p.count ≤ 32 → AreNodeLimits p.limits →
     p.turns ≡ turns_of p.steps p.count → p.ranks ≡ ranks_of p.turns p.steps → made p.steps ≤ p.limits.entries → closed ≡ p.steps → ranks ≡ p.ranks → IsClosed closed ranks p.tables →
-    asked_turns ≡ p.turns → AreAllAsked asked_turns p.count q p.tables → wanted ≡ p.steps → AreAsked p.limits p.count wanted q dots → p.tables.dots ≡ dots → runs p.limits p.count p.steps ≡ Ok end → IsPlan p q
+    asked_turns ≡ p.turns → AreAllAsked asked_turns p.count (node_of q) p.tables → wanted ≡ p.steps → AreAsked p.limits p.count wanted q dots → p.tables.dots ≡ dots → runs p.limits p.count p.steps ≡ Ok end → IsPlan p q
 plan_is p q wanted closed asked_turns ranks dots end few limits are_turns are_ranks room same_steps same_ranks is_closed same_turns asked same_wanted wants same_dots run = record {
   few = few;
   limits = limits;

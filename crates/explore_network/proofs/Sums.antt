@@ -5,8 +5,9 @@ use Rattle.std.proofs.lemmas.List.Elements.{filter-append}
 use Rattle.std.specs.List.{AllByRecursion}
 use Rattle.std.specs.Option.{unwrap_or}
 use Rattle.journal_core.specs.Journals.{Kept}
-use Rattle.explore_network.specs.declared.turn.Turn.{Turn}
-use Rattle.explore_network.specs.Turns.{count_at, count_of, counts_of, extra, is_of, missing, same_message}
+use Rattle.network_rules.specs.declared.turn.Turn.{Turn}
+use Rattle.network_rules.specs.Turns.{count_at, extra, is_of, missing, same_message}
+use Rattle.explore_network.specs.Turns.{count_of, counts_of}
 use Rattle.explore_network.proofs.AllTurns.{get_next, same_turn, AreApart}
 use Rattle.explore_network.proofs.TurnKinds.{is_same, of_turn}
 

@@ -11,13 +11,15 @@ use Rattle.order_core.proofs.Places.{from_on}
 use Rattle.network_core.specs.NetworkRuns.{IsNetworkRun, is_delivery, is_ordered, ordered}
 use Rattle.network_core.specs.Settling.{IsWalk}
 use Rattle.network_core.proofs.Settling.{settle_holds}
-use Rattle.explore_network.specs.declared.turn.Turn.{Turn}
+use Rattle.network_rules.specs.declared.turn.Turn.{Turn}
 use Rattle.explore_network.specs.Plans.{walk_of, IsPlan, Plan}
 use Rattle.explore_network.specs.Questions.{shown, Question}
 use Rattle.explore_network.specs.SameShown.{same_shown}
-use Rattle.explore_network.specs.Turns.{count_of, counts_of, delivery_of, is_end, is_whole, is_whole_by}
+use Rattle.explore_network.specs.Turns.{count_of, counts_of}
+use Rattle.network_rules.specs.Turns.{delivery_of, is_end, is_whole, is_whole_by}
 use Rattle.explore_network.specs.Walks.{next_in, steps_at, told_by, with_step, AreApart, AreMore, IsAt, IsBehind, IsOutcome, IsTold, Keeps, Outcome}
-use Rattle.explore_network.proofs.AllTurns.{all_append, all_get, each_has, Has}
+use Rattle.explore_network.proofs.AllTurns.{all_append, each_has, Has}
+use Rattle.network_rules.proofs.Lookups.{all_get}
 use Rattle.explore_network.proofs.Coming.{alike, turns_are, Alike}
 use Rattle.explore_network.proofs.Ends.{ends_run, run_ends, whole_fits}
 use Rattle.explore_network.proofs.Firsts.{run_length}
@@ -28,7 +30,8 @@ use Rattle.explore_network.proofs.SameShown.{same_shown-Decides}
 use Rattle.explore_network.proofs.SameKeys.{all_have, flip, no_delivery}
 use Rattle.explore_network.proofs.ToldWalks.{all_places}
 use Rattle.explore_network.proofs.Tours.{keys_more, too_long}
-use Rattle.explore_network.proofs.TurnKinds.{both_true, delivers_some, of_turn, own_count}
+use Rattle.network_rules.proofs.Tests.{both_true}
+use Rattle.explore_network.proofs.TurnKinds.{delivers_some, of_turn, own_count}
 
 -- an outcome more
 

@@ -23,16 +23,17 @@ use Rattle.network_core.proofs.OnlineRows.{online_rows_hold}
 use Rattle.network_core.proofs.Keys.{keeps_length}
 use Rattle.network_core.proofs.Rows.{rows_hold}
 use Rattle.network_core.proofs.Seen.{same_replica_holds}
-use Rattle.explore_network.specs.Plans.{walk_of, IsPlan, Plan, Wants}
-use Rattle.explore_network.specs.Questions.{asks, replicas_in, rows_in, shown, OfCluster, OfNode, OfPresence, Question, Replicas, Rows}
+use Rattle.explore_network.specs.Plans.{cone_of, walk_of, IsPlan, Plan, Wants}
+use Rattle.explore_network.specs.Questions.{node_of, replicas_in, rows_in, shown, OfCluster, OfNode, OfPresence, Question, Replicas, Rows}
 use Rattle.explore_network.specs.SameShown.{same_shown}
-use Rattle.explore_network.specs.Tables.{carried, cone_of, is_wanted, matter, KeepsAt}
+use Rattle.network_rules.specs.Tables.{asks, carried, is_wanted, matter, KeepsAt}
 use Rattle.explore_network.specs.Walks.{told_by, Outcome}
 use Rattle.explore_network.proofs.Nth.{nth, parted, same_parts}
 use Rattle.explore_network.proofs.Ranked.{ranked, Ranked}
 use Rattle.explore_network.proofs.SameKeys.{flip, no_delivery}
 use Rattle.explore_network.proofs.SameShown.{all_replicas}
-use Rattle.explore_network.proofs.TurnKinds.{both_true, of_turn, own_count}
+use Rattle.network_rules.proofs.Tests.{both_true}
+use Rattle.explore_network.proofs.TurnKinds.{of_turn, own_count}
 
 pub all_places : {X : Type 0} (P : X → Type 0) (xs : List X) → ((i : ℕ) (x : X) → slice_get xs i ≡ Some x → P x) → AllByRecursion P xs
 all_places P [] each = tt
@@ -92,7 +93,7 @@ module _ (p : Plan) (q : Question) (plan : IsPlan p q) where
           go false wanted has = λ i. (wanted i && (has i && true)) || false
 
   -- at a node that it is asked of, the dots that are asked for matter at the end, and its own
-  module _ (n : ℕ) (lt : n < p.count) (asked_there : asks q n ≡ true) where
+  module _ (n : ℕ) (lt : n < p.count) (asked_there : asks (node_of q) n ≡ true) where
     abbrev asked : Dot → Bool
     asked = kept ((cares (cone_of p.tables) p.steps).at n) n
 
@@ -111,7 +112,7 @@ module _ (p : Plan) (q : Question) (plan : IsPlan p q) where
         let long : length c ≡ p.count = keeps_length (opening_of p.limits p.count) c one.run one.ends ∙ opening_length p.limits p.count in
         omega (arith, lt, long)
 
-    module _ (n : ℕ) (asked_there : asks q n ≡ true) where
+    module _ (n : ℕ) (asked_there : asks (node_of q) n ≡ true) where
       same_asked : (lt : n < p.count) (own : ℕ) (e : Dot) → own ≡ n → kept (asked n lt asked_there) own e ≡ true → kept ((cares (cone_of p.tables) p.steps).at n) own e ≡ true
       same_asked lt own e is h =
           ap (λ o. kept ((cares (cone_of p.tables) p.steps).at n) o e) is
@@ -162,11 +163,11 @@ module _ (p : Plan) (q : Question) (plan : IsPlan p q) where
     shows_same : (r : Question) → q ≡ r → Wants p.limits p.steps p.count (is_wanted p.tables.dots) r → shown r c ≡ shown r d
     unfolding shown
     shows_same OfCluster is wants =
-        ap Replicas (all_replicas c d (λ n. both_replicas n (ap (λ q. asks q n) is) wants (slice_get c n) (slice_get d n) refl refl (alike.each n)))
+        ap Replicas (all_replicas c d (λ n. both_replicas n (ap (λ q. asks (node_of q) n) is) wants (slice_get c n) (slice_get d n) refl refl (alike.each n)))
     shows_same (OfNode n) is wants =
-        ap Replicas (both_replicas n (ap (λ q. asks q n) is ∙ eq-eqb n n refl) wants (slice_get c n) (slice_get d n) refl refl (alike.each n))
+        ap Replicas (both_replicas n (ap (λ q. asks (node_of q) n) is ∙ eq-eqb n n refl) wants (slice_get c n) (slice_get d n) refl refl (alike.each n))
     shows_same (OfPresence n topic key) is wants =
-        ap Rows (both_rows n (ap (λ q. asks q n) is ∙ eq-eqb n n refl) topic key wants (slice_get c n) (slice_get d n) refl refl (alike.each n))
+        ap Rows (both_rows n (ap (λ q. asks (node_of q) n) is ∙ eq-eqb n n refl) topic key wants (slice_get c n) (slice_get d n) refl refl (alike.each n))
 
     pub same_at : shown q c ≡ shown q d
     same_at = shows_same q refl plan.wants

@@ -1,13 +1,15 @@
 -- Turns, and the tests of network runs.
-use Rattle.std.proofs.Common.{◌≡◌, ℕ, ◌==◌, ◌&&◌, not, Bool, true, false, List, filter, length, Option, Some, None, refl, sym, ap, ◌∙◌, true≢false}
+use Rattle.std.proofs.Common.{◌≡◌, ℕ, ◌==◌, ◌&&◌, not, true, false, List, filter, length, Option, Some, None, refl, sym, ap, ◌∙◌, true≢false}
 use Rattle.std.proofs.Math.Bool.{and-false}
 use Rattle.std.proofs.lemmas.Bool.{eqb-true, eq-eqb}
 use Rattle.node_core.specs.Operations.{Operation, Join, Leave, LeaveAll, Update, Broadcast, Extract, Deliver, Request, Answer, Up, Down, Permdown}
 use Rattle.journal_core.specs.Journals.{Kept}
 use Rattle.network_core.specs.Cones.{position}
 use Rattle.network_core.specs.NetworkRuns.{how_many, is_delivery, is_of_kind, is_ordered}
-use Rattle.explore_network.specs.declared.turn.Turn.{Turn}
-use Rattle.explore_network.specs.Turns.{count_of, delivery_of, is_of, named, same_message}
+use Rattle.network_rules.specs.declared.turn.Turn.{Turn}
+use Rattle.network_rules.proofs.Tests.{both_true}
+use Rattle.explore_network.specs.Turns.{count_of, named}
+use Rattle.network_rules.specs.Turns.{delivery_of, is_of, same_message}
 
 none_same : (s : Operation) → same_message None (delivery_of s) ≡ not (is_delivery s)
 none_same (Join p) = refl
@@ -54,17 +56,6 @@ pub kind_count : (t : Turn) (m : ℕ × ℕ) (w : List Kept) → t.delivers ≡ 
 kind_count t m w is = λ i. length (filter (λ k. kind_is t m k is i) w)
 
 -- one message
-
-and_left : (a b : Bool) → (a && b) ≡ true → a ≡ true
-and_left true b h = refl
-and_left false b h = absurd (true≢false (sym h))
-
-and_right : (a b : Bool) → (a && b) ≡ true → b ≡ true
-and_right true b h = h
-and_right false b h = absurd (true≢false (sym h))
-
-pub both_true : (a b : Bool) → (a && b) ≡ true → (a ≡ true) × (b ≡ true)
-both_true a b h = (and_left a b h, and_right a b h)
 
 pub same_is : (a b : Option (ℕ × ℕ)) → same_message a b ≡ true → a ≡ b
 same_is None None h = refl

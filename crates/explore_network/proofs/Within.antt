@@ -4,16 +4,19 @@ use Rattle.std.proofs.lemmas.Bool.{cases_lt, eqb-true, lt-ltb, ltb-true}
 use Rattle.std.specs.List.{AllByRecursion}
 use Rattle.journal_core.specs.Journals.{Kept}
 use Rattle.bench_core.specs.Clusters.{Cluster}
-use Rattle.explore_network.specs.declared.turn.Turn.{Turn}
+use Rattle.network_rules.specs.declared.turn.Turn.{Turn}
 use Rattle.explore_network.specs.Plans.{IsPlan, Plan}
 use Rattle.explore_network.specs.Questions.{Question}
-use Rattle.explore_network.specs.Turns.{count_of, counts_of, extra, is_next_by, is_of}
+use Rattle.explore_network.specs.Turns.{count_of}
+use Rattle.network_rules.specs.Turns.{extra, is_next_by, is_of}
 use Rattle.explore_network.specs.Walks.{next_in, IsAt, IsWithin}
-use Rattle.explore_network.proofs.AllTurns.{all_get, are_turns, AreTurns}
+use Rattle.network_rules.proofs.Lookups.{all_get}
+use Rattle.explore_network.proofs.AllTurns.{are_turns, AreTurns}
 use Rattle.explore_network.proofs.Nth.{parted}
 use Rattle.explore_network.proofs.Ranked.{next_is, ranked, Ranked}
 use Rattle.explore_network.proofs.Sums.{count_push, extra_is, once, one, total, total_le, total_sum}
-use Rattle.explore_network.proofs.TurnKinds.{both_true, named_steps}
+use Rattle.network_rules.proofs.Tests.{both_true}
+use Rattle.explore_network.proofs.TurnKinds.{named_steps}
 
 -- where nothing came
 pub none_within : (p : Plan) → IsWithin p []

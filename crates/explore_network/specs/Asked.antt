@@ -1,5 +1,5 @@
 -- The dots that are asked for, and where they matter at the end.
-use Rattle.std.specs.Prelude.{◌≡◌, ℕ, ◌<◌, if◌then◌else◌, true, List, [], ◌∷◌, ◌++◌, zero, suc, slice_get, Option, Some, None, Ok}
+use Rattle.std.specs.Prelude.{◌≡◌, ℕ, ◌<◌, if◌then◌else◌, List, [], ◌∷◌, ◌++◌, zero, suc, slice_get, Option, Some, None, Ok}
 use Rattle.std.specs.List.{AllByRecursion}
 use Rattle.dots_core.specs.declared.dot.Dot.{Dot}
 use Rattle.dots_core.specs.Dots.{dot}
@@ -9,11 +9,10 @@ use Rattle.node_core.specs.Nodes.{Node}
 use Rattle.journal_core.specs.Journals.{Kept}
 use Rattle.bench_core.specs.Clusters.{Cluster}
 use Rattle.bench_core.specs.Runs.{runs}
-use Rattle.explore_network.specs.declared.turn.Turn.{Turn}
 use Rattle.explore_network.specs.Explorations.{is_asked}
 use Rattle.explore_network.specs.Plans.{Wants}
-use Rattle.explore_network.specs.Questions.{asks, Question}
-use Rattle.explore_network.specs.Tables.{is_wanted, IsAsked, Tables}
+use Rattle.explore_network.specs.Questions.{Question}
+use Rattle.network_rules.specs.Tables.{is_wanted}
 
 abbrev pub fresh_of : Option Node → List Dot
 fresh_of None = []
@@ -42,11 +41,3 @@ own_of_all c (suc n) = own_of_all c n ++ own_of (slice_get c n)
 pub record AreAsked (l : NodeLimits) (count : ℕ) (steps : List Kept) (q : Question) (dots : List Dot) : Type 0 where
   pub names : AllByRecursion (λ (d : Dot). d.name < 32) dots
   pub wants : (end : Cluster) → runs l count steps ≡ Ok end → Wants l steps count (is_wanted dots) q
-
--- all dots that are asked for matter to this node behind all its own steps, if it is asked what it has
-abbrev pub IsAskedAt : List Turn → Question → ℕ → Tables → Type 0
-IsAskedAt ts q n t = asks q n ≡ true → (turn : Turn) → slice_get ts n ≡ Some turn → IsAsked t n turn.recorded
-
--- and so of each node
-abbrev pub AreAllAsked : List Turn → ℕ → Question → Tables → Type 0
-AreAllAsked ts count q t = (n : ℕ) → n < count → IsAskedAt ts q n t

@@ -1,8 +1,4 @@
-pub mod NameSets
 pub mod Turns
-pub mod Tables
-pub mod Standings
-pub mod Queries
 pub mod Keys
 pub mod Questions
 pub mod SameShown

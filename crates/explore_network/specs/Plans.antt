@@ -1,20 +1,21 @@
 -- What is fixed of all runs of the network.
-use Rattle.std.specs.Prelude.{◌≡◌, ℕ, ◌≤◌, ◌<◌, Bool, true, List, Option, refl}
+use Rattle.std.specs.Prelude.{◌≡◌, ℕ, ◌≤◌, ◌<◌, ◌==◌, ◌&&◌, not, Bool, true, List, Option, refl}
 use Rattle.std.specs.Coded.{Coded, code_by, coded×, coded_ℕ, coded_list, coded_option}
 use Rattle.replica_core.specs.declared.node_limits.NodeLimits.{NodeLimits}
 use Rattle.replica_core.specs.Limits.{node_limits_code, AreNodeLimits}
 use Rattle.journal_core.specs.Journals.{Kept, kept_code}
 use Rattle.bench_core.specs.Clusters.{Cluster}
-use Rattle.network_core.specs.Cones.{position}
+use Rattle.network_core.specs.Cones.{position, Cone}
 use Rattle.network_core.specs.Made.{WantsMade}
 use Rattle.network_core.specs.Seen.{WantsSeen}
 use Rattle.dots_core.specs.declared.dot.Dot.{Dot}
 use Rattle.network_core.specs.Room.{made}
 use Rattle.network_core.specs.Settling.{Walk}
-use Rattle.explore_network.specs.declared.turn.Turn.{Turn}
-use Rattle.explore_network.specs.declared.turn.Rank.{Rank}
-use Rattle.explore_network.specs.Questions.{asks, Question, OfCluster, OfNode, OfPresence}
-use Rattle.explore_network.specs.Tables.{cone_of, is_wanted, tables_code, IsAsked, IsClosed, Tables}
+use Rattle.network_rules.specs.declared.turn.Turn.{Turn}
+use Rattle.network_rules.specs.declared.turn.Rank.{Rank}
+use Rattle.explore_network.specs.Questions.{node_of, Question, OfCluster, OfNode, OfPresence}
+use Rattle.network_rules.specs.Tables.{asks, carried, is_wanted, matter, tables_code, IsAsked, IsClosed, Tables}
+use Rattle.std.specs.FinSet as set
 use Rattle.explore_network.specs.Turns.{ranks_of, turns_of}
 
 pub record Plan : Type 0 where
@@ -51,6 +52,13 @@ plan_code =
     (λ p. (p.limits, (p.count, (p.steps, (p.lost, (p.again, (p.most, (p.turns, (p.ranks, p.tables)))))))))
     (λ t. record { limits = t.0; count = t.1.0; steps = t.1.1.0; lost = t.1.1.1.0; again = t.1.1.1.1.0; most = t.1.1.1.1.1.0; turns = t.1.1.1.1.1.1.0; ranks = t.1.1.1.1.1.1.1.0; tables = t.1.1.1.1.1.1.1.1 }) (λ _. refl)
 
+-- what matters where: to a node, of other names' dots, and of messages
+abbrev pub cone_of : Tables → Cone
+cone_of t = record {
+  at = λ n p d. is_wanted t.dots d && (set.contains (matter t n p) d.name && not (d.name == n));
+  of = λ n i d. is_wanted t.dots d && set.contains (carried t n i) d.name;
+}
+
 -- all that is fixed, and the clusters that were told
 abbrev pub walk_of : Plan → (Cluster → Bool) → Walk
 walk_of p told = record {
@@ -77,5 +85,5 @@ pub record IsPlan (p : Plan) (q : Question) : Type 0 where
   pub ranks : p.ranks ≡ ranks_of p.turns p.steps
   pub room : made p.steps ≤ p.limits.entries
   pub closed : IsClosed p.steps p.ranks p.tables
-  pub asked : (n : ℕ) → n < p.count → asks q n ≡ true → IsAsked p.tables n (position p.steps n)
+  pub asked : (n : ℕ) → n < p.count → asks (node_of q) n ≡ true → IsAsked p.tables n (position p.steps n)
   pub wants : Wants p.limits p.steps p.count (is_wanted p.tables.dots) q

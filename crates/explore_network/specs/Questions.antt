@@ -1,5 +1,5 @@
 -- What is asked for, and what a cluster shows of it.
-use Rattle.std.specs.Prelude.{◌<◌, ◌==◌, ℕ, Bool, true, List, [], ◌∷◌, map, slice_get, Option, Some, None}
+use Rattle.std.specs.Prelude.{◌<◌, ℕ, List, [], ◌∷◌, map, slice_get, Option, Some, None}
 use Rattle.replica_core.specs.Replicas.{Replica}
 use Rattle.node_core.specs.Nodes.{Node}
 use Rattle.bench_core.specs.Clusters.{Cluster}
@@ -25,11 +25,11 @@ IsThere count OfCluster = Unit {0}
 IsThere count (OfNode node) = node < count
 IsThere count (OfPresence node topic key) = node < count
 
--- whether it is asked what this node has
-abbrev pub asks : Question → ℕ → Bool
-asks OfCluster n = true
-asks (OfNode node) n = node == n
-asks (OfPresence node topic key) n = node == n
+-- the node that is asked for, unless all are
+abbrev pub node_of : Question → Option ℕ
+node_of OfCluster = None
+node_of (OfNode node) = Some node
+node_of (OfPresence node topic key) = Some node
 
 abbrev pub rows_in : List ℕ → List ℕ → Option Node → List Row
 rows_in topic key None = []

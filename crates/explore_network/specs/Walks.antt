@@ -12,11 +12,12 @@ use Rattle.explore_network.specs.declared.explore_fault.Stop.{Stop}
 use Rattle.explore_network.specs.declared.explore_fault.Stop.TheVariants.{TooManyStates, OutOfMemory}
 use Rattle.explore_network.specs.Keys.{AreDifferent}
 use Rattle.explore_network.specs.Plans.{walk_of, IsPlan, Plan}
-use Rattle.explore_network.specs.Queries.{key_of}
+use Rattle.network_rules.specs.Queries.{key_of}
 use Rattle.explore_network.specs.Questions.{shown, Question}
 use Rattle.explore_network.specs.SameShown.{same_shown}
-use Rattle.explore_network.specs.declared.turn.Turn.{Turn}
-use Rattle.explore_network.specs.Turns.{count_of, counts_of, extra, is_next}
+use Rattle.network_rules.specs.declared.turn.Turn.{Turn}
+use Rattle.explore_network.specs.Turns.{count_of, counts_of}
+use Rattle.network_rules.specs.Turns.{extra, is_next}
 
 -- the places of a run's steps among the recorded ones, and the cluster to which it leads
 pub record Outcome : Type 0 where

@@ -1,19 +1,22 @@
 //! The dots of the presences that are asked for.
-ghost use Rattle.std.specs.Prelude.{◌≡◌, ◌≤◌, ◌<◌, ◌++◌, ℕ, IfOk, OnOk, Ok, option_map, slice_get};
+ghost use Rattle.std.specs.Prelude.{◌≡◌, ◌≤◌, ◌<◌, ◌++◌, [], ℕ, IfOk, OnOk, Ok, option_map, slice_get};
 ghost use Rattle.replica_core.specs.Limits.{AreNodeLimits};
 ghost use Rattle.replica_core.specs.Replicas.{fresh};
 ghost use Rattle.std.specs.List.{AllByRecursion};
 ghost use Rattle.dots_core.specs.declared.dot.Dot.{Dot as PlainDot};
 ghost use Rattle.node_core.specs.Operations.{plain as plain_step};
-ghost use Rattle.bench_core.specs.Clusters.{Cluster as PlainCluster};
+ghost use Rattle.replica_core.specs.declared.node_limits.NodeLimits.{NodeLimits as PlainLimits};
+ghost use Rattle.bench_core.specs.Clusters.{opening_of, Cluster as PlainCluster};
 ghost use Rattle.bench_core.specs.Runs.{runs};
+ghost use Rattle.network_core.specs.Made.{WantsMade};
+ghost use Rattle.network_rules.specs.Tables.{is_wanted};
 ghost use Rattle.explore_network.specs.Asked.{asked_dots, dots_up_to, own_of, own_of_all, AreAsked};
 ghost use Rattle.explore_network.specs.Questions.{plain, OfPresence};
 ghost use Rattle.explore_network.specs.Explorations.{is_asked};
 
+use crate::playing::{play, played};
 use crate::question::Question;
 use crate::steps::places;
-use crate::walk::{play, played};
 use bench_core::{Cluster, Kept, Node, NodeLimits, Step};
 use dots_core::Dot;
 use node_core::Oom;
@@ -74,6 +77,25 @@ fn put_asked<'a, B: Allocator>(
     }
 }
 
+/// Puts the dots of all presences of a topic and a key that the steps make, which are played.
+fn put_all_asked<'a, B: Allocator>(
+    dots: &mut Vec<Dot, &'a B>,
+    cluster: &mut Cluster<'a, B>,
+    steps: &[Kept<&'a B>],
+    topic: &Word<&'a B>,
+    key: &Word<&'a B>,
+) -> Result<(), Oom>
+    ensures names { OnOk result (AllByRecursion (λ (d : PlainDot). d.name < 32) dots.old.items → AllByRecursion (λ (d : PlainDot). d.name < 32) dots.new.items) }
+    ensures asked { OnOk result ((l : PlainLimits) (count : ℕ) (end : PlainCluster) → cluster.old ≡ opening_of l count → dots.old.items ≡ [] → runs l count steps.now ≡ Ok end →
+        WantsMade l steps.now (is_wanted dots.new.items) topic.now key.now) }
+{
+    for place in 0..steps.len() {
+        put_asked(dots, cluster, &steps[place], topic, key)?;
+        play(cluster, steps, place)?;
+    }
+    Ok(())
+}
+
 /// The dots of all presences of a topic and a key that the steps make.
 fn dots_of_presences<'a, B: Allocator>(
     steps: &[Kept<&'a B>],
@@ -87,13 +109,11 @@ fn dots_of_presences<'a, B: Allocator>(
     requires limits { AreNodeLimits limits }
     ensures { IfOk result (λ dots. (node : ℕ) → AreAsked limits count steps.now (OfPresence node topic.now key.now) dots.items) }
 {
-    let mut dots = Vec::new(alloc);
     let mut cluster = Cluster::new(alloc, count as usize, limits)?;
-    for place in 0..steps.len() {
-        put_asked(&mut dots, &cluster, &steps[place], topic, key)?;
-        play(&mut cluster, steps, place)?;
-    }
+    let mut dots = Vec::new(alloc);
+    let answer = put_all_asked(&mut dots, &mut cluster, steps, topic, key);
     drop(cluster);
+    answer?;
     Ok(dots)
 }
 
@@ -142,6 +162,20 @@ fn put_own_of_all<'a, B: Allocator>(
     Ok(())
 }
 
+/// The dots of their own that the nodes of a cluster have seen.
+fn own_dots<'a, B: Allocator>(
+    cluster: &Cluster<'a, B>,
+    count: u16,
+    alloc: &'a B,
+) -> Result<Vec<Dot, &'a B>, Oom>
+    ensures names { IfOk result (λ dots. AllByRecursion (λ (d : PlainDot). d.name < 32) dots.items) }
+    ensures own { IfOk result (λ dots. dots.items ≡ own_of_all cluster.now count) }
+{
+    let mut dots = Vec::new(alloc);
+    put_own_of_all(&mut dots, cluster, count)?;
+    Ok(dots)
+}
+
 /// The dots of their own that the nodes have seen at the end.
 fn dots_of_nodes<'a, B: Allocator>(
     steps: &[Kept<&'a B>],
@@ -156,11 +190,9 @@ fn dots_of_nodes<'a, B: Allocator>(
 {
     let places = places(steps.len(), alloc)?;
     let cluster = played(steps, &places, count, limits, alloc)?;
-    let mut dots = Vec::new(alloc);
-    put_own_of_all(&mut dots, &cluster, count)?;
-    drop(places);
+    let dots = own_dots(&cluster, count, alloc);
     drop(cluster);
-    Ok(dots)
+    dots
 }
 
 /// The dots that are asked for.

@@ -8,24 +8,27 @@ ghost use Rattle.std.specs.List.{AllByRecursion};
 ghost use Rattle.network_core.specs.Room.{made};
 ghost use Rattle.progress_core.specs.Watches.{Watched};
 ghost use Rattle.explore_network.specs.Explorations.{AreDistinct, AreTooMany, BeginsAsRecorded, InventsNothing, MissesNothing};
-ghost use Rattle.explore_network.specs.declared.turn.Turn.{Turn as PlainTurn};
 ghost use Rattle.explore_network.specs.Plans.{IsPlan};
-ghost use Rattle.explore_network.specs.Questions.{plain, IsThere};
+ghost use Rattle.explore_network.specs.Asked.{AreAsked};
+ghost use Rattle.explore_network.specs.Questions.{node_of, plain, IsThere};
+ghost use Rattle.explore_network.specs.Turns.{ranks_of, turns_of};
+ghost use Rattle.network_rules.specs.Tables.{AreAllAsked, IsClosed};
 ghost use Rattle.explore_network.specs.Walks.{AreApart, HasReason, IsOutcome, IsTold};
 ghost use Rattle.explore_network.specs.Outcomes.{AllIsTold, BeginsWith, IsRecorded, Runs};
 
 use crate::asked::dots_of;
-use crate::cone::cone_of;
 use crate::explore_fault::{ExploreFault, Stop, fault_of};
 use crate::outcome::Outcome;
 use crate::plan::{Plan, Steps};
 use crate::question::Question;
+use crate::rounds::cone_for;
 use crate::steps::{made, places};
 use crate::table::Table;
-use crate::turn::{Turn, ranks_of, turns_of};
+use crate::turns::{ranks_of, turns_of};
 use crate::walk::{Tour, Walk, outcome_of, visit};
-use bench_core::{Bench, Cluster, NodeLimits};
+use bench_core::{Bench, Cluster, Kept, NodeLimits};
 use change_core::copied;
+use network_rules::{Cone, Rank, Turn};
 use node_core::Oom;
 use progress_core::{Walked, Watch};
 use std::alloc::Allocator;
@@ -35,6 +38,45 @@ use std::alloc::Allocator;
 pub struct Explored<'a, B: Allocator> {
     pub outcomes: Vec<Outcome<'a, B>, &'a B>,
     pub states: usize,
+}
+
+/// The turns, the ranks and the names that matter, of these steps.
+#[derive(Drop)]
+struct Parts<'a, B: Allocator> {
+    turns: Vec<Turn, &'a B>,
+    ranks: Vec<Rank, &'a B>,
+    cone: Cone<'a, B>,
+}
+
+/// What a plan finds in its steps.
+fn parts_of<'a, B: Allocator>(
+    steps: &[Kept<&'a B>],
+    count: u16,
+    limits: NodeLimits,
+    question: &Question<&'a B>,
+    alloc: &'a B,
+) -> Result<Parts<'a, B>, Oom>
+    requires few { count ≤ 32 }
+    requires limits { AreNodeLimits limits }
+    ensures turns { IfOk result (λ parts. parts.turns.items ≡ turns_of steps.now count) }
+    ensures ranks { IfOk result (λ parts. parts.ranks.items ≡ ranks_of parts.turns.items steps.now) }
+    ensures closed { IfOk result (λ parts. IsClosed steps.now parts.ranks.items parts.cone) }
+    ensures asked { IfOk result (λ parts. AreAllAsked parts.turns.items count (node_of (plain question.now)) parts.cone) }
+    ensures dots { IfOk result (λ parts. AreAsked limits count steps.now (plain question.now) parts.cone.dots) }
+{
+    let turns = turns_of(steps, count, alloc)?;
+    let ranks = ranks_of(steps, turns.as_slice(), alloc)?;
+    let dots = dots_of(steps, count, limits, question, alloc)?;
+    let cone = cone_for(
+        steps,
+        dots,
+        turns.as_slice(),
+        ranks.as_slice(),
+        question.node(),
+        count,
+        alloc,
+    )?;
+    Ok(Parts { turns, ranks, cone })
 }
 
 /// The plan of these steps, which fill no node.
@@ -60,21 +102,26 @@ fn plan_of<'a, B: Allocator>(
     ensures most { IfOk result (λ plan. plan.most ≡ most) }
     ensures plan { IfOk result (λ plan. (end : PlainCluster) → runs limits count steps.entry.items ≡ Ok end → IsPlan plan (plain question.now)) }
 {
-    let turns = turns_of(&steps, count, alloc)?;
-    let ranks = ranks_of(&turns, &steps, alloc)?;
-    let dots = dots_of(&steps, count, limits, question, alloc)?;
-    let cone = cone_of(dots, &steps, &turns, &ranks, question, count, alloc)?;
-    Ok(Plan {
-        limits,
-        count,
-        steps,
-        lost,
-        again,
-        most,
-        turns,
-        ranks,
-        cone,
-    })
+    match parts_of(&steps, count, limits, question, alloc) {
+        Ok(parts) => {
+            let Parts { turns, ranks, cone } = parts;
+            Ok(Plan {
+                limits,
+                count,
+                steps,
+                lost,
+                again,
+                most,
+                turns,
+                ranks,
+                cone,
+            })
+        }
+        Err(oom) => {
+            drop(steps);
+            Err(oom)
+        }
+    }
 }
 
 /// So many zeros.
@@ -86,7 +133,7 @@ fn zeros<'a, B: Allocator>(count: usize, alloc: &'a B) -> Result<Vec<usize, &'a 
 
 /// What the recorded run leads to.
 fn recorded_outcome<'a, B: Allocator>(
-    tour: &Tour<'_, 'a, B>,
+    tour: &Tour<'a, '_, B>,
     alloc: &'a B,
 ) -> Result<Outcome<'a, B>, Oom>
     requires plan { IsPlan tour.now.plan.now (plain tour.now.question.now) }
@@ -97,24 +144,59 @@ fn recorded_outcome<'a, B: Allocator>(
     Ok(outcome)
 }
 
+/// The outcome with which a walk begins.
+fn first_outcomes<'a, B: Allocator>(
+    tour: &Tour<'a, '_, B>,
+    alloc: &'a B,
+) -> Result<Vec<Outcome<'a, B>, &'a B>, Oom>
+    requires plan { IsPlan tour.now.plan.now (plain tour.now.question.now) }
+    ensures { IfOk result (λ outcomes. BeginsWith tour.now.plan.now outcomes.items) }
+{
+    let outcome = recorded_outcome(tour, alloc)?;
+    let mut outcomes = Vec::new(alloc);
+    outcomes.push(outcome)?;
+    Ok(outcomes)
+}
+
 /// Where the walk begins.
-fn begun<'a, B: Allocator>(tour: &Tour<'_, 'a, B>, alloc: &'a B) -> Result<Walk<'a, B>, Oom>
+fn begun<'a, B: Allocator>(tour: &Tour<'a, '_, B>, alloc: &'a B) -> Result<Walk<'a, B>, Oom>
     requires plan { IsPlan tour.now.plan.now (plain tour.now.question.now) }
     ensures cluster { IfOk result (λ walk. walk.cluster ≡ opening_of tour.now.plan.now.limits tour.now.plan.now.count) }
     ensures path { IfOk result (λ walk. walk.path.items ≡ []) }
     ensures settled { IfOk result (λ walk. walk.settled ≡ []) }
     ensures outcomes { IfOk result (λ walk. BeginsWith tour.now.plan.now walk.outcomes.items) }
 {
-    let outcome = recorded_outcome(tour, alloc)?;
     let cluster = Cluster::new(alloc, tour.plan.count() as usize, tour.plan.limits())?;
-    let mut outcomes = Vec::new(alloc);
-    outcomes.push(outcome)?;
-    Ok(Walk {
+    match first_outcomes(tour, alloc) {
+        Ok(outcomes) => Ok(Walk {
+            cluster,
+            path: Vec::new(alloc),
+            settled: Table::new(alloc),
+            outcomes,
+        }),
+        Err(oom) => {
+            drop(cluster);
+            Err(oom)
+        }
+    }
+}
+
+/// What a walk found.
+fn explored_of<'a, B: Allocator>(walk: Walk<'a, B>) -> Explored<'a, B>
+    ensures outcomes { result.outcomes.items ≡ walk.entry.outcomes.items }
+    ensures states { result.states ≡ length walk.entry.settled }
+{
+    let states = walk.settled.len();
+    let Walk {
         cluster,
-        path: Vec::new(alloc),
-        settled: Table::new(alloc),
+        path,
+        settled,
         outcomes,
-    })
+    } = walk;
+    drop(cluster);
+    drop(path);
+    drop(settled);
+    Explored { outcomes, states }
 }
 
 /// All outcomes of a plan, of whose recorded run each step is accepted.
@@ -131,26 +213,23 @@ fn explore_plan<'a, B: Allocator, W: Watch<Walked>>(
     ensures stops { IfErr result (HasReason plan.now (plain question.now)) }
     ensures watched { Watched W.told watch.old watch.new }
 {
+    let counts = zeros(plan.turns().len(), alloc)?;
     let tour = Tour {
         plan,
         question,
         alloc,
     };
     let mut walk = begun(&tour, alloc)?;
-    let counts = zeros(plan.turns().len(), alloc)?;
     let left = plan.steps().len() as u128 + plan.again() as u128;
-    visit(&tour, &mut walk, &counts, left, watch)?;
-    let Walk {
-        cluster,
-        path,
-        settled,
-        outcomes,
-    } = walk;
-    let states = settled.len();
-    drop(cluster);
-    drop(path);
-    drop(settled);
-    Ok(Explored { outcomes, states })
+    let answer = visit(&tour, &mut walk, &counts, left, watch);
+    drop(counts);
+    match answer {
+        Ok(()) => Ok(explored_of(walk)),
+        Err(stop) => {
+            drop(walk);
+            Err(stop)
+        }
+    }
 }
 
 /// All outcomes of what the network could have made of the steps that remain: with up to so many deliveries missing, and up to
@@ -179,6 +258,7 @@ pub fn explore<'a, B: Allocator, W: Watch<Walked>>(
     let limits = bench.limits().of_node();
     let steps = copied(bench.remaining(), alloc)?;
     if made(&steps) as u64 > limits.entries {
+        drop(steps);
         return Err(ExploreFault::MayFill);
     }
     let count = bench.names().len() as u16;

@@ -1,26 +1,25 @@
 //! All that the network could have made of the steps of a bench: what each node did, in its order, with messages that come at
 //! other times, get lost, or come again. Which outcomes that has, each with a run that leads there.
 //!
-//! In the order to read them: `question`, `shown` and `outcome`, what is told apart; `turn`, whose step or delivery a step is; `next`,
-//! what may come next; `names` and `cone`, which names matter where; `asked`, which dots; `plan`; `key` and `table`, which states
-//! are known; `first`, what may come before all else; `walk`; `steps` and `exploring`.
+//! In the order to read them: `question`, `shown` and `outcome`, what is told apart; `turns`, whose step or delivery each step is, and
+//! `counts`, how often each came; `playing`, runs that are played; `asked`, which dots matter, and `rounds`, which names matter
+//! where; `plan`; `table`, which states are known; `first`, what may come before all else; `walk`; `steps` and `exploring`.
 #![tactic(auto)]
 
 mod asked;
-mod cone;
+mod counts;
 mod explore_fault;
 mod exploring;
 mod first;
-mod key;
-mod names;
-mod next;
 mod outcome;
 mod plan;
+mod playing;
 mod question;
+mod rounds;
 mod shown;
 mod steps;
 mod table;
-mod turn;
+mod turns;
 mod walk;
 
 pub use explore_fault::ExploreFault;

@@ -1,9 +1,8 @@
 //! `Plan`: what is fixed of all runs of the network.
 ghost use Rattle.std.specs.Prelude.{◌≡◌, ◌≤◌};
 
-use crate::cone::Cone;
-use crate::turn::{Rank, Turn};
 use bench_core::{Kept, NodeLimits};
+use network_rules::{Cone, Rank, Turn};
 use std::alloc::Allocator;
 use std::marker::Model;
 

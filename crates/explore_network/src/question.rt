@@ -1,6 +1,6 @@
 //! `Question`: what is asked for, by which clusters are told apart.
 ghost use Rattle.std.specs.Prelude.{◌≡◌, ◌↔◌, IsTrue};
-ghost use Rattle.explore_network.specs.Questions.{asks, plain, IsThere};
+ghost use Rattle.explore_network.specs.Questions.{node_of, plain, IsThere};
 
 use payload_core::Word;
 use std::alloc::Allocator;
@@ -36,18 +36,18 @@ impl<A: Allocator> Question<A> {
         }
     }
 
-    /// Whether it is asked what this node has.
-    pub(crate) fn asks(&self, number: u16) -> bool
-        ensures { result ≡ asks (plain self.now) number }
+    /// The node that is asked for, unless all are.
+    pub(crate) fn node(&self) -> Option<u16>
+        ensures { result ≡ node_of (plain self.now) }
     {
         match self {
-            Question::Cluster => true,
-            Question::Node(node) => *node == number,
+            Question::Cluster => None,
+            Question::Node(node) => Some(*node),
             Question::Presence {
                 node,
                 topic: _,
                 key: _,
-            } => *node == number,
+            } => Some(*node),
         }
     }
 }

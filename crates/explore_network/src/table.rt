@@ -2,8 +2,8 @@
 ghost use Rattle.std.specs.Prelude.{◌≡◌, ◌⊎◌, ◌++◌, ◌∷◌, [], IsTrue, OnOk, length};
 ghost use Rattle.explore_network.specs.Keys.{IsAmong};
 
-use crate::key::Key;
 use indexmap::IndexSet;
+use network_rules::Key;
 use node_core::Oom;
 use std::alloc::Allocator;
 use std::hash::{BuildHasherDefault, FoldHasher};

@@ -6,26 +6,27 @@ ghost use Rattle.bench_core.specs.Runs.{runs, then_runs};
 ghost use Rattle.network_core.specs.NetworkRuns.{IsNetworkRun};
 ghost use Rattle.progress_core.specs.Watches.{Watched};
 ghost use Rattle.explore_network.specs.Plans.{IsPlan};
-ghost use Rattle.explore_network.specs.Queries.{key_of};
+ghost use Rattle.network_rules.specs.Queries.{key_of};
 ghost use Rattle.explore_network.specs.Questions.{plain};
-ghost use Rattle.explore_network.specs.Walks.{next_in, steps_at, told_by, with_step, AllGoThrough, GoesThroughAt, AreMore, GoesThrough, HasReason, IsAt, IsBehind, IsOutcome, IsReady, IsTold, Keeps, Went};
+ghost use Rattle.explore_network.specs.Walks.{next_in, steps_at, told_by, AllGoThrough, GoesThroughAt, AreMore, GoesThrough, HasReason, IsAt, IsBehind, IsOutcome, IsReady, IsTold, Keeps, Went};
 
+use crate::counts::counted;
 use crate::explore_fault::Stop;
 use crate::first::first;
-use crate::key::{Key, key_of};
-use crate::next::{counted, is_end, is_next};
 use crate::outcome::{Outcome, is_told};
 use crate::plan::Plan;
+use crate::playing::{ask, lead_back, played};
 use crate::question::Question;
 use crate::table::Table;
-use bench_core::{Cluster, Fault, Kept, NodeLimits};
+use bench_core::{Cluster, Kept};
+use network_rules::{Key, extend, is_end, is_next, key_of, run_of};
 use node_core::Oom;
 use progress_core::{Walked, Watch};
 use std::alloc::Allocator;
 
 /// What does not change while the walk goes.
 #[derive(Drop)]
-pub(crate) struct Tour<'t, 'a, B: Allocator> {
+pub(crate) struct Tour<'a, 't, B: Allocator> {
     pub(crate) plan: &'t Plan<'a, B>,
     pub(crate) question: &'t Question<&'a B>,
     pub(crate) alloc: &'a B,
@@ -43,48 +44,8 @@ pub(crate) struct Walk<'a, B: Allocator> {
     pub(crate) outcomes: Vec<Outcome<'a, B>, &'a B>,
 }
 
-/// The cluster at the end of these steps, if each is accepted.
-pub(crate) fn played<'a, B: Allocator>(
-    steps: &[Kept<&'a B>],
-    path: &[usize],
-    count: u16,
-    limits: NodeLimits,
-    alloc: &'a B,
-) -> Result<Cluster<'a, B>, Oom>
-    requires few { count ≤ 32 }
-    requires limits { AreNodeLimits limits }
-    ensures { IfOk result (λ cluster. (end : PlainCluster) → runs limits count (steps_at steps.now path.now) ≡ Ok end → cluster ≡ end) }
-{
-    let mut cluster = Cluster::new(alloc, count as usize, limits)?;
-    for turn in 0..path.len() {
-        play(&mut cluster, steps, path[turn])?;
-    }
-    Ok(cluster)
-}
-
-/// Has its node take the step at a place, if it is accepted.
-pub(crate) fn play<'a, B: Allocator>(
-    cluster: &mut Cluster<'a, B>,
-    steps: &[Kept<&'a B>],
-    place: usize,
-) -> Result<(), Oom>
-    ensures { OnOk result ((end : PlainCluster) → then_runs (Ok cluster.old) (with_step (slice_get steps.now place) []) ≡ Ok end → cluster.new ≡ end) }
-{
-    let Some(kept) = steps.get(place) else {
-        return Ok(());
-    };
-    match cluster.step(kept.node, &kept.step) {
-        Ok(inverse) => {
-            drop(inverse);
-            Ok(())
-        }
-        Err(Fault::OutOfMemory) => Err(Oom),
-        Err(_) => Ok(()),
-    }
-}
-
 /// Tells where the path leads, unless an outcome shows the same.
-fn tell<'a, B: Allocator>(tour: &Tour<'_, 'a, B>, walk: &mut Walk<'a, B>) -> Result<(), Oom>
+fn tell<'a, B: Allocator>(tour: &Tour<'a, '_, B>, walk: &mut Walk<'a, B>) -> Result<(), Oom>
     requires plan { IsPlan tour.now.plan.now (plain tour.now.question.now) }
     requires keeps { Keeps tour.now.plan.now (plain tour.now.question.now) walk.old.settled walk.old.outcomes.items }
     requires ends { IsOutcome tour.now.plan.now (record { run = walk.old.path.items; cluster = walk.old.cluster }) }
@@ -103,7 +64,7 @@ fn tell<'a, B: Allocator>(tour: &Tour<'_, 'a, B>, walk: &mut Walk<'a, B>) -> Res
 
 /// The outcome to which a path leads.
 pub(crate) fn outcome_of<'a, B: Allocator>(
-    tour: &Tour<'_, 'a, B>,
+    tour: &Tour<'a, '_, B>,
     path: &[usize],
 ) -> Result<Outcome<'a, B>, Oom>
     requires plan { IsPlan tour.now.plan.now (plain tour.now.question.now) }
@@ -111,14 +72,14 @@ pub(crate) fn outcome_of<'a, B: Allocator>(
     ensures leads { IfOk result (λ outcome. (end : PlainCluster) → runs tour.now.plan.now.limits tour.now.plan.now.count (steps_at tour.now.plan.now.steps path.now) ≡ Ok end → outcome.cluster ≡ end) }
 {
     let plan = tour.plan;
+    let run = run_of(path, tour.alloc)?;
     let cluster = played(plan.steps(), path, plan.count(), plan.limits(), tour.alloc)?;
-    let run = Vec::from_slice(tour.alloc, path)?;
     Ok(Outcome::new(run, cluster))
 }
 
 /// Tells where the path leads, if nothing need come any more.
 fn tell_end<'a, B: Allocator>(
-    tour: &Tour<'_, 'a, B>,
+    tour: &Tour<'a, '_, B>,
     walk: &mut Walk<'a, B>,
     counts: &[usize],
 ) -> Result<(), Oom>
@@ -140,7 +101,7 @@ fn tell_end<'a, B: Allocator>(
 
 /// The key of where the walk stands.
 fn key_at<'a, B: Allocator>(
-    tour: &Tour<'_, 'a, B>,
+    tour: &Tour<'a, '_, B>,
     cluster: &Cluster<'a, B>,
     counts: &[usize],
 ) -> Result<Key<&'a B>, Oom>
@@ -158,18 +119,10 @@ fn key_at<'a, B: Allocator>(
     )
 }
 
-/// One step further.
-fn extend<A: Allocator>(path: &mut Vec<usize, A>, place: usize) -> Result<(), Oom>
-    ensures { OnOk result (path.new.items ≡ path.old.items ++ place ∷ []) }
-{
-    path.push(place)?;
-    Ok(())
-}
-
 /// Goes on behind a step that was taken.
 #[cycle(visit)]
 fn onward<'a, B: Allocator, W: Watch<Walked>>(
-    tour: &Tour<'_, 'a, B>,
+    tour: &Tour<'a, '_, B>,
     walk: &mut Walk<'a, B>,
     counts: &[usize],
     kept: &Kept<&'a B>,
@@ -190,7 +143,7 @@ fn onward<'a, B: Allocator, W: Watch<Walked>>(
 {
     extend(&mut walk.path, place)?;
     if left > 0 {
-        let counts = counted(tour.plan.turns(), counts, kept, tour.alloc)?;
+        let counts = counted(kept, tour.plan.turns(), counts, tour.alloc)?;
         visit(tour, walk, &counts, left - 1, watch)?;
     }
     let _ = walk.path.pop();
@@ -200,7 +153,7 @@ fn onward<'a, B: Allocator, W: Watch<Walked>>(
 /// Goes on with the step at this place, if it is accepted, and back.
 #[cycle(visit)]
 fn through<'a, B: Allocator, W: Watch<Walked>>(
-    tour: &Tour<'_, 'a, B>,
+    tour: &Tour<'a, '_, B>,
     walk: &mut Walk<'a, B>,
     counts: &[usize],
     place: usize,
@@ -219,22 +172,25 @@ fn through<'a, B: Allocator, W: Watch<Walked>>(
     let Some(kept) = tour.plan.steps().get(place) else {
         return Ok(false);
     };
-    let inverse = match walk.cluster.step(kept.node, &kept.step) {
-        Ok(inverse) => inverse,
-        Err(Fault::OutOfMemory) => return Err(Stop::OutOfMemory),
-        Err(_) => return Ok(false),
+    let Some(inverse) = ask(&mut walk.cluster, kept)? else {
+        return Ok(false);
     };
-    onward(tour, walk, counts, kept, place, left, watch)?;
-    match walk.cluster.give_back(kept.node, inverse) {
-        Ok(()) => Ok(true),
-        Err(_) => Err(Stop::OutOfMemory),
+    match onward(tour, walk, counts, kept, place, left, watch) {
+        Ok(()) => {
+            lead_back(&mut walk.cluster, kept.node, inverse)?;
+            Ok(true)
+        }
+        Err(stop) => {
+            drop(inverse);
+            Err(stop)
+        }
     }
 }
 
 /// Goes on with the step at this place, if it may come next.
 #[cycle(visit)]
 fn go_at<'a, B: Allocator, W: Watch<Walked>>(
-    tour: &Tour<'_, 'a, B>,
+    tour: &Tour<'a, '_, B>,
     walk: &mut Walk<'a, B>,
     counts: &[usize],
     place: usize,
@@ -259,7 +215,7 @@ fn go_at<'a, B: Allocator, W: Watch<Walked>>(
 /// Goes on with each step that may come next, in the order in which they were recorded.
 #[cycle(visit)]
 fn go_on<'a, B: Allocator, W: Watch<Walked>>(
-    tour: &Tour<'_, 'a, B>,
+    tour: &Tour<'a, '_, B>,
     walk: &mut Walk<'a, B>,
     counts: &[usize],
     left: u128,
@@ -282,7 +238,7 @@ fn go_on<'a, B: Allocator, W: Watch<Walked>>(
 /// Goes on with the first step that can come before all that needs not come first, and says whether there is such.
 #[cycle(visit)]
 fn go_first<'a, B: Allocator, W: Watch<Walked>>(
-    tour: &Tour<'_, 'a, B>,
+    tour: &Tour<'a, '_, B>,
     walk: &mut Walk<'a, B>,
     counts: &[usize],
     left: u128,
@@ -305,7 +261,7 @@ fn go_first<'a, B: Allocator, W: Watch<Walked>>(
 /// Tells where the path leads, if it may end here, and all that goes on.
 #[cycle(visit)]
 fn tell_all<'a, B: Allocator, W: Watch<Walked>>(
-    tour: &Tour<'_, 'a, B>,
+    tour: &Tour<'a, '_, B>,
     walk: &mut Walk<'a, B>,
     counts: &[usize],
     left: u128,
@@ -326,7 +282,7 @@ fn tell_all<'a, B: Allocator, W: Watch<Walked>>(
 /// Tells all outcomes of what can come from here on, unless they were told.
 #[cycle(visit)]
 fn tell_once<'a, B: Allocator, W: Watch<Walked>>(
-    tour: &Tour<'_, 'a, B>,
+    tour: &Tour<'a, '_, B>,
     walk: &mut Walk<'a, B>,
     counts: &[usize],
     left: u128,
@@ -357,7 +313,7 @@ fn tell_once<'a, B: Allocator, W: Watch<Walked>>(
 /// Tells all outcomes of what can come from here on. The watcher is told how far the walk has come.
 #[cycle(visit)]
 pub(crate) fn visit<'a, B: Allocator, W: Watch<Walked>>(
-    tour: &Tour<'_, 'a, B>,
+    tour: &Tour<'a, '_, B>,
     walk: &mut Walk<'a, B>,
     counts: &[usize],
     left: u128,

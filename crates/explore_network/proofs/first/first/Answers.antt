@@ -1,5 +1,5 @@
 use Rattle.std.proofs.Common.{◌≡◌, ◌∙◌, true, refl, sym}
-use Rattle.explore_network.specs.Turns.{is_next}
+use Rattle.network_rules.specs.Turns.{is_next}
 use Rattle.explore_network.specs.Walks.{next_in}
 use Rattle.explore_network.proofs.Firsts.{is_first}
 use Rattle.explore_network.proofs.first.first.Goals as goal

@@ -1,7 +1,7 @@
 use Rattle.std.proofs.Common.{inl, inr, subst}
 use Rattle.journal_core.specs.Journals.{Kept}
-use Rattle.explore_network.specs.Easy.{IsEasyAt}
-use Rattle.explore_network.specs.Turns.{AreSpent}
+use Rattle.network_rules.specs.Easy.{IsEasyAt}
+use Rattle.network_rules.specs.Turns.{AreSpent}
 use Rattle.explore_network.proofs.first.is_alone.Goals as goal
 
 pub returns-then-is_easy : goal.returns-then-is_easy

@@ -3,7 +3,7 @@ use Rattle.std.proofs.lemmas.List.{drop_all}
 use Rattle.explore_network.specs.Questions.{plain, shown}
 use Rattle.explore_network.specs.SameShown.{same_shown}
 use Rattle.explore_network.specs.Walks.{told_by, Outcome}
-use Rattle.explore_network.proofs.Lookups.{read_at}
+use Rattle.network_rules.proofs.Lookups.{read_at}
 use Rattle.explore_network.proofs.SameShown.{same_answer}
 use Rattle.explore_network.proofs.Telling.{told_on}
 use Rattle.explore_network.proofs.outcome.is_told.Goals as goal

@@ -4,7 +4,7 @@ use Rattle.order_core.proofs.Places.{up_to}
 use Rattle.explore_network.specs.Walks.{steps_at}
 use Rattle.explore_network.proofs.CountLoops.{all_taken}
 use Rattle.explore_network.proofs.Going.{steps_push}
-use Rattle.explore_network.proofs.Lookups.{there}
+use Rattle.network_rules.proofs.Lookups.{there}
 use Rattle.explore_network.proofs.steps.places.Goals as goal
 
 pub loop-place-preserved : goal.loop-place-preserved

@@ -1,17 +1,19 @@
-use Rattle.std.proofs.Common.{◌≡◌, ◌∙◌, ◌<◌, ◌+◌, ◌-◌, ◌^◌, ◌++◌, ◌∷◌, [], ℕ, List, true, Some, Ok, IfOk, OnOk, sym, ap, subst, slice_get, slice_set, refl, arith, rules, length, length-append}
-use Rattle.std.specs.Option.{option_copied}
+use Rattle.std.proofs.Common.{◌≡◌, ◌∙◌, ◌<◌, ◌+◌, ◌-◌, ◌^◌, ◌++◌, ◌∷◌, [], ℕ, List, true, Some, Ok, sym, ap, subst, slice_get, slice_set, refl, arith, rules, length, length-append}
+use Rattle.std.specs.Option.{option_copied, IfSome}
+use Rattle.node_core.specs.Inverses.{plain_inverse}
+use Rattle.bench_core.specs.Benches.{LeadsClusterBack}
 use Rattle.explore_network.specs.Questions.{plain}
 use Rattle.journal_core.specs.Journals.{Kept}
 use Rattle.bench_core.proofs.Places.{looked_up}
-use Rattle.bench_core.specs.Clusters.{Cluster, step}
+use Rattle.bench_core.specs.Clusters.{step}
 use Rattle.explore_network.specs.Turns.{counts_of}
 use Rattle.explore_network.specs.Walks.{next_in, steps_at, AllGoThrough, GoesThrough, IsAt, IsBehind, IsReady, IsTold, Outcome, Went}
-use Rattle.explore_network.proofs.Calls.{all_is_told, behind, both_ok, first_is_told, goes_further, if_ok, known_is_told, known_key, known_more, on_ok, onward_told, refused_there, went_nowhere, went_on}
+use Rattle.explore_network.proofs.Calls.{all_is_told, behind, both_ok, first_is_told, goes_further, if_ok, known_is_told, known_key, known_more, on_ok, onward_told, went_on}
 use Rattle.explore_network.proofs.Telling.{behind_at, none_left, one_longer, short_path}
 use Rattle.explore_network.proofs.Tours.{through_taken, too_many}
-use Rattle.explore_network.proofs.WantedDots.{get_low}
+use Rattle.network_rules.proofs.WantedDots.{get_low}
 use Rattle.explore_network.proofs.walk.+visit.Goals as goal
-use Rattle.explore_network.proofs.walk.+visit.Goals.{onward-then-left-gt0+in_ok-counts+in_ok-visit, onward-else-left-gt0, through-in-Ok-give_back, through-in-Err-give_back}
+use Rattle.explore_network.proofs.walk.+visit.Goals.{onward-then-left-gt0+in_ok-counts+in_ok-visit, onward-else-left-gt0}
 
 pub go_first-through-requires : goal.go_first-through-requires
 go_first-through-requires g t c =
@@ -128,64 +130,40 @@ tell_once-returns-then-len-most-clause-stops g t c =
     c.in_ok-key.ensures c.in_ok-tell_all.ensures.went c.in_ok-tell_all.ensures.told c.in_ok-put.ensures) (let lt = c.if-len-most.true in let n = c.len.ensures in let m = c.most.ensures in omega (arith, lt, n, m))
     (let ok = c.tell_all.new.walk.outcomes.ok in let n = c.len-then-len-most.ensures in omega (arith, ok.0, n))
 
-pub through-returns-in-Err : goal.through-returns-in-Err
-through-returns-in-Err g t c =
-    let p = c.args.tour.now.plan.now in
-    let q = (plain c.args.tour.now.question.now) in
-    let here : slice_get p.steps c.args.place ≡ Some c.in-Some.kept.now =
-    ap (λ (l : List Kept). slice_get l c.args.place) (sym c.steps.ensures) ∙ sym (looked_up c.get.result c.steps.result.now c.args.place c.get.ensures.lookup.0 c.get.ensures.lookup.1) ∙ ap option_copied c.in-Some.is in
-    record {
-      cluster = c.in-Err.ensures.unchanged;
-      path = refl;
-      went = went_nowhere p q c.args.walk.now.settled c.args.walk.now.outcomes.items c.requires.ready.keeps;
-      goes = refused_there p q (steps_at p.steps c.args.walk.now.path.items) c.args.walk.now.cluster c.args.place c.args.walk.now.outcomes.items c.in-Some.kept.now c.in-Err.field-0 here
-          ((λ i. step c.args.walk.now.cluster (sym c.kept.view_is i).node (sym c.kept.view_is i).step) ∙ c.in-Err.ensures.refused (λ same. search rules));
-      stops = tt;
-      watched = λ start told. told;
-    }
-
 pub through-onward-requires : goal.through-onward-requires
 through-onward-requires g t c =
     let p = c.args.tour.now.plan.now in
     let q = (plain c.args.tour.now.question.now) in
     let here : slice_get p.steps c.args.place ≡ Some c.in-Some.kept.now =
     ap (λ (l : List Kept). slice_get l c.args.place) (sym c.steps.ensures) ∙ sym (looked_up c.get.result c.steps.result.now c.args.place c.get.ensures.lookup.0 c.get.ensures.lookup.1) ∙ ap option_copied c.in-Some.is in
-    let took : step c.args.walk.now.cluster c.in-Some.kept.now.node c.in-Some.kept.now.step ≡ Ok c.step.new.self =
-    (λ i. step c.args.walk.now.cluster (sym c.kept.view_is i).node (sym c.kept.view_is i).step) ∙ c.in-Ok.ensures.taken in
-    let is_behind : IsBehind p c.args.walk.now.path.items c.args.place c.in-Some.kept.now c.args.counts.now c.step.new.self =
-    behind p q c.args.walk.now.path.items c.args.place c.in-Some.kept.now c.args.counts.now c.args.walk.now.cluster c.step.new.self c.requires.ready.at here c.requires.next took in
+    let took : step c.args.walk.now.cluster c.in-Some.kept.now.node c.in-Some.kept.now.step ≡ Ok c.ask.new.cluster =
+    subst (λ o. IfSome o (λ _. step c.args.walk.now.cluster c.in-Some.kept.now.node c.in-Some.kept.now.step ≡ Ok c.ask.new.cluster)) c.in-Some-2.is c.in_ok-inverse.ensures.taken in
+    let is_behind : IsBehind p c.args.walk.now.path.items c.args.place c.in-Some.kept.now c.args.counts.now c.ask.new.cluster =
+    behind p q c.args.walk.now.path.items c.args.place c.in-Some.kept.now c.args.counts.now c.args.walk.now.cluster c.ask.new.cluster c.requires.ready.at here c.requires.next took in
     search (rules, is_behind)
 
-pub through-give_back-requires : goal.through-give_back-requires
-through-give_back-requires g t c =
-    let back = c.in-Ok.ensures.leads_back in
-    (back.later, ap (λ (e : Cluster). slice_get e c.kept.inside.node) c.in_ok-onward.ensures.cluster ∙ back.at, (back.earlier, back.leads))
+pub through-lead_back-requires : goal.through-lead_back-requires
+through-lead_back-requires g t c =
+    let back = subst (λ o. IfSome o (λ inverse. LeadsClusterBack c.ask.new.cluster c.in-Some.kept.now.node (plain_inverse inverse) c.args.walk.now.cluster)) c.in-Some-2.is c.in_ok-inverse.ensures.back in
+    let node : c.kept.inside.node ≡ c.in-Some.kept.now.node = ap (λ (k : Kept). k.node) c.kept.view_is in
+    (back.later, (λ i. slice_get (c.in-Ok.ensures.cluster i) (node i)) ∙ back.at, (back.earlier, back.leads))
 
-pub through-returns-clause-cluster : goal.through-returns-clause-cluster
-through-returns-clause-cluster g t c =
-    let back = c.in-Ok.ensures.leads_back in
-    let same = c.in_ok-onward.ensures.cluster in
-    let at = ap (λ (e : Cluster). slice_get e c.kept.inside.node) same ∙ back.at in
-    elim c.match-give_back.branch [
-      | through-in-Ok-give_back w ↦ subst (λ r. OnOk r (c.give_back.new.self ≡ c.args.walk.now.cluster)) (sym w.result-is)
-          (w.in-Ok-give_back.ensures.ok back.later back.earlier at back.leads
-          ∙ ap (λ (e : Cluster). slice_set e c.kept.inside.node back.earlier) same ∙ sym back.gives)
-      | through-in-Err-give_back w ↦ subst (λ r. OnOk r (c.give_back.new.self ≡ c.args.walk.now.cluster)) (sym w.result-is) tt
-    ]
+pub through-returns-in_ok-lead_back-in-Ok-clause-cluster : goal.through-returns-in_ok-lead_back-in-Ok-clause-cluster
+through-returns-in_ok-lead_back-in-Ok-clause-cluster g t c =
+    let back = subst (λ o. IfSome o (λ inverse. LeadsClusterBack c.ask.new.cluster c.in-Some.kept.now.node (plain_inverse inverse) c.args.walk.now.cluster)) c.in-Some-2.is c.in_ok-inverse.ensures.back in
+    let node : c.kept.inside.node ≡ c.in-Some.kept.now.node = ap (λ (k : Kept). k.node) c.kept.view_is in
+    c.in_ok-lead_back-in-Ok.ensures back.later back.earlier ((λ i. slice_get (c.in-Ok.ensures.cluster i) (node i)) ∙ back.at) back.leads
+    ∙ (λ i. slice_set (c.in-Ok.ensures.cluster i) (node i) back.earlier) ∙ sym back.gives
 
-pub through-returns-clause-goes : goal.through-returns-clause-goes
-through-returns-clause-goes g t c =
+pub through-returns-in_ok-lead_back-in-Ok-clause-goes : goal.through-returns-in_ok-lead_back-in-Ok-clause-goes
+through-returns-in_ok-lead_back-in-Ok-clause-goes g t c =
     let p = c.args.tour.now.plan.now in
     let q = (plain c.args.tour.now.question.now) in
     let here : slice_get p.steps c.args.place ≡ Some c.in-Some.kept.now =
     ap (λ (l : List Kept). slice_get l c.args.place) (sym c.steps.ensures) ∙ sym (looked_up c.get.result c.steps.result.now c.args.place c.get.ensures.lookup.0 c.get.ensures.lookup.1) ∙ ap option_copied c.in-Some.is in
-    let took : step c.args.walk.now.cluster c.in-Some.kept.now.node c.in-Some.kept.now.step ≡ Ok c.step.new.self =
-    (λ i. step c.args.walk.now.cluster (sym c.kept.view_is i).node (sym c.kept.view_is i).step) ∙ c.in-Ok.ensures.taken in
-    let goes = through_taken p q (steps_at p.steps c.args.walk.now.path.items) c.args.walk.now.cluster c.args.place c.onward.new.walk.outcomes.items c.in-Some.kept.now c.step.new.self here took c.in_ok-onward.ensures.told in
-    elim c.match-give_back.branch [
-      | through-in-Ok-give_back w ↦ subst (λ r. IfOk r (λ taken. GoesThrough p q (steps_at p.steps c.args.walk.now.path.items) c.args.walk.now.cluster c.args.place taken c.onward.new.walk.outcomes.items)) (sym w.result-is) goes
-      | through-in-Err-give_back w ↦ subst (λ r. IfOk r (λ taken. GoesThrough p q (steps_at p.steps c.args.walk.now.path.items) c.args.walk.now.cluster c.args.place taken c.onward.new.walk.outcomes.items)) (sym w.result-is) tt
-    ]
+    let took : step c.args.walk.now.cluster c.in-Some.kept.now.node c.in-Some.kept.now.step ≡ Ok c.ask.new.cluster =
+    subst (λ o. IfSome o (λ _. step c.args.walk.now.cluster c.in-Some.kept.now.node c.in-Some.kept.now.step ≡ Ok c.ask.new.cluster)) c.in-Some-2.is c.in_ok-inverse.ensures.taken in
+    through_taken p q (steps_at p.steps c.args.walk.now.path.items) c.args.walk.now.cluster c.args.place c.onward.new.walk.outcomes.items c.in-Some.kept.now c.ask.new.cluster here took c.in-Ok.ensures.told
 
 pub visit-returns-clause-went : goal.visit-returns-clause-went
 visit-returns-clause-went g t c =

@@ -1,6 +1,6 @@
 use Rattle.std.proofs.Common.{◌∙◌, sym, true≢false}
 use Rattle.explore_network.specs.Questions.{plain}
-use Rattle.explore_network.specs.Turns.{is_end}
+use Rattle.network_rules.specs.Turns.{is_end}
 use Rattle.explore_network.specs.Walks.{steps_at}
 use Rattle.explore_network.proofs.Telling.{end_is_run, run_is_end}
 use Rattle.explore_network.proofs.walk.tell_end.Goals as goal

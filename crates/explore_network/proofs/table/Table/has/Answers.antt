@@ -2,7 +2,7 @@ use Rattle.std.proofs.Common.{◌∙◌, refl, sym, subst}
 use Rattle.std.proofs.lemmas.Bool.{eq-eqb, eqb-true}
 use Rattle.std.proofs.lemmas.Slice.Eq.{slice_eq-Decides}
 use Rattle.explore_network.specs.Keys.{IsAmong}
-use Rattle.explore_network.proofs.KeyLoops.{any_among}
+use Rattle.explore_network.proofs.KnownKeys.{any_among}
 use Rattle.explore_network.proofs.table.Table.has.Goals as goal
 
 pub returns : goal.returns

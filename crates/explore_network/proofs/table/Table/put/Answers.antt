@@ -2,7 +2,7 @@ use Rattle.std.proofs.Common.{◌≡◌, ◌⊎◌, ◌++◌, ◌∷◌, [], OnO
 use Rattle.std.proofs.lemmas.Bool.{eq-eqb, eqb-true}
 use Rattle.std.proofs.lemmas.Slice.Eq.{slice_eq-Decides}
 use Rattle.explore_network.specs.Keys.{IsAmong}
-use Rattle.explore_network.proofs.KeyLoops.{put_cases}
+use Rattle.explore_network.proofs.KnownKeys.{put_cases}
 use Rattle.explore_network.proofs.table.Table.put.Goals as goal
 use Rattle.explore_network.proofs.table.Table.put.Goals.{in-Ok, in-Err}
 

@@ -1,6 +1,0 @@
-use Rattle.std.proofs.Common.{arith}
-use Rattle.explore_network.proofs.FallingRows.{falling}
-use Rattle.explore_network.proofs.cone.is_falling.Goals as goal
-
-pub returns : goal.returns
-returns c = λ h. falling c.args.row.now (λ p lt. c.loop-place.invariant p (let end = c.loop-place-test.false in omega (arith, lt, end)))

@@ -1,7 +1,0 @@
-use Rattle.std.proofs.Common.{◌<◌, ℕ, suc, Some}
-use Rattle.explore_network.specs.Tables.{in_row, Within}
-use Rattle.explore_network.proofs.cone.is_falling.Given as goal
-
--- so far
-abbrev pub invariant-loop-place : goal.invariant-loop-place
-invariant-loop-place l = (p : ℕ) → suc p < l.place → Within (in_row (Some l.row) (suc p)) (in_row (Some l.row) p)

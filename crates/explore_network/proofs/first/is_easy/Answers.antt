@@ -1,7 +1,0 @@
-use Rattle.std.proofs.Common.{ap, sym, subst}
-use Rattle.node_core.specs.Operations.{plain}
-use Rattle.explore_network.specs.Easy.{IsEasyAt}
-use Rattle.explore_network.proofs.first.is_easy.Goals as goal
-
-pub returns-in-Up : goal.returns-in-Up
-returns-in-Up g c = λ h. subst (IsEasyAt c.args.cluster.now c.args.node) (sym (ap plain c.in-Up.is)) (c.knows.ensures h)

@@ -1,7 +1,0 @@
-use Rattle.std.proofs.Common.{◌≡◌, ◌++◌}
-use Rattle.explore_network.specs.Queries.{answers, queries_at_nodes}
-use Rattle.explore_network.proofs.key.put_nodes.Given as goal
-
--- at the first nodes
-abbrev pub invariant-loop-node : goal.invariant-loop-node
-invariant-loop-node g l = l.key.items ≡ l.fn.key.items ++ answers l.cluster (queries_at_nodes l.cone l.counts l.node)

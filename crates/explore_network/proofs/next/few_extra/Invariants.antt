@@ -1,7 +1,0 @@
-use Rattle.std.proofs.Common.{◌≡◌, drop, nat_le}
-use Rattle.explore_network.specs.Turns.{extra}
-use Rattle.explore_network.proofs.next.few_extra.Given as goal
-
--- what is left to count decides
-abbrev pub invariant-loop-place : goal.invariant-loop-place
-invariant-loop-place l = nat_le (extra (drop l.place l.turns) l.counts l.place) l.left ≡ nat_le (extra l.turns l.counts 0) l.most

@@ -1,9 +1,0 @@
-use Rattle.std.proofs.Common.{◌≡◌, Ok, drop}
-use Rattle.bench_core.specs.Clusters.{Cluster}
-use Rattle.bench_core.specs.Runs.{runs, then_runs}
-use Rattle.explore_network.specs.Walks.{steps_at}
-use Rattle.explore_network.proofs.walk.played.Given as goal
-
--- what is left leads on
-abbrev pub invariant-loop-turn : goal.invariant-loop-turn
-invariant-loop-turn g l = (end : Cluster) → runs l.fn.limits l.fn.count (steps_at l.steps l.path) ≡ Ok end → then_runs (Ok l.cluster) (steps_at l.steps (drop l.turn l.path)) ≡ Ok end

@@ -1,0 +1,85 @@
+//! Runs by the places of their steps among the recorded ones, played.
+ghost use Rattle.std.specs.Prelude.{◌≡◌, ◌≤◌, [], IfNone, IfOk, IfSome, OnOk, Ok, slice_get};
+ghost use Rattle.node_core.specs.Inverses.{plain_inverse};
+ghost use Rattle.bench_core.specs.Benches.{LeadsClusterBack, LeadsNodeBack, NodeGoesBack};
+ghost use Rattle.replica_core.specs.Limits.{AreNodeLimits};
+ghost use Rattle.bench_core.specs.Clusters.{step, Cluster as PlainCluster};
+ghost use Rattle.bench_core.specs.Runs.{runs, then_runs};
+ghost use Rattle.explore_network.specs.Walks.{steps_at, with_step};
+
+use bench_core::{Cluster, Fault, Inverse, Kept, NodeLimits};
+use node_core::Oom;
+use std::alloc::Allocator;
+
+/// The cluster at the end of these steps, if each is accepted.
+pub(crate) fn played<'a, B: Allocator>(
+    steps: &[Kept<&'a B>],
+    path: &[usize],
+    count: u16,
+    limits: NodeLimits,
+    alloc: &'a B,
+) -> Result<Cluster<'a, B>, Oom>
+    requires few { count ≤ 32 }
+    requires limits { AreNodeLimits limits }
+    ensures { IfOk result (λ cluster. (end : PlainCluster) → runs limits count (steps_at steps.now path.now) ≡ Ok end → cluster ≡ end) }
+{
+    let mut cluster = Cluster::new(alloc, count as usize, limits)?;
+    for turn in 0..path.len() {
+        play(&mut cluster, steps, path[turn])?;
+    }
+    Ok(cluster)
+}
+
+/// Has its node take the step at a place, if it is accepted.
+pub(crate) fn play<'a, B: Allocator>(
+    cluster: &mut Cluster<'a, B>,
+    steps: &[Kept<&'a B>],
+    place: usize,
+) -> Result<(), Oom>
+    ensures { OnOk result ((end : PlainCluster) → then_runs (Ok cluster.old) (with_step (slice_get steps.now place) []) ≡ Ok end → cluster.new ≡ end) }
+{
+    let Some(kept) = steps.get(place) else {
+        return Ok(());
+    };
+    match cluster.step(kept.node, &kept.step) {
+        Ok(inverse) => {
+            drop(inverse);
+            Ok(())
+        }
+        Err(Fault::OutOfMemory) => Err(Oom),
+        Err(_) => Ok(()),
+    }
+}
+
+/// Has its node take a step: where it is accepted, what leads back.
+pub(crate) fn ask<'a, B: Allocator>(
+    cluster: &mut Cluster<'a, B>,
+    kept: &Kept<&'a B>,
+) -> Result<Option<Inverse<&'a B>>, Oom>
+    ensures taken { IfOk result (λ taken. IfSome taken (λ _. step cluster.old kept.now.node kept.now.step ≡ Ok cluster.new)) }
+    ensures back { IfOk result (λ taken. IfSome taken (λ inverse. LeadsClusterBack cluster.new kept.now.node (plain_inverse inverse) cluster.old)) }
+    ensures refused { IfOk result (λ taken. IfNone taken ((end : PlainCluster) → step cluster.old kept.now.node kept.now.step ≡ Ok end → ⊥)) }
+    ensures unchanged { IfOk result (λ taken. IfNone taken (cluster.new ≡ cluster.old)) }
+{
+    match cluster.step(kept.node, &kept.step) {
+        Ok(inverse) => Ok(Some(inverse)),
+        Err(Fault::OutOfMemory) => Err(Oom),
+        Err(_) => Ok(None),
+    }
+}
+
+/// Back from a step that its node took.
+pub(crate) fn lead_back<'a, B: Allocator>(
+    cluster: &mut Cluster<'a, B>,
+    node: u16,
+    inverse: Inverse<&'a B>,
+) -> Result<(), Oom>
+    requires { LeadsNodeBack cluster.old node (plain_inverse inverse) }
+    ensures { OnOk result (NodeGoesBack cluster.old node (plain_inverse inverse.entry) cluster.new) }
+{
+    if let Err((inverse, _)) = cluster.give_back(node, inverse) {
+        drop(inverse);
+        return Err(Oom);
+    }
+    Ok(())
+}

@@ -1,0 +1,28 @@
+use Rattle.std.proofs.Common.{◌≡◌, ◌∙◌, ◌+◌, ◌-◌, None, ap, sym, drop, slice_index_or}
+use Rattle.network_rules.specs.declared.turn.Turn.{Turn}
+use Rattle.network_rules.specs.Turns.{count_at, missing}
+use Rattle.network_rules.proofs.CountLoops.{missing_none, missing_on, nothing_left, not_too_much, too_much}
+use Rattle.network_rules.proofs.Lookups.{read_or}
+use Rattle.network_rules.proofs.next.few_missing.Goals as goal
+
+abbrev none : Turn
+none = record { node = 0; delivers = None; recorded = 0 }
+
+pub returns-then-left-more : goal.returns-then-left-more
+returns-then-left-more c =
+    let rest = missing (drop (c.loop-place.place + 1) c.args.turns.now) c.args.counts.now (c.loop-place.place + 1) in
+    let here : c.saturating_sub-more.result ≡ (slice_index_or c.args.turns.now c.loop-place.place none).recorded - (count_at c.args.counts.now c.loop-place.place) = c.saturating_sub-more.ensures ∙ ap (λ m. (slice_index_or c.args.turns.now c.loop-place.place none).recorded - m) c.count_at.ensures in
+    too_much _ c.saturating_sub-more.result rest c.loop-place.left _
+    (missing_on c.args.turns.now c.args.counts.now c.loop-place.place _ (read_or c.args.turns.now c.loop-place.place none c.loop-place-test.true) ∙ ap (λ n. n + rest) (sym here)) c.if-left-more.true
+    c.loop-place.invariant
+
+pub loop-place-preserved : goal.loop-place-preserved
+loop-place-preserved c =
+    let rest = missing (drop (c.loop-place.place + 1) c.args.turns.now) c.args.counts.now (c.loop-place.place + 1) in
+    let here : c.saturating_sub-more.result ≡ (slice_index_or c.args.turns.now c.loop-place.place none).recorded - (count_at c.args.counts.now c.loop-place.place) = c.saturating_sub-more.ensures ∙ ap (λ m. (slice_index_or c.args.turns.now c.loop-place.place none).recorded - m) c.count_at.ensures in
+    not_too_much _ c.saturating_sub-more.result rest c.loop-place.left _
+    (missing_on c.args.turns.now c.args.counts.now c.loop-place.place _ (read_or c.args.turns.now c.loop-place.place none c.loop-place-test.true) ∙ ap (λ n. n + rest) (sym here)) c.if-left-more.false
+    c.loop-place.invariant
+
+pub returns : goal.returns
+returns c = nothing_left _ c.loop-place.left _ (missing_none c.args.turns.now c.args.counts.now c.loop-place.place c.loop-place-test.false) c.loop-place.invariant

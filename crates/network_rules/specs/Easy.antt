@@ -1,0 +1,33 @@
+-- Steps that can come first, by the present cluster.
+use Rattle.std.specs.Prelude.{◌≡◌, ◌==◌, ◌<◌, ℕ, true, false, List, slice_get, Some}
+use Rattle.std.specs.FinSet as set
+use Rattle.dots_core.specs.declared.dot.Dot.{Dot}
+use Rattle.dots_core.specs.Names.{Names}
+use Rattle.payload_core.specs.Messages.{Message}
+use Rattle.replica_core.specs.Replicas.{is_known}
+use Rattle.node_core.specs.Operations.{Operation, Up}
+use Rattle.node_core.specs.Nodes.{Node}
+use Rattle.bench_core.specs.Clusters.{Cluster, message_at}
+use Rattle.network_core.specs.EasySteps.{is_own}
+use Rattle.network_rules.specs.declared.turn.Turn.{Turn}
+use Rattle.network_rules.specs.Tables.{is_wanted, matter, Tables}
+use Rattle.network_rules.specs.Turns.{count_at}
+
+-- the step speaks of its node's own entries, its delta and names that it knows alone
+pub data IsEasyAt (c : Cluster) (node : ℕ) (s : Operation) : Type 0 where
+  IsOwn : is_own s ≡ true → IsEasyAt c node s
+  IsKnownUp : (name : ℕ) → s ≡ Up name → ((x : Node) → slice_get c node ≡ Some x → is_known x.replica name ≡ true) → IsEasyAt c node s
+
+-- of the dots that are asked for the message has none of these names, but its own node's
+abbrev pub BringsNone : List Dot → Names → ℕ → Message → Type 0
+BringsNone dots names own m =
+    (d : Dot) → is_wanted dots d ≡ true → (d.name == own) ≡ false → set.contains names d.name ≡ true → set.contains m.seen d ≡ false
+
+-- a delivery was recorded once more than it came, is there, and brings nothing that matters
+pub record IsIdleAt (c : Cluster) (tables : Tables) (ts : List Turn) (counts : List ℕ) (node place sender number : ℕ) : Type 0 where
+  pub turn : Turn
+  pub found : slice_get ts place ≡ Some turn
+  pub fewer : count_at counts place < turn.recorded
+  pub message : Message
+  pub there : message_at c (Some (sender, number)) ≡ Some message
+  pub none : BringsNone tables.dots (matter tables node (count_at counts node)) node message

@@ -1,0 +1,285 @@
+//! `Cone`: which names matter where. Of what a node has seen, behind so many of its own steps, and of a message.
+ghost use Rattle.std.specs.Prelude.{◌≡◌, ◌<◌, ℕ, List, map, suc, true, IsTrue, Some, slice_get};
+ghost use Rattle.std.specs.FinSet.{contains};
+ghost use Rattle.std.specs.List.{AllByRecursion};
+ghost use Rattle.dots_core.specs.declared.dot.Dot.{Dot as PlainDot};
+ghost use Rattle.node_core.specs.Operations.{plain};
+ghost use Rattle.journal_core.specs.Journals.{Kept as PlainKept};
+ghost use Rattle.network_rules.specs.declared.turn.Rank.{Rank as PlainRank};
+ghost use Rattle.network_core.specs.Cones.{says};
+ghost use Rattle.network_rules.specs.declared.turn.Turn.{Turn as PlainTurn};
+ghost use Rattle.network_rules.specs.Tables.{asks, carried, in_row, is_wanted, matter, names_at, AreAllAsked, IsAsked, IsAskedAt, IsClosed, KeepsAt, Within};
+
+use crate::names::{all_names, common, is_within};
+use crate::turn::{Rank, Turn, delivery};
+use bench_core::{Kept, Step};
+use dots_core::{Dot, NameSet};
+use std::alloc::Allocator;
+use std::marker::Model;
+
+/// Of each node a list of sets of names.
+pub type Rows<A> = Vec<Vec<NameSet, A>, A>;
+
+/// The dots that are asked for, and which names matter where.
+#[derive(Drop)]
+pub struct Cone<'a, B: Allocator> {
+    dots: Vec<Dot, &'a B>,
+    /// Of each node, behind each number of its own steps, the names whose dots matter there.
+    matters: Rows<&'a B>,
+    /// Of each node and each of its messages the names whose dots matter of it.
+    carries: Rows<&'a B>,
+}
+
+impl<'a, B: Allocator> Model for Cone<'a, B> {
+    ghost use Rattle.std.specs.Prelude.{map};
+    ghost use Rattle.network_rules.specs.Tables.{tables_code, Tables};
+
+    ghost Value = { Tables };
+
+    ghost coded = { tables_code };
+
+    ghost view = { λ c. record { dots = c.dots.items; matters = map (λ row. row.items) c.matters.items; carries = map (λ row. row.items) c.carries.items } };
+}
+
+/// The names at a place of a row, or at its last one.
+fn in_row(row: &[NameSet], place: usize) -> NameSet
+    ensures { result ≡ in_row (Some row.now) place }
+{
+    match row.get(place) {
+        Some(names) => *names,
+        None => match row.last() {
+            Some(names) => *names,
+            None => all_names(),
+        },
+    }
+}
+
+/// The names at a place of a node's row; all, where there is no row.
+fn names_at<A: Allocator>(rows: &[Vec<NameSet, A>], node: usize, place: usize) -> NameSet
+    ensures { result ≡ names_at (map (λ row. row.items) rows.now) node place }
+{
+    match rows.get(node) {
+        Some(row) => in_row(row, place),
+        None => all_names(),
+    }
+}
+
+/// The names that a step sends of what its node has, if they matter of the message.
+pub fn said<A: Allocator>(step: &Step<A>, carried: NameSet) -> NameSet
+    ensures { (q : ℕ) → contains carried q ≡ true → says (plain step.now) q ≡ true → contains result q ≡ true }
+{
+    match step {
+        Step::Extract { names } => common(*names, carried),
+        Step::Answer {
+            sender: _,
+            number: _,
+        } => carried,
+        _ => NameSet::empty(),
+    }
+}
+
+impl<'a, B: Allocator> Cone<'a, B> {
+    /// The dots that are asked for.
+    pub fn dots(&self) -> &[Dot]
+        ensures { result.now ≡ self.now.dots }
+    {
+        self.dots.as_slice()
+    }
+
+    /// The names that matter to a node behind so many of its own steps.
+    pub fn matter(&self, node: u16, taken: usize) -> NameSet
+        ensures { result ≡ matter self.now node taken }
+    {
+        names_at(self.matters.as_slice(), node as usize, taken)
+    }
+
+    /// The names that matter of a message of a node, by its number from 1.
+    pub fn carried(&self, node: u16, number: u64) -> NameSet
+        ensures { result ≡ carried self.now node number }
+    {
+        names_at(
+            self.carries.as_slice(),
+            node as usize,
+            number.saturating_sub(1) as usize,
+        )
+    }
+
+    /// Whether no row has a name that is missing right before.
+    fn falls(&self) -> bool
+        ensures { IsTrue result → (n p : ℕ) → Within (matter self.now n (suc p)) (matter self.now n p) }
+    {
+        are_falling(self.matters.as_slice())
+    }
+
+    /// Whether nothing is left out where this step stands.
+    fn keeps_at<A: Allocator>(&self, kept: &Kept<A>, rank: Rank) -> bool
+        ensures { IsTrue result → KeepsAt self.now kept.now rank }
+    {
+        match delivery(&kept.step) {
+            Some((sender, number)) => {
+                is_within(self.matter(kept.node, 0), self.carried(sender, number))
+            }
+            None => is_within(
+                said(&kept.step, self.carried(kept.node, rank.number)),
+                self.matter(kept.node, rank.before),
+            ),
+        }
+    }
+
+    /// The same of the step at a place.
+    fn keeps_place<A: Allocator>(&self, steps: &[Kept<A>], ranks: &[Rank], place: usize) -> bool
+        ensures { IsTrue result → (k : PlainKept) (x : PlainRank) → slice_get steps.now place ≡ Some k → slice_get ranks.now place ≡ Some x → KeepsAt self.now k x }
+    {
+        let Some(kept) = steps.get(place) else {
+            return true;
+        };
+        let Some(rank) = ranks.get(place) else {
+            return true;
+        };
+        self.keeps_at(kept, *rank)
+    }
+
+    /// Whether nothing is left out where steps stand.
+    fn keeps_all<A: Allocator>(&self, steps: &[Kept<A>], ranks: &[Rank]) -> bool
+        ensures { IsTrue result → (place : ℕ) (k : PlainKept) (x : PlainRank) → slice_get steps.now place ≡ Some k → slice_get ranks.now place ≡ Some x → KeepsAt self.now k x }
+    {
+        for place in 0..steps.len() {
+            if !self.keeps_place(steps, ranks, place) {
+                return false;
+            }
+        }
+        true
+    }
+
+    /// Whether nothing is left out.
+    fn is_closed<A: Allocator>(&self, steps: &[Kept<A>], ranks: &[Rank]) -> bool
+        ensures { IsTrue result → IsClosed steps.now ranks.now self.now }
+    {
+        self.falls() && self.keeps_all(steps, ranks)
+    }
+
+    /// Whether all that is asked for matters to this node behind so many of its own steps.
+    fn is_asked(&self, node: u16, taken: usize) -> bool
+        ensures { IsTrue result → IsAsked self.now node taken }
+    {
+        have_all(self.dots(), self.matter(node, taken))
+    }
+
+    /// The same of a node, behind all its own steps, if it is asked what it has.
+    fn is_asked_at(&self, turns: &[Turn], asked: Option<u16>, node: u16) -> bool
+        ensures { IsTrue result → IsAskedAt turns.now asked node self.now }
+    {
+        if !asks(asked, node) {
+            return true;
+        }
+        self.is_asked(node, recorded(turns, node))
+    }
+
+    /// The same of each node that it is asked of.
+    fn are_asked(&self, turns: &[Turn], count: u16, asked: Option<u16>) -> bool
+        ensures { IsTrue result → AreAllAsked turns.now count asked self.now }
+    {
+        for node in 0..count {
+            if !self.is_asked_at(turns, asked, node) {
+                return false;
+            }
+        }
+        true
+    }
+}
+
+/// Whether it is asked what this node has: one node is asked for, or all are.
+fn asks(asked: Option<u16>, number: u16) -> bool
+    ensures { result ≡ asks asked number }
+{
+    match asked {
+        Some(node) => node == number,
+        None => true,
+    }
+}
+
+/// How many steps of the turn at this place were recorded.
+fn recorded(turns: &[Turn], place: u16) -> usize
+    ensures { (t : PlainTurn) → slice_get turns.now place ≡ Some t → result ≡ t.recorded }
+{
+    match turns.get(place as usize) {
+        Some(turn) => turn.recorded,
+        None => 0,
+    }
+}
+
+/// Whether the names have those of all dots.
+fn have_all(dots: &[Dot], names: NameSet) -> bool
+    ensures { IsTrue result → (d : PlainDot) → is_wanted dots.now d ≡ true → contains names d.name ≡ true }
+{
+    for place in 0..dots.len() {
+        if !names.has(dots[place].name) {
+            return false;
+        }
+    }
+    true
+}
+
+/// Whether each row is falling.
+fn are_falling<A: Allocator>(rows: &[Vec<NameSet, A>]) -> bool
+    ensures { IsTrue result → (n p : ℕ) → Within (names_at (map (λ row. row.items) rows.now) n (suc p)) (names_at (map (λ row. row.items) rows.now) n p) }
+{
+    for place in 0..rows.len() {
+        if !is_falling(rows[place].as_slice()) {
+            return false;
+        }
+    }
+    true
+}
+
+/// Whether each set of names has all that the next one has.
+fn is_falling(row: &[NameSet]) -> bool
+    ensures { IsTrue result → (p : ℕ) → Within (in_row (Some row.now) (suc p)) (in_row (Some row.now) p) }
+{
+    for place in 1..row.len() {
+        if !is_within(row[place], row[place - 1]) {
+            return false;
+        }
+    }
+    true
+}
+
+/// The names that were found to matter, for these dots at the end of the node that is asked for, or of all; where they leave something
+/// out, all names.
+pub fn cone_of<'a, B: Allocator>(
+    steps: &[Kept<&'a B>],
+    dots: Vec<Dot, &'a B>,
+    matters: Rows<&'a B>,
+    carries: Rows<&'a B>,
+    turns: &[Turn],
+    ranks: &[Rank],
+    asked: Option<u16>,
+    count: u16,
+    alloc: &'a B,
+) -> Cone<'a, B>
+    requires { AllByRecursion (λ (d : PlainDot). d.name < 32) dots.items }
+    ensures dots { result.dots ≡ dots.entry.items }
+    ensures closed { IsClosed steps.now ranks.now result }
+    ensures asked { AreAllAsked turns.now count asked result }
+{
+    let cone = Cone {
+        dots,
+        matters,
+        carries,
+    };
+    if cone.is_closed(steps, ranks) && cone.are_asked(turns, count, asked) {
+        return cone;
+    }
+    let Cone {
+        dots,
+        matters,
+        carries,
+    } = cone;
+    drop(matters);
+    drop(carries);
+    Cone {
+        dots,
+        matters: Vec::new(alloc),
+        carries: Vec::new(alloc),
+    }
+}

@@ -1,0 +1,51 @@
+//! Sets of names, name by name.
+ghost use Rattle.std.specs.Prelude.{◌≡◌, ◌<◌, ℕ, IsTrue, true, if◌then◌else◌};
+ghost use Rattle.std.specs.FinSet.{contains};
+ghost use Rattle.std.specs.FinSet as set;
+ghost use Rattle.network_rules.specs.NameSets.{all_names};
+
+use dots_core::NameSet;
+
+/// All 32 names.
+pub fn all_names() -> NameSet
+    ensures { result ≡ all_names }
+{
+    let mut names = NameSet::empty();
+    for name in 0..32u16 {
+        names = names.with(name);
+    }
+    names
+}
+
+/// With this one, if it is to be.
+fn with_if(names: NameSet, name: u16, wanted: bool) -> NameSet
+    requires { name < 32 }
+    ensures { result ≡ (if wanted then set.insert names name else names) }
+{
+    if wanted { names.with(name) } else { names }
+}
+
+/// What they have in common.
+pub(crate) fn common(one: NameSet, other: NameSet) -> NameSet
+    ensures { (n : ℕ) → contains one n ≡ true → contains other n ≡ true → contains result n ≡ true }
+{
+    let mut names = NameSet::empty();
+    for name in 0..32u16 {
+        names = with_if(names, name, one.has(name) & other.has(name));
+    }
+    one.names_law();
+    names
+}
+
+/// Whether the other has all names of the first.
+pub(crate) fn is_within(one: NameSet, other: NameSet) -> bool
+    ensures { IsTrue result → (n : ℕ) → contains one n ≡ true → contains other n ≡ true }
+{
+    for name in 0..32u16 {
+        if one.has(name) && !other.has(name) {
+            return false;
+        }
+    }
+    one.names_law();
+    true
+}

@@ -1,0 +1,151 @@
+//! What may come next, by how often each turn came.
+ghost use Rattle.std.specs.Prelude.{◌≡◌, ◌≤◌, IsTrue, nat_le, nat_lt, true};
+ghost use Rattle.std.specs.Option.{is_some};
+ghost use Rattle.network_rules.specs.Turns.{count_at, extra, is_end, is_next, is_next_by, is_whole, is_whole_by, missing, AreSpent};
+
+use crate::turn::{Rank, Turn};
+
+/// How often the turn at this place came.
+pub fn count_at(counts: &[usize], place: usize) -> usize
+    ensures { result ≡ count_at counts.now place }
+{
+    counts.get(place).copied().unwrap_or(0)
+}
+
+/// Whether no more than so many came that were not recorded so often.
+fn few_extra(turns: &[Turn], counts: &[usize], most: usize) -> bool
+    ensures { result ≡ nat_le (extra turns.now counts.now 0) most }
+{
+    let mut left = most;
+    for place in 0..turns.len() {
+        let more = count_at(counts, place).saturating_sub(turns[place].recorded);
+        if left < more {
+            return false;
+        }
+        left -= more;
+    }
+    true
+}
+
+/// Whether no more than so many are missing.
+fn few_missing(turns: &[Turn], counts: &[usize], most: usize) -> bool
+    ensures { result ≡ nat_le (missing turns.now counts.now 0) most }
+{
+    let mut left = most;
+    for place in 0..turns.len() {
+        let more = turns[place]
+            .recorded
+            .saturating_sub(count_at(counts, place));
+        if left < more {
+            return false;
+        }
+        left -= more;
+    }
+    true
+}
+
+/// Whether a delivery may come again.
+fn may_repeat(turns: &[Turn], counts: &[usize], again: usize) -> bool
+    ensures { result ≡ nat_lt (extra turns.now counts.now 0) again }
+{
+    again > 0 && few_extra(turns, counts, again - 1)
+}
+
+/// Whether all own steps of a node came, or no delivery more than twice as often as it was recorded.
+fn is_whole_by(turn: Turn, count: usize) -> bool
+    ensures { result ≡ is_whole_by turn.delivers turn.recorded count }
+{
+    match turn.delivers {
+        None => turn.recorded <= count,
+        Some((_, _)) => count.saturating_sub(turn.recorded) <= turn.recorded,
+    }
+}
+
+/// Whether each turn is whole.
+fn is_whole(turns: &[Turn], counts: &[usize]) -> bool
+    ensures { result ≡ is_whole turns.now counts.now 0 }
+{
+    for place in 0..turns.len() {
+        if !is_whole_by(turns[place], count_at(counts, place)) {
+            return false;
+        }
+    }
+    true
+}
+
+/// Whether nothing need come any more.
+pub fn is_end(turns: &[Turn], counts: &[usize], lost: usize, again: usize) -> bool
+    ensures { result ≡ is_end turns.now counts.now lost again }
+{
+    is_whole(turns, counts) && few_missing(turns, counts, lost) && few_extra(turns, counts, again)
+}
+
+/// Whether a step is the next of its turn, with so many of the turn before it, where so many came.
+fn is_next_by(
+    turns: &[Turn],
+    counts: &[usize],
+    again: usize,
+    turn: Turn,
+    before: usize,
+    count: usize,
+) -> bool
+    ensures { result ≡ is_next_by turn.delivers turn.recorded before count (nat_lt (extra turns.now counts.now 0) again) }
+{
+    match turn.delivers {
+        None => before == count,
+        Some((_, _)) => {
+            if count < turn.recorded {
+                before == count
+            } else {
+                before == 0
+                    && count - turn.recorded < turn.recorded
+                    && may_repeat(turns, counts, again)
+            }
+        }
+    }
+}
+
+/// Whether the step at this place may come next.
+pub fn is_next(turns: &[Turn], ranks: &[Rank], counts: &[usize], again: usize, place: usize) -> bool
+    ensures { result ≡ is_next turns.now ranks.now counts.now again place }
+{
+    let Some(rank) = ranks.get(place) else {
+        return false;
+    };
+    let Some(turn) = turns.get(rank.turn) else {
+        return false;
+    };
+    is_next_by(
+        turns,
+        counts,
+        again,
+        *turn,
+        rank.before,
+        count_at(counts, rank.turn),
+    )
+}
+
+/// Whether no more of this turn is delivered at this node.
+fn is_spent(turn: Turn, count: usize, again: usize, node: u16) -> bool
+    ensures { IsTrue result → turn.node ≡ node → is_some turn.delivers ≡ true → (again ≡ 0) × (turn.recorded ≤ count) }
+{
+    if turn.node != node {
+        return true;
+    }
+    if turn.delivers.is_none() {
+        return true;
+    }
+    again == 0 && turn.recorded <= count
+}
+
+/// Whether nothing more is delivered at this node.
+pub fn are_spent(turns: &[Turn], counts: &[usize], again: usize, node: u16) -> bool
+    ensures { IsTrue result → AreSpent turns.now counts.now again node }
+{
+    for place in 0..turns.len() {
+        if !is_spent(turns[place], count_at(counts, place), again, node) {
+            return false;
+        }
+    }
+    true
+}

@@ -1,0 +1,20 @@
+//! The places of a run's steps among the recorded ones.
+ghost use Rattle.std.specs.Prelude.{◌≡◌, ◌++◌, ◌∷◌, [], IfOk, OnOk};
+
+use node_core::Oom;
+use std::alloc::Allocator;
+
+/// One step further.
+pub fn extend<A: Allocator>(path: &mut Vec<usize, A>, place: usize) -> Result<(), Oom>
+    ensures { OnOk result (path.new.items ≡ path.old.items ++ place ∷ []) }
+{
+    path.push(place)?;
+    Ok(())
+}
+
+/// The run of an outcome: the whole path.
+pub fn run_of<'a, B: Allocator>(path: &[usize], alloc: &'a B) -> Result<Vec<usize, &'a B>, Oom>
+    ensures { IfOk result (λ run. run.items ≡ path.now) }
+{
+    Vec::from_slice(alloc, path)
+}

@@ -1,0 +1,58 @@
+//! `Turn`: what may come next, a node's next own step or one more delivery; and `Rank`: where a step stands among those of its turn.
+ghost use Rattle.std.specs.Prelude.{◌≡◌};
+ghost use Rattle.node_core.specs.Operations.{plain};
+ghost use Rattle.network_rules.specs.Turns.{delivery_of, is_of, same_message};
+
+use bench_core::{Kept, Step};
+use std::alloc::Allocator;
+
+/// A node's own steps, or the deliveries of one message at one node.
+#[derive(Clone, Copy)]
+pub struct Turn {
+    pub node: u16,
+    /// The message that is delivered, by its sender and number; none where the steps are the node's own.
+    pub delivers: Option<(u16, u64)>,
+    /// How many were recorded.
+    pub recorded: usize,
+}
+
+/// Of a recorded step the place of its turn, how many of that turn stand before it, and the number of the message that it sends, if
+/// it sends one.
+#[derive(Clone, Copy)]
+pub struct Rank {
+    pub turn: usize,
+    pub before: usize,
+    pub number: u64,
+}
+
+/// The message that a step delivers that answers nothing.
+pub fn delivery<A: Allocator>(step: &Step<A>) -> Option<(u16, u64)>
+    ensures { result ≡ delivery_of (plain step.now) }
+{
+    match step {
+        Step::Deliver { sender, number } => Some((*sender, *number)),
+        _ => None,
+    }
+}
+
+/// Whether it is the same message, or none is one.
+fn same_message(one: Option<(u16, u64)>, other: Option<(u16, u64)>) -> bool
+    ensures { result ≡ same_message one other }
+{
+    match one {
+        None => other.is_none(),
+        Some((sender, number)) => match other {
+            None => false,
+            Some((second, count)) => second == sender && count == number,
+        },
+    }
+}
+
+impl Turn {
+    /// Whether the step is one of this turn.
+    pub fn has<A: Allocator>(&self, kept: &Kept<A>) -> bool
+        ensures { result ≡ is_of self.now kept.now }
+    {
+        kept.node == self.node && same_message(self.delivers, delivery(&kept.step))
+    }
+}
