@@ -1,13 +1,12 @@
 -- What stays of notes, and what goes.
-use Rattle.std.proofs.Common.{◌≡◌, ◌⊎◌, inl, inr, ℕ, zero, suc, ◌+◌, ◌<◌, ◌==◌, ◌||◌, Bool, true, false, not, cond, List, [], ◌∷◌, ◌++◌, length, map, filter, slice_index_or, slice_set, replicate, refl, sym, ap, ◌∙◌, subst, arith}
+use Rattle.std.proofs.Common.{◌≡◌, ℕ, zero, suc, ◌+◌, ◌<◌, ◌==◌, ◌||◌, Bool, true, false, not, cond, List, [], ◌∷◌, ◌++◌, length, map, filter, slice_index_or, replicate, refl, sym, ap, ◌∙◌, subst, arith}
 use Rattle.std.proofs.Common.{Option, Some, None, IfSome}
 use Rattle.std.specs.List.{AllByRecursion as Each}
 use Rattle.std.proofs.lemmas.List.{length-map}
-use Rattle.std.proofs.lemmas.Bool.{cases_Bool}
 use Rattle.log_core.specs.Lines.{Numbered}
 use Rattle.import_core.specs.Tables.{AllTables}
 use Rattle.import_core.specs.Notes.{Note, AreNotesOf}
-use Rattle.import_core.specs.Lenient.{is_message, is_sent, has_awaited, lines_gone, can_stay, staying, gone, after_rounds, gone_in_rounds, IsLenient, Stay}
+use Rattle.import_core.specs.Lenient.{has_awaited, lines_gone, can_stay, staying, gone, after_rounds, Stay}
 use Rattle.import_core.proofs.Known.{notes_known}
 
 -- marks

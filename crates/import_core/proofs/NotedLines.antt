@@ -9,7 +9,9 @@ use Rattle.import_core.specs.declared.note_fault.NoteFault.TheVariants as note_f
 use Rattle.import_core.specs.declared.fault.FaultKind.{FaultKind}
 use Rattle.import_core.specs.declared.fault.FaultKind.TheVariants.{TooLong, NotJson, BadEvent, TooManyNodes, NoNodes, Twice, NeverSent, Circle, OutOfMemory}
 use Rattle.import_core.specs.declared.fault.ImportFault.{ImportFault}
+use Rattle.bench_core.specs.NameList.{Texts}
 use Rattle.import_core.specs.Tables.{AllTables, Keeps}
+use Rattle.import_core.specs.Seen.{names_in, with_texts}
 use Rattle.import_core.specs.Notes.{Note, AreNotesOf}
 use Rattle.import_core.specs.Imports.{AreNoted, IsNoted, with_note}
 use Rattle.import_core.specs.Lenient.{Stay}
@@ -56,30 +58,31 @@ later_noted a b keeps lines notes are = record {
 
 -- what is wrong with a line
 
-pub wrong_line : (t : AllTables) (line : List ℕ) (fault : LineFault) → HasNoValue line fault → IsWrong t line (kind_of_line fault)
-wrong_line t line line_faults.TooLong is = is
-wrong_line t line line_faults.NotJson is = is
-wrong_line t line line_faults.OutOfMemory is = tt
+pub wrong_line : (nodes : Texts) (line : List ℕ) (fault : LineFault) → HasNoValue line fault → IsWrong nodes line (kind_of_line fault)
+wrong_line nodes line line_faults.TooLong is = is
+wrong_line nodes line line_faults.NotJson is = is
+wrong_line nodes line line_faults.OutOfMemory is = tt
 
-pub wrong_note : (t : AllTables) (line : List ℕ) (event : Line) (fault : NoteFault) → Says line (Some event) →
-    (fault ≡ note_faults.TooManyNodes → 32 < length t.nodes) → IsWrong t line (kind_of_note fault)
-wrong_note t line event note_faults.TooManyNodes says many = (event, says, many refl)
-wrong_note t line event note_faults.OutOfMemory says many = tt
+pub wrong_note : (nodes : Texts) (line : List ℕ) (event : Line) (fault : NoteFault) → Says line (Some event) →
+    (fault ≡ note_faults.TooManyNodes → 32 < length (with_texts nodes (names_in event))) → IsWrong nodes line (kind_of_note fault)
+wrong_note nodes line event note_faults.TooManyNodes says many = (event, says, many refl)
+wrong_note nodes line event note_faults.OutOfMemory says many = tt
 
-pub line_fault : (lines : List (List ℕ)) (place : ℕ) (kind : FaultKind) → IsFirstWrong lines place kind → IsLineFault lines (fault_at (place + 1) kind)
-line_fault lines place TooLong is = (place, refl, is)
-line_fault lines place NotJson is = (place, refl, is)
-line_fault lines place BadEvent is = (place, refl, is)
-line_fault lines place TooManyNodes is = (place, refl, is)
-line_fault lines place NoNodes is = (place, refl, is)
-line_fault lines place Twice is = (place, refl, is)
-line_fault lines place NeverSent is = (place, refl, is)
-line_fault lines place Circle is = (place, refl, is)
-line_fault lines place OutOfMemory is = tt
+pub line_fault : (nodes : Texts) (lines : List (List ℕ)) (place : ℕ) (kind : FaultKind) → IsFirstWrong nodes lines place kind →
+    IsLineFault nodes lines (fault_at (place + 1) kind)
+line_fault nodes lines place TooLong is = (place, refl, is)
+line_fault nodes lines place NotJson is = (place, refl, is)
+line_fault nodes lines place BadEvent is = (place, refl, is)
+line_fault nodes lines place TooManyNodes is = (place, refl, is)
+line_fault nodes lines place NoNodes is = (place, refl, is)
+line_fault nodes lines place Twice is = (place, refl, is)
+line_fault nodes lines place NeverSent is = (place, refl, is)
+line_fault nodes lines place Circle is = (place, refl, is)
+line_fault nodes lines place OutOfMemory is = tt
 
 -- and with the whole
 
-by_line : (lenient : Bool) (bytes : List ℕ) (line : ℕ) (kind : FaultKind) → IsLineFault (lines_of bytes) (record { line = line; kind = kind }) →
+by_line : (lenient : Bool) (bytes : List ℕ) (line : ℕ) (kind : FaultKind) → IsLineFault [] (lines_of bytes) (record { line = line; kind = kind }) →
     IsImportFault lenient bytes (record { line = line; kind = kind })
 by_line lenient bytes line TooLong is = is
 by_line lenient bytes line NotJson is = is
@@ -91,7 +94,7 @@ by_line lenient bytes line NeverSent (place, at, is) = absurd is.wrong
 by_line lenient bytes line Circle (place, at, is) = absurd is.wrong
 by_line lenient bytes line OutOfMemory is = tt
 
-pub import_line : (lenient : Bool) (bytes : List ℕ) (fault : ImportFault) → IsLineFault (lines_of bytes) fault → IsImportFault lenient bytes fault
+pub import_line : (lenient : Bool) (bytes : List ℕ) (fault : ImportFault) → IsLineFault [] (lines_of bytes) fault → IsImportFault lenient bytes fault
 import_line lenient bytes fault is = by_line lenient bytes fault.line fault.kind is
 
 module _ (lenient : Bool) (bytes : List ℕ) (t : AllTables) (all notes : List Note) (left_out : List ℕ) (are : AreNoted t (lines_of bytes) all)

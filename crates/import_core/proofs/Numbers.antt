@@ -112,6 +112,18 @@ none_there (x ∷ xs) t e = go (cases_Bool (bytes_eq t x)) (none_there xs t)
     go (inl here) rest = absurd (let h = sym (found_here (bytes_eq t) x xs here) ∙ e in (cc))
     go (inr other) rest = rw other (rest (none (number_in xs t) (sym (found_later (bytes_eq t) x xs other) ∙ e)))
 
+-- and one that has a number is there
+pub one_there : (ts : Texts) (t : List ℕ) (n : ℕ) → number_in ts t ≡ Some n → list_any (bytes_eq t) ts ≡ true
+one_there [] t n e = absurd (cc)
+one_there (x ∷ xs) t n e = go (cases_Bool (bytes_eq t x)) (one_there xs t)
+  where
+    go : (bytes_eq t x ≡ true) ⊎ (bytes_eq t x ≡ false) → ((m : ℕ) → number_in xs t ≡ Some m → list_any (bytes_eq t) xs ≡ true) →
+        list_any (bytes_eq t) (x ∷ xs) ≡ true
+    go (inl here) rest = rw here refl
+    go (inr other) rest =
+        let s = some_suc (number_in xs t) n (sym (found_later (bytes_eq t) x xs other) ∙ e) in
+        rw other (rest s.0 s.1)
+
 -- of all tables the names grow
 pub nodes_grow : (nodes later pids messages longs : Texts) → Extends nodes later →
     Keeps (record { nodes = nodes; pids = pids; messages = messages; longs = longs }) (record { nodes = later; pids = pids; messages = messages; longs = longs })

@@ -1,5 +1,5 @@
 -- Why lines give no script.
-use Rattle.std.specs.Prelude.{◌≡◌, ℕ, ◌+◌, ◌<◌, Bool, List, [], length, take, slice_index_or, Some}
+use Rattle.std.specs.Prelude.{◌≡◌, ℕ, ◌+◌, ◌<◌, ◌≤◌, Bool, List, [], length, take, slice_index_or, Some}
 use Rattle.event_order.specs.declared.order_fault.OrderFault as order
 use Rattle.event_order.specs.declared.order_fault.OrderFault.TheVariants as order_faults
 use Rattle.event_order.specs.Ordering.{IsFaultOf}
@@ -12,8 +12,10 @@ use Rattle.import_core.specs.declared.note_fault.NoteFault.TheVariants as note_f
 use Rattle.import_core.specs.declared.fault.FaultKind.{FaultKind}
 use Rattle.import_core.specs.declared.fault.FaultKind.TheVariants.{TooLong, NotJson, BadEvent, TooManyNodes, NoNodes, Twice, NeverSent, Circle, OutOfMemory}
 use Rattle.import_core.specs.declared.fault.ImportFault.{ImportFault}
+use Rattle.bench_core.specs.NameList.{Texts}
 use Rattle.import_core.specs.Tables.{AllTables}
 use Rattle.import_core.specs.Notes.{Note, logged_of}
+use Rattle.import_core.specs.Seen.{names_in, names_on, with_texts}
 use Rattle.import_core.specs.Imports.{AreNoted, number_at}
 use Rattle.import_core.specs.Lenient.{Stay}
 
@@ -31,32 +33,37 @@ abbrev pub fault_at : ℕ → FaultKind → ImportFault
 fault_at line OutOfMemory = record { line = 0; kind = OutOfMemory }
 fault_at line kind = record { line = line; kind = kind }
 
--- what is wrong with a line, once those before it were noted; the tables are as it leaves them
-abbrev pub IsWrong : AllTables → List ℕ → FaultKind → Type 0
-IsWrong t line TooLong = HasNoValue line line_faults.TooLong
-IsWrong t line NotJson = HasNoValue line line_faults.NotJson
-IsWrong t line BadEvent = SaysNoEvent line
-IsWrong t line TooManyNodes = (event : Line) × Says line (Some event) × (32 < length t.nodes)
-IsWrong t line NoNodes = ⊥
-IsWrong t line Twice = ⊥
-IsWrong t line NeverSent = ⊥
-IsWrong t line Circle = ⊥
-IsWrong t line OutOfMemory = Unit {0}
+-- what is wrong with a line, where these nodes were named before it
+abbrev pub IsWrong : Texts → List ℕ → FaultKind → Type 0
+IsWrong nodes line TooLong = HasNoValue line line_faults.TooLong
+IsWrong nodes line NotJson = HasNoValue line line_faults.NotJson
+IsWrong nodes line BadEvent = SaysNoEvent line
+IsWrong nodes line TooManyNodes = (event : Line) × Says line (Some event) × (32 < length (with_texts nodes (names_in event)))
+IsWrong nodes line NoNodes = ⊥
+IsWrong nodes line Twice = ⊥
+IsWrong nodes line NeverSent = ⊥
+IsWrong nodes line Circle = ⊥
+IsWrong nodes line OutOfMemory = Unit {0}
+
+-- the nodes that the lines before this place name, behind these
+abbrev pub nodes_before : Texts → List (List ℕ) → ℕ → Texts
+nodes_before nodes lines place = with_texts nodes (names_on (take place lines))
 
 -- the line of this place has that fault, and those before it have none
-pub record IsFirstWrong (lines : List (List ℕ)) (place : ℕ) (kind : FaultKind) : Type 0 where
+pub record IsFirstWrong (nodes : Texts) (lines : List (List ℕ)) (place : ℕ) (kind : FaultKind) : Type 0 where
   pub tables : AllTables
   pub notes : List Note
   pub there : place < length lines
   pub before : AreNoted tables (take place lines) notes
-  pub wrong : IsWrong tables (slice_index_or lines place []) kind
+  pub few : length nodes ≤ 32 → length (nodes_before nodes lines place) ≤ 32
+  pub wrong : IsWrong (nodes_before nodes lines place) (slice_index_or lines place []) kind
 
 -- a line has a fault, those before it have none; or memory was refused
-abbrev pub IsLineFault : List (List ℕ) → ImportFault → Type 0
-IsLineFault lines fault = by fault.kind
+abbrev pub IsLineFault : Texts → List (List ℕ) → ImportFault → Type 0
+IsLineFault nodes lines fault = by fault.kind
   where
     first : Type 0
-    first = (place : ℕ) × (fault.line ≡ place + 1) × IsFirstWrong lines place fault.kind
+    first = (place : ℕ) × (fault.line ≡ place + 1) × IsFirstWrong nodes lines place fault.kind
 
     by : FaultKind → Type 0
     by OutOfMemory = Unit {0}
@@ -106,4 +113,4 @@ IsImportFault lenient bytes fault = by fault.kind
     by Twice = whole
     by NeverSent = whole
     by Circle = whole
-    by kind = IsLineFault (lines_of bytes) fault
+    by kind = IsLineFault [] (lines_of bytes) fault

@@ -6,6 +6,7 @@ use Rattle.log_core.specs.Lines.{Numbered, Say, Says, lines_of}
 use Rattle.import_core.specs.Tables.{AllTables}
 use Rattle.import_core.specs.Lenient.{Stay}
 use Rattle.import_core.specs.Notes.{Note, IsNoteOf, AreNotesOf, logged_of}
+use Rattle.import_core.specs.Seen.{names_on, with_texts}
 
 -- the lines say events, and these are their notes
 pub record AreNoted (t : AllTables) (lines : List (List ℕ)) (notes : List Note) : Type 0 where
@@ -36,7 +37,8 @@ note_at notes place = slice_index_or notes place no_note
 abbrev pub number_at : List Note → ℕ → ℕ
 number_at notes place = (note_at notes place).number
 
--- the notes of the input's events that stay, the lines of those that are left out, and the nearest order of those that stay
+-- the notes of the input's events that stay, the lines of those that are left out, and the nearest order of those that stay; the nodes
+-- are those that the lines name, by first sight
 pub record IsImportOf (lenient : Bool) (bytes : List ℕ) (t : AllTables) (notes : List Note) (order left_out : List ℕ) : Type 0 where
   pub all : List Note
   pub noted : AreNoted t (lines_of bytes) all
@@ -44,4 +46,5 @@ pub record IsImportOf (lenient : Bool) (bytes : List ℕ) (t : AllTables) (notes
   pub ordered : IsOrdered (logged_of notes) order
   pub some : 0 < length notes
   pub lines : length (lines_of bytes) < 2 ^ 64
+  pub nodes : t.nodes ≡ with_texts [] (names_on (lines_of bytes))
   pub few : length t.nodes ≤ 32

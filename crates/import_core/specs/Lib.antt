@@ -3,5 +3,6 @@ pub mod Steps
 pub mod Listed
 pub mod Notes
 pub mod Lenient
+pub mod Seen
 pub mod Imports
 pub mod Faults

@@ -5,6 +5,7 @@ ghost use Rattle.log_core.specs.Views.{line as shown_line};
 ghost use Rattle.import_core.specs.Tables.{Keeps, all_of};
 ghost use Rattle.import_core.specs.Notes.{IsNoteOf, note_of, awaited};
 ghost use Rattle.import_core.specs.Imports.{AddsNote, AreNoted, IsNoted};
+ghost use Rattle.import_core.specs.Seen.{HasTooMany, SeesNodes, names_if, names_in, names_on, said};
 ghost use Rattle.import_core.specs.Faults.{IsWrong, IsLineFault};
 
 use crate::fault::{FaultKind, ImportFault};
@@ -50,8 +51,9 @@ fn note_for<A: Allocator + Copy>(
     line: &LogLine<'_>,
 ) -> Result<Noted<A>, NoteFault>
     ensures note { IfOk result (λ n. IsNoteOf (all_of tables.new) (record { number = number; line = shown_line line.now }) (note_of n)) }
+    ensures seen { OnOk result (SeesNodes (all_of tables.old) (all_of tables.new) (names_in (shown_line line.now))) }
     ensures kept { Keeps (all_of tables.old) (all_of tables.new) }
-    ensures many { result ≡ Err NoteFault.TooManyNodes → 32 < length (all_of tables.new).nodes }
+    ensures many { result ≡ Err NoteFault.TooManyNodes → HasTooMany (all_of tables.old) (names_in (shown_line line.now)) }
 {
     let node = tables.node(line.node)?;
     let sends = sent_by(heap, tables, node, &line.event)?;
@@ -76,8 +78,9 @@ fn note_of_event<A: Allocator + Copy>(
 ) -> Result<Noted<A>, NoteFault>
     ensures note { IfOk result (λ n. IsNoteOf (all_of tables.new) (record { number = number; line = shown_line line.now }) (note_of n)) }
     ensures few { OnOk result (length (all_of tables.new).nodes ≤ 32) }
+    ensures seen { OnOk result (SeesNodes (all_of tables.old) (all_of tables.new) (names_in (shown_line line.now))) }
     ensures kept { Keeps (all_of tables.old) (all_of tables.new) }
-    ensures many { result ≡ Err NoteFault.TooManyNodes → 32 < length (all_of tables.new).nodes }
+    ensures many { result ≡ Err NoteFault.TooManyNodes → HasTooMany (all_of tables.old) (names_in (shown_line line.now)) }
 {
     let note = note_for(heap, alloc, tables, number, line)?;
     if tables.nodes.len() > 32 {
@@ -97,8 +100,9 @@ fn note_of_line<A: Allocator + Copy>(
 ) -> Result<Option<Noted<A>>, FaultKind>
     ensures note { IfOk result (λ n. IsNoted (all_of tables.new) number line.now (option_map note_of n)) }
     ensures few { OnOk result (length (all_of tables.old).nodes ≤ 32 → length (all_of tables.new).nodes ≤ 32) }
+    ensures seen { OnOk result (SeesNodes (all_of tables.old) (all_of tables.new) (names_if (said line.now))) }
     ensures kept { Keeps (all_of tables.old) (all_of tables.new) }
-    ensures wrong { IfErr result (IsWrong (all_of tables.new) line.now) }
+    ensures wrong { IfErr result (IsWrong (all_of tables.old).nodes line.now) }
 {
     let Some(value) = value_of_line(heap, line)? else {
         return Ok(None);
@@ -128,8 +132,9 @@ fn add_line<A: Allocator + Copy>(
 ) -> Result<(), FaultKind>
     ensures notes { OnOk result (AddsNote (all_of tables.new) number line.now (map note_of notes.old.items) (map note_of notes.new.items)) }
     ensures few { OnOk result (length (all_of tables.old).nodes ≤ 32 → length (all_of tables.new).nodes ≤ 32) }
+    ensures seen { OnOk result (SeesNodes (all_of tables.old) (all_of tables.new) (names_if (said line.now))) }
     ensures kept { Keeps (all_of tables.old) (all_of tables.new) }
-    ensures wrong { IfErr result (IsWrong (all_of tables.new) line.now) }
+    ensures wrong { IfErr result (IsWrong (all_of tables.old).nodes line.now) }
 {
     let note = note_of_line(heap, alloc, tables, number, line)?;
     if let Some(note) = note {
@@ -146,9 +151,10 @@ pub(crate) fn noted_all<A: Allocator + Copy>(
     lines: &[&[u8]],
 ) -> Result<Vec<Noted<A>, A>, ImportFault>
     ensures notes { IfOk result (λ notes. AreNoted (all_of tables.new) (map (λ line. line.now) lines.now) (map note_of notes.items)) }
+    ensures seen { OnOk result (SeesNodes (all_of tables.old) (all_of tables.new) (names_on (map (λ line. line.now) lines.now))) }
     ensures few { OnOk result (length (all_of tables.old).nodes ≤ 32 → length (all_of tables.new).nodes ≤ 32) }
     ensures lines { length lines.now < 2 ^ 64 }
-    ensures fault { IfErr result (IsLineFault (map (λ line. line.now) lines.now)) }
+    ensures fault { IfErr result (IsLineFault (all_of tables.old).nodes (map (λ line. line.now) lines.now)) }
 {
     let mut notes = Vec::new(alloc);
     for (index, line) in lines.iter().enumerate() {

@@ -1,5 +1,5 @@
 //! An event as a step.
-ghost use Rattle.std.specs.Prelude.{◌≡◌, ◌<◌, ℕ, Err, length, IfOk, IfSome, is_some, not};
+ghost use Rattle.std.specs.Prelude.{◌≡◌, ◌∷◌, [], ℕ, Err, IfOk, IfSome, OnOk, is_some, not};
 ghost use Rattle.std.specs.FinSet as set;
 ghost use Rattle.serde_json.specs.View.{view, items_view};
 ghost use Rattle.node_core.specs.Operations.{plain, Answer};
@@ -7,6 +7,7 @@ ghost use Rattle.log_core.specs.Events.{join, update, leave, deliver};
 ghost use Rattle.log_core.specs.Views.{tracked as shown_tracked, event as shown_event};
 ghost use Rattle.import_core.specs.Tables.{AllTables, Keeps, all_of, IsWordOf, IsNodeOf, IsMessageOf};
 ghost use Rattle.import_core.specs.Steps.{IsPresenceOf, IsStepOf, IsSentOf, AreNodesOf, presence_of, is_own, is_message, is_status, is_online};
+ghost use Rattle.import_core.specs.Seen.{HasTooMany, SeesNodes, message_names, names_among, status_names, step_names};
 
 use crate::note_fault::NoteFault;
 use crate::tables::Tables;
@@ -34,6 +35,7 @@ pub(crate) fn presence_for<A: Allocator + Copy>(
     tracked: &Tracked<'_>,
 ) -> Result<Presence<A>, Oom>
     ensures presence { IfOk result (λ p. IsPresenceOf (all_of tables.new) (shown_tracked tracked.now) (presence_of p)) }
+    ensures same_nodes { tables.new.nodes ≡ tables.old.nodes }
     ensures kept { Keeps (all_of tables.old) (all_of tables.new) }
 {
     let pid = tables.pid(heap, tracked.pid)?;
@@ -58,6 +60,7 @@ fn leave_for<A: Allocator + Copy>(
     key: &Value,
 ) -> Result<Step<A>, Oom>
     ensures step { IfOk result (λ s. IsStepOf (all_of tables.new) (leave (view pid.now) (view topic.now) (view key.now)) (plain s)) }
+    ensures same_nodes { tables.new.nodes ≡ tables.old.nodes }
     ensures kept { Keeps (all_of tables.old) (all_of tables.new) }
 {
     let pid = tables.pid(heap, pid)?;
@@ -75,8 +78,9 @@ fn taken_from<A: Allocator + Copy>(
 ) -> Result<(u16, u64), NoteFault>
     ensures sender { IfOk result (λ m. IsNodeOf (all_of tables.new) from.now m.0) }
     ensures message { IfOk result (λ m. IsMessageOf (all_of tables.new) m.0 (view message.now) m.1) }
+    ensures seen { OnOk result (SeesNodes (all_of tables.old) (all_of tables.new) (from.now ∷ [])) }
     ensures kept { Keeps (all_of tables.old) (all_of tables.new) }
-    ensures many { result ≡ Err NoteFault.TooManyNodes → 32 < length (all_of tables.new).nodes }
+    ensures many { result ≡ Err NoteFault.TooManyNodes → HasTooMany (all_of tables.old) (from.now ∷ []) }
 {
     let sender = tables.node(from)?;
     let message = tables.message(heap, sender, message)?;
@@ -89,8 +93,9 @@ fn nodes_for<A: Allocator + Copy>(
     names: &[Value],
 ) -> Result<NameSet, NoteFault>
     ensures nodes { IfOk result (λ nodes. AreNodesOf (all_of tables.new) set.empty (items_view names.now) nodes) }
+    ensures seen { OnOk result (SeesNodes (all_of tables.old) (all_of tables.new) (names_among (items_view names.now))) }
     ensures kept { Keeps (all_of tables.old) (all_of tables.new) }
-    ensures many { result ≡ Err NoteFault.TooManyNodes → 32 < length (all_of tables.new).nodes }
+    ensures many { result ≡ Err NoteFault.TooManyNodes → HasTooMany (all_of tables.old) (names_among (items_view names.now)) }
 {
     let mut nodes = NameSet::empty();
     for value in names {
@@ -109,6 +114,7 @@ fn join_for<A: Allocator + Copy>(
     tracked: &Tracked<'_>,
 ) -> Result<Step<A>, Oom>
     ensures step { IfOk result (λ s. IsStepOf (all_of tables.new) (join (shown_tracked tracked.now)) (plain s)) }
+    ensures same_nodes { tables.new.nodes ≡ tables.old.nodes }
     ensures kept { Keeps (all_of tables.old) (all_of tables.new) }
 {
     let p = presence_for(heap, alloc, tables, tracked)?;
@@ -128,6 +134,7 @@ fn update_for<A: Allocator + Copy>(
     tracked: &Tracked<'_>,
 ) -> Result<Step<A>, Oom>
     ensures step { IfOk result (λ s. IsStepOf (all_of tables.new) (update (shown_tracked tracked.now)) (plain s)) }
+    ensures same_nodes { tables.new.nodes ≡ tables.old.nodes }
     ensures kept { Keeps (all_of tables.old) (all_of tables.new) }
 {
     let p = presence_for(heap, alloc, tables, tracked)?;
@@ -148,6 +155,7 @@ fn own_step_for<A: Allocator + Copy>(
 ) -> Result<Option<Step<A>>, Oom>
     ensures step { IfOk result (λ s. IfSome s (λ s. IsStepOf (all_of tables.new) (shown_event event.now) (plain s))) }
     ensures some { IfOk result (λ s. is_some s ≡ is_own (shown_event event.now)) }
+    ensures same_nodes { tables.new.nodes ≡ tables.old.nodes }
     ensures kept { Keeps (all_of tables.old) (all_of tables.new) }
 {
     match event {
@@ -171,8 +179,9 @@ fn answer_for<A: Allocator + Copy>(
     message: &Value,
 ) -> Result<Step<A>, NoteFault>
     ensures step { IfOk result (λ s. (n : ℕ) × (k : ℕ) × (plain s ≡ Answer n k) × IsNodeOf (all_of tables.new) from.now n × IsMessageOf (all_of tables.new) n (view message.now) k) }
+    ensures seen { OnOk result (SeesNodes (all_of tables.old) (all_of tables.new) (from.now ∷ [])) }
     ensures kept { Keeps (all_of tables.old) (all_of tables.new) }
-    ensures many { result ≡ Err NoteFault.TooManyNodes → 32 < length (all_of tables.new).nodes }
+    ensures many { result ≡ Err NoteFault.TooManyNodes → HasTooMany (all_of tables.old) (from.now ∷ []) }
 {
     let (sender, number) = taken_from(heap, tables, from, message)?;
     Ok(Step::Answer { sender, number })
@@ -186,8 +195,9 @@ fn deliver_for<A: Allocator + Copy>(
     message: &Value,
 ) -> Result<Step<A>, NoteFault>
     ensures step { IfOk result (λ s. IsStepOf (all_of tables.new) (deliver from.now (view message.now)) (plain s)) }
+    ensures seen { OnOk result (SeesNodes (all_of tables.old) (all_of tables.new) (from.now ∷ [])) }
     ensures kept { Keeps (all_of tables.old) (all_of tables.new) }
-    ensures many { result ≡ Err NoteFault.TooManyNodes → 32 < length (all_of tables.new).nodes }
+    ensures many { result ≡ Err NoteFault.TooManyNodes → HasTooMany (all_of tables.old) (from.now ∷ []) }
 {
     let (sender, number) = taken_from(heap, tables, from, message)?;
     Ok(Step::Deliver { sender, number })
@@ -201,8 +211,9 @@ fn message_step_for<A: Allocator + Copy>(
 ) -> Result<Option<Step<A>>, NoteFault>
     ensures step { IfOk result (λ s. IfSome s (λ s. IsStepOf (all_of tables.new) (shown_event event.now) (plain s))) }
     ensures some { IfOk result (λ s. is_some s ≡ is_message (shown_event event.now)) }
+    ensures seen { OnOk result (SeesNodes (all_of tables.old) (all_of tables.new) (message_names (shown_event event.now))) }
     ensures kept { Keeps (all_of tables.old) (all_of tables.new) }
-    ensures many { result ≡ Err NoteFault.TooManyNodes → 32 < length (all_of tables.new).nodes }
+    ensures many { result ≡ Err NoteFault.TooManyNodes → HasTooMany (all_of tables.old) (message_names (shown_event event.now)) }
 {
     match event {
         LogEvent::Broadcast(_) => Ok(Some(Step::Broadcast)),
@@ -227,8 +238,9 @@ fn status_for<A: Allocator + Copy>(
 ) -> Result<Option<Step<A>>, NoteFault>
     ensures step { IfOk result (λ s. IfSome s (λ s. IsStepOf (all_of tables.new) (shown_event event.now) (plain s))) }
     ensures some { IfOk result (λ s. is_some s ≡ is_status (shown_event event.now)) }
+    ensures seen { OnOk result (SeesNodes (all_of tables.old) (all_of tables.new) (status_names (shown_event event.now))) }
     ensures kept { Keeps (all_of tables.old) (all_of tables.new) }
-    ensures many { result ≡ Err NoteFault.TooManyNodes → 32 < length (all_of tables.new).nodes }
+    ensures many { result ≡ Err NoteFault.TooManyNodes → HasTooMany (all_of tables.old) (status_names (shown_event event.now)) }
 {
     match event {
         LogEvent::Up(name) => Ok(Some(Step::Up {
@@ -253,8 +265,9 @@ pub(crate) fn step_for<A: Allocator + Copy>(
 ) -> Result<Option<Step<A>>, NoteFault>
     ensures step { IfOk result (λ s. IfSome s (λ s. IsStepOf (all_of tables.new) (shown_event event.now) (plain s))) }
     ensures some { IfOk result (λ s. is_some s ≡ not (is_online (shown_event event.now))) }
+    ensures seen { OnOk result (SeesNodes (all_of tables.old) (all_of tables.new) (step_names (shown_event event.now))) }
     ensures kept { Keeps (all_of tables.old) (all_of tables.new) }
-    ensures many { result ≡ Err NoteFault.TooManyNodes → 32 < length (all_of tables.new).nodes }
+    ensures many { result ≡ Err NoteFault.TooManyNodes → HasTooMany (all_of tables.old) (step_names (shown_event event.now)) }
 {
     match event {
         LogEvent::Join(_) | LogEvent::Update(_) | LogEvent::Leave { .. } | LogEvent::LeaveAll(_) =>
@@ -273,6 +286,7 @@ pub(crate) fn sent_by<A: Allocator + Copy>(
     event: &LogEvent<'_>,
 ) -> Result<Option<usize>, Oom>
     ensures sends { IfOk result (λ sends. IsSentOf (all_of tables.new) node (shown_event event.now) sends) }
+    ensures same_nodes { tables.new.nodes ≡ tables.old.nodes }
     ensures kept { Keeps (all_of tables.old) (all_of tables.new) }
 {
     match event {

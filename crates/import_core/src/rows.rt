@@ -1,9 +1,10 @@
 //! The rows that a real node listed, as rows of the bench.
-ghost use Rattle.std.specs.Prelude.{◌≡◌, ◌<◌, ◌++◌, ◌∷◌, [], Err, length, IfOk, OnOk};
+ghost use Rattle.std.specs.Prelude.{◌≡◌, ◌++◌, ◌∷◌, [], Err, IfOk, OnOk};
 ghost use Rattle.serde_json.specs.View.{items_view};
 ghost use Rattle.log_core.specs.Views.{event as shown_event, row as shown_row};
 ghost use Rattle.import_core.specs.Tables.{Keeps, all_of};
 ghost use Rattle.import_core.specs.Listed.{AreRowsOf, IsListOf, IsRowOf};
+ghost use Rattle.import_core.specs.Seen.{HasTooMany, SeesNodes, nodes_among, row_names};
 
 use crate::note_fault::NoteFault;
 use crate::noting::presence_for;
@@ -22,8 +23,9 @@ fn row_for<A: Allocator + Copy>(
     row: &Row<'_>,
 ) -> Result<OnlineRow<A>, NoteFault>
     ensures row { IfOk result (λ r. IsRowOf (all_of tables.new) (shown_row row.now) r) }
+    ensures seen { OnOk result (SeesNodes (all_of tables.old) (all_of tables.new) ((shown_row row.now).node ∷ [])) }
     ensures kept { Keeps (all_of tables.old) (all_of tables.new) }
-    ensures many { result ≡ Err NoteFault.TooManyNodes → 32 < length (all_of tables.new).nodes }
+    ensures many { result ≡ Err NoteFault.TooManyNodes → HasTooMany (all_of tables.old) ((shown_row row.now).node ∷ []) }
 {
     let name = tables.node(row.node)?;
     let p = presence_for(heap, alloc, tables, &row.tracked)?;
@@ -55,8 +57,9 @@ fn rows_for<A: Allocator + Copy>(
     values: &[Value],
 ) -> Result<Vec<OnlineRow<A>, A>, NoteFault>
     ensures rows { IfOk result (λ rows. AreRowsOf (all_of tables.new) [] (items_view values.now) rows.items) }
+    ensures seen { OnOk result (SeesNodes (all_of tables.old) (all_of tables.new) (nodes_among (items_view values.now))) }
     ensures kept { Keeps (all_of tables.old) (all_of tables.new) }
-    ensures many { result ≡ Err NoteFault.TooManyNodes → 32 < length (all_of tables.new).nodes }
+    ensures many { result ≡ Err NoteFault.TooManyNodes → HasTooMany (all_of tables.old) (nodes_among (items_view values.now)) }
 {
     let mut rows = Vec::new(alloc);
     for value in values {
@@ -76,8 +79,9 @@ pub(crate) fn listed_for<A: Allocator + Copy>(
     event: &LogEvent<'_>,
 ) -> Result<Vec<OnlineRow<A>, A>, NoteFault>
     ensures rows { IfOk result (λ rows. IsListOf (all_of tables.new) (shown_event event.now) rows.items) }
+    ensures seen { OnOk result (SeesNodes (all_of tables.old) (all_of tables.new) (row_names (shown_event event.now))) }
     ensures kept { Keeps (all_of tables.old) (all_of tables.new) }
-    ensures many { result ≡ Err NoteFault.TooManyNodes → 32 < length (all_of tables.new).nodes }
+    ensures many { result ≡ Err NoteFault.TooManyNodes → HasTooMany (all_of tables.old) (row_names (shown_event event.now)) }
 {
     match event {
         LogEvent::Online(values) => rows_for(heap, alloc, tables, values),

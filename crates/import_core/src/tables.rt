@@ -1,7 +1,8 @@
 //! `Tables`: what stands for what.
-ghost use Rattle.std.specs.Prelude.{◌≡◌, ◌<◌, ◌^◌, ◌++◌, Some, Err, IfOk, length, string_bytes, decimal, codes};
+ghost use Rattle.std.specs.Prelude.{◌≡◌, ◌<◌, ◌^◌, ◌++◌, Some, Err, IfOk, OnOk, length, string_bytes, decimal, codes};
 ghost use Rattle.serde_json.specs.View.{view};
 ghost use Rattle.import_core.specs.Tables.{IsTextOf, IsWordOf, IsNumberOf, IsNodeOf, IsMessageOf, Extends, Keeps, all_of, no_tables, message_text};
+ghost use Rattle.import_core.specs.Seen.{with_text};
 
 use crate::note_fault::NoteFault;
 use crate::numbering::numbered;
@@ -79,6 +80,7 @@ impl<A: Allocator + Copy> Tables<A> {
     /// The word of a value.
     pub(crate) fn word(&mut self, heap: Global, alloc: A, value: &Value) -> Result<Word<A>, Oom>
         ensures word { IfOk result (λ word. IsWordOf self.new.longs (view value.now) word) }
+        ensures same_nodes { self.new.nodes ≡ self.old.nodes }
         ensures kept { Keeps (all_of self.old) (all_of self.new) }
     {
         word_in(heap, alloc, &mut self.longs, value)
@@ -87,6 +89,7 @@ impl<A: Allocator + Copy> Tables<A> {
     /// The number of a process.
     pub(crate) fn pid(&mut self, heap: Global, value: &Value) -> Result<u64, Oom>
         ensures pid { IfOk result (λ pid. IsNumberOf self.new.pids (view value.now) pid) }
+        ensures same_nodes { self.new.nodes ≡ self.old.nodes }
         ensures kept { Keeps (all_of self.old) (all_of self.new) }
     {
         number_in(heap, &mut self.pids, value)
@@ -96,8 +99,9 @@ impl<A: Allocator + Copy> Tables<A> {
     pub(crate) fn node(&mut self, name: &str) -> Result<u16, NoteFault>
         ensures node { IfOk result (λ node. IsNodeOf (all_of self.new) name.now node) }
         ensures few { IfOk result (λ node. node < 32) }
+        ensures seen { OnOk result (self.new.nodes ≡ with_text self.old.nodes name.now) }
         ensures kept { Keeps (all_of self.old) (all_of self.new) }
-        ensures many { result ≡ Err NoteFault.TooManyNodes → 32 < length self.new.nodes }
+        ensures many { result ≡ Err NoteFault.TooManyNodes → 32 < length (with_text self.old.nodes name.now) }
     {
         let number = numbered(&mut self.nodes, name)?;
         if number >= 32 {
@@ -109,6 +113,7 @@ impl<A: Allocator + Copy> Tables<A> {
     /// The number of a message of this sender.
     pub(crate) fn message(&mut self, heap: Global, sender: u16, value: &Value) -> Result<usize, Oom>
         ensures message { IfOk result (λ message. IsMessageOf (all_of self.new) sender (view value.now) message) }
+        ensures same_nodes { self.new.nodes ≡ self.old.nodes }
         ensures kept { Keeps (all_of self.old) (all_of self.new) }
     {
         let text = text_of(heap, value)?;

@@ -1,12 +1,12 @@
-use Rattle.std.proofs.Common.{◌≡◌, ◌^◌, ◌<◌, List, IfSome, length, map, sym, ap, subst, ◌∙◌, IfErr, arith}
+use Rattle.std.proofs.Common.{◌≡◌, ◌^◌, ◌<◌, List, [], IfSome, length, map, sym, ap, subst, ◌∙◌, IfErr, arith}
 use Rattle.std.specs.List.{AllByRecursion}
 use Rattle.std.proofs.lemmas.List.{length-map}
 use Rattle.std.proofs.lemmas.Result.{err_from_is_err_and}
 use Rattle.event_order.specs.Ordering.{HasNodes, HasMessages, IsOrdered}
 use Rattle.log_core.specs.Lines.{lines_of}
-use Rattle.import_core.specs.Lenient.{Stay}
 use Rattle.import_core.specs.Tables.{AllTables, all_of}
 use Rattle.import_core.specs.Notes.{Note, note_of, logged_of}
+use Rattle.import_core.specs.Seen.{names_on, with_texts}
 use Rattle.import_core.specs.Imports.{AreNoted}
 use Rattle.import_core.specs.Faults.{IsLineFault, IsNotesFault, IsImportFault}
 use Rattle.import_core.proofs.Known.{has_nodes, has_messages}
@@ -19,9 +19,12 @@ returns-in_err-notes-clause-fault g c =
     let bytes = c.args.bytes.now in
     let p = err_from_is_err_and c.from_residual-in_err-notes.result c.from_residual-in_err-notes.ensures.1 in
     let at : map (λ line. line.now) c.deref.result.now ≡ lines_of bytes = ap (map (λ line. line.now)) c.deref.ensures.value ∙ c.in_ok-lines.ensures in
+    let none : c.new-tables.result.nodes ≡ [] = ap (λ (t : AllTables). t.nodes) c.new-tables.ensures in
     subst (λ r. IfErr r (IsImportFault c.args.lenient bytes)) (sym p.1)
     (subst (λ fault. IsImportFault c.args.lenient bytes fault) (sym p.2)
-    (import_line c.args.lenient bytes c.in_err-notes.field-0.0 (subst (λ ls. IsLineFault ls c.in_err-notes.field-0.0) at c.in_err-notes.ensures.fault)))
+    (import_line c.args.lenient bytes c.in_err-notes.field-0.0
+    (subst (λ nodes. IsLineFault nodes (lines_of bytes) c.in_err-notes.field-0.0) none
+    (subst (λ ls. IsLineFault c.new-tables.result.nodes ls c.in_err-notes.field-0.0) at c.in_err-notes.ensures.fault))))
 
 pub stay-requires : goal.stay-requires
 stay-requires g c =
@@ -74,6 +77,8 @@ returns-clause-import g c =
       stay = c.in_ok-left_out.ensures;
       ordered = subst (λ ns. IsOrdered (logged_of (map note_of ns)) c.in_ok-order.order.items) c.deref-2.ensures.value c.in_ok-order.ensures.order;
       some = subst (λ n. 0 < n) (sym (length-map c.stay.new.notes.items note_of)) (subst (λ ns. 0 < length ns) c.deref-2.ensures.value c.in_ok-order.ensures.some);
+      nodes = c.in_ok-notes.ensures.seen ∙ ap (λ ls. with_texts c.new-tables.result.nodes (names_on ls)) at
+          ∙ ap (λ ns. with_texts ns (names_on (lines_of bytes))) (ap (λ (t : AllTables). t.nodes) c.new-tables.ensures);
       lines = subst (λ n. n < 2 ^ 64) (sym long) c.in_ok-notes.ensures.lines;
       few = c.in_ok-notes.ensures.few (omega (arith, none));
     }

@@ -1,4 +1,4 @@
-use Rattle.std.proofs.Common.{◌≡◌, ◌<◌, ◌==◌, ℕ, suc, IfSome, not, true, false, List, length, map, refl, sym, ap, ◌∙◌, subst, arith, ◌++◌}
+use Rattle.std.proofs.Common.{◌≡◌, ◌<◌, ◌==◌, suc, IfSome, false, List, length, map, refl, sym, ap, ◌∙◌, subst, arith, ◌++◌}
 use Rattle.std.specs.List.{AllByRecursion}
 use Rattle.std.proofs.lemmas.List.{length-map}
 use Rattle.std.proofs.lemmas.Bool.{eqb-true}

@@ -1,4 +1,4 @@
-use Rattle.std.proofs.Common.{rules, ◌≡◌, ℕ, List, false, map, filter, slice_index_or, sym, ap, ◌∙◌, subst}
+use Rattle.std.proofs.Common.{rules, ◌≡◌, ℕ, List, false, map, filter, slice_index_or, ap, ◌∙◌, subst}
 use Rattle.std.proofs.lemmas.Fn.{filter_same}
 use Rattle.import_core.specs.Lenient.{can_stay, has_awaited, is_sent, staying}
 use Rattle.import_core.specs.Notes.{Note, note_of}

@@ -1,5 +1,4 @@
-use Rattle.std.proofs.Common.{◌≡◌, ◌+◌, ◌<◌, ◌||◌, ◌∷◌, ℕ, List, IfSome, false, length, map, drop, replicate, slice_index_or, refl, sym, ap, ◌∙◌, subst, arith}
-use Rattle.std.specs.List.{AllByRecursion}
+use Rattle.std.proofs.Common.{◌≡◌, ◌+◌, ◌<◌, ◌||◌, ◌∷◌, IfSome, false, length, map, drop, replicate, slice_index_or, sym, ap, ◌∙◌, subst, arith}
 use Rattle.std.proofs.lemmas.List.{at_drop_more, at_drop_all, length-replicate}
 use Rattle.import_core.specs.Lenient.{is_message, is_sent}
 use Rattle.import_core.specs.Notes.{Note, note_of}

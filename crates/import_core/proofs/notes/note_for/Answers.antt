@@ -1,8 +1,11 @@
-use Rattle.std.proofs.Common.{refl}
+use Rattle.std.proofs.Common.{◌++◌, ◌∷◌, [], ◌<◌, length, refl, ap, subst, ◌∙◌}
+use Rattle.std.proofs.lemmas.Result.{err_from_is_err_and}
 use Rattle.log_core.specs.Views.{event as shown_event}
 use Rattle.import_core.specs.Tables.{AllTables, Keeps, all_of}
+use Rattle.import_core.specs.Seen.{row_names, step_names, with_text, with_texts}
 use Rattle.import_core.proofs.Numbers.{keeps_both}
 use Rattle.import_core.proofs.Kept.{later_node}
+use Rattle.import_core.proofs.FirstSights.{seen_more, too_many_more}
 use Rattle.import_core.proofs.LaterNotes.{later_sent, later_maybe, maybe_step}
 use Rattle.import_core.proofs.notes.note_for.Goals as goal
 
@@ -24,3 +27,41 @@ returns-clause-note g c =
       sends = later_sent d f two c.in_ok-node.node event c.in_ok-sends.sends c.in_ok-sends.ensures.sends;
       rows = c.in_ok-rows.ensures.rows;
     }
+
+pub returns-clause-seen : goal.returns-clause-seen
+returns-clause-seen g c =
+    let event = shown_event c.args.line.now.event in
+    let first = with_text c.args.tables.now.nodes c.args.line.now.node.now in
+    c.in_ok-rows.ensures.seen
+    ∙ ap (λ ns. with_texts ns (row_names event)) (c.in_ok-step.ensures.seen ∙ ap (λ ns. with_texts ns (step_names event)) (c.sent_by.ensures.same_nodes ∙ c.in_ok-node.ensures.seen))
+    ∙ seen_more first (step_names event) (row_names event)
+
+pub returns-in_err-node-clause-many : goal.returns-in_err-node-clause-many
+returns-in_err-node-clause-many g c = λ e.
+    let event = shown_event c.args.line.now.event in
+    let p = err_from_is_err_and c.from_residual.result c.from_residual.ensures.1 in
+    let is = p.1 in
+    let same = p.2 in
+    too_many_more c.args.tables.now.nodes (c.args.line.now.node.now ∷ []) (step_names event ++ row_names event) (c.in_err-node.ensures.many (cc))
+
+pub returns-in_err-step-clause-many : goal.returns-in_err-step-clause-many
+returns-in_err-step-clause-many g c = λ e.
+    let event = shown_event c.args.line.now.event in
+    let first = with_text c.args.tables.now.nodes c.args.line.now.node.now in
+    let p = err_from_is_err_and c.from_residual-in_err-step.result c.from_residual-in_err-step.ensures.1 in
+    let is = p.1 in
+    let same = p.2 in
+    too_many_more first (step_names event) (row_names event)
+    (subst (λ ns. 32 < length (with_texts ns (step_names event))) (c.sent_by.ensures.same_nodes ∙ c.in_ok-node.ensures.seen) (c.in_err-step.ensures.many (cc)))
+
+pub returns-in_err-rows-clause-many : goal.returns-in_err-rows-clause-many
+returns-in_err-rows-clause-many g c = λ e.
+    let event = shown_event c.args.line.now.event in
+    let first = with_text c.args.tables.now.nodes c.args.line.now.node.now in
+    let p = err_from_is_err_and c.from_residual-in_err-rows.result c.from_residual-in_err-rows.ensures.1 in
+    let is = p.1 in
+    let same = p.2 in
+    subst (λ ns. 32 < length ns) (seen_more first (step_names event) (row_names event))
+    (subst (λ ns. 32 < length (with_texts ns (row_names event)))
+    (c.in_ok-step.ensures.seen ∙ ap (λ ns. with_texts ns (step_names event)) (c.sent_by.ensures.same_nodes ∙ c.in_ok-node.ensures.seen))
+    (c.in_err-rows.ensures.many (cc)))

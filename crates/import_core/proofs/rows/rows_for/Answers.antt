@@ -1,9 +1,14 @@
-use Rattle.std.proofs.Common.{◌≡◌, ◌+◌, ◌∷◌, [], drop, refl, sym, ap, subst, ◌∙◌, arith, Some, None}
+use Rattle.std.proofs.Common.{◌≡◌, ◌+◌, ◌++◌, ◌∷◌, [], ◌<◌, length, drop, refl, sym, ap, subst, ◌∙◌, arith, Some, None}
 use Rattle.std.proofs.lemmas.List.{drop_more, drop_all}
-use Rattle.serde_json.specs.View.{items_view}
+use Rattle.std.proofs.lemmas.Result.{err_from_is_err_and}
+use Rattle.serde_json.specs.View.{view, items_view}
+use Rattle.bench_core.specs.NameList.{Texts}
+use Rattle.log_core.specs.Events.{row_at}
 use Rattle.log_core.specs.Views.{row as shown_row}
 use Rattle.import_core.specs.Tables.{AllTables, all_of}
 use Rattle.import_core.specs.Listed.{AreRowsOf, RowIn}
+use Rattle.import_core.specs.Seen.{node_if, nodes_among, with_text, with_texts}
+use Rattle.import_core.proofs.FirstSights.{all_longer}
 use Rattle.import_core.proofs.Numbers.{keeps_both, keeps_itself}
 use Rattle.import_core.proofs.LaterNotes.{later_row}
 use Rattle.import_core.proofs.rows.rows_for.Goals as goal
@@ -21,11 +26,15 @@ loop-value-preserved g c =
     let found = c.loop-value.rows.items in
     let old : AllTables = all_of c.loop-value.tables in
     let at : drop i values ≡ v ∷ drop (i + 1) values = drop_more values i v c.loop-value-test.true ∙ ap (λ x. x ∷ drop (i + 1) values) (sym c.value-item.is) in
+    let rest : Texts = nodes_among (items_view (drop (i + 1) values)) in
+    let left : with_texts old.nodes (node_if (row_at (view v)) ++ rest) ≡ with_texts c.args.tables.now.nodes (nodes_among (items_view values)) =
+    ap (λ vs. with_texts old.nodes (nodes_among (items_view vs))) (sym at) ∙ c.loop-value.invariant.seen in
     elim c.match-row_at.branch [
       | in-Some+in_ok-row+in_ok-add_row w ↦
           let new : AllTables = all_of w.row_for.new.tables in
           rw (w.tables-is, w.rows-is) (record {
             kept = keeps_both (all_of c.args.tables.now) old new c.loop-value.invariant.kept w.row_for.ensures.kept;
+            seen = ap (λ ns. with_texts ns rest) w.in_ok-row.ensures.seen ∙ ap (λ o. with_texts old.nodes (node_if o ++ rest)) w.in-Some.ensures ∙ left;
             rows = λ t all keeps rest.
                 let here : RowIn t found (Some (shown_row w.in-Some.listed)) (λ more. AreRowsOf t more (items_view (drop (i + 1) values)) all) = (
                   w.in_ok-row.row,
@@ -39,6 +48,7 @@ loop-value-preserved g c =
       | in_default w ↦
           rw (w.tables-is, w.rows-is) (record {
             kept = c.loop-value.invariant.kept;
+            seen = ap (λ o. with_texts old.nodes (node_if o ++ rest)) w.in_default.ensures ∙ left;
             rows = λ t all keeps rest.
                 let here : RowIn t found None (λ more. AreRowsOf t more (items_view (drop (i + 1) values)) all) = rest in
                 c.loop-value.invariant.rows t all keeps
@@ -54,3 +64,21 @@ returns-clause-rows g c =
     let past = c.loop-value-test.false in
     let none : drop c.loop-value.value-index c.args.values.now ≡ [] = drop_all c.loop-value.value-index c.args.values.now (omega (arith, past)) in
     c.loop-value.invariant.rows t rows (keeps_itself t) (subst (λ vs. AreRowsOf t rows (items_view vs) rows) (sym none) refl)
+
+pub returns-in_err-row-clause-many : goal.returns-in_err-row-clause-many
+returns-in_err-row-clause-many g c = λ e.
+    let v = c.value-item.result in
+    let i = c.loop-value.value-index in
+    let values = c.args.values.now in
+    let nodes = c.loop-value.tables.nodes in
+    let node = (shown_row c.in-Some.listed).node in
+    let at : drop i values ≡ v ∷ drop (i + 1) values = drop_more values i v c.loop-value-test.true ∙ ap (λ x. x ∷ drop (i + 1) values) (sym c.value-item.is) in
+    let rest : Texts = nodes_among (items_view (drop (i + 1) values)) in
+    let p = err_from_is_err_and c.from_residual.result c.from_residual.ensures.1 in
+    let is = p.1 in
+    let same = p.2 in
+    let many = c.in_err-row.ensures.many (cc) in
+    let more = all_longer (with_text nodes node) rest in
+    let all : with_texts (with_text nodes node) rest ≡ with_texts c.args.tables.now.nodes (nodes_among (items_view values)) =
+    ap (λ o. with_texts nodes (node_if o ++ rest)) c.in-Some.ensures ∙ ap (λ vs. with_texts nodes (nodes_among (items_view vs))) (sym at) ∙ c.loop-value.invariant.seen in
+    subst (λ ns. 32 < length ns) all (omega (arith, many, more))
