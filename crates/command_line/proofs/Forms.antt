@@ -7,7 +7,7 @@ use Rattle.command_line.specs.declared.chosen.Form.TheVariants.{Report, Steps, S
 use Rattle.command_line.specs.declared.chosen.Options.{Options}
 use Rattle.command_line.specs.declared.chosen.Question.{Question}
 use Rattle.command_line.specs.declared.chosen.Subcommand.{Subcommand}
-use Rattle.command_line.specs.declared.chosen.Subcommand.TheVariants.{Play, Race, Load, Import, Explore, Step, Draw, Explain, Whatif}
+use Rattle.command_line.specs.declared.chosen.Subcommand.TheVariants.{Play, Race, Load, Import, Explore, Step, Draw, Page, Explain, Whatif}
 use Rattle.command_line.specs.Line.{IsFlag, IsForm, Takes, can_print, form_name, import_prints, name_of, race_prints, usual_form}
 
 by_name : List ℕ → Form
@@ -21,7 +21,8 @@ usual_by_name (Load strict) = refl
 usual_by_name (Import check lines lenient) = refl
 usual_by_name (Explore about lost again states outcome) = refl
 usual_by_name Step = refl
-usual_by_name (Draw why) = refl
+usual_by_name (Draw drawing) = refl
+usual_by_name Page = refl
 usual_by_name (Explain question) = refl
 usual_by_name (Whatif question change) = refl
 
@@ -41,7 +42,8 @@ can_by_name options question of (Load strict) form takes = refl
 can_by_name options question of (Import check lines lenient) form takes = ap (λ b. import_prints b form) takes.0
 can_by_name options question of (Explore about lost again states outcome) form takes = refl
 can_by_name options question of Step form takes = refl
-can_by_name options question of (Draw why) form takes = refl
+can_by_name options question of (Draw drawing) form takes = refl
+can_by_name options question of Page form takes = refl
 can_by_name options question of (Explain asked) form takes = refl
 can_by_name options question of (Whatif asked change) form takes = refl
 

@@ -7,10 +7,10 @@ use Rattle.command_line.specs.declared.chosen.Choice.{Choice}
 use Rattle.command_line.specs.declared.chosen.Options.{Options}
 use Rattle.command_line.specs.declared.chosen.Question.{Question}
 use Rattle.command_line.specs.declared.chosen.Subcommand.{Subcommand}
-use Rattle.command_line.specs.declared.chosen.Subcommand.TheVariants.{Play, Race, Load, Import, Explore, Step, Draw, Explain, Whatif}
+use Rattle.command_line.specs.declared.chosen.Subcommand.TheVariants.{Play, Race, Load, Import, Explore, Step, Draw, Page, Explain, Whatif}
 use Rattle.clap.specs.Words.{HasKind, Row, fault_of, first_of, kind_of, subcommand_of}
 use Rattle.clap.specs.declared.error.Error.{Error}
-use Rattle.command_line.specs.Line.{Spells, IsChoiceOf, IsFlag, IsAbout, IsForm, IsNumber, IsQuestion, IsUnnamed, Lacks, Misspells, Takes, app, usual_form}
+use Rattle.command_line.specs.Line.{Spells, IsChoiceOf, IsFlag, IsAbout, IsForm, IsNumber, IsQuestion, IsUnnamed, IsOnline, AsksOtherwise, Lacks, Misspells, Takes, app, usual_form}
 
 abbrev pair : {A B C : Type 0} → (A → B) → (A → C) → A → B × C
 pair f g a = (f a, g a)
@@ -53,6 +53,8 @@ chosen_alike name values others choice same is =
         lines = subst (λ (o : Option (List ℕ)). IsFlag o is.options.lines) (same (codes "lines")) is.options_are.lines;
         lenient = subst (λ (o : Option (List ℕ)). IsFlag o is.options.lenient) (same (codes "lenient")) is.options_are.lenient;
         why = number (codes "why") is.options.why is.options_are.why;
+        from = number (codes "from") is.options.from is.options_are.from;
+        to = number (codes "to") is.options.to is.options_are.to;
         lost = number (codes "lost") is.options.lost is.options_are.lost;
         again = number (codes "again") is.options.again is.options_are.again;
         states = number (codes "states") is.options.states is.options_are.states;
@@ -80,24 +82,46 @@ no_about values found asked about nothing is lacks takes =
     subst (λ (o : Option About). IfNone o ((a : About) → ¬ IsAbout values a)) lacks nothing about
     (subst (λ (o : Option About). IfSome o (IsAbout values)) takes is)
 
+-- words that a picture takes are no others
+
+cluster_alone : (values : List ℕ → Option (List ℕ)) (about : About) → values (codes "NODE") ≡ None → IsAbout values about → AsksOtherwise (Some about) → ⊥
+cluster_alone values Cluster none is lacks = lacks
+cluster_alone values (Presence question) none is lacks = lacks
+cluster_alone values (Node name) none is lacks = cc (none, is.0)
+
+presence_alone : (values : List ℕ → Option (List ℕ)) (about : About) (question : Question) → IsQuestion values question → IsAbout values about →
+    AsksOtherwise (Some about) → ⊥
+presence_alone values Cluster question asked is lacks = lacks
+presence_alone values (Presence other) question asked is lacks = lacks
+presence_alone values (Node name) question asked is lacks = cc (asked.topic, is.1)
+
+draws : (values : List ℕ → Option (List ℕ)) (about of : Option About) (online : Option Question) → IfNone about ((a : About) → ¬ IsAbout values a) →
+    IfSome about (IsAbout values) → IfSome of (IsAbout values) → AsksOtherwise about → IsOnline of online → ⊥
+draws values None (Some of) online never is has lacks drawn = never of has
+draws values (Some about) (Some Cluster) online never is has lacks drawn = cluster_alone values about has is lacks
+draws values (Some about) (Some (Presence question)) online never is has lacks drawn = presence_alone values about question has is lacks
+draws values (Some about) (Some (Node name)) online never is has lacks drawn = drawn
+draws values about None online never is has lacks drawn = drawn
+
 lacks_all : (values : List ℕ → Option (List ℕ)) (found asked : Option Question) (about of : Option About) (options : Options) (command : Subcommand) →
-    IfNone found ((q : Question) → ¬ IsQuestion values q) → IfNone about ((a : About) → ¬ IsAbout values a) → IfSome asked (IsQuestion values) → IfSome of (IsAbout values) →
-    Lacks found about command → Takes options asked of command → ⊥
-lacks_all values found asked about of options (Explain question) none never is has lacks takes = no_question values found asked question none is lacks takes
-lacks_all values found asked about of options (Whatif question change) none never is has lacks takes = no_question values found asked question none is lacks takes.0
-lacks_all values found asked about of options (Explore it lost again states outcome) none never is has lacks takes = no_about values about of it never has lacks takes.0
-lacks_all values found asked about of options (Play strict) none never is has lacks takes = lacks
-lacks_all values found asked about of options Race none never is has lacks takes = lacks
-lacks_all values found asked about of options (Load strict) none never is has lacks takes = lacks
-lacks_all values found asked about of options (Import check lines lenient) none never is has lacks takes = lacks
-lacks_all values found asked about of options Step none never is has lacks takes = lacks
-lacks_all values found asked about of options (Draw why) none never is has lacks takes = lacks
+    IfNone found ((q : Question) → ¬ IsQuestion values q) → IfNone about ((a : About) → ¬ IsAbout values a) → IfSome about (IsAbout values) →
+    IfSome asked (IsQuestion values) → IfSome of (IsAbout values) → Lacks found about command → Takes options asked of command → ⊥
+lacks_all values found asked about of options (Explain question) none never around is has lacks takes = no_question values found asked question none is lacks takes
+lacks_all values found asked about of options (Whatif question change) none never around is has lacks takes = no_question values found asked question none is lacks takes.0
+lacks_all values found asked about of options (Explore it lost again states outcome) none never around is has lacks takes = no_about values about of it never has lacks takes.0
+lacks_all values found asked about of options (Play strict) none never around is has lacks takes = lacks
+lacks_all values found asked about of options Race none never around is has lacks takes = lacks
+lacks_all values found asked about of options (Load strict) none never around is has lacks takes = lacks
+lacks_all values found asked about of options (Import check lines lenient) none never around is has lacks takes = lacks
+lacks_all values found asked about of options Step none never around is has lacks takes = lacks
+lacks_all values found asked about of options (Draw drawing) none never around is has lacks takes = draws values about of drawing.online never around has lacks takes.0
+lacks_all values found asked about of options Page none never around is has lacks takes = lacks
 
 pub none_chosen : (name : List ℕ) (values : List ℕ → Option (List ℕ)) (found : Option Question) (about : Option About) →
-    IfNone found ((q : Question) → ¬ IsQuestion values q) → IfNone about ((a : About) → ¬ IsAbout values a) → IsUnnamed name found about →
-    (choice : Choice) → ¬ IsChoiceOf name values choice
-none_chosen name values found about none never unnamed choice is =
-    lacks_all values found is.question about is.about is.options choice.command none never is.question_is is.about_is (unnamed choice.command is.name_is) is.takes
+    IfNone found ((q : Question) → ¬ IsQuestion values q) → IfNone about ((a : About) → ¬ IsAbout values a) → IfSome about (IsAbout values) →
+    IsUnnamed name found about → (choice : Choice) → ¬ IsChoiceOf name values choice
+none_chosen name values found about none never around unnamed choice is =
+    lacks_all values found is.question about is.about is.options choice.command none never around is.question_is is.about_is (unnamed choice.command is.name_is) is.takes
 
 -- what was entered chooses nothing, so the words don't
 pub chooses_nothing : (words : List (List ℕ)) (name : List ℕ) (rows : List Row) → subcommand_of app words ≡ Some (name, rows) →

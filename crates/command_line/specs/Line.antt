@@ -5,7 +5,7 @@ use Rattle.clap.specs.Words.{App, IsAmong, Row, Rule, fault_of, first_of, new_ap
 use Rattle.command_line.specs.declared.chosen.Form.{Form}
 use Rattle.command_line.specs.declared.chosen.Form.TheVariants.{Report, Steps, Script, Session}
 use Rattle.command_line.specs.declared.chosen.Subcommand.{Subcommand}
-use Rattle.command_line.specs.declared.chosen.Subcommand.TheVariants.{Play, Race, Load, Import, Explore, Step, Draw, Explain, Whatif}
+use Rattle.command_line.specs.declared.chosen.Subcommand.TheVariants.{Play, Race, Load, Import, Explore, Step, Draw, Page, Explain, Whatif}
 use Rattle.command_line.specs.declared.chosen.Question.{Question}
 use Rattle.command_line.specs.declared.chosen.Choice.{Choice}
 use Rattle.command_line.specs.declared.chosen.Options.{Options}
@@ -48,9 +48,6 @@ import_app =
     with_rule (with_rule (with_rule (with_rule (new_app (codes "import")) as_rule) (flag_rule (codes "check"))) (flag_rule (codes "lines")))
     (flag_rule (codes "lenient"))
 
-abbrev pub draw_app : App
-draw_app = with_rule (new_app (codes "draw")) (number_rule (codes "why"))
-
 -- a word that comes in its place
 abbrev pub word_rule : List ℕ → Rule
 word_rule name = record (new_rule name) { required = true }
@@ -74,6 +71,15 @@ network_app = with_rule (with_rule (about_app (codes "explore")) (number_rule (c
 abbrev pub explore_app : App
 explore_app = with_rule (with_rule network_app (number_rule (codes "states"))) (number_rule (codes "script"))
 
+abbrev pub lanes_app : App
+lanes_app = with_rule (about_app (codes "draw")) (number_rule (codes "why"))
+
+abbrev pub draw_app : App
+draw_app = with_rule (with_rule lanes_app (number_rule (codes "from"))) (number_rule (codes "to"))
+
+abbrev pub page_app : App
+page_app = new_app (codes "page")
+
 abbrev pub explain_app : App
 explain_app = question_app (codes "explain")
 
@@ -89,8 +95,8 @@ bare_app =
 abbrev pub app : App
 app =
     let older = with_subcommand (with_subcommand (with_subcommand (with_subcommand bare_app play_app.top) race_app.top) load_app.top) explore_app.top in
-    let newer = with_subcommand (with_subcommand (with_subcommand (with_subcommand older step_app.top) draw_app.top) explain_app.top) whatif_app.top in
-    with_subcommand newer import_app.top
+    let drawn = with_subcommand (with_subcommand (with_subcommand older step_app.top) draw_app.top) page_app.top in
+    with_subcommand (with_subcommand (with_subcommand drawn explain_app.top) whatif_app.top) import_app.top
 
 abbrev pub name_of : Subcommand → List ℕ
 name_of (Play strict) = codes "play"
@@ -99,7 +105,8 @@ name_of (Load strict) = codes "load"
 name_of (Import check lines lenient) = codes "import"
 name_of (Explore about lost again states outcome) = codes "explore"
 name_of Step = codes "step"
-name_of (Draw why) = codes "draw"
+name_of (Draw drawing) = codes "draw"
+name_of Page = codes "page"
 name_of (Explain question) = codes "explain"
 name_of (Whatif question change) = codes "whatif"
 
@@ -134,6 +141,8 @@ IsFlag value true = value ≡ Some (codes "true")
 pub record AreOptions (values : List ℕ → Option (List ℕ)) (options : Options) : Type 0 where
   pub strict : IsFlag (values (codes "strict")) options.strict
   pub why : IsNumber (values (codes "why")) options.why
+  pub from : IsNumber (values (codes "from")) options.from
+  pub to : IsNumber (values (codes "to")) options.to
   pub lost : IsNumber (values (codes "lost")) options.lost
   pub again : IsNumber (values (codes "again")) options.again
   pub states : IsNumber (values (codes "states")) options.states
@@ -154,10 +163,26 @@ IsAbout values Cluster = values (codes "NODE") ≡ None
 IsAbout values (Node name) = (values (codes "NODE") ≡ Some name.now) × (values (codes "TOPIC") ≡ None)
 IsAbout values (Presence question) = IsQuestion values question
 
+-- of which presences a picture's lanes are thick: of none where no words ask, and else of those of a topic and a key
+abbrev pub IsOnline : Option About → Option Question → Type 0
+IsOnline (Some Cluster) online = online ≡ None
+IsOnline (Some (Presence question)) online = online ≡ Some question
+IsOnline (Some (Node name)) online = ⊥
+IsOnline None online = ⊥
+
+-- the words ask neither: they name a node alone, or a topic without a key
+abbrev pub AsksOtherwise : Option About → Type 0
+AsksOtherwise (Some Cluster) = ⊥
+AsksOtherwise (Some (Presence question)) = ⊥
+AsksOtherwise (Some (Node name)) = ⊤
+AsksOtherwise None = ⊤
+
 -- the subcommand has these of the options and words that it takes; of states 100,000 are kept where it is not told how many, and no
 -- delivery is lost or comes again
 abbrev pub Takes : Options → Option Question → Option About → Subcommand → Type 0
-Takes options question about (Draw why) = why ≡ options.why
+Takes options question about (Draw drawing) =
+    IsOnline about drawing.online × (drawing.why ≡ options.why) × (drawing.from ≡ options.from) × (drawing.to ≡ options.to)
+Takes options question about Page = ⊤
 Takes options question about (Explore asked lost again states outcome) =
     (about ≡ Some asked) × (lost ≡ unwrap_or options.lost 0) × (again ≡ unwrap_or options.again 0) × (states ≡ unwrap_or options.states 100000) ×
     (outcome ≡ options.script)
@@ -212,7 +237,8 @@ Lacks question about Race = ⊥
 Lacks question about (Load strict) = ⊥
 Lacks question about (Import check lines lenient) = ⊥
 Lacks question about Step = ⊥
-Lacks question about (Draw why) = ⊥
+Lacks question about (Draw drawing) = AsksOtherwise about
+Lacks question about Page = ⊥
 
 -- no subcommand has this name, but for one that lacks its words
 abbrev pub IsUnnamed : List ℕ → Option Question → Option About → Type 0

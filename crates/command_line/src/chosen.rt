@@ -19,6 +19,19 @@ pub enum About<'w> {
     Presence(Question<'w>),
 }
 
+/// What a picture of a run shows.
+#[derive(Clone, Copy, Debug, PartialEq, Eq)]
+pub struct Drawing<'w> {
+    /// Lanes are thick where their nodes list these presences: at the node that is named, or at each where its name is `-`.
+    pub online: Option<Question<'w>>,
+    /// The step whose future is painted.
+    pub why: Option<u64>,
+    /// The first step that is drawn.
+    pub from: Option<u64>,
+    /// The last.
+    pub to: Option<u64>,
+}
+
 /// What the program does.
 #[derive(Clone, Copy, Debug, PartialEq, Eq)]
 pub enum Subcommand<'w> {
@@ -50,10 +63,10 @@ pub enum Subcommand<'w> {
     },
     /// Takes a script line by line, and answers each before the next is read.
     Step,
-    /// Draws a saved session, with the future of the step of this number painted.
-    Draw {
-        why: Option<u64>,
-    },
+    /// Draws a run.
+    Draw(Drawing<'w>),
+    /// Prints a page of HTML on which a run is looked at.
+    Page,
     /// Explains why presences of a saved session are online at a node, and why not.
     Explain(Question<'w>),
     /// Tells what else could have made a difference to these presences; or the run that the change of this number makes, alone.
@@ -90,6 +103,10 @@ pub struct Options {
     pub strict: bool,
     /// The step of `--why`.
     pub why: Option<u64>,
+    /// The first step, of `--from`.
+    pub from: Option<u64>,
+    /// The last step, of `--to`.
+    pub to: Option<u64>,
     /// How many deliveries `--lost` allows to be missing.
     pub lost: Option<u64>,
     /// How many `--again` allows to come a second time.

@@ -22,7 +22,10 @@ pub const STEP: &str =
     "Takes a script line by line from standard input, and answers each line at once";
 
 pub const DRAW: &str =
-    "Draws the session on standard input: what each node did, what was sent, and what was undone";
+    "Draws the run on standard input, time down: what each node did, what was sent, and what was undone";
+
+pub const PAGE: &str =
+    "Prints a page of HTML on which the run on standard input is looked at in a browser";
 
 pub const EXPLAIN: &str =
     "Tells why presences of the session on standard input are online at a node, and why not";
@@ -37,6 +40,10 @@ pub const TOPIC: &str = "The topic under which they are tracked";
 pub const KEY: &str = "The key under which they are tracked";
 
 pub const WHY: &str = "The number of a step, to paint it and all that follows from it";
+
+pub const FROM: &str = "The number of the first step that is drawn";
+
+pub const TO: &str = "The number of the last step that is drawn";
 
 pub const LOST: &str = "How many deliveries may be missing, 0 as without it";
 
@@ -80,7 +87,10 @@ pub const EXPLORE_USAGE: &str =
 
 pub const STEP_USAGE: &str = "presence_bench step";
 
-pub const DRAW_USAGE: &str = "presence_bench draw [OPTIONS] < SCRIPT_OR_SESSION";
+pub const DRAW_USAGE: &str =
+    "presence_bench draw [OPTIONS] [NODE TOPIC KEY | - TOPIC KEY] < SCRIPT_OR_SESSION";
+
+pub const PAGE_USAGE: &str = "presence_bench page < SCRIPT_OR_SESSION";
 
 pub const EXPLAIN_USAGE: &str = "presence_bench explain NODE TOPIC KEY < SCRIPT_OR_SESSION";
 

@@ -8,6 +8,6 @@ mod chosen;
 mod help;
 mod line;
 
-pub use chosen::{About, Choice, Form, Question, Subcommand};
+pub use chosen::{About, Choice, Drawing, Form, Question, Subcommand};
 pub use help::LANGUAGE;
 pub use line::choice;

@@ -3,19 +3,20 @@ ghost use Rattle.std.specs.Prelude.{◌≡◌, ℕ, IfErr, IfNone, IfOk, IfSome,
 ghost use Rattle.clap.specs.Words.{app_of, first_value, found_of, kind_of, new_app, rule_of, with_rule, with_subcommand};
 ghost use Rattle.clap.specs.declared.Command.TheViews.{out-Command as fields_of};
 ghost use Rattle.clap.specs.declared.error.kind.ErrorKind.TheVariants.{OutOfMemory};
-ghost use Rattle.command_line.specs.Line.{about_app, app, as_rule, bare_app, draw_app, explain_app, explore_app, flag_rule, import_app, network_app, number_rule, optional_rule, question_app, race_app, step_app, strict_app, whatif_app, word_rule, AreOptions, Chooses, IsChoiceOf, IsAbout, IsFlag, IsForm, IsNumber, IsQuestion, IsRefusal, IsUnnamed, Misspells, NeedsLast, Spells, SpellsBefore, Takes, can_print, name_of, usual_form};
+ghost use Rattle.command_line.specs.Line.{about_app, app, as_rule, bare_app, draw_app, lanes_app, page_app, explain_app, explore_app, flag_rule, import_app, network_app, number_rule, optional_rule, question_app, race_app, step_app, strict_app, whatif_app, word_rule, AreOptions, AsksOtherwise, Chooses, IsChoiceOf, IsAbout, IsFlag, IsForm, IsOnline, IsNumber, IsQuestion, IsRefusal, IsUnnamed, Misspells, NeedsLast, Spells, SpellsBefore, Takes, can_print, name_of, usual_form};
 ghost use Rattle.command_line.specs.declared.chosen.About.{About as Of};
 ghost use Rattle.command_line.specs.declared.chosen.Choice.{Choice as Chosen};
 ghost use Rattle.command_line.specs.declared.chosen.Form.{Form as Shown};
 ghost use Rattle.command_line.specs.declared.chosen.Options.{Options as Given};
 ghost use Rattle.command_line.specs.declared.chosen.Question.{Question as Asked};
 
-use crate::chosen::{About, Choice, Form, Options, Question, Subcommand};
+use crate::chosen::{About, Choice, Drawing, Form, Options, Question, Subcommand};
 use crate::help::{
     AGAIN, CHANGE, CHECK, DRAW, DRAW_USAGE, EXPLAIN, EXPLAIN_USAGE, EXPLORE, EXPLORE_USAGE, FORMS,
-    IMPORT, IMPORT_FORMS, IMPORT_USAGE, KEY, LANGUAGE, LENIENT, LINES, LOAD, LOAD_EXAMPLE,
-    LOAD_USAGE, LOST, NODE, OUTCOME, PLAY, PLAY_EXAMPLE, PLAY_USAGE, PURPOSE, RACE, RACE_FORMS,
-    RACE_USAGE, STATES, STEP, STEP_USAGE, STRICT, TOPIC, VERSION, WHATIF, WHATIF_USAGE, WHY,
+    FROM, IMPORT, IMPORT_FORMS, IMPORT_USAGE, KEY, LANGUAGE, LENIENT, LINES, LOAD, LOAD_EXAMPLE,
+    LOAD_USAGE, LOST, NODE, OUTCOME, PAGE, PAGE_USAGE, PLAY, PLAY_EXAMPLE, PLAY_USAGE, PURPOSE,
+    RACE, RACE_FORMS, RACE_USAGE, STATES, STEP, STEP_USAGE, STRICT, TO, TOPIC, VERSION, WHATIF,
+    WHATIF_USAGE, WHY,
 };
 use clap::error::ErrorKind;
 use clap::{Arg, ArgAction, ArgMatches, Command, Error};
@@ -164,12 +165,30 @@ fn step_line<'a>(alloc: Global) -> Command<'a>
     bare_subcommand(alloc, "step", STEP, STEP_USAGE)
 }
 
+/// The subcommand that draws, without the range of its steps.
+fn lanes_line<'a>(alloc: Global) -> Result<Command<'a>, AllocError>
+    ensures app { IfOk result (λ line. app_of line ≡ lanes_app) }
+    ensures local { IfOk result (λ line. (fields_of line).has_globals ≡ false) }
+{
+    about_line(alloc, "draw", DRAW, DRAW_USAGE)?.arg(number_option(alloc, "why", WHY))
+}
+
 /// The subcommand that draws.
 fn draw_line<'a>(alloc: Global) -> Result<Command<'a>, AllocError>
     ensures app { IfOk result (λ line. app_of line ≡ draw_app) }
     ensures local { IfOk result (λ line. (fields_of line).has_globals ≡ false) }
 {
-    bare_subcommand(alloc, "draw", DRAW, DRAW_USAGE).arg(number_option(alloc, "why", WHY))
+    lanes_line(alloc)?
+        .arg(number_option(alloc, "from", FROM))?
+        .arg(number_option(alloc, "to", TO))
+}
+
+/// The subcommand that prints a page.
+fn page_line<'a>(alloc: Global) -> Command<'a>
+    ensures app { app_of result ≡ page_app }
+    ensures local { (fields_of result).has_globals ≡ false }
+{
+    bare_subcommand(alloc, "page", PAGE, PAGE_USAGE)
 }
 
 /// A subcommand that asks of a node, a topic and a key.
@@ -284,6 +303,7 @@ fn line<'a>(alloc: Global) -> Result<Command<'a>, AllocError>
     let line = with_explore(line, alloc)?;
     let line = line.subcommand(step_line(alloc))?;
     let line = with_draw(line, alloc)?;
+    let line = line.subcommand(page_line(alloc))?;
     let line = with_explain(line, alloc)?;
     let line = with_whatif(line, alloc)?;
     with_import(line, alloc)
@@ -314,6 +334,18 @@ fn about_of<'a>(matches: &ArgMatches<'a>) -> Option<About<'a>>
     };
     let key = matches.get_str("KEY")?;
     Some(About::Presence(Question { node, topic, key }))
+}
+
+/// Of which presences a picture's lanes are thick: of none where no words ask; nothing where they ask of a node alone.
+fn online_of<'a>(about: Option<About<'a>>) -> Option<Option<Question<'a>>>
+    ensures some { IfSome result (IsOnline about.entry) }
+    ensures none { IfNone result (AsksOtherwise about.entry) }
+{
+    match about {
+        Some(About::Cluster) => Some(None),
+        Some(About::Presence(question)) => Some(Some(question)),
+        Some(About::Node(_)) | None => None,
+    }
 }
 
 /// The subcommand of this name, with those of the options and words that it takes.
@@ -348,7 +380,13 @@ fn command_of<'a>(
             outcome: options.script,
         }),
         "step" => Some(Subcommand::Step),
-        "draw" => Some(Subcommand::Draw { why: options.why }),
+        "draw" => Some(Subcommand::Draw(Drawing {
+            online: online_of(about)?,
+            why: options.why,
+            from: options.from,
+            to: options.to,
+        })),
+        "page" => Some(Subcommand::Page),
         "explain" => Some(Subcommand::Explain(question?)),
         "whatif" => Some(Subcommand::Whatif {
             question: question?,
@@ -412,6 +450,12 @@ fn options_of<'a>(matches: &ArgMatches<'a>) -> Result<Options, &'static str>
     let Some(why) = number_of(matches, "why") else {
         return Err("--why takes the number of a step");
     };
+    let Some(from) = number_of(matches, "from") else {
+        return Err("--from takes the number of a step");
+    };
+    let Some(to) = number_of(matches, "to") else {
+        return Err("--to takes the number of a step");
+    };
     let Some(lost) = number_of(matches, "lost") else {
         return Err("--lost takes a number of deliveries");
     };
@@ -430,6 +474,8 @@ fn options_of<'a>(matches: &ArgMatches<'a>) -> Result<Options, &'static str>
         lines: has_flag(matches, "lines"),
         lenient: has_flag(matches, "lenient"),
         why,
+        from,
+        to,
         lost,
         again,
         states,
@@ -463,6 +509,7 @@ fn forms_of(command: Subcommand<'_>) -> &'static str {
 fn unnamed(name: &str) -> &'static str {
     match name {
         "explore" => "explore takes a node, or a node, a topic and a key, or none",
+        "draw" => "draw takes a node (- for each), a topic and a key, or none",
         _ => "no such subcommand",
     }
 }

@@ -1,4 +1,4 @@
-//! Tests of the crates from `dots_core` to `bench_core`, of `diff_core`, `order_core`, `explore_network` and `test_alloc`, in a crate of their own, so
+//! Tests of the crates from `dots_core` to `bench_core`, of `diff_core`, `order_core`, `explore_network`, `page_data` and `test_alloc`, in a crate of their own, so
 //! that those crates are proved once. It has no code but these tests.
 //!
 //! Each says what a call alone can show and no clause says: that calls succeed with memory, what a refusal of memory leaves,
@@ -9,7 +9,8 @@
 //! `benches`, from a script to a bench that was asked its acts, which prepares most tests; `payloads`, words, entries and messages;
 //! `journals`, loans of inverses; `inverses`, what each step keeps; `undone`, nodes taken back; `memory` and `unwinds`, what refused
 //! memory leaves of a bench; `clusters`, nodes without a bench; `costs`, the bytes of a step; `wide`, large values; `reads`, the calls
-//! that take no memory; `names`, `swaps`, `orders`, `networks`, `lists` and `laws`.
+//! that take no memory; `names`, `swaps`, `orders`, `networks`, `lists`, `laws` and
+//! `pages`.
 #![tactic(auto)]
 
 /// An assertion as a call: it is told by its own words. An `assert!` in its place is an exit more where much is live.
@@ -44,6 +45,8 @@ mod names;
 mod networks;
 #[cfg(test)]
 mod orders;
+#[cfg(test)]
+mod pages;
 #[cfg(test)]
 mod payloads;
 #[cfg(test)]

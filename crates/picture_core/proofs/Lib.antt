@@ -1,6 +1,9 @@
 pub mod Texts
-pub mod Histories
+pub mod Turns
+pub mod Changed
+pub mod Walks
 pub mod Lanes
 pub mod Named
+pub mod Counts
 pub mod Futures
 pub mod Whole

@@ -1,14 +1,19 @@
 -- The texts of trees that are put together.
-use Rattle.std.proofs.Common.{◌≡◌, ℕ, List, [], ◌++◌, refl, sym, ap, ◌∙◌, append_assoc, append-nil, codes, decimal}
+use Rattle.std.proofs.Common.{◌≡◌, ℕ, List, [], ◌++◌, refl, sym, ap, ◌∙◌, append_assoc, append-nil, Option}
+use Rattle.bench_core.specs.declared.reply.Reply.{Reply}
 use Rattle.svg_core.specs.Trees.{Attribute, Tree, Nothing, Element, beside, end_text, opening_text, text_of}
 use Rattle.svg_core.proofs.Beside.{text_of-beside}
-use Rattle.picture_core.specs.Shapes.{dot, heading, label, labels, lane, lane_line, lane_name, mark, mark_attributes, sign}
-use Rattle.picture_core.specs.Pictures.{front, ground, head, head_attributes, style, tip}
-use Rattle.picture_core.specs.declared.standing.Standing.{Standing}
+use Rattle.picture_core.specs.Pictures.{front, ground, style}
+use Rattle.picture_core.specs.Rows.{looks, mark_at, number_by, row_tree}
+use Rattle.picture_core.specs.Shapes.{heading, titled, words_label}
+use Rattle.picture_core.specs.declared.standing.Drawn.{Drawn}
 
 pub nothing_text : text_of Nothing ≡ []
 unfolding text_of
 nothing_text = refl
+
+pub nothing_end : (old : List ℕ) → old ++ text_of Nothing ≡ old
+nothing_end old = ap (λ t. old ++ t) nothing_text ∙ append-nil old
 
 pub beside_text : (a b : Tree) → text_of (beside a b) ≡ text_of a ++ text_of b
 beside_text a b = text_of-beside a b
@@ -18,24 +23,6 @@ pub element_text : (tag : List ℕ) (attributes : List Attribute) (children : Tr
 unfolding text_of
 element_text tag attributes children = append-nil (opening_text tag attributes ++ text_of children ++ end_text tag)
 
-pub mark_text : (standing : Standing) (number node : ℕ) (verb title : List ℕ) →
-    text_of (mark standing number node verb title)
-    ≡ opening_text (codes "g") (mark_attributes standing number node) ++ text_of (heading title) ++ text_of dot ++ text_of (sign standing) ++ text_of (labels number verb) ++ end_text (codes "g")
-unfolding mark
-mark_text standing number node verb title =
-    let tag = opening_text (codes "g") (mark_attributes standing number node) in
-    let signed = beside (sign standing) (labels number verb) in
-    let inner : text_of (beside (heading title) (beside dot signed))
-    ≡ text_of (heading title) ++ (text_of dot ++ (text_of (sign standing) ++ text_of (labels number verb))) =
-    beside_text (heading title) (beside dot signed)
-    ∙ ap (λ t. text_of (heading title) ++ t)
-    (beside_text dot signed ∙ ap (λ t. text_of dot ++ t) (beside_text (sign standing) (labels number verb))) in
-    element_text (codes "g") _ _ ∙ ap (λ t. tag ++ t ++ end_text (codes "g")) inner
-    ∙ ap (λ t. t ++ end_text (codes "g"))
-    (sym (append_assoc tag (text_of (heading title)) (text_of dot ++ (text_of (sign standing) ++ text_of (labels number verb))))
-    ∙ sym (append_assoc (tag ++ text_of (heading title)) (text_of dot) (text_of (sign standing) ++ text_of (labels number verb)))
-    ∙ sym (append_assoc (tag ++ text_of (heading title) ++ text_of dot) (text_of (sign standing)) (text_of (labels number verb))))
-
 -- what one call put behind a text, and then another
 pub then_text : (old one new a b : List ℕ) → one ≡ old ++ a → new ≡ one ++ b → new ≡ old ++ (a ++ b)
 then_text old one new a b first second = second ∙ ap (λ t. t ++ b) first ∙ append_assoc old a b
@@ -44,24 +31,22 @@ then_text old one new a b first second = second ∙ ap (λ t. t ++ b) first ∙ 
 pub is_put : (old new a whole : List ℕ) → whole ≡ a → new ≡ old ++ a → new ≡ old ++ whole
 is_put old new a whole is put = put ∙ ap (λ t. old ++ t) (sym is)
 
-pub lane_text : (n : ℕ) (name : List ℕ) → text_of (lane n name) ≡ text_of (lane_line n) ++ text_of (lane_name n name)
-unfolding lane
-lane_text n name = beside_text (lane_line n) (lane_name n name)
+pub titled_text : (tag : List ℕ) (attributes : List Attribute) (title : List ℕ) →
+    text_of (titled tag attributes title) ≡ opening_text tag attributes ++ text_of (heading title) ++ end_text tag
+unfolding titled
+titled_text tag attributes title = element_text tag attributes (heading title)
 
-pub labels_text : (n : ℕ) (verb : List ℕ) →
-    text_of (labels n verb) ≡ text_of (label (codes "-18") (decimal n)) ++ text_of (label (codes "30") verb)
-unfolding labels
-labels_text n verb = beside_text (label (codes "-18") (decimal n)) (label (codes "30") verb)
-
-pub front_text : text_of front ≡ text_of style ++ text_of head ++ text_of ground
+pub front_text : text_of front ≡ text_of style ++ text_of ground
 unfolding front
-front_text =
-    beside_text style (beside head ground) ∙ ap (λ t. text_of style ++ t) (beside_text head ground)
-    ∙ sym (append_assoc (text_of style) (text_of head) (text_of ground))
+front_text = beside_text style ground
 
-pub nothing_end : (old : List ℕ) → old ++ text_of Nothing ≡ old
-nothing_end old = ap (λ t. old ++ t) nothing_text ∙ append-nil old
-
-pub head_text : text_of head ≡ opening_text (codes "marker") head_attributes ++ text_of tip ++ end_text (codes "marker")
-unfolding head
-head_text = element_text (codes "marker") head_attributes tip
+pub row_text : (nodes : ℕ) (steps : List Drawn) (lane : Option ℕ) (row : ℕ) (reply : Reply) (title words : List ℕ) →
+    text_of (row_tree nodes steps lane row reply title words)
+    ≡ text_of (number_by row reply) ++ text_of (mark_at nodes row (looks steps reply) title lane) ++ text_of (words_label nodes row (looks steps reply) words)
+unfolding row_tree
+row_text nodes steps lane row reply title words =
+    let number = number_by row reply in
+    let mark = mark_at nodes row (looks steps reply) title lane in
+    let label = words_label nodes row (looks steps reply) words in
+    beside_text number (beside mark label) ∙ ap (λ t. text_of number ++ t) (beside_text mark label)
+    ∙ sym (append_assoc (text_of number) (text_of mark) (text_of label))

@@ -1,5 +1,9 @@
+pub mod Plans
 pub mod Standings
 pub mod Senders
 pub mod Shapes
-pub mod Steps
+pub mod Words
+pub mod Online
+pub mod Rows
 pub mod Pictures
+pub mod Views

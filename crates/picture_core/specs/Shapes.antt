@@ -1,68 +1,119 @@
--- The shapes that a picture is put together from: a line for a node, a mark for a step, an arrow from a step to a step. A node
--- stands a hundred below the one before it, and a step a hundred behind the one before it.
-use Rattle.std.specs.Prelude.{ℕ, List, [], ◌∷◌, codes, decimal}
-use Rattle.svg_core.specs.Trees.{Attribute, Tree, Nothing, beside, element, leaf}
-use Rattle.svg_core.specs.Values.{hundreds, place}
-use Rattle.picture_core.specs.Standings.{class_of}
+-- The shapes that a picture is put together from.
+use Rattle.std.specs.Prelude.{ℕ, ◌+◌, ◌-◌, ◌*◌, List, [], ◌∷◌, ◌++◌, codes, decimal}
+use Rattle.svg_core.specs.Trees.{Attribute, Tree, beside, element, leaf}
+use Rattle.picture_core.specs.Plans.{across, down, waits_at}
+use Rattle.picture_core.specs.declared.kind.Kind.{Kind}
+use Rattle.picture_core.specs.declared.kind.Kind.TheVariants as kinds
 use Rattle.picture_core.specs.declared.standing.Standing.{Standing}
 use Rattle.picture_core.specs.declared.standing.Standing.TheVariants.{Remains, Painted, Undone}
 
 abbrev pub attribute : List ℕ → List ℕ → Attribute
 attribute name value = record { name = name; value = value }
 
--- a line from left to right, and the name before it
-unfoldable pub lane_line : ℕ → Tree
-lane_line node =
-    leaf (codes "line") (attribute (codes "class") (codes "lane") ∷ attribute (codes "x1") (codes "-20") ∷
-    attribute (codes "y1") (hundreds node) ∷ attribute (codes "x2") (codes "100%") ∷ attribute (codes "y2") (hundreds node) ∷ []) []
+-- what is drawn of a call by its looks: of a step by how it stands; of one that takes a step back; of one that is refused
+abbrev pub kind_of : Standing → Kind
+kind_of Remains = kinds.Step
+kind_of Painted = kinds.Future
+kind_of Undone = kinds.Undone
 
-unfoldable pub lane_name : ℕ → List ℕ → Tree
-lane_name node name =
-    leaf (codes "text") (attribute (codes "class") (codes "name") ∷ attribute (codes "x") (codes "-30") ∷
-    attribute (codes "y") (hundreds node) ∷ attribute (codes "dy") (codes "5") ∷ []) name
-
-unfoldable pub lane : ℕ → List ℕ → Tree
-lane node name = beside (lane_line node) (lane_name node name)
-
--- a cross through what was undone, a ring around what is painted
-unfoldable pub cross : Tree
-cross = leaf (codes "path") (attribute (codes "d") (codes "M-11 -11L11 11M-11 11L11 -11") ∷ []) []
-
-unfoldable pub ring : Tree
-ring = leaf (codes "circle") (attribute (codes "class") (codes "ring") ∷ attribute (codes "r") (codes "13") ∷ []) []
-
-unfoldable pub sign : Standing → Tree
-sign Remains = Nothing
-sign Painted = ring
-sign Undone = cross
-
--- words above or below a mark
-unfoldable pub label : List ℕ → List ℕ → Tree
-label down words = leaf (codes "text") (attribute (codes "dy") down ∷ []) words
-
-unfoldable pub dot : Tree
-dot = leaf (codes "circle") (attribute (codes "r") (codes "8") ∷ []) []
+abbrev pub class_of : Kind → List ℕ
+class_of kinds.Step = codes "step"
+class_of kinds.Future = codes "future"
+class_of kinds.Undone = codes "undone"
+class_of kinds.Back = codes "back"
+class_of kinds.Refused = codes "refused"
 
 -- the title, which a browser shows
 unfoldable pub heading : List ℕ → Tree
 heading title = leaf (codes "title") [] title
 
--- its number above it, and its verb below it
-unfoldable pub labels : ℕ → List ℕ → Tree
-labels number verb = beside (label (codes "-18") (decimal number)) (label (codes "30") verb)
+-- an element with a title
+unfoldable pub titled : List ℕ → List Attribute → List ℕ → Tree
+titled tag attributes title = element tag attributes (heading title)
 
-abbrev pub mark_attributes : Standing → ℕ → ℕ → List Attribute
-mark_attributes standing number node =
-    attribute (codes "class") (class_of standing) ∷ attribute (codes "transform") (place number node) ∷ []
+-- a path of a class, and one with a title
+abbrev pub path_of : List ℕ → List ℕ → Tree
+path_of class path = leaf (codes "path") (attribute (codes "class") class ∷ attribute (codes "d") path ∷ []) []
 
--- a title, a dot, its sign and its labels
-unfoldable pub mark : Standing → ℕ → ℕ → List ℕ → List ℕ → Tree
-mark standing number node verb title =
-    element (codes "g") (mark_attributes standing number node)
-    (beside (heading title) (beside dot (beside (sign standing) (labels number verb))))
+abbrev pub titled_path : List ℕ → List ℕ → List ℕ → Tree
+titled_path class path title = titled (codes "path") (attribute (codes "class") class ∷ attribute (codes "d") path ∷ []) title
 
--- from a step of a node to a step of another, each by its number and its node
-unfoldable pub arrow : Standing → ℕ × ℕ → ℕ × ℕ → Tree
-arrow standing from to =
-    leaf (codes "line") (attribute (codes "class") (class_of standing) ∷ attribute (codes "x1") (hundreds from.0) ∷
-    attribute (codes "y1") (hundreds from.1) ∷ attribute (codes "x2") (hundreds to.0) ∷ attribute (codes "y2") (hundreds to.1) ∷ []) []
+-- the name of a node, written upwards above its lane
+unfoldable pub upwards : ℕ → ℕ → List ℕ
+upwards right down = codes "translate(" ++ decimal right ++ codes " " ++ decimal down ++ codes ")rotate(-90)"
+
+abbrev pub name_place : ℕ → ℕ → ℕ → List ℕ
+name_place nodes node height = upwards (across nodes node + 4) (height - 8)
+
+abbrev pub name_at : List ℕ → List ℕ → Tree
+name_at place name = leaf (codes "text") (attribute (codes "class") (codes "name") ∷ attribute (codes "transform") place ∷ []) name
+
+unfoldable pub lane_name : ℕ → ℕ → ℕ → List ℕ → Tree
+lane_name nodes node height name =
+    name_at (name_place nodes node height) name
+
+-- a line from one row to another
+unfoldable pub lane_path : ℕ → ℕ → ℕ → ℕ → List ℕ
+lane_path nodes node first last =
+    codes "M" ++ decimal (across nodes node) ++ codes " " ++ decimal (20 * first) ++ codes "V" ++ decimal (20 * last)
+
+unfoldable pub lane : ℕ → ℕ → ℕ → ℕ → Tree
+lane nodes node first last =
+    path_of (codes "lane") (lane_path nodes node first last)
+
+-- a message: along the row of its send, down beside the lane of the node that takes it, and to the mark of the delivery
+unfoldable pub path_between : ℕ × ℕ → ℕ → ℕ → ℕ × ℕ → List ℕ
+path_between from beside above to =
+    codes "M" ++ decimal from.0 ++ codes " " ++ decimal from.1 ++ codes "H" ++ decimal beside ++ codes "V" ++ decimal above ++
+    codes "L" ++ decimal to.0 ++ codes " " ++ decimal to.1
+
+abbrev pub message_path : ℕ → ℕ × ℕ → ℕ × ℕ → ℕ → List ℕ
+message_path nodes from to source =
+    path_between (across nodes from.1, down from.0) (waits_at nodes from.1 to.1 source) (down to.0 - 4) (across nodes to.1, down to.0)
+
+-- `step N to step N`
+unfoldable pub message_title : ℕ → ℕ → List ℕ
+message_title source number = codes "step " ++ decimal source ++ codes " to step " ++ decimal number
+
+abbrev pub message_class : Kind → List ℕ
+message_class kind = codes "message " ++ class_of kind
+
+-- from the row and the node of the step `source` to those of the step `number`
+unfoldable pub message : ℕ → Kind → ℕ × ℕ → ℕ × ℕ → ℕ → ℕ → Tree
+message nodes kind from to source number =
+    titled_path (message_class kind) (message_path nodes from to source) (message_title source number)
+
+-- a dot
+unfoldable pub dot_sign : ℕ → ℕ → ℕ → Kind → List ℕ → Tree
+dot_sign nodes node row kind title =
+    titled (codes "circle")
+    (attribute (codes "class") (class_of kind) ∷ attribute (codes "cx") (decimal (across nodes node)) ∷
+    attribute (codes "cy") (decimal (down row)) ∷ attribute (codes "r") (codes "4") ∷ [])
+    title
+
+-- a cross where a step was taken back
+unfoldable pub cross_path : ℕ → ℕ → ℕ → List ℕ
+cross_path nodes node row = codes "M" ++ decimal (across nodes node - 4) ++ codes " " ++ decimal (down row - 4) ++ codes "l8 8m0 -8l-8 8"
+
+unfoldable pub cross_sign : ℕ → ℕ → ℕ → List ℕ → Tree
+cross_sign nodes node row title =
+    titled_path (codes "back") (cross_path nodes node row) title
+
+abbrev pub mark : ℕ → ℕ → ℕ → Kind → List ℕ → Tree
+mark nodes node row kinds.Back title = cross_sign nodes node row title
+mark nodes node row kind title = dot_sign nodes node row kind title
+
+-- the number of a step before its row, and the words of a call behind it
+unfoldable pub number_label : ℕ → ℕ → Tree
+number_label row number =
+    leaf (codes "text") (attribute (codes "class") (codes "number") ∷ attribute (codes "x") (codes "50") ∷
+    attribute (codes "y") (decimal (down row + 4)) ∷ []) (decimal number)
+
+unfoldable pub words_label : ℕ → ℕ → Kind → List ℕ → Tree
+words_label nodes row kind words =
+    leaf (codes "text") (attribute (codes "class") (class_of kind) ∷ attribute (codes "x") (decimal (across nodes nodes)) ∷
+    attribute (codes "y") (decimal (down row + 4)) ∷ []) words
+
+-- where a lane is thick
+unfoldable pub bar : List ℕ → Tree
+bar path = path_of (codes "bar") path

@@ -1,41 +1,55 @@
--- How a step that was taken stands, and what it is called.
-use Rattle.std.specs.Prelude.{ℕ, Bool, List, [], codes, ◌==◌, if◌then◌else◌, Option, Some, None}
+-- How a step that was taken stands, and what a picture knows of each.
+use Rattle.std.specs.Prelude.{ℕ, ◌+◌, Bool, List, [], ◌∷◌, ◌==◌, if◌then◌else◌, length, replicate, slice_get, slice_set, unwrap_or, Option, Some, None}
 use Rattle.std.specs.List.{list_any}
-use Rattle.node_core.specs.Operations.{Operation, Join, Leave, LeaveAll, Update, Broadcast, Extract, Deliver, Request, Answer, Up, Down, Permdown}
 use Rattle.journal_core.specs.Journals.{Kept, find_number}
-use Rattle.bench_core.specs.Machine.{State}
+use Rattle.bench_core.specs.Machine.{Event, Machine, State}
+use Rattle.bench_core.specs.declared.reply.Reply.{Reply}
+use Rattle.bench_core.specs.declared.reply.Reply.TheVariants.{Taken, Undone, Refused}
 use Rattle.report_core.specs.ActTexts.{unwound}
+use Rattle.picture_core.specs.declared.standing.Drawn.{Drawn}
 use Rattle.picture_core.specs.declared.standing.Standing.{Standing}
-use Rattle.picture_core.specs.declared.standing.Standing.TheVariants.{Remains, Painted, Undone}
+use Rattle.picture_core.specs.declared.standing.Standing.TheVariants.{Remains, Painted, Undone as TakenBack}
 
 -- a step that was found, painted or not
 abbrev pub unless_undone : Option Kept → Bool → Standing
-unless_undone None is_painted = Undone
+unless_undone None is_painted = TakenBack
 unless_undone (Some step) is_painted = if is_painted then Painted else Remains
 
 unfoldable pub standing_of : List Kept → List ℕ → ℕ → Standing
 standing_of remaining painted number = unless_undone (find_number remaining number) (list_any (λ n. n == number) painted)
 
-abbrev pub class_of : Standing → List ℕ
-class_of Remains = codes "step"
-class_of Painted = codes "future"
-class_of Undone = codes "undone"
-
-unfoldable pub verb_of : Operation → List ℕ
-verb_of (Join presence) = codes "join"
-verb_of (Leave pid topic key) = codes "leave"
-verb_of (LeaveAll pid) = codes "leaveall"
-verb_of (Update presence) = codes "update"
-verb_of Broadcast = codes "broadcast"
-verb_of (Extract names) = codes "extract"
-verb_of (Deliver sender number) = codes "deliver"
-verb_of Request = codes "request"
-verb_of (Answer sender number) = codes "answer"
-verb_of (Up name) = codes "up"
-verb_of (Down name) = codes "down"
-verb_of (Permdown name) = codes "permdown"
-
 -- the steps that are painted: those that the undo of a step would take back with it, if it remains
 abbrev pub painted_of : State → Option ℕ → List ℕ
 painted_of s None = []
 painted_of s (Some number) = unwound s number
+
+-- of a step: the row of the call that took it, and how it stands
+abbrev pub with_reply : List Kept → List ℕ → ℕ → Reply → List Drawn → List Drawn
+with_reply remaining painted row (Taken number) steps =
+    slice_set steps number (record { row = row; standing = standing_of remaining painted number })
+with_reply remaining painted row (Undone number) steps = steps
+with_reply remaining painted row (Refused fault) steps = steps
+
+unfoldable pub noted_from : List Kept → List ℕ → ℕ → List Event → List Drawn → List Drawn
+noted_from remaining painted row [] steps = steps
+noted_from remaining painted row (e ∷ events) steps =
+    noted_from remaining painted (row + 1) events (with_reply remaining painted row e.reply steps)
+
+abbrev pub nothing_drawn : Drawn
+nothing_drawn = record { row = 0; standing = TakenBack }
+
+-- that of each step at its number; no step has a greater number than there are calls
+unfoldable pub drawn_steps : Machine → List ℕ → List Drawn
+drawn_steps m painted =
+    noted_from m.state.remaining painted 0 m.state.history (replicate (length m.state.history + 1) nothing_drawn)
+
+abbrev pub step_at : List Drawn → ℕ → Drawn
+step_at steps number = unwrap_or (slice_get steps number) nothing_drawn
+
+-- a message is painted where both its ends are, and taken back with its delivery
+abbrev pub of_message : Standing → Standing → Standing
+of_message TakenBack sent = TakenBack
+of_message Painted Painted = Painted
+of_message Painted Remains = Remains
+of_message Painted TakenBack = Remains
+of_message Remains sent = Remains

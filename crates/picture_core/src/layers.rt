@@ -1,93 +1,247 @@
-//! The arrows and the marks of all recorded calls.
-ghost use Rattle.std.specs.Prelude.{◌≡◌, ◌++◌, IfOk, OnOk, string_bytes};
-ghost use Rattle.journal_core.specs.Holdings.{kepts};
+//! What is drawn of all recorded calls.
+ghost use Rattle.std.specs.Prelude.{◌≡◌, ◌≤◌, ◌++◌, List, IfOk, OnOk, length, option_copied, string_bytes};
+ghost use Rattle.diff_core.specs.Diffs.{alone};
+ghost use Rattle.diff_core.specs.Rows.{Row};
+ghost use Rattle.report_core.specs.ActRows.{acted_text};
 ghost use Rattle.report_core.specs.ActTexts.{after_act};
+ghost use Rattle.report_core.specs.Shown.{rows_of};
 ghost use Rattle.svg_core.specs.Trees.{text_of};
-ghost use Rattle.picture_core.specs.Steps.{arrow_of, arrows_from, mark_of, marks_from, title_of};
-ghost use Rattle.picture_core.specs.Pictures.{arrows, marks};
+ghost use Rattle.picture_core.specs.Online.{turn_at, with_call};
+ghost use Rattle.picture_core.specs.Pictures.{longest, messages, rows, turns, turns_from};
+ghost use Rattle.picture_core.specs.Rows.{longest_from, message_of, messages_from, row_if, row_of, row_told, rows_from, with_length, with_row, with_words};
+ghost use Rattle.picture_core.specs.Words.{title_told, words_told};
 
-use crate::steps::{put_arrow_of, put_mark_of, title_of};
-use bench_core::{Bench, Event, History, Journal};
+use crate::online::{Asked, Turn, note_turn};
+use crate::range::Range;
+use crate::rows::{lane_of, node_changed, node_undone, put_message_of, put_row};
+use crate::standing::Drawn;
+use crate::words::{title_of, words_of};
+use bench_core::{Bench, Event, History, Names, TextSet};
 use payload_core::Oom;
+use report_core::{Acted, ask};
 use std::alloc::Allocator;
 
-/// What lies over the lines of the nodes: first the arrows, and then the marks.
+/// What lies over the lanes: the messages, and then the rows, with the most bytes that the words of one have; and where nodes
+/// begin to list what is asked of, or end.
 #[derive(Drop)]
 pub struct Layers<'a, B: Allocator> {
-    pub arrows: String<&'a B>,
-    pub marks: String<&'a B>,
+    pub messages: String<&'a B>,
+    pub rows: String<&'a B>,
+    pub longest: u32,
+    pub turns: Vec<Turn, &'a B>,
 }
 
-/// What is drawn of a recorded call, which is asked again on another bench.
-fn put_event<'a, B: Allocator>(
+/// The greater of the longest so far and so many bytes, of which as many count as a line of a script may have.
+#[tactic(auto, unfolding(crate::specs::Rows::with_length))]
+pub fn with_length(longest: u32, bytes: usize) -> u32
+    ensures { result ≡ with_length longest bytes }
+{
+    let bytes = if bytes > 4_096 { 4_096 } else { bytes as u32 };
+    if longest < bytes { bytes } else { longest }
+}
+
+/// The row of a call that changed this node.
+#[tactic(auto, unfolding(crate::specs::Rows::row_told))]
+fn put_drawn<'a, N: Allocator, B: Allocator>(
+    names: &Names<N>,
     layers: &mut Layers<'a, B>,
-    remaining: &Journal<'a, B>,
-    painted: &[u64],
+    consoles: &TextSet<&'a B>,
+    steps: &[Drawn],
+    changed: Option<u16>,
+    row: u32,
+    event: &Event<&'a B>,
+    acted: &Acted<&'a B>,
+    alloc: &'a B,
+) -> Result<(), Oom>
+    ensures rows { OnOk result (string_bytes layers.new.rows ≡ string_bytes layers.old.rows ++
+        text_of (row_told (length names.now) steps.now changed row event.now
+        (title_told names.now consoles.now event.now (acted_text names.now acted.now.reply acted.now.change.left.items acted.now.change.joined.items))
+        (words_told names.now consoles.now event.now acted.now.change.left.items acted.now.change.joined.items))) }
+    ensures longest { OnOk result (layers.new.longest ≡ with_length layers.old.longest
+        (length (words_told names.now consoles.now event.now acted.now.change.left.items acted.now.change.joined.items))) }
+    ensures messages { layers.new.messages ≡ layers.old.messages }
+    ensures turns { layers.new.turns ≡ layers.old.turns }
+{
+    let nodes = names.len() as u32;
+    let lane = lane_of(nodes, event.actor, event.reply, changed);
+    let title = title_of(names, consoles, event, acted, alloc)?;
+    let words = words_of(names, consoles, event, acted, alloc)?;
+    put_row(
+        &mut layers.rows,
+        nodes,
+        steps,
+        lane,
+        row,
+        event.reply,
+        &title,
+        &words,
+        alloc,
+    )?;
+    layers.longest = with_length(layers.longest, words.len());
+    Ok(())
+}
+
+/// What is drawn of a call, and noted of it, on the bench behind it. It changed this node, and came to this.
+#[tactic(auto, unfolding(crate::specs::Rows::row_if, crate::specs::Rows::with_words))]
+fn put_told<'a, B: Allocator>(
+    asked: &Bench<'a, B>,
+    layers: &mut Layers<'a, B>,
+    consoles: &TextSet<&'a B>,
+    steps: &[Drawn],
+    range: Range,
+    of: Option<&Asked<&'a B>>,
+    changed: Option<u16>,
+    row: u32,
+    event: &Event<&'a B>,
+    acted: &Acted<&'a B>,
+    alloc: &'a B,
+) -> Result<(), Oom>
+    ensures rows { OnOk result (string_bytes layers.new.rows ≡ string_bytes layers.old.rows ++
+        text_of (row_if (length asked.now.names) steps.now range changed row event.now
+        (title_told asked.now.names consoles.now event.now
+        (acted_text asked.now.names acted.now.reply acted.now.change.left.items acted.now.change.joined.items))
+        (words_told asked.now.names consoles.now event.now acted.now.change.left.items acted.now.change.joined.items))) }
+    ensures longest { OnOk result (layers.new.longest ≡ with_words range row
+        (words_told asked.now.names consoles.now event.now acted.now.change.left.items acted.now.change.joined.items) layers.old.longest) }
+    ensures messages { layers.new.messages ≡ layers.old.messages }
+    ensures turns { OnOk result ((before : List Row) → acted.now.change.left.items ≡ alone before (rows_of asked.now changed) →
+        acted.now.change.joined.items ≡ alone (rows_of asked.now changed) before →
+        layers.new.turns.items ≡ layers.old.turns.items ++ turn_at (option_copied of.entry) row changed before (rows_of asked.now changed)) }
+{
+    note_turn(
+        asked,
+        &mut layers.turns,
+        of,
+        row,
+        changed,
+        &acted.change,
+        alloc,
+    )?;
+    if !range.draws(row) {
+        return Ok(());
+    }
+    put_drawn(
+        asked.names(),
+        layers,
+        consoles,
+        steps,
+        changed,
+        row,
+        event,
+        acted,
+        alloc,
+    )
+}
+
+/// What is drawn of a recorded call, which is asked again on another bench, and noted of it.
+fn put_event<'a, B: Allocator>(
     asked: &mut Bench<'a, B>,
+    layers: &mut Layers<'a, B>,
+    consoles: &TextSet<&'a B>,
+    steps: &[Drawn],
+    range: Range,
+    of: Option<&Asked<&'a B>>,
+    row: u32,
     event: &Event<&'a B>,
     alloc: &'a B,
 ) -> Result<(), Oom>
     ensures asked { OnOk result (asked.new ≡ after_act asked.old event.now.actor event.now.act) }
-    ensures arrow { OnOk result (string_bytes layers.new.arrows ≡ string_bytes layers.old.arrows ++
-        text_of (arrow_of (kepts remaining.now.steps) painted.now asked.old.state.remaining event.now)) }
-    ensures mark { OnOk result (string_bytes layers.new.marks ≡ string_bytes layers.old.marks ++
-        text_of (mark_of (kepts remaining.now.steps) painted.now event.now (title_of asked.old event.now))) }
+    ensures messages { OnOk result (string_bytes layers.new.messages ≡ string_bytes layers.old.messages ++
+        text_of (message_of (length asked.old.names) steps.now range asked.old.state.remaining row event.now)) }
+    ensures rows { OnOk result (string_bytes layers.new.rows ≡ string_bytes layers.old.rows ++
+        text_of (row_of (length asked.old.names) steps.now range consoles.now asked.old row event.now)) }
+    ensures longest { OnOk result (layers.new.longest ≡ with_row range consoles.now asked.old row event.now layers.old.longest) }
+    ensures turns { OnOk result (layers.new.turns.items ≡ with_call (option_copied of.entry) asked.old row event.now layers.old.turns.items) }
 {
-    put_arrow_of(
-        remaining,
-        &mut layers.arrows,
-        painted,
+    let nodes = asked.names().len() as u32;
+    put_message_of(
         asked.remaining(),
+        &mut layers.messages,
+        nodes,
+        steps,
+        range,
+        row,
         event,
+        alloc,
     )?;
-    let title = title_of(asked, event, alloc)?;
-    put_mark_of(remaining, &mut layers.marks, painted, event, &title)
+    let undone = node_undone(asked, &event.act);
+    let acted = ask(alloc, asked, event.actor, &event.act)?;
+    let changed = node_changed(event.actor, acted.reply, undone);
+    let told = put_told(
+        asked, layers, consoles, steps, range, of, changed, row, event, &acted, alloc,
+    );
+    drop(acted);
+    told
 }
 
 /// What is drawn of recorded calls, which are asked again on another bench.
 fn put_events<'a, B: Allocator>(
-    layers: &mut Layers<'a, B>,
-    remaining: &Journal<'a, B>,
-    painted: &[u64],
     asked: &mut Bench<'a, B>,
     history: &History<'a, B>,
+    layers: &mut Layers<'a, B>,
+    consoles: &TextSet<&'a B>,
+    steps: &[Drawn],
+    range: Range,
+    of: Option<&Asked<&'a B>>,
     alloc: &'a B,
 ) -> Result<(), Oom>
-    ensures arrows { OnOk result (string_bytes layers.new.arrows ≡ string_bytes layers.old.arrows ++
-        text_of (arrows_from (kepts remaining.now.steps) painted.now asked.old history.now)) }
-    ensures marks { OnOk result (string_bytes layers.new.marks ≡ string_bytes layers.old.marks ++
-        text_of (marks_from (kepts remaining.now.steps) painted.now asked.old history.now)) }
+    requires { length history.now ≤ 1000000 }
+    ensures messages { OnOk result (string_bytes layers.new.messages ≡ string_bytes layers.old.messages ++
+        text_of (messages_from (length asked.old.names) steps.now range asked.old 0 history.now)) }
+    ensures rows { OnOk result (string_bytes layers.new.rows ≡ string_bytes layers.old.rows ++
+        text_of (rows_from (length asked.old.names) steps.now range consoles.now asked.old 0 history.now)) }
+    ensures longest { OnOk result (layers.new.longest ≡ longest_from range consoles.now asked.old 0 history.now layers.old.longest) }
+    ensures turns { OnOk result (layers.new.turns.items ≡ turns_from (option_copied of.entry) asked.old 0 history.now layers.old.turns.items) }
 {
     for place in 0..history.len() {
         let event = history.at(place).unwrap();
-        put_event(layers, remaining, painted, asked, event, alloc)?;
+        put_event(
+            asked,
+            layers,
+            consoles,
+            steps,
+            range,
+            of,
+            place as u32,
+            event,
+            alloc,
+        )?;
     }
     Ok(())
 }
 
-/// The arrows and the marks of a bench.
-#[tactic(auto, unfolding(crate::specs::Pictures::arrows, crate::specs::Pictures::marks))]
+/// What lies over the lanes of a bench.
+#[tactic(auto, unfolding(crate::specs::Pictures::messages, crate::specs::Pictures::rows, crate::specs::Pictures::longest, crate::specs::Pictures::turns))]
 pub fn layers_of<'a, B: Allocator>(
     bench: &Bench<'a, B>,
-    painted: &[u64],
+    consoles: &TextSet<&'a B>,
+    steps: &[Drawn],
+    range: Range,
+    of: Option<&Asked<&'a B>>,
     alloc: &'a B,
 ) -> Result<Layers<'a, B>, Oom>
-    ensures arrows { IfOk result (λ layers. string_bytes layers.arrows ≡ text_of (arrows bench.now painted.now)) }
-    ensures marks { IfOk result (λ layers. string_bytes layers.marks ≡ text_of (marks bench.now painted.now)) }
+    ensures messages { IfOk result (λ layers. string_bytes layers.messages ≡ text_of (messages bench.now steps.now range)) }
+    ensures rows { IfOk result (λ layers. string_bytes layers.rows ≡ text_of (rows bench.now steps.now range consoles.now)) }
+    ensures longest { IfOk result (λ layers. layers.longest ≡ longest bench.now range consoles.now) }
+    ensures turns { IfOk result (λ layers. layers.turns.items ≡ turns bench.now (option_copied of.entry)) }
 {
+    bench.bench_law();
     let names = bench.names().try_copy()?;
     let mut asked = Bench::new(alloc, names, bench.limits())?;
     let mut layers = Layers {
-        arrows: String::new(alloc),
-        marks: String::new(alloc),
+        messages: String::new(alloc),
+        rows: String::new(alloc),
+        longest: 0,
+        turns: Vec::new(alloc),
     };
-    let remaining = bench.remaining();
     let drawn = put_events(
-        &mut layers,
-        remaining,
-        painted,
         &mut asked,
         bench.history(),
+        &mut layers,
+        consoles,
+        steps,
+        range,
+        of,
         alloc,
     );
     drop(asked);

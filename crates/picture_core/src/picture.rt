@@ -1,68 +1,47 @@
 //! The picture of a bench.
-ghost use Rattle.std.specs.Prelude.{◌≡◌, ◌++◌, IfOk, OnOk, string_bytes, codes, length};
-ghost use Rattle.svg_core.specs.Grammar.{IsDocument};
-ghost use Rattle.bench_core.specs.Machine.{given};
+ghost use Rattle.std.specs.Prelude.{◌≡◌, ◌≤◌, ◌+◌, ◌*◌, ◌++◌, IfOk, OnOk, option_copied, string_bytes, codes, length};
 ghost use Rattle.report_core.specs.ActTexts.{unwound};
-ghost use Rattle.svg_core.specs.Trees.{opening_text, text_of};
-ghost use Rattle.picture_core.specs.Standings.{painted_of};
 ghost use Rattle.report_core.specs.Rows.{name_at};
-ghost use Rattle.picture_core.specs.Shapes.{lane};
-ghost use Rattle.picture_core.specs.Steps.{lanes_from};
-ghost use Rattle.picture_core.specs.Pictures.{front, ground, head, margin, picture, size, style, text_around};
+ghost use Rattle.svg_core.specs.Trees.{opening_text, text_of};
+ghost use Rattle.picture_core.specs.Online.{bar_path};
+ghost use Rattle.picture_core.specs.Pictures.{bar_at, bars_from, front, ground, head_height, height, lanes_from, longest_name, names_from, part, part_of, picture, range_of, size, size_of, style, text_around, view_box, width};
+ghost use Rattle.picture_core.specs.Shapes.{lane, lane_name};
+ghost use Rattle.picture_core.specs.Standings.{painted_of};
 
-use crate::layers::{Layers, layers_of};
-use crate::shapes::put_lane;
-use bench_core::{Bench, Names};
+use crate::layers::{Layers, layers_of, with_length};
+use crate::online::{Asked, Turn, bar_path};
+use crate::plan::{across, wide};
+use crate::range::{Range, first_row, last_row};
+use crate::shapes::{put_bar, put_lane, put_lane_name};
+use crate::standing::drawn_steps;
+use bench_core::{Bench, Names, TextSet};
 use payload_core::Oom;
+use report_core::name_at;
 use std::alloc::Allocator;
-use svg_core::laws::document_law;
 use svg_core::{Attribute, Value, put_end, put_leaf, put_start};
 
-/// How the classes look: what was undone pale and dashed, what is painted thick.
-const STYLE: &str =
-    "text{font:13px monospace;text-anchor:middle;stroke:white;stroke-width:4px;paint-order:stroke}\
-circle{fill:white;stroke:black;stroke-width:2px}\
-line{stroke:black;stroke-width:1.5px;marker-end:url(#head)}\
-.lane{stroke:#888;stroke-width:1px;marker-end:none}\
-.name{text-anchor:end;font-weight:bold}\
-.future text{font-weight:bold}\
-.ring{fill:none}\
-line.future{stroke-width:4px}\
-.undone{opacity:.45;stroke-dasharray:4 3}\
-.undone path{stroke:black;stroke-width:2px;stroke-dasharray:none}";
+/// How the classes look: what was taken back pale and struck, what is painted bold.
+const STYLE: &str = "text{font:12px monospace;fill:black;white-space:pre}\
+path{fill:none;stroke:black;stroke-width:1.2px}\
+circle{fill:black;stroke:black}\
+.name,text.future{font-weight:bold}\
+.number{text-anchor:end}\
+.lane{stroke:#bbb}\
+.bar{stroke:#ffdc73;stroke-width:9px}\
+.message{stroke:#6d87a5}\
+path.future{stroke-width:3px}\
+circle.future{stroke-width:5px}\
+.undone{opacity:.45;text-decoration:line-through;stroke-dasharray:4 3}\
+.back{stroke-width:2px}\
+text.back{fill:#555;stroke:none}\
+circle.refused{fill:white;stroke:#c01818}\
+text.refused{fill:#c01818}";
 
 #[tactic(auto, unfolding(crate::specs::Pictures::style, crate::specs::Pictures::style_text))]
 fn put_style<A: Allocator>(text: &mut String<A>) -> Result<(), Oom>
     ensures { OnOk result (string_bytes text.new ≡ string_bytes text.old ++ text_of style) }
 {
     put_leaf(text, "style", &[], STYLE)
-}
-
-/// The head of an arrow, whose tip is at the edge of the dot that it points at.
-fn put_head<A: Allocator>(text: &mut String<A>) -> Result<(), Oom>
-    ensures { OnOk result (string_bytes text.new ≡ string_bytes text.old ++ text_of head) }
-{
-    put_start(
-        text,
-        "marker",
-        &[
-            Attribute("id", Value::Text("head")),
-            Attribute("viewBox", Value::Text("0 0 10 10")),
-            Attribute("refX", Value::Text("16")),
-            Attribute("refY", Value::Text("5")),
-            Attribute("markerWidth", Value::Text("14")),
-            Attribute("markerHeight", Value::Text("14")),
-            Attribute("markerUnits", Value::Text("userSpaceOnUse")),
-            Attribute("orient", Value::Text("auto")),
-        ],
-    )?;
-    put_leaf(
-        text,
-        "path",
-        &[Attribute("d", Value::Text("M0 1L10 5L0 9z"))],
-        "",
-    )?;
-    put_end(text, "marker")
 }
 
 #[tactic(auto, unfolding(crate::specs::Pictures::ground))]
@@ -86,101 +65,249 @@ fn put_front<A: Allocator>(text: &mut String<A>) -> Result<(), Oom>
     ensures { OnOk result (string_bytes text.new ≡ string_bytes text.old ++ text_of front) }
 {
     put_style(text)?;
-    put_head(text)?;
     put_ground(text)
 }
 
-/// The line of the node of this number.
-fn put_lane_of<A: Allocator, N: Allocator>(
-    text: &mut String<A>,
-    names: &Names<N>,
-    number: u16,
-) -> Result<(), Oom>
-    ensures { OnOk result (string_bytes text.new ≡ string_bytes text.old ++ text_of (lane number (name_at names.now number))) }
+/// How many bytes the longest name has.
+fn longest_name<N: Allocator>(names: &Names<N>) -> u32
+    ensures { result ≡ longest_name names.now }
 {
-    let name = names.text(number).unwrap_or("");
-    put_lane(text, u64::from(number), name)
+    let mut longest = 0;
+    for number in 0..names.len() as u16 {
+        longest = with_length(longest, name_at(names, number).len());
+    }
+    longest
 }
 
-/// The lines of the nodes.
-fn put_lanes<A: Allocator, N: Allocator>(text: &mut String<A>, names: &Names<N>) -> Result<(), Oom>
-    ensures { OnOk result (string_bytes text.new ≡ string_bytes text.old ++ text_of (lanes_from 0 names.now)) }
+/// How much room the names have above the lanes.
+#[tactic(auto, unfolding(crate::specs::Pictures::head_height))]
+fn head_height<N: Allocator>(names: &Names<N>) -> u64
+    ensures is { result ≡ head_height names.now }
+    ensures few { result ≤ 40000000000 }
 {
+    20 + wide(longest_name(names))
+}
+
+/// The names of the nodes, above their lanes.
+fn put_names<'a, A: Allocator, N: Allocator, B: Allocator>(
+    text: &mut String<A>,
+    names: &Names<N>,
+    height: u64,
+    alloc: &'a B,
+) -> Result<(), Oom>
+    ensures { OnOk result (string_bytes text.new ≡ string_bytes text.old ++ text_of (names_from (length names.now) height 0 names.now)) }
+{
+    let nodes = names.len() as u32;
     for number in 0..names.len() as u16 {
-        put_lane_of(text, names, number)?;
+        let name = name_at(names, number);
+        put_lane_name(text, nodes, u32::from(number), height, name, alloc)?;
     }
     Ok(())
 }
 
-/// The beginning of a picture of the bench, which has its size.
-fn put_opening<'a, A: Allocator, B: Allocator>(
-    bench: &Bench<'a, B>,
+/// The lanes of the nodes.
+fn put_lanes<'a, A: Allocator, N: Allocator, B: Allocator>(
     text: &mut String<A>,
+    names: &Names<N>,
+    range: Range,
+    alloc: &'a B,
+) -> Result<(), Oom>
+    ensures { OnOk result (string_bytes text.new ≡ string_bytes text.old ++ text_of (lanes_from range (length names.now) 0 names.now)) }
+{
+    let nodes = names.len() as u32;
+    for number in 0..names.len() as u32 {
+        put_lane(text, nodes, number, range.first, range.last, alloc)?;
+    }
+    Ok(())
+}
+
+/// Where the lane of a node is thick, if it is asked of.
+#[tactic(auto, using(crate::proofs::Texts::nothing_end))]
+fn put_bar_at<'a, A: Allocator, B: Allocator>(
+    text: &mut String<A>,
+    asked: Option<&Asked<&'a B>>,
+    turns: &[Turn],
+    nodes: u32,
+    node: u32,
+    last: u32,
+    alloc: &'a B,
+) -> Result<(), Oom>
+    ensures { OnOk result (string_bytes text.new ≡ string_bytes text.old ++ text_of (bar_at (option_copied asked.entry) nodes last turns.now node)) }
+{
+    let Some(asked) = asked else {
+        return Ok(());
+    };
+    if !asked.is_of(node) {
+        return Ok(());
+    }
+    let path = bar_path(turns, nodes, node, last, alloc)?;
+    put_bar(text, &path)
+}
+
+/// Where the lanes are thick of the nodes that are asked of.
+fn put_bars<'a, A: Allocator, N: Allocator, B: Allocator>(
+    text: &mut String<A>,
+    names: &Names<N>,
+    asked: Option<&Asked<&'a B>>,
+    turns: &[Turn],
+    last: u32,
+    alloc: &'a B,
 ) -> Result<(), Oom>
     ensures { OnOk result (string_bytes text.new ≡ string_bytes text.old ++
-        opening_text (codes "svg") (size (given bench.now.state.history) (length bench.now.names))) }
+        text_of (bars_from (option_copied asked.entry) (length names.now) last turns.now 0 names.now)) }
 {
-    bench.bench_law();
-    let width = bench.meter() + 3;
-    let height = bench.names().len() as u64;
-    put_start(
+    let nodes = names.len() as u32;
+    for number in 0..names.len() as u32 {
+        put_bar_at(text, asked, turns, nodes, number, last, alloc)?;
+    }
+    Ok(())
+}
+
+/// What is seen of a plane: from how far down, how wide and how high.
+#[tactic(auto)]
+fn view_box<'a, B: Allocator>(
+    top: u64,
+    width: u64,
+    height: u64,
+    alloc: &'a B,
+) -> Result<String<&'a B>, Oom>
+    ensures { IfOk result (λ seen. string_bytes seen ≡ view_box top width height) }
+{
+    let mut seen = String::new(alloc);
+    write!(seen, "0 {top} {width} {height}")?;
+    Ok(seen)
+}
+
+/// The beginning of a picture of this size, of which this is seen.
+fn put_opening_of<A: Allocator>(
+    text: &mut String<A>,
+    width: u64,
+    height: u64,
+    seen: &str,
+) -> Result<(), Oom>
+    ensures { OnOk result (string_bytes text.new ≡ string_bytes text.old ++ opening_text (codes "svg") (size_of width height seen.now)) }
+{
+    Ok(put_start(
         text,
         "svg",
         &[
             Attribute("xmlns", Value::Text("http://www.w3.org/2000/svg")),
-            Attribute("width", Value::Hundreds(width)),
-            Attribute("height", Value::Hundreds(height)),
+            Attribute("width", Value::Number(width)),
+            Attribute("height", Value::Number(height)),
+            Attribute("viewBox", Value::Text(seen)),
         ],
-    )
+    )?)
 }
 
-/// The beginning of what stands beside the margin.
-fn put_margin<A: Allocator>(text: &mut String<A>) -> Result<(), Oom>
-    ensures { OnOk result (string_bytes text.new ≡ string_bytes text.old ++ opening_text (codes "g") margin) }
+/// The beginning of a picture of this size.
+fn put_opening<'a, A: Allocator, B: Allocator>(
+    text: &mut String<A>,
+    width: u64,
+    height: u64,
+    alloc: &'a B,
+) -> Result<(), Oom>
+    ensures { OnOk result (string_bytes text.new ≡ string_bytes text.old ++ opening_text (codes "svg") (size width height)) }
 {
-    put_start(
+    let seen = view_box(0, width, height, alloc)?;
+    put_opening_of(text, width, height, seen.as_str())
+}
+
+/// The beginning of a part of the picture, of which this is seen.
+fn put_part_of<A: Allocator>(
+    text: &mut String<A>,
+    top: u64,
+    width: u64,
+    height: u64,
+    seen: &str,
+) -> Result<(), Oom>
+    ensures { OnOk result (string_bytes text.new ≡ string_bytes text.old ++ opening_text (codes "svg") (part_of top width height seen.now)) }
+{
+    Ok(put_start(
         text,
-        "g",
-        &[Attribute("transform", Value::Text("translate(180 60)"))],
-    )
+        "svg",
+        &[
+            Attribute("y", Value::Number(top)),
+            Attribute("width", Value::Number(width)),
+            Attribute("height", Value::Number(height)),
+            Attribute("viewBox", Value::Text(seen)),
+        ],
+    )?)
+}
+
+/// The beginning of the part below the names, in which the rows from the first on are seen.
+fn put_part<'a, A: Allocator, B: Allocator>(
+    text: &mut String<A>,
+    top: u64,
+    first: u32,
+    width: u64,
+    height: u64,
+    alloc: &'a B,
+) -> Result<(), Oom>
+    ensures { OnOk result (string_bytes text.new ≡ string_bytes text.old ++ opening_text (codes "svg") (part top first width height)) }
+{
+    let seen = view_box(20 * u64::from(first), width, height, alloc)?;
+    put_part_of(text, top, width, height, seen.as_str())
 }
 
 fn put_layer<A: Allocator, B: Allocator>(text: &mut String<A>, layer: &String<B>) -> Result<(), Oom>
     ensures { OnOk result (string_bytes text.new ≡ string_bytes text.old ++ string_bytes layer.now) }
 {
-    text.push_str(layer.as_str())
+    Ok(text.push_str(layer.as_str())?)
+}
+
+#[tactic(auto, unfolding(crate::specs::Pictures::width))]
+fn width(nodes: u32, longest: u32) -> u64
+    ensures { result ≡ width nodes longest }
+{
+    across(nodes, nodes) + wide(longest) + 8
+}
+
+#[tactic(auto, unfolding(crate::specs::Pictures::height))]
+fn height(range: Range) -> u64
+    ensures is { result ≡ height range }
+    ensures few { result ≤ 100000000000 }
+{
+    20 * u64::from(range.last.saturating_sub(range.first))
 }
 
 /// The picture with these layers.
-fn put_around<'a, A: Allocator, B: Allocator>(
-    bench: &Bench<'a, B>,
+fn put_drawing<'a, A: Allocator, N: Allocator, B: Allocator>(
     text: &mut String<A>,
+    names: &Names<N>,
     layers: &Layers<'a, B>,
-) -> Result<(), Oom>
-    ensures { OnOk result (string_bytes text.new ≡ string_bytes text.old ++
-        text_around bench.now (string_bytes layers.now.arrows) (string_bytes layers.now.marks)) }
-{
-    put_opening(bench, text)?;
-    put_front(text)?;
-    put_margin(text)?;
-    put_lanes(text, bench.names())?;
-    put_layer(text, &layers.arrows)?;
-    put_layer(text, &layers.marks)?;
-    put_end(text, "g")?;
-    put_end(text, "svg")
-}
-
-/// The picture, with these steps painted.
-fn put_picture<'a, A: Allocator, B: Allocator>(
-    bench: &Bench<'a, B>,
-    text: &mut String<A>,
-    painted: &[u64],
+    range: Range,
+    asked: Option<&Asked<&'a B>>,
     alloc: &'a B,
 ) -> Result<(), Oom>
-    ensures { OnOk result (string_bytes text.new ≡ string_bytes text.old ++ text_of (picture bench.now painted.now)) }
+    ensures { OnOk result (string_bytes text.new ≡ string_bytes text.old ++
+        text_around names.now range (option_copied asked.entry) layers.now.turns.items layers.now.longest (string_bytes layers.now.messages) (string_bytes layers.now.rows)) }
 {
-    let layers = layers_of(bench, painted, alloc)?;
-    put_around(bench, text, &layers)
+    let top = head_height(names);
+    let width = width(names.len() as u32, layers.longest);
+    let height = height(range);
+    put_opening(text, width, top + height, alloc)?;
+    put_front(text)?;
+    put_names(text, names, top, alloc)?;
+    put_part(text, top, range.first, width, height, alloc)?;
+    put_bars(text, names, asked, &layers.turns, range.last, alloc)?;
+    put_lanes(text, names, range, alloc)?;
+    put_layer(text, &layers.messages)?;
+    put_layer(text, &layers.rows)?;
+    put_end(text, "svg")?;
+    Ok(put_end(text, "svg")?)
+}
+
+/// The rows from that of step `from` to that before the first step behind `to`.
+#[tactic(auto, unfolding(crate::specs::Pictures::range_of))]
+pub fn range_of<'a, B: Allocator>(bench: &Bench<'a, B>, from: Option<u64>, to: Option<u64>) -> Range
+    ensures { result ≡ range_of bench.now.state.history from to }
+{
+    bench.bench_law();
+    let history = bench.history();
+    Range {
+        first: first_row(history, from) as u32,
+        last: last_row(history, to) as u32,
+    }
 }
 
 /// The steps that the undo of a step would take back with it, if it remains.
@@ -202,7 +329,7 @@ fn future_of<'a, B: Allocator>(
 }
 
 /// The steps that are painted.
-fn painted_of<'a, B: Allocator>(
+pub fn painted_of<'a, B: Allocator>(
     bench: &Bench<'a, B>,
     why: Option<u64>,
     alloc: &'a B,
@@ -215,32 +342,20 @@ fn painted_of<'a, B: Allocator>(
     }
 }
 
-/// The picture of a bench, with the step and its future painted.
-fn picture_of<'a, B: Allocator>(
+/// The picture of a bench, with these steps painted, of these rows.
+pub fn picture<'a, B: Allocator>(
     bench: &Bench<'a, B>,
-    why: Option<u64>,
+    consoles: &TextSet<&'a B>,
+    painted: &[u64],
+    range: Range,
+    asked: Option<&Asked<&'a B>>,
     alloc: &'a B,
 ) -> Result<String<&'a B>, Oom>
-    ensures { IfOk result (λ text. string_bytes text ≡ text_of (picture bench.now (painted_of bench.now.state why))) }
+    ensures { IfOk result (λ text. string_bytes text ≡ text_of (picture bench.now consoles.now painted.now range (option_copied asked.entry))) }
 {
-    let painted = painted_of(bench, why, alloc)?;
+    let steps = drawn_steps(bench, painted, alloc)?;
+    let layers = layers_of(bench, consoles, &steps, range, asked, alloc)?;
     let mut text = String::new(alloc);
-    put_picture(bench, &mut text, painted.as_slice(), alloc)?;
+    put_drawing(&mut text, bench.names(), &layers, range, asked, alloc)?;
     Ok(text)
-}
-
-/// The picture of a bench: a line for each node from left to right, on it a mark for each step that was taken, an arrow from
-/// each step that sent a message to each that delivered it. What was undone is pale and has a cross; the step `why` and all that
-/// follows from it, if it remains, have rings. Beside each mark its step and what it printed stand as a title.
-pub fn draw<'a, B: Allocator>(
-    alloc: &'a B,
-    bench: &Bench<'a, B>,
-    why: Option<u64>,
-) -> Result<Vec<u8, &'a B>, Oom>
-    ensures tree { IfOk result (λ text. text.items ≡ text_of (picture bench.now (painted_of bench.now.state why))) }
-    ensures document { IfOk result (λ text. IsDocument text.items) }
-{
-    document_law();
-    let text = picture_of(bench, why, alloc)?;
-    Ok(text.into_bytes())
 }

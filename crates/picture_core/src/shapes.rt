@@ -1,102 +1,16 @@
 //! The shapes that a picture is put together from.
-ghost use Rattle.std.specs.Prelude.{◌≡◌, ◌++◌, OnOk, string_bytes, decimal, codes};
-ghost use Rattle.svg_core.specs.Trees.{opening_text, text_of};
-ghost use Rattle.picture_core.specs.Shapes.{arrow, dot, heading, label, labels, lane, lane_line, lane_name, mark, mark_attributes, sign};
+ghost use Rattle.std.specs.Prelude.{◌≡◌, ◌++◌, IfOk, OnOk, string_bytes};
+ghost use Rattle.svg_core.specs.Trees.{text_of};
+ghost use Rattle.svg_core.specs.Values.{plain_attributes};
+ghost use Rattle.picture_core.specs.Shapes.{bar, cross_path, cross_sign, dot_sign, heading, lane, lane_name, lane_path, mark, message, message_class, message_path, message_title, name_at, name_place, number_label, path_between, path_of, titled, titled_path, upwards, words_label};
 
-use crate::standing::Standing;
+use crate::kind::Kind;
+use crate::plan::{across, down, waits_at};
 use payload_core::Oom;
 use std::alloc::Allocator;
 use svg_core::{Attribute, Value, put_end, put_leaf, put_number, put_start};
 
-/// The line of a node.
-#[tactic(auto, unfolding(crate::specs::Shapes::lane_line))]
-fn put_lane_line<A: Allocator>(text: &mut String<A>, node: u64) -> Result<(), Oom>
-    ensures { OnOk result (string_bytes text.new ≡ string_bytes text.old ++ text_of (lane_line node)) }
-{
-    put_leaf(
-        text,
-        "line",
-        &[
-            Attribute("class", Value::Text("lane")),
-            Attribute("x1", Value::Text("-20")),
-            Attribute("y1", Value::Hundreds(node)),
-            Attribute("x2", Value::Text("100%")),
-            Attribute("y2", Value::Hundreds(node)),
-        ],
-        "",
-    )
-}
-
-/// The name before the line of a node.
-#[tactic(auto, unfolding(crate::specs::Shapes::lane_name))]
-fn put_lane_name<A: Allocator>(text: &mut String<A>, node: u64, name: &str) -> Result<(), Oom>
-    ensures { OnOk result (string_bytes text.new ≡ string_bytes text.old ++ text_of (lane_name node name.now)) }
-{
-    put_leaf(
-        text,
-        "text",
-        &[
-            Attribute("class", Value::Text("name")),
-            Attribute("x", Value::Text("-30")),
-            Attribute("y", Value::Hundreds(node)),
-            Attribute("dy", Value::Text("5")),
-        ],
-        name,
-    )
-}
-
-/// The line of a node, and its name.
-pub fn put_lane<A: Allocator>(text: &mut String<A>, node: u64, name: &str) -> Result<(), Oom>
-    ensures { OnOk result (string_bytes text.new ≡ string_bytes text.old ++ text_of (lane node name.now)) }
-{
-    put_lane_line(text, node)?;
-    put_lane_name(text, node, name)
-}
-
-/// A cross through what was undone, a ring around what is painted.
-#[tactic(auto, using(crate::proofs::Texts::nothing_end), unfolding(crate::specs::Shapes::sign, crate::specs::Shapes::ring, crate::specs::Shapes::cross))]
-fn put_sign<A: Allocator>(text: &mut String<A>, standing: Standing) -> Result<(), Oom>
-    ensures { OnOk result (string_bytes text.new ≡ string_bytes text.old ++ text_of (sign standing)) }
-{
-    match standing {
-        Standing::Remains => Ok(()),
-        Standing::Painted => put_leaf(
-            text,
-            "circle",
-            &[
-                Attribute("class", Value::Text("ring")),
-                Attribute("r", Value::Text("13")),
-            ],
-            "",
-        ),
-        Standing::Undone => put_leaf(
-            text,
-            "path",
-            &[Attribute("d", Value::Text("M-11 -11L11 11M-11 11L11 -11"))],
-            "",
-        ),
-    }
-}
-
-/// Words above or below a mark.
-#[tactic(auto, unfolding(crate::specs::Shapes::label))]
-fn put_label<A: Allocator>(text: &mut String<A>, down: &str, words: &str) -> Result<(), Oom>
-    ensures { OnOk result (string_bytes text.new ≡ string_bytes text.old ++ text_of (label down.now words.now)) }
-{
-    put_leaf(text, "text", &[Attribute("dy", Value::Text(down))], words)
-}
-
-/// A number above a mark.
-#[tactic(auto, unfolding(crate::specs::Shapes::label, svg_core::specs::Trees::text_of))]
-fn put_number_label<A: Allocator>(text: &mut String<A>, number: u64) -> Result<(), Oom>
-    ensures { OnOk result (string_bytes text.new ≡ string_bytes text.old ++ text_of (label (codes "-18") (decimal number))) }
-{
-    put_start(text, "text", &[Attribute("dy", Value::Text("-18"))])?;
-    put_number(text, number)?;
-    put_end(text, "text")
-}
-
-/// The title of a mark.
+/// The title of an element.
 #[tactic(auto, unfolding(crate::specs::Shapes::heading))]
 fn put_heading<A: Allocator>(text: &mut String<A>, title: &str) -> Result<(), Oom>
     ensures { OnOk result (string_bytes text.new ≡ string_bytes text.old ++ text_of (heading title.now)) }
@@ -104,86 +18,358 @@ fn put_heading<A: Allocator>(text: &mut String<A>, title: &str) -> Result<(), Oo
     put_leaf(text, "title", &[], title)
 }
 
-#[tactic(auto, unfolding(crate::specs::Shapes::dot))]
-fn put_dot<A: Allocator>(text: &mut String<A>) -> Result<(), Oom>
-    ensures { OnOk result (string_bytes text.new ≡ string_bytes text.old ++ text_of dot) }
-{
-    put_leaf(text, "circle", &[Attribute("r", Value::Text("8"))], "")
-}
-
-/// The labels of a mark.
-fn put_labels<A: Allocator>(text: &mut String<A>, number: u64, verb: &str) -> Result<(), Oom>
-    ensures { OnOk result (string_bytes text.new ≡ string_bytes text.old ++ text_of (labels number verb.now)) }
-{
-    put_number_label(text, number)?;
-    put_label(text, "30", verb)
-}
-
-/// What holds a mark, at the place of its step.
-fn put_mark_start<A: Allocator>(
+/// An element with a title.
+fn put_titled<A: Allocator>(
     text: &mut String<A>,
-    standing: Standing,
-    number: u64,
-    node: u16,
-) -> Result<(), Oom>
-    ensures { OnOk result (string_bytes text.new ≡ string_bytes text.old ++
-        opening_text (codes "g") (mark_attributes standing number node)) }
-{
-    let place = Value::Place {
-        across: number,
-        down: u64::from(node),
-    };
-    put_start(
-        text,
-        "g",
-        &[
-            Attribute("class", Value::Text(standing.class())),
-            Attribute("transform", place),
-        ],
-    )
-}
-
-/// A title, a dot, its sign, its number above it and its verb below it.
-pub fn put_mark<A: Allocator>(
-    text: &mut String<A>,
-    standing: Standing,
-    number: u64,
-    node: u16,
-    verb: &str,
+    tag: &str,
+    attributes: &[Attribute],
     title: &str,
 ) -> Result<(), Oom>
-    ensures { OnOk result (string_bytes text.new ≡ string_bytes text.old ++ text_of (mark standing number node verb.now title.now)) }
+    ensures { OnOk result (string_bytes text.new ≡ string_bytes text.old ++
+        text_of (titled tag.now (plain_attributes attributes.now) title.now)) }
 {
-    put_mark_start(text, standing, number, node)?;
+    put_start(text, tag, attributes)?;
     put_heading(text, title)?;
-    put_dot(text)?;
-    put_sign(text, standing)?;
-    put_labels(text, number, verb)?;
-    put_end(text, "g")
+    put_end(text, tag)
 }
 
-/// From a step of a node to a step of another.
-#[tactic(auto, unfolding(crate::specs::Shapes::arrow))]
-pub fn put_arrow<A: Allocator>(
-    text: &mut String<A>,
-    standing: Standing,
-    from: (u64, u16),
-    to: (u64, u16),
-) -> Result<(), Oom>
-    ensures { OnOk result (string_bytes text.new ≡ string_bytes text.old ++ text_of (arrow standing from to)) }
+/// A path of this class.
+fn put_path<A: Allocator>(text: &mut String<A>, class: &str, path: &str) -> Result<(), Oom>
+    ensures { OnOk result (string_bytes text.new ≡ string_bytes text.old ++ text_of (path_of class.now path.now)) }
 {
-    let (from_number, from_node) = from;
-    let (number, node) = to;
     put_leaf(
         text,
-        "line",
+        "path",
         &[
-            Attribute("class", Value::Text(standing.class())),
-            Attribute("x1", Value::Hundreds(from_number)),
-            Attribute("y1", Value::Hundreds(u64::from(from_node))),
-            Attribute("x2", Value::Hundreds(number)),
-            Attribute("y2", Value::Hundreds(u64::from(node))),
+            Attribute("class", Value::Text(class)),
+            Attribute("d", Value::Text(path)),
         ],
         "",
     )
+}
+
+/// A path of this class with a title.
+fn put_titled_path<A: Allocator>(
+    text: &mut String<A>,
+    class: &str,
+    path: &str,
+    title: &str,
+) -> Result<(), Oom>
+    ensures { OnOk result (string_bytes text.new ≡ string_bytes text.old ++ text_of (titled_path class.now path.now title.now)) }
+{
+    put_titled(
+        text,
+        "path",
+        &[
+            Attribute("class", Value::Text(class)),
+            Attribute("d", Value::Text(path)),
+        ],
+        title,
+    )
+}
+
+/// A place, turned so that what stands there is written upwards.
+#[tactic(auto, unfolding(crate::specs::Shapes::upwards))]
+fn upwards<'a, B: Allocator>(right: u64, down: u64, alloc: &'a B) -> Result<String<&'a B>, Oom>
+    ensures { IfOk result (λ place. string_bytes place ≡ upwards right down) }
+{
+    let mut place = String::new(alloc);
+    write!(place, "translate({right} {down})rotate(-90)")?;
+    Ok(place)
+}
+
+/// Where the name of a node stands, written upwards.
+fn name_place<'a, B: Allocator>(
+    nodes: u32,
+    node: u32,
+    height: u64,
+    alloc: &'a B,
+) -> Result<String<&'a B>, Oom>
+    ensures { IfOk result (λ place. string_bytes place ≡ name_place nodes node height) }
+{
+    let right = across(nodes, node) + 4;
+    upwards(right, height.saturating_sub(8), alloc)
+}
+
+/// A name at this place.
+fn put_name_at<A: Allocator>(text: &mut String<A>, place: &str, name: &str) -> Result<(), Oom>
+    ensures { OnOk result (string_bytes text.new ≡ string_bytes text.old ++ text_of (name_at place.now name.now)) }
+{
+    put_leaf(
+        text,
+        "text",
+        &[
+            Attribute("class", Value::Text("name")),
+            Attribute("transform", Value::Text(place)),
+        ],
+        name,
+    )
+}
+
+/// The name of a node above its lane.
+#[tactic(auto, unfolding(crate::specs::Shapes::lane_name))]
+pub fn put_lane_name<'a, A: Allocator, B: Allocator>(
+    text: &mut String<A>,
+    nodes: u32,
+    node: u32,
+    height: u64,
+    name: &str,
+    alloc: &'a B,
+) -> Result<(), Oom>
+    ensures { OnOk result (string_bytes text.new ≡ string_bytes text.old ++ text_of (lane_name nodes node height name.now)) }
+{
+    let place = name_place(nodes, node, height, alloc)?;
+    put_name_at(text, place.as_str(), name)
+}
+
+/// From one row to another along a lane.
+#[tactic(auto, unfolding(crate::specs::Shapes::lane_path))]
+fn lane_path<'a, B: Allocator>(
+    nodes: u32,
+    node: u32,
+    first: u32,
+    last: u32,
+    alloc: &'a B,
+) -> Result<String<&'a B>, Oom>
+    ensures { IfOk result (λ path. string_bytes path ≡ lane_path nodes node first last) }
+{
+    let across = across(nodes, node);
+    let from = 20 * u64::from(first);
+    let to = 20 * u64::from(last);
+    let mut path = String::new(alloc);
+    write!(path, "M{across} {from}V{to}")?;
+    Ok(path)
+}
+
+/// The lane of a node.
+#[tactic(auto, unfolding(crate::specs::Shapes::lane))]
+pub fn put_lane<'a, A: Allocator, B: Allocator>(
+    text: &mut String<A>,
+    nodes: u32,
+    node: u32,
+    first: u32,
+    last: u32,
+    alloc: &'a B,
+) -> Result<(), Oom>
+    ensures { OnOk result (string_bytes text.new ≡ string_bytes text.old ++ text_of (lane nodes node first last)) }
+{
+    let path = lane_path(nodes, node, first, last, alloc)?;
+    put_path(text, "lane", path.as_str())
+}
+
+/// From a point across to a line, down along it, and to another point.
+#[tactic(auto, unfolding(crate::specs::Shapes::path_between))]
+fn path_between<'a, B: Allocator>(
+    from: (u64, u64),
+    beside: u64,
+    above: u64,
+    to: (u64, u64),
+    alloc: &'a B,
+) -> Result<String<&'a B>, Oom>
+    ensures { IfOk result (λ path. string_bytes path ≡ path_between from beside above to) }
+{
+    let (start, sent) = from;
+    let (end, taken) = to;
+    let mut path = String::new(alloc);
+    write!(path, "M{start} {sent}")?;
+    write!(path, "H{beside}V{above}")?;
+    write!(path, "L{end} {taken}")?;
+    Ok(path)
+}
+
+/// The way of a message: along the row of its send, down beside the lane of the node that takes it, and to the mark of the
+/// delivery.
+fn message_path<'a, B: Allocator>(
+    nodes: u32,
+    from: (u32, u32),
+    to: (u32, u32),
+    source: u64,
+    alloc: &'a B,
+) -> Result<String<&'a B>, Oom>
+    ensures { IfOk result (λ path. string_bytes path ≡ message_path nodes from to source) }
+{
+    let (from_row, sender) = from;
+    let (to_row, node) = to;
+    let start = across(nodes, sender);
+    let sent = down(from_row);
+    let beside = waits_at(nodes, sender, node, source);
+    let end = across(nodes, node);
+    let taken = down(to_row);
+    let above = taken.saturating_sub(4);
+    path_between((start, sent), beside, above, (end, taken), alloc)
+}
+
+#[tactic(auto, unfolding(crate::specs::Shapes::message_title))]
+fn message_title<'a, B: Allocator>(
+    source: u64,
+    number: u64,
+    alloc: &'a B,
+) -> Result<String<&'a B>, Oom>
+    ensures { IfOk result (λ title. string_bytes title ≡ message_title source number) }
+{
+    let mut title = String::new(alloc);
+    write!(title, "step {source} to step {number}")?;
+    Ok(title)
+}
+
+fn message_class(kind: Kind) -> &'static str
+    ensures { result.now ≡ message_class kind }
+{
+    match kind {
+        Kind::Step => "message step",
+        Kind::Future => "message future",
+        Kind::Undone => "message undone",
+        Kind::Back => "message back",
+        Kind::Refused => "message refused",
+    }
+}
+
+/// A message from the row and the node of the step `source` to those of the step `number`.
+#[tactic(auto, unfolding(crate::specs::Shapes::message))]
+pub fn put_message<'a, A: Allocator, B: Allocator>(
+    text: &mut String<A>,
+    nodes: u32,
+    kind: Kind,
+    from: (u32, u32),
+    to: (u32, u32),
+    source: u64,
+    number: u64,
+    alloc: &'a B,
+) -> Result<(), Oom>
+    ensures { OnOk result (string_bytes text.new ≡ string_bytes text.old ++ text_of (message nodes kind from to source number)) }
+{
+    let path = message_path(nodes, from, to, source, alloc)?;
+    let title = message_title(source, number, alloc)?;
+    put_titled_path(text, message_class(kind), path.as_str(), title.as_str())
+}
+
+/// A dot on a lane.
+#[tactic(auto, unfolding(crate::specs::Shapes::dot_sign))]
+fn put_dot<A: Allocator>(
+    text: &mut String<A>,
+    nodes: u32,
+    node: u32,
+    row: u32,
+    kind: Kind,
+    title: &str,
+) -> Result<(), Oom>
+    ensures { OnOk result (string_bytes text.new ≡ string_bytes text.old ++ text_of (dot_sign nodes node row kind title.now)) }
+{
+    put_titled(
+        text,
+        "circle",
+        &[
+            Attribute("class", Value::Text(kind.class())),
+            Attribute("cx", Value::Number(across(nodes, node))),
+            Attribute("cy", Value::Number(down(row))),
+            Attribute("r", Value::Text("4")),
+        ],
+        title,
+    )
+}
+
+#[tactic(auto, unfolding(crate::specs::Shapes::cross_path))]
+fn cross_path<'a, B: Allocator>(
+    nodes: u32,
+    node: u32,
+    row: u32,
+    alloc: &'a B,
+) -> Result<String<&'a B>, Oom>
+    ensures { IfOk result (λ path. string_bytes path ≡ cross_path nodes node row) }
+{
+    let left = across(nodes, node).saturating_sub(4);
+    let above = down(row).saturating_sub(4);
+    let mut path = String::new(alloc);
+    write!(path, "M{left} {above}l8 8m0 -8l-8 8")?;
+    Ok(path)
+}
+
+/// A cross on a lane, where a step was taken back.
+#[tactic(auto, unfolding(crate::specs::Shapes::cross_sign))]
+fn put_cross<'a, A: Allocator, B: Allocator>(
+    text: &mut String<A>,
+    nodes: u32,
+    node: u32,
+    row: u32,
+    title: &str,
+    alloc: &'a B,
+) -> Result<(), Oom>
+    ensures { OnOk result (string_bytes text.new ≡ string_bytes text.old ++ text_of (cross_sign nodes node row title.now)) }
+{
+    let path = cross_path(nodes, node, row, alloc)?;
+    put_titled_path(text, "back", path.as_str(), title)
+}
+
+/// The mark of a call.
+pub fn put_mark<'a, A: Allocator, B: Allocator>(
+    text: &mut String<A>,
+    nodes: u32,
+    node: u32,
+    row: u32,
+    kind: Kind,
+    title: &str,
+    alloc: &'a B,
+) -> Result<(), Oom>
+    ensures { OnOk result (string_bytes text.new ≡ string_bytes text.old ++ text_of (mark nodes node row kind title.now)) }
+{
+    match kind {
+        Kind::Back => put_cross(text, nodes, node, row, title, alloc),
+        Kind::Step => put_dot(text, nodes, node, row, kind, title),
+        Kind::Future => put_dot(text, nodes, node, row, kind, title),
+        Kind::Undone => put_dot(text, nodes, node, row, kind, title),
+        Kind::Refused => put_dot(text, nodes, node, row, kind, title),
+    }
+}
+
+/// The number of a step before its row.
+#[tactic(auto, unfolding(crate::specs::Shapes::number_label, svg_core::specs::Trees::text_of))]
+pub fn put_number_label<A: Allocator>(
+    text: &mut String<A>,
+    row: u32,
+    number: u64,
+) -> Result<(), Oom>
+    ensures { OnOk result (string_bytes text.new ≡ string_bytes text.old ++ text_of (number_label row number)) }
+{
+    put_start(
+        text,
+        "text",
+        &[
+            Attribute("class", Value::Text("number")),
+            Attribute("x", Value::Text("50")),
+            Attribute("y", Value::Number(down(row) + 4)),
+        ],
+    )?;
+    put_number(text, number)?;
+    put_end(text, "text")
+}
+
+/// The words of a call behind its row.
+#[tactic(auto, unfolding(crate::specs::Shapes::words_label))]
+pub fn put_words_label<A: Allocator>(
+    text: &mut String<A>,
+    nodes: u32,
+    row: u32,
+    kind: Kind,
+    words: &str,
+) -> Result<(), Oom>
+    ensures { OnOk result (string_bytes text.new ≡ string_bytes text.old ++ text_of (words_label nodes row kind words.now)) }
+{
+    put_leaf(
+        text,
+        "text",
+        &[
+            Attribute("class", Value::Text(kind.class())),
+            Attribute("x", Value::Number(across(nodes, nodes))),
+            Attribute("y", Value::Number(down(row) + 4)),
+        ],
+        words,
+    )
+}
+
+/// Where a lane is thick.
+#[tactic(auto, unfolding(crate::specs::Shapes::bar))]
+pub fn put_bar<A: Allocator>(text: &mut String<A>, path: &str) -> Result<(), Oom>
+    ensures { OnOk result (string_bytes text.new ≡ string_bytes text.old ++ text_of (bar path.now)) }
+{
+    put_path(text, "bar", path)
 }

@@ -1,10 +1,11 @@
-//! How a step that was taken stands.
-ghost use Rattle.std.specs.Prelude.{◌≡◌, ◌==◌};
+//! How a step that was taken stands, and where it stands.
+ghost use Rattle.std.specs.Prelude.{◌≡◌, ◌==◌, IfOk};
 ghost use Rattle.std.specs.List.{list_any};
 ghost use Rattle.journal_core.specs.Holdings.{kepts};
-ghost use Rattle.picture_core.specs.Standings.{class_of, standing_of};
+ghost use Rattle.picture_core.specs.Standings.{drawn_steps, nothing_drawn, of_message, standing_of, step_at, with_reply};
 
-use bench_core::Journal;
+use bench_core::{Bench, Journal, Reply};
+use payload_core::Oom;
 use std::alloc::Allocator;
 
 /// How a step that was taken stands.
@@ -18,15 +19,34 @@ pub enum Standing {
     Undone,
 }
 
+/// What a picture knows of a step.
+#[derive(Clone, Copy, Debug, PartialEq, Eq)]
+pub struct Drawn {
+    /// The row of the call that took it.
+    pub row: u32,
+    pub standing: Standing,
+}
+
+impl Drawn {
+    const NOTHING: Drawn = Drawn {
+        row: 0,
+        standing: Standing::Undone,
+    };
+}
+
 impl Standing {
-    /// The class of what is drawn of it.
-    pub fn class(self) -> &'static str
-        ensures { result.now ≡ class_of self }
+    /// That of a message from a step that stands so to one that does: it is painted where both are, and taken back with its
+    /// delivery.
+    pub fn of_message(self, sent: Standing) -> Standing
+        ensures { result ≡ of_message self sent }
     {
         match self {
-            Standing::Remains => "step",
-            Standing::Painted => "future",
-            Standing::Undone => "undone",
+            Standing::Undone => Standing::Undone,
+            Standing::Painted => match sent {
+                Standing::Painted => Standing::Painted,
+                Standing::Remains | Standing::Undone => Standing::Remains,
+            },
+            Standing::Remains => Standing::Remains,
         }
     }
 }
@@ -39,7 +59,7 @@ fn is_painted(painted: &[u64], number: u64) -> bool
 
 /// That of a step, by its number.
 #[tactic(auto, unfolding(crate::specs::Standings::standing_of))]
-pub fn standing_of<'a, B: Allocator>(
+fn standing_of<'a, B: Allocator>(
     remaining: &Journal<'a, B>,
     painted: &[u64],
     number: u64,
@@ -53,5 +73,59 @@ pub fn standing_of<'a, B: Allocator>(
         Standing::Painted
     } else {
         Standing::Remains
+    }
+}
+
+/// After a call in this row had this reply.
+fn note_reply<'a, B: Allocator>(
+    remaining: &Journal<'a, B>,
+    steps: &mut Vec<Drawn, &'a B>,
+    painted: &[u64],
+    row: u32,
+    reply: Reply,
+)
+    ensures { steps.new.items ≡ with_reply (kepts remaining.now.steps) painted.now row reply steps.old.items }
+{
+    if let Reply::Taken(number) = reply {
+        let standing = standing_of(remaining, painted, number);
+        if let Some(step) = steps.get_mut(number as usize) {
+            *step = Drawn { row, standing };
+        }
+    }
+}
+
+/// What is known of each step, at its number.
+#[tactic(auto, unfolding(crate::specs::Standings::drawn_steps))]
+pub fn drawn_steps<'a, B: Allocator>(
+    bench: &Bench<'a, B>,
+    painted: &[u64],
+    alloc: &'a B,
+) -> Result<Vec<Drawn, &'a B>, Oom>
+    ensures { IfOk result (λ steps. steps.items ≡ drawn_steps bench.now painted.now) }
+{
+    bench.bench_law();
+    let history = bench.history();
+    let mut steps = vec![in alloc; Drawn::NOTHING; history.len() + 1]?;
+    for place in 0..history.len() {
+        if let Some(event) = history.at(place) {
+            note_reply(
+                bench.remaining(),
+                &mut steps,
+                painted,
+                place as u32,
+                event.reply,
+            );
+        }
+    }
+    Ok(steps)
+}
+
+/// What is known of the step of this number.
+pub fn step_at(steps: &[Drawn], number: u64) -> Drawn
+    ensures { result ≡ step_at steps.now number }
+{
+    match steps.get(number as usize) {
+        Some(step) => *step,
+        None => Drawn::NOTHING,
     }
 }

@@ -5,16 +5,19 @@ use Rattle.std.proofs.lemmas.List.{length-take, take_all}
 use Rattle.json.specs.Word.{is_space}
 use Rattle.bench_core.specs.Limits.{Limits}
 use Rattle.bench_core.specs.Machine.{Machine}
+use Rattle.bench_core.specs.NameList.{Texts}
 use Rattle.grammar_core.specs.Grammar.{script_of}
 use Rattle.grammar_core.specs.Scripts.{Script}
 use Rattle.grammar_core.specs.declared.fault.FaultKind.TheVariants.{TooLong}
 use Rattle.grammar_core.specs.declared.fault.ScriptFault.{ScriptFault}
 use Rattle.run_core.specs.Report.{played}
+use Rattle.transcript_core.specs.Actors.{free_consoles}
 use Rattle.recording_core.specs.Sessions.{IsSession}
 use Rattle.stream_core.specs.Inputs.{IsFront}
 use Rattle.program_core.specs.declared.fault.Fault.{Fault}
 use Rattle.program_core.specs.declared.fault.Fault.TheVariants as faults
-use Rattle.program_core.specs.Program.{IsBenchAt, IsBenchBy, RefusesBenchAt, RefusesScript, RefusesSession, begins_session, is_for_session}
+use Rattle.program_core.specs.declared.inputs.Run.{Run}
+use Rattle.program_core.specs.Program.{IsBenchAt, IsBenchBy, IsRunAt, IsRunBy, RefusesBenchAt, RefusesScript, RefusesSession, begins_session, is_for_session}
 
 -- whether bytes are to be a session, by the first
 
@@ -72,20 +75,33 @@ short_script bytes P spelt = go (nat_lt 1048576 (length bytes)) refl
 
 -- what is told of a front that is to be a session, or a script
 module _ (limits : Limits) (bytes : List ℕ) where
-  pub gives_session : (known : Option (List ℕ)) (m : Machine) → IsFront known 67108865 bytes → begins_session bytes ≡ true → length bytes ≤ 67108864 →
-      IsSession bytes m → IsBenchAt limits known m
-  gives_session None m front begins few is = tt
-  gives_session (Some input) m front begins few is =
+  pub gives_session : (known : Option (List ℕ)) (m : Machine) (consoles : Texts) → IsFront known 67108865 bytes → begins_session bytes ≡ true →
+      length bytes ≤ 67108864 → IsSession bytes m → consoles ≡ free_consoles m → IsRunAt limits known m consoles
+  gives_session None m consoles front begins few is free = tt
+  gives_session (Some input) m consoles front begins few is free =
       let for_session : is_for_session input ≡ true = for_whole input bytes true front begins in
-      subst (λ b. IsBenchBy b limits input m) (sym for_session) (subst (λ (xs : List ℕ). IsSession xs m) (whole input bytes front few) is)
+      subst (λ b. IsRunBy b limits input m consoles) (sym for_session) (subst (λ (xs : List ℕ). IsSession xs m) (whole input bytes front few) is, free)
 
-  pub gives_played : (known : Option (List ℕ)) (m : Machine) → IsFront known 67108865 bytes → begins_session bytes ≡ false →
-      IsOkAnd (script_of bytes) (λ s. m ≡ played limits s) → IsBenchAt limits known m
-  gives_played None m front begins is = tt
-  gives_played (Some input) m front begins is =
+  pub gives_played : (known : Option (List ℕ)) (m : Machine) (consoles : Texts) → IsFront known 67108865 bytes → begins_session bytes ≡ false →
+      IsOkAnd (script_of bytes) (λ s. (m ≡ played limits s) × (consoles ≡ s.cast.consoles)) → IsRunAt limits known m consoles
+  gives_played None m consoles front begins is = tt
+  gives_played (Some input) m consoles front begins is =
       let for_session : is_for_session input ≡ false = for_whole input bytes false front begins in
-      subst (λ b. IsBenchBy b limits input m) (sym for_session)
-      (subst (λ (r : Result Script ScriptFault). IsOkAnd r (λ s. m ≡ played limits s)) (ap script_of front ∙ same_script input) is)
+      subst (λ b. IsRunBy b limits input m consoles) (sym for_session)
+      (subst (λ (r : Result Script ScriptFault). IsOkAnd r (λ s. (m ≡ played limits s) × (consoles ≡ s.cast.consoles))) (ap script_of front ∙ same_script input) is)
+
+-- the bench of a run
+pub bench_at : (limits : Limits) (known : Option (List ℕ)) (m : Machine) (consoles : Texts) → IsRunAt limits known m consoles → IsBenchAt limits known m
+bench_at limits None m consoles is = tt
+bench_at limits (Some input) m consoles is = by (is_for_session input) is
+  where
+    played_on : (r : Result Script ScriptFault) → IsOkAnd r (λ s. (m ≡ played limits s) × (consoles ≡ s.cast.consoles)) → IsOkAnd r (λ s. m ≡ played limits s)
+    played_on (Ok s) is = is.0
+    played_on (Err fault) is = is
+
+    by : (b : Bool) → IsRunBy b limits input m consoles → IsBenchBy b limits input m
+    by true is = is.0
+    by false is = played_on (script_of input) is
 
 refuses_whole : (input bytes : List ℕ) (fault : Fault) → bytes ≡ take 67108865 input → (67108864 < length bytes → fault ≡ faults.LongSession) →
     RefusesSession bytes fault → RefusesSession input fault
@@ -111,6 +127,7 @@ refuses_same input bytes faults.Differs same refuses = elim refuses [ ]
 refuses_same input bytes (faults.Race fault) same refuses = elim refuses [ ]
 refuses_same input bytes (faults.Explore fault) same refuses = elim refuses [ ]
 refuses_same input bytes (faults.Explain fault) same refuses = elim refuses [ ]
+refuses_same input bytes (faults.Draw fault) same refuses = elim refuses [ ]
 refuses_same input bytes (faults.Whatif fault) same refuses = elim refuses [ ]
 refuses_same input bytes (faults.Prompt fault) same refuses = elim refuses [ ]
 refuses_same input bytes (faults.Transcript fault) same refuses = elim refuses [ ]
@@ -134,11 +151,12 @@ module _ (bytes : List ℕ) (fault : Fault) where
 
 -- the same of what is answered
 
-pub session_gives : (limits : Limits) (bytes : List ℕ) (known : Option (List ℕ)) (r : Result Machine Fault) → IsFront known 67108865 bytes →
-    begins_session bytes ≡ true → (67108864 < length bytes → r ≡ Err faults.LongSession) → IfOk r (IsSession bytes) → IfOk r (IsBenchAt limits known)
+pub session_gives : {B : Type 0} (limits : Limits) (bytes : List ℕ) (known : Option (List ℕ)) (r : Result (Run B) Fault) → IsFront known 67108865 bytes →
+    begins_session bytes ≡ true → (67108864 < length bytes → r ≡ Err faults.LongSession) →
+    IfOk r (λ run. IsSession bytes run.bench × (run.consoles ≡ free_consoles run.bench)) → IfOk r (λ run. IsRunAt limits known run.bench run.consoles)
 session_gives limits bytes known (Err fault) front begins long is = tt
-session_gives limits bytes known (Ok m) front begins long is =
-    gives_session limits bytes known m front begins (go (nat_lt 67108864 (length bytes)) refl) is
+session_gives limits bytes known (Ok run) front begins long is =
+    gives_session limits bytes known run.bench run.consoles front begins (go (nat_lt 67108864 (length bytes)) refl) is.0 is.1
   where
     go : (b : Bool) → nat_lt 67108864 (length bytes) ≡ b → length bytes ≤ 67108864
     go true more =
@@ -146,29 +164,29 @@ session_gives limits bytes known (Ok m) front begins long is =
         absurd (cc (long past))
     go false few = grind (arith, nat_tests)
 
-pub session_refuses : (bytes : List ℕ) (known : Option (List ℕ)) (r : Result Machine Fault) → IsFront known 67108865 bytes →
+pub session_refuses : {B : Type 0} (bytes : List ℕ) (known : Option (List ℕ)) (r : Result (Run B) Fault) → IsFront known 67108865 bytes →
     begins_session bytes ≡ true → (67108864 < length bytes → r ≡ Err faults.LongSession) → IfErr r (RefusesSession bytes) → IfErr r (RefusesBenchAt known)
 session_refuses bytes known (Ok m) front begins long refuses = tt
 session_refuses bytes known (Err fault) front begins long refuses =
     refuses_session bytes fault known front begins (λ past. cc (long past)) refuses
 
-abbrev IsPlayed : Limits → List ℕ → Machine → Type 0
-IsPlayed limits bytes m = IsOkAnd (script_of bytes) (λ s. m ≡ played limits s)
+abbrev IsPlayed : {B : Type 0} → Limits → List ℕ → Run B → Type 0
+IsPlayed limits bytes run = IsOkAnd (script_of bytes) (λ s. (run.bench ≡ played limits s) × (run.consoles ≡ s.cast.consoles))
 
-pub script_gives : (limits : Limits) (bytes : List ℕ) (known : Option (List ℕ)) (r : Result Machine Fault) → IsFront known 67108865 bytes →
-    begins_session bytes ≡ false → IfOk r (IsPlayed limits bytes) → IfOk r (IsBenchAt limits known)
+pub script_gives : {B : Type 0} (limits : Limits) (bytes : List ℕ) (known : Option (List ℕ)) (r : Result (Run B) Fault) → IsFront known 67108865 bytes →
+    begins_session bytes ≡ false → IfOk r (IsPlayed limits bytes) → IfOk r (λ run. IsRunAt limits known run.bench run.consoles)
 script_gives limits bytes known (Err fault) front begins is = tt
-script_gives limits bytes known (Ok m) front begins is = gives_played limits bytes known m front begins is
+script_gives limits bytes known (Ok run) front begins is = gives_played limits bytes known run.bench run.consoles front begins is
 
-pub script_refuses : (bytes : List ℕ) (known : Option (List ℕ)) (r : Result Machine Fault) → IsFront known 67108865 bytes →
+pub script_refuses : {B : Type 0} (bytes : List ℕ) (known : Option (List ℕ)) (r : Result (Run B) Fault) → IsFront known 67108865 bytes →
     begins_session bytes ≡ false → IfErr r (RefusesScript bytes) → IfErr r (RefusesBenchAt known)
 script_refuses bytes known (Ok m) front begins refuses = tt
 script_refuses bytes known (Err fault) front begins refuses = refuses_script bytes fault known front begins refuses
 
 -- a script that was played was read to its end
-pub script_ends : (limits : Limits) (bytes : List ℕ) (r : Result Machine Fault) (E : Type 0) → IfOk r (IsPlayed limits bytes) →
+pub script_ends : {B : Type 0} (limits : Limits) (bytes : List ℕ) (r : Result (Run B) Fault) (E : Type 0) → IfOk r (IsPlayed limits bytes) →
     (length bytes < 67108865 → E) → OnOk r E
 script_ends limits bytes (Err fault) E is end = tt
-script_ends limits bytes (Ok m) E is end =
-    let short = short_script bytes (λ s. m ≡ played limits s) is in
+script_ends limits bytes (Ok run) E is end =
+    let short = short_script bytes (λ s. (run.bench ≡ played limits s) × (run.consoles ≡ s.cast.consoles)) is in
     end (omega (arith, short))

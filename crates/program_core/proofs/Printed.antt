@@ -9,7 +9,12 @@ use Rattle.explain_core.specs.declared.ask_fault.AskFault.{AskFault}
 use Rattle.explain_core.specs.declared.ask_fault.AskFault.TheVariants as asks
 use Rattle.whatif_report.specs.declared.whatif_fault.WhatifFault.{WhatifFault}
 use Rattle.whatif_report.specs.declared.whatif_fault.WhatifFault.TheVariants as whatifs
+use Rattle.command_line.specs.declared.chosen.Drawing.{Drawing}
 use Rattle.command_line.specs.declared.chosen.Question.{Question}
+use Rattle.bench_core.specs.NameList.{Texts}
+use Rattle.picture_core.specs.Views.{IsPicture, Refuses as RefusesPicture}
+use Rattle.picture_core.specs.declared.draw_fault.DrawFault.{DrawFault}
+use Rattle.picture_core.specs.declared.draw_fault.DrawFault.TheVariants as draws
 use Rattle.grammar_core.specs.Grammar.{script_of}
 use Rattle.stream_core.specs.Inputs.{IsLonger}
 use Rattle.run_core.specs.Report.{history_text, report_of}
@@ -18,7 +23,7 @@ use Rattle.grammar_core.specs.declared.fault.FaultKind.TheVariants.{TooLong}
 use Rattle.command_line.specs.declared.chosen.Form.{Form}
 use Rattle.command_line.specs.declared.chosen.Form.TheVariants as forms
 use Rattle.command_line.specs.declared.chosen.Subcommand.{Subcommand}
-use Rattle.command_line.specs.declared.chosen.Subcommand.TheVariants.{Race, Explore, Step, Draw, Explain, Whatif}
+use Rattle.command_line.specs.declared.chosen.Subcommand.TheVariants.{Race, Explore, Step, Draw, Page, Explain, Whatif}
 use Rattle.program_core.specs.declared.fault.Fault.{Fault}
 use Rattle.program_core.specs.declared.fault.Fault.TheVariants as faults
 use Rattle.grammar_core.specs.declared.fault.ScriptFault.{ScriptFault}
@@ -31,8 +36,9 @@ use Rattle.prompt_core.specs.declared.prompt_fault.PromptFault.{PromptFault}
 use Rattle.stream_core.specs.Steps.{Steps}
 use Rattle.command_line.specs.Help.{language}
 use Rattle.program_core.specs.Races.{IsRaceOf}
+use Rattle.program_core.specs.Views.{fault_of_draw, page_of, view_of}
 use Rattle.program_core.specs.Whatifs.{RefusesWhatif, TellsWhatif, fault_of_whatif}
-use Rattle.program_core.specs.Program.{FailsAs, IsBenchAt, IsBenchOf, IsCauseOf, IsUnwritten, RefusesBenchAt, fault_of_ask, IsScriptAt, Prints, RefusesScriptAt, Tells, drawn, Ends, EndsAt, EndsAsText, EndsSoon, KeepsBefore, TellsMemory, question_of, shown}
+use Rattle.program_core.specs.Program.{FailsAs, IsBenchAt, IsBenchOf, IsCauseOf, IsRunAt, IsRunOf, IsUnwritten, RefusesBenchAt, fault_of_ask, IsScriptAt, Prints, RefusesScriptAt, Tells, Ends, EndsAt, EndsAsText, EndsSoon, KeepsBefore, TellsMemory, question_of, shown}
 
 -- an input past the limit has that fault
 pub too_long : (known : Option (List ℕ)) → IsLonger known 1048576 → RefusesScriptAt known (faults.Script (record { line = 0; kind = TooLong }))
@@ -66,6 +72,7 @@ module _ (form : Form) (limits : Limits) (text : List ℕ) (old new : Option (Li
   ends command input (Err (faults.Race fault)) p none e = elim e [ ]
   ends command input (Err (faults.Explore fault)) p none e = elim e [ ]
   ends command input (Err (faults.Explain fault)) p none e = elim e [ ]
+  ends command input (Err (faults.Draw fault)) p none e = elim e [ ]
   ends command input (Err (faults.Whatif fault)) p none e = elim e [ ]
   ends command input (Err (faults.Prompt fault)) p none e = elim e [ ]
   ends command input (Err faults.ReadFault) p none e = elim e [ ]
@@ -73,10 +80,15 @@ module _ (form : Form) (limits : Limits) (text : List ℕ) (old new : Option (Li
   ends command input (Err (faults.Refused act)) p none e = elim e [ ]
   ends command input (Err faults.OutOfMemory) p none e = elim e [ ]
 
-  pub ends_draw : (why : Option ℕ) (known : Option (List ℕ)) (m : Machine) (r : Result (Unit {0}) Fault) → IsBenchAt limits known m →
-      text ≡ drawn why m → EndsAsText text r old new → EndsAt (Draw why) form limits known r old new
-  ends_draw why None m r k is e = tt
-  ends_draw why (Some input) m r k is e = ends (Draw why) input r (m, k, is) refl e
+  pub ends_draw : (drawing : Drawing) (known : Option (List ℕ)) (m : Machine) (consoles : Texts) (r : Result (Unit {0}) Fault) → IsRunAt limits known m consoles →
+      IsPicture m consoles (view_of drawing) text → EndsAsText text r old new → EndsAt (Draw drawing) form limits known r old new
+  ends_draw drawing None m consoles r k is e = tt
+  ends_draw drawing (Some input) m consoles r k is e = ends (Draw drawing) input r (m, consoles, k, is) refl e
+
+  pub ends_page : (known : Option (List ℕ)) (m : Machine) (consoles : Texts) (r : Result (Unit {0}) Fault) → IsRunAt limits known m consoles →
+      text ≡ page_of m consoles → EndsAsText text r old new → EndsAt Page form limits known r old new
+  ends_page None m consoles r k is e = tt
+  ends_page (Some input) m consoles r k is e = ends Page input r (m, consoles, k, is) refl e
 
   pub ends_explain : (question : Question) (known : Option (List ℕ)) (m : Machine) (r : Result (Unit {0}) Fault) → IsBenchAt limits known m →
       IsAnswer m (question_of question) text → EndsAsText text r old new → EndsAt (Explain question) form limits known r old new
@@ -114,6 +126,7 @@ module _ (form : Form) (limits : Limits) (text : List ℕ) (old new : Option (Li
   keeps_before (Err (faults.Race fault)) e = elim e [ ]
   keeps_before (Err (faults.Explore fault)) e = elim e [ ]
   keeps_before (Err (faults.Explain fault)) e = elim e [ ]
+  keeps_before (Err (faults.Draw fault)) e = elim e [ ]
   keeps_before (Err (faults.Whatif fault)) e = elim e [ ]
   keeps_before (Err (faults.Prompt fault)) e = elim e [ ]
   keeps_before (Err faults.ReadFault) e = elim e [ ]
@@ -133,6 +146,7 @@ module _ (form : Form) (limits : Limits) (text : List ℕ) (old new : Option (Li
   tells_memory (Err (faults.Race fault)) e = elim e [ ]
   tells_memory (Err (faults.Explore fault)) e = elim e [ ]
   tells_memory (Err (faults.Explain fault)) e = elim e [ ]
+  tells_memory (Err (faults.Draw fault)) e = elim e [ ]
   tells_memory (Err (faults.Whatif fault)) e = elim e [ ]
   tells_memory (Err (faults.Prompt fault)) e = elim e [ ]
   tells_memory (Err faults.ReadFault) e = elim e [ ]
@@ -153,6 +167,7 @@ module _ (form : Form) (limits : Limits) (text : List ℕ) (old new : Option (Li
   fails_not (Err (faults.Race fault)) before after e same = elim e [ ]
   fails_not (Err (faults.Explore fault)) before after e same = elim e [ ]
   fails_not (Err (faults.Explain fault)) before after e same = elim e [ ]
+  fails_not (Err (faults.Draw fault)) before after e same = elim e [ ]
   fails_not (Err (faults.Whatif fault)) before after e same = elim e [ ]
   fails_not (Err (faults.Prompt fault)) before after e same = elim e [ ]
   fails_not (Err faults.ReadFault) before after e same = elim e [ ]
@@ -178,6 +193,7 @@ cause_ends command form limits input faults.Differs old cause before = absurd be
 cause_ends command form limits input (faults.Race f) old cause before = (cause, keeps_same old)
 cause_ends command form limits input (faults.Explore f) old cause before = (cause, keeps_same old)
 cause_ends command form limits input (faults.Explain f) old cause before = (cause, keeps_same old)
+cause_ends command form limits input (faults.Draw f) old cause before = (cause, keeps_same old)
 cause_ends command form limits input (faults.Whatif f) old cause before = (cause, keeps_same old)
 cause_ends command form limits input faults.ReadFault old cause before = (cause, keeps_same old)
 cause_ends command form limits input faults.OutOfMemory old cause before = (cause, keeps_same old)
@@ -193,6 +209,20 @@ module _ (form : Form) (limits : Limits) (known old : Option (List ℕ)) where
       go : (known : Option (List ℕ)) → RefusesBenchAt known fault → EndsAt (Explain question) form limits known (Err fault) old old
       go None cause = tt
       go (Some input) cause = cause_ends (Explain question) form limits input fault old (inl cause) before
+
+  pub refused_draw : (drawing : Drawing) (fault : Fault) → RefusesBenchAt known fault → IsUnwritten fault → EndsAt (Draw drawing) form limits known (Err fault) old old
+  refused_draw drawing fault cause before = go known cause
+    where
+      go : (known : Option (List ℕ)) → RefusesBenchAt known fault → EndsAt (Draw drawing) form limits known (Err fault) old old
+      go None cause = tt
+      go (Some input) cause = cause_ends (Draw drawing) form limits input fault old (inl cause) before
+
+  pub refused_page : (fault : Fault) → RefusesBenchAt known fault → IsUnwritten fault → EndsAt Page form limits known (Err fault) old old
+  refused_page fault cause before = go known cause
+    where
+      go : (known : Option (List ℕ)) → RefusesBenchAt known fault → EndsAt Page form limits known (Err fault) old old
+      go None cause = tt
+      go (Some input) cause = cause_ends Page form limits input fault old cause before
 
   pub refused_whatif : (question : Question) (change : Option ℕ) (fault : Fault) → RefusesBenchAt known fault → IsUnwritten fault →
       EndsAt (Whatif question change) form limits known (Err fault) old old
@@ -213,6 +243,20 @@ module _ (form : Form) (limits : Limits) (known old : Option (List ℕ)) where
       cause input asks.NoWord is refused = (inr (m, is, refused), keeps_same old)
 
       go : (known : Option (List ℕ)) → IsBenchAt limits known m → EndsAt (Explain question) form limits known (Err (fault_of_ask fault)) old old
+      go None is = tt
+      go (Some input) is = cause input fault is refused
+
+  pub asked_draw : (drawing : Drawing) (m : Machine) (fault : DrawFault) → IsBenchAt limits known m → RefusesPicture m (view_of drawing).of fault →
+      EndsAt (Draw drawing) form limits known (Err (fault_of_draw fault)) old old
+  asked_draw drawing m fault is refused = go known is
+    where
+      cause : (input : List ℕ) (fault : DrawFault) → IsBenchOf limits input m → RefusesPicture m (view_of drawing).of fault →
+          Ends (Draw drawing) form limits input (Err (fault_of_draw fault)) old old
+      cause input draws.OutOfMemory is refused = (inl ((λ e. tt), (λ e. tt)), keeps_same old)
+      cause input draws.NoSuchNode is refused = (inr (m, is, refused), keeps_same old)
+      cause input draws.NoWord is refused = (inr (m, is, refused), keeps_same old)
+
+      go : (known : Option (List ℕ)) → IsBenchAt limits known m → EndsAt (Draw drawing) form limits known (Err (fault_of_draw fault)) old old
       go None is = tt
       go (Some input) is = cause input fault is refused
 

@@ -2,7 +2,7 @@
 use Rattle.std.proofs.Common.{◌≢◌, ℕ, Bool, true, false, List, Option, refl, subst}
 use Rattle.bench_core.specs.Limits.{Limits}
 use Rattle.command_line.specs.declared.chosen.Subcommand.{Subcommand}
-use Rattle.command_line.specs.declared.chosen.Subcommand.TheVariants.{Play, Race, Load, Import, Explore, Step, Draw, Explain, Whatif}
+use Rattle.command_line.specs.declared.chosen.Subcommand.TheVariants.{Play, Race, Load, Import, Explore, Step, Draw, Page, Explain, Whatif}
 use Rattle.program_core.specs.Program.{Announces, TellsAside, TellsBeside, TellsInput, TellsOn}
 
 pub announces : (command : Subcommand) (old new : Option (List ℕ)) → command ≢ Step → TellsInput command old new → Announces true command old new
@@ -12,7 +12,8 @@ announces (Load strict) old new other told = told
 announces (Import check lines lenient) old new other told = told
 announces (Explore about lost again states outcome) old new other told = told
 announces Step old new other told = absurd (other refl)
-announces (Draw why) old new other told = told
+announces (Draw drawing) old new other told = told
+announces Page old new other told = told
 announces (Explain question) old new other told = told
 announces (Whatif question change) old new other told = told
 
@@ -28,7 +29,8 @@ beside false limits command input old middle new same told = plain command told
     plain (Explore about lost again states outcome) t =
         subst (λ (o : Option (List ℕ)). TellsAside (Explore about lost again states outcome) input o new) same t
     plain Step t = subst (λ (o : Option (List ℕ)). TellsAside Step input o new) same t
-    plain (Draw why) t = subst (λ (o : Option (List ℕ)). TellsAside (Draw why) input o new) same t
+    plain (Draw drawing) t = subst (λ (o : Option (List ℕ)). TellsAside (Draw drawing) input o new) same t
+    plain Page t = subst (λ (o : Option (List ℕ)). TellsAside Page input o new) same t
     plain (Explain question) t = subst (λ (o : Option (List ℕ)). TellsAside (Explain question) input o new) same t
     plain (Whatif question change) t = subst (λ (o : Option (List ℕ)). TellsAside (Whatif question change) input o new) same t
 beside true limits (Play strict) input old middle new announced told = (middle, announced, told)
@@ -37,6 +39,7 @@ beside true limits (Load strict) input old middle new announced told = (middle, 
 beside true limits (Import check lines lenient) input old middle new announced told = (middle, announced, told)
 beside true limits (Explore about lost again states outcome) input old middle new announced told = (middle, announced, told)
 beside true limits Step input old middle new same told = subst (λ (o : Option (List ℕ)). TellsBeside true limits Step input o new) same told
-beside true limits (Draw why) input old middle new announced told = (middle, announced, told)
+beside true limits (Draw drawing) input old middle new announced told = (middle, announced, told)
+beside true limits Page input old middle new announced told = (middle, announced, told)
 beside true limits (Explain question) input old middle new announced told = (middle, announced, told)
 beside true limits (Whatif question change) input old middle new announced told = (middle, announced, told)

@@ -5,3 +5,4 @@ pub mod Whatifs
 pub mod Texts
 pub mod Imported
 pub mod Shown
+pub mod Views

@@ -4,13 +4,15 @@ use Rattle.std.specs.Io.KnownBytes.{Appends, IsAtEnd, Keeps}
 use Rattle.json.specs.Word.{is_space}
 use Rattle.bench_core.specs.Limits.{Limits}
 use Rattle.bench_core.specs.Machine.{Machine}
+use Rattle.bench_core.specs.NameList.{Texts}
 use Rattle.explain_core.specs.Questions.{IsAnswer, Refuses as RefusesQuestion}
 use Rattle.explain_core.specs.declared.ask_fault.AskFault.{AskFault}
 use Rattle.explain_core.specs.declared.ask_fault.AskFault.TheVariants as asks
 use Rattle.explain_core.specs.declared.asking.Question.{Question}
 use Rattle.command_line.specs.declared.chosen.Question.{Question as Chosen}
-use Rattle.picture_core.specs.Pictures.{picture}
-use Rattle.picture_core.specs.Standings.{painted_of}
+use Rattle.picture_core.specs.Views.{IsPicture, Refuses as RefusesPicture}
+use Rattle.picture_core.specs.declared.draw_fault.DrawFault.TheVariants as draws
+use Rattle.picture_core.specs.declared.view.View.{View}
 use Rattle.grammar_core.specs.Grammar.{script_of}
 use Rattle.run_core.specs.Report.{history_text, played, report_of}
 use Rattle.transcript_core.specs.Actors.{free_consoles}
@@ -23,7 +25,6 @@ use Rattle.script_core.specs.declared.play_fault.PlayFault.{PlayFault}
 use Rattle.script_core.specs.declared.play_fault.PlayFault.TheVariants as plays
 use Rattle.recording_core.specs.Sessions.{IsSession, Refuses}
 use Rattle.recording_core.specs.declared.session_fault.SessionFault.TheVariants as sessions
-use Rattle.svg_core.specs.Trees.{text_of}
 use Rattle.stream_core.specs.Steps.{Steps}
 use Rattle.clap.specs.declared.error.kind.ErrorKind.{ErrorKind}
 use Rattle.clap.specs.declared.error.kind.ErrorKind.TheVariants as refusals
@@ -40,6 +41,7 @@ use Rattle.prompt_core.specs.Signs.{Shows}
 use Rattle.prompt_core.specs.declared.prompt_fault.PromptFault.TheVariants as prompts
 use Rattle.command_line.specs.Help.{language}
 use Rattle.program_core.specs.Races.{IsRaceOf, RefusesRaceOf}
+use Rattle.program_core.specs.Views.{page_of, view_of}
 use Rattle.program_core.specs.Imported.{PrintsImport, RefusesImport, TellsLeft}
 use Rattle.program_core.specs.Texts.{session_text}
 use Rattle.program_core.specs.Shown.{PrintsBench, PrintsPlay, refused_act, refused_line}
@@ -51,7 +53,7 @@ use Rattle.command_line.specs.declared.chosen.Choice.{Choice}
 use Rattle.command_line.specs.declared.chosen.Form.{Form}
 use Rattle.command_line.specs.declared.chosen.Form.TheVariants.{Script as ScriptForm, Session}
 use Rattle.command_line.specs.declared.chosen.Subcommand.{Subcommand}
-use Rattle.command_line.specs.declared.chosen.Subcommand.TheVariants.{Play, Race, Load, Import, Explore, Step, Draw, Explain, Whatif}
+use Rattle.command_line.specs.declared.chosen.Subcommand.TheVariants.{Play, Race, Load, Import, Explore, Step, Draw, Page, Explain, Whatif}
 use Rattle.program_core.specs.declared.fault.Fault.{Fault}
 use Rattle.program_core.specs.declared.fault.Fault.TheVariants as faults
 use Rattle.program_core.specs.declared.fault.Refused.{Refused}
@@ -77,6 +79,9 @@ fault_status (faults.Explore reports.OutOfMemory) = 4
 fault_status (faults.Explain asks.NoSuchNode) = 1
 fault_status (faults.Explain asks.NoWord) = 1
 fault_status (faults.Explain asks.OutOfMemory) = 4
+fault_status (faults.Draw draws.NoSuchNode) = 1
+fault_status (faults.Draw draws.NoWord) = 1
+fault_status (faults.Draw draws.OutOfMemory) = 4
 fault_status (faults.Whatif whatifs.NoSuchNode) = 1
 fault_status (faults.Whatif whatifs.NoWord) = 1
 fault_status (faults.Whatif (whatifs.NoSuchChange changes)) = 1
@@ -163,6 +168,14 @@ IsBenchBy false limits input bench = IsOkAnd (script_of input) (λ s. bench ≡ 
 abbrev pub IsBenchOf : Limits → List ℕ → Machine → Type 0
 IsBenchOf limits input bench = IsBenchBy (is_for_session input) limits input bench
 
+-- it gives this bench with these names of its consoles: those of the script; or names that are free, as a session has none
+abbrev pub IsRunBy : Bool → Limits → List ℕ → Machine → Texts → Type 0
+IsRunBy true limits input bench consoles = IsSession input bench × (consoles ≡ free_consoles bench)
+IsRunBy false limits input bench consoles = IsOkAnd (script_of input) (λ s. (bench ≡ played limits s) × (consoles ≡ s.cast.consoles))
+
+abbrev pub IsRunOf : Limits → List ℕ → Machine → Texts → Type 0
+IsRunOf limits input bench consoles = IsRunBy (is_for_session input) limits input bench consoles
+
 -- the input gives no bench: where it is to be a session, no session is read of it, and else no script
 abbrev pub RefusesBench : List ℕ → Fault → Type 0
 RefusesBench input fault =
@@ -176,6 +189,11 @@ question_of chosen = record { node = chosen.node; topic = chosen.topic; key = ch
 abbrev pub RefusesAsked : Limits → Chosen → List ℕ → Fault → Type 0
 RefusesAsked limits question input (faults.Explain fault) = (m : Machine) × IsBenchOf limits input m × RefusesQuestion m (question_of question) fault
 RefusesAsked limits question input fault = ⊥
+
+-- it is not drawn
+abbrev pub RefusesDrawn : Limits → View → List ℕ → Fault → Type 0
+RefusesDrawn limits view input (faults.Draw fault) = (m : Machine) × IsBenchOf limits input m × RefusesPicture m view.of fault
+RefusesDrawn limits view input fault = ⊥
 
 -- of that bench it isn't told what would have made a difference
 abbrev pub RefusesChanges : Limits → Chosen → Option ℕ → List ℕ → Fault → Type 0
@@ -198,7 +216,8 @@ IsCauseOf (Import check lines lenient) form limits input fault = RefusesImport c
 IsCauseOf (Explore about lost again states outcome) form limits input fault =
     RefusesBench input fault ⊎ RefusesNetwork limits (asked_of about lost again states) outcome input fault
 IsCauseOf Step form limits input fault = ⊥
-IsCauseOf (Draw why) form limits input fault = RefusesBench input fault
+IsCauseOf (Draw drawing) form limits input fault = RefusesBench input fault ⊎ RefusesDrawn limits (view_of drawing) input fault
+IsCauseOf Page form limits input fault = RefusesBench input fault
 IsCauseOf (Explain question) form limits input fault = RefusesBench input fault ⊎ RefusesAsked limits question input fault
 IsCauseOf (Whatif question change) form limits input fault = RefusesBench input fault ⊎ RefusesChanges limits question change input fault
 
@@ -216,6 +235,10 @@ abbrev pub IsBenchAt : Limits → Option (List ℕ) → Machine → Type 0
 IsBenchAt limits None bench = ⊤
 IsBenchAt limits (Some input) bench = IsBenchOf limits input bench
 
+abbrev pub IsRunAt : Limits → Option (List ℕ) → Machine → Texts → Type 0
+IsRunAt limits None bench consoles = ⊤
+IsRunAt limits (Some input) bench consoles = IsRunOf limits input bench consoles
+
 abbrev pub RefusesBenchAt : Option (List ℕ) → Fault → Type 0
 RefusesBenchAt None fault = ⊤
 RefusesBenchAt (Some input) fault = RefusesBench input fault
@@ -224,10 +247,6 @@ RefusesBenchAt (Some input) fault = RefusesBench input fault
 abbrev pub shown : Form → List ℕ → Machine → List ℕ
 shown Session report bench = session_text bench
 shown _ report bench = report
-
--- the text of a bench's picture, with the future of a step painted
-abbrev pub drawn : Option ℕ → Machine → List ℕ
-drawn why bench = text_of (picture bench (painted_of bench.state why))
 
 -- the text is what the subcommand prints of the input: of a script's bench, of a session's, of either's, or at a prompt; there too it is the report of a script without faults
 abbrev pub Prints : Subcommand → Form → Limits → List ℕ → List ℕ → Type 0
@@ -239,7 +258,9 @@ Prints (Explore about lost again states outcome) form limits input text =
     (m : Machine) × IsBenchOf limits input m × TellsExplored m (asked_of about lost again states) outcome text
 Prints Step form limits input text =
     (text ≡ printed language limits input) × IfOk (script_of input) (λ s. text ≡ report_of limits s)
-Prints (Draw why) form limits input text = (m : Machine) × IsBenchOf limits input m × (text ≡ drawn why m)
+Prints (Draw drawing) form limits input text =
+    (m : Machine) × (consoles : Texts) × IsRunOf limits input m consoles × IsPicture m consoles (view_of drawing) text
+Prints Page form limits input text = (m : Machine) × (consoles : Texts) × IsRunOf limits input m consoles × (text ≡ page_of m consoles)
 Prints (Explain question) form limits input text = (m : Machine) × IsBenchOf limits input m × IsAnswer m (question_of question) text
 Prints (Whatif question change) form limits input text = (m : Machine) × IsBenchOf limits input m × TellsWhatif m question change text
 
@@ -251,7 +272,8 @@ PrintsApart Race form limits input text = ⊥
 PrintsApart (Load strict) form limits input text = ⊥
 PrintsApart (Explore about lost again states outcome) form limits input text = ⊥
 PrintsApart Step form limits input text = ⊥
-PrintsApart (Draw why) form limits input text = ⊥
+PrintsApart (Draw drawing) form limits input text = ⊥
+PrintsApart Page form limits input text = ⊥
 PrintsApart (Explain question) form limits input text = ⊥
 PrintsApart (Whatif question change) form limits input text = ⊥
 
@@ -269,7 +291,8 @@ HasPrompt (Load strict) = ⊥
 HasPrompt (Import check lines lenient) = ⊥
 HasPrompt (Explore about lost again states outcome) = ⊥
 HasPrompt Step = ⊤
-HasPrompt (Draw why) = ⊥
+HasPrompt (Draw drawing) = ⊥
+HasPrompt Page = ⊥
 HasPrompt (Explain question) = ⊥
 HasPrompt (Whatif question change) = ⊥
 
@@ -281,7 +304,8 @@ Tells (Import check lines lenient) limits input refused = refused ≡ None
 Tells Race limits input refused = refused ≡ None
 Tells (Explore about lost again states outcome) limits input refused = refused ≡ None
 Tells Step limits input refused = refused ≡ None
-Tells (Draw why) limits input refused = refused ≡ None
+Tells (Draw drawing) limits input refused = refused ≡ None
+Tells Page limits input refused = refused ≡ None
 Tells (Explain question) limits input refused = refused ≡ None
 Tells (Whatif question change) limits input refused = refused ≡ None
 
@@ -327,7 +351,8 @@ EndsSoon Race limits result input left old new = ⊤
 EndsSoon (Load strict) limits result input left old new = ⊤
 EndsSoon (Import check lines lenient) limits result input left old new = ⊤
 EndsSoon (Explore about lost again states outcome) limits result input left old new = ⊤
-EndsSoon (Draw why) limits result input left old new = ⊤
+EndsSoon (Draw drawing) limits result input left old new = ⊤
+EndsSoon Page limits result input left old new = ⊤
 EndsSoon (Explain question) limits result input left old new = ⊤
 EndsSoon (Whatif question change) limits result input left old new = ⊤
 
@@ -346,6 +371,7 @@ TellsMemory (faults.Script fault) = fault.kind ≢ kinds.OutOfMemory
 TellsMemory (faults.Session fault) = fault ≢ sessions.OutOfMemory
 TellsMemory (faults.Race fault) = fault ≢ races.OutOfMemory
 TellsMemory (faults.Explain fault) = fault ≢ asks.OutOfMemory
+TellsMemory (faults.Draw fault) = fault ≢ draws.OutOfMemory
 TellsMemory (faults.Import fault) = fault.kind ≢ imports.OutOfMemory
 TellsMemory (faults.Whatif fault) = fault ≢ whatifs.OutOfMemory
 TellsMemory (faults.Transcript fault) = fault ≢ transcripts.OutOfMemory
@@ -365,7 +391,8 @@ TellsAside Race input old new = Keeps old new
 TellsAside (Load strict) input old new = Keeps old new
 TellsAside (Explore about lost again states outcome) input old new = TellsWalked old new
 TellsAside Step input old new = Keeps old new
-TellsAside (Draw why) input old new = Keeps old new
+TellsAside (Draw drawing) input old new = Keeps old new
+TellsAside Page input old new = Keeps old new
 TellsAside (Explain question) input old new = Keeps old new
 TellsAside (Whatif question change) input old new = TellsTried old new
 
@@ -377,7 +404,8 @@ word_of (Load strict) = codes "load"
 word_of (Import check lines lenient) = codes "import"
 word_of (Explore about lost again states outcome) = codes "explore"
 word_of Step = codes "step"
-word_of (Draw why) = codes "draw"
+word_of (Draw drawing) = codes "draw"
+word_of Page = codes "page"
 word_of (Explain question) = codes "explain"
 word_of (Whatif question change) = codes "whatif"
 

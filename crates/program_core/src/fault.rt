@@ -5,6 +5,7 @@ ghost use Rattle.program_core.specs.Program.{fault_status};
 use explain_core::AskFault;
 use explore_report::ReportFault;
 use import_core::ImportFault;
+use picture_core::DrawFault;
 use prompt_core::PromptFault;
 use script_core::{PlayFault, ScriptFault};
 use session_core::SessionFault;
@@ -58,6 +59,9 @@ pub enum Fault {
     /// Why nothing is explained. Want of memory is never in it.
     #[error("explain: {0}")]
     Explain(AskFault),
+    /// Why nothing is drawn. Want of memory is never in it.
+    #[error("draw: {0}")]
+    Draw(DrawFault),
     /// Why it isn't told what would have made a difference. Want of memory is never in it.
     #[error("whatif: {0}")]
     Whatif(WhatifFault),
@@ -95,6 +99,7 @@ impl Fault {
             Fault::Explore(ReportFault::TooManyStates { .. } | ReportFault::MayFill) => 1,
             Fault::Explore(ReportFault::NoSuchOutcome { .. }) => 1,
             Fault::Explain(AskFault::NoSuchNode | AskFault::NoWord) => 1,
+            Fault::Draw(DrawFault::NoSuchNode | DrawFault::NoWord) => 1,
             Fault::Whatif(WhatifFault::NoSuchNode | WhatifFault::NoWord) => 1,
             Fault::Whatif(WhatifFault::NoSuchChange { .. }) => 1,
             Fault::Transcript(TranscriptFault::NoScript { .. }) => 1,
@@ -105,6 +110,7 @@ impl Fault {
             Fault::ReadFault | Fault::WriteFault { .. } => 3,
             Fault::Race(RaceFault::OutOfMemory) | Fault::OutOfMemory => 4,
             Fault::Explain(AskFault::OutOfMemory) => 4,
+            Fault::Draw(DrawFault::OutOfMemory) => 4,
             Fault::Whatif(WhatifFault::OutOfMemory) => 4,
             Fault::Explore(ReportFault::OutOfMemory) => 4,
             Fault::Transcript(TranscriptFault::OutOfMemory) => 4,
@@ -140,6 +146,20 @@ impl From<AskFault> for Fault {
         match fault {
             AskFault::OutOfMemory => Fault::OutOfMemory,
             AskFault::NoSuchNode | AskFault::NoWord => Fault::Explain(fault),
+        }
+    }
+}
+
+impl From<DrawFault> for Fault {
+    ghost use Rattle.std.specs.Prelude.{◌≡◌};
+    ghost use Rattle.program_core.specs.Views.{fault_of_draw};
+
+    ghost from_gives = { λ fault given. given ≡ fault_of_draw fault };
+
+    fn from(fault: DrawFault) -> Fault {
+        match fault {
+            DrawFault::OutOfMemory => Fault::OutOfMemory,
+            DrawFault::NoSuchNode | DrawFault::NoWord => Fault::Draw(fault),
         }
     }
 }

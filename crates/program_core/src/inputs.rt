@@ -1,22 +1,35 @@
-//! The bench that an input gives which is a script or a session. The first byte that isn't space tells which.
+//! The run that an input gives which is a script or a session. The first byte that isn't space tells which.
 ghost use Rattle.std.specs.Prelude.{◌≡◌, ◌≢◌, ◌<◌, length, Err, IfOk, IfErr, IsOkAnd, OnOk};
 ghost use Rattle.std.specs.Io.KnownBytes.{IsAtEnd};
 ghost use Rattle.json.specs.Word.{is_space};
 ghost use Rattle.grammar_core.specs.Grammar.{script_of};
+ghost use Rattle.grammar_core.specs.Scripts.{plain_script};
 ghost use Rattle.run_core.specs.Report.{played};
+ghost use Rattle.transcript_core.specs.Actors.{free_consoles};
 ghost use Rattle.recording_core.specs.Sessions.{IsSession};
-ghost use Rattle.program_core.specs.Program.{FailsAs, IsBenchAt, IsUnwritten, RefusesBenchAt, RefusesScript, RefusesSession, TellsMemory, begins_session};
+ghost use Rattle.program_core.specs.Program.{FailsAs, IsBenchAt, IsRunAt, IsUnwritten, RefusesBenchAt, RefusesScript, RefusesSession, TellsMemory, begins_session};
 
 use crate::aside::Aside;
 use crate::fault::Fault;
 use crate::texts::LONGEST_SESSION;
-use bench_core::{Bench, Limits};
-use script_core::{FaultKind, InputFault, Played, Steps, parse_script, run_script};
+use bench_core::{Bench, Limits, TextSet};
+use payload_core::Oom;
+use script_core::{
+    FaultKind, InputFault, Played, Script, Steps, console_names, parse_script, run_script,
+};
 use session_core::{SessionFault, load};
 use std::alloc::{Allocator, Global};
 use std::io::Read;
 use std::sync::ledger::Ledger;
 use stream_core::read_front;
+use transcript_core::free_consoles;
+
+/// A bench, and the names of its consoles.
+#[derive(Drop)]
+pub struct Run<'a, B: Allocator> {
+    pub bench: Bench<'a, B>,
+    pub consoles: TextSet<&'a B>,
+}
 
 /// What JSON takes as white space.
 fn is_space(byte: u8) -> bool
@@ -37,13 +50,25 @@ fn begins_session(bytes: &[u8]) -> bool
     false
 }
 
-/// The bench of the session that the bytes are.
+/// The run of a bench whose consoles have no names: they get free ones.
+fn unnamed_run<'a, B: Allocator>(alloc: &'a B, bench: Bench<'a, B>) -> Result<Run<'a, B>, Oom>
+    ensures bench { IfOk result (λ run. run.bench ≡ bench.entry) }
+    ensures consoles { IfOk result (λ run. run.consoles ≡ free_consoles bench.entry) }
+{
+    let Ok(consoles) = free_consoles(alloc, &bench) else {
+        drop(bench);
+        return Err(Oom);
+    };
+    Ok(Run { bench, consoles })
+}
+
+/// The run of the session that the bytes are.
 fn load_bytes<'a, B: Allocator>(
     heap: Global,
     alloc: &'a B,
     bytes: &[u8],
-) -> Result<Bench<'a, B>, Fault>
-    ensures session { IfOk result (IsSession bytes.now) }
+) -> Result<Run<'a, B>, Fault>
+    ensures session { IfOk result (λ run. IsSession bytes.now run.bench × (run.consoles ≡ free_consoles run.bench)) }
     ensures cause { IfErr result (RefusesSession bytes.now) }
     ensures long { 67108864 < length bytes.now → result ≡ Err Fault.LongSession }
     ensures memory { IfErr result TellsMemory }
@@ -53,21 +78,44 @@ fn load_bytes<'a, B: Allocator>(
     if bytes.len() > LONGEST_SESSION {
         return Err(Fault::LongSession);
     }
-    match load(heap, alloc, bytes) {
-        Ok(bench) => Ok(bench),
-        Err(SessionFault::OutOfMemory) => Err(Fault::OutOfMemory),
-        Err(fault) => Err(Fault::Session(fault)),
+    let bench = match load(heap, alloc, bytes) {
+        Ok(bench) => bench,
+        Err(SessionFault::OutOfMemory) => return Err(Fault::OutOfMemory),
+        Err(fault) => return Err(Fault::Session(fault)),
+    };
+    match unnamed_run(alloc, bench) {
+        Ok(run) => Ok(run),
+        Err(_) => Err(Fault::OutOfMemory),
     }
 }
 
-/// The bench on which the script was played that the bytes spell.
+/// The run of a script that is played.
+fn played_run<'a, B: Allocator>(
+    alloc: &'a B,
+    script: &Script<&'a B>,
+    limits: Limits,
+) -> Result<Run<'a, B>, Oom>
+    ensures bench { IfOk result (λ run. run.bench ≡ played limits (plain_script script.now)) }
+    ensures consoles { IfOk result (λ run. run.consoles ≡ (plain_script script.now).cast.consoles) }
+{
+    let consoles = console_names(script).try_copy()?;
+    let Ok(played) = run_script(alloc, script, limits) else {
+        drop(consoles);
+        return Err(Oom);
+    };
+    let Played { bench, report } = played;
+    drop(report);
+    Ok(Run { bench, consoles })
+}
+
+/// The run of the script that the bytes spell.
 fn play_bytes<'a, B: Allocator>(
     alloc: &'a B,
     bytes: &[u8],
     limits: Limits,
     aside: &mut Aside,
-) -> Result<Bench<'a, B>, Fault>
-    ensures played { IfOk result (λ bench. IsOkAnd (script_of bytes.now) (λ script. bench ≡ played limits script)) }
+) -> Result<Run<'a, B>, Fault>
+    ensures played { IfOk result (λ run. IsOkAnd (script_of bytes.now) (λ script. (run.bench ≡ played limits script) × (run.consoles ≡ script.cast.consoles))) }
     ensures cause { IfErr result (RefusesScript bytes.now) }
     ensures memory { IfErr result TellsMemory }
     ensures unwritten { IfErr result IsUnwritten }
@@ -81,27 +129,24 @@ fn play_bytes<'a, B: Allocator>(
             return Err(Fault::Script(fault));
         }
     };
-    let played = run_script(alloc, &script, limits);
+    let run = played_run(alloc, &script, limits);
     drop(script);
-    match played {
-        Ok(Played { bench, report }) => {
-            drop(report);
-            Ok(bench)
-        }
+    match run {
+        Ok(run) => Ok(run),
         Err(_) => Err(Fault::OutOfMemory),
     }
 }
 
-/// The bench of the session that the input is, or that on which its script was played.
-pub fn read_bench<'a, B: Allocator, R: Read, L: Ledger>(
+/// The run of the session that the input is, or of its script.
+pub fn read_run<'a, B: Allocator, R: Read, L: Ledger>(
     heap: Global,
     alloc: &'a B,
     reader: &mut R,
     limits: Limits,
     aside: &mut Aside,
     steps: &mut Steps<L>,
-) -> Result<Bench<'a, B>, Fault>
-    ensures bench { IfOk result (IsBenchAt limits (R.remaining reader.old)) }
+) -> Result<Run<'a, B>, Fault>
+    ensures run { IfOk result (λ run. IsRunAt limits (R.remaining reader.old) run.bench run.consoles) }
     ensures cause { IfErr result (RefusesBenchAt (R.remaining reader.old)) }
     ensures memory { IfErr result TellsMemory }
     ensures unwritten { IfErr result IsUnwritten }
@@ -118,4 +163,35 @@ pub fn read_bench<'a, B: Allocator, R: Read, L: Ledger>(
         return load_bytes(heap, alloc, &input);
     }
     play_bytes(alloc, &input, limits, aside)
+}
+
+/// The bench of a run alone.
+fn bench_of<'a, B: Allocator>(run: Run<'a, B>) -> Bench<'a, B>
+    ensures { result ≡ run.entry.bench }
+{
+    let Run { bench, consoles } = run;
+    drop(consoles);
+    bench
+}
+
+/// The bench of the run that the input gives.
+pub fn read_bench<'a, B: Allocator, R: Read, L: Ledger>(
+    heap: Global,
+    alloc: &'a B,
+    reader: &mut R,
+    limits: Limits,
+    aside: &mut Aside,
+    steps: &mut Steps<L>,
+) -> Result<Bench<'a, B>, Fault>
+    ensures bench { IfOk result (IsBenchAt limits (R.remaining reader.old)) }
+    ensures cause { IfErr result (RefusesBenchAt (R.remaining reader.old)) }
+    ensures memory { IfErr result TellsMemory }
+    ensures unwritten { IfErr result IsUnwritten }
+    ensures read { OnOk result (IsAtEnd (R.remaining reader.new)) }
+    ensures failed { FailsAs result steps.old steps.new }
+{
+    match read_run(heap, alloc, reader, limits, aside, steps) {
+        Ok(run) => Ok(bench_of(run)),
+        Err(fault) => Err(fault),
+    }
 }

@@ -12,6 +12,8 @@ use crate::exploring::{asked_of, tell_explored};
 use crate::fault::Fault;
 use crate::importing::import_events;
 use crate::inputs::read_bench;
+use crate::pages::page_run;
+use crate::pictures::draw_run;
 use crate::racing::race_script;
 use crate::shown::{load_shown, play_shown};
 use crate::stepping::step_script;
@@ -20,7 +22,6 @@ use crate::whatifs::tell_whatif;
 use bench_core::Limits;
 use command_line::{About, Choice, Form, Subcommand};
 use explain_core::{Question, explain_asked};
-use picture_core::draw;
 use progress_core::Teller;
 use script_core::{Steps, report_history, write_out};
 use std::alloc::{Allocator, Global};
@@ -96,33 +97,6 @@ fn race_session<B: Allocator + Sync, T: Threads + Wait + Sync, R: Read, W: Write
     let text = session_line(heap, &bench);
     drop(bench);
     let Ok(text) = text else {
-        return Err(Fault::OutOfMemory);
-    };
-    print(writer, &text)
-}
-
-/// A picture of the bench that the input gives.
-fn draw_bench<B: Allocator, R: Read, W: Write, L: Ledger>(
-    heap: Global,
-    alloc: &B,
-    reader: &mut R,
-    writer: &mut W,
-    limits: Limits,
-    form: Form,
-    why: Option<u64>,
-    aside: &mut Aside,
-    steps: &mut Steps<L>,
-) -> Result<(), Fault>
-    ensures ends { EndsAt (subcommands.Draw why) form limits (R.remaining reader.old) result (W.contents writer.old) (W.contents writer.new) }
-    ensures read { OnOk result (IsAtEnd (R.remaining reader.new)) }
-    ensures unwritten { IfErr result (λ fault. KeepsBefore fault (W.contents writer.old) (W.contents writer.new)) }
-    ensures memory { IfErr result TellsMemory }
-    ensures failed { FailsAs result steps.old steps.new }
-{
-    let bench = read_bench(heap, alloc, reader, limits, aside, steps)?;
-    let picture = draw(alloc, &bench, why);
-    drop(bench);
-    let Ok(text) = picture else {
         return Err(Fault::OutOfMemory);
     };
     print(writer, &text)
@@ -312,8 +286,11 @@ pub fn answer<
             heap, alloc, reader, writer, limits, form, about, lost, again, states, outcome, aside,
             steps, clock, errors,
         ),
-        (Subcommand::Draw { why }, form) => draw_bench(
-            heap, alloc, reader, writer, limits, form, why, aside, steps,
+        (Subcommand::Draw(drawing), form) => draw_run(
+            heap, alloc, reader, writer, limits, form, drawing, aside, steps,
+        ),
+        (Subcommand::Page, form) => page_run(
+            heap, alloc, reader, writer, limits, form, aside, steps,
         ),
         (Subcommand::Explain(question), form) => explain_bench(
             heap, alloc, reader, writer, limits, form, question, aside, steps,

@@ -60,7 +60,8 @@ fn word_of(command: Subcommand<'_>) -> &'static str
         Subcommand::Import { .. } => "import",
         Subcommand::Explore { .. } => "explore",
         Subcommand::Step => "step",
-        Subcommand::Draw { .. } => "draw",
+        Subcommand::Draw(_) => "draw",
+        Subcommand::Page => "page",
         Subcommand::Explain(_) => "explain",
         Subcommand::Whatif { .. } => "whatif",
     }

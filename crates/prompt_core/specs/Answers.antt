@@ -15,9 +15,7 @@ use Rattle.grammar_core.specs.declared.fault.FaultKind.TheVariants.{BadName, Out
 use Rattle.recording_core.specs.Format.{session}
 use Rattle.explain_core.specs.Explanations.{explanation}
 use Rattle.whatif_report.specs.Texts.{whatif_text}
-use Rattle.svg_core.specs.Trees.{text_of}
-use Rattle.picture_core.specs.Pictures.{picture}
-use Rattle.picture_core.specs.Standings.{painted_of}
+use Rattle.picture_core.specs.Views.{whole_picture}
 use Rattle.transcript_core.specs.Scripts.{cast_of, script_text}
 use Rattle.transcript_core.specs.Steps.{bench_steps}
 use Rattle.prompt_core.specs.Sent.{sent_text}
@@ -66,16 +64,15 @@ changes number None words = fault_line number NoNodes
 changes number (Some m) (node ∷ topic ∷ key ∷ []) = changes_at number m (number_in m.names node) topic key
 changes number (Some m) words = fault_line number WrongCount
 
--- the picture of the bench, once the nodes are named
-abbrev pub drawn : ℕ → Option Machine → List ℕ
-drawn number None = fault_line number NoNodes
-drawn number (Some m) = text_of (picture m (painted_of m.state None)) ++ codes "\n"
-
 -- a text of the run, by the names of its consoles, once the nodes are named
 abbrev pub told_by : (Machine → Texts → List ℕ) → ℕ → Option Cast → Option Machine → List ℕ
 told_by text number None machine = fault_line number NoNodes
 told_by text number (Some cast) None = fault_line number NoNodes
 told_by text number (Some cast) (Some m) = text m cast.consoles
+
+-- the picture of the run
+abbrev pub drawn : ℕ → Option Cast → Option Machine → List ℕ
+drawn number cast machine = told_by (λ m consoles. whole_picture m consoles ++ codes "\n") number cast machine
 
 -- the recorded calls, each above what it printed
 abbrev pub told_steps : ℕ → Option Cast → Option Machine → List ℕ
@@ -109,7 +106,7 @@ alone number (word ∷ words) text = fault_line number WrongCount
 -- what these words tell of the run
 unfoldable pub run_word : Prompt → ℕ → FaultKind → List ℕ → Texts → List ℕ
 run_word prompt number kind first words =
-    if bytes_eq first (codes ":draw") then alone number words (drawn number prompt.machine)
+    if bytes_eq first (codes ":draw") then alone number words (drawn number prompt.cast prompt.machine)
     else (if bytes_eq first (codes ":steps") then alone number words (told_steps number prompt.cast prompt.machine)
     else (if bytes_eq first (codes ":script") then alone number words (told_script number prompt.cast prompt.machine)
     else (if bytes_eq first (codes ":sent") then told_sent number prompt.machine words

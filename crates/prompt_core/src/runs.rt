@@ -8,24 +8,27 @@ use crate::sent::put_sent;
 use bench_core::Bench;
 use grammar_core::{FaultKind, LONGEST_SCRIPT};
 use payload_core::Oom;
-use picture_core::draw;
+use picture_core::draw_whole;
 use run_core::Prompt;
 use std::alloc::Allocator;
 use transcript_core::{bench_steps, calls_text};
 
-/// The picture of the bench, once the nodes are named.
+/// The picture of the run, once the nodes are named.
 fn put_picture<'a, B: Allocator>(
     prompt: &Prompt<'a, B>,
     alloc: &'a B,
     answer: &mut Vec<u8, &'a B>,
     number: u64,
 ) -> Result<(), Oom>
-    ensures { OnOk result (answer.new.items ≡ answer.old.items ++ drawn number prompt.now.machine) }
+    ensures { OnOk result (answer.new.items ≡ answer.old.items ++ drawn number prompt.now.cast prompt.now.machine) }
 {
+    let Some(consoles) = prompt.consoles() else {
+        return put_fault(alloc, answer, number, FaultKind::NoNodes);
+    };
     let Some(bench) = prompt.bench() else {
         return put_fault(alloc, answer, number, FaultKind::NoNodes);
     };
-    let picture = draw(alloc, bench, None)?;
+    let picture = draw_whole(alloc, bench, consoles)?;
     answer.extend_from_slice(&picture)?;
     put_text(answer, "\n")
 }
@@ -38,7 +41,7 @@ fn put_draw<'a, B: Allocator>(
     number: u64,
     words: &[&str],
 ) -> Result<(), Oom>
-    ensures { OnOk result (answer.new.items ≡ answer.old.items ++ alone number (map (λ word. word.now) words.now) (drawn number prompt.now.machine)) }
+    ensures { OnOk result (answer.new.items ≡ answer.old.items ++ alone number (map (λ word. word.now) words.now) (drawn number prompt.now.cast prompt.now.machine)) }
 {
     let [_, ..] = words else {
         return put_picture(prompt, alloc, answer, number);

@@ -1,4 +1,4 @@
--- What the reply to an act says of the node that it changed, and the refusals of `why`.
+-- What an unwind prints, and the refusals of `why`.
 use Rattle.std.proofs.Common.{◌≡◌, ℕ, false, List, [], ◌++◌, length, Some, None}
 use Rattle.std.proofs.Common.{sym, ap, ◌∙◌, append-nil, append_assoc, true≢false}
 use Rattle.bench_core.specs.declared.fault.Fault.{Fault}
@@ -10,9 +10,9 @@ use Rattle.bench_core.specs.Acts.{Action}
 use Rattle.bench_core.specs.Machine.{Machine, State, config_of, with_state, calls}
 use Rattle.bench_core.specs.Unwinds.{Unexplained, Gone, Unmade, undos}
 use Rattle.diff_core.specs.Rows.{Row}
-use Rattle.report_core.specs.Rows.{reply_line, diff_text, change_lines, row_lines, undone_lines}
-use Rattle.report_core.specs.Shown.{changed, rows_of, rows_to}
-use Rattle.report_core.specs.ActTexts.{reply_of, after_act, act_text, change_text, unless_gone, unless_none, is_want, unwound, after_unwind, unwind_text}
+use Rattle.report_core.specs.Rows.{reply_line, undone_lines}
+use Rattle.report_core.specs.Shown.{rows_to}
+use Rattle.report_core.specs.ActTexts.{unless_gone, unless_none, is_want, unwound, after_unwind, unwind_text}
 use Rattle.report_core.specs.ActTexts.{changes_from, changes_text}
 
 -- the refusal of `why` is that of the undo
@@ -20,14 +20,6 @@ pub gone_text : (s : State) (n : ℕ) (fault : Fault) (text : List ℕ) → Unex
     reply_line (Refused fault) ≡ unless_gone s n (find_number s.remaining n) text
 gone_text s n _ text (Gone fault none refused) other = ap reply_line (sym refused) ∙ ap (λ o. unless_gone s n o text) (sym none)
 gone_text s n _ text (Unmade k found) other = absurd (true≢false other)
-
--- nothing changed
-pub refused_text : (m : Machine) (actor : ℕ) (act : Action) (reply : Reply) (fault : Fault) → reply ≡ reply_of m actor act →
-    reply ≡ Refused fault → act_text m actor act ≡ reply_line reply
-unfolding act_text change_text changed rows_of diff_text change_lines row_lines
-refused_text m actor act reply fault said is =
-    ap (λ r. reply_line r ++ change_text m (after_act m actor act) (changed m.state.remaining actor r)) (sym said ∙ is)
-    ∙ append-nil (reply_line (Refused fault)) ∙ ap reply_line (sym is)
 
 -- an unwind
 

@@ -1,4 +1,4 @@
--- What the inverse of a step tells of the report of an act.
+-- What the inverse of a step tells of the rows that an act changes.
 use Rattle.std.proofs.Common.{◌≡◌, ◌==◌, ◌||◌, ℕ, ◌+◌, Bool, true, false, nat_lt, if◌then◌else◌, List, [], ◌∷◌, ◌++◌, length, slice_get, Option, Some, None}
 use Rattle.std.proofs.Common.{Result, Ok, Err, IfOk, refl, sym, ap, ap₂, ◌∙◌, subst, subst₂, not, option_map, append_assoc}
 use Rattle.std.proofs.lemmas.Bool.{eq-eqb}
@@ -30,10 +30,11 @@ use Rattle.diff_core.specs.Rows.{Row}
 use Rattle.diff_core.specs.Diffs.{alone}
 use Rattle.diff_core.specs.Sorting.{online_of}
 use Rattle.diff_core.specs.Laws.{DiffLaw, OneListLaw, OnlineLaw}
-use Rattle.report_core.specs.Rows.{reply_line, diff_text, change_lines}
+use Rattle.report_core.specs.Rows.{diff_text}
 use Rattle.report_core.specs.Shown.{changed, node_in, node_of, node_of_step, rows_in, rows_at, rows_of}
+use Rattle.report_core.specs.ActRows.{acted_text, changed_by, left_by, joined_by}
 use Rattle.report_core.specs.ActTexts.{reply_of, after_act, act_text, change_text}
-use Rattle.report_core.specs.StepDiffs.{Differ, without_step, TellsInverse, TellsStep, asked_undo, TellsUndo, PutsStep}
+use Rattle.report_core.specs.StepDiffs.{Differ, without_step, TellsInverse, TellsStep, asked_undo, TellsUndo}
 
 -- an inverse
 
@@ -179,13 +180,28 @@ asked m actor (Back node) k = go (nat_lt node (length m.names)) refl (last_of m.
         of_undo m (Back node) n k (ap (λ b. if b then last_of m.state.remaining node else None) is ∙ last) h
     go false is o last h = absurd (cc)
 
--- what the report of an act says of the rows
-change_is : (old new : Machine) (node : ℕ) (left joined : List Row) → Differ (rows_at old node) (rows_at new node) left joined →
-    change_text old new (Some node) ≡ change_lines old.names left joined
-unfolding change_text rows_of diff_text
-change_is old new node left joined differ =
-    ap (λ l. change_lines old.names l (alone (rows_at new node) (rows_at old node))) (sym differ.left_is)
-    ∙ ap (change_lines old.names left) (sym differ.joined_is)
+-- what is told of an act, and what is so
+
+-- the rows that an act changes, where it gets this reply
+pub changes_are : (m : Machine) (actor : ℕ) (act : Action) (r : Reply) (node : ℕ) (left joined : List Row) → reply_of m actor act ≡ r →
+    changed m.state.remaining actor r ≡ Some node → Differ (rows_at m node) (rows_at (after_act m actor act) node) left joined →
+    (left ≡ left_by m actor act) × (joined ≡ joined_by m actor act)
+unfolding left_by joined_by rows_of
+changes_are m actor act r node left joined is at differ =
+    let same : changed_by m actor act ≡ Some node = ap (changed m.state.remaining actor) is ∙ at in (
+      differ.left_is ∙ sym (ap (λ o. alone (rows_of m o) (rows_of (after_act m actor act) o)) same),
+      differ.joined_is ∙ sym (ap (λ o. alone (rows_of (after_act m actor act) o) (rows_of m o)) same),
+    )
+
+-- a refused act changes none
+pub refused_rows : (m : Machine) (actor : ℕ) (act : Action) (fault : Fault) (left joined : List Row) → reply_of m actor act ≡ Refused fault →
+    left ≡ [] → joined ≡ [] → (left ≡ left_by m actor act) × (joined ≡ joined_by m actor act)
+unfolding left_by joined_by rows_of changed
+refused_rows m actor act fault left joined is no_left no_joined =
+    let same : changed_by m actor act ≡ None = ap (changed m.state.remaining actor) is in (
+      no_left ∙ sym (ap (λ o. alone (rows_of m o) (rows_of (after_act m actor act) o)) same),
+      no_joined ∙ sym (ap (λ o. alone (rows_of (after_act m actor act) o) (rows_of m o)) same),
+    )
 
 -- rows are those of the remaining steps
 pub same_rows : (m : Machine) (s : State) (ks : List Kept) (node : ℕ) → s.remaining ≡ ks →
@@ -198,23 +214,37 @@ after_undo : (m : Machine) (actor : ℕ) (act : Action) (k : ℕ) → reply_of m
 unfolding reply_of
 after_undo m actor act k made = ap (remaining_after m.state.remaining actor act) made
 
--- an undo: the rows that its step gave leave, and those that it took come back
-pub undone_text : (m : Machine) (actor : ℕ) (act : Action) (k : ℕ) (left joined : List Row) → reply_of m actor act ≡ Undone k →
-    TellsUndo m act left joined → act_text m actor act ≡ reply_line (Undone k) ++ change_lines m.names joined left
-unfolding act_text changed node_of_step after_act
-undone_text m actor act k left joined made tells =
+-- an undo that is made: the step remained, what it gave leaves, and what it took comes back
+pub record Undoes (m : Machine) (actor : ℕ) (act : Action) (k : ℕ) (left joined : List Row) : Type 0 where
+  pub asked : asked_undo m act ≡ Some k
+  pub step : Kept
+  pub found : find_number m.state.remaining k ≡ Some step
+  pub differ : Differ (rows_at m step.node) (rows_at (after_act m actor act) step.node) joined left
+
+pub undoes : (m : Machine) (actor : ℕ) (act : Action) (k : ℕ) (left joined : List Row) → reply_of m actor act ≡ Undone k →
+    TellsUndo m act left joined → Undoes m actor act k left joined
+unfolding after_act
+undoes m actor act k left joined made tells =
     let was = asked m actor act k made in
     let parts = undone_parts m.state k was.1 in
     let differ = tells k was.0 parts.1 parts.0.0 parts.0.1 in
     let out : (call (config_of m) m.state actor act).remaining ≡ without m.state.remaining k = after_undo m actor act k made in
     let rows : rows_at (after_act m actor act) parts.0.0.node ≡ rows_at (without_step m k) parts.0.0.node =
-    same_rows m (call (config_of m) m.state actor act) (without m.state.remaining k) parts.0.0.node out in
-    let back : Differ (rows_at m parts.0.0.node) (rows_at (after_act m actor act) parts.0.0.node) joined left =
-    subst (λ rows. Differ (rows_at m parts.0.0.node) rows joined left) (sym rows)
-    (record { left_is = differ.joined_is; joined_is = differ.left_is }) in
-    ap (λ r. reply_line r ++ change_text m (after_act m actor act) (changed m.state.remaining actor r)) made
-    ∙ ap (λ o. reply_line (Undone k) ++ change_text m (after_act m actor act) (option_map (λ (k : Kept). k.node) o)) parts.0.1
-    ∙ ap (λ t. reply_line (Undone k) ++ t) (change_is m (after_act m actor act) parts.0.0.node joined left back)
+    same_rows m (call (config_of m) m.state actor act) (without m.state.remaining k) parts.0.0.node out in record {
+      asked = was.0;
+      step = parts.0.0;
+      found = parts.0.1;
+      differ = subst (λ rows. Differ (rows_at m parts.0.0.node) rows joined left) (sym rows)
+          (record { left_is = differ.joined_is; joined_is = differ.left_is });
+    }
+
+-- an undo: the rows that its step gave leave, and those that it took come back
+pub undone_rows : (m : Machine) (actor : ℕ) (act : Action) (k : ℕ) (left joined : List Row) → reply_of m actor act ≡ Undone k →
+    TellsUndo m act left joined → (joined ≡ left_by m actor act) × (left ≡ joined_by m actor act)
+unfolding changed node_of_step after_act
+undone_rows m actor act k left joined made tells =
+    let u = undoes m actor act k left joined made tells in
+    changes_are m actor act (Undone k) u.step.node joined left made (ap (option_map (λ (k : Kept). k.node)) u.found) u.differ
 
 -- a step that is taken: it is the last, nothing follows from it, and without it all is as before
 
@@ -257,11 +287,10 @@ newest m new actor act k reached took now =
     (record { step = r; found = found; of = refl; free = free.1; out = out })
 
 -- the rows that it took leave, and those that it gave join
-pub taken_text : (m new : Machine) (actor : ℕ) (act : Action) (k : ℕ) (left joined : List Row) → reply_of m actor act ≡ Taken k →
-    new ≡ after_act m actor act → Newest m actor k new → TellsStep new k left joined →
-    act_text m actor act ≡ reply_line (Taken k) ++ change_lines m.names left joined
-unfolding act_text changed after_act
-taken_text m new actor act k left joined took now newest tells =
+pub taken_differ : (m new : Machine) (actor : ℕ) (act : Action) (k : ℕ) (left joined : List Row) → new ≡ after_act m actor act →
+    Newest m actor k new → TellsStep new k left joined → Differ (rows_at m actor) (rows_at (after_act m actor act) actor) left joined
+unfolding after_act
+taken_differ m new actor act k left joined now newest tells =
     let told = tells newest.step newest.found in
     let here : Differ (rows_at (without_step new k) actor) (rows_at new actor) left joined =
     subst (λ n. Differ (rows_at (without_step new k) n) (rows_at new n) left joined) newest.of told in
@@ -271,39 +300,27 @@ taken_text m new actor act k left joined took now newest tells =
     ap (λ (x : Machine). rows_at (without_step x k) actor) is
     ∙ same_rows m (record { history = s.history; remaining = without s.remaining k }) m.state.remaining actor
     (ap (λ (x : Machine). without x.state.remaining k) (sym is) ∙ newest.out) in
-    let differ : Differ (rows_at m actor) (rows_at (with_state m s) actor) left joined =
-    subst₂ (λ first (x : Machine). Differ first (rows_at x actor) left joined) before is here in
-    ap (λ r. reply_line r ++ change_text m (with_state m s) (changed m.state.remaining actor r)) took
-    ∙ ap (λ t. reply_line (Taken k) ++ t) (change_is m (with_state m s) actor left joined differ)
+    subst₂ (λ first (x : Machine). Differ first (rows_at x actor) left joined) before is here
 
--- the text of an act, put together
+pub taken_rows : (m new : Machine) (actor : ℕ) (act : Action) (k : ℕ) (left joined : List Row) → reply_of m actor act ≡ Taken k →
+    new ≡ after_act m actor act → Newest m actor k new → TellsStep new k left joined →
+    (left ≡ left_by m actor act) × (joined ≡ joined_by m actor act)
+unfolding changed
+taken_rows m new actor act k left joined took now newest tells =
+    changes_are m actor act (Taken k) actor left joined took refl (taken_differ m new actor act k left joined now newest tells)
 
-wrote : (start middle end lines text : List ℕ) (reply : Reply) → middle ≡ start ++ reply_line reply → end ≡ middle ++ lines →
-    text ≡ reply_line reply ++ lines → end ≡ start ++ text
-wrote start middle end lines text reply first second is =
-    second ∙ ap (λ t. t ++ lines) first ∙ append_assoc start (reply_line reply) lines ∙ ap (λ t. start ++ t) (sym is)
+-- the text of an act
 
-names_stay : (m new : Machine) (actor : ℕ) (act : Action) → new ≡ after_act m actor act → new.names ≡ m.names
+as_act : (m : Machine) (actor : ℕ) (act : Action) →
+    acted_text m.names (reply_of m actor act) (left_by m actor act) (joined_by m actor act) ≡ act_text m actor act
+unfolding acted_text act_text change_text diff_text left_by joined_by
+as_act m actor act = refl
+
+pub acted_is : (m new : Machine) (actor : ℕ) (act : Action) (reply : Reply) (left joined : List Row) → new ≡ after_act m actor act →
+    reply ≡ reply_of m actor act → left ≡ left_by m actor act → joined ≡ joined_by m actor act →
+    acted_text new.names reply left joined ≡ act_text m actor act
 unfolding after_act
-names_stay m new actor act now = ap (λ (m : Machine). m.names) now
-
-pub taken_done : (m new : Machine) (actor : ℕ) (act : Action) (k : ℕ) (reply : Reply) (start middle end : List ℕ) →
-    IsReached (config_of m) m.state → reply ≡ reply_of m actor act → reply ≡ Taken k → new ≡ after_act m actor act →
-    middle ≡ start ++ reply_line reply → PutsStep new k middle end → end ≡ start ++ act_text m actor act
-taken_done m new actor act k reply start middle end reached said is now first puts =
-    let took : reply_of m actor act ≡ Taken k = sym said ∙ is in
-    let lines : change_lines new.names puts.0 puts.1 ≡ change_lines m.names puts.0 puts.1 =
-    ap (λ names. change_lines names puts.0 puts.1) (names_stay m new actor act now) in
-    wrote start middle end (change_lines m.names puts.0 puts.1) (act_text m actor act) (Taken k) (first ∙ ap (λ r. start ++ reply_line r) is)
-    (puts.3 ∙ ap (λ t. middle ++ t) lines)
-    (taken_text m new actor act k puts.0 puts.1 took now (newest m new actor act k reached took now) puts.2)
-
-pub undone_done : (m new : Machine) (actor : ℕ) (act : Action) (k : ℕ) (reply : Reply) (left joined : List Row) (start middle end : List ℕ) →
-    reply ≡ reply_of m actor act → reply ≡ Undone k → new ≡ after_act m actor act → TellsUndo m act left joined →
-    middle ≡ start ++ reply_line reply → end ≡ middle ++ change_lines new.names joined left → end ≡ start ++ act_text m actor act
-undone_done m new actor act k reply left joined start middle end said is now tells first second =
-    let lines : change_lines new.names joined left ≡ change_lines m.names joined left =
-    ap (λ names. change_lines names joined left) (names_stay m new actor act now) in
-    wrote start middle end (change_lines m.names joined left) (act_text m actor act) (Undone k) (first ∙ ap (λ r. start ++ reply_line r) is)
-    (second ∙ ap (λ t. middle ++ t) lines)
-    (undone_text m actor act k left joined (sym said ∙ is) tells)
+acted_is m new actor act reply left joined now said gone come =
+    ap (λ (x : Machine). acted_text x.names reply left joined) now ∙ ap (λ r. acted_text m.names r left joined) said
+    ∙ ap (λ l. acted_text m.names (reply_of m actor act) l joined) gone
+    ∙ ap (acted_text m.names (reply_of m actor act) (left_by m actor act)) come ∙ as_act m actor act

@@ -5,4 +5,5 @@ pub mod StepDiffs
 pub mod MovedRows
 pub mod Dots
 pub mod ActTexts
+pub mod ActRows
 pub mod Laws

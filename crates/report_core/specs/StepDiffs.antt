@@ -38,7 +38,3 @@ asked_undo m (Back node) = if nat_lt node (length m.names) then last_of m.state.
 -- by the step whose undo a call asks for, where nothing follows from it
 abbrev pub TellsUndo : Machine → Action → List Row → List Row → Type 0
 TellsUndo m act left joined = (n : ℕ) → asked_undo m act ≡ Some n → first_consequence m.state.remaining n ≡ None → TellsStep m n left joined
-
--- the lines of what a step changed stand behind a text
-abbrev pub PutsStep : Machine → ℕ → List ℕ → List ℕ → Type 0
-PutsStep m n old new = (left joined : List Row) × TellsStep m n left joined × (new ≡ old ++ change_lines m.names left joined)

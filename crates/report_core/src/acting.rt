@@ -1,16 +1,25 @@
-//! An act on a bench, and what is printed of it.
+//! An act on a bench: what it came to, and what is printed of it.
 ghost use Rattle.std.specs.Prelude.{◌≡◌, ◌++◌, OnOk, IfOk, None, string_bytes};
 ghost use Rattle.journal_core.specs.Journals.{first_consequence};
 ghost use Rattle.bench_core.specs.Acts.{plain_act};
-ghost use Rattle.report_core.specs.StepDiffs.{PutsStep, TellsUndo};
-ghost use Rattle.report_core.specs.ActTexts.{reply_of, after_act, act_text};
+ghost use Rattle.report_core.specs.StepDiffs.{TellsUndo};
+ghost use Rattle.report_core.specs.ActRows.{acted_text, joined_by, left_by};
+ghost use Rattle.report_core.specs.ActTexts.{act_text, after_act, reply_of};
 
 use crate::rows::{put_lines, put_reply};
-use crate::step_diff::{step_diff, undo_diff};
-use bench_core::{Act, Bench, Fault, Reply};
+use crate::step_diffs::{none, step_diff, undo_diff};
+use bench_core::{Act, Bench, Fault, Names, Reply};
 use diff_core::Diff;
 use payload_core::Oom;
 use std::alloc::Allocator;
+
+/// What an act came to.
+#[derive(Drop)]
+pub struct Acted<A: Allocator> {
+    pub reply: Reply,
+    /// How the online list changed of the node whose step was taken, or taken back.
+    pub change: Diff<A>,
+}
 
 /// The reply to an act, unless it is want of memory.
 #[tactic(auto, unfolding(crate::specs::ActTexts::reply_of, crate::specs::ActTexts::after_act))]
@@ -29,59 +38,70 @@ pub fn answer<'a, B: Allocator>(
     Ok(reply)
 }
 
-/// What the last step changed of its node's online list.
-fn put_step<'a, B: Allocator>(
-    text: &mut String<&'a B>,
-    bench: &Bench<'a, B>,
-    number: u64,
-    alloc: &'a B,
-) -> Result<(), Oom>
-    requires { first_consequence bench.now.state.remaining number ≡ None }
-    ensures { OnOk result (PutsStep bench.now number (string_bytes text.old) (string_bytes text.new)) }
+/// The way back of a change.
+fn turned<A: Allocator>(change: Diff<A>) -> Diff<A>
+    ensures left { result.left.items ≡ change.joined.items }
+    ensures joined { result.joined.items ≡ change.left.items }
 {
-    let diff = step_diff(bench, number, alloc)?;
-    put_lines(text, bench.names(), &diff.left, &diff.joined)
-}
-
-/// An act, whose undo of a step will change the online list of its node so: its reply, and how that list changed.
-#[tactic(auto, unfolding(crate::specs::ActTexts::act_text))]
-fn put_answer<'a, B: Allocator>(
-    text: &mut String<&'a B>,
-    bench: &mut Bench<'a, B>,
-    actor: u16,
-    act: &Act<&'a B>,
-    undone: &Diff<&'a B>,
-    alloc: &'a B,
-) -> Result<(), Oom>
-    requires { TellsUndo bench.old (plain_act act.now) undone.now.left.items undone.now.joined.items }
-    ensures bench { OnOk result (bench.new ≡ after_act bench.old actor (plain_act act.now)) }
-    ensures text { OnOk result (string_bytes text.new ≡ string_bytes text.old ++ act_text bench.old actor (plain_act act.now)) }
-{
-    bench.bench_law();
-    let reply = answer(bench, actor, act)?;
-    put_reply(text, reply)?;
-    match reply {
-        Reply::Taken(number) => put_step(text, bench, number, alloc),
-        Reply::Undone(_) => put_lines(text, bench.names(), &undone.joined, &undone.left),
-        Reply::Refused(_) => Ok(()),
+    Diff {
+        left: change.joined,
+        joined: change.left,
     }
 }
 
-/// An act: its reply, and how the online list of its node changed, which an undo tells before it is made.
-fn put_acted<'a, B: Allocator>(
-    text: &mut String<&'a B>,
+/// What an act comes to, whose undo of a step will change the online list of its node so.
+fn come_to<'a, B: Allocator>(
     bench: &mut Bench<'a, B>,
     actor: u16,
     act: &Act<&'a B>,
+    undone: Diff<&'a B>,
     alloc: &'a B,
-) -> Result<(), Oom>
+) -> Result<Acted<&'a B>, Oom>
+    requires { TellsUndo bench.old (plain_act act.now) undone.left.items undone.joined.items }
     ensures bench { OnOk result (bench.new ≡ after_act bench.old actor (plain_act act.now)) }
-    ensures text { OnOk result (string_bytes text.new ≡ string_bytes text.old ++ act_text bench.old actor (plain_act act.now)) }
+    ensures reply { IfOk result (λ acted. acted.reply ≡ reply_of bench.old actor (plain_act act.now)) }
+    ensures left { IfOk result (λ acted. acted.change.left.items ≡ left_by bench.old actor (plain_act act.now)) }
+    ensures joined { IfOk result (λ acted. acted.change.joined.items ≡ joined_by bench.old actor (plain_act act.now)) }
+{
+    bench.bench_law();
+    let reply = answer(bench, actor, act)?;
+    let change = match reply {
+        Reply::Taken(number) => step_diff(bench, number, alloc)?,
+        Reply::Undone(_) => turned(undone),
+        Reply::Refused(_) => none(alloc),
+    };
+    Ok(Acted { reply, change })
+}
+
+/// Asks an act, and tells what it came to: the reply, and how the online list changed of the node whose step was taken, or taken
+/// back. An undo tells that before it is made.
+pub fn ask<'a, B: Allocator>(
+    alloc: &'a B,
+    bench: &mut Bench<'a, B>,
+    actor: u16,
+    act: &Act<&'a B>,
+) -> Result<Acted<&'a B>, Oom>
+    ensures bench { OnOk result (bench.new ≡ after_act bench.old actor (plain_act act.now)) }
+    ensures reply { IfOk result (λ acted. acted.reply ≡ reply_of bench.old actor (plain_act act.now)) }
+    ensures left { IfOk result (λ acted. acted.change.left.items ≡ left_by bench.old actor (plain_act act.now)) }
+    ensures joined { IfOk result (λ acted. acted.change.joined.items ≡ joined_by bench.old actor (plain_act act.now)) }
 {
     let undone = undo_diff(bench, act, alloc)?;
-    let answer = put_answer(text, bench, actor, act, &undone, alloc);
-    drop(undone);
-    answer
+    come_to(bench, actor, act, undone, alloc)
+}
+
+/// The reply to an act, and the rows that left and joined the list of its node.
+#[tactic(auto, unfolding(crate::specs::ActRows::acted_text))]
+pub fn put_acted<A: Allocator, N: Allocator, R: Allocator>(
+    text: &mut String<A>,
+    names: &Names<N>,
+    acted: &Acted<R>,
+) -> Result<(), Oom>
+    ensures { OnOk result (string_bytes text.new ≡ string_bytes text.old ++
+        acted_text names.now acted.now.reply acted.now.change.left.items acted.now.change.joined.items) }
+{
+    put_reply(text, acted.reply)?;
+    put_lines(text, names, &acted.change.left, &acted.change.joined)
 }
 
 /// An act: its reply, and how the online list of its node changed.
@@ -95,5 +115,8 @@ pub fn act<'a, B: Allocator>(
     ensures bench { OnOk result (bench.new ≡ after_act bench.old actor (plain_act act.now)) }
     ensures text { OnOk result (string_bytes text.new ≡ string_bytes text.old ++ act_text bench.old actor (plain_act act.now)) }
 {
-    put_acted(text, bench, actor, act, alloc)
+    let acted = ask(alloc, bench, actor, act)?;
+    let put = put_acted(text, bench.names(), &acted);
+    drop(acted);
+    put
 }

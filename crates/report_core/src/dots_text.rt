@@ -11,7 +11,7 @@ use replica_core::{Replica, Status};
 use std::alloc::Allocator;
 
 /// The context clock of a name.
-fn clock_of<A: Allocator>(dots: &DotSet<A>, name: u16) -> u64
+pub fn clock_of<A: Allocator>(dots: &DotSet<A>, name: u16) -> u64
     requires name { name < 32 }
     requires valid { AreValid dots.now }
     ensures { result ≡ clock_of dots.now name }
@@ -21,7 +21,7 @@ fn clock_of<A: Allocator>(dots: &DotSet<A>, name: u16) -> u64
 }
 
 /// The cloud of a name.
-fn cloud_of<A: Allocator>(dots: &DotSet<A>, name: u16) -> &[u64]
+pub fn cloud_of<A: Allocator>(dots: &DotSet<A>, name: u16) -> &[u64]
     requires name { name < 32 }
     requires valid { AreValid dots.now }
     ensures { result.now ≡ cloud_of dots.now name }

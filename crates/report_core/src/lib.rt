@@ -2,7 +2,7 @@
 //!
 //! It stands on `bench_core` (the machine) and `diff_core` (online lists); it names the plain types of the crates below.
 //!
-//! `rows`, `step_text` and `dots_text` print what they are given. `step_diff` tells what a step changed, and `moved` what undos
+//! `rows`, `step_text` and `dots_text` print what they are given. `step_diffs` tells what a step changed, and `moved` what undos
 //! in turn changed, of the online lists; `shown` tells what a bench shows; and `acting` and `unwinding` change a bench and print
 //! what it answered, with what that changed. `laws` says what the numbers of the `dots` lines are.
 //!
@@ -16,13 +16,15 @@ pub mod laws;
 mod moved;
 mod rows;
 mod shown;
-mod step_diff;
+mod step_diffs;
 mod step_text;
 mod unwinding;
 
-pub use acting::act;
-pub use dots_text::put_dots;
+pub use acting::{Acted, act, answer, ask, put_acted};
+pub use dots_text::{clock_of, cloud_of, put_dots};
+pub use moved::node_of_step;
 pub use rows::{name_at, put_lines, put_rows};
 pub use shown::{node, show};
+pub use step_diffs::{asked_undo, step_diff, undo_diff};
 pub use step_text::{put_act, put_journal};
 pub use unwinding::{unwind, why};

@@ -12,7 +12,7 @@ ghost use Rattle.report_core.specs.ActTexts.{after_act};
 ghost use Rattle.report_core.specs.Shown.{node_of_step};
 
 use crate::acting::answer;
-use crate::step_diff::step_diff;
+use crate::step_diffs::step_diff;
 use bench_core::laws::unwind_law;
 use bench_core::{Act, Bench};
 use diff_core::laws::online_law;
@@ -101,7 +101,7 @@ fn add_at<'a, B: Allocator>(
 
 /// The node of a step, where it remains.
 #[tactic(auto, unfolding(crate::specs::Shown::node_of_step))]
-fn node_of_step<'a, B: Allocator>(bench: &Bench<'a, B>, number: u64) -> Option<u16>
+pub fn node_of_step<'a, B: Allocator>(bench: &Bench<'a, B>, number: u64) -> Option<u16>
     ensures { result ≡ node_of_step bench.now.state.remaining number }
 {
     match bench.remaining().find(number) {

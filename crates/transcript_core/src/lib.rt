@@ -16,8 +16,9 @@ mod run_lines;
 mod script;
 mod steps;
 
-pub use actors::free_consoles;
+pub use actors::{console_at, free_consoles};
 pub use fault::TranscriptFault;
+pub use lines::put_call;
 pub use refusals::{Refusal, first_in, first_refused};
 pub use run_lines::{put_nodes_line, put_step_line};
 pub use script::{calls_text, script_of_calls};

@@ -11,7 +11,7 @@ use std::alloc::Allocator;
 
 /// `NODE VERB ..`, `ACTOR undo NUMBER` or `ACTOR back NAME`.
 #[tactic(auto, unfolding(crate::specs::Scripts::call_line))]
-pub(crate) fn put_call<A: Allocator, N: Allocator, C: Allocator, W: Allocator>(
+pub fn put_call<A: Allocator, N: Allocator, C: Allocator, W: Allocator>(
     text: &mut String<A>,
     nodes: &Names<N>,
     consoles: &TextSet<C>,

@@ -9,6 +9,7 @@ use Rattle.command_line.proofs.line.chosen.Goals as goal
 pub returns-in_default-clause-err : goal.returns-in_default-clause-err
 returns-in_default-clause-err c =
     none_chosen c.args.name.now (λ option. first_value (found_of c.args.matches.now) option) c.question_of.result c.about_of.result c.question_of.ensures.none c.about_of.ensures.none
+    c.about_of.ensures.some
     c.in_default.ensures.none
 
 pub returns-in_default-form_of-clause-err : goal.returns-in_default-form_of-clause-err

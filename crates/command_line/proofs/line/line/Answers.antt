@@ -13,6 +13,7 @@ returns c =
     let fourth = c.in_ok-line-4.ensures ∙ ap (put explore_app) third in
     let fifth = c.in_ok-line-5.ensures.shape c.step_line.ensures.local ∙ ap₂ with_subcommand fourth (ap (λ (a : App). a.top) c.step_line.ensures.app) in
     let sixth = c.in_ok-line-6.ensures ∙ ap (put draw_app) fifth in
-    let seventh = c.in_ok-line-7.ensures ∙ ap (put explain_app) sixth in
-    let eighth = c.in_ok-line-8.ensures ∙ ap (put whatif_app) seventh in
-    IfOk-weaker c.with_import.result _ _ (λ r h. h ∙ ap (put import_app) eighth) c.with_import.ensures
+    let seventh = c.in_ok-line-7.ensures.shape c.page_line.ensures.local ∙ ap₂ with_subcommand sixth (ap (λ (a : App). a.top) c.page_line.ensures.app) in
+    let eighth = c.in_ok-line-8.ensures ∙ ap (put explain_app) seventh in
+    let ninth = c.in_ok-line-9.ensures ∙ ap (put whatif_app) eighth in
+    IfOk-weaker c.with_import.result _ _ (λ r h. h ∙ ap (put import_app) ninth) c.with_import.ensures

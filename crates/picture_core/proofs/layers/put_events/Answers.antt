@@ -1,22 +1,48 @@
-use Rattle.std.proofs.Common.{◌≡◌, Some, rules, arith}
-use Rattle.std.specs.Prelude.{slice_get}
-use Rattle.picture_core.proofs.Histories.{arrows_all, arrows_more, marks_all, marks_more}
+use Rattle.std.proofs.Common.{◌≡◌, ◌∙◌, ◌++◌, ◌<◌, Some, ap, arith, length, rules, string_bytes}
+use Rattle.std.specs.Prelude.{option_copied, slice_get}
+use Rattle.bench_core.specs.NameList.{Texts}
+use Rattle.svg_core.specs.Trees.{text_of}
+use Rattle.picture_core.specs.Rows.{message_of, row_of}
+use Rattle.picture_core.proofs.Changed.{names_stay}
+use Rattle.picture_core.proofs.Walks.{longest_all, longest_more, messages_all, messages_more, rows_all, rows_more, turns_all, turns_more}
 use Rattle.picture_core.proofs.layers.put_events.Goals as goal
 
 pub loop-place-preserved : goal.loop-place-preserved
 loop-place-preserved g c =
+    let m = c.loop-place.asked in
+    let next = c.put_event.new.asked in
     let events = c.args.history.now in
-    let event = c.unwrap-event.result.now in
-    let at : slice_get events c.loop-place.place ≡ Some event = search rules in
+    let i = c.loop-place.place in
+    let e = c.unwrap-event.result.now in
+    let steps = c.args.steps.now in
+    let range = c.args.range in
+    let consoles = c.args.consoles.now in
+    let of = option_copied c.args.of in
+    let nodes = length c.args.asked.now.names in
+    let old = c.loop-place.layers in
+    let new = c.put_event.new.layers in
+    let was = c.loop-place.invariant in
+    let is = c.in_ok-put_event.ensures in
+    let inside : i < length events = omega arith in
+    let at : slice_get events i ≡ Some e = search rules in
     record {
-      arrows = arrows_more _ _ _ _ events c.loop-place.place event _ _ _ (omega arith) c.loop-place.invariant.arrows at
-          c.in_ok-put_event.ensures.asked c.in_ok-put_event.ensures.arrow;
-      marks = marks_more _ _ _ _ events c.loop-place.place event _ _ _ (omega arith) c.loop-place.invariant.marks at
-          c.in_ok-put_event.ensures.asked c.in_ok-put_event.ensures.mark;
+      messages = messages_more nodes steps range m next events i e _ (string_bytes old.messages) (string_bytes new.messages) inside was.messages at is.asked
+          (is.messages ∙ ap (λ (names : Texts). string_bytes old.messages ++ text_of (message_of (length names) steps range m.state.remaining i e)) was.names);
+      rows = rows_more nodes steps range consoles m next events i e _ (string_bytes old.rows) (string_bytes new.rows) inside was.rows at is.asked
+          (is.rows ∙ ap (λ (names : Texts). string_bytes old.rows ++ text_of (row_of (length names) steps range consoles m i e)) was.names);
+      longest = longest_more range consoles m next events i e _ old.longest new.longest inside was.longest at is.asked is.longest;
+      turns = turns_more of m next events i e _ old.turns.items new.turns.items inside was.turns at is.asked is.turns;
+      names = names_stay m next e.actor e.act is.asked ∙ was.names;
     }
 
-pub returns-clause-arrows : goal.returns-clause-arrows
-returns-clause-arrows g c = arrows_all _ _ _ _ c.loop-place.place _ _ (omega arith) c.loop-place.invariant.arrows
+pub returns-clause-messages : goal.returns-clause-messages
+returns-clause-messages g c = messages_all _ _ _ c.loop-place.asked c.args.history.now c.loop-place.place _ _ (omega arith) c.loop-place.invariant.messages
 
-pub returns-clause-marks : goal.returns-clause-marks
-returns-clause-marks g c = marks_all _ _ _ _ c.loop-place.place _ _ (omega arith) c.loop-place.invariant.marks
+pub returns-clause-rows : goal.returns-clause-rows
+returns-clause-rows g c = rows_all _ _ _ _ c.loop-place.asked c.args.history.now c.loop-place.place _ _ (omega arith) c.loop-place.invariant.rows
+
+pub returns-clause-longest : goal.returns-clause-longest
+returns-clause-longest g c = longest_all _ _ c.loop-place.asked c.args.history.now c.loop-place.place _ _ (omega arith) c.loop-place.invariant.longest
+
+pub returns-clause-turns : goal.returns-clause-turns
+returns-clause-turns g c = turns_all _ c.loop-place.asked c.args.history.now c.loop-place.place _ _ (omega arith) c.loop-place.invariant.turns

@@ -1,14 +1,20 @@
-use Rattle.std.proofs.Common.{◌≡◌, ◌++◌, drop, string_bytes}
-use Rattle.journal_core.specs.Holdings.{kepts}
+use Rattle.std.proofs.Common.{◌≡◌, ◌++◌, drop, length, string_bytes}
+use Rattle.std.specs.Prelude.{option_copied}
 use Rattle.svg_core.specs.Trees.{text_of}
-use Rattle.picture_core.specs.Steps.{arrows_from, marks_from}
+use Rattle.picture_core.specs.Pictures.{turns_from}
+use Rattle.picture_core.specs.Rows.{longest_from, messages_from, rows_from}
 use Rattle.picture_core.proofs.layers.put_events.Given as goal
 
--- what was drawn so far, and then what is left
+-- what was drawn and noted so far, and then what is left
 abbrev pub invariant-loop-place : goal.invariant-loop-place
 invariant-loop-place g l = record {
-  arrows : string_bytes l.layers.arrows ++ text_of (arrows_from (kepts l.remaining.steps) l.painted l.asked (drop l.place l.history))
-      ≡ string_bytes l.fn.layers.arrows ++ text_of (arrows_from (kepts l.remaining.steps) l.painted l.fn.asked l.history);
-  marks : string_bytes l.layers.marks ++ text_of (marks_from (kepts l.remaining.steps) l.painted l.asked (drop l.place l.history))
-      ≡ string_bytes l.fn.layers.marks ++ text_of (marks_from (kepts l.remaining.steps) l.painted l.fn.asked l.history);
+  messages : string_bytes l.layers.messages ++ text_of (messages_from (length l.fn.asked.names) l.steps l.range l.asked l.place (drop l.place l.history))
+      ≡ string_bytes l.fn.layers.messages ++ text_of (messages_from (length l.fn.asked.names) l.steps l.range l.fn.asked 0 l.history);
+  rows : string_bytes l.layers.rows ++ text_of (rows_from (length l.fn.asked.names) l.steps l.range l.consoles l.asked l.place (drop l.place l.history))
+      ≡ string_bytes l.fn.layers.rows ++ text_of (rows_from (length l.fn.asked.names) l.steps l.range l.consoles l.fn.asked 0 l.history);
+  longest : longest_from l.range l.consoles l.asked l.place (drop l.place l.history) l.layers.longest
+      ≡ longest_from l.range l.consoles l.fn.asked 0 l.history l.fn.layers.longest;
+  turns : turns_from (option_copied l.of) l.asked l.place (drop l.place l.history) l.layers.turns.items
+      ≡ turns_from (option_copied l.of) l.fn.asked 0 l.history l.fn.layers.turns.items;
+  names : l.asked.names ≡ l.fn.asked.names;
 }

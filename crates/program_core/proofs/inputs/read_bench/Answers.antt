@@ -1,56 +1,6 @@
-use Rattle.std.proofs.Common.{◌≡◌, ◌<◌, ℕ, List, length, true, false, ap, sym, subst, ◌∙◌}
-use Rattle.std.specs.Io.KnownBytes.{IsAtEnd}
-use Rattle.stream_core.specs.Inputs.{IsFront}
-use Rattle.program_core.specs.Program.{begins_session}
-use Rattle.program_core.proofs.Fronts.{script_ends, script_gives, script_refuses, session_gives, session_refuses}
+use Rattle.program_core.proofs.Fronts.{bench_at}
 use Rattle.program_core.proofs.inputs.read_bench.Goals as goal
 
--- a session
-
-pub returns-then-begins_session-clause-bench : goal.returns-then-begins_session-clause-bench
-returns-then-begins_session-clause-bench g c =
-    let known = g.R.Read.remaining c.args.reader.now in
-    let bytes = c.deref-then-begins_session.result.now in
-    let front : IsFront known 67108865 bytes =
-    subst (λ (xs : List ℕ). IsFront known 67108865 xs) (sym c.deref-then-begins_session.ensures.value) c.in-Ok.ensures.front in
-    let begins : begins_session bytes ≡ true =
-    ap begins_session (c.deref-then-begins_session.ensures.value ∙ sym c.deref.ensures.value) ∙ sym c.begins_session.ensures ∙ c.if-begins_session.true in
-    session_gives c.args.limits bytes known c.load_bytes.result front begins c.load_bytes.ensures.long c.load_bytes.ensures.session
-
-pub returns-then-begins_session-clause-cause : goal.returns-then-begins_session-clause-cause
-returns-then-begins_session-clause-cause g c =
-    let known = g.R.Read.remaining c.args.reader.now in
-    let bytes = c.deref-then-begins_session.result.now in
-    let front : IsFront known 67108865 bytes =
-    subst (λ (xs : List ℕ). IsFront known 67108865 xs) (sym c.deref-then-begins_session.ensures.value) c.in-Ok.ensures.front in
-    let begins : begins_session bytes ≡ true =
-    ap begins_session (c.deref-then-begins_session.ensures.value ∙ sym c.deref.ensures.value) ∙ sym c.begins_session.ensures ∙ c.if-begins_session.true in
-    session_refuses bytes known c.load_bytes.result front begins c.load_bytes.ensures.long c.load_bytes.ensures.cause
-
--- a script
-
-pub returns-clause-bench : goal.returns-clause-bench
-returns-clause-bench g c =
-    let known = g.R.Read.remaining c.args.reader.now in
-    let bytes = c.deref-2.result.now in
-    let front : IsFront known 67108865 bytes =
-    subst (λ (xs : List ℕ). IsFront known 67108865 xs) (sym c.deref-2.ensures.value) c.in-Ok.ensures.front in
-    let begins : begins_session bytes ≡ false =
-    ap begins_session (c.deref-2.ensures.value ∙ sym c.deref.ensures.value) ∙ sym c.begins_session.ensures ∙ c.if-begins_session.false in
-    script_gives c.args.limits bytes known c.play_bytes.result front begins c.play_bytes.ensures.played
-
-pub returns-clause-cause : goal.returns-clause-cause
-returns-clause-cause g c =
-    let known = g.R.Read.remaining c.args.reader.now in
-    let bytes = c.deref-2.result.now in
-    let front : IsFront known 67108865 bytes =
-    subst (λ (xs : List ℕ). IsFront known 67108865 xs) (sym c.deref-2.ensures.value) c.in-Ok.ensures.front in
-    let begins : begins_session bytes ≡ false =
-    ap begins_session (c.deref-2.ensures.value ∙ sym c.deref.ensures.value) ∙ sym c.begins_session.ensures ∙ c.if-begins_session.false in
-    script_refuses bytes known c.play_bytes.result front begins c.play_bytes.ensures.cause
-
-pub returns-clause-read : goal.returns-clause-read
-returns-clause-read g c =
-    let end : length c.deref-2.result.now < 67108865 → IsAtEnd (g.R.Read.remaining c.read_front.new.reader) =
-    λ few. c.in-Ok.ensures.end (subst (λ (xs : List ℕ). length xs < 67108865) c.deref-2.ensures.value few) in
-    script_ends c.args.limits c.deref-2.result.now c.play_bytes.result (IsAtEnd (g.R.Read.remaining c.read_front.new.reader)) c.play_bytes.ensures.played end
+pub returns-in-Ok-clause-bench : goal.returns-in-Ok-clause-bench
+returns-in-Ok-clause-bench g c =
+    rw c.bench_of.ensures (bench_at c.args.limits (g.R.Read.remaining c.args.reader.now) c.in-Ok.run'.bench c.in-Ok.run'.consoles c.in-Ok.ensures.run)

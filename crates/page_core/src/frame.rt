@@ -1,0 +1,28 @@
+//! What stands between the parts of a page.
+
+/// Before the style. The digests of the policy are those of the script, of the style and of the picture's, so no other is taken.
+pub const HEAD: &str = r#"<!doctype html>
+<html lang="en">
+<meta charset="utf-8">
+<meta http-equiv="Content-Security-Policy" content="default-src 'none'; script-src 'sha256-fDwicMp3Co/ABZqQ61zof/eyEN8W/DcYLKhu7CQPuak='; style-src 'sha256-0TmtUFZliBTntiJi8yUSVpSjJhZSYJlIS7ZVt53dh6E=' 'sha256-q4MnRjbjrnzgSyy6+iBKwnSXtEkaPMSShdTCfpUVpwk='; base-uri 'none'; form-action 'none'">
+<meta name="viewport" content="width=device-width,initial-scale=1">
+<title>presence_bench</title>
+<style>"#;
+
+/// Between the style and the body.
+pub const BODY_BEGINS: &str = "</style>\n";
+
+/// Between the body and the still picture.
+pub const STILL_BEGINS: &str = "<noscript>";
+
+/// Between the still picture and the report.
+pub const REPORT_BEGINS: &str = "<pre>";
+
+/// Between the report and the data.
+pub const RUN_BEGINS: &str = "</pre></noscript>\n<script type=\"application/json\" id=\"run\">";
+
+/// Between the data and the script.
+pub const SCRIPT_BEGINS: &str = "</script>\n<script>";
+
+/// Behind the script.
+pub const TAIL: &str = "</script>\n</html>\n";

@@ -1,0 +1,27 @@
+-- Which node a call is to change, as the machine has it before the call.
+use Rattle.std.specs.Prelude.{ℕ, ◌==◌, ◌&&◌, Bool, Option, Some, None}
+use Rattle.bench_core.specs.Acts.{Action, Do, Undo, Back}
+use Rattle.bench_core.specs.Machine.{Machine}
+use Rattle.journal_core.specs.Journals.{Kept}
+use Rattle.node_core.specs.Nodes.{Node}
+use Rattle.node_core.specs.Operations.{sends}
+use Rattle.report_core.specs.Shown.{node_of, node_of_step}
+use Rattle.report_core.specs.StepDiffs.{asked_undo}
+
+abbrev pub node_undone : Machine → Option ℕ → Option ℕ
+node_undone m None = None
+node_undone m (Some number) = node_of_step m.state.remaining number
+
+-- the node that asks for a step, or that of the step which is to be taken back
+unfoldable pub asked_node : Machine → ℕ → Action → Option ℕ
+asked_node m actor (Do operation) = Some actor
+asked_node m actor (Undo number) = node_undone m (asked_undo m (Undo number))
+asked_node m actor (Back node) = node_undone m (asked_undo m (Back node))
+
+abbrev pub node_if : Machine → Option ℕ → Option Node
+node_if m None = None
+node_if m (Some number) = node_of m number
+
+-- whether a step is a sending one of the node
+abbrev pub is_sent : Kept → ℕ → Bool
+is_sent k node = (k.node == node) && sends k.step

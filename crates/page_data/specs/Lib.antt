@@ -1,0 +1,6 @@
+pub mod Json
+pub mod Seen
+pub mod Carried
+pub mod Asked
+pub mod PageData
+pub mod Laws

@@ -1,0 +1,279 @@
+//! A call asked again of a bench, and what is told of it.
+ghost use Rattle.std.specs.Prelude.{◌≡◌, ◌++◌, ◌<◌, ◌≤◌, None, OnOk, length, option_map, string_bytes};
+ghost use Rattle.bench_core.specs.Acts.{plain_act};
+ghost use Rattle.journal_core.specs.Journals.{first_consequence};
+ghost use Rattle.report_core.specs.ActTexts.{after_act, reply_of};
+ghost use Rattle.report_core.specs.StepDiffs.{TellsUndo};
+ghost use Rattle.transcript_core.specs.Scripts.{cast_of};
+ghost use Rattle.page_data.specs.Asked.{asked_node, node_if};
+ghost use Rattle.page_data.specs.Json.{comma_at};
+ghost use Rattle.page_data.specs.PageData.{act_gives, act_reads, asked_text, call_text, changed_text, held_keys, outcome_keys, refused_keys, taken_head, taken_text, undone_at, undone_text, Tells};
+ghost use Rattle.page_data.specs.Seen.{seen_in};
+
+use crate::before::Before;
+use crate::json::{put_comma, put_number_key, put_numbers_key, put_text_key};
+use crate::rows::put_rows_keys;
+use crate::seen::{Seen, changes_in};
+use crate::steps::put_gives;
+use bench_core::{Act, Bench, Event, Fault, Names, Node, Reply, TextSet};
+use diff_core::{Diff, OnlineRow};
+use payload_core::Oom;
+use report_core::{answer, node, step_diff};
+use std::alloc::Allocator;
+use transcript_core::put_call;
+
+/// The rows that left and joined the online list of a node, and what it has seen since.
+#[tactic(auto, unfolding(crate::specs::PageData::changed_text))]
+fn put_changed<'a, B: Allocator>(
+    text: &mut String<&'a B>,
+    node: Option<&Node<'a, B>>,
+    left: &[OnlineRow<&'a B>],
+    joined: &[OnlineRow<&'a B>],
+    before: &[Seen],
+    count: u16,
+    alloc: &'a B,
+) -> Result<(), Oom>
+    requires { count ≤ 32 }
+    ensures { OnOk result (string_bytes text.new ≡ string_bytes text.old ++
+        changed_text left.now joined.now before.now (option_map (λ n. n.now) node.entry) count) }
+{
+    put_rows_keys(text, left, joined, alloc)?;
+    let changes = changes_in(node, before, count, alloc)?;
+    put_numbers_key(text, "dots", &changes)
+}
+
+/// What the step sent and made that an act asked for.
+fn put_act_gives<'a, B: Allocator>(
+    text: &mut String<&'a B>,
+    bench: &Bench<'a, B>,
+    actor: u16,
+    act: &Act<&'a B>,
+    diff: &Diff<&'a B>,
+    alloc: &'a B,
+) -> Result<(), Oom>
+    requires { actor < length bench.now.names }
+    ensures { OnOk result (string_bytes text.new ≡ string_bytes text.old ++
+        act_gives bench.now actor (plain_act act.now) diff.now.left.items diff.now.joined.items) }
+{
+    match act {
+        Act::Do(step) => put_gives(text, bench, actor, step, diff, alloc),
+        _ => Ok(()),
+    }
+}
+
+/// A step of the node that was taken and read this.
+#[tactic(auto, unfolding(crate::specs::PageData::taken_head))]
+fn put_taken_head<A: Allocator>(
+    text: &mut String<A>,
+    node: u16,
+    number: u64,
+    reads: &str,
+) -> Result<(), Oom>
+    ensures { OnOk result (string_bytes text.new ≡ string_bytes text.old ++ taken_head node number reads.now) }
+{
+    put_number_key(text, "step", number)?;
+    put_number_key(text, "node", node as u64)?;
+    Ok(text.push_str(reads)?)
+}
+
+/// That, and what it changed, on the bench after it.
+#[tactic(auto, unfolding(crate::specs::PageData::taken_text))]
+fn put_taken<'a, B: Allocator>(
+    text: &mut String<&'a B>,
+    bench: &Bench<'a, B>,
+    actor: u16,
+    act: &Act<&'a B>,
+    number: u64,
+    before: &Before<'a, B>,
+    diff: &Diff<&'a B>,
+    alloc: &'a B,
+) -> Result<(), Oom>
+    requires { actor < length bench.now.names }
+    ensures { OnOk result (string_bytes text.new ≡ string_bytes text.old ++
+        taken_text bench.now actor (plain_act act.now) number (string_bytes before.now.reads) diff.now.left.items diff.now.joined.items before.now.seen.items) }
+{
+    put_taken_head(text, actor, number, before.reads.as_str())?;
+    put_act_gives(text, bench, actor, act, diff, alloc)?;
+    let count = bench.names().len() as u16;
+    put_changed(
+        text,
+        node(bench, actor),
+        &diff.left,
+        &diff.joined,
+        &before.seen,
+        count,
+        alloc,
+    )
+}
+
+/// The last step, which was taken, and what it changed.
+fn put_step<'a, B: Allocator>(
+    text: &mut String<&'a B>,
+    bench: &Bench<'a, B>,
+    actor: u16,
+    act: &Act<&'a B>,
+    number: u64,
+    before: &Before<'a, B>,
+    alloc: &'a B,
+) -> Result<(), Oom>
+    requires actor { actor < length bench.now.names }
+    requires free { first_consequence bench.now.state.remaining number ≡ None }
+    ensures { OnOk result (Tells bench.now actor (plain_act act.now) number (string_bytes before.now.reads) before.now.seen.items (string_bytes text.old) (string_bytes text.new)) }
+{
+    let diff = step_diff(bench, number, alloc)?;
+    let put = put_taken(text, bench, actor, act, number, before, &diff, alloc);
+    drop(diff);
+    put
+}
+
+/// What a step that was taken back changed at its node.
+fn put_undone_at<'a, B: Allocator>(
+    text: &mut String<&'a B>,
+    bench: &Bench<'a, B>,
+    before: &Before<'a, B>,
+    alloc: &'a B,
+) -> Result<(), Oom>
+    ensures { OnOk result (string_bytes text.new ≡ string_bytes text.old ++
+        undone_at bench.now before.now.node before.now.undone.joined.items before.now.undone.left.items before.now.seen.items) }
+{
+    let Some(number) = before.node else {
+        return Ok(());
+    };
+    put_number_key(text, "node", number as u64)?;
+    let count = bench.names().len() as u16;
+    let undone = &before.undone;
+    put_changed(
+        text,
+        node(bench, number),
+        &undone.joined,
+        &undone.left,
+        &before.seen,
+        count,
+        alloc,
+    )
+}
+
+/// A step that was taken back, and what that changed, on the bench after it.
+#[tactic(auto, unfolding(crate::specs::PageData::undone_text))]
+fn put_undone<'a, B: Allocator>(
+    text: &mut String<&'a B>,
+    bench: &Bench<'a, B>,
+    number: u64,
+    before: &Before<'a, B>,
+    alloc: &'a B,
+) -> Result<(), Oom>
+    ensures { OnOk result (string_bytes text.new ≡ string_bytes text.old ++
+        undone_text bench.now number before.now.node before.now.undone.joined.items before.now.undone.left.items before.now.seen.items) }
+{
+    put_number_key(text, "undoes", number)?;
+    put_undone_at(text, bench, before, alloc)
+}
+
+/// The step whose undo is refused, and what holds it.
+fn put_held<A: Allocator>(text: &mut String<A>, fault: Fault) -> Result<(), Oom>
+    ensures { OnOk result (string_bytes text.new ≡ string_bytes text.old ++ held_keys fault) }
+{
+    match fault {
+        Fault::HasConsequence { step, held_by } => put_numbers_key(text, "held", &[step, held_by]),
+        _ => Ok(()),
+    }
+}
+
+/// Why a call is refused.
+#[tactic(auto, unfolding(crate::specs::PageData::refused_keys, crate::specs::Json::text_key, crate::specs::Json::string_text))]
+fn put_refused<'a, B: Allocator>(
+    text: &mut String<&'a B>,
+    fault: Fault,
+    alloc: &'a B,
+) -> Result<(), Oom>
+    ensures { OnOk result (string_bytes text.new ≡ string_bytes text.old ++ refused_keys fault) }
+{
+    let mut name = String::new(alloc);
+    write!(name, "{fault}")?;
+    put_text_key(text, "no", name.as_str())?;
+    put_held(text, fault)
+}
+
+/// Asks the act, of which this is kept, and tells what it changed.
+fn put_outcome<'a, B: Allocator>(
+    text: &mut String<&'a B>,
+    bench: &mut Bench<'a, B>,
+    actor: u16,
+    act: &Act<&'a B>,
+    before: &Before<'a, B>,
+    alloc: &'a B,
+) -> Result<(), Oom>
+    requires reads { actor < length bench.old.names → string_bytes before.now.reads ≡ act_reads bench.old actor (plain_act act.now) }
+    requires node { before.now.node ≡ asked_node bench.old actor (plain_act act.now) }
+    requires undone { TellsUndo bench.old (plain_act act.now) before.now.undone.left.items before.now.undone.joined.items }
+    requires seen { before.now.seen.items ≡
+        seen_in (node_if bench.old (asked_node bench.old actor (plain_act act.now))) (length bench.old.names) }
+    ensures bench { OnOk result (bench.new ≡ after_act bench.old actor (plain_act act.now)) }
+    ensures text { OnOk result (string_bytes text.new ≡ string_bytes text.old ++
+        outcome_keys bench.old (after_act bench.old actor (plain_act act.now)) actor (plain_act act.now) (reply_of bench.old actor (plain_act act.now))) }
+{
+    bench.bench_law();
+    let reply = answer(bench, actor, act)?;
+    match reply {
+        Reply::Taken(number) => put_step(text, bench, actor, act, number, before, alloc),
+        Reply::Undone(number) => put_undone(text, bench, number, before, alloc),
+        Reply::Refused(fault) => put_refused(text, fault, alloc),
+    }
+}
+
+/// Who asks, and the call as a line of a script.
+#[tactic(auto, unfolding(crate::specs::PageData::asked_text))]
+fn put_asked<'a, B: Allocator>(
+    text: &mut String<&'a B>,
+    nodes: &Names<&'a B>,
+    consoles: &TextSet<&'a B>,
+    actor: u16,
+    act: &Act<&'a B>,
+    alloc: &'a B,
+) -> Result<(), Oom>
+    ensures { OnOk result (string_bytes text.new ≡ string_bytes text.old ++
+        asked_text (record { nodes = nodes.now; consoles = consoles.now }) actor (plain_act act.now)) }
+{
+    let mut line = String::new(alloc);
+    put_call(&mut line, nodes, consoles, actor, act)?;
+    write!(text, "{{\"by\":{actor}")?;
+    put_text_key(text, "line", line.as_str())
+}
+
+/// Asks an act, and tells of it.
+#[tactic(auto, unfolding(crate::specs::PageData::call_text))]
+fn put_act<'a, B: Allocator>(
+    text: &mut String<&'a B>,
+    bench: &mut Bench<'a, B>,
+    consoles: &TextSet<&'a B>,
+    actor: u16,
+    act: &Act<&'a B>,
+    alloc: &'a B,
+) -> Result<(), Oom>
+    ensures bench { OnOk result (bench.new ≡ after_act bench.old actor (plain_act act.now)) }
+    ensures text { OnOk result (string_bytes text.new ≡ string_bytes text.old ++ call_text (cast_of bench.old consoles.now) bench.old actor (plain_act act.now)) }
+{
+    put_asked(text, bench.names(), consoles, actor, act, alloc)?;
+    let before = Before::of(bench, actor, act, alloc)?;
+    let put = put_outcome(text, bench, actor, act, &before, alloc);
+    drop(before);
+    put?;
+    Ok(text.push_str("}")?)
+}
+
+/// Asks a recorded call again, and tells of it; it stands at this place.
+pub fn put_event<'a, B: Allocator>(
+    text: &mut String<&'a B>,
+    bench: &mut Bench<'a, B>,
+    consoles: &TextSet<&'a B>,
+    place: usize,
+    event: &Event<&'a B>,
+    alloc: &'a B,
+) -> Result<(), Oom>
+    ensures bench { OnOk result (bench.new ≡ after_act bench.old event.now.actor event.now.act) }
+    ensures text { OnOk result (string_bytes text.new ≡ string_bytes text.old ++ comma_at place ++
+        call_text (cast_of bench.old consoles.now) bench.old event.now.actor event.now.act) }
+{
+    put_comma(text, place)?;
+    put_act(text, bench, consoles, event.actor, &event.act, alloc)
+}

@@ -1,0 +1,100 @@
+//! The data of a page.
+ghost use Rattle.std.specs.Prelude.{◌≡◌, ◌++◌, IfOk, OnOk, string_bytes};
+ghost use Rattle.transcript_core.specs.Scripts.{cast_of};
+ghost use Rattle.page_data.specs.PageData.{calls_text, consoles_text, nodes_text, page_data, texts_text};
+
+use crate::calls::put_event;
+use crate::json::{put_comma, put_string};
+use bench_core::{Bench, History, Names, TextSet};
+use payload_core::Oom;
+use report_core::name_at;
+use std::alloc::Allocator;
+use transcript_core::console_at;
+
+/// The names of the nodes, divided by commas.
+fn put_names<A: Allocator, N: Allocator>(text: &mut String<A>, names: &Names<N>) -> Result<(), Oom>
+    ensures { OnOk result (string_bytes text.new ≡ string_bytes text.old ++ texts_text 0 names.now) }
+{
+    for number in 0..names.len() as u16 {
+        put_comma(text, number as usize)?;
+        put_string(text, name_at(names, number))?;
+    }
+    Ok(())
+}
+
+/// The names of the consoles, divided by commas.
+fn put_consoles<A: Allocator, C: Allocator>(
+    text: &mut String<A>,
+    consoles: &TextSet<C>,
+) -> Result<(), Oom>
+    ensures { OnOk result (string_bytes text.new ≡ string_bytes text.old ++ texts_text 0 consoles.now) }
+{
+    for place in 0..consoles.len() {
+        put_comma(text, place)?;
+        put_string(text, console_at(consoles, place))?;
+    }
+    Ok(())
+}
+
+/// Asks the calls again, and tells of each.
+fn put_events<'a, B: Allocator>(
+    text: &mut String<&'a B>,
+    bench: &mut Bench<'a, B>,
+    consoles: &TextSet<&'a B>,
+    history: &History<'a, B>,
+    alloc: &'a B,
+) -> Result<(), Oom>
+    ensures { OnOk result (string_bytes text.new ≡ string_bytes text.old ++ calls_text (cast_of bench.old consoles.now) bench.old 0 history.now) }
+{
+    for place in 0..history.len() {
+        if let Some(event) = history.at(place) {
+            put_event(text, bench, consoles, place, event, alloc)?;
+        }
+    }
+    Ok(())
+}
+
+/// The names of the nodes, behind the version.
+#[tactic(auto, unfolding(crate::specs::PageData::nodes_text))]
+fn put_nodes<A: Allocator, N: Allocator>(text: &mut String<A>, names: &Names<N>) -> Result<(), Oom>
+    ensures { OnOk result (string_bytes text.new ≡ string_bytes text.old ++ nodes_text names.now) }
+{
+    text.push_str("{\"version\":1,\"nodes\":[")?;
+    put_names(text, names)?;
+    Ok(text.push_str("]")?)
+}
+
+/// The names of the consoles, before the calls.
+#[tactic(auto, unfolding(crate::specs::PageData::consoles_text))]
+fn put_cast<A: Allocator, C: Allocator>(
+    text: &mut String<A>,
+    consoles: &TextSet<C>,
+) -> Result<(), Oom>
+    ensures { OnOk result (string_bytes text.new ≡ string_bytes text.old ++ consoles_text consoles.now) }
+{
+    text.push_str(",\"consoles\":[")?;
+    put_consoles(text, consoles)?;
+    Ok(text.push_str("],\"calls\":[")?)
+}
+
+/// The data of the page of a bench: its recorded calls as JSON, asked again of a bench of the same names, where the consoles
+/// have these names. No `<` stands in it.
+#[tactic(auto, unfolding(crate::specs::PageData::page_data))]
+pub fn page_data<'a, B: Allocator>(
+    alloc: &'a B,
+    bench: &Bench<'a, B>,
+    consoles: &TextSet<&'a B>,
+) -> Result<String<&'a B>, Oom>
+    ensures { IfOk result (λ text. string_bytes text ≡ page_data bench.now consoles.now) }
+{
+    let mut text = String::new(alloc);
+    put_nodes(&mut text, bench.names())?;
+    put_cast(&mut text, consoles)?;
+    let names = bench.names().try_copy()?;
+    let mut again = Bench::new(alloc, names, bench.limits())?;
+    let put = put_events(&mut text, &mut again, consoles, bench.history(), alloc);
+    drop(again);
+    put?;
+    text.push_str("]}")?;
+    Ok(text)
+}

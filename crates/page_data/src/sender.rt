@@ -1,0 +1,49 @@
+//! The step that sent what a step delivers.
+ghost use Rattle.std.specs.Prelude.{◌≡◌};
+ghost use Rattle.journal_core.specs.Holdings.{kepts};
+ghost use Rattle.journal_core.specs.Journals.{sender_of, source_of};
+ghost use Rattle.node_core.specs.Operations.{plain};
+ghost use Rattle.page_data.specs.Asked.{is_sent};
+
+use bench_core::{Journal, Kept, Step};
+use std::alloc::Allocator;
+
+/// Whether a step is a sending one of the node.
+fn is_sent_by<A: Allocator>(kept: &Kept<A>, node: u16) -> bool
+    ensures { result ≡ is_sent kept.now node }
+{
+    kept.node == node && kept.step.sends()
+}
+
+/// The number of the step that sent this message of the node, by the messages' numbers from 1, if it remains.
+fn sender_of<'a, B: Allocator>(journal: &Journal<'a, B>, node: u16, message: u64) -> Option<u64>
+    ensures { result ≡ sender_of (kepts journal.now.steps) node message }
+{
+    if message == 0 {
+        return None;
+    }
+    let mut left = message;
+    let mut steps = journal.steps();
+    while let Some(kept) = steps.next() {
+        if is_sent_by(kept, node) {
+            if left == 1 {
+                return Some(kept.number);
+            }
+            left -= 1;
+        }
+    }
+    None
+}
+
+/// The number of the step that sent what this step delivers.
+pub fn source_of<'a, B: Allocator, W: Allocator>(
+    journal: &Journal<'a, B>,
+    step: &Step<W>,
+) -> Option<u64>
+    ensures { result ≡ source_of (kepts journal.now.steps) (plain step.now) }
+{
+    match step.delivers() {
+        Some((sender, number)) => sender_of(journal, sender, number),
+        None => None,
+    }
+}

@@ -1,0 +1,110 @@
+//! What a message carries.
+ghost use Rattle.std.specs.Prelude.{◌≡◌, ◌++◌, ◌<◌, ◌≤◌, IfOk, OnOk, filter};
+ghost use Rattle.payload_core.specs.Stores.{store_of};
+ghost use Rattle.report_core.specs.Dots.{clock_of};
+ghost use Rattle.page_data.specs.Carried.{clock_if, clocks_standing, more_of, name_if_any, names_in, stands_so};
+
+use crate::clocks::{clocks_of, last_of, more_of, standing_told};
+use dots_core::Dot;
+use payload_core::{Oom, Payload};
+use std::alloc::Allocator;
+
+/// Whether the name's dot of this clock stands so in the message.
+fn stands_so<R: Allocator>(message: &Payload<R>, name: u16, wanted: u64, clock: u64) -> bool
+    ensures { result ≡ stands_so (store_of message.now) name wanted clock }
+{
+    standing_told(message, Dot { name, clock }) == wanted
+}
+
+/// The clock, where it is wanted.
+fn put_clock_if<A: Allocator>(
+    numbers: &mut Vec<u64, A>,
+    clock: u64,
+    is_wanted: bool,
+) -> Result<(), Oom>
+    ensures { OnOk result (numbers.new.items ≡ numbers.old.items ++ clock_if is_wanted clock) }
+{
+    if is_wanted {
+        numbers.push(clock)?;
+    }
+    Ok(())
+}
+
+/// Those of these clocks whose dots stand so.
+fn put_standing<A: Allocator, R: Allocator>(
+    numbers: &mut Vec<u64, A>,
+    message: &Payload<R>,
+    name: u16,
+    wanted: u64,
+    clocks: &[u64],
+) -> Result<(), Oom>
+    ensures { OnOk result (numbers.new.items ≡ numbers.old.items ++ filter (stands_so (store_of message.now) name wanted) clocks.now) }
+{
+    for clock in clocks {
+        put_clock_if(numbers, *clock, stands_so(message, name, wanted, *clock))?;
+    }
+    Ok(())
+}
+
+/// The clocks of the name's dots in a message that stand so: 1 with their entries, 2 without.
+#[tactic(auto, unfolding(crate::specs::Carried::clocks_standing))]
+pub fn clocks_standing<A: Allocator + Copy, R: Allocator>(
+    message: &Payload<R>,
+    name: u16,
+    wanted: u64,
+    alloc: A,
+) -> Result<Vec<u64, A>, Oom>
+    requires { name < 32 }
+    ensures { IfOk result (λ numbers. numbers.items ≡ clocks_standing message.now name wanted) }
+{
+    let clocks = clocks_of(message.seen(), name, alloc)?;
+    let mut numbers = Vec::new(alloc);
+    put_standing(&mut numbers, message, name, wanted, &clocks)?;
+    Ok(numbers)
+}
+
+/// The name, where there are any.
+fn put_name_if<A: Allocator>(
+    numbers: &mut Vec<u64, A>,
+    name: u16,
+    clock: u64,
+    more: u64,
+) -> Result<(), Oom>
+    ensures { OnOk result (numbers.new.items ≡ numbers.old.items ++ name_if_any name clock more) }
+{
+    if clock == 0 && more == 0 {
+        return Ok(());
+    }
+    numbers.push(name as u64)?;
+    Ok(())
+}
+
+/// The name, where the message has dots of it.
+fn put_name_of<A: Allocator, R: Allocator>(
+    numbers: &mut Vec<u64, A>,
+    message: &Payload<R>,
+    name: u16,
+) -> Result<(), Oom>
+    requires { name < 32 }
+    ensures { OnOk result (numbers.new.items ≡ numbers.old.items ++
+        name_if_any name (clock_of message.now.seen name) (more_of message.now.seen name)) }
+{
+    let seen = message.seen();
+    put_name_if(numbers, name, last_of(seen, name), more_of(seen, name))
+}
+
+/// Those of so many names of which the message has dots.
+pub fn names_in<A: Allocator, R: Allocator>(
+    message: &Payload<R>,
+    count: u16,
+    alloc: A,
+) -> Result<Vec<u64, A>, Oom>
+    requires { count ≤ 32 }
+    ensures { IfOk result (λ numbers. numbers.items ≡ names_in message.now count) }
+{
+    let mut numbers = Vec::new(alloc);
+    for name in 0..count {
+        put_name_of(&mut numbers, message, name)?;
+    }
+    Ok(numbers)
+}

@@ -1,0 +1,257 @@
+//! What a step reads before it is taken, and what it sends and makes.
+ghost use Rattle.std.specs.Prelude.{◌≡◌, ◌++◌, ◌<◌, ◌≤◌, OnOk, Some, length, option_map, string_bytes};
+ghost use Rattle.bench_core.specs.Laws.{presence_made};
+ghost use Rattle.node_core.specs.Operations.{Broadcast, plain};
+ghost use Rattle.page_data.specs.Carried.{message_in};
+ghost use Rattle.page_data.specs.PageData.{arrival_keys, carried_keys, delivery_keys, gives_keys, made_at, made_head, made_keys, made_text, message_keys, outbox_keys, reads_keys, sent_keys, word_text};
+
+use crate::arriving::{hops_at, missed_at};
+use crate::json::{put_number_if, put_number_key, put_numbers_key, put_string};
+use crate::rows::put_own_keys;
+use crate::sender::source_of;
+use crate::sent::{clocks_standing, names_in};
+use bench_core::{Bench, Node, Step};
+use diff_core::Diff;
+use payload_core::{Oom, Payload, Word};
+use report_core::node;
+use std::alloc::Allocator;
+
+/// The message of this number that a node sent.
+fn message_in<'x, 'a, B: Allocator>(
+    node: Option<&'x Node<'a, B>>,
+    number: u64,
+) -> Option<&'x Payload<&'a B>>
+    ensures { option_map (λ m. m.now) result ≡ message_in (option_map (λ n. n.now) node.entry) number }
+{
+    match node {
+        Some(node) => node.outbox().get(number),
+        None => None,
+    }
+}
+
+/// What a delivery of a message changes, and what it misses.
+#[tactic(auto, unfolding(crate::specs::PageData::delivery_keys))]
+fn put_delivery<'a, B: Allocator>(
+    text: &mut String<&'a B>,
+    node: Option<&Node<'a, B>>,
+    message: Option<&Payload<&'a B>>,
+    count: u16,
+    alloc: &'a B,
+) -> Result<(), Oom>
+    requires { count ≤ 32 }
+    ensures { OnOk result (string_bytes text.new ≡ string_bytes text.old ++
+        delivery_keys (option_map (λ n. n.now) node.entry) (option_map (λ m. m.now) message.entry) count) }
+{
+    let missed = missed_at(node, message, count, alloc)?;
+    let hops = hops_at(node, message, count, alloc)?;
+    put_numbers_key(text, "missed", &missed)?;
+    put_numbers_key(text, "hops", &hops)
+}
+
+/// What the step changes and misses, if it is a delivery.
+fn put_arrival<'a, B: Allocator>(
+    text: &mut String<&'a B>,
+    bench: &Bench<'a, B>,
+    actor: u16,
+    step: &Step<&'a B>,
+    alloc: &'a B,
+) -> Result<(), Oom>
+    ensures { OnOk result (string_bytes text.new ≡ string_bytes text.old ++ arrival_keys bench.now actor (plain step.now)) }
+{
+    match step {
+        Step::Deliver { sender, number } => {
+            let count = bench.names().len() as u16;
+            let message = message_in(node(bench, *sender), *number);
+            put_delivery(text, node(bench, actor), message, count, alloc)
+        }
+        _ => Ok(()),
+    }
+}
+
+/// Of a step of the node, before it is taken: the step before it, the one that sent what it delivers, and what that changes.
+#[tactic(auto, unfolding(crate::specs::PageData::reads_keys))]
+pub fn put_reads<'a, B: Allocator>(
+    text: &mut String<&'a B>,
+    bench: &Bench<'a, B>,
+    actor: u16,
+    step: &Step<&'a B>,
+    alloc: &'a B,
+) -> Result<(), Oom>
+    requires { actor < length bench.now.names }
+    ensures { OnOk result (string_bytes text.new ≡ string_bytes text.old ++ reads_keys bench.now actor (plain step.now)) }
+{
+    let prev = bench.remaining().last_of(actor);
+    let from = source_of(bench.remaining(), step);
+    put_number_if(text, "prev", prev)?;
+    put_number_if(text, "from", from)?;
+    put_arrival(text, bench, actor, step, alloc)
+}
+
+/// Of a broadcast the clocks of the dots that it carries, with their entries and without.
+fn put_broadcast<'a, B: Allocator>(
+    text: &mut String<&'a B>,
+    message: &Payload<&'a B>,
+    name: u16,
+    alloc: &'a B,
+) -> Result<(), Oom>
+    requires { name < 32 }
+    ensures { OnOk result (string_bytes text.new ≡ string_bytes text.old ++ carried_keys Broadcast message.now name 0) }
+{
+    let live = clocks_standing(message, name, 1, alloc)?;
+    let gone = clocks_standing(message, name, 2, alloc)?;
+    put_numbers_key(text, "live", &live)?;
+    put_numbers_key(text, "gone", &gone)
+}
+
+/// What a message carries that the step sent.
+fn put_carried<'a, B: Allocator>(
+    text: &mut String<&'a B>,
+    step: &Step<&'a B>,
+    message: &Payload<&'a B>,
+    name: u16,
+    count: u16,
+    alloc: &'a B,
+) -> Result<(), Oom>
+    requires name { name < 32 }
+    requires count { count ≤ 32 }
+    ensures { OnOk result (string_bytes text.new ≡ string_bytes text.old ++ carried_keys (plain step.now) message.now name count) }
+{
+    match step {
+        Step::Broadcast => put_broadcast(text, message, name, alloc),
+        _ => {
+            let names = names_in(message, count, alloc)?;
+            put_numbers_key(text, "of", &names)
+        }
+    }
+}
+
+/// The number of the last message of a node, and what it carries.
+fn put_outbox<'a, B: Allocator>(
+    text: &mut String<&'a B>,
+    step: &Step<&'a B>,
+    node: &Node<'a, B>,
+    name: u16,
+    count: u16,
+    alloc: &'a B,
+) -> Result<(), Oom>
+    requires name { name < 32 }
+    requires count { count ≤ 32 }
+    ensures { OnOk result (string_bytes text.new ≡ string_bytes text.old ++ outbox_keys (plain step.now) (Some node.now) name count) }
+{
+    let outbox = node.outbox();
+    let number = outbox.len() as u64;
+    put_number_key(text, "sends", number)?;
+    match outbox.get(number) {
+        Some(message) => put_carried(text, step, message, name, count, alloc),
+        None => Ok(()),
+    }
+}
+
+/// What the step sent, if it sends, on the bench after it.
+fn put_sent<'a, B: Allocator>(
+    text: &mut String<&'a B>,
+    bench: &Bench<'a, B>,
+    actor: u16,
+    step: &Step<&'a B>,
+    alloc: &'a B,
+) -> Result<(), Oom>
+    requires { actor < length bench.now.names }
+    ensures { OnOk result (string_bytes text.new ≡ string_bytes text.old ++ sent_keys bench.now actor (plain step.now)) }
+{
+    if !step.sends() {
+        return Ok(());
+    }
+    let count = bench.names().len() as u16;
+    match node(bench, actor) {
+        Some(node) => put_outbox(text, step, node, actor, count, alloc),
+        None => Ok(()),
+    }
+}
+
+/// `,"made":[CLOCK,"PID"`.
+#[tactic(auto, unfolding(crate::specs::PageData::made_head))]
+fn put_made_head<A: Allocator>(text: &mut String<A>, clock: u64, pid: u64) -> Result<(), Oom>
+    ensures { OnOk result (string_bytes text.new ≡ string_bytes text.old ++ made_head clock pid) }
+{
+    Ok(write!(text, ",\"made\":[{clock},\"{pid}\"")?)
+}
+
+/// `,"WORD"`.
+#[tactic(auto, unfolding(crate::specs::PageData::word_text))]
+fn put_word<A: Allocator, W: Allocator>(text: &mut String<A>, word: &Word<W>) -> Result<(), Oom>
+    ensures { OnOk result (string_bytes text.new ≡ string_bytes text.old ++ word_text word.now) }
+{
+    text.push_str(",")?;
+    put_string(text, word.as_str())
+}
+
+/// `,"made":[CLOCK,"PID","TOPIC","KEY","META"]`.
+#[tactic(auto, unfolding(crate::specs::PageData::made_text))]
+fn put_made_text<A: Allocator, W: Allocator>(
+    text: &mut String<A>,
+    clock: u64,
+    pid: u64,
+    topic: &Word<W>,
+    key: &Word<W>,
+    metadata: &Word<W>,
+) -> Result<(), Oom>
+    ensures { OnOk result (string_bytes text.new ≡ string_bytes text.old ++
+        made_text clock (record { pid = pid; topic = topic.now; key = key.now; metadata = metadata.now })) }
+{
+    put_made_head(text, clock, pid)?;
+    put_word(text, topic)?;
+    put_word(text, key)?;
+    put_word(text, metadata)?;
+    Ok(text.push_str("]")?)
+}
+
+/// The presence that a step made, if it made one, on the bench after it.
+fn put_made<'a, B: Allocator>(
+    text: &mut String<&'a B>,
+    bench: &Bench<'a, B>,
+    actor: u16,
+    step: &Step<&'a B>,
+) -> Result<(), Oom>
+    ensures { OnOk result (string_bytes text.new ≡ string_bytes text.old ++ made_keys bench.now actor (presence_made (plain step.now))) }
+{
+    match step {
+        Step::Join {
+            pid,
+            topic,
+            key,
+            metadata,
+        }
+        | Step::Update {
+            pid,
+            topic,
+            key,
+            metadata,
+        } => match node(bench, actor) {
+            Some(node) => {
+                let clock = node.replica().last().clock;
+                put_made_text(text, clock, *pid, topic, key, metadata)
+            }
+            None => Ok(()),
+        },
+        _ => Ok(()),
+    }
+}
+
+/// Of a step of the node, after it was taken: what it sent and made, and how the node's own presences stand from then on.
+#[tactic(auto, unfolding(crate::specs::PageData::gives_keys))]
+pub fn put_gives<'a, B: Allocator>(
+    text: &mut String<&'a B>,
+    bench: &Bench<'a, B>,
+    actor: u16,
+    step: &Step<&'a B>,
+    diff: &Diff<&'a B>,
+    alloc: &'a B,
+) -> Result<(), Oom>
+    requires { actor < length bench.now.names }
+    ensures { OnOk result (string_bytes text.new ≡ string_bytes text.old ++
+        gives_keys bench.now actor (plain step.now) diff.now.left.items diff.now.joined.items) }
+{
+    put_sent(text, bench, actor, step, alloc)?;
+    put_made(text, bench, actor, step)?;
+    put_own_keys(text, step, &diff.left, &diff.joined, alloc)
+}

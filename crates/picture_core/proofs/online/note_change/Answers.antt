@@ -1,0 +1,47 @@
+use Rattle.std.proofs.Common.{◌≡◌, ◌∙◌, ◌++◌, ◌||◌, ◌&&◌, not, false, ap, sym}
+use Rattle.std.proofs.lemmas.Result.{on_ok_weaker}
+use Rattle.std.specs.List.{list_any}
+use Rattle.diff_core.specs.Rows.{Row, is_among}
+use Rattle.report_core.specs.Shown.{rows_at}
+use Rattle.picture_core.specs.Online.{is_asked, lists, turn_if}
+use Rattle.picture_core.proofs.Turns.{turned, unturned, was_beside, was_left}
+use Rattle.picture_core.proofs.online.note_change.Goals as goal
+use Rattle.picture_core.proofs.online.note_change.Goals.{then-left, else-left}
+
+pub returns-then-not-lists : goal.returns-then-not-lists
+returns-then-not-lists g c =
+    let asked = c.args.asked.now in
+    let none_left : lists asked c.args.change.now.left.items ≡ false =
+    ap (lists asked) (sym c.deref.ensures.value) ∙ sym c.lists-left.ensures ∙ c.if-not-left.true in
+    let none_joined : lists asked c.args.change.now.joined.items ≡ false =
+    ap (lists asked) (sym c.deref-then-not-left.ensures.value) ∙ sym c.lists.ensures ∙ c.if-not-lists.true in
+    λ before left_is joined_is.
+    unturned asked c.args.row c.args.node c.args.turns.now.items before (rows_at c.args.bench.now c.args.node) c.args.change.now.left.items
+    c.args.change.now.joined.items none_left none_joined left_is joined_is
+
+pub returns : goal.returns
+returns g c =
+    let asked = c.args.asked.now in
+    let rows = rows_at c.args.bench.now c.args.node in
+    let left = c.args.change.now.left.items in
+    let joined = c.args.change.now.joined.items in
+    let lists_left : c.lists-left.result ≡ lists asked left = c.lists-left.ensures ∙ ap (lists asked) c.deref.ensures.value in
+    let now_is : c.lists-now.result ≡ lists asked rows =
+    c.lists-now.ensures ∙ ap (lists asked) c.deref-2.ensures.value ∙ ap (lists asked) c.in_ok-rows.ensures in
+    let was_is : c.if-left.was ≡ (lists asked left || list_any (λ (row : Row). is_asked asked row && not (is_among joined row)) rows) =
+    elim c.if-left.branch [
+      | then-left w ↦ was_left asked c.if-left.was c.lists-left.result rows left joined w.was-is w.if-left.true lists_left
+      | else-left w ↦
+          was_beside asked c.if-left.was c.lists-left.result w.lists_beside-was.result rows left joined w.was-is w.if-left.false lists_left
+          (w.lists_beside-was.ensures
+          ∙ ap (λ (j : _). list_any (λ (row : Row). is_asked asked row && not (is_among j row)) w.deref-else-left.result.now)
+          w.deref-else-left-2.ensures.value
+          ∙ ap (list_any (λ (row : Row). is_asked asked row && not (is_among joined row))) w.deref-else-left.ensures.value
+          ∙ ap (list_any (λ (row : Row). is_asked asked row && not (is_among joined row))) c.in_ok-rows.ensures)
+    ] in
+    on_ok_weaker c.push_turn.result
+    (λ noted before left_is joined_is.
+    turned asked c.args.row c.args.node c.args.turns.now.items c.push_turn.new.turns.items before rows left joined c.if-left.was
+    c.lists-now.result was_is now_is
+    (noted ∙ ap (λ n. c.args.turns.now.items ++ turn_if c.args.row n c.if-left.was c.lists-now.result) c.from.ensures) left_is joined_is)
+    c.push_turn.ensures

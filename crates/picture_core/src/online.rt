@@ -1,0 +1,210 @@
+//! Where nodes list a topic and key, from row to row.
+ghost use Rattle.std.specs.Prelude.{◌≡◌, ◌++◌, ◌&&◌, not, List, IfOk, OnOk, option_copied, string_bytes};
+ghost use Rattle.std.specs.List.{list_any};
+ghost use Rattle.diff_core.specs.Diffs.{alone};
+ghost use Rattle.diff_core.specs.Rows.{Row, is_among};
+ghost use Rattle.report_core.specs.Shown.{rows_at, rows_of};
+ghost use Rattle.picture_core.specs.Online.{bar_path, end_path, is_asked, lists, turn_at, turn_if, turn_path};
+ghost use Rattle.picture_core.specs.Pictures.{is_of};
+
+use crate::plan::{across, down};
+use bench_core::Bench;
+use diff_core::{Diff, OnlineRow, online_list};
+use payload_core::{Oom, Word};
+use report_core::node;
+use std::alloc::Allocator;
+use std::marker::Model;
+
+/// What is asked of: a topic and key, at a node or at each.
+#[derive(Drop)]
+pub struct Asked<A: Allocator> {
+    pub node: Option<u32>,
+    pub topic: Word<A>,
+    pub key: Word<A>,
+}
+
+impl<A: Allocator> Model for Asked<A> {
+    ghost use Rattle.picture_core.specs.Online.{Asked as AskedOf};
+
+    ghost Value = { AskedOf };
+
+    ghost view = { λ a. record { node = a.node; topic = a.topic; key = a.key } };
+}
+
+/// In a row a node begins to list what is asked of, or ends.
+#[derive(Clone, Copy, Debug, PartialEq, Eq)]
+pub struct Turn {
+    pub row: u32,
+    pub node: u32,
+    pub begins: bool,
+}
+
+impl<A: Allocator> Asked<A> {
+    /// Whether the node is asked of.
+    pub fn is_of(&self, node: u32) -> bool
+        ensures { result ≡ is_of self.now.node node }
+    {
+        match self.node {
+            Some(one) => one == node,
+            None => true,
+        }
+    }
+}
+
+fn is_asked<A: Allocator, R: Allocator>(asked: &Asked<A>, row: &OnlineRow<R>) -> bool
+    ensures { result ≡ is_asked asked.now row.now }
+{
+    row.topic.as_str() == asked.topic.as_str() && row.key.as_str() == asked.key.as_str()
+}
+
+/// Whether one of the rows has the topic and key.
+#[tactic(auto, unfolding(crate::specs::Online::lists))]
+fn lists<A: Allocator, R: Allocator>(asked: &Asked<A>, rows: &[OnlineRow<R>]) -> bool
+    ensures { result ≡ lists asked.now rows.now }
+{
+    rows.iter().any(|row| is_asked(asked, row))
+}
+
+fn is_among<A: Allocator>(rows: &[OnlineRow<A>], row: &OnlineRow<A>) -> bool
+    ensures { result ≡ is_among rows.now row.now }
+{
+    rows.iter().any(|other| row == other)
+}
+
+/// Whether one of the rows has the topic and key, and is none of those that joined.
+fn lists_beside<A: Allocator, R: Allocator>(
+    asked: &Asked<A>,
+    rows: &[OnlineRow<R>],
+    joined: &[OnlineRow<R>],
+) -> bool
+    ensures { result ≡ list_any (λ row. is_asked asked.now row && not (is_among joined.now row)) rows.now }
+{
+    rows.iter()
+        .any(|row| is_asked(asked, row) && !is_among(joined, row))
+}
+
+/// The online list of a node.
+#[tactic(auto, unfolding(report_core::specs::Shown::rows_at))]
+fn rows_at<'a, B: Allocator>(
+    bench: &Bench<'a, B>,
+    number: u16,
+    alloc: &'a B,
+) -> Result<Vec<OnlineRow<&'a B>, &'a B>, Oom>
+    ensures { IfOk result (λ rows. rows.items ≡ rows_at bench.now number) }
+{
+    match node(bench, number) {
+        Some(node) => online_list(alloc, node.replica()),
+        None => Ok(Vec::new(alloc)),
+    }
+}
+
+fn push_turn<A: Allocator>(
+    turns: &mut Vec<Turn, A>,
+    row: u32,
+    node: u32,
+    was: bool,
+    now: bool,
+) -> Result<(), Oom>
+    ensures { OnOk result (turns.new.items ≡ turns.old.items ++ turn_if row node was now) }
+{
+    if was == now {
+        return Ok(());
+    }
+    let begins = now;
+    Ok(turns.push(Turn { row, node, begins })?)
+}
+
+/// A call at this row changed the online list of the node so, to what it is now. The list is looked through only where what is
+/// asked of left or joined.
+fn note_change<'a, B: Allocator, W: Allocator>(
+    bench: &Bench<'a, B>,
+    turns: &mut Vec<Turn, &'a B>,
+    asked: &Asked<W>,
+    row: u32,
+    node: u16,
+    change: &Diff<&'a B>,
+    alloc: &'a B,
+) -> Result<(), Oom>
+    ensures { OnOk result ((before : List Row) → change.now.left.items ≡ alone before (rows_at bench.now node) →
+        change.now.joined.items ≡ alone (rows_at bench.now node) before →
+        turns.new.items ≡ turns.old.items ++ turn_if row node (lists asked.now before) (lists asked.now (rows_at bench.now node))) }
+{
+    let left = lists(asked, &change.left);
+    if !left && !lists(asked, &change.joined) {
+        return Ok(());
+    }
+    let rows = rows_at(bench, node, alloc)?;
+    let now = lists(asked, &rows);
+    let was = left || lists_beside(asked, &rows, &change.joined);
+    drop(rows);
+    push_turn(turns, row, u32::from(node), was, now)
+}
+
+/// Notes where a node begins to list what is asked of, or ends: a call at this row changed its online list so.
+#[tactic(auto, unfolding(crate::specs::Online::turn_at, report_core::specs::Shown::rows_of))]
+pub fn note_turn<'a, B: Allocator, W: Allocator>(
+    bench: &Bench<'a, B>,
+    turns: &mut Vec<Turn, &'a B>,
+    asked: Option<&Asked<W>>,
+    row: u32,
+    changed: Option<u16>,
+    change: &Diff<&'a B>,
+    alloc: &'a B,
+) -> Result<(), Oom>
+    ensures { OnOk result ((before : List Row) → change.now.left.items ≡ alone before (rows_of bench.now changed) →
+        change.now.joined.items ≡ alone (rows_of bench.now changed) before →
+        turns.new.items ≡ turns.old.items ++ turn_at (option_copied asked.entry) row changed before (rows_of bench.now changed)) }
+{
+    let Some(asked) = asked else {
+        return Ok(());
+    };
+    let Some(node) = changed else {
+        return Ok(());
+    };
+    note_change(bench, turns, asked, row, node, change, alloc)
+}
+
+fn put_turn<A: Allocator>(path: &mut String<A>, nodes: u32, turn: Turn) -> Result<(), Oom>
+    ensures { OnOk result (string_bytes path.new ≡ string_bytes path.old ++ turn_path nodes turn) }
+{
+    let right = across(nodes, turn.node);
+    let down = down(turn.row);
+    if turn.begins {
+        return Ok(write!(path, "M{right} {down}")?);
+    }
+    Ok(write!(path, "V{down}")?)
+}
+
+/// To the last row, where it still lists some.
+fn put_end<A: Allocator>(path: &mut String<A>, listing: bool, last: u32) -> Result<(), Oom>
+    ensures { OnOk result (string_bytes path.new ≡ string_bytes path.old ++ end_path listing last) }
+{
+    if !listing {
+        return Ok(());
+    }
+    let end = 20 * u64::from(last);
+    Ok(write!(path, "V{end}")?)
+}
+
+/// Where the lane of a node is thick: the pen goes to where it begins to list some, and draws to where it ends, at the latest to
+/// the last row.
+pub fn bar_path<'a, B: Allocator>(
+    turns: &[Turn],
+    nodes: u32,
+    node: u32,
+    last: u32,
+    alloc: &'a B,
+) -> Result<String<&'a B>, Oom>
+    ensures { IfOk result (λ path. string_bytes path ≡ bar_path nodes node last turns.now) }
+{
+    let mut path = String::new(alloc);
+    let mut listing = false;
+    for turn in turns {
+        if turn.node == node {
+            put_turn(&mut path, nodes, *turn)?;
+            listing = turn.begins;
+        }
+    }
+    put_end(&mut path, listing, last)?;
+    Ok(path)
+}

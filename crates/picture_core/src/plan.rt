@@ -1,0 +1,84 @@
+//! Where things stand: a row for each call, 20 units high, and a lane for each node.
+ghost use Rattle.std.specs.Prelude.{◌≡◌, ◌≤◌};
+ghost use Rattle.picture_core.specs.Plans.{across, aside, down, pitch, slots, waits_at, wide};
+
+/// From one lane to the next, by how many nodes there are.
+#[tactic(auto, unfolding(crate::specs::Plans::pitch))]
+fn pitch(nodes: u32) -> u64
+    ensures is { result ≡ pitch nodes }
+    ensures few { result ≤ 56 }
+{
+    if nodes < 5 {
+        56
+    } else if nodes < 9 {
+        40
+    } else if nodes < 17 {
+        24
+    } else {
+        18
+    }
+}
+
+/// At how many places beside a lane a message can wait.
+#[tactic(auto, unfolding(crate::specs::Plans::slots))]
+fn slots(nodes: u32) -> u64
+    ensures is { result ≡ slots nodes }
+    ensures some { 1 ≤ result }
+    ensures few { result ≤ 8 }
+{
+    if nodes < 5 {
+        8
+    } else if nodes < 9 {
+        5
+    } else if nodes < 17 {
+        3
+    } else {
+        2
+    }
+}
+
+/// The lane of a node; that behind the last is where the words begin.
+#[tactic(auto, unfolding(crate::specs::Plans::across))]
+pub fn across(nodes: u32, node: u32) -> u64
+    ensures is { result ≡ across nodes node }
+    ensures few { result ≤ 300000000000 }
+{
+    64 + pitch(nodes) * u64::from(node)
+}
+
+/// The middle of a row.
+pub fn down(row: u32) -> u64
+    ensures { result ≡ down row }
+{
+    20 * u64::from(row) + 10
+}
+
+/// How far beside a lane the message of a step waits.
+#[tactic(auto, unfolding(crate::specs::Plans::aside))]
+fn aside(nodes: u32, step: u64) -> u64
+    ensures is { result ≡ aside nodes step }
+    ensures few { result ≤ 30 }
+{
+    6 + 3 * (step % slots(nodes))
+}
+
+/// Where it waits for a node, on the side from which it comes.
+#[tactic(auto, unfolding(crate::specs::Plans::waits_at))]
+pub fn waits_at(nodes: u32, sender: u32, node: u32, step: u64) -> u64
+    ensures { result ≡ waits_at nodes sender node step }
+{
+    let at = across(nodes, node);
+    let beside = aside(nodes, step);
+    if sender < node {
+        at.saturating_sub(beside)
+    } else {
+        at + beside
+    }
+}
+
+/// How wide so many bytes are.
+pub fn wide(bytes: u32) -> u64
+    ensures { result ≡ wide bytes }
+{
+    8 * u64::from(bytes)
+}

@@ -1,0 +1,80 @@
+//! Which rows are drawn.
+ghost use Rattle.std.specs.Prelude.{◌≡◌, ◌≤◌, length};
+ghost use Rattle.picture_core.specs.Pictures.{calls_before, first_row, is_from, last_row, range_of};
+ghost use Rattle.picture_core.specs.Rows.{is_drawn, is_seen};
+
+use bench_core::{History, Reply};
+use std::alloc::Allocator;
+
+/// The rows from the first on, up to the one before the last.
+#[derive(Clone, Copy, Debug, PartialEq, Eq)]
+pub struct Range {
+    pub first: u32,
+    pub last: u32,
+}
+
+impl Range {
+    /// Whether the row is drawn.
+    pub fn draws(self, row: u32) -> bool
+        ensures { result ≡ is_drawn self row }
+    {
+        self.first <= row && row < self.last
+    }
+
+    /// Whether a message is seen that goes from one row to another.
+    pub fn shows(self, from: u32, to: u32) -> bool
+        ensures { result ≡ is_seen self from to }
+    {
+        from < self.last && self.first <= to
+    }
+}
+
+/// Whether the call took a step of at least, or of more than, this number.
+fn is_from(beyond: bool, number: u64, reply: Reply) -> bool
+    ensures { result ≡ is_from beyond number reply }
+{
+    match reply {
+        Reply::Taken(step) => {
+            if beyond {
+                number < step
+            } else {
+                number <= step
+            }
+        }
+        Reply::Undone(_) | Reply::Refused(_) => false,
+    }
+}
+
+/// How many calls stand before the first that did.
+fn calls_before<'a, B: Allocator>(history: &History<'a, B>, beyond: bool, number: u64) -> usize
+    ensures is { result ≡ calls_before beyond number history.now }
+    ensures few { result ≤ length history.now }
+{
+    for place in 0..history.len() {
+        let event = history.at(place).unwrap();
+        if is_from(beyond, number, event.reply) {
+            return place;
+        }
+    }
+    history.len()
+}
+
+pub fn first_row<'a, B: Allocator>(history: &History<'a, B>, from: Option<u64>) -> usize
+    ensures is { result ≡ first_row history.now from }
+    ensures few { result ≤ length history.now }
+{
+    match from {
+        Some(number) => calls_before(history, false, number),
+        None => 0,
+    }
+}
+
+pub fn last_row<'a, B: Allocator>(history: &History<'a, B>, to: Option<u64>) -> usize
+    ensures is { result ≡ last_row history.now to }
+    ensures few { result ≤ length history.now }
+{
+    match to {
+        Some(number) => calls_before(history, true, number),
+        None => history.len(),
+    }
+}

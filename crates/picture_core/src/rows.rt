@@ -1,0 +1,205 @@
+//! What is drawn of each recorded call.
+ghost use Rattle.std.specs.Prelude.{◌≡◌, ◌++◌, OnOk, string_bytes};
+ghost use Rattle.node_core.specs.Operations.{plain};
+ghost use Rattle.journal_core.specs.Holdings.{kepts};
+ghost use Rattle.svg_core.specs.Trees.{text_of};
+ghost use Rattle.bench_core.specs.Acts.{plain_act};
+ghost use Rattle.report_core.specs.StepDiffs.{asked_undo};
+ghost use Rattle.picture_core.specs.Rows.{lane_of, looks, mark_at, message_between, message_of, message_to, node_changed, node_undone, number_by, row_tree};
+
+use crate::kind::Kind;
+use crate::range::Range;
+use crate::sender::sender_of;
+use crate::shapes::{put_mark, put_message, put_number_label, put_words_label};
+use crate::standing::{Drawn, step_at};
+use bench_core::{Act, Bench, Event, Journal, Reply, Step};
+use payload_core::Oom;
+use report_core::{asked_undo, node_of_step};
+use std::alloc::Allocator;
+
+/// A message from the step that sent it to the one that delivers it.
+#[tactic(auto, using(crate::proofs::Texts::nothing_end))]
+fn put_between<'a, A: Allocator, B: Allocator>(
+    text: &mut String<A>,
+    nodes: u32,
+    steps: &[Drawn],
+    range: Range,
+    to: (u32, u16),
+    number: u64,
+    sender: u16,
+    source: u64,
+    alloc: &'a B,
+) -> Result<(), Oom>
+    ensures { OnOk result (string_bytes text.new ≡ string_bytes text.old ++
+        text_of (message_between nodes steps.now range to.0 number to.1 sender (Some source))) }
+{
+    let sent = step_at(steps, source);
+    let taken = step_at(steps, number);
+    let (row, node) = to;
+    if !range.shows(sent.row, row) {
+        return Ok(());
+    }
+    let kind = Kind::of(taken.standing.of_message(sent.standing));
+    let from = (sent.row, u32::from(sender));
+    put_message(
+        text,
+        nodes,
+        kind,
+        from,
+        (row, u32::from(node)),
+        source,
+        number,
+        alloc,
+    )
+}
+
+/// The message that a step delivers, before which these steps remained.
+#[tactic(auto, using(crate::proofs::Texts::nothing_end), unfolding(crate::specs::Rows::message_to))]
+fn put_message_to<'a, A: Allocator, B: Allocator>(
+    remaining: &Journal<'a, B>,
+    text: &mut String<A>,
+    nodes: u32,
+    steps: &[Drawn],
+    range: Range,
+    to: (u32, u16),
+    number: u64,
+    step: &Step<&'a B>,
+    alloc: &'a B,
+) -> Result<(), Oom>
+    ensures { OnOk result (string_bytes text.new ≡ string_bytes text.old ++
+        text_of (message_to nodes steps.now range to.0 number to.1 (kepts remaining.now.steps) (plain step.now))) }
+{
+    let Some((sender, message)) = step.delivers() else {
+        return Ok(());
+    };
+    let Some(source) = sender_of(remaining, sender, message) else {
+        return Ok(());
+    };
+    put_between(text, nodes, steps, range, to, number, sender, source, alloc)
+}
+
+/// The message that a recorded call delivered.
+#[tactic(auto, using(crate::proofs::Texts::nothing_end), unfolding(crate::specs::Rows::message_of))]
+pub fn put_message_of<'a, A: Allocator, B: Allocator>(
+    remaining: &Journal<'a, B>,
+    text: &mut String<A>,
+    nodes: u32,
+    steps: &[Drawn],
+    range: Range,
+    row: u32,
+    event: &Event<&'a B>,
+    alloc: &'a B,
+) -> Result<(), Oom>
+    ensures { OnOk result (string_bytes text.new ≡ string_bytes text.old ++
+        text_of (message_of nodes steps.now range (kepts remaining.now.steps) row event.now)) }
+{
+    match event.reply {
+        Reply::Taken(number) => match &event.act {
+            Act::Do(step) => {
+                let to = (row, event.actor);
+                put_message_to(
+                    remaining, text, nodes, steps, range, to, number, step, alloc,
+                )
+            }
+            Act::Undo(_) | Act::Back(_) => Ok(()),
+        },
+        Reply::Refused(_) | Reply::Undone(_) => Ok(()),
+    }
+}
+
+/// How a call looks.
+#[tactic(auto, unfolding(crate::specs::Rows::looks))]
+fn looks(steps: &[Drawn], reply: Reply) -> Kind
+    ensures { result ≡ looks steps.now reply }
+{
+    match reply {
+        Reply::Taken(number) => Kind::of(step_at(steps, number).standing),
+        Reply::Undone(_) => Kind::Back,
+        Reply::Refused(_) => Kind::Refused,
+    }
+}
+
+/// The node of the step whose undo an act asks for.
+pub fn node_undone<'a, B: Allocator>(bench: &Bench<'a, B>, act: &Act<&'a B>) -> Option<u16>
+    ensures { result ≡ node_undone bench.now (asked_undo bench.now (plain_act act.now)) }
+{
+    match asked_undo(bench, act) {
+        Some(number) => node_of_step(bench, number),
+        None => None,
+    }
+}
+
+/// The node that a call changed which was answered so, where that of the step whose undo it asked for is this.
+pub fn node_changed(actor: u16, reply: Reply, undone: Option<u16>) -> Option<u16>
+    ensures { result ≡ node_changed actor reply undone }
+{
+    match reply {
+        Reply::Taken(_) => Some(actor),
+        Reply::Undone(_) => undone,
+        Reply::Refused(_) => None,
+    }
+}
+
+/// At whose lane the mark of a call stands that changed this node: at its lane, or at that of who was refused, if it is a node.
+pub fn lane_of(nodes: u32, actor: u16, reply: Reply, changed: Option<u16>) -> Option<u16>
+    ensures { result ≡ lane_of nodes actor reply changed }
+{
+    match reply {
+        Reply::Taken(_) | Reply::Undone(_) => changed,
+        Reply::Refused(_) => {
+            if u32::from(actor) < nodes {
+                Some(actor)
+            } else {
+                None
+            }
+        }
+    }
+}
+
+#[tactic(auto, using(crate::proofs::Texts::nothing_end))]
+fn put_mark_at<'a, A: Allocator, B: Allocator>(
+    text: &mut String<A>,
+    nodes: u32,
+    row: u32,
+    kind: Kind,
+    title: &str,
+    node: Option<u16>,
+    alloc: &'a B,
+) -> Result<(), Oom>
+    ensures { OnOk result (string_bytes text.new ≡ string_bytes text.old ++ text_of (mark_at nodes row kind title.now node)) }
+{
+    match node {
+        Some(node) => put_mark(text, nodes, u32::from(node), row, kind, title, alloc),
+        None => Ok(()),
+    }
+}
+
+#[tactic(auto, using(crate::proofs::Texts::nothing_end))]
+fn put_number_by<A: Allocator>(text: &mut String<A>, row: u32, reply: Reply) -> Result<(), Oom>
+    ensures { OnOk result (string_bytes text.new ≡ string_bytes text.old ++ text_of (number_by row reply)) }
+{
+    match reply {
+        Reply::Taken(number) => put_number_label(text, row, number),
+        Reply::Undone(_) | Reply::Refused(_) => Ok(()),
+    }
+}
+
+/// The number of the step of a call, its mark and its words, where the mark stands at this lane.
+pub fn put_row<'a, A: Allocator, B: Allocator>(
+    text: &mut String<A>,
+    nodes: u32,
+    steps: &[Drawn],
+    lane: Option<u16>,
+    row: u32,
+    reply: Reply,
+    title: &str,
+    words: &str,
+    alloc: &'a B,
+) -> Result<(), Oom>
+    ensures { OnOk result (string_bytes text.new ≡ string_bytes text.old ++ text_of (row_tree nodes steps.now lane row reply title.now words.now)) }
+{
+    let kind = looks(steps, reply);
+    put_number_by(text, row, reply)?;
+    put_mark_at(text, nodes, row, kind, title, lane, alloc)?;
+    put_words_label(text, nodes, row, kind, words)
+}

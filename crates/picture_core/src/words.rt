@@ -1,0 +1,83 @@
+//! The words of a row, and the title of its mark.
+ghost use Rattle.std.specs.Prelude.{◌≡◌, ◌++◌, IfOk, OnOk, string_bytes};
+ghost use Rattle.report_core.specs.ActRows.{acted_text};
+ghost use Rattle.picture_core.specs.Words.{reply_words, row_words, title_told, words_told};
+
+use bench_core::{Event, Names, Reply, TextSet};
+use diff_core::OnlineRow;
+use payload_core::Oom;
+use report_core::{Acted, put_acted};
+use std::alloc::Allocator;
+use transcript_core::put_call;
+
+/// What a call got, but for a step that was taken, which has its number.
+fn put_reply_words<A: Allocator>(text: &mut String<A>, reply: Reply) -> Result<(), Oom>
+    ensures { OnOk result (string_bytes text.new ≡ string_bytes text.old ++ reply_words reply) }
+{
+    match reply {
+        Reply::Taken(_) => Ok(()),
+        Reply::Undone(number) => Ok(write!(text, "  undone {number}")?),
+        Reply::Refused(fault) => Ok(write!(text, "  no {fault}")?),
+    }
+}
+
+/// One row by its topic and key, and more by how many they are.
+fn put_row_words<A: Allocator, R: Allocator>(
+    text: &mut String<A>,
+    sign: &str,
+    rows: &[OnlineRow<R>],
+) -> Result<(), Oom>
+    ensures { OnOk result (string_bytes text.new ≡ string_bytes text.old ++ row_words sign.now rows.now) }
+{
+    match rows {
+        [] => Ok(()),
+        [row] => {
+            let topic = row.topic.as_str();
+            let key = row.key.as_str();
+            Ok(write!(text, "  {sign}{topic} {key}")?)
+        }
+        _ => {
+            let count = rows.len();
+            Ok(write!(text, "  {sign}{count}")?)
+        }
+    }
+}
+
+/// The call as a line of a script, what it got, and the rows that left and joined the online list of its node.
+#[tactic(auto, unfolding(crate::specs::Words::words_told))]
+pub fn words_of<'a, B: Allocator, N: Allocator, C: Allocator>(
+    names: &Names<N>,
+    consoles: &TextSet<C>,
+    event: &Event<&'a B>,
+    acted: &Acted<&'a B>,
+    alloc: &'a B,
+) -> Result<String<&'a B>, Oom>
+    ensures { IfOk result (λ words. string_bytes words ≡
+        words_told names.now consoles.now event.now acted.now.change.left.items acted.now.change.joined.items) }
+{
+    let mut words = String::new(alloc);
+    put_call(&mut words, names, consoles, event.actor, &event.act)?;
+    put_reply_words(&mut words, event.reply)?;
+    put_row_words(&mut words, "-", &acted.change.left)?;
+    put_row_words(&mut words, "+", &acted.change.joined)?;
+    Ok(words)
+}
+
+/// The call as a line of a script, and what it printed.
+#[tactic(auto, unfolding(crate::specs::Words::title_told))]
+pub fn title_of<'a, B: Allocator, N: Allocator, C: Allocator>(
+    names: &Names<N>,
+    consoles: &TextSet<C>,
+    event: &Event<&'a B>,
+    acted: &Acted<&'a B>,
+    alloc: &'a B,
+) -> Result<String<&'a B>, Oom>
+    ensures { IfOk result (λ title. string_bytes title ≡
+        title_told names.now consoles.now event.now (acted_text names.now acted.now.reply acted.now.change.left.items acted.now.change.joined.items)) }
+{
+    let mut title = String::new(alloc);
+    put_call(&mut title, names, consoles, event.actor, &event.act)?;
+    title.push_str("\n")?;
+    put_acted(&mut title, names, acted)?;
+    Ok(title)
+}

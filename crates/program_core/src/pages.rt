@@ -1,0 +1,60 @@
+//! A page on which the run is looked at that an input gives.
+ghost use Rattle.std.specs.Prelude.{◌≡◌, IfErr, IfOk, OnOk};
+ghost use Rattle.std.specs.Io.KnownBytes.{IsAtEnd};
+ghost use Rattle.command_line.specs.declared.chosen.Subcommand.TheVariants as subcommands;
+ghost use Rattle.program_core.specs.Program.{EndsAt, FailsAs, KeepsBefore, TellsMemory};
+ghost use Rattle.program_core.specs.Views.{page_of};
+
+use crate::aside::Aside;
+use crate::fault::Fault;
+use crate::inputs::{Run, read_run};
+use crate::printing::print;
+use bench_core::Limits;
+use command_line::Form;
+use page_core::put_page;
+use page_data::page_data;
+use payload_core::Oom;
+use picture_core::draw_whole;
+use script_core::Steps;
+use std::alloc::{Allocator, Global};
+use std::io::{Read, Write};
+use std::sync::ledger::Ledger;
+use transcript_core::bench_steps;
+
+/// The page of a run.
+fn page_of<'a, B: Allocator>(alloc: &'a B, run: &Run<'a, B>) -> Result<Vec<u8, &'a B>, Oom>
+    ensures { IfOk result (λ page. page.items ≡ page_of run.now.bench run.now.consoles) }
+{
+    let picture = draw_whole(alloc, &run.bench, &run.consoles)?;
+    let report = bench_steps(alloc, &run.bench, &run.consoles)?;
+    let data = page_data(alloc, &run.bench, &run.consoles)?;
+    let mut page = Vec::new(alloc);
+    put_page(&mut page, &picture, &report, data.as_bytes())?;
+    Ok(page)
+}
+
+/// A page of the run that the input gives.
+pub fn page_run<B: Allocator, R: Read, W: Write, L: Ledger>(
+    heap: Global,
+    alloc: &B,
+    reader: &mut R,
+    writer: &mut W,
+    limits: Limits,
+    form: Form,
+    aside: &mut Aside,
+    steps: &mut Steps<L>,
+) -> Result<(), Fault>
+    ensures ends { EndsAt subcommands.Page form limits (R.remaining reader.old) result (W.contents writer.old) (W.contents writer.new) }
+    ensures read { OnOk result (IsAtEnd (R.remaining reader.new)) }
+    ensures unwritten { IfErr result (λ fault. KeepsBefore fault (W.contents writer.old) (W.contents writer.new)) }
+    ensures memory { IfErr result TellsMemory }
+    ensures failed { FailsAs result steps.old steps.new }
+{
+    let run = read_run(heap, alloc, reader, limits, aside, steps)?;
+    let page = page_of(alloc, &run);
+    drop(run);
+    let Ok(text) = page else {
+        return Err(Fault::OutOfMemory);
+    };
+    print(writer, &text)
+}

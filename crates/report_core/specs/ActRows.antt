@@ -1,0 +1,26 @@
+-- The rows that an act changes of its node's online list.
+use Rattle.std.specs.Prelude.{ℕ, List, ◌++◌, Option}
+use Rattle.bench_core.specs.declared.reply.Reply.{Reply}
+use Rattle.bench_core.specs.Acts.{Action}
+use Rattle.bench_core.specs.Machine.{Machine}
+use Rattle.bench_core.specs.NameList.{Texts}
+use Rattle.diff_core.specs.Diffs.{alone}
+use Rattle.diff_core.specs.Rows.{Row}
+use Rattle.report_core.specs.ActTexts.{after_act, reply_of}
+use Rattle.report_core.specs.Rows.{change_lines, reply_line}
+use Rattle.report_core.specs.Shown.{changed, rows_of}
+
+-- the node whose online list an act changes: that of the step that is taken, or taken back
+abbrev pub changed_by : Machine → ℕ → Action → Option ℕ
+changed_by m actor act = changed m.state.remaining actor (reply_of m actor act)
+
+-- the rows that leave that list, and those that join it
+unfoldable pub left_by : Machine → ℕ → Action → List Row
+left_by m actor act = alone (rows_of m (changed_by m actor act)) (rows_of (after_act m actor act) (changed_by m actor act))
+
+unfoldable pub joined_by : Machine → ℕ → Action → List Row
+joined_by m actor act = alone (rows_of (after_act m actor act) (changed_by m actor act)) (rows_of m (changed_by m actor act))
+
+-- a reply, and the rows that left and joined
+unfoldable pub acted_text : Texts → Reply → List Row → List Row → List ℕ
+acted_text names reply left joined = reply_line reply ++ change_lines names left joined
