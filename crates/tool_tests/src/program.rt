@@ -36,7 +36,10 @@ const REFUSED: &[(&[&str], ErrorKind)] = &[
     (&["draw", "--to", "-"], ErrorKind::InvalidValue),
     (&["draw", "a"], ErrorKind::InvalidValue),
     (&["draw", "-", "r"], ErrorKind::InvalidValue),
-    (&["draw", "a", "r", "alice", "x"], ErrorKind::UnknownArgument),
+    (
+        &["draw", "a", "r", "alice", "x"],
+        ErrorKind::UnknownArgument,
+    ),
     (&["page", "x"], ErrorKind::UnknownArgument),
     (&["page", "--why", "1"], ErrorKind::UnknownArgument),
     (&["draw", "--script", "1"], ErrorKind::UnknownArgument),
