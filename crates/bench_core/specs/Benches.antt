@@ -31,7 +31,7 @@ pub record IsBench (c : Config) (s : State) (nodes : Cluster) (hs : List Held) (
   pub is_now : now c s ≡ Ok nodes
   -- the inverses lead back along that run
   pub chain : Chain (Ok (opening_of (node_limits c.limits) c.nodes)) hs
-  -- so many steps were ever taken
+  -- `taken` steps were ever taken
   pub count : taken ≡ given s.history
   pub fits : length s.history + length s.remaining ≤ c.limits.acts
   pub limits : AreLimits c.limits

@@ -19,7 +19,7 @@ abbrev pub opening_from : NodeLimits → ℕ → ℕ → Cluster
 opening_from l first zero = []
 opening_from l first (suc count) = opening_node first l ∷ opening_from l (first + 1) count
 
--- so many empty nodes
+-- `count` empty nodes
 abbrev pub opening_of : NodeLimits → ℕ → Cluster
 opening_of l count = opening_from l 0 count
 
@@ -56,7 +56,7 @@ abbrev pub of_node : Result Node StepFault → Result Node Fault
 of_node (Ok n) = Ok n
 of_node (Err e) = Err (fault_of e)
 
--- what a node of so many becomes
+-- what a node of a cluster of `count` nodes becomes
 abbrev pub node_step : ℕ → Option Node → Operation → Option Message → Result Node Fault
 node_step count None s m = Err UnknownNode
 node_step count (Some node) s m = if list_all (λ k. nat_lt k count) (named_in s) then of_node (take node s m) else Err UnknownNode

@@ -45,7 +45,7 @@ pub record IsSameAt (ks : List Kept) (place : ℕ) (js : List Kept) (second : �
   pub node : one.node ≡ other.node
   pub step : one.step ≡ other.step
 
--- these steps of one journal are those of the other, numbers aside
+-- these steps of one journal are those of the other, whatever their numbers
 pub record AreStepsOf (ks : List Kept) (ms : List Movable) (js : List Kept) : Type 0 where
   pub count : length ms ≡ length js
   pub each : (i : ℕ) (m : Movable) → slice_get ms i ≡ Some m → IsSameAt ks m.place js i

@@ -12,11 +12,11 @@ use Rattle.bench_core.specs.Machine.{Machine}
 abbrev pub are_independent : List Kept → Kept → Kept → Bool
 are_independent ks a b = not (a.node == b.node) && (not (delivers_from ks a b) && not (delivers_from ks b a))
 
--- the steps, numbers aside
+-- the steps, without their numbers
 abbrev pub unnumbered : List Kept → List (ℕ × Operation)
 unnumbered ks = map (λ k. (k.node, k.step)) ks
 
--- swaps of adjacent independent steps lead from one journal to the other, numbers aside
+-- swaps of adjacent independent steps lead from one journal to the other; step numbers don't matter
 pub data AreEquivalent : List Kept → List Kept → Type 0 where
   Alike : (ks js : List Kept) → unnumbered ks ≡ unnumbered js → AreEquivalent ks js
   Swap : (first rest js : List Kept) (a b : Kept) → are_independent (first ++ a ∷ b ∷ rest) a b ≡ true →

@@ -50,7 +50,7 @@ abbrev pub HasNoneOf : List Kept → ℕ → List ℕ → Type 0
 HasNoneOf ks node [] = Unit {0}
 HasNoneOf ks node (n ∷ numbers) = ((k : Kept) → find_number ks n ≡ Some k → k.node ≢ node) × HasNoneOf ks node numbers
 
--- a node of which none of these steps is: their undos leave it as it was
+-- a node of which none of these steps is: their undos don't change it
 abbrev pub OthersLaw : Type 0
 OthersLaw =
     (c : Config) (s : State) (actor node : ℕ) (numbers : List ℕ) (old : Cluster) → IsReached c s → now c s ≡ Ok old →
@@ -69,7 +69,7 @@ pub record AreUndone (old : Machine) (actor : ℕ) (numbers : List ℕ) (new : M
   pub state : new ≡ with_state old (calls (config_of old) old.state (undos actor numbers))
   -- the history has these undos more
   pub history : new.state.history ≡ old.state.history ++ map (undone_event actor) numbers
-  -- these steps are gone, and the others are as they were
+  -- these steps are gone, and the others unchanged
   pub remaining : new.state.remaining ≡ without_all old.state.remaining numbers
 
 -- the numbers of the steps that were undone, in the order of their undos

@@ -86,7 +86,7 @@ impl<'a, B: Allocator> Model for Bench<'a, B> {
 }
 
 impl<'a, B: Allocator> Bench<'a, B> {
-    /// A bench of empty nodes that was asked nothing.
+    /// A fresh bench of empty nodes.
     pub fn new(alloc: &'a B, names: Names<&'a B>, limits: Limits) -> Result<Self, Oom>
         ensures { IfOk result (λ b. b ≡ opening_machine names.entry limits) }
     {

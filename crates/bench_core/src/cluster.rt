@@ -179,8 +179,8 @@ impl<'a, B: Allocator> Cluster<'a, B> {
         step_node(&mut self.nodes, node, step, meter)
     }
 
-    /// This node as it was before its last step, which the inverse is of. Memory that is refused leaves all as it was, and
-    /// gives the inverse back.
+    /// Takes back the last step of this node, which the inverse is of. Where memory is refused nothing changes, and the
+    /// inverse comes back.
     pub fn give_back(
         &mut self,
         node: u16,

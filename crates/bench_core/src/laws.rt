@@ -33,15 +33,15 @@ pub fn chain_law()
 {}
 
 /// Of a reached machine: the undos of the future of a step are all made, greatest number first; whatever undos and steps
-/// back take the step back take back all of it; and a node of which no step is undone stays as it was.
+/// back take the step back take back all of it; and a node of which no step is undone doesn't change.
 pub fn unwind_law()
     ensures future { UndoneInTurnLaw }
     ensures least { LeastLaw }
     ensures others { OthersLaw }
 {}
 
-/// Swaps: of two journals between which swaps of adjacent independent steps lead, numbers aside, one runs where the other
-/// does, and then to the same cluster.
+/// Swaps: if swaps of adjacent independent steps turn one journal into another, either both run, to the same cluster, or
+/// neither does. Step numbers don't matter.
 pub fn swap_law()
     ensures equal_runs { SwapLaw }
     ensures swaps_by_place { PlacesLaw }

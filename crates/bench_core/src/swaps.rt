@@ -98,7 +98,7 @@ fn is_same<'a, B: Allocator>(
     }
 }
 
-/// Whether these steps of a journal are those of the other, numbers aside.
+/// Whether these steps of a journal are those of the other, whatever their numbers.
 fn are_steps_of<'a, B: Allocator>(
     one: &Journal<'a, B>,
     steps: &[Movable],
@@ -124,7 +124,7 @@ fn are_of_one_kind<'a, B: Allocator>(one: &Bench<'a, B>, other: &Bench<'a, B>) -
     one.names().same(other.names()) && one.limits() == other.limits()
 }
 
-/// Whether these swaps lead from the remaining steps of one bench to those of the other, numbers aside: swap `i` exchanges
+/// Whether these swaps lead from the remaining steps of one bench to those of the other, whatever their numbers: swap `i` exchanges
 /// the steps at places `i` and `i + 1`, from 1, which are of different nodes, and neither delivers what the other sent.
 /// (Causal equivalence, after Danos and Krivine.)
 pub fn same_cluster<'a, B: Allocator>(

@@ -101,6 +101,23 @@ asks_taken ks k place old new t at is back here of more =
       stays = λ first h. subst (λ (ts : List Taken). Led ks first ts new.cluster) (sym more) (led_more ks first old.taken old.cluster t new.cluster h leads);
     }
 
+-- no step stands there
+pub asks_nothing : (ks : List Kept) (place : ℕ) (w : Walk) → slice_get ks place ≡ None → Asks ks place w w true
+asks_nothing ks place w none = record {
+  reached = ap (λ o. reached (then_runs (Ok w.cluster) (with_step o []))) none;
+  stays = λ first h. h;
+}
+
+-- a step that was refused
+pub asks_refused : (ks : List Kept) (k : Kept) (place : ℕ) (old new : Walk) → slice_get ks place ≡ Some k → reached (step old.cluster k.node k.step) ≡ None →
+    new ≡ old → Asks ks place old new false
+asks_refused ks k place old new at is same = record {
+  reached =
+      ap (λ o. reached (then_runs (Ok old.cluster) (with_step o []))) at
+      ∙ ap reached (then_none (step old.cluster k.node k.step)) ∙ is;
+  stays = λ first h. subst (λ (w : Walk). Led ks first w.taken w.cluster) (sym same) h;
+}
+
 -- a step that is taken back
 
 pub may_go_back : (ks : List Kept) (c : Cluster) (ts : List Taken) (t : Taken) (d : Cluster) → Led ks c (ts ++ t ∷ []) d → LeadsNodeBack d t.node t.inverse

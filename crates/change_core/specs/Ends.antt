@@ -30,6 +30,6 @@ end_of m ks = option_and_then (λ run. reached (run_of m run)) (order_of ks)
 unfoldable pub rows_after : Machine → Question → Change → Option (List Row)
 rows_after m q c = option_map (rows_at q) (end_of m (changed m.state.remaining c))
 
--- the rows at the end of the run as it was
+-- the rows at the end of the recorded run
 abbrev pub rows_before : Machine → Question → List Row
 rows_before m q = rows_of q (cluster_of m)

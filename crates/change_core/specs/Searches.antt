@@ -17,7 +17,7 @@ pub record Known : Type 0 where
   pub places : List ℕ
   pub rows : List Row
 
--- two walks, the run as it was, and the last that was possible
+-- two walks, the recorded run, and the last that was possible
 pub record Search : Type 0 where
   pub here : Walk
   pub there : Walk

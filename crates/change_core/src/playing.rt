@@ -42,7 +42,7 @@ impl<A: Allocator> Model for Known<A> {
 pub struct Search<'a, B: Allocator> {
     here: Walk<'a, B>,
     there: Walk<'a, B>,
-    /// The run as it was.
+    /// The recorded run.
     recorded: Known<&'a B>,
     /// The last one that was possible.
     last: Known<&'a B>,
@@ -97,7 +97,7 @@ fn meet_on<'a, B: Allocator>(
     Ok(false)
 }
 
-/// Plays two runs, from where they part to where their steps are the same again, and so many of these: says whether they met.
+/// Plays two runs, from where they part to where their steps are the same again, and `far` of these: says whether they met.
 fn meet<'a, B: Allocator>(
     here: &mut Walk<'a, B>,
     there: &mut Walk<'a, B>,
@@ -138,7 +138,7 @@ fn meet_known<'a, B: Allocator>(
     meet(here, there, steps, run, known.places.as_slice(), far)
 }
 
-/// The run as it was, with the rows at its end.
+/// The recorded run, with the rows at its end.
 fn run_as_it_was<W: Allocator, A: Allocator + Copy>(
     steps: &[Kept<W>],
     before: &[OnlineRow<A>],
@@ -203,7 +203,7 @@ impl<'a, B: Allocator> Search<'a, B> {
         )
     }
 
-    /// Whether the run rather ends as the last than as it was: it parts with that later.
+    /// Whether the run rather ends as the last changed one than as the recorded one: it parts with that later.
     fn is_near_last(&self, run: &[usize]) -> bool {
         let by_last = common_end(run, self.last.places.as_slice());
         let by_recorded = common_end(run, self.recorded.places.as_slice());

@@ -69,7 +69,7 @@ pub(crate) fn rows_at<'a, B: Allocator>(
     rows_in(cluster.node(node), node, topic, key, alloc)
 }
 
-/// The rows at the end of the run as it was.
+/// The rows at the end of the recorded run.
 pub fn rows_before<'a, B: Allocator>(
     bench: &Bench<'a, B>,
     node: u16,

@@ -1,11 +1,8 @@
 //! `Walk`: a run that is played on a cluster of its own, and from which steps are taken back.
-ghost use Rattle.std.specs.Prelude.{◌≡◌, ◌≤◌, ◌-◌, List, IfNone, IfOk, IfSome, OnOk, Some, None, if◌then◌else◌, is_some, length, take};
-ghost use Rattle.node_core.specs.Inverses.{plain_inverse};
+ghost use Rattle.std.specs.Prelude.{◌≡◌, ◌≤◌, ◌-◌, List, IfOk, OnOk, length, take};
 ghost use Rattle.journal_core.specs.Journals.{Kept as PlainKept};
-ghost use Rattle.bench_core.specs.Benches.{LeadsClusterBack};
-ghost use Rattle.bench_core.specs.Clusters.{opening_of, step};
+ghost use Rattle.bench_core.specs.Clusters.{opening_of};
 ghost use Rattle.bench_core.specs.Limits.{node_limits};
-ghost use Rattle.change_core.specs.Ends.{reached};
 ghost use Rattle.change_core.specs.Walks.{places_of, Asks, GoesTo, IsSomeWalk, IsWalk, IsWalkOf, StaysWalk};
 
 use bench_core::{Bench, Cluster, Fault, Inverse, Kept};
@@ -47,22 +44,6 @@ impl<'a, B: Allocator> Model for Walk<'a, B> {
     ghost coded = { walk_code };
 
     ghost view = { λ w. record { cluster = w.cluster; taken = w.taken.items } };
-}
-
-/// Has a node take a step: where it was accepted, what leads back.
-fn ask<'a, B: Allocator>(
-    cluster: &mut Cluster<'a, B>,
-    kept: &Kept<&'a B>,
-) -> Result<Option<Inverse<&'a B>>, Oom>
-    ensures reached { IfOk result (λ taken. reached (step cluster.old kept.now.node kept.now.step) ≡ (if is_some taken then Some cluster.new else None)) }
-    ensures back { IfOk result (λ taken. IfSome taken (λ inverse. LeadsClusterBack cluster.new kept.now.node (plain_inverse inverse) cluster.old)) }
-    ensures refused { IfOk result (λ taken. IfNone taken (cluster.new ≡ cluster.old)) }
-{
-    match cluster.step(kept.node, &kept.step) {
-        Ok(inverse) => Ok(Some(inverse)),
-        Err(Fault::OutOfMemory) => Err(Oom),
-        Err(_) => Ok(None),
-    }
 }
 
 /// How many steps at the beginning were taken at these places.
@@ -114,15 +95,18 @@ impl<'a, B: Allocator> Walk<'a, B> {
             return Ok(true);
         };
         let node = kept.node;
-        let Some(inverse) = ask(&mut self.cluster, kept)? else {
-            return Ok(false);
-        };
-        self.taken.push(Taken {
-            place,
-            node,
-            inverse,
-        })?;
-        Ok(true)
+        match self.cluster.step(node, &kept.step) {
+            Ok(inverse) => {
+                self.taken.push(Taken {
+                    place,
+                    node,
+                    inverse,
+                })?;
+                Ok(true)
+            }
+            Err(Fault::OutOfMemory) => Err(Oom),
+            Err(_) => Ok(false),
+        }
     }
 
     /// Takes the last step back.
@@ -146,7 +130,7 @@ impl<'a, B: Allocator> Walk<'a, B> {
         Ok(())
     }
 
-    /// Takes steps back until so many are left.
+    /// Takes steps back until `count` are left.
     fn back_to(&mut self, count: usize) -> Result<(), Oom>
         requires walk { IsSomeWalk self.old }
         requires count { count ≤ length self.old.taken }

@@ -1,14 +1,14 @@
 -- What a subcommand prints is told by its name, and of an import by its options.
-use Rattle.std.proofs.Common.{◌≡◌, ℕ, Bool, true, false, if◌then◌else◌, List, codes, Option, Some, None, refl, sym, ap, ◌∙◌, true≢false}
+use Rattle.std.proofs.Common.{◌≡◌, ℕ, Bool, true, false, not, if◌then◌else◌, List, codes, Option, Some, None, refl, sym, ap, ◌∙◌, true≢false}
 use Rattle.std.specs.Str.{bytes_eq}
 use Rattle.command_line.specs.declared.chosen.About.{About}
 use Rattle.command_line.specs.declared.chosen.Form.{Form}
-use Rattle.command_line.specs.declared.chosen.Form.TheVariants.{Report, Steps, Script, Session}
+use Rattle.command_line.specs.declared.chosen.Form.TheVariants.{Report, Steps, Script, Session, Page as PageForm}
 use Rattle.command_line.specs.declared.chosen.Options.{Options}
 use Rattle.command_line.specs.declared.chosen.Question.{Question}
 use Rattle.command_line.specs.declared.chosen.Subcommand.{Subcommand}
 use Rattle.command_line.specs.declared.chosen.Subcommand.TheVariants.{Play, Race, Load, Import, Explore, Step, Draw, Page, Explain, Whatif}
-use Rattle.command_line.specs.Line.{IsFlag, IsForm, Takes, can_print, form_name, import_prints, name_of, race_prints, usual_form}
+use Rattle.command_line.specs.Line.{IsFlag, IsForm, Takes, can_print, form_name, import_prints, is_page, name_of, race_prints, usual_form}
 
 by_name : List ℕ → Form
 by_name name = if bytes_eq name (codes "import") then Script else Report
@@ -31,7 +31,7 @@ usual_alike command other same = usual_by_name command ∙ ap by_name same ∙ s
 
 prints_by_name : List ℕ → Bool → Form → Bool
 prints_by_name name check form =
-    if bytes_eq name (codes "import") then import_prints check form else (if bytes_eq name (codes "race") then race_prints form else true)
+    if bytes_eq name (codes "import") then import_prints check form else (if bytes_eq name (codes "race") then race_prints form else not (is_page form))
 
 can_by_name : (options : Options) (question : Option Question) (of : Option About) (command : Subcommand) (form : Form) → Takes options question of command →
     can_print command form ≡ prints_by_name (name_of command) options.check form
@@ -65,18 +65,27 @@ named_alike Report Report same = refl
 named_alike Report Steps same = absurd (true≢false (ap (bytes_eq (codes "report")) same))
 named_alike Report Script same = absurd (true≢false (ap (bytes_eq (codes "report")) same))
 named_alike Report Session same = absurd (true≢false (ap (bytes_eq (codes "report")) same))
+named_alike Report PageForm same = absurd (true≢false (ap (bytes_eq (codes "report")) same))
 named_alike Steps Report same = absurd (true≢false (ap (bytes_eq (codes "steps")) same))
 named_alike Steps Steps same = refl
 named_alike Steps Script same = absurd (true≢false (ap (bytes_eq (codes "steps")) same))
 named_alike Steps Session same = absurd (true≢false (ap (bytes_eq (codes "steps")) same))
+named_alike Steps PageForm same = absurd (true≢false (ap (bytes_eq (codes "steps")) same))
 named_alike Script Report same = absurd (true≢false (ap (bytes_eq (codes "script")) same))
 named_alike Script Steps same = absurd (true≢false (ap (bytes_eq (codes "script")) same))
 named_alike Script Script same = refl
 named_alike Script Session same = absurd (true≢false (ap (bytes_eq (codes "script")) same))
+named_alike Script PageForm same = absurd (true≢false (ap (bytes_eq (codes "script")) same))
 named_alike Session Report same = absurd (true≢false (ap (bytes_eq (codes "session")) same))
 named_alike Session Steps same = absurd (true≢false (ap (bytes_eq (codes "session")) same))
 named_alike Session Script same = absurd (true≢false (ap (bytes_eq (codes "session")) same))
 named_alike Session Session same = refl
+named_alike Session PageForm same = absurd (true≢false (ap (bytes_eq (codes "session")) same))
+named_alike PageForm Report same = absurd (true≢false (ap (bytes_eq (codes "page")) same))
+named_alike PageForm Steps same = absurd (true≢false (ap (bytes_eq (codes "page")) same))
+named_alike PageForm Script same = absurd (true≢false (ap (bytes_eq (codes "page")) same))
+named_alike PageForm Session same = absurd (true≢false (ap (bytes_eq (codes "page")) same))
+named_alike PageForm PageForm same = refl
 
 pub form_alike : (usual : Form) (value : Option (List ℕ)) (a b : Form) → IsForm usual value a → IsForm usual value b → a ≡ b
 form_alike usual None a b is has = is ∙ sym has

@@ -3,7 +3,7 @@ use Rattle.std.specs.Prelude.{◌≡◌, ◌≢◌, ◌⊎◌, ◌<◌, ◌^◌,
 use Rattle.std.specs.Str.Parse.{IsNumeral, digits_value, without_leading_plus}
 use Rattle.clap.specs.Words.{App, IsAmong, Row, Rule, fault_of, first_of, new_app, new_rule, with_rule, with_subcommand, subcommand_of}
 use Rattle.command_line.specs.declared.chosen.Form.{Form}
-use Rattle.command_line.specs.declared.chosen.Form.TheVariants.{Report, Steps, Script, Session}
+use Rattle.command_line.specs.declared.chosen.Form.TheVariants.{Report, Steps, Script, Session, Page as PageForm}
 use Rattle.command_line.specs.declared.chosen.Subcommand.{Subcommand}
 use Rattle.command_line.specs.declared.chosen.Subcommand.TheVariants.{Play, Race, Load, Import, Explore, Step, Draw, Page, Explain, Whatif}
 use Rattle.command_line.specs.declared.chosen.Question.{Question}
@@ -115,6 +115,7 @@ form_name Report = codes "report"
 form_name Steps = codes "steps"
 form_name Script = codes "script"
 form_name Session = codes "session"
+form_name PageForm = codes "page"
 
 -- the form in which a subcommand prints where none is named
 abbrev pub usual_form : Subcommand → Form
@@ -198,6 +199,10 @@ abbrev pub is_script : Form → Bool
 is_script Script = true
 is_script form = false
 
+abbrev pub is_page : Form → Bool
+is_page PageForm = true
+is_page form = false
+
 abbrev pub race_prints : Form → Bool
 race_prints Report = true
 race_prints Session = true
@@ -206,13 +211,14 @@ race_prints form = false
 -- a check is printed in its own form alone
 abbrev pub import_prints : Bool → Form → Bool
 import_prints check Session = not check
+import_prints check PageForm = not check
 import_prints check form = is_script form
 
--- a race is printed as a report or a session, and an import as a script or a session
+-- a race is printed as a report or a session, an import as a script, a session or a page, and nothing else as a page
 abbrev pub can_print : Subcommand → Form → Bool
 can_print (Import check lines lenient) form = import_prints check form
 can_print Race form = race_prints form
-can_print command form = true
+can_print command form = not (is_page form)
 
 -- the subcommand has this name, and the form and the rest those that its options and words give
 pub record IsChoiceOf (name : List ℕ) (values : List ℕ → Option (List ℕ)) (choice : Choice) : Type 0 where

@@ -52,8 +52,8 @@ pub enum Subcommand<'w> {
         lines: bool,
         lenient: bool,
     },
-    /// Tells what the network could have made of what happened, where so many deliveries may be lost and so many come again, keeping
-    /// no more different states than so many; or the run of the outcome of this number, alone.
+    /// Tells what the network could have made of what happened, where `lost` deliveries may be missing and `again` come twice, keeping
+    /// at most `states` different states; or the run of the outcome of this number, alone.
     Explore {
         about: About<'w>,
         lost: usize,
@@ -87,6 +87,8 @@ pub enum Form {
     Script,
     /// The session, which can be loaded again.
     Session,
+    /// A page of HTML, with what logs tell beside.
+    Page,
 }
 
 /// What the words of a command line ask.

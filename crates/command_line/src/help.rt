@@ -72,7 +72,7 @@ pub const FORMS: &str = "What to print: report (as without it), steps, script or
 
 pub const RACE_FORMS: &str = "What to print: report (as without it) or session";
 
-pub const IMPORT_FORMS: &str = "What to print: script (as without it) or session";
+pub const IMPORT_FORMS: &str = "What to print: script (as without it), session or page";
 
 pub const PLAY_USAGE: &str = "presence_bench play [OPTIONS] < SCRIPT";
 

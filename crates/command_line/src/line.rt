@@ -1,9 +1,9 @@
 //! The command line, read by `clap`.
-ghost use Rattle.std.specs.Prelude.{◌≡◌, ℕ, IfErr, IfNone, IfOk, IfSome, OnErr, Option, codes, map, false};
+ghost use Rattle.std.specs.Prelude.{◌≡◌, ℕ, IfErr, IfNone, IfOk, IfSome, IsOk, OnErr, Option, codes, map, false};
 ghost use Rattle.clap.specs.Words.{app_of, first_value, found_of, kind_of, new_app, rule_of, with_rule, with_subcommand};
 ghost use Rattle.clap.specs.declared.Command.TheViews.{out-Command as fields_of};
 ghost use Rattle.clap.specs.declared.error.kind.ErrorKind.TheVariants.{OutOfMemory};
-ghost use Rattle.command_line.specs.Line.{about_app, app, as_rule, bare_app, draw_app, lanes_app, page_app, explain_app, explore_app, flag_rule, import_app, network_app, number_rule, optional_rule, question_app, race_app, step_app, strict_app, whatif_app, word_rule, AreOptions, AsksOtherwise, Chooses, IsChoiceOf, IsAbout, IsFlag, IsForm, IsOnline, IsNumber, IsQuestion, IsRefusal, IsUnnamed, Misspells, NeedsLast, Spells, SpellsBefore, Takes, can_print, name_of, usual_form};
+ghost use Rattle.command_line.specs.Line.{about_app, app, as_rule, bare_app, draw_app, lanes_app, page_app, explore_app, flag_rule, import_app, network_app, number_rule, optional_rule, question_app, step_app, strict_app, whatif_app, word_rule, AreOptions, AsksOtherwise, Chooses, IsChoiceOf, IsAbout, IsFlag, IsForm, IsOnline, IsNumber, IsQuestion, IsRefusal, IsUnnamed, Misspells, NeedsLast, Spells, SpellsBefore, Takes, can_print, name_of, usual_form};
 ghost use Rattle.command_line.specs.declared.chosen.About.{About as Of};
 ghost use Rattle.command_line.specs.declared.chosen.Choice.{Choice as Chosen};
 ghost use Rattle.command_line.specs.declared.chosen.Form.{Form as Shown};
@@ -108,6 +108,20 @@ fn strict_line<'a>(
     ensures local { IfOk result (λ line. (fields_of line).has_globals ≡ false) }
 {
     form_line(alloc, name, about, usage, FORMS)?.arg(flag_option(alloc, "strict", STRICT))
+}
+
+/// The same, whose help ends with an example.
+fn example_line<'a>(
+    alloc: Global,
+    name: &'a str,
+    about: &'a str,
+    usage: &'a str,
+    example: &'a str,
+) -> Result<Command<'a>, AllocError>
+    ensures app { IfOk result (λ line. app_of line ≡ strict_app name.entry.now) }
+    ensures local { IfOk result (λ line. (fields_of line).has_globals ≡ false) }
+{
+    Ok(strict_line(alloc, name, about, usage)?.after_help(example))
 }
 
 /// A subcommand that may be asked of a node, and of a topic and a key there.
@@ -229,67 +243,21 @@ fn bare_line<'a>(alloc: Global) -> Command<'a>
         .subcommand_required(true)
 }
 
-/// The line with one more subcommand, which races.
-fn with_race<'a>(line: Command<'a>, alloc: Global) -> Result<Command<'a>, AllocError>
-    ensures { IfOk result (λ longer. app_of longer ≡ with_subcommand (app_of line.entry) race_app.top) }
-{
-    let added = form_line(alloc, "race", RACE, RACE_USAGE, RACE_FORMS)?;
-    line.subcommand(added)
-}
-
-/// The line with one more subcommand, which may be strict.
-fn with_strict<'a>(
+/// The line with one more subcommand, if that was made.
+fn with_line<'a>(
     line: Command<'a>,
-    alloc: Global,
-    name: &'a str,
-    about: &'a str,
-    usage: &'a str,
-    example: &'a str,
+    added: Result<Command<'a>, AllocError>,
 ) -> Result<Command<'a>, AllocError>
-    ensures { IfOk result (λ longer. app_of longer ≡ with_subcommand (app_of line.entry) (strict_app name.entry.now).top) }
+    requires { IfOk added (λ command. (fields_of command).has_globals ≡ false) }
+    ensures { IfOk result (λ longer. IsOk added.entry × IfOk added.entry (λ command. app_of longer ≡ with_subcommand (app_of line.entry) (app_of command).top)) }
 {
-    let added = strict_line(alloc, name, about, usage)?.after_help(example);
-    line.subcommand(added)
-}
-
-/// The line with one more subcommand, which tells what the network could have done.
-fn with_explore<'a>(line: Command<'a>, alloc: Global) -> Result<Command<'a>, AllocError>
-    ensures { IfOk result (λ longer. app_of longer ≡ with_subcommand (app_of line.entry) explore_app.top) }
-{
-    let added = explore_line(alloc)?;
-    line.subcommand(added)
-}
-
-/// The line with one more subcommand, which draws.
-fn with_draw<'a>(line: Command<'a>, alloc: Global) -> Result<Command<'a>, AllocError>
-    ensures { IfOk result (λ longer. app_of longer ≡ with_subcommand (app_of line.entry) draw_app.top) }
-{
-    let added = draw_line(alloc)?;
-    line.subcommand(added)
-}
-
-/// The line with one more subcommand, which explains.
-fn with_explain<'a>(line: Command<'a>, alloc: Global) -> Result<Command<'a>, AllocError>
-    ensures { IfOk result (λ longer. app_of longer ≡ with_subcommand (app_of line.entry) explain_app.top) }
-{
-    let added = question_line(alloc, "explain", EXPLAIN, EXPLAIN_USAGE)?;
-    line.subcommand(added)
-}
-
-/// The line with one more subcommand, which tells what else could have made a difference.
-fn with_whatif<'a>(line: Command<'a>, alloc: Global) -> Result<Command<'a>, AllocError>
-    ensures { IfOk result (λ longer. app_of longer ≡ with_subcommand (app_of line.entry) whatif_app.top) }
-{
-    let added = whatif_line(alloc)?;
-    line.subcommand(added)
-}
-
-/// The line with one more subcommand, which makes a script of logs.
-fn with_import<'a>(line: Command<'a>, alloc: Global) -> Result<Command<'a>, AllocError>
-    ensures { IfOk result (λ longer. app_of longer ≡ with_subcommand (app_of line.entry) import_app.top) }
-{
-    let added = import_line(alloc)?;
-    line.subcommand(added)
+    match added {
+        Ok(added) => line.subcommand(added),
+        Err(refused) => {
+            drop(line);
+            Err(refused)
+        }
+    }
 }
 
 /// The whole line. Each call takes the line before along, so that nothing large lives at an early end.
@@ -297,16 +265,25 @@ fn line<'a>(alloc: Global) -> Result<Command<'a>, AllocError>
     ensures { IfOk result (λ line. app_of line ≡ app) }
 {
     let line = bare_line(alloc);
-    let line = with_strict(line, alloc, "play", PLAY, PLAY_USAGE, PLAY_EXAMPLE)?;
-    let line = with_race(line, alloc)?;
-    let line = with_strict(line, alloc, "load", LOAD, LOAD_USAGE, LOAD_EXAMPLE)?;
-    let line = with_explore(line, alloc)?;
-    let line = line.subcommand(step_line(alloc))?;
-    let line = with_draw(line, alloc)?;
-    let line = line.subcommand(page_line(alloc))?;
-    let line = with_explain(line, alloc)?;
-    let line = with_whatif(line, alloc)?;
-    with_import(line, alloc)
+    let line = with_line(
+        line,
+        example_line(alloc, "play", PLAY, PLAY_USAGE, PLAY_EXAMPLE),
+    )?;
+    let line = with_line(line, form_line(alloc, "race", RACE, RACE_USAGE, RACE_FORMS))?;
+    let line = with_line(
+        line,
+        example_line(alloc, "load", LOAD, LOAD_USAGE, LOAD_EXAMPLE),
+    )?;
+    let line = with_line(line, explore_line(alloc))?;
+    let line = with_line(line, Ok(step_line(alloc)))?;
+    let line = with_line(line, draw_line(alloc))?;
+    let line = with_line(line, Ok(page_line(alloc)))?;
+    let line = with_line(
+        line,
+        question_line(alloc, "explain", EXPLAIN, EXPLAIN_USAGE),
+    )?;
+    let line = with_line(line, whatif_line(alloc))?;
+    with_line(line, import_line(alloc))
 }
 
 /// The words that come in their places, where all three are there.
@@ -417,6 +394,7 @@ fn form_of<'a>(matches: &ArgMatches<'a>, usual: Form) -> Option<Form>
         Some("steps") => Some(Form::Steps),
         Some("script") => Some(Form::Script),
         Some("session") => Some(Form::Session),
+        Some("page") => Some(Form::Page),
         Some(_) => None,
     }
 }
@@ -488,10 +466,10 @@ fn can_print(command: Subcommand<'_>, form: Form) -> bool
     ensures { result ≡ can_print command.entry form }
 {
     match (command, form) {
-        (Subcommand::Import { check, .. }, Form::Session) => !check,
+        (Subcommand::Import { check, .. }, Form::Session | Form::Page) => !check,
         (Subcommand::Import { .. }, _) => form == Form::Script,
         (Subcommand::Race, _) => form == Form::Report || form == Form::Session,
-        (_, _) => true,
+        (_, _) => form != Form::Page,
     }
 }
 
@@ -499,7 +477,7 @@ fn can_print(command: Subcommand<'_>, form: Form) -> bool
 fn forms_of(command: Subcommand<'_>) -> &'static str {
     match command {
         Subcommand::Import { check: true, .. } => "import --check prints what it found alone",
-        Subcommand::Import { .. } => "import prints a script or a session",
+        Subcommand::Import { .. } => "import prints a script, a session or a page",
         Subcommand::Race => "race prints a report or a session",
         _ => "--as takes report, steps, script or session",
     }

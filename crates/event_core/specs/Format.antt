@@ -20,7 +20,7 @@ list ds = array (items_of ds)
 abbrev pub whole : ℕ → Data
 whole n = number (unsigned n)
 
--- of so many numbers from `first` on, those in the set
+-- those in the set of a number of numbers from `first` on
 unfoldable pub numbers_from : Names → ℕ → ℕ → List ℕ
 numbers_from names first zero = []
 numbers_from names first (suc count) =

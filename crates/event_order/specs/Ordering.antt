@@ -94,11 +94,11 @@ pub record IsOrdered (events : List Logged) (order : List ℕ) : Type 0 where
   pub nearest : IsNearest events order
   pub once : NoTwice events
 
--- each event is of one of so many nodes, counted from 0
+-- each event is of one of `nodes` nodes, counted from 0
 abbrev pub HasNodes : ℕ → List Logged → Type 0
 HasNodes nodes events = (place : ℕ) → place < length events → node_at events place < nodes
 
--- each message that is sent or waited for is one of so many, counted from 0
+-- each message that is sent or waited for is one of `messages`, counted from 0
 pub record HasMessages (messages : ℕ) (events : List Logged) : Type 0 where
   pub waits : (place message : ℕ) → waits_at events place ≡ Some message → message < messages
   pub sends : (place message : ℕ) → sends_at events place ≡ Some message → message < messages

@@ -12,7 +12,7 @@ use Rattle.journal_core.specs.Journals.{Kept}
 use Rattle.bench_core.specs.Machine.{Machine}
 use Rattle.explain_core.specs.Tracks.{after_step, opened, track_from, track_of}
 use Rattle.explain_core.specs.Tracings.{Traced, traced_from, traced_of, traced_on, untraced}
-use Rattle.explain_core.specs.Explanations.{making_text, making_texts, tracked_text}
+use Rattle.explain_core.specs.Explanations.{making_text, making_texts, traced_text, tracked_text}
 use Rattle.explain_core.specs.Standings.{standing_by, standing_in}
 use Rattle.explain_core.specs.declared.making.Making.{Making}
 use Rattle.explain_core.specs.declared.standing.Standing.TheVariants.{Unseen}
@@ -90,9 +90,6 @@ traced_end m asked ks n makings items ts new is same start at steps count =
     ∙ traced_whole m makings
 
 -- what is told of them
-
-abbrev pub traced_text : Machine → ℕ → Traced → List ℕ
-traced_text m node t = tracked_text m node t.making t.track
 
 pub traced_texts : (m : Machine) (node : ℕ) (makings : List Making) → flat_map (traced_text m node) (map (traced_of m) makings) ≡ making_texts m node makings
 unfolding making_text making_texts

@@ -1,5 +1,5 @@
 -- One step more of the walks over the remaining steps, and over the steps of a track.
-use Rattle.std.proofs.Common.{◌≡◌, ℕ, ◌+◌, ◌≤◌, ◌==◌, ◌&&◌, Bool, true, false, if◌then◌else◌, List, [], ◌∷◌, ◌++◌, get_or, length, take, Option, Some, refl, sym, ap, ◌∙◌}
+use Rattle.std.proofs.Common.{◌≡◌, ℕ, zero, suc, ◌+◌, ◌<◌, ◌≤◌, slice_get, ◌==◌, ◌&&◌, Bool, true, false, if◌then◌else◌, List, [], ◌∷◌, ◌++◌, get_or, length, take, Option, Some, refl, sym, ap, ◌∙◌}
 use Rattle.std.proofs.Common.{append_assoc, arith}
 use Rattle.std.proofs.lemmas.List.{take_more}
 use Rattle.journal_core.specs.Journals.{Kept}
@@ -21,6 +21,20 @@ makings_more topic key asked next k left rest now new whole first so_far at is =
     ∙ ap (λ (m : Machine). now ++ (making_of m topic key k ++ makings_from topic key m rest)) at
     ∙ ap (λ (l : List Kept). now ++ makings_from topic key asked l) (sym first)
     ∙ so_far
+
+-- each of a list is known, and so is one more
+each_behind : {X : Type 0} (f : ℕ → X) (xs : List X) (x : X) → ((i : ℕ) → i < length xs → slice_get xs i ≡ Some (f i)) → x ≡ f (length xs) →
+    (i : ℕ) → i < length xs + 1 → slice_get (xs ++ x ∷ []) i ≡ Some (f i)
+each_behind f [] x each at zero lt = ap Some at
+each_behind f [] x each at (suc i) lt = absurd (omega (arith, lt))
+each_behind f (y ∷ ys) x each at zero lt = each 0 (omega arith)
+each_behind f (y ∷ ys) x each at (suc i) lt = each_behind (λ k. f (suc k)) ys x (λ k l. each (suc k) (omega (arith, l))) at i (omega (arith, lt))
+
+pub each_more : {X : Type 0} (f : ℕ → X) (xs new : List X) (x : X) (n : ℕ) → length xs ≡ n → ((i : ℕ) → i < n → slice_get xs i ≡ Some (f i)) → x ≡ f n →
+    new ≡ xs ++ x ∷ [] → (i : ℕ) → i < n + 1 → slice_get new i ≡ Some (f i)
+each_more f xs new x n many each at more i lt =
+    ap (λ l. slice_get l i) more
+    ∙ each_behind f xs x (λ k l. each k (omega (arith, l, many))) (at ∙ ap f (sym many)) i (omega (arith, lt, many))
 
 -- one more step that may be a status step
 pub status_more : (last whole : Option ℕ) (k : Kept) (left rest : List Kept) (node name : ℕ) → left ≡ k ∷ rest →

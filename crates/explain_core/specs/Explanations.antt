@@ -9,6 +9,7 @@ use Rattle.report_core.specs.Rows.{name_at}
 use Rattle.report_core.specs.StepText.{act_line}
 use Rattle.explain_core.specs.Standings.{is_same, standing_at}
 use Rattle.explain_core.specs.Tracks.{Track, stand_at, track_of}
+use Rattle.explain_core.specs.Tracings.{Traced}
 use Rattle.explain_core.specs.Makings.{makings_of}
 use Rattle.explain_core.specs.Findings.{Finding, finding_of, has_left, last_status, missing}
 use Rattle.explain_core.specs.declared.finding.Verdict.{Verdict}
@@ -47,9 +48,13 @@ verdict_text Missed = codes "missed"
 verdict_text Undelivered = codes "undelivered"
 verdict_text Unsent = codes "unsent"
 
+-- `VERDICT`, and the steps that it rests on
+unfoldable pub found_text : Machine → Finding → List ℕ
+found_text m finding = verdict_text finding.verdict ++ codes "\n" ++ step_lines m (codes "by") finding.steps
+
 -- `WHAT VERDICT`, and the steps that it rests on
 unfoldable pub finding_text : Machine → List ℕ → Finding → List ℕ
-finding_text m what finding = what ++ codes " " ++ verdict_text finding.verdict ++ codes "\n" ++ step_lines m (codes "by") finding.steps
+finding_text m what finding = what ++ codes " " ++ found_text m finding
 
 -- `dot NODE CLOCK`: the presence's dot, by its name and its clock
 unfoldable pub dot_line : Texts → Dot → List ℕ
@@ -77,6 +82,9 @@ unfoldable pub tracked_text : Machine → ℕ → Making → Track → List ℕ
 tracked_text m node making t =
     step_line m (codes "made") making.number ++ dot_line m.names making.dot ++ left_text m making.dot t ++ node_text m node making.dot t ++
     status_text m node making.dot ++ removal_text m node making.dot t
+
+abbrev pub traced_text : Machine → ℕ → Traced → List ℕ
+traced_text m node t = tracked_text m node t.making t.track
 
 unfoldable pub making_text : Machine → ℕ → Making → List ℕ
 making_text m node making = tracked_text m node making (track_of m making.dot)

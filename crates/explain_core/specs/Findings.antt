@@ -68,6 +68,13 @@ is_missed_at node wanted h = is_missed h.kind && is_of node wanted h
 abbrev pub is_sent_as : Standing → Hop → Bool
 is_sent_as wanted h = is_sent h.kind && is_same h.standing wanted
 
+-- it is a step of this kind for which the dot doesn't stand so at the node
+abbrev pub is_why : Kind → ℕ → Standing → Hop → Bool
+is_why kinds.Forgot node wanted h = is_forgotten_at node wanted h
+is_why kinds.Missed node wanted h = is_missed_at node wanted h
+is_why kinds.Sent node wanted h = is_sent_as wanted h
+is_why kinds.Came node wanted h = is_sent_as wanted h
+
 abbrev pub numbers_of : (Hop → Bool) → List Hop → List ℕ
 numbers_of test hops = map (λ h. h.number) (filter test hops)
 

@@ -1,4 +1,4 @@
--- How a dot came to stand as it does at each node: the remaining steps, asked again of a bench that was asked nothing.
+-- How a dot came to stand as it does at each node: the remaining steps, asked again of a fresh bench.
 use Rattle.std.specs.Prelude.{ℕ, ◌==◌, ◌&&◌, Bool, true, false, not, if◌then◌else◌, List, [], ◌∷◌, ◌++◌, find, length, replicate, slice_get, slice_set}
 use Rattle.std.specs.Prelude.{unwrap_or, Option, Some, None, option_map}
 use Rattle.dots_core.specs.declared.dot.Dot.{Dot}

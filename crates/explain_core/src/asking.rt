@@ -30,5 +30,8 @@ pub fn explain_asked<'a, B: Allocator>(
     };
     let topic = Word::new(alloc, question.topic)?;
     let key = Word::new(alloc, question.key)?;
-    Ok(explain(alloc, bench, node, &topic, &key)?)
+    let text = explain(bench, node, &topic, &key, alloc);
+    drop(key);
+    drop(topic);
+    Ok(text?)
 }

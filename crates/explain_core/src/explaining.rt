@@ -1,14 +1,15 @@
 //! The text of an explanation.
-ghost use Rattle.std.specs.Prelude.{◌≡◌, ◌++◌, IfOk, OnOk, codes, string_bytes};
+ghost use Rattle.std.specs.Prelude.{◌≡◌, ◌++◌, IfOk, OnOk, codes, length, string_bytes};
 ghost use Rattle.explain_core.specs.Findings.{AreStatuses};
-ghost use Rattle.explain_core.specs.Explanations.{dot_line, explanation, finding_text, head_line, labelled, left_text, making_text, making_texts, node_text, removal_text, status_text, step_line, step_line_if, step_lines, tracked_text, verdict_text};
+ghost use Rattle.std.specs.List.{flat_map};
+ghost use Rattle.explain_core.specs.Explanations.{dot_line, explanation, finding_text, found_text, head_line, labelled, left_text, making_text, making_texts, node_text, removal_text, status_text, step_line, step_line_if, step_lines, traced_text, tracked_text, verdict_text};
 
 use crate::finding::{
     Finding, Verdict, finding_of, has_left, last_statuses, missing, status_among,
 };
 use crate::making::{Making, makings_of};
 use crate::standing::{Standing, standing_at};
-use crate::tracing::traced_of;
+use crate::tracing::{Traced, traced_of};
 use crate::track::{Track, stand_at};
 use bench_core::{Bench, Kept, Names};
 use dots_core::Dot;
@@ -100,17 +101,16 @@ fn put_steps<'a, A: Allocator, B: Allocator>(
 }
 
 /// A verdict, and the steps that it rests on.
-#[tactic(auto, unfolding(crate::specs::Explanations::finding_text))]
-fn put_finding<'a, A: Allocator, B: Allocator, F: Allocator>(
+#[tactic(auto, unfolding(crate::specs::Explanations::found_text))]
+fn put_found<'a, A: Allocator, B: Allocator, F: Allocator>(
     bench: &Bench<'a, B>,
     text: &mut String<A>,
-    what: &str,
     finding: &Finding<F>,
 ) -> Result<(), Oom>
-    ensures { OnOk result (string_bytes text.new ≡ string_bytes text.old ++ finding_text bench.now what.now finding.now) }
+    ensures { OnOk result (string_bytes text.new ≡ string_bytes text.old ++ found_text bench.now finding.now) }
 {
     let verdict = finding.verdict.text();
-    writeln!(text, "{what} {verdict}")?;
+    writeln!(text, "{verdict}")?;
     put_steps(bench, text, "by", &finding.steps)
 }
 
@@ -144,11 +144,12 @@ fn put_node<'a, A: Allocator, B: Allocator>(
 ) -> Result<(), Oom>
     ensures { OnOk result (string_bytes text.new ≡ string_bytes text.old ++ node_text bench.now node dot track.now) }
 {
-    let finding = finding_of(bench, node, dot, track, alloc)?;
     let name = name_at(bench.names(), node);
-    let verdict = finding.verdict.text();
-    writeln!(text, "at {name} {verdict}")?;
-    put_steps(bench, text, "by", &finding.steps)
+    write!(text, "at {name} ")?;
+    let finding = finding_of(bench, node, dot, track, alloc)?;
+    let put = put_found(bench, text, &finding);
+    drop(finding);
+    put
 }
 
 /// `dot NODE CLOCK`.
@@ -182,7 +183,7 @@ fn put_status<'a, A: Allocator, B: Allocator>(
 }
 
 /// Why the removal didn't come, where it should have.
-#[tactic(auto, unfolding(crate::specs::Explanations::removal_text))]
+#[tactic(auto, unfolding(crate::specs::Explanations::removal_text, crate::specs::Explanations::finding_text))]
 fn put_removal<'a, A: Allocator, B: Allocator>(
     bench: &Bench<'a, B>,
     text: &mut String<A>,
@@ -194,8 +195,11 @@ fn put_removal<'a, A: Allocator, B: Allocator>(
     ensures { OnOk result (string_bytes text.new ≡ string_bytes text.old ++ removal_text bench.now node dot track.now) }
 {
     if standing_at(bench, node, dot).is_same(Standing::Live) && has_left(bench, dot) {
+        text.push_str("removal ")?;
         let finding = missing(alloc, &track.hops, node, Standing::Gone)?;
-        put_finding(bench, text, "removal", &finding)
+        let put = put_found(bench, text, &finding);
+        drop(finding);
+        put
     } else {
         Ok(())
     }
@@ -223,8 +227,25 @@ fn put_tracked<'a, A: Allocator, B: Allocator>(
     put_removal(bench, text, node, making.dot, track, alloc)
 }
 
+/// What is told of each of these.
+fn put_traced<'a, A: Allocator, B: Allocator>(
+    bench: &Bench<'a, B>,
+    text: &mut String<A>,
+    statuses: &[Option<u64>],
+    node: u16,
+    traced: &[Traced<&'a B>],
+    alloc: &'a B,
+) -> Result<(), Oom>
+    requires { AreStatuses bench.now.state.remaining node statuses.now }
+    ensures { OnOk result (string_bytes text.new ≡ string_bytes text.old ++ flat_map (traced_text bench.now node) traced.now) }
+{
+    for next in traced {
+        put_tracked(bench, text, statuses, node, next.making, &next.track, alloc)?;
+    }
+    Ok(())
+}
+
 /// What is told of each of these presences, whose tracks are followed together.
-#[tactic(auto, unfolding(crate::specs::Explanations::making_text, crate::specs::Explanations::making_texts))]
 fn put_some<'a, A: Allocator, B: Allocator>(
     bench: &Bench<'a, B>,
     text: &mut String<A>,
@@ -237,21 +258,13 @@ fn put_some<'a, A: Allocator, B: Allocator>(
     let names = bench.names().len() as u16;
     let statuses = last_statuses(bench.remaining(), node, names, alloc)?;
     let traced = traced_of(bench, makings, alloc)?;
-    for next in &traced {
-        put_tracked(
-            bench,
-            text,
-            &statuses,
-            node,
-            next.making,
-            &next.track,
-            alloc,
-        )?;
-    }
-    Ok(())
+    let put = put_traced(bench, text, &statuses, node, &traced, alloc);
+    drop(traced);
+    drop(statuses);
+    put
 }
 
-/// What is told of each presence. So many are followed at a time that their tracks take little memory.
+/// What is told of each presence. Few are followed at a time, so their tracks take little memory.
 #[tactic(auto, unfolding(crate::specs::Explanations::making_texts))]
 fn put_makings<'a, A: Allocator, B: Allocator>(
     bench: &Bench<'a, B>,
@@ -290,9 +303,29 @@ fn put_head<'a, A: Allocator, B: Allocator>(
     Ok(writeln!(text, " {key} {count}")?)
 }
 
-/// What is told of each presence of a topic and key that a remaining step made, behind the line that says how many there are.
+/// The line that says how many presences there are, and what is told of each.
+fn put_explanation<'a, A: Allocator, B: Allocator>(
+    bench: &Bench<'a, B>,
+    text: &mut String<A>,
+    node: u16,
+    topic: &Word<&'a B>,
+    key: &Word<&'a B>,
+    makings: &[Making],
+    alloc: &'a B,
+) -> Result<(), Oom>
+    ensures { OnOk result (string_bytes text.new ≡ string_bytes text.old ++
+        (head_line bench.now node topic.now key.now (length makings.now) ++ making_texts bench.now node makings.now)) }
+{
+    put_head(bench, text, node, topic, key, makings.len())?;
+    put_makings(bench, text, node, makings, alloc)
+}
+
+/// Why the presences of a topic and key are online at a node, and why not: of each that a remaining step made, in the order of
+/// these steps, the step; the one by which it left at its own node, if it did; how it stands at the node, with the steps that
+/// brought it there or by which it was lost; the last status step of the node about its name; and, where it left and is still
+/// there, why the removal didn't come.
 #[tactic(auto, unfolding(crate::specs::Explanations::explanation))]
-fn explained<'a, B: Allocator>(
+pub fn explain<'a, B: Allocator>(
     bench: &Bench<'a, B>,
     node: u16,
     topic: &Word<&'a B>,
@@ -303,23 +336,8 @@ fn explained<'a, B: Allocator>(
 {
     let makings = makings_of(bench, topic, key, alloc)?;
     let mut text = String::new(alloc);
-    put_head(bench, &mut text, node, topic, key, makings.len())?;
-    put_makings(bench, &mut text, node, &makings, alloc)?;
+    let put = put_explanation(bench, &mut text, node, topic, key, &makings, alloc);
+    drop(makings);
+    put?;
     Ok(text)
-}
-
-/// Why the presences of a topic and key are online at a node, and why not: of each that a remaining step made, in the order of
-/// these steps, the step; the one by which it left at its own node, if it did; how it stands at the node, with the steps that
-/// brought it there or by which it was lost; the last status step of the node about its name; and, where it left and is still
-/// there, why the removal didn't come.
-pub fn explain<'a, B: Allocator>(
-    alloc: &'a B,
-    bench: &Bench<'a, B>,
-    node: u16,
-    topic: &Word<&'a B>,
-    key: &Word<&'a B>,
-) -> Result<String<&'a B>, Oom>
-    ensures { IfOk result (λ text. string_bytes text ≡ explanation bench.now node topic.now key.now) }
-{
-    explained(bench, node, topic, key, alloc)
 }

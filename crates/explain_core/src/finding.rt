@@ -3,7 +3,8 @@ ghost use Rattle.std.specs.Prelude.{◌≡◌, IfOk};
 ghost use Rattle.journal_core.specs.Holdings.{kepts};
 ghost use Rattle.node_core.specs.Operations.{plain};
 ghost use Rattle.std.specs.Prelude.{None as Nothing};
-ghost use Rattle.explain_core.specs.Findings.{AreStatuses, chain, finding_of, forgotten_or, is_forgotten_at, is_link, is_missed_at, is_sent_as, is_status_of, is_up_at, last_status, missing, numbers_of, has_left};
+ghost use Rattle.explain_core.specs.Tracks.{stand_at};
+ghost use Rattle.explain_core.specs.Findings.{AreStatuses, chain, finding_of, found, forgotten_or, is_forgotten_at, is_link, is_missed_at, is_sent_as, is_status_of, is_up_at, is_why, last_status, missing, numbers_of, has_left};
 
 use crate::hop::{Hop, Kind};
 use crate::standing::{Standing, standing_at};
@@ -81,6 +82,17 @@ impl Hop {
     {
         matches!(self.kind, Kind::Sent) && self.standing.is_same(wanted)
     }
+
+    /// Whether it is a step of this kind for which the dot doesn't stand so at the node.
+    fn is_why(&self, kind: Kind, node: u16, wanted: Standing) -> bool
+        ensures { result ≡ is_why kind node wanted self.now }
+    {
+        match kind {
+            Kind::Forgot => self.is_forgotten_at(node, wanted),
+            Kind::Missed => self.is_missed_at(node, wanted),
+            Kind::Sent | Kind::Came => self.is_sent_as(wanted),
+        }
+    }
 }
 
 /// The sends and deliveries that brought the dot to a step, in their order.
@@ -103,39 +115,18 @@ fn chain<A: Allocator>(alloc: A, hops: &[Hop], by: Option<u64>) -> Result<Vec<u6
     Ok(numbers)
 }
 
-fn forgotten_at<A: Allocator>(
+/// The numbers of the steps of this kind for which the dot doesn't stand so at the node.
+fn numbers_of<A: Allocator>(
     alloc: A,
     hops: &[Hop],
+    kind: Kind,
     node: u16,
     wanted: Standing,
 ) -> Result<Vec<u64, A>, Oom>
-    ensures { IfOk result (λ numbers. numbers.items ≡ numbers_of (is_forgotten_at node wanted) hops.now) }
+    ensures { IfOk result (λ numbers. numbers.items ≡ numbers_of (is_why kind node wanted) hops.now) }
 {
     hops.iter()
-        .filter(|hop| hop.is_forgotten_at(node, wanted))
-        .map(|hop| hop.number)
-        .collect(alloc)
-}
-
-fn missed_at<A: Allocator>(
-    alloc: A,
-    hops: &[Hop],
-    node: u16,
-    wanted: Standing,
-) -> Result<Vec<u64, A>, Oom>
-    ensures { IfOk result (λ numbers. numbers.items ≡ numbers_of (is_missed_at node wanted) hops.now) }
-{
-    hops.iter()
-        .filter(|hop| hop.is_missed_at(node, wanted))
-        .map(|hop| hop.number)
-        .collect(alloc)
-}
-
-fn sent_as<A: Allocator>(alloc: A, hops: &[Hop], wanted: Standing) -> Result<Vec<u64, A>, Oom>
-    ensures { IfOk result (λ numbers. numbers.items ≡ numbers_of (is_sent_as wanted) hops.now) }
-{
-    hops.iter()
-        .filter(|hop| hop.is_sent_as(wanted))
+        .filter(|hop| hop.is_why(kind, node, wanted))
         .map(|hop| hop.number)
         .collect(alloc)
 }
@@ -150,21 +141,23 @@ pub fn missing<A: Allocator + Copy>(
 ) -> Result<Finding<A>, Oom>
     ensures { IfOk result (λ finding. finding ≡ missing hops.now node wanted) }
 {
-    let forgotten = forgotten_at(alloc, hops, node, wanted)?;
+    let forgotten = numbers_of(alloc, hops, Kind::Forgot, node, wanted)?;
     if !forgotten.is_empty() {
         return Ok(Finding {
             verdict: Verdict::Forgotten,
             steps: forgotten,
         });
     }
-    let missed = missed_at(alloc, hops, node, wanted)?;
+    drop(forgotten);
+    let missed = numbers_of(alloc, hops, Kind::Missed, node, wanted)?;
     if !missed.is_empty() {
         return Ok(Finding {
             verdict: Verdict::Missed,
             steps: missed,
         });
     }
-    let steps = sent_as(alloc, hops, wanted)?;
+    drop(missed);
+    let steps = numbers_of(alloc, hops, Kind::Sent, node, wanted)?;
     let verdict = if steps.is_empty() {
         Verdict::Unsent
     } else {
@@ -191,6 +184,19 @@ pub fn has_left<'a, B: Allocator>(bench: &Bench<'a, B>, dot: Dot) -> bool
     standing_at(bench, dot.name, dot).is_same(Standing::Gone)
 }
 
+/// This verdict, with the steps that brought the dot to how it stands at the node.
+fn brought<A: Allocator, T: Allocator>(
+    alloc: A,
+    track: &Track<T>,
+    node: u16,
+    verdict: Verdict,
+) -> Result<Finding<A>, Oom>
+    ensures { IfOk result (λ finding. finding ≡ found verdict (chain track.now.hops (stand_at track.now.stands node).by)) }
+{
+    let steps = chain(alloc, &track.hops, stand_at(&track.stands, node).by)?;
+    Ok(Finding { verdict, steps })
+}
+
 /// How the presence of a dot stands at a node, and why.
 #[tactic(auto, unfolding(crate::specs::Findings::finding_of))]
 pub fn finding_of<'a, B: Allocator>(
@@ -209,16 +215,9 @@ pub fn finding_of<'a, B: Allocator>(
             } else {
                 Verdict::Down
             };
-            let steps = chain(alloc, &track.hops, stand_at(&track.stands, node).by)?;
-            Ok(Finding { verdict, steps })
+            brought(alloc, track, node, verdict)
         }
-        Standing::Gone => {
-            let steps = chain(alloc, &track.hops, stand_at(&track.stands, node).by)?;
-            Ok(Finding {
-                verdict: Verdict::Removed,
-                steps,
-            })
-        }
+        Standing::Gone => brought(alloc, track, node, Verdict::Removed),
         Standing::Unseen => {
             if has_left(bench, dot) {
                 return Ok(Finding {

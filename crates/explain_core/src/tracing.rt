@@ -1,7 +1,7 @@
 //! Presences with the tracks of their dots, which are followed over the remaining steps together.
-ghost use Rattle.std.specs.Prelude.{◌≡◌, IfOk, List, OnOk, length, map};
+ghost use Rattle.std.specs.Prelude.{◌≡◌, ◌++◌, ◌∷◌, [], IfOk, List, OnOk, length, map};
 ghost use Rattle.explain_core.specs.declared.making.Making.{Making as Made};
-ghost use Rattle.explain_core.specs.Tracks.{opened};
+ghost use Rattle.explain_core.specs.Tracks.{opened as emptied};
 ghost use Rattle.explain_core.specs.Tracings.{AreLeft, IsLeft, traced_from, traced_of, traced_on, untraced};
 
 use crate::making::Making;
@@ -40,6 +40,19 @@ impl<'a, B: Allocator> Traced<&'a B> {
     }
 }
 
+/// Puts a presence with the track of a dot that no step has seen behind those before it.
+fn put_untraced<'a, B: Allocator>(
+    traced: &mut Vec<Traced<&'a B>, &'a B>,
+    making: Making,
+    nodes: usize,
+    alloc: &'a B,
+) -> Result<(), Oom>
+    ensures { OnOk result (traced.new.items ≡ traced.old.items ++ untraced nodes making ∷ []) }
+{
+    let track = Track::new(alloc, nodes)?;
+    Ok(traced.push(Traced { making, track })?)
+}
+
 /// Each presence with the track of a dot that no step has seen.
 fn untraced<'a, B: Allocator>(
     makings: &[Making],
@@ -50,11 +63,7 @@ fn untraced<'a, B: Allocator>(
 {
     let mut traced = Vec::with_capacity(alloc, makings.len())?;
     for making in makings {
-        let track = Track::new(alloc, nodes)?;
-        traced.push(Traced {
-            making: *making,
-            track,
-        })?;
+        put_untraced(&mut traced, *making, nodes, alloc)?;
     }
     Ok(traced)
 }
@@ -80,7 +89,7 @@ fn follow_steps<'a, B: Allocator>(
     asked: &mut Bench<'a, B>,
     traced: &mut [Traced<&'a B>],
 ) -> Result<(), Oom>
-    requires opened { asked.old ≡ opened bench.now }
+    requires opened { asked.old ≡ emptied bench.now }
     requires untraced { (makings : List Made) × (traced.old ≡ map (untraced (length bench.now.names)) makings) }
     ensures { OnOk result (traced.new ≡ map (traced_from asked.old bench.now.state.remaining) traced.old) }
 {
@@ -93,6 +102,21 @@ fn follow_steps<'a, B: Allocator>(
     Ok(())
 }
 
+/// Follows each dot over all steps that remain.
+fn follow_all<'a, B: Allocator>(
+    bench: &Bench<'a, B>,
+    traced: &mut [Traced<&'a B>],
+    alloc: &'a B,
+) -> Result<(), Oom>
+    requires { (makings : List Made) × (traced.old ≡ map (untraced (length bench.now.names)) makings) }
+    ensures { OnOk result (traced.new ≡ map (traced_from (emptied bench.now) bench.now.state.remaining) traced.old) }
+{
+    let mut asked = opened(bench, alloc)?;
+    let answer = follow_steps(bench, &mut asked, traced);
+    drop(asked);
+    answer
+}
+
 /// Each of these presences with the track of its dot.
 pub fn traced_of<'a, B: Allocator>(
     bench: &Bench<'a, B>,
@@ -102,9 +126,6 @@ pub fn traced_of<'a, B: Allocator>(
     ensures { IfOk result (λ traced. traced.items ≡ map (traced_of bench.now) makings.now) }
 {
     let mut traced = untraced(makings, bench.names().len(), alloc)?;
-    let mut asked = opened(bench, alloc)?;
-    let answer = follow_steps(bench, &mut asked, &mut traced);
-    drop(asked);
-    answer?;
+    follow_all(bench, &mut traced, alloc)?;
     Ok(traced)
 }

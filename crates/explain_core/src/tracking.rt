@@ -1,4 +1,4 @@
-//! The remaining steps, asked again of a bench that was asked nothing.
+//! The remaining steps, asked again of a fresh bench.
 ghost use Rattle.std.specs.Prelude.{◌≡◌, IfOk, OnOk};
 ghost use Rattle.explain_core.specs.Tracks.{after_step, opened};
 
@@ -6,7 +6,7 @@ use bench_core::{Act, Bench, Fault, Kept, Reply};
 use payload_core::Oom;
 use std::alloc::Allocator;
 
-/// A bench of the same names and limits that was asked nothing.
+/// A fresh bench of the same names and limits.
 pub fn opened<'a, B: Allocator>(bench: &Bench<'a, B>, alloc: &'a B) -> Result<Bench<'a, B>, Oom>
     ensures { IfOk result (λ asked. asked ≡ opened bench.now) }
 {

@@ -32,7 +32,7 @@ abbrev pub own_of : Option Node → List Dot
 own_of None = []
 own_of (Some x) = dots_up_to (last x.replica).name (last x.replica).clock
 
--- and those of so many nodes
+-- and those of the first `count` nodes
 unfoldable pub own_of_all : Cluster → ℕ → List Dot
 own_of_all c zero = []
 own_of_all c (suc n) = own_of_all c n ++ own_of (slice_get c n)

@@ -37,7 +37,7 @@ abbrev pub AreDistinct : Question → List Outcome → Type 0
 AreDistinct q [] = Unit {0}
 AreDistinct q (o ∷ os) = AllByRecursion (λ (x : Outcome). shown q o.cluster ≢ shown q x.cluster) os × AreDistinct q os
 
--- the first is that of the run as it was
+-- the first is that of the recorded run
 abbrev pub BeginsAsRecorded : Machine → List Outcome → Type 0
 BeginsAsRecorded m [] = ⊥
 BeginsAsRecorded m (o ∷ os) = steps_at m.state.remaining o.run ≡ m.state.remaining
@@ -67,7 +67,7 @@ AreOfDifferentStates m [] = Unit {0}
 AreOfDifferentStates m (x ∷ xs) =
     AllByRecursion (λ y. AreOfOneState m (steps_at m.state.remaining x) (steps_at m.state.remaining y) → ⊥) xs × AreOfDifferentStates m xs
 
--- there are more states than so many, and at least so many outcomes
+-- there are more than `most` states, and at least `found` outcomes
 pub record AreTooMany (m : Machine) (q : Question) (lost again most found : ℕ) : Type 0 where
   pub states : List (List ℕ)
   pub more : most < length states

@@ -19,7 +19,7 @@ plain questions.Cluster = OfCluster
 plain (questions.Node node) = OfNode node
 plain (questions.Presence node topic key) = OfPresence node topic key
 
--- the node, where one is asked for, is one of so many
+-- the node, where one is asked for, is one of `count`
 abbrev pub IsThere : ℕ → Question → Type 0
 IsThere count OfCluster = Unit {0}
 IsThere count (OfNode node) = node < count

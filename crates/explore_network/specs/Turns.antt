@@ -14,7 +14,7 @@ count_of t ks = length (filter (is_of t) ks)
 abbrev pub counts_of : List Turn → List Kept → List ℕ
 counts_of ts ks = map (λ t. count_of t ks) ts
 
--- the turn of which so many steps are among these
+-- the turn, with how many of these steps are its own
 abbrev pub turn_of : List Kept → ℕ → Option (ℕ × ℕ) → Turn
 turn_of j node delivers = record { node = node; delivers = delivers; recorded = count_of (record { node = node; delivers = delivers; recorded = 0 }) j }
 
@@ -22,7 +22,7 @@ turn_of j node delivers = record { node = node; delivers = delivers; recorded = 
 abbrev pub named : Kept → Turn
 named k = record { node = k.node; delivers = delivery_of k.step; recorded = 0 }
 
--- own steps of so many nodes
+-- own steps of the first `count` nodes
 abbrev pub own_turns : List Kept → ℕ → List Turn
 own_turns j zero = []
 own_turns j (suc n) = own_turns j n ++ turn_of j n None ∷ []

@@ -41,7 +41,7 @@ steps_at j (p ∷ ps) = with_step (slice_get j p) (steps_at j ps)
 abbrev pub told_by : Question → List Outcome → Cluster → Bool
 told_by q os c = list_any (λ o. same_shown (shown q o.cluster) (shown q c)) os
 
--- no more came again than may, and no delivery more than twice as often as it was recorded
+-- no more came again than may, and no delivery came more than twice as often as it was recorded
 pub record IsWithin (p : Plan) (w : List Kept) : Type 0 where
   pub again : extra p.turns (counts_of p.turns w) 0 ≤ p.again
   pub twice : AllByRecursion (λ (t : Turn). count_of t w - t.recorded ≤ t.recorded) p.turns
@@ -98,7 +98,7 @@ pub record Keeps (p : Plan) (q : Question) (known : List (List ℕ)) (os : List 
   pub apart : AreApart q os
   pub few : length known ≤ p.most
 
--- more states were met than may be kept, and so many outcomes
+-- more states were met than may be kept, and `n` outcomes found
 pub record IsTooMany (p : Plan) (q : Question) (n : ℕ) : Type 0 where
   pub plan : IsPlan p q
   pub known : List (List ℕ)

@@ -147,7 +147,7 @@ fn put_own_of<'a, B: Allocator>(
     }
 }
 
-/// The same of so many nodes.
+/// The same of the first `count` nodes.
 fn put_own_of_all<'a, B: Allocator>(
     dots: &mut Vec<Dot, &'a B>,
     cluster: &Cluster<'a, B>,

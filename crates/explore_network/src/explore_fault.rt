@@ -6,7 +6,7 @@ use node_core::Oom;
 /// Why the outcomes aren't told.
 #[derive(Clone, Copy, Debug, PartialEq, Eq)]
 pub enum ExploreFault {
-    /// As many states were kept as may be, and there was another; so many outcomes had been found.
+    /// As many states were kept as may be, and there was another; these outcomes had been found, by their number.
     TooManyStates { outcomes: usize },
     /// In some order the joins and updates could fill a node.
     MayFill,

@@ -124,7 +124,7 @@ fn plan_of<'a, B: Allocator>(
     }
 }
 
-/// So many zeros.
+/// A list of zeros.
 fn zeros<'a, B: Allocator>(count: usize, alloc: &'a B) -> Result<Vec<usize, &'a B>, Oom>
     ensures { IfOk result (λ zeros. zeros.items ≡ replicate count 0) }
 {
@@ -232,8 +232,8 @@ fn explore_plan<'a, B: Allocator, W: Watch<Walked>>(
     }
 }
 
-/// All outcomes of what the network could have made of the steps that remain: with up to so many deliveries missing, and up to
-/// so many that come a second time. At most so many states are kept. The watcher is told how far the walk has come.
+/// All outcomes of what the network could have made of the steps that remain: with up to `lost` deliveries missing, and up to
+/// `again` that come a second time. At most `most` states are kept. The watcher is told how far the walk has come.
 pub fn explore<'a, B: Allocator, W: Watch<Walked>>(
     bench: &Bench<'a, B>,
     question: &Question<&'a B>,

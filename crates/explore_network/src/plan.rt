@@ -15,11 +15,11 @@ pub(crate) struct Plan<'a, B: Allocator> {
     pub(crate) count: u16,
     /// The recorded steps.
     pub(crate) steps: Steps<&'a B>,
-    /// So many deliveries may be missing.
+    /// How many deliveries may be missing.
     pub(crate) lost: usize,
-    /// So many may come a second time.
+    /// How many may come a second time.
     pub(crate) again: usize,
-    /// So many states may be kept.
+    /// How many states may be kept.
     pub(crate) most: usize,
     pub(crate) turns: Vec<Turn, &'a B>,
     pub(crate) ranks: Vec<Rank, &'a B>,

@@ -21,7 +21,7 @@ pub enum Question<A: Allocator> {
 }
 
 impl<A: Allocator> Question<A> {
-    /// Whether the node that is asked for, where one is, is one of so many.
+    /// Whether the node that is asked for, where one is, is one of `count`.
     pub fn is_there(&self, count: usize) -> bool
         ensures { IsTrue result ↔ IsThere count (plain self.now) }
     {

@@ -125,7 +125,7 @@ fn close<A: Allocator>(
     }
 }
 
-/// What matters at the end of the node that is asked for, or of all: rows of so many nodes.
+/// What matters at the end of the node that is asked for, or of all: rows of `count` nodes.
 fn begun<'a, B: Allocator>(
     width: usize,
     asked: Option<u16>,

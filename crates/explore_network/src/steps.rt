@@ -44,7 +44,7 @@ pub(crate) fn made<A: Allocator>(steps: &[Kept<A>]) -> usize
     count_made(steps)
 }
 
-/// The places of so many steps.
+/// The places of `count` steps.
 pub(crate) fn places<'a, B: Allocator>(count: usize, alloc: &'a B) -> Result<Vec<usize, &'a B>, Oom>
     ensures { IfOk result (λ places. (j : List PlainKept) → length j ≡ count → steps_at j places.items ≡ j) }
 {

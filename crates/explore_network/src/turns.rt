@@ -74,7 +74,7 @@ fn own_turns<'a, B: Allocator>(
     Ok(turns)
 }
 
-/// The turns of so many nodes: of their own steps, by node, and then of the deliveries, by their first places.
+/// The turns of `count` nodes: of their own steps, by node, and then of the deliveries, by their first places.
 pub(crate) fn turns_of<'a, B: Allocator>(
     steps: &[Kept<&'a B>],
     count: u16,

@@ -45,7 +45,7 @@ pub record IsRun (m : Machine) (question : Question) (number : ℕ) (text : List
   pub told : numbered outcomes number ≡ Some o
   pub script : text ≡ run_text [] m.names (run_of m o)
 
--- there are so many, and none has this number
+-- there are `there_are` outcomes, and none has this number
 pub record HasNoOutcome (m : Machine) (question : Question) (number there_are : ℕ) : Type 0 where
   pub q : Plain
   pub outcomes : List Outcome

@@ -11,7 +11,7 @@ abbrev pub fault_of_word : WordFault → ReportFault
 fault_of_word words.BadWord = faults.NoWord
 fault_of_word words.OutOfMemory = faults.OutOfMemory
 
--- that of a walk that may keep so many states
+-- that of a walk that may keep this number of states
 abbrev pub fault_of_explore : ℕ → ExploreFault → ReportFault
 fault_of_explore states (explores.TooManyStates outcomes) = faults.TooManyStates states outcomes
 fault_of_explore states explores.MayFill = faults.MayFill

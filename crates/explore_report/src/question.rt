@@ -25,7 +25,7 @@ pub enum About<'q> {
 }
 
 /// What the network could have made of the steps that remain: with up to `lost` deliveries missing, and up to `again` that come a
-/// second time. At most so many states are kept.
+/// second time. At most `states` states are kept.
 #[derive(Clone, Copy, Debug, PartialEq, Eq)]
 pub struct Question<'q> {
     pub about: About<'q>,

@@ -15,13 +15,13 @@ pub enum ReportFault {
     /// The text is no word, so nothing is tracked under it.
     #[error("NoWord")]
     NoWord,
-    /// So many states were kept, which is all that may be, and there was another; so many outcomes had been found.
+    /// `states` states were kept, which is all that may be, and there was another; `outcomes` outcomes had been found.
     #[error("TooManyStates, more than {states}, outcomes so far {outcomes}")]
     TooManyStates { states: usize, outcomes: usize },
     /// In some order the joins and updates could fill a node.
     #[error("MayFill")]
     MayFill,
-    /// There are so many outcomes, and none has the number that was asked for.
+    /// There are `outcomes` outcomes, and none has the number that was asked for.
     #[error("NoSuchOutcome, there are {outcomes}")]
     NoSuchOutcome { outcomes: usize },
     /// A request for memory was refused.
@@ -52,7 +52,7 @@ impl From<WordFault> for ReportFault {
     }
 }
 
-/// The same of a walk that may keep so many states.
+/// The same of a walk that may keep `states` states.
 pub(crate) fn fault_of(fault: ExploreFault, states: usize) -> ReportFault
     ensures { result ≡ fault_of_explore states fault }
 {

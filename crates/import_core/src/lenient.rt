@@ -19,7 +19,7 @@ fn mark<A: Allocator>(sent: &mut Vec<bool, A>, sends: Option<usize>)
     }
 }
 
-/// Which of so many messages the events send.
+/// Which of all messages the events send, by their numbers.
 fn sent_by<A: Allocator + Copy>(
     alloc: A,
     notes: &[Noted<A>],

@@ -27,7 +27,7 @@ nodes_line names = codes "nodes" ++ spaced_names names
 abbrev pub in_order : List Note → List ℕ → List Note
 in_order notes order = map (note_at notes) order
 
--- a bench of these nodes that was asked nothing, and no message that was sent
+-- a fresh bench of these nodes, and no message that was sent
 abbrev pub opening : Limits → Texts → ℕ → Playing
 opening limits names messages = record { machine = opening_machine names limits; numbers = replicate messages 0 }
 

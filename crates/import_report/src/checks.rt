@@ -56,7 +56,7 @@ fn put_list<A: Allocator, N: Allocator, W: Allocator>(
 
 /// The online list of a node.
 #[tactic(auto, unfolding(report_core::specs::Shown::rows_at))]
-fn rows_at<'a, B: Allocator>(
+pub fn rows_at<'a, B: Allocator>(
     bench: &Bench<'a, B>,
     number: u16,
     alloc: &'a B,
@@ -195,7 +195,7 @@ fn put_agree<A: Allocator>(text: &mut String<A>, agreements: &[bool]) -> Result<
     Ok(writeln!(text, "agree {agree} of {all}")?)
 }
 
-/// What is told of events in this order, on a bench that was asked nothing; and whether they differ from it.
+/// What is told of events in this order, on a fresh bench; and whether they differ from it.
 pub(crate) fn checked<'a, B: Allocator>(
     bench: &mut Bench<'a, B>,
     text: &mut String<&'a B>,

@@ -9,10 +9,10 @@ ghost use Rattle.import_core.specs.Notes.{note_of};
 ghost use Rattle.import_report.specs.Events.{after_step, after_event, event_line, numbers_after, ended, mark_line, mark_text, event_text};
 
 use crate::numbers::{asked, note_sent};
-use bench_core::{Act, Bench, Fault, Names, Reply, Step};
+use bench_core::{Act, Bench, Names, Reply, Step};
 use import_core::Noted;
 use payload_core::Oom;
-use report_core::{name_at, put_act};
+use report_core::{answer, name_at, put_act};
 use std::alloc::Allocator;
 
 /// `show NODE`.
@@ -54,26 +54,9 @@ fn put_step<A: Allocator, N: Allocator, W: Allocator>(
     Ok(text.push_str("\n")?)
 }
 
-/// The reply to an act, unless it is want of memory.
-#[tactic(auto, unfolding(report_core::specs::ActTexts::reply_of, report_core::specs::ActTexts::after_act))]
-fn answer<'a, B: Allocator>(
-    bench: &mut Bench<'a, B>,
-    node: u16,
-    act: &Act<&'a B>,
-) -> Result<Reply, Oom>
-    ensures reply { IfOk result (λ reply. reply ≡ reply_of bench.old node (plain_act act.now)) }
-    ensures bench { OnOk result (bench.new ≡ after_act bench.old node (plain_act act.now)) }
-{
-    let reply = bench.act(node, act);
-    if reply == Reply::Refused(Fault::OutOfMemory) {
-        return Err(Oom);
-    }
-    Ok(reply)
-}
-
 /// A step of a node is asked, which sends this message, if any.
 #[tactic(auto, unfolding(crate::specs::Events::after_step))]
-pub(crate) fn play<'a, B: Allocator>(
+pub fn play<'a, B: Allocator>(
     bench: &mut Bench<'a, B>,
     numbers: &mut [u64],
     node: u16,

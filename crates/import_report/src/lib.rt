@@ -16,8 +16,12 @@ mod names;
 mod numbers;
 mod script;
 
+pub use checks::rows_at;
+pub use events::play;
 pub use importing::{Checked, import_bench, import_check, import_script};
-pub use script::Scripted;
+pub use names::shown_names;
+pub use numbers::asked;
+pub use script::{Scripted, zeros};
 
 /// Want of memory. It is std's error, so that `?` on a call of std gives it.
 pub use payload_core::Oom;

@@ -100,10 +100,7 @@ fn or_numbered<A: Allocator + Copy>(
 }
 
 /// The names of the nodes in the script: their own where a `nodes` line can have them all.
-pub(crate) fn shown_names<A: Allocator + Copy>(
-    alloc: A,
-    nodes: &TextSet<A>,
-) -> Result<Names<A>, Oom>
+pub fn shown_names<A: Allocator + Copy>(alloc: A, nodes: &TextSet<A>) -> Result<Names<A>, Oom>
     requires some { 0 < length nodes.now }
     requires few { length nodes.now ≤ 32 }
     ensures names { IfOk result (λ names. names ≡ shown_names nodes.now) }

@@ -18,10 +18,7 @@ fn number_at(numbers: &[u64], message: u64) -> Option<u64>
 }
 
 /// The step as the bench is asked it: the message by its number in the outbox; nothing where that was not sent, or of no nodes.
-pub(crate) fn asked<A: Allocator + Copy>(
-    step: &Step<A>,
-    numbers: &[u64],
-) -> Result<Option<Step<A>>, Oom>
+pub fn asked<A: Allocator + Copy>(step: &Step<A>, numbers: &[u64]) -> Result<Option<Step<A>>, Oom>
     ensures { IfOk result (λ s. option_map plain s ≡ asked numbers.now (plain step.now)) }
 {
     match step {

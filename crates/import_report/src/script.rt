@@ -58,8 +58,8 @@ fn put_events<'a, B: Allocator>(
     Ok(())
 }
 
-/// So many zeros.
-pub(crate) fn zeros<A: Allocator>(alloc: A, count: usize) -> Result<Vec<u64, A>, Oom>
+/// A zero for each message: none was sent yet.
+pub fn zeros<A: Allocator>(alloc: A, count: usize) -> Result<Vec<u64, A>, Oom>
     ensures { IfOk result (λ v. v.items ≡ replicate count 0) }
 {
     vec![in alloc; 0u64; count]

@@ -148,7 +148,7 @@ fn gather_back<'a, B: Allocator>(
     Ok(numbers)
 }
 
-/// The numbers of a step and of all that follows from it, greatest first, in time of so many times a logarithm.
+/// The numbers of a step and of all that follows from it, greatest first. It takes time with the steps found times a logarithm.
 pub(crate) fn future<'a, B: Allocator>(
     slots: &Slots<'a, B>,
     causes: &[Causes<'a, B>],

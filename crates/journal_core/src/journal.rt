@@ -50,7 +50,7 @@ impl<'a, B: Allocator> Model for Journal<'a, B> {
 }
 
 impl<'a, B: Allocator> Journal<'a, B> {
-    /// A journal of so many nodes, without a step.
+    /// A journal of `nodes` nodes, without a step.
     pub fn new(alloc: &'a B, nodes: u16) -> Result<Self, Oom>
         requires { nodes ≤ 32 }
         ensures { IfOk result (λ journal. journal ≡ record { nodes = nodes; steps = []; room = [] }) }
@@ -162,7 +162,7 @@ impl<'a, B: Allocator> Journal<'a, B> {
         Ok(())
     }
 
-    /// Puts a step with its inverse last. On a refusal both come back, and the journal is as it was.
+    /// Puts a step with its inverse last. On a refusal both come back, and the journal is unchanged.
     pub fn keep(
         &mut self,
         number: u64,

@@ -22,7 +22,7 @@ pub fn calls_of<'a>(text: &str, heap: &'a Heap, rt: &impl Abort) -> Calls<'a> {
     calls.expect(rt, text)
 }
 
-/// A bench of the script's nodes that was asked nothing.
+/// A fresh bench of the script's nodes.
 pub fn opened<'a>(text: &str, limits: Limits, heap: &'a Heap, rt: &impl Abort) -> Bench<'a, Heap> {
     let script = script_of(text, heap, rt);
     let names = node_names(&script).try_copy();

@@ -59,7 +59,7 @@ fn differ<'a>(
     Some(are_these)
 }
 
-/// Whether so many rows are left and joined where these come and go.
+/// How many rows are left and joined where these come and go: whether they are `counts`.
 fn come_to<'a>(
     left: &Rows<'a>,
     joined: &Rows<'a>,

@@ -114,7 +114,7 @@ fn entries_differ_by_dot_and_by_key(rt: HostRuntime) {
     holds!(&rt, compare(&rt, rt.alloc(), 1, "bob") == (false, false));
 }
 
-/// Whether so many entries are of these names.
+/// Whether `count` entries are of these names.
 fn has_only<A: Allocator + Copy>(
     rt: &impl Abort,
     entries: &EntrySet<A>,

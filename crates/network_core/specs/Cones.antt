@@ -15,7 +15,7 @@ use Rattle.network_core.specs.EasySteps.{GoesOn}
 use Rattle.network_core.specs.NetworkRuns.{IsNetworkRun, HaveSame, deliveries, how_many, is_delivery, is_of_kind, ordered}
 use Rattle.network_core.specs.Room.{made}
 
--- which dots matter: of each node's store, behind so many of its steps other than deliveries, and of each message, by sender and number
+-- which dots matter: of each node's store, after a number of its steps other than deliveries, and of each message, by sender and number
 pub record Cone : Type 0 where
   pub at : ℕ → ℕ → Dot → Bool
   pub of : ℕ → ℕ → Dot → Bool

@@ -29,12 +29,12 @@ abbrev pub is_of_kind : ℕ → ℕ → ℕ → ℕ → Operation → Bool
 is_of_kind node sender number n (Deliver s i) = (n == node) && ((s == sender) && (i == number))
 is_of_kind node sender number n _ = false
 
--- the lists have the same steps, as often, numbers aside: whatever the test, as many pass
+-- the lists have the same steps, as often, whatever their numbers: whatever the test, as many pass
 abbrev pub HaveSame : List Kept → List Kept → Type 0
 HaveSame ks js = (p : ℕ → Operation → Bool) → how_many p ks ≡ how_many p js
 
 -- r is a run of the network, where j is what was recorded: what each node does besides deliveries is as in j, in the same
--- order; and the deliveries are those of j, each at its node, at any places, but for so many that are lost, and so many that
+-- order; and the deliveries are those of j, each at its node, at any places, but for up to `lost` that are missing, and up to `again` that
 -- come a second time. That it is possible is said apart: where it runs, no delivery stands before its send
 pub record IsNetworkRun (j : List Kept) (lost again : ℕ) (r : List Kept) : Type 0 where
   pub own : (n : ℕ) → ordered r n ≡ ordered j n

@@ -3,7 +3,7 @@ use Rattle.std.specs.Prelude.{ℕ, zero, suc}
 use Rattle.std.specs.FinSet as set
 use Rattle.dots_core.specs.Names.{Names}
 
--- the first so many names
+-- the names below a number
 unfoldable pub names_below : ℕ → Names
 names_below zero = set.empty
 names_below (suc n) = set.insert (names_below n) n

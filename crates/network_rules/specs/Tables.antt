@@ -38,7 +38,7 @@ in_row (Some row) place = unwrap_or (slice_get row place) (unwrap_or (slice_get 
 abbrev pub names_at : List (List Names) → ℕ → ℕ → Names
 names_at rows n place = in_row (slice_get rows n) place
 
--- what matters to a node behind so many of its own steps
+-- what matters to a node after `taken` of its own steps
 abbrev pub matter : Tables → ℕ → ℕ → Names
 matter t n taken = names_at t.matters n taken
 
@@ -67,7 +67,7 @@ pub record IsClosed (steps : List Kept) (ranks : List Rank) (t : Tables) : Type 
   pub falls : (n p : ℕ) → Within (matter t n (suc p)) (matter t n p)
   pub keeps : (place : ℕ) (k : Kept) (x : Rank) → slice_get steps place ≡ Some k → slice_get ranks place ≡ Some x → KeepsAt t k x
 
--- all that is asked for matters to this node behind so many of its own steps
+-- all that is asked for matters to this node after `taken` of its own steps
 abbrev pub IsAsked : Tables → ℕ → ℕ → Type 0
 IsAsked t n taken = (d : Dot) → is_wanted t.dots d ≡ true → set.contains (matter t n taken) d.name ≡ true
 

@@ -48,7 +48,7 @@ is_whole (t ∷ ts) cs i = is_whole_by t.delivers t.recorded (count_at cs i) && 
 abbrev pub is_end : List Turn → List ℕ → ℕ → ℕ → Bool
 is_end ts cs lost again = is_whole ts cs 0 && (nat_le (missing ts cs 0) lost && nat_le (extra ts cs 0) again)
 
--- whether this step is the next of its turn, and may come: a step of so many recorded ones, with so many before it, where so many came,
+-- whether this step is the next of its turn, and may come: a step of `recorded` recorded ones, with `before` of them before it, where `count` came,
 -- and where one more may come again or not
 abbrev pub is_next_by : Option (ℕ × ℕ) → ℕ → ℕ → ℕ → Bool → Bool
 is_next_by None recorded before count more = before == count

@@ -1,4 +1,4 @@
-//! `Cone`: which names matter where. Of what a node has seen, behind so many of its own steps, and of a message.
+//! `Cone`: which names matter where. Of what a node has seen, after some of its own steps, and of a message.
 ghost use Rattle.std.specs.Prelude.{◌≡◌, ◌<◌, ℕ, List, map, suc, true, IsTrue, Some, slice_get};
 ghost use Rattle.std.specs.FinSet.{contains};
 ghost use Rattle.std.specs.List.{AllByRecursion};
@@ -86,7 +86,7 @@ impl<'a, B: Allocator> Cone<'a, B> {
         self.dots.as_slice()
     }
 
-    /// The names that matter to a node behind so many of its own steps.
+    /// The names that matter to a node after `taken` of its own steps.
     pub fn matter(&self, node: u16, taken: usize) -> NameSet
         ensures { result ≡ matter self.now node taken }
     {
@@ -158,7 +158,7 @@ impl<'a, B: Allocator> Cone<'a, B> {
         self.falls() && self.keeps_all(steps, ranks)
     }
 
-    /// Whether all that is asked for matters to this node behind so many of its own steps.
+    /// Whether all that is asked for matters to this node after `taken` of its own steps.
     fn is_asked(&self, node: u16, taken: usize) -> bool
         ensures { IsTrue result → IsAsked self.now node taken }
     {

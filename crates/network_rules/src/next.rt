@@ -12,7 +12,7 @@ pub fn count_at(counts: &[usize], place: usize) -> usize
     counts.get(place).copied().unwrap_or(0)
 }
 
-/// Whether no more than so many came that were not recorded so often.
+/// Whether at most `most` came more often than they were recorded.
 fn few_extra(turns: &[Turn], counts: &[usize], most: usize) -> bool
     ensures { result ≡ nat_le (extra turns.now counts.now 0) most }
 {
@@ -27,7 +27,7 @@ fn few_extra(turns: &[Turn], counts: &[usize], most: usize) -> bool
     true
 }
 
-/// Whether no more than so many are missing.
+/// Whether at most `most` are missing.
 fn few_missing(turns: &[Turn], counts: &[usize], most: usize) -> bool
     ensures { result ≡ nat_le (missing turns.now counts.now 0) most }
 {
@@ -51,7 +51,7 @@ fn may_repeat(turns: &[Turn], counts: &[usize], again: usize) -> bool
     again > 0 && few_extra(turns, counts, again - 1)
 }
 
-/// Whether all own steps of a node came, or no delivery more than twice as often as it was recorded.
+/// Whether all own steps of a node came, or no delivery came more than twice as often as it was recorded.
 fn is_whole_by(turn: Turn, count: usize) -> bool
     ensures { result ≡ is_whole_by turn.delivers turn.recorded count }
 {
@@ -80,7 +80,7 @@ pub fn is_end(turns: &[Turn], counts: &[usize], lost: usize, again: usize) -> bo
     is_whole(turns, counts) && few_missing(turns, counts, lost) && few_extra(turns, counts, again)
 }
 
-/// Whether a step is the next of its turn, with so many of the turn before it, where so many came.
+/// Whether a step is the next of its turn, with `before` of the turn before it, where `count` came.
 fn is_next_by(
     turns: &[Turn],
     counts: &[usize],

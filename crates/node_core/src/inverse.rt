@@ -6,8 +6,7 @@ ghost use Rattle.node_core.specs.Inverses.{change_of, plain_inverse};
 use replica_core::Change;
 use std::alloc::Allocator;
 
-/// What one step of a node destroyed, from which `Node::give_back` makes the node as it was before the step (Danos and
-/// Krivine: causal undo).
+/// What one step of a node destroyed: from it `Node::give_back` takes the step back (Danos and Krivine: causal undo).
 #[derive(Drop)]
 pub enum Inverse<A: Allocator> {
     /// The step changed the replica.

@@ -69,9 +69,8 @@ impl<'a, B: Allocator> Node<'a, B> {
         let _ = &self.outbox;
     }
 
-    /// The node as it was before the step that the inverse is of, its last one. Memory that is refused leaves the node as
-    /// it was and gives the inverse back; a step that sent a message is taken back without memory, and so are a join, an
-    /// up and a down.
+    /// Takes back the last step, which the inverse is of. Where memory is refused the node is unchanged, and the inverse
+    /// comes back; a step that sent a message is taken back without memory, and so are a join, an up and a down.
     pub fn give_back(&mut self, inverse: Inverse<&'a B>) -> Result<(), (Inverse<&'a B>, Oom)>
         requires { LeadsSomewhere (plain_inverse inverse) self.old }
         ensures ok { OnOk result (GivesBack (plain_inverse inverse.entry) self.old self.new) }

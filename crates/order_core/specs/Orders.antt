@@ -8,7 +8,7 @@ use Rattle.order_core.specs.Turns.{Reads}
 abbrev pub of_step : Reads Kept
 of_step = record { node = λ k. k.node; delivers = λ k. delivers k.step; sends = λ k. sends k.step }
 
--- the steps of a node in their order, numbers aside
+-- the steps of a node in their order, without their numbers
 abbrev pub own : List Kept → ℕ → List Operation
 own ks n = map (λ k. k.step) (own_steps ks n)
 

@@ -29,7 +29,7 @@ abbrev pub next : {K : Type 0} → Reads K → List K → List K → List K → 
 next r first before [] = None
 next r first before (k ∷ ks) = if can_come r first before k then Some (k, before ++ ks) else next r first (before ++ k ∷ []) ks
 
--- the first steps, and behind them so many of the others, each time the first that can come next
+-- the first steps, and behind them a number of the others, each time the first that can come next
 abbrev pub order_after : {K : Type 0} → Reads K → ℕ → List K → List K → Option (List K)
 order_after r zero first rest = Some first
 order_after r (suc turns) first rest = option_and_then (λ t. order_after r turns (first ++ t.0 ∷ []) t.1) (next r first [] rest)

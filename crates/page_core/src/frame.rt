@@ -4,7 +4,7 @@
 pub const HEAD: &str = r#"<!doctype html>
 <html lang="en">
 <meta charset="utf-8">
-<meta http-equiv="Content-Security-Policy" content="default-src 'none'; script-src 'sha256-fDwicMp3Co/ABZqQ61zof/eyEN8W/DcYLKhu7CQPuak='; style-src 'sha256-0TmtUFZliBTntiJi8yUSVpSjJhZSYJlIS7ZVt53dh6E=' 'sha256-q4MnRjbjrnzgSyy6+iBKwnSXtEkaPMSShdTCfpUVpwk='; base-uri 'none'; form-action 'none'">
+<meta http-equiv="Content-Security-Policy" content="default-src 'none'; script-src 'sha256-yQRlLQ36gRF3G3zsRTzlsg9Su3WbLZ/N/j4wOdXY4iQ='; style-src 'sha256-Z9Vle8t2InjJaqMFgYt2uyBRovC2mjnYh9NZm1sIS5Q=' 'sha256-q4MnRjbjrnzgSyy6+iBKwnSXtEkaPMSShdTCfpUVpwk='; base-uri 'none'; form-action 'none'">
 <meta name="viewport" content="width=device-width,initial-scale=1">
 <title>presence_bench</title>
 <style>"#;

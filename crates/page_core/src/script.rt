@@ -4,14 +4,41 @@
 pub const SCRIPT: &str = r##""use strict";
 (() => {
 const $ = id => document.getElementById(id);
-const { nodes, consoles, calls } = JSON.parse($("run").textContent);
-const N = nodes.length, ROW = 20, CHUNK = 20, END = Infinity, UNKNOWN = 0, DOWN = 2;
+const { nodes: plain, consoles, calls, names, pids, cut, events } = JSON.parse($("run").textContent);
+const nodes = names || plain, N = nodes.length, ROW = 20, CHUNK = 20, END = Infinity, UNKNOWN = 0, DOWN = 2;
+
+const many = (k, word) => `${k} ${word}${k === 1 ? "" : "s"}`;
+
+// Of logs a word stands for a value: bytes as `%XX`, or `%=` and a text; a cut one ends with `~` and a number.
+const quoted = text => /^[^\s"]+$/.test(text) ? text : JSON.stringify(text), ofJson = json => json[0] === '"' ? quoted(JSON.parse(json)) : json;
+const brief = (text, mark) => { const c = [...text.slice(0, 200)]; return c.length > 80 ? c.slice(0, 79).join("") + "\u2026" + mark : text; };
+function value(word) {
+  if (!events || !/[%~]/.test(word)) return word;
+  const k = word.lastIndexOf("~"), text = k < 0 ? decodeURIComponent(word.replace(/^%(=|$)/, "")) : "";
+  return k >= 0 ? brief(ofJson(cut[word.slice(k + 1)]), word.slice(k)) : word.startsWith("%=") ? text : quoted(text);
+}
+const process = n => pids ? brief(ofJson(pids[n]), "#" + n) : n;
+// A line with the nodes' own names and the values.
+function spoken(line) {
+  const [node, verb, ...rest] = line.split(" "), own = name => nodes[plain.indexOf(name)] ?? name;
+  return [own(node), verb, ...rest.map(/^(join|update|leave)/.test(verb) ? (w, k) => k ? value(w) : process(w) : own)].join(" ");
+}
+calls.forEach(c => { c.verb = c.line.split(" ")[1]; if (events) c.line = spoken(c.line); });
+// Each event in its order: one that is no call is a row, too.
+if (events) {
+  const asked = calls.splice(0);
+  for (const { line, time, node, online } of events) {
+    const c = node === undefined ? asked.shift() : { by: node, verb: "online", no: "message", line: nodes[node] + (online ? " online" : ": its message was not sent") };
+    if (online) Object.assign(c, { node, online, differs: online[0].length + online[1].length > 0 });
+    calls.push(Object.assign(c, { input: line, time }));
+  }
+}
 
 // What is looked up once. A place is that of a call in `calls`, from 0.
 const places = [...calls.keys()];
 const at = []; // of a step: its place
-const gone = calls.map(() => END); // of a place: the place that took it back
-const presences = []; // in the order in which they were made: [step, node, clock, process, topic, key, metadata]
+const gone = calls.map(() => END); // by place: where it was taken back
+const presences = []; // as they were made: [step, node, clock, process, topic, key, metadata]
 const hops = []; // of a presence: [place, node, standing, place read]
 const listed = []; // of a presence: [place, node] where a list changed
 const told = []; // of a presence: the broadcasts of it, and of its removal
@@ -23,12 +50,13 @@ const opening = () => nodes.map((_, n) => nodes.map((_, m) => [n === m ? 1 : UNK
 const taken = new Map(), known = opening();
 calls.forEach((c, i) => {
   c.node ??= -1;
-  c.reply = c.step ? c.step + " ok" : c.undoes ? "undone " + c.undoes : "no " + c.no;
+  c.reply = c.step ? c.step + " ok" : c.undoes ? "undone " + c.undoes : !c.online ? "no " + c.no : c.differs ? "differs" : "as the bench has it";
   c.next = [];
   c.notes = [];
   if (c.step) at[c.step] = i;
   if (c.undoes) gone[at[c.undoes]] = i;
-  if (c.node < 0) c.notes.push("refused");
+  if (c.node < 0) c.notes.push(c.no === "message" ? "not asked" : "refused");
+  if (c.differs) c.notes.push("differ");
   if (c.prev) calls[c.before = at[c.prev]].next.push(i);
   if (c.from) calls[c.send = at[c.from]].next.push(i);
 });
@@ -77,15 +105,15 @@ calls.forEach((c, i) => {
   if (back?.made) dots.delete(dot(c.node, back.made[0]));
 });
 function takers(i) { return calls[i].next.filter(j => calls[j].send === i); }
-const topicKey = p => presences[p][4] + " " + presences[p][5];
-const label = p => `${topicKey(p)} ${nodes[presences[p][1]]}/${presences[p][3]} ${presences[p][6]}`;
+const topicKey = p => presences[p][4] + " " + presences[p][5], shownKey = pair => pair.split(" ").map(value).join(" ");
+const rowText = ([n, pid, ...w]) => `${value(w[0])} ${value(w[1])} ${nodes[n]}/${process(pid)} ${value(w[2])}`;
+const label = p => rowText([presences[p][1], ...presences[p].slice(3)]);
 const order = presences.map((_, p) => p).sort((p, q) => {
   const a = presences[p], b = presences[q];
   for (const k of [4, 5, 1]) if (a[k] !== b[k]) return a[k] < b[k] ? -1 : 1;
   return a[3].length - b[3].length || (a[3] < b[3] ? -1 : a[3] > b[3] ? 1 : a[2] - b[2]);
 });
 const isMade = p => at[presences[p][0]] <= cur && gone[at[presences[p][0]]] > cur;
-const many = (k, word) => `${k} ${word}${k === 1 ? "" : "s"}`;
 const number = i => calls[i].step || "call " + (i + 1);
 
 // What stands at the cursor
@@ -105,12 +133,15 @@ function move(k) {
 // The picture
 const pitch = N < 5 ? 56 : N < 9 ? 40 : N < 17 ? 24 : 18, width = pitch * N;
 const X = n => pitch * n + pitch / 2;
-const longest = Math.max(...nodes.map(n => n.length)), flat = longest * 9 < pitch;
+const short = name => name.length > 24 ? name.slice(0, 23) + "\u2026" : name;
+const longest = Math.max(...nodes.map(n => short(n).length)), flat = longest * 9 < pitch;
 const top = flat ? 26 : 12 + Math.ceil(longest * 7.4);
 const css = (k, v) => document.documentElement.style.setProperty(k, v + "px");
 css("--lanes", width);
 css("--pitch", pitch);
 css("--top", top);
+const times = calls.some(c => c.time);
+css("--times", 12 + 7.3 * Math.min(26, Math.max(...calls.map(c => (c.time || "").length))));
 css("--bar-width", Math.min(12, Math.round(pitch * 0.45)));
 
 function el(tag, cls, ...kids) {
@@ -128,12 +159,12 @@ function svg(tag, attributes, ...kids) {
 const path = (cls, d) => svg("path", { class: cls, d });
 const heads = () => svg("svg", { class: "heads", width: 52 + width, height: top }, ...nodes.map((name, n) => svg("text", {
   transform: `translate(${52 + X(n)} ${top - 8})` + (flat ? "" : "rotate(-90)translate(0 4)"),
-  "text-anchor": flat ? "middle" : "", "data-n": n }, name)));
+  "text-anchor": flat ? "middle" : "", "data-n": n }, short(name))));
 const round = r => `m${-r} 0a${r} ${r} 0 1 0 ${2 * r} 0a${r} ${r} 0 1 0 ${-2 * r} 0z`;
 const circle = (x, y, r) => `M${x} ${y}` + round(r);
 const SQUARE = "m-4-4h8v8h-8z", CROSS = "m-4-4l8 8m-8 0l8-8";
 const shapes = {
-  join: ["m", round(5)], leave: ["m open", round(5)], send: ["m", SQUARE], deliver: ["m", round(3.5)], up: ["m open", "m0-5l5 9h-10z"],
+  join: ["m", round(5)], leave: ["m open", round(5)], send: ["m", SQUARE], deliver: ["m", round(3.5)], up: ["m open", "m0-5l5 9h-10z"], online: ["m open", "m-6-3h12v6h-12z"],
   down: ["m open", "m0 5l5-9h-10z"], permdown: ["m open", "m0 5l5-9h-10zm-5 1h10"], undo: ["m cross", CROSS], no: ["m refused", "m0-5l5 5l-5 5l-5-5z"],
 };
 Object.assign(shapes, { update: shapes.join, leaveall: shapes.leave });
@@ -147,18 +178,20 @@ function remark(c) {
   if (c.again !== undefined) out.push("again");
   if (c.late !== undefined) out.push("late");
   if (c.notes.includes("lost")) out.push("taken by nobody");
+  if (c.differs) ["bench", "node"].forEach((who, k) => c.online[k].length && out.push(
+    `only the ${who} has ${shownKey(c.online[k][0].slice(2, 4).join(" "))}` + (c.online[k].length > 1 ? ` and ${c.online[k].length - 1} more` : "")));
   return out.join(", ");
 }
 const QUIET = [" forgotten", " kept, hidden", " gone, was not listed"]; // of a standing that no list shows
 function words(c) {
   const w = el("span", "words", el("span", "line", c.line)), add = (cls, text) => w.append(el("span", cls, "  " + text));
-  if (!c.step) add(c.undoes ? "dim" : "minus", c.reply);
+  if (!c.step && !c.differs) add(c.undoes || c.online ? "dim" : "minus", c.reply);
   const few = only || c.minus.length + c.plus.length < 3;
   if (only) for (const [p, standing] of c.hops) if (found.has(p) && ![...c.minus, ...c.plus].includes(p)) {
-    add("dim", topicKey(p) + QUIET[standing]);
+    add("dim", shownKey(topicKey(p)) + QUIET[standing]);
   }
   for (const [k, sign] of [["minus", "\u2212"], ["plus", "+"]]) {
-    if (few) c[k].filter(p => !only || found.has(p)).forEach(p => add(k, sign + topicKey(p)));
+    if (few) c[k].filter(p => !only || found.has(p)).forEach(p => add(k, sign + shownKey(topicKey(p))));
     else if (c[k].length) add(k, sign + c[k].length);
   }
   if (remark(c)) add("warn", remark(c));
@@ -166,12 +199,12 @@ function words(c) {
   return w;
 }
 
-// `shown` are the places that have a row; `line` of a place: its row, or that of the next place shown
+// `shown`: the places with a row; `line`: a place's row, or that of the next one shown
 let shown, line, chunks = [], arrows, marks;
 const Y = i => line[i] * ROW + ROW / 2, bottom = () => shown.length * ROW, isShown = i => shown[line[i]] === i;
 const rowOf = i => $("c" + (i + 1));
 
-// Lays paths, each with its class and the heights between which it is, into the chunks that they touch.
+// Lays paths, each with its class and its heights, into the chunks that they touch.
 function paint(layer, items) {
   const parts = chunks.map(() => new Map());
   for (const [cls, y1, y2, d] of items) {
@@ -193,7 +226,7 @@ function lay() {
     const part = shown.slice(k, k + CHUNK), height = part.length * ROW;
     const c = { under: svg("g"), base: svg("g", { class: "base" }), over: svg("g") };
     c.box = el("div", "chunk", heads(), ...part.map(i => {
-      const row = el("div", "row" + (gone[i] < END ? " undone" : calls[i].undoes ? " undo" : ""), el("span", "no", calls[i].step || "\u00b7"), words(calls[i]));
+      const row = el("div", "row" + (gone[i] < END ? " undone" : calls[i].undoes ? " undo" : ""), el("span", "no", calls[i].step || "\u00b7"), ...times ? [el("span", "at", calls[i].time || "")] : [], words(calls[i]));
       row.id = "c" + (i + 1);
       row.role = "option";
       return row;
@@ -222,7 +255,7 @@ function lay() {
   for (const i of shown) {
     const c = calls[i], n = c.node < 0 ? c.by : c.node;
     if (n >= N) continue;
-    let [cls, d] = mark(c.node < 0 ? "no" : c.undoes ? "undo" : c.line.split(" ")[1], X(n), Y(i));
+    let [cls, d] = mark(c.node < 0 ? "no" : c.undoes ? "undo" : c.verb, X(n), Y(i));
     if (gone[i] < END) cls = "m old";
     else if (remark(c)) cls += " bad";
     items.push(marks[i] = [cls, Y(i) - 5, Y(i) + 5, d]);
@@ -240,7 +273,8 @@ function look(text) {
   query = text.trim();
   const w = words_of(query), hit = test => new Set(w.length ? order.filter(p => test(presences[p][4], presences[p][5])) : []);
   found = hit((t, k) => w.length === 1 ? k === w[0] : t === w[0] && k === w[1]);
-  if (!found.size) found = hit((t, k) => `${t} ${k}`.includes(w.join(" ")));
+  if (!found.size) found = hit((t, k) => `${t} ${k}`.includes(w.join(" ")) || shownKey(`${t} ${k}`).includes(query));
+  const pairs = new Set([...found].map(topicKey));
   const has = p => found.has(p), carried = c => (c.carries || []).flat().some(has);
   const count = nodes.map(() => 0), since = [];
   touching = new Set();
@@ -250,7 +284,8 @@ function look(text) {
     if (lost || won) count[c.node] += won - lost;
     if (!before && count[c.node]) since[c.node] = i;
     if (before && !count[c.node]) bars.push([c.node, since[c.node], i]);
-    if (lost || won || carried(c) || c.hops.some(h => has(h[0])) || c.missed && carried(calls[c.send])) touching.add(i);
+    if (lost || won || carried(c) || c.hops.some(h => has(h[0])) || c.missed && carried(calls[c.send])
+      || c.online?.flat().some(r => pairs.has(r[2] + " " + r[3]))) touching.add(i);
   });
   count.forEach((k, n) => { if (k) bars.push([n, since[n], END]); });
   for (const i of [...touching]) {
@@ -259,7 +294,7 @@ function look(text) {
   $("only").disabled = !found.size;
   if (!found.size) { only = false; why = -1; }
 }
-// at the cursor: the last hop of a presence at a node, and the last change of the node's list
+// at the cursor: a presence's last hop at a node, and the last change of its list
 const hop = (p, n) => stood(p, n, cur);
 const change = (p, n) => listed[p].findLast(h => h[1] === n && h[0] <= cur)?.[0];
 function chain(p, n) {
@@ -302,6 +337,7 @@ function step() {
     const kept = gone[cur] === END, here = nodes[c.node];
     out.push(el("h2", "", `${c.step || "\u00b7"} ${c.line}`));
     say(c.node < 0 ? "minus" : "", (c.step ? "ok" : c.reply) + (c.by < N ? "" : `, asked by ${consoles[c.by - N] || "console"}`));
+    if (c.input) say("dim", "Line " + c.input + (c.time ? ", at " + c.time : ""));
     if (c.held) say("", "Held by ", link(at[c.held[1]]));
     if (c.undoes) say("", "Takes back ", link(at[c.undoes]));
     if (!kept) say("warn", "Taken back later: ", link(gone[cur]));
@@ -312,7 +348,8 @@ function step() {
     if (c.notes.includes("lost")) say("warn", "No node took what it sent.");
     else if (c.notes.includes("not to all")) say("dim", "Not taken by " + c.never.map(n => nodes[n]).join(" "));
     const rows = [...c.minus.map(p => ["minus", "\u2212 ", p]), ...c.plus.map(p => ["plus", "+ ", p])];
-    if (here) out.push(title(rows.length ? `Changed in the list of ${here}` : `The list of ${here} stays`));
+    ["Only the bench has", `Only ${here} listed`].forEach((text, k) => c.online?.[k].length && out.push(title(text), list(c.online[k], rowText)));
+    if (here && !c.online) out.push(title(rows.length ? `Changed in the list of ${here}` : `The list of ${here} stays`));
     out.push(list(rows, ([cls, sign, p]) => {
       const a = el("a", cls, sign + label(p));
       a.href = hash(cur, c.node, topicKey(p));
@@ -546,7 +583,7 @@ function hash(i, n = why, text = query) {
   const w = words_of(text).map(encodeURIComponent), out = [calls[i]?.step ? "step=" + calls[i].step : "call=" + (i + 1)];
   if (w.length === 2) out.push("topic=" + w.shift());
   if (w.length) out.push("key=" + w.join("%20"));
-  if (w.length && n >= 0) out.push("at=" + nodes[n]);
+  if (w.length && n >= 0) out.push("at=" + encodeURIComponent(nodes[n]));
   if (tab !== "online") out.push("tab=" + tab);
   for (const [k, v] of Object.entries({ only, past, future })) if (v) out.push(k);
   if (differ !== usual) out.push("differ=" + +differ);
@@ -653,10 +690,10 @@ onresize = matchMedia("(prefers-color-scheme:dark)").onchange = () => small(true
 onhashchange = load;
 
 // Once
-const size = [many(N, "node"), many(at.filter(i => i >= 0).length, "step"), many(presences.length, "presence")].join(", ");
+const size = [many(N, "node"), many(at.filter(i => i >= 0).length, "step"), many(presences.length, "presence"), ...events ? [many(calls.filter(c => c.online).length, "list")] : []].join(", ");
 document.title += ": " + size;
 $("sum").append(size);
-for (const kind of ["refused", "not kept", "late", "again", "lost", "not to all", "undone"]) {
+for (const kind of ["differ", "not asked", "refused", "not kept", "late", "again", "lost", "not to all", "undone"]) {
   const all = places.filter(i => calls[i].notes.includes(kind));
   if (!all.length) continue;
   const b = el("button", /undone|all/.test(kind) ? "plain" : "plain warn", `${all.length} ${kind}`);
@@ -664,12 +701,12 @@ for (const kind of ["refused", "not kept", "late", "again", "lost", "not to all"
   $("sum").append(b);
 }
 for (const [verb, text] of [["join", "join, update"], ["leave", "leave"], ["send", "a message goes out; its line leads to who took it"], ["deliver", "a message is taken; orange: not kept, late or again"],
-  ["up", "up"], ["down", "down"], ["permdown", "permanently down"], ["undo", "a step is taken back; its mark is pale"], ["no", "refused"]]) {
+  ["up", "up"], ["down", "down"], ["permdown", "permanently down"], ["undo", "a step is taken back; its mark is pale"], ["no", "refused"], ...events ? [["online", "what a node listed; orange: the bench has other rows"]] : []]) {
   $("marks").append(el("dt", "", svg("svg", { width: 14, height: 16 }, path(...mark(verb, 7, 8)))), el("dd", "", text));
 }
 $("heads").append(heads());
 if (N > 8) $("again").append(heads());
-for (const pair of new Set(order.map(topicKey))) $("pairs").append(new Option(pair, pair));
+for (const pair of new Set(order.map(topicKey))) $("pairs").append(new Option(shownKey(pair), pair));
 let peak = Math.max(N, 6);
 for (const c of calls) {
   move(cur + 1);

@@ -32,7 +32,8 @@ text{font:12px monospace;fill:var(--fg)}
 .chunk{position:relative;content-visibility:auto;height:calc(var(--n)*20px)}
 .draw{position:absolute;left:52px;top:0;pointer-events:none;overflow:hidden}
 .row,.srow{display:flex;height:20px;white-space:pre;cursor:pointer}
-.no{flex:none;width:calc(52px + var(--lanes));padding-left:8px;color:var(--dim);font:12px/20px monospace}
+.no{flex:none;width:calc(52px + var(--lanes));padding-left:8px;overflow:hidden;text-overflow:ellipsis;color:var(--dim);font:12px/20px monospace}
+.at{flex:none;width:var(--times);padding-left:8px;overflow:hidden;text-overflow:ellipsis;color:var(--dim);font:12px/20px monospace}
 .words{flex:1;min-width:0;overflow:hidden;text-overflow:ellipsis;font:12px/20px monospace;padding-left:8px}
 .row .words{display:flex}
 .words>span{overflow:hidden;text-overflow:ellipsis;flex:0 1 auto}

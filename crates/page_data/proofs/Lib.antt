@@ -1,4 +1,7 @@
 pub mod Pieces
+pub mod Changes
+pub mod Pasts
+pub mod Hopped
 pub mod Plain
 pub mod Stays
 pub mod Moved

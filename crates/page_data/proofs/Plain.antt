@@ -1,5 +1,5 @@
 -- No `<` stands in the data of a page.
-use Rattle.std.proofs.Common.{◌≡◌, ℕ, zero, suc, ◌+◌, ◌<◌, ◌/◌, ◌%◌, ◌==◌, ◌&&◌, nat_lt, Bool, true, false, not, if◌then◌else◌, List, [], ◌∷◌, ◌++◌, length, codes, decimal, chars}
+use Rattle.std.proofs.Common.{◌≡◌, ℕ, zero, suc, ◌+◌, ◌<◌, ◌/◌, ◌%◌, ◌==◌, ◌&&◌, ◌||◌, nat_lt, Bool, true, false, not, if◌then◌else◌, List, [], ◌∷◌, ◌++◌, length, codes, decimal, chars}
 use Rattle.std.proofs.Common.{Option, Some, None, refl, ap, ◌∙◌, arith, flat_map}
 use Rattle.std.specs.Char.{encode_utf8}
 use Rattle.std.specs.Fmt.{digit_glyph, digits, digits_onto}
@@ -30,30 +30,30 @@ use Rattle.report_core.specs.Shown.{node_of, node_of_step, rows_at, rows_of}
 use Rattle.transcript_core.specs.Scripts.{call_line, cast_of}
 use Rattle.page_data.specs.Asked.{node_if}
 use Rattle.page_data.specs.Carried.{clocks_standing, hops_at, message_in, missed_at, names_in}
-use Rattle.page_data.specs.Json.{comma_at, more_numbers, number_key, number_key_if, numbers_key, numbers_text, string_char, string_chars, string_text, text_key}
-use Rattle.page_data.specs.Laws.{IsPlain, PlainLaw, is_plain}
-use Rattle.page_data.specs.PageData.{act_gives, act_reads, arrival_keys, asked_text, call_text, calls_text, carried_keys, changed_text, consoles_text, delivery_keys, gives_keys}
+use Rattle.page_data.specs.Json.{comma_at, escaped_byte, hex_digit, more_numbers, number_key, number_key_if, numbers_key, numbers_text, string_char, string_chars, string_text, text_key}
+use Rattle.page_data.specs.Laws.{IsPlain, PlainLaw, PlainWithLaw, is_plain}
+use Rattle.page_data.specs.PageData.{act_gives, act_reads, arrival_keys, asked_text, call_text, calls_text, carried_keys, changed_text, consoles_text, data_with, delivery_keys, gives_keys}
 use Rattle.page_data.specs.PageData.{held_keys, is_own, made_at, made_head, made_keys, made_text, nodes_text, message_keys, outbox_keys, outcome_keys, own_keys, page_data}
-use Rattle.page_data.specs.PageData.{reads_keys, refused_keys, row_dots, row_hops, rows_keys, sent_keys, taken_head, taken_keys, taken_text, texts_text, undone_at, undone_keys}
+use Rattle.page_data.specs.PageData.{reads_keys, refused_keys, row_dots, row_hops, rows_keys, run_text, sent_keys, taken_head, taken_keys, taken_text, texts_text, undone_at, undone_keys}
 use Rattle.page_data.specs.PageData.{undone_text, word_text}
 use Rattle.page_data.specs.Seen.{changes_in, seen_in}
 use Rattle.page_data.specs.declared.seen.Seen.{Seen}
 
 -- texts one behind the other
 
-two : (a b : List ℕ) → IsPlain a → IsPlain b → IsPlain (a ++ b)
+pub two : (a b : List ℕ) → IsPlain a → IsPlain b → IsPlain (a ++ b)
 two a b p q = list_all-append is_plain a b ∙ ap (λ x. x && list_all is_plain b) p ∙ q
 
-three : (a b c : List ℕ) → IsPlain a → IsPlain b → IsPlain c → IsPlain (a ++ b ++ c)
+pub three : (a b c : List ℕ) → IsPlain a → IsPlain b → IsPlain c → IsPlain (a ++ b ++ c)
 three a b c p q r = two (a ++ b) c (two a b p q) r
 
-four : (a b c d : List ℕ) → IsPlain a → IsPlain b → IsPlain c → IsPlain d → IsPlain (a ++ b ++ c ++ d)
+pub four : (a b c d : List ℕ) → IsPlain a → IsPlain b → IsPlain c → IsPlain d → IsPlain (a ++ b ++ c ++ d)
 four a b c d p q r s = two (a ++ b ++ c) d (three a b c p q r) s
 
-five : (a b c d e : List ℕ) → IsPlain a → IsPlain b → IsPlain c → IsPlain d → IsPlain e → IsPlain (a ++ b ++ c ++ d ++ e)
+pub five : (a b c d e : List ℕ) → IsPlain a → IsPlain b → IsPlain c → IsPlain d → IsPlain e → IsPlain (a ++ b ++ c ++ d ++ e)
 five a b c d e p q r s t = two (a ++ b ++ c ++ d) e (four a b c d p q r s) t
 
-each : {X : Type 0} (f : X → List ℕ) (xs : List X) → ((x : X) → IsPlain (f x)) → IsPlain (flat_map f xs)
+pub each : {X : Type 0} (f : X → List ℕ) (xs : List X) → ((x : X) → IsPlain (f x)) → IsPlain (flat_map f xs)
 each f [] plain = refl
 each f (x ∷ xs) plain = two (f x) (flat_map f xs) (plain x) (each f xs plain)
 
@@ -79,7 +79,7 @@ onto (suc k) n acc plain =
     let more = digit_glyph false (n % 10) ∷ acc in
     choice (n / 10 == 0) more (digits_onto k 10 false (n / 10) more) (digit n acc plain) (onto k (n / 10) more (digit n acc plain))
 
-number : (n : ℕ) → IsPlain (decimal n)
+pub number : (n : ℕ) → IsPlain (decimal n)
 unfolding digits
 number n = onto 64 n [] refl
 
@@ -122,27 +122,41 @@ other c is = go (nat_lt c 128) (nat_lt c 2048) (nat_lt c 65536)
         (pair (128 + (c / 4096) % 64) ((128 + (c / 64) % 64) ∷ (128 + c % 64) ∷ []) (next (c / 4096))
         (pair (128 + (c / 64) % 64) ((128 + c % 64) ∷ []) (next (c / 64)) (pair (128 + c % 64) [] (next c) refl)))
 
+hex_plain : (v : ℕ) → is_plain (hex_digit v) ≡ true
+hex_plain v = go (nat_lt v 10) refl
+  where
+    go : (b : Bool) → nat_lt v 10 ≡ b → is_plain (if b then 48 + v else 87 + v) ≡ true
+    go true is = grind (arith, nat_tests)
+    go false is = grind (arith, nat_tests)
+
+escaped_plain : (b : ℕ) → IsPlain (escaped_byte b)
+unfolding escaped_byte
+escaped_plain b =
+    two (codes "\\u00") (hex_digit (b / 16 % 16) ∷ hex_digit (b % 16) ∷ []) refl
+    (ap (λ x. x && (is_plain (hex_digit (b % 16)) && true)) (hex_plain (b / 16 % 16)) ∙ ap (λ x. x && true) (hex_plain (b % 16)))
+
 char_plain : (c : ℕ) → IsPlain (string_char c)
 unfolding string_char
-char_plain c = go (c == 34) (c == 92) (c == 60) refl
+char_plain c = go (c == 34) (c == 92) (c == 60) (nat_lt c 32) refl
   where
-    go : (x y z : Bool) → (c == 60) ≡ z →
-        IsPlain (if x then codes "\\\"" else (if y then codes "\\\\" else (if z then codes "\\u003c" else encode_utf8 c)))
-    go true y z is = refl
-    go false true z is = refl
-    go false false true is = refl
-    go false false false is = other c is
+    go : (x y z w : Bool) → (c == 60) ≡ z →
+        IsPlain (if x then codes "\\\"" else (if y then codes "\\\\" else (if z || w then escaped_byte c else encode_utf8 c)))
+    go true y z w is = refl
+    go false true z w is = refl
+    go false false true w is = escaped_plain c
+    go false false false true is = escaped_plain c
+    go false false false false is = other c is
 
-string_plain : (text : List ℕ) → IsPlain (string_text text)
+pub string_plain : (text : List ℕ) → IsPlain (string_text text)
 unfolding string_text string_chars
 string_plain text = three (codes "\"") (string_chars text) (codes "\"") refl (each string_char (chars text) char_plain) refl
 
-comma_plain : (place : ℕ) → IsPlain (comma_at place)
+pub comma_plain : (place : ℕ) → IsPlain (comma_at place)
 comma_plain place = choice (place == 0) [] (codes ",") refl refl
 
 -- keys
 
-number_key_plain : (key : List ℕ) (n : ℕ) → IsPlain key → IsPlain (number_key key n)
+pub number_key_plain : (key : List ℕ) (n : ℕ) → IsPlain key → IsPlain (number_key key n)
 unfolding number_key
 number_key_plain key n plain = four (codes ",\"") key (codes "\":") (decimal n) refl plain refl (number n)
 
@@ -156,7 +170,7 @@ numbers_key_plain key ns plain =
     choice (length ns == 0) [] (codes ",\"" ++ key ++ codes "\":[" ++ numbers_text ns ++ codes "]") refl
     (five (codes ",\"") key (codes "\":[") (numbers_text ns) (codes "]") refl plain refl (numbers_plain ns) refl)
 
-text_key_plain : (key text : List ℕ) → IsPlain key → IsPlain (text_key key text)
+pub text_key_plain : (key text : List ℕ) → IsPlain key → IsPlain (text_key key text)
 unfolding text_key
 text_key_plain key text plain = four (codes ",\"") key (codes "\":") (string_text text) refl plain refl (string_plain text)
 
@@ -216,7 +230,7 @@ sent_plain after node operation =
     choice (sends operation) (outbox_keys operation (node_of after node) node (length after.names)) []
     (outbox_plain operation (node_of after node) node (length after.names)) refl
 
-word_plain : (word : List ℕ) → IsPlain (word_text word)
+pub word_plain : (word : List ℕ) → IsPlain (word_text word)
 unfolding word_text
 word_plain word = two (codes ",") (string_text word) refl (string_plain word)
 
@@ -311,16 +325,24 @@ calls_plain cast m place (e ∷ events) =
     three (comma_at place) (call_text cast m e.actor e.act) (calls_text cast (after_act m e.actor e.act) (place + 1) events) (comma_plain place)
     (call_plain cast m e.actor e.act) (calls_plain cast (after_act m e.actor e.act) (place + 1) events)
 
-texts_plain : (place : ℕ) (texts : Texts) → IsPlain (texts_text place texts)
+pub texts_plain : (place : ℕ) (texts : Texts) → IsPlain (texts_text place texts)
 unfolding texts_text
 texts_plain place [] = refl
 texts_plain place (text ∷ texts) =
     three (comma_at place) (string_text text) (texts_text (place + 1) texts) (comma_plain place) (string_plain text) (texts_plain (place + 1) texts)
 
-pub data_plain : PlainLaw
-unfolding page_data nodes_text consoles_text
-data_plain m consoles =
-    four (nodes_text m.names) (consoles_text consoles) (calls_text (cast_of m consoles) (opening_machine m.names m.limits) 0 m.state.history) (codes "]}")
+run_plain : (m : Machine) (consoles : Texts) → IsPlain (run_text m consoles)
+unfolding run_text nodes_text consoles_text
+run_plain m consoles =
+    three (nodes_text m.names) (consoles_text consoles) (calls_text (cast_of m consoles) (opening_machine m.names m.limits) 0 m.state.history)
     (three (codes "{\"version\":1,\"nodes\":[") (texts_text 0 m.names) (codes "]") refl (texts_plain 0 m.names) refl)
     (three (codes ",\"consoles\":[") (texts_text 0 consoles) (codes "],\"calls\":[") refl (texts_plain 0 consoles) refl)
-    (calls_plain (cast_of m consoles) (opening_machine m.names m.limits) 0 m.state.history) refl
+    (calls_plain (cast_of m consoles) (opening_machine m.names m.limits) 0 m.state.history)
+
+pub data_plain : PlainLaw
+unfolding page_data
+data_plain m consoles = two (run_text m consoles) (codes "]}") (run_plain m consoles) refl
+
+pub with_plain : PlainWithLaw
+unfolding data_with
+with_plain m consoles keys plain = four (run_text m consoles) (codes "]") keys (codes "}") (run_plain m consoles) refl plain refl

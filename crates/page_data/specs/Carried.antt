@@ -33,7 +33,7 @@ clocks_standing m name wanted = filter (stands_so (store_of m) name wanted) (clo
 abbrev pub name_if_any : ℕ → ℕ → ℕ → List ℕ
 name_if_any name clock more = if (clock == 0) && (more == 0) then [] else name ∷ []
 
--- those of so many names of which the message has dots
+-- those of the first names of which the message has dots
 unfoldable pub names_in : Message → ℕ → List ℕ
 names_in m zero = []
 names_in m (suc name) = names_in m name ++ name_if_any name (clock_of m.seen name) (more_of m.seen name)
@@ -52,7 +52,7 @@ hops_of here m name = flat_map (hop here (store_of m) name) (clocks_of m.seen na
 abbrev pub hops_if : Bool → Store → Message → ℕ → List ℕ
 hops_if kept here m name = if kept then hops_of here m name else []
 
--- of each of so many names, where it is another one that the node knows
+-- of each of the first names, where it is another one that the node knows
 unfoldable pub hops_to : Replica → Message → ℕ → List ℕ
 hops_to r m zero = []
 hops_to r m (suc name) = hops_to r m name ++ hops_if (is_other_known r name) r.store m name
@@ -60,8 +60,8 @@ hops_to r m (suc name) = hops_to r m name ++ hops_if (is_other_known r name) r.s
 abbrev pub missed_if : Bool → ℕ → ℕ → ℕ → List ℕ
 missed_if known name clock more = if known || ((clock == 0) && (more == 0)) then [] else name ∷ clock ∷ more ∷ []
 
--- `NAME,CLOCK,MORE` of each of so many names that the node doesn't know: of it the message has the dots up to this clock and so
--- many more, of which none is kept
+-- `NAME,CLOCK,MORE` of each of the first names that the node doesn't know: of it the message has the dots up to this clock and
+-- MORE beyond it, of which none is kept
 unfoldable pub missed_by : Replica → Message → ℕ → List ℕ
 missed_by r m zero = []
 missed_by r m (suc name) = missed_by r m name ++ missed_if (is_known r name) name (clock_of m.seen name) (more_of m.seen name)

@@ -1,11 +1,19 @@
 -- JSON text in which no `<` stands.
-use Rattle.std.specs.Prelude.{ℕ, ◌==◌, if◌then◌else◌, List, [], ◌∷◌, ◌++◌, length, chars, codes, decimal, encode_utf8, Option, Some, None}
+use Rattle.std.specs.Prelude.{ℕ, ◌+◌, ◌/◌, ◌%◌, nat_lt, ◌==◌, ◌||◌, if◌then◌else◌, List, [], ◌∷◌, ◌++◌, length, chars, codes, decimal, encode_utf8, Option, Some, None}
 use Rattle.std.specs.List.{flat_map}
 
--- a character of a string: a backslash stands before `"` and before another, and `<` is told by its number
+abbrev pub hex_digit : ℕ → ℕ
+hex_digit value = if nat_lt value 10 then 48 + value else 87 + value
+
+-- a byte by its number, as in `\u003c`
+unfoldable pub escaped_byte : ℕ → List ℕ
+escaped_byte b = codes "\\u00" ++ hex_digit (b / 16 % 16) ∷ hex_digit (b % 16) ∷ []
+
+-- a character of a string: a backslash stands before `"` and before another, and `<` and what is no visible byte and no space below
+-- it are told by their numbers
 unfoldable pub string_char : ℕ → List ℕ
 string_char c =
-    if c == 34 then codes "\\\"" else (if c == 92 then codes "\\\\" else (if c == 60 then codes "\\u003c" else encode_utf8 c))
+    if c == 34 then codes "\\\"" else (if c == 92 then codes "\\\\" else (if (c == 60) || nat_lt c 32 then escaped_byte c else encode_utf8 c))
 
 -- what stands between the quotation marks of a string
 unfoldable pub string_chars : List ℕ → List ℕ

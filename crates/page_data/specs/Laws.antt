@@ -1,15 +1,30 @@
 -- The laws of the data.
-use Rattle.std.specs.Prelude.{◌≡◌, ℕ, ◌==◌, not, Bool, true, length, slice_set, if◌then◌else◌, List, [], ◌∷◌, ◌++◌, Option, None, Some}
-use Rattle.std.specs.List.{list_all}
+use Rattle.std.specs.Prelude.{◌≡◌, ◌↔◌, ℕ, ◌<◌, ◌==◌, ◌&&◌, not, Bool, true, length, slice_set, if◌then◌else◌, List, [], ◌∷◌, ◌++◌, codes, Option, None, Some}
+use Rattle.std.specs.List.{Contains, list_all}
+use Rattle.bench_core.specs.declared.limits.Limits.{Limits}
+use Rattle.bench_core.specs.declared.reply.Reply.{Reply}
+use Rattle.bench_core.specs.declared.reply.Reply.TheVariants.{Taken}
+use Rattle.bench_core.specs.Acts.{Action, Do}
+use Rattle.dots_core.specs.declared.dot.Dot.{Dot}
+use Rattle.dots_core.specs.Dots.{AreValid}
+use Rattle.payload_core.specs.Laws.{IsStore}
+use Rattle.payload_core.specs.Messages.{Message}
+use Rattle.payload_core.specs.Stores.{standing, store_of}
+use Rattle.replica_core.specs.Deliveries.{merged}
+use Rattle.replica_core.specs.Replicas.{Replica}
 use Rattle.bench_core.specs.Headline.{IsReached}
-use Rattle.bench_core.specs.Machine.{Event, Machine, config_of}
+use Rattle.bench_core.specs.Machine.{Event, Machine, config_of, opening_machine}
 use Rattle.bench_core.specs.NameList.{Texts}
 use Rattle.diff_core.specs.NetChanges.{ComesTo}
 use Rattle.diff_core.specs.Rows.{Row}
+use Rattle.journal_core.specs.Futures.{Follows}
+use Rattle.journal_core.specs.Journals.{Kept, find_number, last_of, source_of}
 use Rattle.report_core.specs.ActRows.{changed_by, joined_by, left_by}
-use Rattle.report_core.specs.ActTexts.{after_act}
+use Rattle.report_core.specs.ActTexts.{after_act, reply_of}
 use Rattle.report_core.specs.Shown.{node_of, rows_at}
-use Rattle.page_data.specs.PageData.{page_data}
+use Rattle.grammar_core.specs.Casts.{Cast}
+use Rattle.page_data.specs.PageData.{call_text, changed_text, data_with, page_data}
+use Rattle.page_data.specs.Carried.{hops_to}
 use Rattle.page_data.specs.Seen.{changes_in, seen_in}
 use Rattle.page_data.specs.declared.seen.Seen.{Seen}
 
@@ -24,6 +39,29 @@ IsPlain text = list_all is_plain text ≡ true
 -- so no data ends the element that it stands in
 abbrev pub PlainLaw : Type 0
 PlainLaw = (m : Machine) (consoles : Texts) → IsPlain (page_data m consoles)
+
+-- nor does any with further keys in which none stands
+abbrev pub PlainWithLaw : Type 0
+PlainWithLaw = (m : Machine) (consoles : Texts) (keys : List ℕ) → IsPlain keys → IsPlain (data_with m consoles keys)
+
+-- what a node has seen of each name
+abbrev pub seen_by : Machine → ℕ → List Seen
+seen_by m node = seen_in (node_of m node) (length m.names)
+
+-- how a call changed its node, told: the rows that left and joined the list, and what the node has seen since
+abbrev pub change_told : Machine → ℕ → Action → Option ℕ → List ℕ
+change_told m actor act None = []
+change_told m actor act (Some node) =
+    changed_text (left_by m actor act) (joined_by m actor act) (seen_by m node) (node_of (after_act m actor act) node) (length m.names)
+
+-- the text of a call ends so
+pub record EndsWithChange (cast : Cast) (m : Machine) (actor : ℕ) (act : Action) : Type 0 where
+  pub before : List ℕ
+  pub text : call_text cast m actor act ≡ before ++ (change_told m actor act (changed_by m actor act) ++ codes "}")
+
+-- `minus` and `plus` of each call are the rows, and `dots` what was seen, of which the next two laws speak
+abbrev pub ChangeLaw : Type 0
+ChangeLaw = (cast : Cast) (m : Machine) (actor : ℕ) (act : Action) → EndsWithChange cast m actor act
 
 -- what is told of a node, where a call changed it
 abbrev pub of_node : {X : Type 0} → ℕ → Option ℕ → List X → List X
@@ -59,10 +97,6 @@ applied (name ∷ status ∷ clock ∷ more ∷ numbers) seen =
     applied numbers (slice_set seen name (record { status = status; clock = clock; more = more }))
 applied _ seen = seen
 
--- what a node has seen of each name
-abbrev pub seen_by : Machine → ℕ → List Seen
-seen_by m node = seen_in (node_of m node) (length m.names)
-
 -- what calls tell of a node under `dots`
 unfoldable pub dots_by : ℕ → Machine → List Event → List ℕ
 dots_by node m [] = []
@@ -75,3 +109,47 @@ abbrev pub DotsLaw : Type 0
 DotsLaw =
     (m : Machine) (node : ℕ) (events : List Event) → IsReached (config_of m) m.state →
     applied (dots_by node m events) (seen_by m node) ≡ seen_by (after_calls m events) node
+
+-- a step, and one that the data names before it: the step before it of its node (`prev`), or the one that sent what it delivers (`from`)
+pub record Link : Type 0 where
+  pub step : ℕ
+  pub before : ℕ
+
+abbrev pub link_to : ℕ → Option ℕ → List Link
+link_to step None = []
+link_to step (Some before) = record { step = step; before = before } ∷ []
+
+-- those of a call that was answered so, as `reads_keys` has them
+abbrev pub links_of : Machine → ℕ → Action → Reply → List Link
+links_of m actor (Do operation) (Taken number) =
+    link_to number (last_of m.state.remaining actor) ++ link_to number (source_of m.state.remaining operation)
+links_of m actor _ _ = []
+
+-- those of calls
+unfoldable pub links_by : Machine → List Event → List Link
+links_by m [] = []
+links_by m (e ∷ events) = links_of m e.actor e.act (reply_of m e.actor e.act) ++ links_by (after_act m e.actor e.act) events
+
+-- from step n forward along links
+pub data Leads (links : List Link) (n : ℕ) : ℕ → Type 0 where
+  Itself : Leads links n n
+  Next : (before step : ℕ) → Leads links n before → Contains links (record { step = step; before = before }) → Leads links n step
+
+-- of two steps that remain behind calls, `prev` and `from` lead from the later back to the earlier where the later follows from it
+abbrev pub PastLaw : Type 0
+PastLaw =
+    (names : Texts) (limits : Limits) (events : List Event) (n j : ℕ) (x y : Kept) →
+    find_number (after_calls (opening_machine names limits) events).state.remaining n ≡ Some x →
+    find_number (after_calls (opening_machine names limits) events).state.remaining j ≡ Some y →
+    Leads (links_by (opening_machine names limits) events) n j ↔ Follows (after_calls (opening_machine names limits) events).state.remaining n j
+
+-- how a dot stands by hops, where it stood so before: as the last of its own says
+unfoldable pub stands_by : List ℕ → Dot → ℕ → ℕ
+stands_by (name ∷ clock ∷ there ∷ hops) d before = stands_by hops d (if (name == d.name) && (clock == d.clock) then there else before)
+stands_by _ d before = before
+
+-- whoever applies the hops of a delivery has how each dot of the first names stands behind it
+abbrev pub HopsLaw : Type 0
+HopsLaw =
+    (r : Replica) (m : Message) (count : ℕ) (d : Dot) → IsStore r.store → IsStore (store_of m) → AreValid m.seen → d.name < count →
+    stands_by (hops_to r m count) d (standing r.store d) ≡ standing (merged m r).store d

@@ -214,7 +214,15 @@ nodes_text nodes = codes "{\"version\":1,\"nodes\":[" ++ texts_text 0 nodes ++ c
 unfoldable pub consoles_text : Texts → List ℕ
 consoles_text consoles = codes ",\"consoles\":[" ++ texts_text 0 consoles ++ codes "],\"calls\":["
 
--- the whole, where the consoles have these names
+-- up to the last call, where the consoles have these names
+unfoldable pub run_text : Machine → Texts → List ℕ
+run_text m consoles =
+    nodes_text m.names ++ consoles_text consoles ++ calls_text (cast_of m consoles) (opening_machine m.names m.limits) 0 m.state.history
+
+-- the whole
 unfoldable pub page_data : Machine → Texts → List ℕ
-page_data m consoles =
-    nodes_text m.names ++ consoles_text consoles ++ calls_text (cast_of m consoles) (opening_machine m.names m.limits) 0 m.state.history ++ codes "]}"
+page_data m consoles = run_text m consoles ++ codes "]}"
+
+-- the whole, with further keys behind the calls
+unfoldable pub data_with : Machine → Texts → List ℕ → List ℕ
+data_with m consoles keys = run_text m consoles ++ codes "]" ++ keys ++ codes "}"

@@ -22,7 +22,7 @@ seen_of r name = record {
   more = length (cloud_of r.store.seen name);
 }
 
--- of each of so many names
+-- of each of the first names
 unfoldable pub all_seen : Replica → ℕ → List Seen
 all_seen r zero = []
 all_seen r (suc name) = all_seen r name ++ seen_of r name ∷ []
@@ -45,7 +45,7 @@ is_same a b = (a.status == b.status) && ((a.clock == b.clock) && (a.more == b.mo
 abbrev pub change_of : ℕ → Seen → Seen → List ℕ
 change_of name before now = if is_same before now then [] else name ∷ now.status ∷ now.clock ∷ now.more ∷ []
 
--- of each of so many names
+-- of each of the first names
 unfoldable pub changes_of : List Seen → Replica → ℕ → List ℕ
 changes_of before r zero = []
 changes_of before r (suc name) = changes_of before r name ++ change_of name (seen_at before name) (seen_of r name)

@@ -107,7 +107,7 @@ fn put_hops_if<A: Allocator + Copy, R: Allocator>(
     Ok(())
 }
 
-/// Of each of so many names.
+/// Of each of the first `count` names.
 fn hops_to<A: Allocator + Copy, R: Allocator>(
     replica: &Replica<R>,
     message: &Payload<R>,
@@ -182,7 +182,7 @@ fn put_missed<A: Allocator, R: Allocator>(
     )
 }
 
-/// Of each of so many names.
+/// Of each of the first `count` names.
 fn missed_by<A: Allocator, R: Allocator>(
     replica: &Replica<R>,
     message: &Payload<R>,

@@ -1,7 +1,7 @@
 //! The data of a page.
 ghost use Rattle.std.specs.Prelude.{◌≡◌, ◌++◌, IfOk, OnOk, string_bytes};
 ghost use Rattle.transcript_core.specs.Scripts.{cast_of};
-ghost use Rattle.page_data.specs.PageData.{calls_text, consoles_text, nodes_text, page_data, texts_text};
+ghost use Rattle.page_data.specs.PageData.{calls_text, consoles_text, data_with, nodes_text, page_data, run_text, texts_text};
 
 use crate::calls::put_event;
 use crate::json::{put_comma, put_string};
@@ -22,16 +22,16 @@ fn put_names<A: Allocator, N: Allocator>(text: &mut String<A>, names: &Names<N>)
     Ok(())
 }
 
-/// The names of the consoles, divided by commas.
-fn put_consoles<A: Allocator, C: Allocator>(
+/// The texts as strings, divided by commas.
+pub fn put_texts<A: Allocator, C: Allocator>(
     text: &mut String<A>,
-    consoles: &TextSet<C>,
+    texts: &TextSet<C>,
 ) -> Result<(), Oom>
-    ensures { OnOk result (string_bytes text.new ≡ string_bytes text.old ++ texts_text 0 consoles.now) }
+    ensures { OnOk result (string_bytes text.new ≡ string_bytes text.old ++ texts_text 0 texts.now) }
 {
-    for place in 0..consoles.len() {
+    for place in 0..texts.len() {
         put_comma(text, place)?;
-        put_string(text, console_at(consoles, place))?;
+        put_string(text, console_at(texts, place))?;
     }
     Ok(())
 }
@@ -73,8 +73,28 @@ fn put_cast<A: Allocator, C: Allocator>(
     ensures { OnOk result (string_bytes text.new ≡ string_bytes text.old ++ consoles_text consoles.now) }
 {
     text.push_str(",\"consoles\":[")?;
-    put_consoles(text, consoles)?;
+    put_texts(text, consoles)?;
     Ok(text.push_str("],\"calls\":[")?)
+}
+
+/// The data up to its last call.
+#[tactic(auto, unfolding(crate::specs::PageData::run_text))]
+fn run_text<'a, B: Allocator>(
+    alloc: &'a B,
+    bench: &Bench<'a, B>,
+    consoles: &TextSet<&'a B>,
+) -> Result<String<&'a B>, Oom>
+    ensures { IfOk result (λ text. string_bytes text ≡ run_text bench.now consoles.now) }
+{
+    let mut text = String::new(alloc);
+    put_nodes(&mut text, bench.names())?;
+    put_cast(&mut text, consoles)?;
+    let names = bench.names().try_copy()?;
+    let mut again = Bench::new(alloc, names, bench.limits())?;
+    let put = put_events(&mut text, &mut again, consoles, bench.history(), alloc);
+    drop(again);
+    put?;
+    Ok(text)
 }
 
 /// The data of the page of a bench: its recorded calls as JSON, asked again of a bench of the same names, where the consoles
@@ -87,14 +107,24 @@ pub fn page_data<'a, B: Allocator>(
 ) -> Result<String<&'a B>, Oom>
     ensures { IfOk result (λ text. string_bytes text ≡ page_data bench.now consoles.now) }
 {
-    let mut text = String::new(alloc);
-    put_nodes(&mut text, bench.names())?;
-    put_cast(&mut text, consoles)?;
-    let names = bench.names().try_copy()?;
-    let mut again = Bench::new(alloc, names, bench.limits())?;
-    let put = put_events(&mut text, &mut again, consoles, bench.history(), alloc);
-    drop(again);
-    put?;
+    let mut text = run_text(alloc, bench, consoles)?;
     text.push_str("]}")?;
+    Ok(text)
+}
+
+/// The same with further keys behind the calls, each with a comma before it.
+#[tactic(auto, unfolding(crate::specs::PageData::data_with))]
+pub fn page_data_with<'a, B: Allocator>(
+    alloc: &'a B,
+    bench: &Bench<'a, B>,
+    consoles: &TextSet<&'a B>,
+    keys: &str,
+) -> Result<String<&'a B>, Oom>
+    ensures { IfOk result (λ text. string_bytes text ≡ data_with bench.now consoles.now keys.now) }
+{
+    let mut text = run_text(alloc, bench, consoles)?;
+    text.push_str("]")?;
+    text.push_str(keys)?;
+    text.push_str("}")?;
     Ok(text)
 }

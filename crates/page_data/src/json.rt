@@ -1,9 +1,38 @@
 //! JSON text in which no `<` stands.
-ghost use Rattle.std.specs.Prelude.{◌≡◌, ◌++◌, OnOk, string_bytes};
-ghost use Rattle.page_data.specs.Json.{comma_at, more_numbers, number_key, number_key_if, numbers_key, numbers_text, string_char, string_chars, string_text, text_key};
+ghost use Rattle.std.specs.Prelude.{◌≡◌, ◌++◌, ◌∷◌, ◌<◌, [], OnOk, string_bytes};
+ghost use Rattle.page_data.specs.Json.{comma_at, escaped_byte, hex_digit, more_numbers, number_key, number_key_if, numbers_key, numbers_text, string_char, string_chars, string_text, text_key};
 
 use payload_core::Oom;
 use std::alloc::Allocator;
+
+fn hex_digit(value: u32) -> char
+    requires { value < 16 }
+    ensures { result ≡ hex_digit value }
+{
+    if value < 10 {
+        (b'0' + value as u8) as char
+    } else {
+        (b'W' + value as u8) as char
+    }
+}
+
+/// One of the digits of a byte.
+fn put_digit<A: Allocator>(text: &mut String<A>, value: u32) -> Result<(), Oom>
+    requires { value < 16 }
+    ensures { OnOk result (string_bytes text.new ≡ string_bytes text.old ++ hex_digit value ∷ []) }
+{
+    Ok(text.push(hex_digit(value))?)
+}
+
+/// A byte by its number, as in `\u003c`.
+#[tactic(auto, unfolding(crate::specs::Json::escaped_byte))]
+fn put_escaped<A: Allocator>(text: &mut String<A>, byte: u32) -> Result<(), Oom>
+    ensures { OnOk result (string_bytes text.new ≡ string_bytes text.old ++ escaped_byte byte) }
+{
+    text.push_str("\\u00")?;
+    put_digit(text, byte / 16 % 16)?;
+    put_digit(text, byte % 16)
+}
 
 /// A character of a string.
 #[tactic(auto, unfolding(crate::specs::Json::string_char))]
@@ -16,8 +45,8 @@ fn put_char<A: Allocator>(text: &mut String<A>, c: char) -> Result<(), Oom>
     if c == '\\' {
         return Ok(text.push_str("\\\\")?);
     }
-    if c == '<' {
-        return Ok(text.push_str("\\u003c")?);
+    if c == '<' || c < ' ' {
+        return put_escaped(text, c as u32);
     }
     Ok(text.push(c)?)
 }

@@ -23,4 +23,6 @@ mod sender;
 mod sent;
 mod steps;
 
-pub use data::page_data;
+pub use data::{page_data, page_data_with, put_texts};
+pub use json::{put_comma, put_number_key, put_string, put_text_key};
+pub use steps::put_word;

@@ -55,7 +55,7 @@ fn seen_of<R: Allocator>(replica: &Replica<R>, name: u16) -> Seen
     }
 }
 
-/// Of each of so many names.
+/// Of each of the first `count` names.
 fn all_seen<A: Allocator, R: Allocator>(
     replica: &Replica<R>,
     count: u16,
@@ -71,7 +71,7 @@ fn all_seen<A: Allocator, R: Allocator>(
     Ok(seen)
 }
 
-/// What a node has seen of each of so many names.
+/// What a node has seen of each of the first `count` names.
 pub fn seen_in<'a, A: Allocator, B: Allocator>(
     node: Option<&Node<'a, B>>,
     count: u16,
@@ -116,7 +116,7 @@ fn put_change<A: Allocator>(
     Ok(())
 }
 
-/// Of each of so many names.
+/// Of each of the first `count` names.
 fn changes_of<A: Allocator, R: Allocator>(
     replica: &Replica<R>,
     before: &[Seen],
@@ -134,7 +134,7 @@ fn changes_of<A: Allocator, R: Allocator>(
     Ok(numbers)
 }
 
-/// What changed of what a node has seen of each of so many names.
+/// What changed of what a node has seen of each of the first `count` names.
 pub fn changes_in<'a, A: Allocator, B: Allocator>(
     node: Option<&Node<'a, B>>,
     before: &[Seen],

@@ -93,7 +93,7 @@ fn put_name_of<A: Allocator, R: Allocator>(
     put_name_if(numbers, name, last_of(seen, name), more_of(seen, name))
 }
 
-/// Those of so many names of which the message has dots.
+/// Those of the first `count` names of which the message has dots.
 pub fn names_in<A: Allocator, R: Allocator>(
     message: &Payload<R>,
     count: u16,

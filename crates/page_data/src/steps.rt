@@ -178,7 +178,7 @@ fn put_made_head<A: Allocator>(text: &mut String<A>, clock: u64, pid: u64) -> Re
 
 /// `,"WORD"`.
 #[tactic(auto, unfolding(crate::specs::PageData::word_text))]
-fn put_word<A: Allocator, W: Allocator>(text: &mut String<A>, word: &Word<W>) -> Result<(), Oom>
+pub fn put_word<A: Allocator, W: Allocator>(text: &mut String<A>, word: &Word<W>) -> Result<(), Oom>
     ensures { OnOk result (string_bytes text.new ≡ string_bytes text.old ++ word_text word.now) }
 {
     text.push_str(",")?;

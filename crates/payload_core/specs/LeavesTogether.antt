@@ -17,12 +17,12 @@ abbrev pub with_dots : List Dot → Dots → Dots
 with_dots [] s = s
 with_dots (d ∷ ds) s = with_dots ds (set.insert s d)
 
--- the set with so many dots of the name above this clock
+-- the set with a number of dots of the name above this clock
 abbrev pub with_next : ℕ → ℕ → ℕ → Dots → Dots
 with_next name clock zero s = s
 with_next name clock (suc n) s = set.insert (with_next name clock n s) (dot name (clock + suc n))
 
--- the set without so many dots of the name above this clock
+-- the set without a number of dots of the name above this clock
 abbrev pub without_next : ℕ → ℕ → ℕ → Dots → Dots
 without_next name clock zero s = s
 without_next name clock (suc n) s = without_next name clock n (set.remove s (dot name (clock + suc n)))

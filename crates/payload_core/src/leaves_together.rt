@@ -100,7 +100,7 @@ fn see_each<A: Allocator>(seen: &mut DotSet<A>, dots: &[Dot]) -> Result<(), Oom>
     Ok(())
 }
 
-/// Puts in so many dots of the name above this clock. It takes no memory where that is the name's last clock and no clock
+/// Puts in `count` dots of the name above this clock. It takes no memory where that is the name's last clock and no clock
 /// below it is missing. Where memory is refused, some may be in.
 fn see_next<A: Allocator>(
     seen: &mut DotSet<A>,
@@ -214,7 +214,7 @@ fn make_ready_to_restore_each<A: Allocator + Copy>(
     copy_without(delta_seen, name, clock, lefts)
 }
 
-/// The set without so many dots of the name above the clock, and without those that left where they had not stood there.
+/// The set without a dot of the name above the clock for each that left, and without those that left where they had not stood there.
 fn copy_without<A: Allocator + Copy>(
     seen: &DotSet<A>,
     name: u16,
@@ -254,7 +254,7 @@ fn unsee<A: Allocator>(seen: &mut DotSet<A>, left: &Left<A>) -> Result<(), Oom>
     Ok(())
 }
 
-/// Takes out so many dots of the name above this clock, the last one first. It takes no memory where they are the last
+/// Takes out `count` dots of the name above this clock, the last one first. It takes no memory where they are the last
 /// ones of their name. Where memory is refused, some may be out.
 fn unsee_next<A: Allocator>(
     seen: &mut DotSet<A>,

@@ -50,7 +50,7 @@ impl<'a, B: Allocator> Model for Outbox<'a, B> {
 }
 
 impl<'a, B: Allocator> Outbox<'a, B> {
-    /// An empty outbox for at most so many messages. It takes no memory.
+    /// An empty outbox for at most `messages` messages. It takes no memory.
     pub fn new(alloc: &'a B, messages: u64) -> Outbox<'a, B>
         ensures limit { result.limit ≡ messages }
         ensures empty { result.messages ≡ [] }

@@ -251,7 +251,7 @@ pub fn crowd_in<A: Allocator>(pieces: &[Piece<A>]) -> usize
     beyond_half(pieces)
 }
 
-/// Makes spare pieces, until there are so many.
+/// Makes spare pieces, until there are `wanted`.
 pub fn make_spares<A: Allocator + Copy>(
     pieces: &mut Row<A>,
     spares: &mut Row<A>,

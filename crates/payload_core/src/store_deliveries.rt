@@ -132,7 +132,7 @@ fn changes<A: Allocator>(seen: &DotSet<A>, other: &DotSet<A>, names: NameSet, na
     names.has(name) && !seen.has_all_of(other, name)
 }
 
-/// Makes room for so many more entries, and then puts the dots of these names in.
+/// Makes room for `more` entries, and then puts the dots of these names in.
 fn make_ready<A: Allocator + Copy>(
     entries: &mut EntrySet<A>,
     seen: &mut DotSet<A>,

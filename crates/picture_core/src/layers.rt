@@ -31,7 +31,7 @@ pub struct Layers<'a, B: Allocator> {
     pub turns: Vec<Turn, &'a B>,
 }
 
-/// The greater of the longest so far and so many bytes, of which as many count as a line of a script may have.
+/// The greater of the longest so far and `bytes`, of which no more count than a line of a script may have.
 #[tactic(auto, unfolding(crate::specs::Rows::with_length))]
 pub fn with_length(longest: u32, bytes: usize) -> u32
     ensures { result ≡ with_length longest bytes }

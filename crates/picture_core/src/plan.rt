@@ -76,7 +76,7 @@ pub fn waits_at(nodes: u32, sender: u32, node: u32, step: u64) -> u64
     }
 }
 
-/// How wide so many bytes are.
+/// How wide a text of `bytes` bytes is.
 pub fn wide(bytes: u32) -> u64
     ensures { result ≡ wide bytes }
 {

@@ -217,6 +217,7 @@ told_left check lines lenient form limits (Some input) bytes text differs left_o
     by : (check : Bool) (form : Form) → IsMade check lines lenient form limits bytes text differs left_out → IsLeftOut lenient bytes left_out
     by true form is = (is.tables, is.notes, is.order, is.import)
     by false forms.Session (same, m, is, text) = (is.tables, is.notes, is.order, is.import)
+    by false forms.Page (same, m, keys, is, text) = (is.tables, is.notes, is.order, is.import)
     by false forms.Script (same, m, is) = (is.tables, is.notes, is.order, is.import)
     by false forms.Report (same, m, is) = (is.tables, is.notes, is.order, is.import)
     by false forms.Steps (same, m, is) = (is.tables, is.notes, is.order, is.import)

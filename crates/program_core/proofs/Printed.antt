@@ -56,6 +56,7 @@ pub shown_report : (form : Form) (report : List ℕ) (bench : Machine) → form 
 shown_report forms.Report report bench other = refl
 shown_report forms.Steps report bench other = refl
 shown_report forms.Script report bench other = refl
+shown_report forms.Page report bench other = refl
 shown_report forms.Session report bench other = absurd (other refl)
 
 module _ (form : Form) (limits : Limits) (text : List ℕ) (old new : Option (List ℕ)) where

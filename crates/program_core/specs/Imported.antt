@@ -5,23 +5,27 @@ use Rattle.std.specs.List.{flat_map}
 use Rattle.bench_core.specs.Limits.{Limits}
 use Rattle.bench_core.specs.Machine.{Machine}
 use Rattle.command_line.specs.declared.chosen.Form.{Form}
-use Rattle.command_line.specs.declared.chosen.Form.TheVariants.{Session}
+use Rattle.command_line.specs.declared.chosen.Form.TheVariants.{Session, Page}
 use Rattle.import_core.specs.Faults.{IsImportFault}
 use Rattle.import_core.specs.Imports.{IsImportOf}
 use Rattle.import_core.specs.Notes.{Note}
 use Rattle.import_core.specs.Tables.{AllTables}
 use Rattle.import_core.specs.declared.fault.ImportFault.{ImportFault}
+use Rattle.import_page.specs.Keys.{IsShownOf}
 use Rattle.import_report.specs.Checks.{IsCheckOf}
 use Rattle.import_report.specs.Scripts.{IsBenchOf, IsImported, IsRefused}
 use Rattle.program_core.specs.Texts.{session_text}
+use Rattle.program_core.specs.Views.{page_with}
 use Rattle.program_core.specs.declared.fault.Fault.{Fault}
 use Rattle.program_core.specs.declared.fault.Fault.TheVariants as faults
 
--- what is made of the events: where the bench and the real nodes part, if they do; the session of the bench that they leave; or else
--- their script. Beside it, the lines of what is left out
+-- what is made of the events: where the bench and the real nodes part, if they do; the session of the bench that they leave; its
+-- page, with what they tell beside; or else their script. Beside it, the lines of what is left out
 abbrev pub IsMade : Bool → Bool → Bool → Form → Limits → List ℕ → List ℕ → Bool → List ℕ → Type 0
 IsMade true lines lenient form limits input text differs left_out = IsCheckOf lenient limits input text differs left_out
 IsMade false lines lenient Session limits input text differs left_out = (differs ≡ false) × (m : Machine) × IsBenchOf lenient limits input m left_out × (text ≡ session_text m)
+IsMade false lines lenient Page limits input text differs left_out =
+    (differs ≡ false) × (m : Machine) × (keys : List ℕ) × IsShownOf lenient limits input m keys left_out × (text ≡ page_with m keys)
 IsMade false lines lenient _ limits input text differs left_out = (differs ≡ false) × (m : Machine) × IsImported lenient lines limits input text m left_out
 
 -- the text is what is printed, and they part or not
@@ -50,6 +54,7 @@ RefusesEventsAt (Some input) fault = RefusesEvents input fault
 abbrev pub IsUnmade : Bool → Bool → Bool → Form → Limits → List ℕ → ImportFault → Type 0
 IsUnmade true lines lenient form limits input fault = IsImportFault lenient input fault
 IsUnmade false lines lenient Session limits input fault = IsImportFault lenient input fault
+IsUnmade false lines lenient Page limits input fault = IsImportFault lenient input fault
 IsUnmade false lines lenient _ limits input fault = IsRefused lenient lines limits input fault
 
 -- nothing is printed of the input: it has too many bytes, or nothing is made of its events

@@ -28,6 +28,8 @@ PrintsPlay forms.Report limits s text = text ≡ report_of limits s
 PrintsPlay forms.Steps limits s text = text ≡ script_steps limits s
 PrintsPlay forms.Script limits s text = IsScriptOf (played limits s) s.cast.consoles text
 PrintsPlay forms.Session limits s text = text ≡ session_text (played limits s)
+-- no command line chooses this: a page is printed of logs, or by `page`
+PrintsPlay forms.Page limits s text = text ≡ report_of limits s
 
 -- the same of the calls that a bench recorded, whose consoles have no names of their own
 abbrev pub PrintsBench : Form → Machine → List ℕ → Type 0
@@ -35,6 +37,7 @@ PrintsBench forms.Report m text = text ≡ history_text m
 PrintsBench forms.Steps m text = text ≡ bench_steps m (free_consoles m)
 PrintsBench forms.Script m text = IsScriptOf m (free_consoles m) text
 PrintsBench forms.Session m text = text ≡ session_text m
+PrintsBench forms.Page m text = text ≡ history_text m
 
 -- the first act that was refused, where that is a fault
 

@@ -1,12 +1,12 @@
 -- What is shown of a run to be looked at: a picture, or a page.
-use Rattle.std.specs.Prelude.{ℕ, List, codes, if◌then◌else◌, Option, None, Some, option_map}
+use Rattle.std.specs.Prelude.{ℕ, List, [], codes, if◌then◌else◌, Option, None, Some, option_map}
 use Rattle.std.specs.Str.{bytes_eq}
 use Rattle.bench_core.specs.Machine.{Machine}
 use Rattle.bench_core.specs.NameList.{Texts}
 use Rattle.command_line.specs.declared.chosen.Drawing.{Drawing}
 use Rattle.command_line.specs.declared.chosen.Question.{Question}
 use Rattle.page_core.specs.Page.{page_text}
-use Rattle.page_data.specs.PageData.{page_data}
+use Rattle.page_data.specs.PageData.{data_with, page_data}
 use Rattle.picture_core.specs.declared.draw_fault.DrawFault.{DrawFault}
 use Rattle.picture_core.specs.declared.draw_fault.DrawFault.TheVariants as draws
 use Rattle.picture_core.specs.declared.view.Presence.{Presence}
@@ -33,6 +33,13 @@ abbrev pub fault_of_draw : DrawFault → Fault
 fault_of_draw draws.OutOfMemory = faults.OutOfMemory
 fault_of_draw fault = faults.Draw fault
 
--- the page of a run: without scripts it shows the picture, and the report with each call above what it printed
+-- the page of a run with this data: without scripts it shows the picture, and the report with each call above what it printed
+abbrev pub page_around : Machine → Texts → List ℕ → List ℕ
+page_around m consoles run = page_text (whole_picture m consoles) (bench_steps m consoles) run
+
 abbrev pub page_of : Machine → Texts → List ℕ
-page_of m consoles = page_text (whole_picture m consoles) (bench_steps m consoles) (page_data m consoles)
+page_of m consoles = page_around m consoles (page_data m consoles)
+
+-- the page of a run without consoles, with further keys in its data
+abbrev pub page_with : Machine → List ℕ → List ℕ
+page_with m keys = page_around m [] (data_with m [] keys)

@@ -1,4 +1,4 @@
-//! What is printed of the events of logs: a script, a session, or where the bench and the real nodes part.
+//! What is printed of the events of logs: a script, a session, a page, or where the bench and the real nodes part.
 ghost use Rattle.std.specs.Prelude.{◌≡◌, ◌≢◌, ◌++◌, Err, IfErr, IfOk, OnOk, true, false, string_bytes};
 ghost use Rattle.std.specs.Io.KnownBytes.{IsAtEnd};
 ghost use Rattle.stream_core.specs.Inputs.{IsWhole};
@@ -9,12 +9,14 @@ ghost use Rattle.program_core.specs.Texts.{text_bytes};
 ghost use Rattle.program_core.specs.Program.{EndsAt, FailsAs, IsUnwritten, KeepsBefore, TellsMemory, fault_of_import};
 
 use crate::fault::Fault;
+use crate::pages::page_with;
 use crate::printing::print;
 use crate::text::{Text, bytes_of};
 use crate::texts::{LONGEST_SESSION, session_line};
 use bench_core::Limits;
 use command_line::Form;
 use import_core::{FaultKind, ImportFault};
+use import_page::import_shown;
 use import_report::{Checked, Scripted, import_bench, import_check, import_script};
 use payload_core::Oom;
 use script_core::{InputFault, Steps, read_all, write_out};
@@ -141,6 +143,28 @@ fn make_session<'a, B: Allocator>(
     })
 }
 
+/// The page of that bench, with what they tell beside.
+fn make_page<'a, B: Allocator>(
+    heap: Global,
+    alloc: &'a B,
+    limits: Limits,
+    lines: bool,
+    lenient: bool,
+    input: &[u8],
+) -> Result<Made<&'a B>, ImportFault>
+    ensures made { IfOk result (λ m. IsMade false lines lenient forms.Page limits input.now (text_bytes m.text) m.differs m.left_out.items) }
+    ensures refused { IfErr result (IsUnmade false lines lenient forms.Page limits input.now) }
+{
+    let (shown, left_out) = import_shown(heap, alloc, limits, lenient, input)?;
+    let page = page_with(alloc, &shown.bench, shown.keys.as_str());
+    drop(shown);
+    Ok(Made {
+        text: Text::Own(page?),
+        differs: false,
+        left_out,
+    })
+}
+
 /// Where the bench and the real nodes part.
 fn make_check<'a, B: Allocator>(
     heap: Global,
@@ -183,6 +207,7 @@ fn make<'a, B: Allocator>(
     let made = match form {
         _ if check => make_check(heap, alloc, limits, lines, lenient, form, input),
         Form::Session => make_session(heap, alloc, limits, lines, lenient, input),
+        Form::Page => make_page(heap, alloc, limits, lines, lenient, input),
         _ => make_script(heap, alloc, limits, lines, lenient, input),
     };
     match made {

@@ -3,16 +3,16 @@ ghost use Rattle.std.specs.Prelude.{◌≡◌, IfErr, IfOk, OnOk};
 ghost use Rattle.std.specs.Io.KnownBytes.{IsAtEnd};
 ghost use Rattle.command_line.specs.declared.chosen.Subcommand.TheVariants as subcommands;
 ghost use Rattle.program_core.specs.Program.{EndsAt, FailsAs, KeepsBefore, TellsMemory};
-ghost use Rattle.program_core.specs.Views.{page_of};
+ghost use Rattle.program_core.specs.Views.{page_around, page_of, page_with};
 
 use crate::aside::Aside;
 use crate::fault::Fault;
 use crate::inputs::{Run, read_run};
 use crate::printing::print;
-use bench_core::Limits;
+use bench_core::{Bench, Limits, TextSet};
 use command_line::Form;
 use page_core::put_page;
-use page_data::page_data;
+use page_data::{page_data, page_data_with};
 use payload_core::Oom;
 use picture_core::draw_whole;
 use script_core::Steps;
@@ -21,16 +21,41 @@ use std::io::{Read, Write};
 use std::sync::ledger::Ledger;
 use transcript_core::bench_steps;
 
+/// The page of a run with this data.
+fn page_around<'a, B: Allocator>(
+    alloc: &'a B,
+    bench: &Bench<'a, B>,
+    consoles: &TextSet<&'a B>,
+    run: &str,
+) -> Result<Vec<u8, &'a B>, Oom>
+    ensures { IfOk result (λ page. page.items ≡ page_around bench.now consoles.now run.now) }
+{
+    let picture = draw_whole(alloc, bench, consoles)?;
+    let report = bench_steps(alloc, bench, consoles)?;
+    let mut page = Vec::new(alloc);
+    put_page(&mut page, &picture, &report, run.as_bytes())?;
+    Ok(page)
+}
+
 /// The page of a run.
 fn page_of<'a, B: Allocator>(alloc: &'a B, run: &Run<'a, B>) -> Result<Vec<u8, &'a B>, Oom>
     ensures { IfOk result (λ page. page.items ≡ page_of run.now.bench run.now.consoles) }
 {
-    let picture = draw_whole(alloc, &run.bench, &run.consoles)?;
-    let report = bench_steps(alloc, &run.bench, &run.consoles)?;
-    let data = page_data(alloc, &run.bench, &run.consoles)?;
-    let mut page = Vec::new(alloc);
-    put_page(&mut page, &picture, &report, data.as_bytes())?;
-    Ok(page)
+    let told = page_data(alloc, &run.bench, &run.consoles)?;
+    page_around(alloc, &run.bench, &run.consoles, told.as_str())
+}
+
+/// The page of a run without consoles, with further keys in its data.
+pub(crate) fn page_with<'a, B: Allocator>(
+    alloc: &'a B,
+    bench: &Bench<'a, B>,
+    keys: &str,
+) -> Result<Vec<u8, &'a B>, Oom>
+    ensures { IfOk result (λ page. page.items ≡ page_with bench.now keys.now) }
+{
+    let consoles = TextSet::new(alloc);
+    let told = page_data_with(alloc, bench, &consoles, keys)?;
+    page_around(alloc, bench, &consoles, told.as_str())
 }
 
 /// A page of the run that the input gives.

@@ -106,7 +106,7 @@ fn played_text<'a, B: Allocator>(
     };
     let Played { bench, report } = played;
     let text = match form {
-        Form::Report => Ok(Text::Own(report)),
+        Form::Report | Form::Page => Ok(Text::Own(report)),
         Form::Steps => steps_of_script(alloc, script, limits, &bench),
         Form::Script => calls_of(alloc, &bench, console_names(script)),
         Form::Session => session_of(heap, &bench),
@@ -132,7 +132,7 @@ fn told_text<'a, B: Allocator>(
         return Err(Fault::OutOfMemory);
     };
     let text = match form {
-        Form::Report => Ok(Text::Own(report)),
+        Form::Report | Form::Page => Ok(Text::Own(report)),
         Form::Steps => steps_of_bench(alloc, &bench, &consoles),
         Form::Script => calls_of(alloc, &bench, &consoles),
         Form::Session => session_of(heap, &bench),

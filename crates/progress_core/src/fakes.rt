@@ -11,7 +11,7 @@ pub struct FakeClock {
 }
 
 impl FakeClock {
-    /// By so many milliseconds.
+    /// A clock that goes on by `step` milliseconds each time.
     pub fn new(step: u64) -> FakeClock {
         FakeClock {
             now: Cell::new(0),

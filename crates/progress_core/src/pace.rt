@@ -1,7 +1,7 @@
 //! `Pace`: when a line is due.
 use std::time::{Clock, Instant};
 
-/// So many calls pass before the clock is looked at again.
+/// How many calls pass before the clock is looked at again.
 const PASSED: u32 = 15;
 
 /// When a line was due last, or the beginning; none where the clock couldn't be read then, and so none is due.

@@ -15,7 +15,7 @@ use Rattle.receipt_core.specs.declared.race_fault.CrewFault.TheVariants as crew_
 use Rattle.receipt_core.specs.declared.race_fault.RaceFault.{RaceFault}
 use Rattle.receipt_core.specs.declared.race_fault.RaceFault.TheVariants.{UnknownActor, NoRoom, WorkerRefused, OutOfMemory, LogsDisagree}
 
--- each line's actor is one of so many
+-- each line's actor is one of `actors`
 abbrev pub are_known : ℕ → List (ℕ × Action) → Bool
 are_known actors lines = list_all (λ l. nat_lt l.0 actors) lines
 

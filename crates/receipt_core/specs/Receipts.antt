@@ -24,6 +24,6 @@ receipt_code reply_code =
 abbrev pub event_of : Receipt → Event
 event_of r = record { actor = r.actor; act = r.act; reply = r.reply }
 
--- the place, from 1, is that of the call's event, which went last into the history; there is none where the history is as it was
+-- the place, from 1, is that of the call's event, which went last into the history; there is none where the history didn't change
 abbrev pub IsPlaced : Receipt → List Event → List Event → Type 0
 IsPlaced r old new = MatchOption r.place (new ≡ old) (λ p. (new ≡ old ++ event_of r ∷ []) × (p ≡ length new))

@@ -16,7 +16,7 @@ use bench_core::laws::replay_law;
 use bench_core::{Act, Bench, Fault, History, Limits, Names, Reply};
 use std::alloc::Allocator;
 
-/// Whether each line's actor is one of so many.
+/// Whether each line's actor is one of `actors`.
 fn are_known<A: Allocator>(lines: &[(u16, Act<A>)], actors: u16) -> bool
     ensures { result ≡ are_known actors (calls_of lines.now) }
 {

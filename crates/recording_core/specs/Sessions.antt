@@ -119,7 +119,7 @@ pub record IsSaved (bytes : List ℕ) (m : Machine) : Type 0 where
   pub limits : AreLimits m.limits
   pub events : AllByRecursion IsTold m.state.history
 
--- a saved bench comes back as it was, unless memory was refused
+-- a saved bench comes back the same, unless memory was refused
 abbrev pub ComesBack : Machine → Result Machine SessionFault → Type 0
 ComesBack m (Ok loaded) = loaded ≡ m
 ComesBack m (Err fault) = fault ≡ OutOfMemory

@@ -30,11 +30,11 @@ is_some_dot (d ∷ ds) = true
 abbrev pub is_tracked : Replica → ℕ → List ℕ → List ℕ → Bool
 is_tracked r pid topic key = is_some_dot (tracked_dots r pid topic key)
 
--- whether so many entries would pass the limit
+-- whether `entries` entries would pass the limit
 abbrev pub are_too_many : Replica → ℕ → Bool
 are_too_many r entries = nat_lt r.limits.entries entries
 
--- whether so many more own dots would pass the limit of the own clock
+-- whether `more` own dots would pass the limit of the own clock
 abbrev pub is_clock_full : Replica → ℕ → Bool
 is_clock_full r more = nat_lt r.limits.clock (own_clock r + more)
 

@@ -11,7 +11,7 @@ use dots_core::Dot;
 use payload_core::{Delivered, Entry, Forgotten, Left};
 use std::alloc::Allocator;
 
-/// What one call of a replica destroyed, from which `Replica::undo` makes the replica as it was before the call (Danos
+/// What one call of a replica destroyed: from it `Replica::undo` takes the call back (Danos
 /// and Krivine: causal undo).
 #[derive(Drop)]
 pub enum Change<A: Allocator> {

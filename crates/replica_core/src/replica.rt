@@ -31,7 +31,7 @@ use std::marker::Model;
 /// and the live entries among them, the statuses of the names that it knows, and the delta, which is what it did since
 /// it last took its delta. A seen dot without an entry was removed.
 ///
-/// A contract sees the `Replica` of the definitions. A call that is refused leaves the replica as it was.
+/// A contract sees the `Replica` of the definitions. A refused call leaves the replica unchanged.
 #[derive(Drop)]
 pub struct Replica<A: Allocator> {
     alloc: A,
@@ -157,7 +157,7 @@ impl<A: Allocator> Replica<A> {
         }
     }
 
-    /// Whether so many more own dots would pass the limit of the own clock.
+    /// Whether `more` own dots would pass the limit of the own clock.
     fn is_clock_full(&self, more: usize) -> bool
         requires { more < 2 ^ 63 }
         ensures { result ≡ is_clock_full self.now more }

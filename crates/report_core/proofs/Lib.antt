@@ -6,3 +6,4 @@ pub mod MovedRows
 pub mod Unwound
 pub mod OnePart
 pub mod Pieces
+pub mod Answered

@@ -1,12 +1,10 @@
 -- What an unwind prints, and the refusals of `why`.
 use Rattle.std.proofs.Common.{◌≡◌, ℕ, false, List, [], ◌++◌, length, Some, None}
-use Rattle.std.proofs.Common.{sym, ap, ◌∙◌, append-nil, append_assoc, true≢false}
+use Rattle.std.proofs.Common.{sym, ap, ◌∙◌, append_assoc, true≢false}
 use Rattle.bench_core.specs.declared.fault.Fault.{Fault}
-use Rattle.bench_core.specs.declared.reply.Reply.{Reply}
 use Rattle.bench_core.specs.declared.reply.Reply.TheVariants.{Refused}
 use Rattle.journal_core.specs.Journals.{Kept, find_number}
 use Rattle.journal_core.specs.Gathering.{gathered_numbers}
-use Rattle.bench_core.specs.Acts.{Action}
 use Rattle.bench_core.specs.Machine.{Machine, State, config_of, with_state, calls}
 use Rattle.bench_core.specs.Unwinds.{Unexplained, Gone, Unmade, undos}
 use Rattle.diff_core.specs.Rows.{Row}

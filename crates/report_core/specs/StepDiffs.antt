@@ -1,5 +1,5 @@
 -- How the online list of a node differs between a machine and what the undo of one of its steps would leave.
-use Rattle.std.specs.Prelude.{◌≡◌, ℕ, ◌++◌, nat_lt, if◌then◌else◌, length, List, Option, Some, None}
+use Rattle.std.specs.Prelude.{◌≡◌, ℕ, nat_lt, if◌then◌else◌, length, List, Option, Some, None}
 use Rattle.journal_core.specs.Journals.{Kept, find_number, first_consequence, last_of, without}
 use Rattle.node_core.specs.Nodes.{Node}
 use Rattle.node_core.specs.Inverses.{Inverse, LeadsBack}
@@ -8,7 +8,6 @@ use Rattle.bench_core.specs.Machine.{Machine, with_state}
 use Rattle.diff_core.specs.Rows.{Row}
 use Rattle.diff_core.specs.Diffs.{alone}
 use Rattle.diff_core.specs.Sorting.{online_of}
-use Rattle.report_core.specs.Rows.{change_lines}
 use Rattle.report_core.specs.Shown.{rows_at}
 
 -- the rows that left and those that joined, from the first of two lists to the second

@@ -22,7 +22,6 @@ pub struct Acted<A: Allocator> {
 }
 
 /// The reply to an act, unless it is want of memory.
-#[tactic(auto, unfolding(crate::specs::ActTexts::reply_of, crate::specs::ActTexts::after_act))]
 pub fn answer<'a, B: Allocator>(
     bench: &mut Bench<'a, B>,
     actor: u16,
@@ -32,7 +31,7 @@ pub fn answer<'a, B: Allocator>(
     ensures bench { OnOk result (bench.new ≡ after_act bench.old actor (plain_act act.now)) }
 {
     let reply = bench.act(actor, act);
-    if reply == Reply::Refused(Fault::OutOfMemory) {
+    if reply.same(Reply::Refused(Fault::OutOfMemory)) {
         return Err(Oom);
     }
     Ok(reply)

@@ -1,7 +1,7 @@
 //! The statuses, clocks and clouds at a node.
 ghost use Rattle.std.specs.Prelude.{◌≡◌, ◌++◌, ◌<◌, OnOk, string_bytes, option_map};
 ghost use Rattle.dots_core.specs.Dots.{AreValid};
-ghost use Rattle.report_core.specs.Dots.{clock_of, cloud_of, status_text, cloud_text, more_clocks, name_line, name_lines, dots_text};
+ghost use Rattle.report_core.specs.Dots.{clock_of, cloud_of, status_text, cloud_text, more_clocks, name_line, name_lines, seen_line, dots_text};
 
 use crate::rows::name_at;
 use bench_core::{Names, Node};
@@ -65,6 +65,22 @@ fn put_cloud<A: Allocator>(text: &mut String<A>, cloud: &[u64]) -> Result<(), Oo
     put_more(text, rest)
 }
 
+/// `dots NAME STATUS CLOCK CLOUD`, of these.
+#[tactic(auto, unfolding(crate::specs::Dots::seen_line))]
+fn put_seen<A: Allocator>(
+    text: &mut String<A>,
+    name: &str,
+    status: &str,
+    clock: u64,
+    cloud: &[u64],
+) -> Result<(), Oom>
+    ensures { OnOk result (string_bytes text.new ≡ string_bytes text.old ++ seen_line name.now status.now clock cloud.now) }
+{
+    write!(text, "dots {name} {status} {clock} ")?;
+    put_cloud(text, cloud)?;
+    Ok(text.push_str("\n")?)
+}
+
 /// `dots NAME STATUS CLOCK CLOUD`.
 #[tactic(auto, unfolding(crate::specs::Dots::name_line))]
 fn put_name<A: Allocator, R: Allocator>(
@@ -79,12 +95,13 @@ fn put_name<A: Allocator, R: Allocator>(
 {
     let status = status_text(replica.status(number));
     let seen = replica.seen();
-    let clock = clock_of(seen, number);
-    let cloud = cloud_of(seen, number);
-    write!(text, "dots {name} {status}")?;
-    write!(text, " {clock} ")?;
-    put_cloud(text, cloud)?;
-    Ok(text.push_str("\n")?)
+    put_seen(
+        text,
+        name,
+        status,
+        clock_of(seen, number),
+        cloud_of(seen, number),
+    )
 }
 
 /// `dots NAME STATUS CLOCK CLOUD` for each name by number.

@@ -45,6 +45,13 @@ fn put_message<A: Allocator, N: Allocator>(
     Ok(write!(text, "{verb}{sender} {number}")?)
 }
 
+/// A verb, and a number.
+fn put_number<A: Allocator>(text: &mut String<A>, verb: &str, number: u64) -> Result<(), Oom>
+    ensures { OnOk result (string_bytes text.new ≡ string_bytes text.old ++ verb.now ++ decimal number) }
+{
+    Ok(write!(text, "{verb}{number}")?)
+}
+
 /// A verb, and the name of this number.
 fn put_status<A: Allocator, N: Allocator>(
     text: &mut String<A>,
@@ -88,6 +95,40 @@ fn put_names<A: Allocator, N: Allocator>(
     Ok(())
 }
 
+/// `leave PID TOPIC KEY`.
+fn put_leave<A: Allocator, W: Allocator>(
+    text: &mut String<A>,
+    pid: u64,
+    topic: &Word<W>,
+    key: &Word<W>,
+) -> Result<(), Oom>
+    ensures { OnOk result (string_bytes text.new ≡ string_bytes text.old ++
+        codes "leave " ++ decimal pid ++ codes " " ++ topic.now ++ codes " " ++ key.now) }
+{
+    let topic = topic.as_str();
+    let key = key.as_str();
+    Ok(write!(text, "leave {pid} {topic} {key}")?)
+}
+
+/// `extract NAME ..`.
+fn put_extract<A: Allocator, N: Allocator>(
+    text: &mut String<A>,
+    names: &Names<N>,
+    chosen: NameSet,
+) -> Result<(), Oom>
+    ensures { OnOk result (string_bytes text.new ≡ string_bytes text.old ++ codes "extract" ++ extract_from chosen 0 names.now) }
+{
+    text.push_str("extract")?;
+    put_names(text, names, chosen)
+}
+
+/// A verb alone.
+fn put<A: Allocator>(text: &mut String<A>, more: &str) -> Result<(), Oom>
+    ensures { OnOk result (string_bytes text.new ≡ string_bytes text.old ++ more.now) }
+{
+    Ok(text.push_str(more)?)
+}
+
 /// The step as a script has it, after its node.
 #[tactic(auto, unfolding(crate::specs::StepText::step_text))]
 fn put_step<A: Allocator, N: Allocator, W: Allocator>(
@@ -104,27 +145,20 @@ fn put_step<A: Allocator, N: Allocator, W: Allocator>(
             key,
             metadata,
         } => put_presence(text, "join ", *pid, topic, key, metadata),
-        Step::Leave { pid, topic, key } => {
-            let topic = topic.as_str();
-            let key = key.as_str();
-            Ok(write!(text, "leave {pid} {topic} {key}")?)
-        }
-        Step::LeaveAll { pid } => Ok(write!(text, "leaveall {pid}")?),
+        Step::Leave { pid, topic, key } => put_leave(text, *pid, topic, key),
+        Step::LeaveAll { pid } => put_number(text, "leaveall ", *pid),
         Step::Update {
             pid,
             topic,
             key,
             metadata,
         } => put_presence(text, "update ", *pid, topic, key, metadata),
-        Step::Broadcast => Ok(text.push_str("broadcast")?),
-        Step::Extract { names: chosen } => {
-            text.push_str("extract")?;
-            put_names(text, names, *chosen)
-        }
+        Step::Broadcast => put(text, "broadcast"),
+        Step::Extract { names: chosen } => put_extract(text, names, *chosen),
         Step::Deliver { sender, number } => {
             put_message(text, "deliver ", names, *sender, *number)
         }
-        Step::Request => Ok(text.push_str("request")?),
+        Step::Request => put(text, "request"),
         Step::Answer { sender, number } => put_message(text, "answer ", names, *sender, *number),
         Step::Up { name } => put_status(text, "up ", names, *name),
         Step::Down { name } => put_status(text, "down ", names, *name),

@@ -21,7 +21,7 @@ fn records_next<'a, B: Allocator>(
 {
     let before = bench.history().len();
     let answer = bench.act(event.actor, &event.act);
-    if answer == Reply::Refused(Fault::OutOfMemory) {
+    if answer.same(Reply::Refused(Fault::OutOfMemory)) {
         return Err(Oom);
     }
     if answer.same(event.reply) {

@@ -91,7 +91,7 @@ impl Read for FakeReader<'_> {
     }
 }
 
-/// Takes so many bytes in all, and then fails; so many of them a call, at most.
+/// Takes `room` bytes in all, and then fails; at most `most` of them a call.
 #[derive(Drop)]
 pub struct FakeWriter {
     taken: Vec<u8>,
@@ -101,7 +101,7 @@ pub struct FakeWriter {
 }
 
 impl FakeWriter {
-    /// It takes so many bytes and then fails.
+    /// It takes `room` bytes and then fails.
     pub fn new(alloc: Global, room: usize) -> FakeWriter
         ensures taken { result.taken.items ≡ [] }
         ensures room { result.room ≡ room }
@@ -114,7 +114,7 @@ impl FakeWriter {
         }
     }
 
-    /// It takes at most so many bytes a call, and never fails.
+    /// It takes at most `most` bytes a call, and never fails.
     pub fn taking(alloc: Global, most: usize) -> FakeWriter
         ensures taken { result.taken.items ≡ [] }
         ensures most { result.most ≡ most }
@@ -127,7 +127,7 @@ impl FakeWriter {
         }
     }
 
-    /// It takes so many bytes and fails once, and then would take all others.
+    /// It takes `room` bytes and fails once, and then would take all others.
     pub fn failing_once(alloc: Global, room: usize) -> FakeWriter
         ensures taken { result.taken.items ≡ [] }
         ensures room { result.room ≡ room }

@@ -87,7 +87,7 @@ impl<B: Allocator> Drop for Refusing<B> {
     }
 }
 
-// Counts one more request, of so many bytes, and says whether it is refused.
+// Counts one more request, of `size` bytes, and says whether it is refused.
 fn is_refused(requests: &Requests, size: usize) -> bool {
     requests.bytes.fetch_add(size as u64, Ordering::SeqCst);
     let number = requests

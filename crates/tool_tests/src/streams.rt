@@ -47,7 +47,7 @@ fn input_is_read_whole_or_refused(rt: HostRuntime) {
     }
 }
 
-/// Whether a play of what this reader gives is told as a failed read, after so many calls, and nothing is written.
+/// Whether a play of what this reader gives is told as a failed read, after `calls` calls, and nothing is written.
 fn fails_to_read(heap: Global, mut reader: FakeReader, calls: Option<usize>) -> bool {
     let mut writer = FakeWriter::new(heap, 1000);
     let answer = play(&heap, &mut reader, &mut writer, Limits::usual());
@@ -78,7 +78,7 @@ fn a_read_that_fails_at_any_byte_is_told(rt: HostRuntime) {
     }
 }
 
-/// Whether the report goes out where the writer takes at most so many bytes at once.
+/// Whether the report goes out where the writer takes at most `most` bytes at once.
 fn goes_out_in_parts(heap: Global, most: usize) -> bool {
     let mut reader = FakeReader::ending(SCRIPT.as_bytes());
     let mut writer = FakeWriter::taking(heap, most);
@@ -92,7 +92,7 @@ fn a_report_goes_out_in_parts(rt: HostRuntime) {
     assert!(rt; goes_out_in_parts(rt.alloc(), 3));
 }
 
-/// Whether a play whose writer fails after so many bytes tells of these, and they are the beginning of the report.
+/// Whether a play whose writer fails after `most` bytes tells of these, and they are the beginning of the report.
 fn is_written_up_to(heap: Global, mut writer: FakeWriter, most: usize) -> bool {
     let report = REPORT.as_bytes();
     let mut reader = FakeReader::ending(SCRIPT.as_bytes());
@@ -218,7 +218,7 @@ const ANSWERED: &[(&[Answer], Option<&str>, usize)] = &[
     (&[A, Answer::Interrupted, B], None, 2),
 ];
 
-/// Whether this is what is read of the answers, and in so many calls.
+/// Whether this is what is read of the answers, and in `calls` calls.
 fn reads_answers(
     heap: Global,
     answers: &'static [Answer],

@@ -1,5 +1,5 @@
 -- The first call that was refused, found place by place.
-use Rattle.std.proofs.Common.{◌≡◌, ℕ, ◌+◌, ◌<◌, ◌≤◌, true, false, true≢false, List, [], ◌∷◌, length, drop, Option, Some, None, slice_get, refl, sym, ap, ◌∙◌}
+use Rattle.std.proofs.Common.{◌≡◌, ℕ, ◌+◌, ◌<◌, ◌≤◌, false, true≢false, List, length, drop, Option, Some, None, slice_get, refl, sym, ap, ◌∙◌}
 use Rattle.std.proofs.lemmas.List.{at_drop_all}
 use Rattle.journal_core.specs.Journals.{find_number}
 use Rattle.bench_core.specs.declared.fault.Fault.{Fault}

@@ -7,3 +7,4 @@ pub mod ReadActors
 pub mod ReadCalls
 pub mod ReadScripts
 pub mod ReadRuns
+pub mod Again

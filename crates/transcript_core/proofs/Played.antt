@@ -1,5 +1,5 @@
 -- What the script of a bench's calls leaves when it is played.
-use Rattle.std.proofs.Common.{◌≡◌, List, [], ◌∷◌, map, refl, sym, ap, ◌∙◌}
+use Rattle.std.proofs.Common.{◌≡◌, List, [], ◌∷◌, map, sym, ap, ◌∙◌}
 use Rattle.bench_core.specs.Machine.{Event, Machine, State, after, config_of, opening_machine, opening_state, with_state}
 use Rattle.bench_core.specs.NameList.{Texts}
 use Rattle.bench_core.specs.Replays.{Replays}

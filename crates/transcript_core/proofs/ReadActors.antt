@@ -1,6 +1,6 @@
 -- The names of actors are read as their numbers.
 use Rattle.std.proofs.Common.{◌≡◌, ℕ, zero, suc, ◌+◌, ◌-◌, ◌<◌, ◌≤◌, ◌||◌, nat_lt, Bool, true, false, not, if◌then◌else◌, List, [], ◌∷◌, ◌++◌, length}
-use Rattle.std.proofs.Common.{take, get_or, Option, Some, None, is_some, option_map, Result, Ok, Err, refl, sym, ap, ◌∙◌, subst, append_assoc, append-nil, true≢false, arith}
+use Rattle.std.proofs.Common.{take, get_or, Option, Some, None, is_some, option_map, Ok, Err, refl, sym, ap, ◌∙◌, subst, append_assoc, append-nil, true≢false, arith}
 use Rattle.std.specs.List.{list_any}
 use Rattle.std.specs.Str.{bytes_eq}
 use Rattle.std.specs.Cmp.Lexicographic.{bytes_decides}
@@ -11,7 +11,6 @@ use Rattle.payload_core.specs.Answers.{◌>>=◌}
 use Rattle.bench_core.specs.NameText.{is_name}
 use Rattle.bench_core.specs.NameList.{Texts, number_in}
 use Rattle.grammar_core.specs.declared.fault.FaultKind.TheVariants as kinds
-use Rattle.grammar_core.specs.declared.keyword.Keyword.{Keyword}
 use Rattle.grammar_core.specs.Casts.{Cast, actor_in, unless_node}
 use Rattle.grammar_core.specs.Grammar.{keyword_of, with_console, with_each}
 use Rattle.report_core.specs.Rows.{name_at}

@@ -1,5 +1,5 @@
 -- The line of a call is read as that call.
-use Rattle.std.proofs.Common.{◌≡◌, ℕ, ◌+◌, ◌-◌, ◌<◌, ◌≤◌, ◌&&◌, nat_lt, Bool, true, false, not, if◌then◌else◌, List, [], ◌∷◌, ◌++◌, length, Some, None, Ok, Err, refl, sym, ap, ◌∙◌, subst, append_assoc, arith, decimal, codes}
+use Rattle.std.proofs.Common.{◌≡◌, ℕ, ◌+◌, ◌-◌, ◌<◌, ◌&&◌, nat_lt, Bool, true, false, not, if◌then◌else◌, List, [], ◌∷◌, ◌++◌, length, Some, None, Ok, Err, refl, sym, ap, ◌∙◌, subst, append_assoc, arith, decimal, codes}
 use Rattle.std.proofs.lemmas.Bool.Decides.{nat_tests}
 use Rattle.payload_core.specs.Answers.{◌>>=◌}
 use Rattle.bench_core.specs.Acts.{Action, Do, Undo, Back}
@@ -7,8 +7,7 @@ use Rattle.bench_core.specs.NameList.{Texts}
 use Rattle.grammar_core.specs.declared.fault.FaultKind.TheVariants as kinds
 use Rattle.grammar_core.specs.Casts.{Cast, actor_in}
 use Rattle.grammar_core.specs.Scripts.{Command, Call, Line}
-use Rattle.grammar_core.specs.Words.{is_text, words_of}
-use Rattle.grammar_core.specs.Grammar.{Reading, actor_line, command_by, node_at, number_at, one_node, one_number, or_fault, verb_line, verb_of, with_each, with_line}
+use Rattle.grammar_core.specs.Grammar.{Reading, actor_line, command_by, node_at, number_at, one_node, one_number, verb_line, verb_of, with_line}
 use Rattle.report_core.specs.Rows.{name_at}
 use Rattle.run_core.specs.ReadSteps.{AreNodes, IsNumber}
 use Rattle.run_core.proofs.ReadLines.{FitsLine, Nodes, line_read, no_consoles, node_read, nodes_known, number_read, step_holds, verb_fits, wide_line, wider, words_read}

@@ -32,7 +32,7 @@ with_free nodes count consoles name =
 unfoldable pub console_words : Texts
 console_words = words_of CONSOLES.now
 
--- the first of these that no node has, for so many consoles
+-- the first of these that no node has, for `count` consoles
 unfoldable pub named_consoles : Texts → ℕ → Texts
 named_consoles nodes count = fold (with_free nodes count) [] console_words
 

@@ -13,7 +13,7 @@ use Rattle.grammar_core.specs.Scripts.{Command, Call, Unwind, Show, Dots, Why, J
 use Rattle.report_core.specs.Rows.{name_at}
 use Rattle.run_core.specs.Report.{after_command, command_text, commands_of, played}
 use Rattle.transcript_core.specs.Actors.{actor_name}
-use Rattle.transcript_core.specs.Scripts.{call_line, calls_asked, cast_of, ended}
+use Rattle.transcript_core.specs.Scripts.{call_line, calls_asked, cast_of}
 
 -- who took steps back: at the number of each the actor who did, if anybody
 abbrev pub Takers : Type 0

@@ -82,7 +82,7 @@ fn console_words<A: Allocator>(alloc: A) -> Result<Vec<&'static str, A>, Oom>
     words_of(alloc, CONSOLES)
 }
 
-/// Names for so many consoles: the first of these words that no node has.
+/// Names for `count` consoles: the first of these words that no node has.
 #[tactic(auto, unfolding(crate::specs::Actors::named_consoles))]
 fn named_consoles<A: Allocator + Copy, N: Allocator>(
     nodes: &Names<N>,

@@ -10,7 +10,7 @@ ghost use Rattle.transcript_core.specs.Refusals.{fault_in, first_from, first_in,
 use bench_core::{Act, Bench, Fault, History, Limits, Reply};
 use grammar_core::{Command, Line, Script, lines, node_names};
 use payload_core::Oom;
-use report_core::unwind;
+use report_core::{answer, unwind};
 use std::alloc::Allocator;
 
 /// A call that was refused, by the number of its line in a script, or its own among those that were recorded.
@@ -37,7 +37,6 @@ fn is_want(fault: Fault) -> bool
 }
 
 /// What an act is refused for, unless memory is refused.
-#[tactic(auto, unfolding(report_core::specs::ActTexts::reply_of, report_core::specs::ActTexts::after_act))]
 fn ask<'a, B: Allocator>(
     bench: &mut Bench<'a, B>,
     actor: u16,
@@ -46,11 +45,7 @@ fn ask<'a, B: Allocator>(
     ensures refusal { IfOk result (λ refusal. refusal ≡ fault_in (reply_of bench.old actor (plain_act act.now))) }
     ensures bench { OnOk result (bench.new ≡ after_act bench.old actor (plain_act act.now)) }
 {
-    let reply = bench.act(actor, act);
-    if reply == Reply::Refused(Fault::OutOfMemory) {
-        return Err(Oom);
-    }
-    Ok(fault_in(reply))
+    Ok(fault_in(answer(bench, actor, act)?))
 }
 
 /// What the unwind of a step is refused for.

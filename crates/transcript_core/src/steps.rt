@@ -1,6 +1,7 @@
 //! A report with the line of each call above what it printed.
 ghost use Rattle.std.specs.Prelude.{◌≡◌, ◌++◌, IfOk, OnOk, map, string_bytes, true};
 ghost use Rattle.bench_core.specs.Acts.{plain_act};
+ghost use Rattle.bench_core.specs.Machine.{opening_machine};
 ghost use Rattle.grammar_core.specs.Scripts.{plain_command, plain_lines, plain_script};
 ghost use Rattle.run_core.specs.Report.{after_command, call_of, commands_of, played};
 ghost use Rattle.transcript_core.specs.Scripts.{cast_of};
@@ -346,8 +347,48 @@ fn put_events<'a, B: Allocator>(
     Ok(())
 }
 
+/// The lines of a script, asked of a bench, and below each what it printed.
+fn lines_steps<'a, B: Allocator>(
+    bench: &mut Bench<'a, B>,
+    consoles: &TextSet<&'a B>,
+    takers: &[Option<u16>],
+    lines: &[Line<&'a B>],
+    alloc: &'a B,
+) -> Result<Vec<u8, &'a B>, Oom>
+    ensures { IfOk result (λ text. text.items ≡ steps_text (cast_of bench.old consoles.now) takers.now bench.old (commands_of (plain_lines lines.now))) }
+{
+    let mut out = Vec::new(alloc);
+    put_lines(&mut out, bench, consoles, takers, lines, alloc)?;
+    Ok(out)
+}
+
+/// Recorded calls, asked of a bench again, and below each what it printed.
+fn events_steps<'a, B: Allocator>(
+    bench: &mut Bench<'a, B>,
+    consoles: &TextSet<&'a B>,
+    takers: &[Option<u16>],
+    history: &History<'a, B>,
+    alloc: &'a B,
+) -> Result<Vec<u8, &'a B>, Oom>
+    ensures { IfOk result (λ text. text.items ≡ steps_text (cast_of bench.old consoles.now) takers.now bench.old (map call_of history.now)) }
+{
+    let mut out = Vec::new(alloc);
+    put_events(&mut out, bench, consoles, takers, history, alloc)?;
+    Ok(out)
+}
+
+/// A fresh bench of these names and limits.
+fn opened<'a, B: Allocator>(
+    names: &Names<&'a B>,
+    limits: Limits,
+    alloc: &'a B,
+) -> Result<Bench<'a, B>, Oom>
+    ensures { IfOk result (λ bench. bench ≡ opening_machine names.now limits) }
+{
+    Bench::new(alloc, names.try_copy()?, limits)
+}
+
 /// The lines of a script, below each what it printed, where the script was played with these limits and left this bench.
-#[tactic(auto, unfolding(crate::specs::Steps::script_steps))]
 pub fn script_steps<'a, B: Allocator>(
     alloc: &'a B,
     script: &Script<&'a B>,
@@ -358,11 +399,8 @@ pub fn script_steps<'a, B: Allocator>(
     ensures { IfOk result (λ text. text.items ≡ script_steps limits (plain_script script.now)) }
 {
     let takers = takers_of(bench, alloc)?;
-    let names = node_names(script).try_copy()?;
-    let mut again = Bench::new(alloc, names, limits)?;
-    let mut out = Vec::new(alloc);
-    let put = put_lines(
-        &mut out,
+    let mut again = opened(node_names(script), limits, alloc)?;
+    let steps = lines_steps(
         &mut again,
         console_names(script),
         &takers,
@@ -370,8 +408,7 @@ pub fn script_steps<'a, B: Allocator>(
         alloc,
     );
     drop(again);
-    put?;
-    Ok(out)
+    steps
 }
 
 /// The recorded calls of a bench with what they printed: below the line of each, where the consoles have these names.
@@ -384,18 +421,8 @@ pub fn bench_steps<'a, B: Allocator>(
     ensures { IfOk result (λ text. text.items ≡ bench_steps bench.now consoles.now) }
 {
     let takers = takers_of(bench, alloc)?;
-    let names = bench.names().try_copy()?;
-    let mut again = Bench::new(alloc, names, bench.limits())?;
-    let mut out = Vec::new(alloc);
-    let put = put_events(
-        &mut out,
-        &mut again,
-        consoles,
-        &takers,
-        bench.history(),
-        alloc,
-    );
+    let mut again = opened(bench.names(), bench.limits(), alloc)?;
+    let steps = events_steps(&mut again, consoles, &takers, bench.history(), alloc);
     drop(again);
-    put?;
-    Ok(out)
+    steps
 }

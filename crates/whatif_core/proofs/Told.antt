@@ -1,5 +1,6 @@
 -- Where a change is put that makes a difference.
-use Rattle.std.proofs.Common.{◌≡◌, ℕ, zero, suc, ◌+◌, ◌<◌, Bool, true, false, if◌then◌else◌, List, [], ◌∷◌, ◌++◌, length, slice_index_or, slice_set, Some, None, refl, ap, ◌∙◌, subst, arith}
+use Rattle.std.proofs.Common.{◌≡◌, ℕ, zero, suc, ◌+◌, ◌<◌, ◌≤◌, Bool, true, false, if◌then◌else◌, List, [], ◌∷◌, ◌++◌, length, drop, get_or, slice_index_or, slice_set, Some, None, refl, sym, ap, ◌∙◌, subst, add-one, drop-cons, arith}
+use Rattle.std.proofs.lemmas.List.{drop_all}
 use Rattle.diff_core.specs.Rows.{Row}
 use Rattle.change_core.specs.declared.change.Change.{Change}
 use Rattle.whatif_core.specs.Differences.{Difference, difference, is_with, place_with, told_too, with_place}
@@ -55,3 +56,24 @@ put_behind n (d ∷ ds) c rows h = go (is_with d c rows) h (put_behind (suc n) d
         (if b then with_place d c.beside ∷ ds else d ∷ told_too ds c rows) ≡ d ∷ (ds ++ difference c rows ∷ [])
     go true h more = absurd (cc)
     go false h more = ap (λ (l : List Difference). d ∷ l) (more h)
+
+-- the first that a change is with, from place to place
+
+from_place : (ds : List Difference) (i : ℕ) (d : Difference) → i < length ds → d ≡ get_or ds i d → drop i ds ≡ d ∷ drop (suc i) ds
+from_place ds i d lt at = drop-cons ds i d lt ∙ ap (λ (x : Difference). x ∷ drop (suc i) ds) (sym at)
+
+pub place_passes : (ds : List Difference) (c : Change) (rows : List Row) (i : ℕ) (d : Difference) → i < length ds → d ≡ get_or ds i d → false ≡ is_with d c rows →
+    place_with i (drop i ds) c rows ≡ place_with (i + 1) (drop (i + 1) ds) c rows
+place_passes ds c rows i d lt at other =
+    rw add-one
+    (ap (λ l. place_with i l c rows) (from_place ds i d lt at)
+    ∙ ap (λ b. if b then Some i else place_with (suc i) (drop (suc i) ds) c rows) (sym other))
+
+pub place_here : (ds : List Difference) (c : Change) (rows : List Row) (i : ℕ) (d : Difference) → i < length ds → d ≡ get_or ds i d → true ≡ is_with d c rows →
+    place_with i (drop i ds) c rows ≡ Some i
+place_here ds c rows i d lt at same =
+    ap (λ l. place_with i l c rows) (from_place ds i d lt at)
+    ∙ ap (λ b. if b then Some i else place_with (suc i) (drop (suc i) ds) c rows) (sym same)
+
+pub place_nowhere : (ds : List Difference) (c : Change) (rows : List Row) (i : ℕ) → length ds ≤ i → place_with i (drop i ds) c rows ≡ None
+place_nowhere ds c rows i past = ap (λ l. place_with i l c rows) (drop_all i ds past)

@@ -19,7 +19,7 @@ pub record LeadsTo (m : Machine) (c : Change) (end : Cluster) : Type 0 where
   pub same : SameOwn (changed m.state.remaining c) run
   pub accepted : run_of m run ≡ Ok end
 
--- with this change the rows are these, which are others than those at the end of the run as it was
+-- with this change the rows are these, which are others than those at the end of the recorded run
 pub record MakesDifference (m : Machine) (q : Question) (c : Change) (rows : List Row) : Type 0 where
   pub end : Cluster
   pub possible : LeadsTo m c end

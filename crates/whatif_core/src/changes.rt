@@ -9,7 +9,7 @@ use std::alloc::Allocator;
 
 type Changes<A> = Vec<Change, A>;
 
-/// How far off from a place a change of this kind can be, in a run of so many steps.
+/// How far off from a place a change of this kind can be, in a run of `count` steps.
 fn reach(count: usize, kind: Kind, place: usize) -> usize
     requires { place < count }
     ensures { result ≡ reach count kind place }

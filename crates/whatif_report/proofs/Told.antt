@@ -1,5 +1,5 @@
 -- One difference more of the text, the whole of it, and the change of a number.
-use Rattle.std.proofs.Common.{◌≡◌, ℕ, zero, suc, ◌+◌, ◌<◌, ◌≤◌, List, [], ◌∷◌, ◌++◌, length, codes, drop, get_or, slice_get, Option, Some, None, Result, Ok, Err, OnOk, refl, sym, ap, ◌∙◌, subst, append_assoc, append-nil, arith}
+use Rattle.std.proofs.Common.{◌≡◌, ℕ, zero, suc, ◌+◌, ◌-◌, ◌<◌, ◌≤◌, List, [], ◌∷◌, ◌++◌, length, codes, drop, get_or, slice_get, Option, Some, None, Result, Ok, Err, OnOk, refl, sym, ap, ◌∙◌, subst, append_assoc, append-nil, arith}
 use Rattle.std.proofs.Math.Seq.{drop-cons}
 use Rattle.std.proofs.lemmas.List.{drop_all}
 use Rattle.std.specs.Option.{option_map}
@@ -78,3 +78,18 @@ order_at m q told number c law exact h = go (numbered told number) refl h
     go (Some d) is h =
         let same : nearest_change d ≡ c = cc in
         subst (HasOrder m.state.remaining) same (law m q told exact d (contains_numbered told number d is))
+
+-- the change of a number, by what a read at its place gives
+
+pub at_number : (told : List Difference) (n : ℕ) (d : Difference) (x : Change) → (n ≡ 0 → ⊥) → slice_get told (n - 1) ≡ Some d → x ≡ nearest_change d →
+    Some x ≡ option_map nearest_change (numbered told n)
+at_number told zero d x some at is = absurd (some refl)
+at_number told (suc n) d x some at is =
+    let at_n : n ≡ suc n - 1 = omega arith in
+    ap Some is ∙ sym (ap (option_map nearest_change) (ap (slice_get told) at_n ∙ at))
+
+pub none_at : (told : List Difference) (n : ℕ) → (n ≡ 0 → ⊥) → slice_get told (n - 1) ≡ None → None ≡ option_map nearest_change (numbered told n)
+none_at told zero some none = absurd (some refl)
+none_at told (suc n) some none =
+    let at_n : n ≡ suc n - 1 = omega arith in
+    sym (ap (option_map nearest_change) (ap (slice_get told) at_n ∙ none))

@@ -50,7 +50,7 @@ pub record IsRun (m : Machine) (question : Question) (number : ℕ) (text : List
   pub told : numbered (tally_of m q).told number ≡ Some d
   pub with_it : IsScriptWith m (nearest_change d) text
 
--- there are so many, and none has this number
+-- there are `there_are` changes, and none has this number
 pub record HasNoChange (m : Machine) (question : Question) (number there_are : ℕ) : Type 0 where
   pub q : Plain
   pub asks : Asks m question q

@@ -40,11 +40,14 @@ side_words Again beside = codes " behind " ++ beside
 abbrev pub places_words : ℕ → List ℕ
 places_words count = if nat_lt 1 count then codes " places " ++ decimal count else []
 
--- `change N KIND NUMBER NODE VERB .. [before|behind NUMBER NODE VERB ..] [places K]`
+-- `change N KIND NUMBER NODE VERB ..`
+unfoldable pub changed_words : Texts → List Kept → ℕ → Difference → List ℕ
+changed_words names ks n d = codes "change " ++ decimal n ++ codes " " ++ kind_word d.kind ++ step_words names ks d.place
+
+-- `change .. [before|behind NUMBER NODE VERB ..] [places K]`
 unfoldable pub change_line : Texts → List Kept → ℕ → Difference → List ℕ
 change_line names ks n d =
-    codes "change " ++ decimal n ++ codes " " ++ kind_word d.kind ++ step_words names ks d.place ++
-    side_words d.kind (step_words names ks (nearest d)) ++ places_words (length d.besides) ++ codes "\n"
+    changed_words names ks n d ++ side_words d.kind (step_words names ks (nearest d)) ++ places_words (length d.besides) ++ codes "\n"
 
 -- and the rows that it takes away, and that it brings
 unfoldable pub difference_text : Texts → List Kept → List Row → ℕ → Difference → List ℕ
@@ -55,13 +58,20 @@ unfoldable pub differences_text : Texts → List Kept → List Row → ℕ → L
 differences_text names ks before n [] = []
 differences_text names ks before n (d ∷ ds) = difference_text names ks before n d ++ differences_text names ks before (suc n) ds
 
+-- `whatif NODE TOPIC KEY`
+unfoldable pub asked_words : Texts → Question → List ℕ
+asked_words names q = codes "whatif " ++ name_at names q.node ++ codes " " ++ q.topic ++ codes " " ++ q.key
+
+-- ` tried T possible P differ D`
+unfoldable pub counts_words : ℕ → ℕ → ℕ → List ℕ
+counts_words tried possible differ =
+    codes " tried " ++ decimal tried ++ codes " possible " ++ decimal possible ++ codes " differ " ++ decimal differ ++ codes "\n"
+
 -- `whatif NODE TOPIC KEY tried T possible P differ D`
 unfoldable pub head_line : Texts → Question → ℕ → Tally → List ℕ
-head_line names q tried t =
-    codes "whatif " ++ name_at names q.node ++ codes " " ++ q.topic ++ codes " " ++ q.key ++ codes " tried " ++ decimal tried ++
-    codes " possible " ++ decimal t.possible ++ codes " differ " ++ decimal t.differ ++ codes "\n"
+head_line names q tried t = asked_words names q ++ counts_words tried t.possible t.differ
 
--- the whole: how many changes there are, the rows as they were, and each change that is told
+-- the whole: how many changes there are, the rows of the recorded run, and each change that is told
 unfoldable pub whatif_text : Machine → Question → List ℕ
 whatif_text m q =
     head_line m.names q (length (changes m.state.remaining)) (tally_of m q) ++ row_lines (codes "= ") m.names (rows_before m q) ++

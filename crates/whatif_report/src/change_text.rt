@@ -3,7 +3,7 @@ ghost use Rattle.std.specs.Prelude.{◌≡◌, ◌++◌, IfOk, OnOk, Some, nat_l
 ghost use Rattle.diff_core.specs.Diffs.{alone};
 ghost use Rattle.diff_core.specs.Rows.{is_among};
 ghost use Rattle.journal_core.specs.Holdings.{kepts};
-ghost use Rattle.whatif_report.specs.Texts.{change_line, difference_text, kept_words, kind_word, places_words, side_words, step_words};
+ghost use Rattle.whatif_report.specs.Texts.{change_line, changed_words, difference_text, kept_words, kind_word, places_words, side_words, step_words};
 
 use bench_core::{Journal, Kept, Names};
 use diff_core::OnlineRow;
@@ -86,6 +86,22 @@ fn put_places<A: Allocator>(text: &mut String<A>, count: usize) -> Result<(), Oo
     Ok(())
 }
 
+/// `change N KIND NUMBER NODE VERB ..`.
+#[tactic(auto, unfolding(crate::specs::Texts::changed_words))]
+fn put_changed<'a, A: Allocator, N: Allocator, B: Allocator>(
+    journal: &Journal<'a, B>,
+    text: &mut String<A>,
+    names: &Names<N>,
+    number: usize,
+    difference: &Difference<&'a B>,
+) -> Result<(), Oom>
+    ensures { OnOk result (string_bytes text.new ≡ string_bytes text.old ++ changed_words names.now (kepts journal.now.steps) number difference.now) }
+{
+    let kind = kind_word(difference.kind);
+    write!(text, "change {number} {kind}")?;
+    put_step(journal, text, names, difference.place)
+}
+
 /// `change N KIND NUMBER NODE VERB ..`, and where it comes.
 #[tactic(auto, unfolding(crate::specs::Texts::change_line))]
 fn put_line<'a, A: Allocator, N: Allocator, B: Allocator>(
@@ -97,9 +113,7 @@ fn put_line<'a, A: Allocator, N: Allocator, B: Allocator>(
 ) -> Result<(), Oom>
     ensures { OnOk result (string_bytes text.new ≡ string_bytes text.old ++ change_line names.now (kepts journal.now.steps) number difference.now) }
 {
-    let kind = kind_word(difference.kind);
-    write!(text, "change {number} {kind}")?;
-    put_step(journal, text, names, difference.place)?;
+    put_changed(journal, text, names, number, difference)?;
     put_side(
         journal,
         text,

@@ -6,7 +6,7 @@ ghost use Rattle.whatif_core.specs.Differences.{Tally, tally_of};
 ghost use Rattle.change_core.specs.Ends.{rows_before};
 ghost use Rattle.change_core.specs.Questions.{Question};
 ghost use Rattle.progress_core.specs.Watches.{Watched};
-ghost use Rattle.whatif_report.specs.Texts.{differences_text, head_line, whatif_text};
+ghost use Rattle.whatif_report.specs.Texts.{asked_words, counts_words, differences_text, head_line, whatif_text};
 
 use crate::change_text::put_difference;
 use bench_core::{Bench, Journal, Names};
@@ -16,6 +16,36 @@ use progress_core::{Tried, Watch};
 use report_core::{name_at, put_rows};
 use std::alloc::Allocator;
 use whatif_core::{Difference, Differences, whatif};
+
+/// `whatif NODE TOPIC KEY`.
+#[tactic(auto, unfolding(crate::specs::Texts::asked_words))]
+fn put_asked<A: Allocator, N: Allocator, W: Allocator>(
+    text: &mut String<A>,
+    names: &Names<N>,
+    node: u16,
+    topic: &Word<W>,
+    key: &Word<W>,
+) -> Result<(), Oom>
+    ensures { OnOk result (string_bytes text.new ≡ string_bytes text.old ++ asked_words names.now (record { node = node; topic = topic.now; key = key.now })) }
+{
+    let node = name_at(names, node);
+    let topic = topic.as_str();
+    let key = key.as_str();
+    Ok(write!(text, "whatif {node} {topic} {key}")?)
+}
+
+/// ` tried T possible P differ D`.
+#[tactic(auto, unfolding(crate::specs::Texts::counts_words))]
+fn put_counts<A: Allocator>(
+    text: &mut String<A>,
+    tried: usize,
+    possible: usize,
+    differ: usize,
+) -> Result<(), Oom>
+    ensures { OnOk result (string_bytes text.new ≡ string_bytes text.old ++ counts_words tried possible differ) }
+{
+    Ok(writeln!(text, " tried {tried} possible {possible} differ {differ}")?)
+}
 
 /// `whatif NODE TOPIC KEY tried T possible P differ D`.
 #[tactic(auto, unfolding(crate::specs::Texts::head_line))]
@@ -30,15 +60,8 @@ fn put_head<A: Allocator, N: Allocator, W: Allocator>(
     ensures { OnOk result ((t : Tally) → t.possible ≡ found.now.possible → t.differ ≡ found.now.differ →
         string_bytes text.new ≡ string_bytes text.old ++ head_line names.now (record { node = node; topic = topic.now; key = key.now }) found.now.tried t) }
 {
-    let node = name_at(names, node);
-    let topic = topic.as_str();
-    let key = key.as_str();
-    let tried = found.tried;
-    let possible = found.possible;
-    let differ = found.differ;
-    write!(text, "whatif {node} {topic}")?;
-    write!(text, " {key} tried {tried}")?;
-    Ok(writeln!(text, " possible {possible} differ {differ}")?)
+    put_asked(text, names, node, topic, key)?;
+    put_counts(text, found.tried, found.possible, found.differ)
 }
 
 /// Each change that is told, numbered from 1.

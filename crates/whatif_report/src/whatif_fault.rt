@@ -13,7 +13,7 @@ pub enum WhatifFault {
     /// The text is no word, so nothing is tracked under it.
     #[error("NoWord")]
     NoWord,
-    /// There are so many changes, and none has the number that was asked for.
+    /// There are `changes` changes, and none has the number that was asked for.
     #[error("NoSuchChange, there are {changes}")]
     NoSuchChange { changes: usize },
     /// A request for memory was refused.

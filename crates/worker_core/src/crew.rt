@@ -163,7 +163,7 @@ fn count_lines<L>(lines: &[(u16, L)], actor: u16) -> usize {
     lines.iter().filter(|(other, _)| *other == actor).count()
 }
 
-/// A station with room for so many lines of the actor, and the way to it.
+/// A station with room for `count` lines of the actor, and the way to it.
 fn station_of<L: Drop, T: Drop, A: Allocator + Copy>(
     alloc: A,
     actor: u16,
@@ -179,7 +179,7 @@ fn station_of<L: Drop, T: Drop, A: Allocator + Copy>(
     Ok((station, way))
 }
 
-/// The station of an actor with so many lines, and the way to it; none where there is no line.
+/// The station of an actor with `count` lines, and the way to it; none where there is no line.
 fn place_of<L: Drop, T: Drop, A: Allocator + Copy>(
     alloc: A,
     actor: u16,
@@ -192,7 +192,7 @@ fn place_of<L: Drop, T: Drop, A: Allocator + Copy>(
     Ok((Some(station), Some(way)))
 }
 
-/// Makes room for the workers of so many actors and for their lists.
+/// Makes room for the workers of `actors` actors and for their lists.
 fn make_room<L: Drop, T: Drop, A: Allocator + Copy>(
     quarters: &mut Quarters<L, T, A>,
     actors: usize,
@@ -202,7 +202,7 @@ fn make_room<L: Drop, T: Drop, A: Allocator + Copy>(
     Ok(())
 }
 
-/// Adds the station of an actor with so many lines, and the way to it.
+/// Adds the station of an actor with `count` lines, and the way to it.
 fn add_station<L: Drop, T: Drop, A: Allocator + Copy>(
     quarters: &mut Quarters<L, T, A>,
     alloc: A,

@@ -15,7 +15,7 @@ use std::mem;
 
 impl<A: Allocator> Replica<A> {
     /// Makes a message of the replica its delta, as when a send is taken back. It takes no memory. With what
-    /// `take_delta` gave, `laws::delta_law` says that the replica is as it was before.
+    /// `take_delta` gave, `laws::delta_law` says that the replica is what it was before.
     pub fn give_delta(&mut self, payload: Payload<A>)
         requires { CanBeDelta payload self.old }
         ensures { self.new ≡ with_delta payload self.old }

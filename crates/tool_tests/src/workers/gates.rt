@@ -85,7 +85,7 @@ impl<R: Clock> InOrder<R> {
         place
     }
 
-    /// Waits until so many lines have passed.
+    /// Waits until `lines` lines have passed.
     fn wait_for(&self, lines: u64) {
         for _ in 0..TURNS {
             if lines <= self.passed.load(Ordering::SeqCst) {
@@ -104,7 +104,7 @@ impl<R: Clock> InOrder<R> {
     }
 }
 
-/// Whether each of the first so many counts is 1, and each other 0.
+/// Whether each of the first `lines` counts is 1, and each other 0.
 fn are_once(counts: &[AtomicU64; LINES], lines: usize) -> bool {
     let mut left = lines;
     let mut are_so = true;

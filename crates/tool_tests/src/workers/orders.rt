@@ -112,7 +112,7 @@ fn entries_of<'a, B: Allocator>(bench: &Bench<'a, B>, number: u16, rt: &impl Abo
     node.replica().entries().len()
 }
 
-/// Whether the bench tells the order so, and has so many entries.
+/// Whether the bench has the order's replies, and as many entries as it says.
 fn is_left_so<'a>(
     bench: &Bench<'a, Global>,
     order: &Order,
@@ -125,7 +125,7 @@ fn is_left_so<'a>(
     is_so && entries_of(bench, 1, rt) == order.entries
 }
 
-/// Whether a race in this order is told so, and leaves so many entries.
+/// Whether a race in this order has its replies, and leaves as many entries as it says.
 fn is_raced_so<R: Threads + Wait + Clock + Abort + Sync + Copy>(
     rt: &R,
     heap: &Global,

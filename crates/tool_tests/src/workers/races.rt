@@ -150,8 +150,8 @@ fn is_what_its_history_gives<'a, B: Allocator>(
     is_so
 }
 
-/// Whether there are so many lists, each of so many receipts.
-fn are_so_many<A: Allocator>(lists: &[Vec<Receipt<A>, A>], lengths: &[usize]) -> bool {
+/// Whether the lists have these lengths.
+fn have_lengths<A: Allocator>(lists: &[Vec<Receipt<A>, A>], lengths: &[usize]) -> bool {
     let mut are_so = lists.len() == lengths.len();
     for (list, length) in lists.iter().zip(lengths) {
         are_so = are_so && list.len() == *length;
@@ -159,10 +159,10 @@ fn are_so_many<A: Allocator>(lists: &[Vec<Receipt<A>, A>], lengths: &[usize]) ->
     are_so
 }
 
-/// Whether what a race left has so many receipts, which agree with its history, and the nodes that this history gives.
+/// Whether what a race left has a receipt for each line, which agree with its history, and the nodes that this history gives.
 fn are_vouched_for<'a, B: Allocator>(left: &Left<'a, B>, heap: &'a B, rt: &impl Abort) -> bool {
     agree_with_none(left, DELIVERED, heap, rt) == (true, false)
-        && are_so_many(&left.1, &[2, 2, 0])
+        && have_lengths(&left.1, &[2, 2, 0])
         && is_what_its_history_gives(&left.0, heap, rt)
 }
 
@@ -214,7 +214,7 @@ const REFUSED: &[(&str, u64, u16, RaceFault)] = &[
     (UNKNOWN_ACTOR, 1, 2, RaceFault::UnknownActor),
 ];
 
-/// The bench of such a race comes back as it was opened.
+/// The bench of such a race comes back as a fresh one.
 #[test]
 fn a_race_is_refused_before_it_begins(rt: HostRuntime) {
     let heap = rt.alloc();

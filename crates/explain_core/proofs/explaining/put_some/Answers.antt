@@ -1,14 +1,11 @@
-use Rattle.std.proofs.Common.{◌++◌, ◌∙◌, ap, string_bytes, arith}
+use Rattle.std.proofs.Common.{◌≡◌, ◌++◌, ◌∙◌, ℕ, List, OnOk, ap, subst, string_bytes}
 use Rattle.std.specs.List.{flat_map}
-use Rattle.std.proofs.lemmas.List.{take_all}
-use Rattle.explain_core.proofs.TracedTogether.{traced_text, traced_texts}
+use Rattle.explain_core.specs.Explanations.{traced_text}
+use Rattle.explain_core.proofs.TracedTogether.{traced_texts}
 use Rattle.explain_core.proofs.explaining.put_some.Goals as goal
 
 pub returns : goal.returns
 returns g c =
-    let m = c.args.bench.now in
-    let before = string_bytes c.args.text.now in
-    c.loop-next.invariant
-    ∙ ap (λ ts. before ++ flat_map (traced_text m c.args.node) ts)
-    (take_all c.loop-next.next-index c.deref-next-items.result.now (omega (arith, c.loop-next-test.false)) ∙ c.deref-next-items.ensures.value ∙ c.in_ok-traced.ensures)
-    ∙ ap (λ t. before ++ t) (traced_texts m c.args.node c.args.makings.now)
+    subst (λ (l : List ℕ). OnOk c.put_traced-put.result (string_bytes c.put_traced-put.new.text ≡ string_bytes c.args.text.now ++ l))
+    (ap (flat_map (traced_text c.args.bench.now c.args.node)) (c.deref-2.ensures.value ∙ c.in_ok-traced.ensures) ∙ traced_texts c.args.bench.now c.args.node c.args.makings.now)
+    c.put_traced-put.ensures

@@ -1,17 +1,13 @@
-use Rattle.std.proofs.Common.{arith, rules, sym, subst}
-use Rattle.std.proofs.lemmas.Grind.{common_steps}
+use Rattle.std.proofs.Common.{rules, sym, subst}
 use Rattle.dots_core.specs.Dots.{AreValid}
 use Rattle.replica_core.proofs.Sizes.{seen_fits}
 use Rattle.report_core.proofs.dots_text.put_name.Goals as goal
 
-pub clock_of-clock-requires : goal.clock_of-clock-requires
-clock_of-clock-requires g c = (search rules, (c.requires.name, subst AreValid (sym c.seen-seen.ensures) c.requires.valid))
+pub clock_of-requires : goal.clock_of-requires
+clock_of-requires g c = (search rules, (c.requires.name, subst AreValid (sym c.seen-seen.ensures) c.requires.valid))
 
-pub cloud_of-cloud-requires : goal.cloud_of-cloud-requires
-cloud_of-cloud-requires g c = (search rules, (c.requires.name, subst AreValid (sym c.seen-seen.ensures) c.requires.valid))
-
-pub returns-in_err-put_cloud : goal.returns-in_err-put_cloud
-returns-in_err-put_cloud g c = grind (arith, common_steps)
+pub cloud_of-requires : goal.cloud_of-requires
+cloud_of-requires g c = (search rules, (c.requires.name, subst AreValid (sym c.seen-seen.ensures) c.requires.valid))
 
 -- the dots that it saw fit in memory where the replica does
 pub seen-seen-requires : goal.seen-seen-requires

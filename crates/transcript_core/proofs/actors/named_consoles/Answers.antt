@@ -1,4 +1,4 @@
-use Rattle.std.proofs.Common.{◌≡◌, ◌∙◌, [], map, ap, arith}
+use Rattle.std.proofs.Common.{◌∙◌, [], map, ap, arith}
 use Rattle.std.specs.List.{fold}
 use Rattle.transcript_core.specs.Actors.{with_free, named_consoles}
 use Rattle.transcript_core.proofs.Walks.{fold_mapped, fold_mapped_all}

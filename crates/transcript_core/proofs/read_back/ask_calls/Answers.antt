@@ -1,4 +1,4 @@
-use Rattle.std.proofs.Common.{◌≡◌, true, false, length, eq-eqb, refl, sym, ◌∙◌, arith, true≢false}
+use Rattle.std.proofs.Common.{◌≡◌, length, eq-eqb, refl, sym, ◌∙◌, arith, true≢false}
 use Rattle.std.proofs.lemmas.Bool.{eqb-true}
 use Rattle.grammar_core.specs.Scripts.{plain_line, plain_lines}
 use Rattle.run_core.specs.Report.{call_of, commands_of}

@@ -1,4 +1,4 @@
-use Rattle.std.proofs.Common.{◌≡◌, ◌++◌, ◌∙◌, ap, length, string_bytes}
+use Rattle.std.proofs.Common.{◌++◌, ◌∙◌, ap, length, string_bytes}
 use Rattle.std.proofs.lemmas.Result.{on_ok_weaker}
 use Rattle.grammar_core.specs.Scripts.{plain_command}
 use Rattle.run_core.specs.Report.{command_text}

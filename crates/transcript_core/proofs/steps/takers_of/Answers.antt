@@ -1,4 +1,4 @@
-use Rattle.std.proofs.Common.{◌∙◌, length, slice_get, ap, arith, rules}
+use Rattle.std.proofs.Common.{◌∙◌, length, slice_get, ap, arith}
 use Rattle.run_core.proofs.Printed.{no_gap}
 use Rattle.transcript_core.specs.Steps.{with_taker}
 use Rattle.transcript_core.proofs.Walks.{fold_more}

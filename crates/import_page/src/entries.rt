@@ -1,0 +1,149 @@
+//! The events as JSON, one after another.
+ghost use Rattle.std.specs.Prelude.{◌≡◌, ◌++◌, ◌<◌, ℕ, List, OnOk, length, map, option_map, string_bytes};
+ghost use Rattle.std.specs.List.{All};
+ghost use Rattle.node_core.specs.Operations.{plain};
+ghost use Rattle.import_core.specs.Notes.{note_of};
+ghost use Rattle.import_report.specs.Events.{after_event, after_events, after_step, asked_by};
+ghost use Rattle.import_report.specs.Scripts.{in_order};
+ghost use Rattle.import_page.specs.Entries.{AreEntries, IsAskedTold, IsEntry, head_text, line_of, time_key, unsent_text};
+
+use crate::rows::put_listed;
+use crate::times::time_on;
+use bench_core::{Act, Bench, Step};
+use import_core::Noted;
+use import_report::{asked, play};
+use page_data::{put_comma, put_number_key, put_text_key};
+use payload_core::Oom;
+use std::alloc::{Allocator, Global};
+
+/// The line of this number.
+fn line_of<'l>(lines: &[&'l [u8]], number: u64) -> &'l [u8]
+    ensures { result.now ≡ line_of (map (λ line. line.now) lines.now) number }
+{
+    match lines.get(number.saturating_sub(1) as usize) {
+        Some(line) => line,
+        None => &[],
+    }
+}
+
+/// `,"time":"TIME"`, where there is one.
+fn put_time<A: Allocator>(text: &mut String<A>, time: &Option<String>) -> Result<(), Oom>
+    ensures { OnOk result (string_bytes text.new ≡ string_bytes text.old ++ time_key (option_map string_bytes time.now)) }
+{
+    match time {
+        Some(time) => put_text_key(text, "time", time.as_str()),
+        None => Ok(()),
+    }
+}
+
+/// `{"line":L,"time":"TIME"`.
+#[tactic(auto, unfolding(crate::specs::Entries::head_text))]
+fn put_head<A: Allocator>(
+    text: &mut String<A>,
+    place: usize,
+    number: u64,
+    time: &Option<String>,
+) -> Result<(), Oom>
+    ensures { OnOk result (string_bytes text.new ≡ string_bytes text.old ++ head_text place number (option_map string_bytes time.now)) }
+{
+    put_comma(text, place)?;
+    write!(text, "{{\"line\":{number}")?;
+    put_time(text, time)
+}
+
+/// `,"node":N,"unsent":true`.
+#[tactic(auto, unfolding(crate::specs::Entries::unsent_text))]
+fn put_unsent<A: Allocator>(text: &mut String<A>, node: u16) -> Result<(), Oom>
+    ensures { OnOk result (string_bytes text.new ≡ string_bytes text.old ++ unsent_text node) }
+{
+    put_number_key(text, "node", node as u64)?;
+    Ok(text.push_str(",\"unsent\":true")?)
+}
+
+/// A step of an event is asked of the bench.
+#[tactic(auto, unfolding(import_report::specs::Events::after_step))]
+fn ask<'a, B: Allocator>(
+    bench: &mut Bench<'a, B>,
+    numbers: &mut [u64],
+    note: &Noted<&'a B>,
+    step: Step<&'a B>,
+) -> Result<(), Oom>
+    ensures bench { OnOk result (bench.new ≡ (after_step (record { machine = bench.old; numbers = numbers.old }) note.now.logged.node note.now.logged.sends (plain step.entry)).machine) }
+    ensures numbers { OnOk result (numbers.new ≡ (after_step (record { machine = bench.old; numbers = numbers.old }) note.now.logged.node note.now.logged.sends (plain step.entry)).numbers) }
+{
+    let act = Act::Do(step);
+    let played = play(bench, numbers, note.logged.node, note.logged.sends, &act);
+    drop(act);
+    match played {
+        Ok(_reply) => Ok(()),
+        Err(oom) => Err(oom),
+    }
+}
+
+/// What an event tells that is no call, and the bench after it.
+#[tactic(auto, unfolding(import_report::specs::Events::after_event))]
+fn put_told<'a, B: Allocator>(
+    bench: &mut Bench<'a, B>,
+    text: &mut String<&'a B>,
+    numbers: &mut [u64],
+    note: &Noted<&'a B>,
+    alloc: &'a B,
+) -> Result<(), Oom>
+    ensures told { OnOk result ((told : List ℕ) × (string_bytes text.new ≡ string_bytes text.old ++ told)
+        × IsAskedTold bench.old (note_of note.now) (asked_by numbers.old (note_of note.now).step) told) }
+    ensures bench { OnOk result (bench.new ≡ (after_event (record { machine = bench.old; numbers = numbers.old }) (note_of note.now)).machine) }
+    ensures numbers { OnOk result (numbers.new ≡ (after_event (record { machine = bench.old; numbers = numbers.old }) (note_of note.now)).numbers) }
+{
+    let Some(step) = &note.step else {
+        return put_listed(bench, text, note, alloc);
+    };
+    match asked(step, numbers)? {
+        Some(step) => ask(bench, numbers, note, step),
+        None => put_unsent(text, note.logged.node),
+    }
+}
+
+/// An event, which stands at this place, and the bench after it.
+fn put_entry<'a, B: Allocator>(
+    bench: &mut Bench<'a, B>,
+    text: &mut String<&'a B>,
+    numbers: &mut [u64],
+    heap: Global,
+    lines: &[&[u8]],
+    place: usize,
+    note: &Noted<&'a B>,
+    alloc: &'a B,
+) -> Result<(), Oom>
+    ensures told { OnOk result ((told : List ℕ) × (string_bytes text.new ≡ string_bytes text.old ++ told)
+        × IsEntry (map (λ line. line.now) lines.now) (record { machine = bench.old; numbers = numbers.old }) place (note_of note.now) told) }
+    ensures bench { OnOk result (bench.new ≡ (after_event (record { machine = bench.old; numbers = numbers.old }) (note_of note.now)).machine) }
+    ensures numbers { OnOk result (numbers.new ≡ (after_event (record { machine = bench.old; numbers = numbers.old }) (note_of note.now)).numbers) }
+{
+    let time = time_on(heap, line_of(lines, note.number))?;
+    put_head(text, place, note.number, &time)?;
+    put_told(bench, text, numbers, note, alloc)?;
+    Ok(text.push_str("}")?)
+}
+
+/// The events in this order, one after another, and the bench after them.
+pub(crate) fn put_entries<'a, B: Allocator>(
+    bench: &mut Bench<'a, B>,
+    text: &mut String<&'a B>,
+    numbers: &mut [u64],
+    heap: Global,
+    lines: &[&[u8]],
+    notes: &[Noted<&'a B>],
+    order: &[usize],
+    alloc: &'a B,
+) -> Result<(), Oom>
+    requires { All (λ place. place < length notes.now) order.now }
+    ensures told { OnOk result ((told : List ℕ) × (string_bytes text.new ≡ string_bytes text.old ++ told)
+        × AreEntries (map (λ line. line.now) lines.now) (record { machine = bench.old; numbers = numbers.old }) 0 (in_order (map note_of notes.now) order.now) told) }
+    ensures bench { OnOk result (bench.new ≡ (after_events (record { machine = bench.old; numbers = numbers.old }) (in_order (map note_of notes.now) order.now)).machine) }
+{
+    for (index, place) in order.iter().enumerate() {
+        let note = &notes[*place];
+        put_entry(bench, text, numbers, heap, lines, index, note, alloc)?;
+    }
+    Ok(())
+}

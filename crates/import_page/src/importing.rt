@@ -1,0 +1,149 @@
+//! From the bytes of logs to a bench and what they tell beside its calls.
+ghost use Rattle.std.specs.Prelude.{◌≡◌, ◌<◌, ◌≤◌, ◌++◌, ℕ, List, IfOk, IfErr, OnOk, length, map, string_bytes};
+ghost use Rattle.std.specs.List.{All};
+ghost use Rattle.log_core.specs.Lines.{lines_of};
+ghost use Rattle.import_core.specs.Faults.{IsImportFault};
+ghost use Rattle.import_core.specs.Notes.{note_of};
+ghost use Rattle.import_core.specs.Tables.{all_of};
+ghost use Rattle.import_report.specs.Events.{after_events};
+ghost use Rattle.import_report.specs.Scripts.{in_order};
+ghost use Rattle.import_page.specs.Entries.{AreEntries};
+ghost use Rattle.import_page.specs.Keys.{IsShownOf, keys_text, start_of};
+
+use crate::entries::put_entries;
+use bench_core::{Bench, Limits};
+use import_core::{Import, ImportFault, Tables, imported};
+use import_report::{shown_names, zeros};
+use page_data::put_texts;
+use payload_core::Oom;
+use std::alloc::{Allocator, Global};
+
+/// What the line feeds divide.
+fn lines_of<A: Allocator>(alloc: A, bytes: &[u8]) -> Result<Vec<&[u8], A>, Oom>
+    ensures { IfOk result (λ lines. map (λ line. line.now) lines.items ≡ lines_of bytes.now) }
+{
+    bytes.split(|byte| *byte == b'\n').collect(alloc)
+}
+
+/// A bench, and what the events that were played on it tell beside its calls.
+#[derive(Drop)]
+pub struct Shown<'a, B: Allocator> {
+    pub bench: Bench<'a, B>,
+    /// The further keys of the data of a page.
+    pub keys: String<&'a B>,
+}
+
+/// The nodes' own names, the values of the processes and of the words that were cut, and the events.
+#[tactic(auto, unfolding(crate::specs::Keys::keys_text))]
+fn keys_text<A: Allocator + Copy>(
+    alloc: A,
+    tables: &Tables<A>,
+    entries: &str,
+) -> Result<String<A>, Oom>
+    ensures { IfOk result (λ keys. string_bytes keys ≡ keys_text (all_of tables.now) entries.now) }
+{
+    let mut keys = String::new(alloc);
+    keys.push_str(",\"names\":[")?;
+    put_texts(&mut keys, &tables.nodes)?;
+    keys.push_str("],\"pids\":[")?;
+    put_texts(&mut keys, &tables.pids)?;
+    keys.push_str("],\"cut\":[")?;
+    put_texts(&mut keys, &tables.longs)?;
+    keys.push_str("],\"events\":[")?;
+    keys.push_str(entries)?;
+    keys.push_str("]")?;
+    Ok(keys)
+}
+
+/// The events of what was imported are played.
+fn played<'a, B: Allocator>(
+    heap: Global,
+    alloc: &'a B,
+    limits: Limits,
+    bytes: &[u8],
+    import: &Import<&'a B>,
+) -> Result<(Bench<'a, B>, String<&'a B>), Oom>
+    requires some { 0 < length import.now.tables.nodes }
+    requires few { length import.now.tables.nodes ≤ 32 }
+    requires places { All (λ place. place < length import.now.notes.items) import.now.order.items }
+    ensures bench { IfOk result (λ p. p.0 ≡
+        (after_events (start_of limits (all_of import.now.tables)) (in_order (map note_of import.now.notes.items) import.now.order.items)).machine) }
+    ensures told { IfOk result (λ p. AreEntries (lines_of bytes.now) (start_of limits (all_of import.now.tables)) 0
+        (in_order (map note_of import.now.notes.items) import.now.order.items) (string_bytes p.1)) }
+{
+    let names = shown_names(alloc, &import.tables.nodes)?;
+    let lines = lines_of(alloc, bytes)?;
+    let mut numbers = zeros(alloc, import.tables.messages.len())?;
+    let mut entries = String::new(alloc);
+    let mut bench = Bench::new(alloc, names, limits)?;
+    let put = put_entries(
+        &mut bench,
+        &mut entries,
+        &mut numbers,
+        heap,
+        &lines,
+        &import.notes,
+        &import.order,
+        alloc,
+    );
+    match put {
+        Ok(()) => Ok((bench, entries)),
+        Err(oom) => {
+            drop(bench);
+            Err(oom)
+        }
+    }
+}
+
+/// What was imported, as it is shown.
+fn shown_of<'a, B: Allocator>(
+    heap: Global,
+    alloc: &'a B,
+    limits: Limits,
+    bytes: &[u8],
+    import: &Import<&'a B>,
+) -> Result<Shown<'a, B>, Oom>
+    requires some { 0 < length import.now.tables.nodes }
+    requires few { length import.now.tables.nodes ≤ 32 }
+    requires places { All (λ place. place < length import.now.notes.items) import.now.order.items }
+    ensures bench { IfOk result (λ s. s.bench ≡
+        (after_events (start_of limits (all_of import.now.tables)) (in_order (map note_of import.now.notes.items) import.now.order.items)).machine) }
+    ensures keys { IfOk result (λ s. (entries : List ℕ) × AreEntries (lines_of bytes.now) (start_of limits (all_of import.now.tables)) 0
+        (in_order (map note_of import.now.notes.items) import.now.order.items) entries
+        × (string_bytes s.keys ≡ keys_text (all_of import.now.tables) entries)) }
+{
+    let (bench, entries) = played(heap, alloc, limits, bytes, import)?;
+    match keys_text(alloc, &import.tables, entries.as_str()) {
+        Ok(keys) => Ok(Shown { bench, keys }),
+        Err(oom) => {
+            drop(bench);
+            Err(oom)
+        }
+    }
+}
+
+/// The lines of what was left out.
+fn left_out_of<A: Allocator>(import: Import<A>) -> Vec<u64, A>
+    ensures { result.items ≡ import.left_out.items }
+{
+    import.left_out
+}
+
+/// The bench that the events of logs leave, whose bytes these are, with these limits, and what they tell beside its calls; and
+/// the lines of the deliveries and answers that were left out, which none are unless it is `lenient`.
+pub fn import_shown<'a, B: Allocator>(
+    heap: Global,
+    alloc: &'a B,
+    limits: Limits,
+    lenient: bool,
+    bytes: &[u8],
+) -> Result<(Shown<'a, B>, Vec<u64, &'a B>), ImportFault>
+    ensures shown { IfOk result (λ s. IsShownOf lenient limits bytes.now s.0.bench (string_bytes s.0.keys) s.1.items) }
+    ensures refused { IfErr result (IsImportFault lenient bytes.now) }
+{
+    let import = imported(heap, alloc, lenient, bytes)?;
+    let shown = shown_of(heap, alloc, limits, bytes, &import);
+    let left_out = left_out_of(import);
+    let shown = shown?;
+    Ok((shown, left_out))
+}

@@ -1,0 +1,85 @@
+//! Lists that real nodes listed, against those of a bench.
+ghost use Rattle.std.specs.Prelude.{◌≡◌, ◌++◌, ℕ, List, OnOk, string_bytes};
+ghost use Rattle.import_core.specs.Notes.{note_of};
+ghost use Rattle.report_core.specs.Shown.{rows_at};
+ghost use Rattle.import_page.specs.Entries.{IsListTold, list_text, row_head, row_text, rows_text};
+
+use bench_core::Bench;
+use diff_core::OnlineRow;
+use import_core::Noted;
+use import_report::rows_at;
+use listed_core::compared;
+use page_data::{put_comma, put_number_key, put_word};
+use payload_core::Oom;
+use std::alloc::Allocator;
+
+/// `[NAME,"PID"`.
+#[tactic(auto, unfolding(crate::specs::Entries::row_head))]
+fn put_row_head<A: Allocator>(text: &mut String<A>, name: u16, pid: u64) -> Result<(), Oom>
+    ensures { OnOk result (string_bytes text.new ≡ string_bytes text.old ++ row_head name pid) }
+{
+    Ok(write!(text, "[{name},\"{pid}\"")?)
+}
+
+/// A row.
+#[tactic(auto, unfolding(crate::specs::Entries::row_text))]
+fn put_row<A: Allocator, R: Allocator>(text: &mut String<A>, row: &OnlineRow<R>) -> Result<(), Oom>
+    ensures { OnOk result (string_bytes text.new ≡ string_bytes text.old ++ row_text row.now) }
+{
+    put_row_head(text, row.name, row.pid)?;
+    put_word(text, &row.topic)?;
+    put_word(text, &row.key)?;
+    put_word(text, &row.metadata)?;
+    Ok(text.push_str("]")?)
+}
+
+/// The rows, divided by commas.
+fn put_rows<A: Allocator, R: Allocator>(
+    text: &mut String<A>,
+    rows: &[OnlineRow<R>],
+) -> Result<(), Oom>
+    ensures { OnOk result (string_bytes text.new ≡ string_bytes text.old ++ rows_text 0 rows.now) }
+{
+    for (place, row) in rows.iter().enumerate() {
+        put_comma(text, place)?;
+        put_row(text, row)?;
+    }
+    Ok(())
+}
+
+/// The rows that only the bench has, and those that only the real node listed.
+#[tactic(auto, unfolding(crate::specs::Entries::list_text))]
+fn put_list<A: Allocator, R: Allocator>(
+    text: &mut String<A>,
+    node: u16,
+    ours: &[OnlineRow<R>],
+    theirs: &[OnlineRow<R>],
+) -> Result<(), Oom>
+    ensures { OnOk result (string_bytes text.new ≡ string_bytes text.old ++ list_text node ours.now theirs.now) }
+{
+    put_number_key(text, "node", node as u64)?;
+    text.push_str(",\"online\":[[")?;
+    put_rows(text, ours)?;
+    text.push_str("],[")?;
+    put_rows(text, theirs)?;
+    Ok(text.push_str("]]")?)
+}
+
+/// A list that a real node listed, against that of the bench.
+pub(crate) fn put_listed<'a, B: Allocator>(
+    bench: &Bench<'a, B>,
+    text: &mut String<&'a B>,
+    note: &Noted<&'a B>,
+    alloc: &'a B,
+) -> Result<(), Oom>
+    ensures { OnOk result ((told : List ℕ) × (string_bytes text.new ≡ string_bytes text.old ++ told)
+        × IsListTold (note_of note.now) (rows_at bench.now note.now.logged.node) told) }
+{
+    let rows = rows_at(bench, note.logged.node, alloc)?;
+    let found = compared(alloc, &note.rows, &rows);
+    drop(rows);
+    let found = found?;
+    let put = put_list(text, note.logged.node, &found.joined, &found.left);
+    drop(found);
+    put
+}
