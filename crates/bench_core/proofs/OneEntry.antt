@@ -8,7 +8,7 @@ use Rattle.dots_core.specs.declared.dot.Dot.{Dot}
 use Rattle.dots_core.proofs.OwnClock.{not_fresh}
 use Rattle.payload_core.specs.Presences.{Presence, is_tracked_as}
 use Rattle.payload_core.specs.Messages.{Message, AreSeen, numbered, message_of_names}
-use Rattle.payload_core.proofs.EntryMaps.{get-names}
+use Rattle.block_core.proofs.EntryMaps.{get-names}
 use Rattle.payload_core.proofs.SeenEntries.{seen_none, seen-names}
 use Rattle.replica_core.specs.declared.node_limits.NodeLimits.{NodeLimits}
 use Rattle.replica_core.specs.declared.replica_fault.ReplicaFault.{ReplicaFault}

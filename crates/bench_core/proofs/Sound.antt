@@ -12,10 +12,10 @@ use Rattle.dots_core.proofs.Sets.{same_dots, contains-retain, contains_inserted,
 use Rattle.dots_core.proofs.OwnClock.{clocks_more, clocks_same}
 use Rattle.payload_core.specs.Presences.{Presence, Entries}
 use Rattle.payload_core.specs.Messages.{Message, AreSeen}
-use Rattle.payload_core.proofs.EntryMaps.{get-names, get_inserted, get_insert_other, get_remove_other}
+use Rattle.block_core.proofs.EntryMaps.{get-names, get_inserted, get_insert_other, get_remove_other}
 use Rattle.payload_core.proofs.SeenEntries.{seen_none, seen-insert, seen-remove, seen-names}
-use Rattle.payload_core.proofs.StoreMerges.{entry_after, get-merged, contains-merged}
-use Rattle.payload_core.specs.Stores.{is_other, store_of}
+use Rattle.store_core.proofs.StoreMerges.{entry_after, get-merged, contains-merged}
+use Rattle.store_core.specs.Stores.{is_other, store_of}
 use Rattle.payload_core.proofs.TrackedDots.{EachPasses, dots_of_pass}
 use Rattle.replica_core.specs.declared.node_limits.NodeLimits.{NodeLimits}
 use Rattle.replica_core.specs.declared.status.Status.{Status}

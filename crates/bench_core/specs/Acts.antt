@@ -5,7 +5,7 @@ use Rattle.node_core.specs.Operations.{Operation, Broadcast, operation_code, pla
 use Rattle.bench_core.specs.declared.act.Act.{Act}
 use Rattle.bench_core.specs.declared.act.Act.TheVariants as acts
 
--- a step of the node that asks; to take the step of a number back; to take the last step of a node back
+-- a step of the node that asks, the undo of the step of a number, or the undo of the last step of a node
 pub data Action : Type 0 where
   Do : (operation : Operation) → Action
   Undo : (number : ℕ) → Action
@@ -20,7 +20,7 @@ plain_act (acts.Back node) = Back node
 abbrev pub calls_of : {X : Type 0} → List (ℕ × Act X) → List (ℕ × Action)
 calls_of calls = map (λ call. (call.0, plain_act call.1)) calls
 
--- an action is stored as the number of its kind, with an operation and a number, which each kind uses or not
+-- an action is stored as the number of its kind with an operation and a number, as far as the kind uses them
 abbrev stored : Action → ℕ × (Operation × ℕ)
 stored (Do operation) = (0, (operation, 0))
 stored (Undo number) = (1, (Broadcast, number))

@@ -15,7 +15,7 @@ pub record Parted {T : Type 0} (xs : List T) (place : ℕ) : Type 0 where
   pub whole : xs ≡ before ++ value ∷ after
   pub stands : length before ≡ place
 
--- the value at that place was edited so, which left the values ys
+-- the value at that place was edited as P says, which left the values ys
 pub record Edits {T : Type 0} (P : List T → T → List T → T → Type 0) (xs : List T) (place : ℕ) (ys : List T) : Type 0 where
   pub parted : Parted xs place
   pub left : T

@@ -1,4 +1,4 @@
--- What a bench keeps, and what a step of one of its nodes and a step back are answered.
+-- What a bench keeps, and what answers a step of one of its nodes and a step back.
 use Rattle.std.specs.Prelude.{◌≡◌, ◌≢◌, ℕ, ◌+◌, ◌≤◌, IsTrue, List, length, slice_get, slice_set, Option, Some, None, Result, Ok, Err}
 use Rattle.replica_core.specs.Replicas.{own_clock}
 use Rattle.node_core.specs.declared.inverse.Inverse as declared
@@ -19,7 +19,7 @@ use Rattle.bench_core.specs.Clusters.{Cluster, step, opening_of, message_for, fa
 use Rattle.bench_core.specs.Machine.{Config, State, Machine, config_of, cluster_of, given, undo_reply, now}
 use Rattle.bench_core.specs.Headline.{IsReached}
 
--- the nodes are such as steps make them
+-- each node is one that steps can make
 abbrev pub AreNodes : Cluster → Type 0
 AreNodes c = (n : ℕ) (x : Node) → slice_get c n ≡ Some x → IsNode x
 
@@ -29,7 +29,7 @@ pub record IsBench (c : Config) (s : State) (nodes : Cluster) (hs : List Held) (
   pub reached : IsReached c s
   -- the nodes are what the remaining steps give
   pub is_now : now c s ≡ Ok nodes
-  -- the inverses lead back along that run
+  -- the inverses lead back along the run of the remaining steps
   pub chain : Chain (Ok (opening_of (node_limits c.limits) c.nodes)) hs
   -- `taken` steps were ever taken
   pub count : taken ≡ given s.history
@@ -51,7 +51,7 @@ pub record HasCluster (m : Machine) : Type 0 where
 pub record IsMachine (m : Machine) : Type 0 where
   -- some calls lead to its state
   pub reached : IsReached (config_of m) m.state
-  -- its nodes
+  -- the remaining steps give its nodes
   pub cluster : HasCluster m
   -- the history and the remaining steps keep within their bound, and so do the numbers that were given
   pub fits : length m.state.history + length m.state.remaining ≤ m.limits.acts
@@ -62,7 +62,7 @@ pub record IsMachine (m : Machine) : Type 0 where
   pub limits : AreLimits m.limits
   pub few : length m.names ≤ 32
 
--- each node has its place for its name
+-- each node's place is its name
 abbrev pub IsNumbered : Cluster → Type 0
 IsNumbered c = (n : ℕ) (x : Node) → slice_get c n ≡ Some x → x.replica.own ≡ n
 
@@ -82,7 +82,7 @@ pub record IsTaken (c : Cluster) (n : ℕ) (s : Operation) (i : Inverse) (d : Cl
   pub gives : d ≡ slice_set c n later
   pub kept : IsNode later
 
--- a step of node n was accepted, or refused, memory apart, for the fault of the definition, and nothing changed
+-- a step of node n was accepted; or it was refused with the fault of the definition, or for want of memory, and nothing changed
 abbrev pub Steps : {X : Type 0} → Cluster → ℕ → Operation → Result (declared.Inverse X) StepFault → Cluster → Type 0
 Steps c n s (Ok i) d = IsTaken c n s (plain_inverse i) d
 Steps c n s (Err fault) d = (d ≡ c) × (fault ≢ OutOfMemory → step c n s ≡ Err (fault_of fault))
@@ -95,7 +95,7 @@ LeadsNodeBack c n i = (later : Node) × (slice_get c n ≡ Some later) × LeadsS
 abbrev pub NodeGoesBack : Cluster → ℕ → Inverse → Cluster → Type 0
 NodeGoesBack c n i d = (later earlier : Node) → slice_get c n ≡ Some later → LeadsBack i later earlier → d ≡ slice_set c n earlier
 
--- the inverse leads node n of cluster d back to what it was in cluster c, where all other nodes were as they are
+-- the inverse leads node n of cluster d back to what it was in cluster c; all other nodes are the same in both
 pub record LeadsClusterBack (d : Cluster) (n : ℕ) (i : Inverse) (c : Cluster) : Type 0 where
   pub earlier : Node
   pub later : Node
@@ -103,7 +103,8 @@ pub record LeadsClusterBack (d : Cluster) (n : ℕ) (i : Inverse) (c : Cluster) 
   pub leads : LeadsBack i later earlier
   pub gives : c ≡ slice_set d n earlier
 
--- step n, of this node, can be taken back: nothing follows from it, no inverse is lent, and its own leads back from the node
+-- step n, of this node, can be taken back: nothing follows from it, no inverse is lent, and the step's inverse leads back from
+-- the node
 pub record IsBackable (nodes : Cluster) (hs : List Held) (n node : ℕ) : Type 0 where
   pub free : first_consequence (kepts hs) n ≡ None
   pub whole : AreAllHeld hs
@@ -126,12 +127,12 @@ GoesBack nodes hs n node d = (b : IsBackable nodes hs n node) → (d ≡ slice_s
 abbrev pub IsStepOf : State → ℕ → ℕ → Type 0
 IsStepOf s n node = (k : Kept) × (find_number s.remaining n ≡ Some k) × (k.node ≡ node)
 
--- step n doesn't remain, and its undo is refused so
+-- step n doesn't remain, and its undo is refused with this fault
 pub record IsGone (s : State) (n : ℕ) (fault : Fault) : Type 0 where
   pub gone : find_number s.remaining n ≡ None
   pub refused : undo_reply s n ≡ Refused fault
   pub other : fault ≢ HistoryFull
 
--- the node of this number, where there is one, in what the remaining steps give
+-- the node of this number, if there is one, in what the remaining steps give
 abbrev pub IsNodeOf : Machine → ℕ → Option Node → Type 0
 IsNodeOf m n node = (c : Cluster) × (now (config_of m) m.state ≡ Ok c) × (node ≡ slice_get c n)

@@ -1,4 +1,4 @@
--- That the inverses of the remaining steps lead back along their run (Danos and Krivine).
+-- The inverses of the remaining steps lead back along their run (Danos and Krivine).
 use Rattle.std.specs.Prelude.{◌≡◌, ℕ, ◌==◌, if◌then◌else◌, List, [], ◌∷◌, ◌++◌, slice_get, Some, Result, Ok, Err}
 use Rattle.replica_core.specs.declared.node_limits.NodeLimits.{NodeLimits}
 use Rattle.node_core.specs.Nodes.{Node, opening_node, take}
@@ -42,7 +42,7 @@ LeadBack n b [] a = b ≡ a
 LeadBack n b (p ∷ ps) a =
     (i : Inverse) × (mid : Node) × (p.held.inverse ≡ Some i) × LeadsBack i b mid × (slice_get p.before n ≡ Some mid) × LeadBack n mid ps a
 
--- from each present node, its own inverses lead back to its opening, through what it was in the run of the steps
+-- from each present node, its own inverses lead back to its opening, through what the node was in the run of the steps
 abbrev pub OwnChains : NodeLimits → ℕ → Cluster → List Held → Type 0
 OwnChains l count c hs =
     (n : ℕ) (x : Node) → slice_get c n ≡ Some x → LeadBack n x (own_back (Ok (opening_of l count)) hs n) (opening_node n l)

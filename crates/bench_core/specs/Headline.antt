@@ -25,7 +25,8 @@ GivenLaw = (c : Config) (s : State) → IsReached c s →
       fits : length s.history + length s.remaining ≤ c.limits.acts;
     }
 
--- taken back at once: a step whose undo comes next, from whoever, is undone, and the remaining steps are as before it
+-- taken back at once: if the next call undoes the step, whoever asks for it, the undo is made, and the remaining steps are those
+-- before the step
 abbrev pub BackLaw : Type 0
 BackLaw =
     (c : Config) (s : State) (actor other k : ℕ) (operation : Operation) → IsReached c s → reply_to c s actor (Do operation) ≡ Taken k →
@@ -52,19 +53,19 @@ UndoLaw =
       as_it_was : (call c s actor (Undo step.number)).remaining ≡ s.remaining;
     }
 
--- how the undo ends that comes next after a step, where the bench was `old` before the step and `new` after it
+-- how an undo of the step ends if it is the next call; the bench was `old` before the step and `new` after it
 pub data UndoneAtOnce (old new : Machine) (k : ℕ) (reply : Reply) (later : Machine) : Type 0 where
   TakenBack : reply ≡ Undone k → later.state.remaining ≡ old.state.remaining → cluster_of later ≡ cluster_of old →
       UndoneAtOnce old new k reply later
   NoMemory : reply ≡ Refused OutOfMemory → later ≡ new → UndoneAtOnce old new k reply later
 
--- a step that was taken can be taken back at once, by whoever
+-- the next call can take back a step that was taken, whoever asks for it
 abbrev pub CanBeTakenBack : Machine → Reply → Machine → Type 0
 CanBeTakenBack old (Taken k) new =
     (other : ℕ) (reply : Reply) (later : Machine) → AnswersAs new other (Undo k) reply later → UndoneAtOnce old new k reply later
 CanBeTakenBack old _ new = Unit {0}
 
--- of this node alone the cluster has changed, to what the node was just before its step k
+-- the cluster has changed at this node alone, to what the node was just before its step k
 pub record NodeGoesBack (old : Machine) (k node : ℕ) (new : Machine) : Type 0 where
   pub cluster : Cluster
   pub earlier : Cluster
@@ -81,7 +82,7 @@ pub data UndoEnds (old : Machine) (k : ℕ) (reply : Reply) (new : Machine) : Ty
       new.state.remaining ≡ old.state.remaining → cluster_of new ≡ cluster_of old → UndoEnds old k reply new
   Unmade : reply ≡ Refused OutOfMemory → new ≡ old → UndoEnds old k reply new
 
--- an undo of a remaining step, or of the last one of a node, is refused only for a named consequence
+-- an undo of a remaining step, or of the last step of a node, is refused only for a named consequence
 abbrev pub RefusedOnlyForConsequence : Machine → Action → Reply → Machine → Type 0
 RefusedOnlyForConsequence old (Do operation) reply new = Unit {0}
 RefusedOnlyForConsequence old (Undo k) reply new = (step : Kept) → find_number old.state.remaining k ≡ Some step → UndoEnds old k reply new

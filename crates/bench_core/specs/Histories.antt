@@ -1,4 +1,4 @@
--- The recorded calls: one more, the last of them answered, and the last of them forgotten.
+-- The recorded calls: with one more, with another reply to the last, and without the last.
 use Rattle.std.specs.Prelude.{◌≡◌, ℕ, List, [], ◌∷◌, ◌++◌}
 use Rattle.bench_core.specs.declared.reply.Reply.{Reply}
 use Rattle.bench_core.specs.Acts.{Action}

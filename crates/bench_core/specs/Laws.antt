@@ -30,13 +30,13 @@ LoopLaw = (l : NodeLimits) (count number node : ℕ) (ks : List Kept) (s : Opera
       out : without (added ks number node s) number ≡ ks;
     }
 
--- one node taken through its own steps, each delivery given its message as it stands in the cluster
+-- one node taken through its own steps; each delivery gets its message from the cluster
 abbrev pub own_run : Cluster → Result Node StepFault → List Kept → Result Node StepFault
 own_run c (Err e) ks = Err e
 own_run c (Ok node) [] = Ok node
 own_run c (Ok node) (k ∷ ks) = own_run c (take node k.step (message_for c k.step)) ks
 
--- at each moment of a run, a node is what its own run has then
+-- at each moment of a run, a node is what its own run has made of it by then
 abbrev pub OwnRunLaw : Type 0
 OwnRunLaw = (l : NodeLimits) (count n : ℕ) (first rest : List Kept) (old c : Cluster) (node : Node) →
     runs l count (first ++ rest) ≡ Ok c → runs l count first ≡ Ok old → slice_get old n ≡ Some node →
@@ -52,13 +52,14 @@ MiddleLaw = (l : NodeLimits) (count n : ℕ) (ks : List Kept) (k : Kept) (c : Cl
     NumbersRise 0 ks → runs l count ks ≡ Ok c → find_number ks n ≡ Some k → first_consequence ks n ≡ None →
     (old : Cluster) × (runs l count (steps_before ks n) ≡ Ok old) × (runs l count (without ks n) ≡ Ok (with_node_of k.node old c))
 
--- inverses that lead back along the run lead, for each node and newest first, from its present state through those that it had in the run back to its opening
+-- if the inverses lead back along the run, each node's inverses, newest first, lead from its present state, through those that it
+-- had in the run, back to its opening
 abbrev pub ChainLaw : Type 0
 ChainLaw =
     (l : NodeLimits) (count : ℕ) (hs : List Held) (c : Cluster) → Chain (Ok (opening_of l count)) hs → runs l count (kepts hs) ≡ Ok c →
     OwnChains l count c hs
 
--- of two equivalent journals, one runs exactly where the other does, and to the same cluster
+-- of two equivalent journals either both run, to the same cluster, or neither does
 abbrev pub SwapLaw : Type 0
 SwapLaw = (l : NodeLimits) (count : ℕ) (ks js : List Kept) → AreEquivalent ks js → (c : Cluster) → (runs l count ks ≡ Ok c) ↔ (runs l count js ≡ Ok c)
 
@@ -88,7 +89,7 @@ OneEntryLaw =
 abbrev pub delivery : ℕ → ℕ → ℕ → ℕ → Kept
 delivery number node sender message = record { number = number; node = node; step = Deliver sender message }
 
--- two adjacent deliveries at one node may be exchanged, where neither order fills it
+-- two adjacent deliveries at one node may be exchanged if neither order meets `EntriesFull`
 abbrev pub ExchangeLaw : Type 0
 ExchangeLaw =
     (l : NodeLimits) (count node : ℕ) (first rest : List Kept) (i j sender message other second : ℕ) →
@@ -97,6 +98,6 @@ ExchangeLaw =
     (runs l count (first ++ delivery i node sender message ∷ delivery j node other second ∷ rest) ≡ Ok c) ↔
     (runs l count (first ++ delivery j node other second ∷ delivery i node sender message ∷ rest) ≡ Ok c)
 
--- a delivery that is repeated at once is accepted, and changes nothing
+-- a delivery repeated at once is accepted, and changes nothing
 abbrev pub RepeatLaw : Type 0
 RepeatLaw = (c d : Cluster) (node sender message : ℕ) → step c node (Deliver sender message) ≡ Ok d → step d node (Deliver sender message) ≡ Ok d

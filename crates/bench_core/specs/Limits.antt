@@ -2,14 +2,14 @@
 use Rattle.std.specs.Prelude.{ℕ, ◌≤◌}
 use Rattle.replica_core.specs.declared.node_limits.NodeLimits.{NodeLimits}
 
--- events and remaining steps together; and of one node its entries, its own clock and its messages
+-- events and remaining steps together; and for one node its entries, its own clock and its messages
 pub record Limits : Type 0 where
   pub acts : ℕ
   pub entries : ℕ
   pub clock : ℕ
   pub messages : ℕ
 
--- each is in its range
+-- each limit is in its range
 pub record AreLimits (limits : Limits) : Type 0 where
   pub acts_some : 1 ≤ limits.acts
   pub acts_few : limits.acts ≤ 1000000
@@ -20,6 +20,6 @@ pub record AreLimits (limits : Limits) : Type 0 where
   pub messages_some : 1 ≤ limits.messages
   pub messages_few : limits.messages ≤ 100000
 
--- the part of them that binds each node
+-- the limits that bind each node
 abbrev pub node_limits : Limits → NodeLimits
 node_limits l = record { entries = l.entries; clock = l.clock; messages = l.messages }

@@ -57,7 +57,7 @@ free_places c s = c.limits.acts - (length s.history + length s.remaining)
 abbrev pub now : Config → State → Result Cluster Fault
 now c s = runs (node_limits c.limits) c.nodes s.remaining
 
--- undone, if nothing holds it
+-- the reply to the undo of a step that remains: undone, if nothing holds it, else refused
 abbrev pub unheld : ℕ → Option ℕ → Reply
 unheld k None = Undone k
 unheld k (Some j) = Refused (HasConsequence k j)
@@ -77,7 +77,7 @@ abbrev pub step_reply : ℕ → Result Cluster Fault → Reply
 step_reply n (Ok c) = Taken n
 step_reply n (Err e) = Refused e
 
--- the actor and the nodes that the step names are nodes
+-- whether the actor and the nodes that the step names are nodes
 abbrev pub knows : Config → ℕ → Operation → Bool
 knows c actor operation = nat_lt actor c.nodes && list_all (λ n. nat_lt n c.nodes) (named_in operation)
 
@@ -97,19 +97,19 @@ abbrev pub with_step : List Kept → ℕ → ℕ → Action → List Kept
 with_step ks number actor (Do operation) = ks ++ record { number = number; node = actor; step = operation } ∷ []
 with_step ks number actor _ = ks
 
--- the journal after a call that was answered so
+-- the journal after a call with this reply
 abbrev pub remaining_after : List Kept → ℕ → Action → Reply → List Kept
 remaining_after ks actor act (Taken n) = with_step ks n actor act
 remaining_after ks actor act (Undone k) = without ks k
 remaining_after ks actor act (Refused r) = ks
 
--- a refusal is recorded while a place is free, and HistoryFull never is
+-- whether the reply is recorded: a refusal is while a place is free, but HistoryFull never is
 abbrev pub is_recorded : Config → State → Reply → Bool
 is_recorded c s (Refused HistoryFull) = false
 is_recorded c s (Refused r) = not (free_places c s == 0)
 is_recorded c s _ = true
 
--- the state after a call that was answered so
+-- the state after a call with this reply
 abbrev pub after : Config → State → ℕ → Action → Reply → State
 after c s actor act reply = record {
   history = if is_recorded c s reply then s.history ++ record { actor = actor; act = act; reply = reply } ∷ [] else s.history;
@@ -151,7 +151,7 @@ machine_code reply_code =
     code_by (Texts × (Limits × State)) (coded× (coded_list (coded_list coded_ℕ)) (coded× limits_code (state_code reply_code)))
     (λ m. (m.names, (m.limits, m.state))) (λ t. record { names = t.0; limits = t.1.0; state = t.1.1 }) (λ _. refl)
 
--- the same names and limits in another state
+-- the machine with its names and limits, in another state
 abbrev pub with_state : Machine → State → Machine
 with_state m s = record { names = m.names; limits = m.limits; state = s }
 
@@ -165,7 +165,7 @@ opening_machine names limits = record { names = names; limits = limits; state = 
 abbrev pub cluster_of : Machine → Result Cluster Fault
 cluster_of m = now (config_of m) m.state
 
--- a call is answered as the machine answers it; or memory was refused, where that answer would be recorded, and nothing changed
+-- a call gets the machine's reply; or memory was refused, where that reply would be recorded, and nothing changed
 pub data AnswersAs (old : Machine) (actor : ℕ) (act : Action) (reply : Reply) (new : Machine) : Type 0 where
   Answered : reply ≡ reply_to (config_of old) old.state actor act → new ≡ with_state old (after (config_of old) old.state actor act reply) →
       AnswersAs old actor act reply new

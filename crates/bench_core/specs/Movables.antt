@@ -1,4 +1,4 @@
--- What a swap asks of a step, noted beside the step's place in its journal.
+-- What a swap needs to know of a step, noted beside the step's place in its journal.
 use Rattle.std.specs.Prelude.{◌≡◌, ℕ, ◌+◌, ◌<◌, ◌==◌, ◌&&◌, not, Bool, false, if◌then◌else◌, List, [], ◌∷◌, ◌++◌, length, slice_get, Option, Some, None}
 use Rattle.std.specs.List.{AllByRecursion}
 use Rattle.node_core.specs.Operations.{delivers, sends}
@@ -9,11 +9,11 @@ use Rattle.bench_core.specs.declared.movable.Movable.{Movable}
 abbrev pub sent_after : List Kept → Kept → Option (ℕ × ℕ)
 sent_after first k = if sends k.step then Some (k.node, length (sent_by first k.node) + 1) else None
 
--- what is noted of the step that stands after these
+-- the note of the step that stands after these
 abbrev pub movable_after : List Kept → Kept → Movable
 movable_after first k = record { place = length first; node = k.node; delivers = delivers k.step; sends = sent_after first k }
 
--- what is noted of these steps, which stand after the first
+-- the notes of these steps, which stand after the first ones
 abbrev pub movables_after : List Kept → List Kept → List Movable
 movables_after first [] = []
 movables_after first (k ∷ ks) = movable_after first k ∷ movables_after (first ++ k ∷ []) ks
@@ -36,7 +36,7 @@ CountSent count ks counts = (node : ℕ) → node < count → slice_get counts n
 abbrev pub AreOfNodes : ℕ → List Kept → Type 0
 AreOfNodes count ks = AllByRecursion (λ (k : Kept). k.node < count) ks
 
--- the step at this place of one journal is that at another place of the other, its number aside
+-- the step at this place of one journal is the step at another place of the other, whatever their numbers
 pub record IsSameAt (ks : List Kept) (place : ℕ) (js : List Kept) (second : ℕ) : Type 0 where
   pub one : Kept
   pub other : Kept
@@ -45,7 +45,7 @@ pub record IsSameAt (ks : List Kept) (place : ℕ) (js : List Kept) (second : �
   pub node : one.node ≡ other.node
   pub step : one.step ≡ other.step
 
--- these steps of one journal are those of the other, whatever their numbers
+-- these steps of one journal are those of the other in order, whatever their numbers
 pub record AreStepsOf (ks : List Kept) (ms : List Movable) (js : List Kept) : Type 0 where
   pub count : length ms ≡ length js
   pub each : (i : ℕ) (m : Movable) → slice_get ms i ≡ Some m → IsSameAt ks m.place js i

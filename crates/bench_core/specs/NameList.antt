@@ -10,14 +10,14 @@ use Rattle.bench_core.specs.declared.names_fault.NamesFault.TheVariants.{WrongCo
 abbrev pub Texts : Type 0
 Texts = List (List ℕ)
 
--- the names with one more at their end, or its fault
+-- the names with one more at the end, or its fault
 abbrev pub with_name : Texts → List ℕ → Result Texts NamesFault
 with_name before text =
     if not (is_name text) then Err (BadName (length before + 1))
     else (if list_any (bytes_eq text) before then Err (Twice (length before + 1))
     else Ok (before ++ text ∷ []))
 
--- the names with each of these at their end, or the first fault
+-- the names with each of these at the end, or the first fault
 abbrev pub with_names : Texts → Texts → Result Texts NamesFault
 with_names before [] = Ok before
 with_names before (text ∷ texts) = do

@@ -1,4 +1,4 @@
--- Recorded calls asked again, of a bench that was just opened.
+-- Recorded calls asked again of a bench just opened.
 use Rattle.std.specs.Prelude.{◌≡◌, ◌≢◌, ℕ, true, List, [], ◌∷◌}
 use Rattle.bench_core.specs.declared.reply.Reply.TheVariants.{Refused}
 use Rattle.bench_core.specs.declared.fault.Fault.TheVariants.{OutOfMemory}
@@ -15,7 +15,8 @@ abbrev pub Replays : Config → State → List Event → State → Type 0
 Replays c old [] new = new ≡ old
 Replays c old (e ∷ es) new = Records c old e × Replays c (after c old e.actor e.act e.reply) es new
 
--- a reached state is that of its recorded calls, asked again from the opening on: those that weren't recorded changed nothing
+-- if its recorded calls are asked again from the opening on, a reached state comes back: calls that weren't recorded changed
+-- nothing
 abbrev pub ReplayLaw : Type 0
 ReplayLaw = (c : Config) (s : State) → IsReached c s → Replays c opening_state s.history s
 

@@ -5,7 +5,7 @@ use Rattle.replica_core.specs.declared.node_limits.NodeLimits.{NodeLimits}
 use Rattle.journal_core.specs.Journals.{Kept}
 use Rattle.bench_core.specs.Clusters.{Cluster, opening_of, step}
 
--- what has been reached, taken through the steps in order
+-- the cluster reached so far, taken through the steps in order
 abbrev pub then_runs : Result Cluster Fault → List Kept → Result Cluster Fault
 then_runs (Err e) ks = Err e
 then_runs (Ok c) [] = Ok c

@@ -37,17 +37,17 @@ exchanged may xs (suc i) = exchange may xs i (slice_get xs i) (slice_get xs (suc
 abbrev pub swapped : List Kept → ℕ → Option (List Kept)
 swapped ks place = exchanged (are_independent ks) ks place
 
--- swap number `at` came to this
+-- swap number `at` gave this, or was bad
 abbrev pub unless_bad : {X : Type 0} → ℕ → Option X → Result X SwapFault
 unless_bad at None = Err (BadSwap at)
 unless_bad at (Some x) = Ok x
 
--- what swaps by place lead to, or the number of the first that can't be made, `at` being that of the first of them
+-- what swaps by place lead to, or the number of the first that can't be made; the first of the list has number `at`
 abbrev pub after_swaps : {X : Type 0} → (X → ℕ → Option X) → ℕ → X → List ℕ → Result X SwapFault
 after_swaps swap at x [] = Ok x
 after_swaps swap at x (place ∷ places) = unless_bad at (swap x place) >>= λ next. after_swaps swap (at + 1) next places
 
--- the journal after these swaps, or the first that isn't one of independent steps
+-- the journal after these swaps, or the first bad one: its steps aren't independent
 abbrev pub all_swapped : List Kept → List ℕ → Result (List Kept) SwapFault
 all_swapped ks places = after_swaps swapped 1 ks places
 
@@ -56,12 +56,12 @@ pub record AreOfOneKind (one other : Machine) : Type 0 where
   pub names : one.names ≡ other.names
   pub limits : one.limits ≡ other.limits
 
--- how swaps of the remaining steps of one bench end, held against those of another
+-- how swaps of one bench's remaining steps end, compared with the remaining steps of another
 pub data SwapsEnd {Y : Type 0} (one other : Machine) (places : List ℕ) (result : Result Y SwapFault) : Type 0 where
   -- the names or the limits differ
   IsOther : (AreOfOneKind one other → ⊥) → result ≡ Err OtherBench → SwapsEnd one other places result
   Unmade : AreOfOneKind one other → result ≡ Err OutOfMemory → SwapsEnd one other places result
-  -- swap `at`, counted from 1, is the first that isn't one of independent steps
+  -- swap `at`, counted from 1, is the first bad one: its steps aren't independent
   IsBad : (at : ℕ) → AreOfOneKind one other → all_swapped one.state.remaining places ≡ Err (BadSwap at) → result ≡ Err (BadSwap at) →
       SwapsEnd one other places result
   -- the swaps lead to other steps

@@ -18,7 +18,8 @@ pub record Explains (s : State) (n : ℕ) (numbers : List ℕ) : Type 0 where
   pub remains : (k : Kept) × (find_number s.remaining n ≡ Some k)
   pub future : IsFuture s.remaining n numbers
 
--- why these are not told: the step doesn't remain, and its undo is refused so; or it remains, and they could not be had
+-- why these numbers are not given: the step doesn't remain, and its undo is refused with this fault; or memory for them was
+-- refused
 pub data Unexplained (s : State) (n : ℕ) : Fault → Type 0 where
   Gone : (fault : Fault) → find_number s.remaining n ≡ None → undo_reply s n ≡ Refused fault → Unexplained s n fault
   Unmade : (k : Kept) → find_number s.remaining n ≡ Some k → Unexplained s n OutOfMemory
@@ -30,14 +31,14 @@ undos actor numbers = map (λ n. (actor, Undo n)) numbers
 abbrev pub undone_event : ℕ → ℕ → Event
 undone_event actor n = record { actor = actor; act = Undo n; reply = Undone n }
 
--- whoever asks for the undos of the future of a step, in turn, each is made
+-- the undos of the future of a step, in turn, are all made, whoever asks for them
 abbrev pub UndoneInTurnLaw : Type 0
 UndoneInTurnLaw =
     (c : Config) (s : State) (actor n : ℕ) (numbers : List ℕ) → IsReached c s → IsFuture s.remaining n numbers →
     replies_of c s (undos actor numbers) ≡ map Undone numbers
 
--- whatever calls the machine answers each with the undo of a step, as it does undos and steps back, and by whomever they are
--- asked: where they take a step back, they take back all that follows from it
+-- if the machine makes all these undos and steps back, by whatever actors, and they take a step back, they take back all that
+-- follows from it
 abbrev pub LeastLaw : Type 0
 LeastLaw =
     (c : Config) (s : State) (n : ℕ) (asked : List (ℕ × Action)) (undone : List ℕ) → IsReached c s →
@@ -50,24 +51,24 @@ abbrev pub HasNoneOf : List Kept → ℕ → List ℕ → Type 0
 HasNoneOf ks node [] = Unit {0}
 HasNoneOf ks node (n ∷ numbers) = ((k : Kept) → find_number ks n ≡ Some k → k.node ≢ node) × HasNoneOf ks node numbers
 
--- a node of which none of these steps is: their undos don't change it
+-- the undos of steps of other nodes don't change a node
 abbrev pub OthersLaw : Type 0
 OthersLaw =
     (c : Config) (s : State) (actor node : ℕ) (numbers : List ℕ) (old : Cluster) → IsReached c s → now c s ≡ Ok old →
     replies_of c s (undos actor numbers) ≡ map Undone numbers → HasNoneOf s.remaining node numbers →
     (new : Cluster) × (now c (calls c s (undos actor numbers)) ≡ Ok new) × (slice_get new node ≡ slice_get old node)
 
--- whoever asks for the undos of these steps, in this order, each is made
+-- the undos of these steps, in this order, are all made, whoever asks for them
 abbrev pub CanBeUndone : Machine → List ℕ → Type 0
 CanBeUndone m numbers = (actor : ℕ) → replies_of (config_of m) m.state (undos actor numbers) ≡ map Undone numbers
 
--- an actor asked for the undos of these steps, in this order, and nothing else was done
+-- an actor asked for the undos of these steps, in this order, and nothing else happened
 pub record AreUndone (old : Machine) (actor : ℕ) (numbers : List ℕ) (new : Machine) : Type 0 where
   -- each undo was made
   pub replies : replies_of (config_of old) old.state (undos actor numbers) ≡ map Undone numbers
-  -- the machine comes to this state by these calls
+  -- these calls bring the machine to this state
   pub state : new ≡ with_state old (calls (config_of old) old.state (undos actor numbers))
-  -- the history has these undos more
+  -- the history has these undos at its end
   pub history : new.state.history ≡ old.state.history ++ map (undone_event actor) numbers
   -- these steps are gone, and the others unchanged
   pub remaining : new.state.remaining ≡ without_all old.state.remaining numbers
@@ -78,13 +79,14 @@ undone_by (unwound.Done numbers) = numbers.items
 undone_by (unwound.Refused fault) = []
 undone_by (unwound.Partial numbers) = numbers.items
 
--- the whole future of step n was undone; or the step has none, or it could not be had; or the first undos of that future were made, and not all
+-- the whole future of step n was undone; or the step has none, or memory for it was refused; or only the first undos of that
+-- future were made
 abbrev pub IsUnwound : {X : Type 0} → State → ℕ → Unwound X → Type 0
 IsUnwound s n (unwound.Done numbers) = Explains s n numbers.items
 IsUnwound s n (unwound.Refused fault) = Unexplained s n fault
 IsUnwound s n (unwound.Partial numbers) = (rest : List ℕ) × (rest ≢ []) × Explains s n (numbers.items ++ rest)
 
--- where the whole future was undone, it is the one that is gathered from the step on
+-- if the whole future was undone, it is the one that is gathered from the step on
 abbrev pub IsWhole : {X : Type 0} → State → ℕ → Unwound X → Type 0
 IsWhole s n (unwound.Done numbers) = numbers.items ≡ gathered_numbers s.remaining n
 IsWhole s n (unwound.Refused fault) = Unit {0}

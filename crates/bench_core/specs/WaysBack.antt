@@ -1,4 +1,4 @@
--- The inverse of a remaining step, beside what the undo of the step would make of its node.
+-- The inverse of a remaining step, compared with what the undo of the step would make of its node.
 use Rattle.std.specs.Prelude.{◌≡◌, ℕ, length, slice_get, slice_set, Some, None, Ok}
 use Rattle.node_core.specs.Nodes.{Node}
 use Rattle.node_core.specs.Inverses.{Inverse, LeadsBack}
@@ -8,7 +8,7 @@ use Rattle.bench_core.specs.Clusters.{Cluster}
 use Rattle.bench_core.specs.Runs.{runs}
 use Rattle.bench_core.specs.Machine.{Machine, cluster_of}
 
--- the inverse leads from this node, as the remaining steps give it, back to what it is where step n is left out of them
+-- the inverse leads from this node, as the remaining steps give it, back to the node that they give without step n
 pub record LeadsOut (m : Machine) (n node : ℕ) (inverse : Inverse) : Type 0 where
   pub cluster : Cluster
   pub is_now : cluster_of m ≡ Ok cluster

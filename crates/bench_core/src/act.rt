@@ -10,9 +10,9 @@ use std::alloc::Allocator;
 pub enum Act<A: Allocator> {
     /// A step of the node that asks.
     Do(Step<A>),
-    /// To take the step of this number back. Any number may ask it.
+    /// Takes back the step of this number. Any actor may ask for it.
     Undo(u64),
-    /// To take the last step of this node back. Any number may ask it.
+    /// Takes back the last step of this node. Any actor may ask for it.
     Back(u16),
 }
 
@@ -29,7 +29,7 @@ impl<A: Allocator> Act<A> {
         }
     }
 
-    /// A second act that asks the same.
+    /// A copy of the act.
     pub fn try_copy(&self) -> Result<Self, Oom>
     where
         A: Copy,

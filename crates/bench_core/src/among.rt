@@ -1,12 +1,12 @@
-//! One of several values, with the others at hand. It is generic, since of a split slice whose elements name a lifetime
-//! the check doesn't know what it becomes.
+//! One of several values, with the others at hand. It is generic since the check can't tell what a split slice becomes when its
+//! elements name a lifetime.
 ghost use Rattle.std.specs.Prelude.{◌≡◌, ◌≢◌, ◌<◌, ◌++◌, ◌∷◌, ℕ, List, None, length, option_copied, slice_get};
 ghost use Rattle.bench_core.specs.Among.{Edits, Parted};
 
 use node_core::Meter;
 use std::cmp::Ordering;
 
-/// One of several that take steps, each with those before it and those after it at hand.
+/// One of several values that take steps, each with the values before it and after it at hand.
 pub(crate) trait Member {
     type Step;
 
@@ -43,7 +43,7 @@ pub(crate) fn step_at<M: Member>(
     member.take_beside(before, after, step, meter)
 }
 
-/// The value at a place, where it is not the one that these stand before and after.
+/// The value at a place, unless it is the place between `before` and `after`.
 pub(crate) fn other<'x, T>(before: &'x [T], after: &'x [T], place: usize) -> Option<&'x T>
     ensures beside { (value : T) → place ≢ length before.now → option_copied result ≡ slice_get (before.now ++ value ∷ after.now) place }
     ensures itself { place ≡ length before.now → result ≡ None }

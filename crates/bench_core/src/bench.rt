@@ -31,7 +31,7 @@ use node_core::{Inverse, Meter, Node, Oom, Step, StepFault};
 use std::alloc::Allocator;
 use std::marker::Model;
 
-/// Takes step `number`, of this node, back by its inverse; a join, an up, a down and a send without memory.
+/// Takes back step `number` of this node by its inverse. For a join, an up, a down or a send it needs no memory.
 fn take_back<'a, B: Allocator>(
     cluster: &mut Cluster<'a, B>,
     journal: &mut Journal<'a, B>,
@@ -116,6 +116,7 @@ impl<'a, B: Allocator> Bench<'a, B> {
         &self.names
     }
 
+    /// The limits that the bench was opened with.
     pub fn limits(&self) -> Limits
         ensures { result ≡ self.now.limits }
     {
@@ -146,7 +147,7 @@ impl<'a, B: Allocator> Bench<'a, B> {
         self.cluster.node(number)
     }
 
-    /// The inverse of a step that remains, for looking: while nothing follows from the step, it leads from the step's node
+    /// The inverse of a remaining step, to look at. While nothing follows from the step, it leads from the step's node
     /// back along the undo. (Danos and Krivine: causal undo.)
     pub fn way_back(&self, number: u64) -> Option<&Inverse<&'a B>>
         ensures leads { IfSome result (λ inverse. IsWayBack self.now number (plain_inverse inverse.now)) }
@@ -169,7 +170,7 @@ impl<'a, B: Allocator> Bench<'a, B> {
         let _ = &self.journal;
     }
 
-    /// What it takes its memory from.
+    /// The allocator that the bench uses.
     pub(crate) fn allocator(&self) -> &'a B {
         self.cluster.allocator()
     }
@@ -219,7 +220,7 @@ impl<'a, B: Allocator> Bench<'a, B> {
         reply
     }
 
-    /// A step of node `actor`, for which `act` asks.
+    /// Takes a step of node `actor`, as `act` asks.
     fn take(&mut self, actor: u16, act: &Act<&'a B>, step: &Step<&'a B>) -> Reply
         requires { plain_act act.now ≡ Do (plain step.now) }
         ensures { AnswersAs self.old actor (plain_act act.now) result self.new }
@@ -262,7 +263,7 @@ impl<'a, B: Allocator> Bench<'a, B> {
         }
     }
 
-    /// `act` comes to the undo of this step.
+    /// Undoes this step, as `act` asks.
     fn undo(&mut self, actor: u16, act: &Act<&'a B>, number: u64) -> Reply
         requires { reply_to (config_of self.old) self.old.state actor (plain_act act.now) ≡ undo_reply self.old.state number }
         ensures { AnswersAs self.old actor (plain_act act.now) result self.new }
@@ -289,7 +290,7 @@ impl<'a, B: Allocator> Bench<'a, B> {
         reply
     }
 
-    /// The undo of the last step of a node, for which `act` asks.
+    /// Undoes the last step of a node, as `act` asks.
     fn back(&mut self, actor: u16, act: &Act<&'a B>, node: u16) -> Reply
         requires { plain_act act.now ≡ Back node }
         ensures { AnswersAs self.old actor (plain_act act.now) result self.new }
@@ -303,7 +304,7 @@ impl<'a, B: Allocator> Bench<'a, B> {
         self.undo(actor, act, number)
     }
 
-    /// One call: a step of node `actor`, or a step back, which any number may ask.
+    /// One call: a step of node `actor`, or a step back, which any actor may ask for.
     pub fn act(&mut self, actor: u16, act: &Act<&'a B>) -> Reply
         ensures answers { AnswersAs self.old actor (plain_act act.now) result self.new }
         ensures taken_back_at_once { CanBeTakenBack self.old result self.new }
@@ -317,7 +318,8 @@ impl<'a, B: Allocator> Bench<'a, B> {
         }
     }
 
-    /// The calls in order, with a reply for each. Where the list of replies can't be had, nothing is done.
+    /// Makes the calls in order, and gives a reply for each. Does nothing where memory for the list of replies is
+    /// refused.
     pub fn run(&mut self, calls: &[(u16, Act<&'a B>)]) -> Result<Vec<Reply, &'a B>, Oom>
         ensures ok { IfOk result (λ replies. AllAnswered self.old (calls_of calls.now) replies.items self.new) }
         ensures err { OnErr result (self.new ≡ self.old) }
@@ -331,8 +333,9 @@ impl<'a, B: Allocator> Bench<'a, B> {
         Ok(replies)
     }
 
-    /// The number of a step and those of all that follows from it, greatest first: in this order they can be undone. Where
-    /// the step doesn't remain, `NoSuchStep` or `AlreadyUndone` as for its undo; `OutOfMemory` where the list can't be had.
+    /// The number of a step and the numbers of all that follows from it, greatest first, the order in which they can be
+    /// undone. Refused where the step doesn't remain, with `NoSuchStep` or `AlreadyUndone` as its undo would be;
+    /// `OutOfMemory` where memory for the list is refused.
     pub fn why(&self, number: u64) -> Result<Vec<u64, &'a B>, Fault>
         ensures future { IfOk result (λ numbers. Explains self.now.state number numbers.items) }
         ensures refused { IfErr result (λ fault. Unexplained self.now.state number fault) }
@@ -364,9 +367,9 @@ impl<'a, B: Allocator> Bench<'a, B> {
         numbers.len()
     }
 
-    /// Undoes a step and all that follows from it, greatest number first. Each is an undo that the actor asks, which any
-    /// number may. (Danos and Krivine: what follows from a step goes back before it.) Refused as `why`, and then nothing is
-    /// done or recorded; where an undo is refused memory, those before it stand.
+    /// Undoes a step and all that follows from it, greatest number first. Each is an undo that the actor asks for, as
+    /// any actor may. (Danos and Krivine: what follows from a step goes back before it.) Refused as `why` is, and then
+    /// it does and records nothing. Where an undo is refused memory, the undos before it stand.
     pub fn unwind(&mut self, actor: u16, number: u64) -> Unwound<&'a B>
         ensures answer { IsUnwound self.old.state number result }
         ensures undone { AreUndone self.old actor (undone_by result) self.new }

@@ -29,8 +29,8 @@ fn message<'x, 'a, B: Allocator>(
     other(before, after, sender as usize)?.outbox().get(number)
 }
 
-/// A node takes a step with the others at hand, from among which the message is lent that it delivers: no step reads a
-/// message of its own node.
+/// A node takes a step with the others at hand. One of them lends the message that the step delivers, since no step
+/// reads a message of its own node.
 impl<'a, B: Allocator> Member for Node<'a, B> {
     type Step = Step<&'a B>;
 
@@ -53,7 +53,7 @@ impl<'a, B: Allocator> Member for Node<'a, B> {
     }
 }
 
-/// A step of one node, which stays where it stands.
+/// Has one node of the list take a step.
 fn step_node<'a, B: Allocator>(
     nodes: &mut Vec<Node<'a, B>, &'a B>,
     actor: u16,
@@ -94,7 +94,7 @@ impl<'a, B: Allocator> Model for Cluster<'a, B> {
 }
 
 impl<'a, B: Allocator> Cluster<'a, B> {
-    /// So many empty nodes.
+    /// This many empty nodes.
     pub fn new(alloc: &'a B, count: usize, limits: NodeLimits) -> Result<Self, Oom>
         requires few { count ≤ 32 }
         requires limits { AreNodeLimits limits }
@@ -136,12 +136,12 @@ impl<'a, B: Allocator> Cluster<'a, B> {
         true
     }
 
-    /// What it takes its memory from.
+    /// The allocator that the cluster uses.
     pub(crate) fn allocator(&self) -> &'a B {
         *self.nodes.allocator()
     }
 
-    /// Whether this node and the nodes that the step names are there.
+    /// Whether this node and the nodes that the step names are in the cluster.
     fn knows(&self, node: u16, step: &Step<&'a B>) -> bool
         ensures { result ≡ (nat_lt node (length self.now) && list_all (λ k. nat_lt k (length self.now)) (named_in (plain step.now))) }
     {
@@ -149,7 +149,8 @@ impl<'a, B: Allocator> Cluster<'a, B> {
         node < count && step.names_below(count)
     }
 
-    /// A step of this node. Its inverse leads the cluster back. `UnknownNode` where the node or one that the step names is none.
+    /// Takes a step of this node; its inverse leads the cluster back. `UnknownNode` where the node, or one that the
+    /// step names, isn't in the cluster.
     pub fn step(&mut self, node: u16, step: &Step<&'a B>) -> Result<Inverse<&'a B>, Fault>
         ensures taken { OnOk result (cluster_step self.old node (plain step.now) ≡ Ok self.new) }
         ensures refused { IfErr result (λ fault. fault ≢ OutOfMemory → cluster_step self.old node (plain step.now) ≡ Err fault) }
@@ -162,7 +163,8 @@ impl<'a, B: Allocator> Cluster<'a, B> {
         Ok(self.take(node, step, &mut Meter::new())?)
     }
 
-    /// A step of this node, where the nodes that it names are there. The meter counts it where it is taken.
+    /// Takes a step of this node, where the nodes that it names are in the cluster. The meter counts the step if it is
+    /// taken.
     pub(crate) fn take(
         &mut self,
         node: u16,
@@ -179,7 +181,7 @@ impl<'a, B: Allocator> Cluster<'a, B> {
         step_node(&mut self.nodes, node, step, meter)
     }
 
-    /// Takes back the last step of this node, which the inverse is of. Where memory is refused nothing changes, and the
+    /// Takes back the last step of this node by that step's inverse. Where memory is refused nothing changes, and the
     /// inverse comes back.
     pub fn give_back(
         &mut self,

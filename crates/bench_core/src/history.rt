@@ -30,7 +30,7 @@ impl<A: Allocator> Model for Event<A> {
 }
 
 impl<A: Allocator + Copy> Event<A> {
-    /// A second event of the same call and reply.
+    /// A copy: an event with the same call and reply.
     fn try_copy(&self) -> Result<Self, Oom>
         ensures { IfOk result (λ copy. copy ≡ self.now) }
     {
@@ -99,7 +99,7 @@ impl<'a, B: Allocator> History<'a, B> {
         Ok(History { events })
     }
 
-    /// Records a call that is answered so.
+    /// Records a call with this reply.
     pub(crate) fn record(&mut self, actor: u16, act: &Act<&'a B>, reply: Reply) -> Result<(), Oom>
         ensures ok { OnOk result (self.new ≡ note actor (plain_act act.now) reply self.old) }
         ensures err { OnErr result (self.new ≡ self.old) }
@@ -109,7 +109,7 @@ impl<'a, B: Allocator> History<'a, B> {
         Ok(())
     }
 
-    /// The call that was recorded last is answered so. It takes no memory.
+    /// Replaces the reply of the last recorded call. It takes no memory.
     pub(crate) fn answer_last(&mut self, reply: Reply)
         ensures { IsAnswered reply self.old self.new }
     {
@@ -118,7 +118,7 @@ impl<'a, B: Allocator> History<'a, B> {
         }
     }
 
-    /// The call that was recorded last is recorded no more.
+    /// Takes out the call that was recorded last.
     pub(crate) fn forget_last(&mut self)
         ensures { IsForgotten self.old self.new }
     {

@@ -26,14 +26,14 @@ pub fn headline_law()
     ensures refused_only_for_a_named_consequence { UndoLaw }
 {}
 
-/// Inverses that lead back along the run of the remaining steps lead, for each node and newest first, from its present
-/// state back to its opening.
+/// If the inverses lead back along the run of the remaining steps, each node's inverses, newest first, lead from its
+/// present state back to its opening.
 pub fn chain_law()
     ensures { ChainLaw }
 {}
 
-/// Of a reached machine: the undos of the future of a step are all made, greatest number first; whatever undos and steps
-/// back take the step back take back all of it; and a node of which no step is undone doesn't change.
+/// On a reached machine: the undos of a step's future are all made, greatest number first; any undos and steps back
+/// that take the step back take back its whole future; and a node doesn't change if none of its steps is undone.
 pub fn unwind_law()
     ensures future { UndoneInTurnLaw }
     ensures least { LeastLaw }
@@ -47,8 +47,8 @@ pub fn swap_law()
     ensures swaps_by_place { PlacesLaw }
 {}
 
-/// Deliveries: in what a journal gives, entries of one dot are equal, wherever they stand. Two adjacent deliveries at one
-/// node may be exchanged, where neither order fills it; a delivery that is repeated at once is accepted and changes
+/// Deliveries: in what a journal gives, entries of one dot are equal, wherever they stand. Two adjacent deliveries at
+/// one node may be exchanged if neither order meets `EntriesFull`; a delivery repeated at once is accepted and changes
 /// nothing.
 pub fn delivery_law()
     ensures one_entry { OneEntryLaw }
@@ -56,8 +56,8 @@ pub fn delivery_law()
     ensures repeated { RepeatLaw }
 {}
 
-/// The recorded calls of a reached machine, asked again from the opening on, are each answered as before and recorded, and
-/// lead to the same state. None of them is answered by want of memory.
+/// If the recorded calls of a reached machine are made again from the opening, each gets its old reply and is recorded,
+/// and they lead to the same state. None of these replies is `OutOfMemory`.
 pub fn replay_law()
     ensures replayed { ReplayLaw }
     ensures no_memory { NoMemoryLaw }

@@ -1,5 +1,5 @@
-//! The machine: a bench of presence nodes that takes steps, takes them back while nothing follows from
-//! them, and keeps its nodes what the remaining steps give.
+//! The machine: a bench of presence nodes that takes steps, takes them back while nothing follows from them, and keeps its
+//! nodes equal to what the remaining steps give.
 //!
 //! It stands on `node_core` (one node, its steps and the way back) and `journal_core` (the steps that remain, with their
 //! inverses); words come from `payload_core`, memory's refusal from `dots_core`.

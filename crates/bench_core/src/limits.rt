@@ -93,7 +93,7 @@ impl Limits {
         self.messages
     }
 
-    /// The part of them that binds each node.
+    /// The limits that bind each node.
     pub fn of_node(self) -> NodeLimits
         ensures value { result ≡ node_limits self }
         ensures range { AreLimits self }

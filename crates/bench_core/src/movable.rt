@@ -1,4 +1,4 @@
-//! `Movable`: what a swap asks of a step.
+//! `Movable`: what a swap needs to know of a step.
 ghost use Rattle.std.specs.Prelude.{◌≡◌};
 ghost use Rattle.bench_core.specs.Movables.{is_message, may_swap};
 

@@ -90,7 +90,7 @@ impl<A: Allocator> Names<A> {
         Some(number as u16)
     }
 
-    /// The name of a number.
+    /// The name with this number.
     pub fn text(&self, number: u16) -> Option<&str>
         ensures { option_copied result ≡ slice_get self.now number }
     {
@@ -113,7 +113,8 @@ impl<A: Allocator> Names<A> {
 }
 
 impl<A: Allocator + Copy> Names<A> {
-    /// The names in this order, or their first fault: the count, and then each name in turn, its bytes before its uniqueness.
+    /// The names in this order, or their first fault. It looks at the count first, and then at each name in turn: at
+    /// its bytes, and then whether it is new.
     pub fn new(alloc: A, texts: &[&str]) -> Result<Names<A>, NamesFault>
         ensures gives { GivesUnless NamesFault.OutOfMemory (λ names. names) result (names_of (map (λ text. text.now) texts.now)) }
         ensures texts { IfOk result (λ names. names ≡ map (λ text. text.now) texts.now) }
@@ -127,6 +128,7 @@ impl<A: Allocator + Copy> Names<A> {
         Ok(Names { texts: names })
     }
 
+    /// The same names, in the same order.
     pub fn try_copy(&self) -> Result<Names<A>, Oom>
         ensures { IfOk result (λ copy. copy ≡ self.now) }
     {

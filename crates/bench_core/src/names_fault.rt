@@ -14,7 +14,7 @@ pub enum NamesFault {
     /// The text at this place is no name.
     #[error("BadName at {at}")]
     BadName { at: usize },
-    /// The name at this place stands before it, too.
+    /// The name at this place also stands at an earlier place.
     #[error("Twice at {at}")]
     Twice { at: usize },
     #[error("OutOfMemory")]

@@ -14,7 +14,7 @@ pub enum Reply {
 }
 
 impl Reply {
-    /// Whether both are one reply.
+    /// Whether both are the same reply.
     pub fn same(self, other: Reply) -> bool
         ensures { IsTrue result ↔ (self ≡ other) }
     {

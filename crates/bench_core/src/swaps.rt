@@ -15,7 +15,7 @@ use journal_core::{Journal, Kept};
 use node_core::Oom;
 use std::alloc::Allocator;
 
-/// What is to be noted of a step at this place. `sent` has for each node how many messages it sent before.
+/// What a swap needs to know of the step at this place. `sent` has, for each node, how many messages it sent before.
 fn noted<A: Allocator>(kept: &Kept<A>, place: usize, sent: &mut [u64]) -> Movable
     requires known { kept.now.node < length sent.old }
     requires few { (n : ℕ) → slice_get sent.old kept.now.node ≡ Some n → n < 18446744073709551615 }
@@ -70,7 +70,7 @@ fn swap(steps: &mut [Movable], place: u64) -> bool
     true
 }
 
-/// Makes these swaps in turn, until one is bad: then its place in their list, from 1.
+/// Makes these swaps in turn, up to the first bad one, and gives its place in the list, from 1.
 fn first_bad(steps: &mut [Movable], places: &[u64]) -> Option<usize>
     ensures none { result ≡ None → after_swaps (exchanged may_swap) 1 steps.old places.now ≡ Ok steps.new }
     ensures bad { IfSome result (λ at. after_swaps (exchanged may_swap) 1 steps.old places.now ≡ Err (BadSwap at)) }
@@ -83,7 +83,7 @@ fn first_bad(steps: &mut [Movable], places: &[u64]) -> Option<usize>
     None
 }
 
-/// Whether the step at this place of a journal is that at another place of another, its number aside.
+/// Whether the step at this place of one journal is the step at another place of the other, whatever their numbers.
 fn is_same<'a, B: Allocator>(
     one: &Journal<'a, B>,
     place: usize,
@@ -124,9 +124,9 @@ fn are_of_one_kind<'a, B: Allocator>(one: &Bench<'a, B>, other: &Bench<'a, B>) -
     one.names().same(other.names()) && one.limits() == other.limits()
 }
 
-/// Whether these swaps lead from the remaining steps of one bench to those of the other, whatever their numbers: swap `i` exchanges
-/// the steps at places `i` and `i + 1`, from 1, which are of different nodes, and neither delivers what the other sent.
-/// (Causal equivalence, after Danos and Krivine.)
+/// Ok if these swaps lead from the remaining steps of one bench to those of the other, whatever their numbers; else why
+/// not. Swap `i` exchanges the steps at places `i` and `i + 1`, from 1: their nodes must differ, and neither may
+/// deliver what the other sent. (Causal equivalence, after Danos and Krivine.)
 pub fn same_cluster<'a, B: Allocator>(
     one: &Bench<'a, B>,
     other: &Bench<'a, B>,

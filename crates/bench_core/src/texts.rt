@@ -26,6 +26,7 @@ impl<A: Allocator> Model for TextSet<A> {
 }
 
 impl<A: Allocator> TextSet<A> {
+    /// How many texts there are.
     pub fn len(&self) -> usize
         ensures len { result ≡ length self.now }
         ensures small { result < 2 ^ 63 }
@@ -40,7 +41,7 @@ impl<A: Allocator> TextSet<A> {
         self.texts.get_index_of(text)
     }
 
-    /// The text of a number.
+    /// The text with this number.
     pub fn text(&self, number: usize) -> Option<&str>
         ensures { option_copied result ≡ slice_get self.now number }
     {
@@ -56,6 +57,7 @@ impl<A: Allocator> TextSet<A> {
 }
 
 impl<A: Allocator + Copy> TextSet<A> {
+    /// A set without texts.
     pub fn new(alloc: A) -> TextSet<A>
         ensures { result ≡ [] }
     {
@@ -64,7 +66,7 @@ impl<A: Allocator + Copy> TextSet<A> {
         }
     }
 
-    /// Puts a new text last, and says whether it is new.
+    /// Appends the text if it is new, and says whether it was.
     pub fn insert(&mut self, text: &str) -> Result<bool, Oom>
         ensures added { IfOk result (λ new. new ≡ not (list_any (bytes_eq text.now) self.old)) }
         ensures texts { IfOk result (λ new. self.new ≡ (if new then self.old ++ text.now ∷ [] else self.old)) }
@@ -74,6 +76,7 @@ impl<A: Allocator + Copy> TextSet<A> {
         Ok(self.texts.insert(text)?)
     }
 
+    /// The same texts, in the same order.
     pub fn try_copy(&self) -> Result<TextSet<A>, Oom>
         ensures { IfOk result (λ copy. copy ≡ self.now) }
     {

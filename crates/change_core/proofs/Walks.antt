@@ -1,7 +1,7 @@
 -- Runs that are played step by step, and taken back.
 use Rattle.std.proofs.Common.{◌≡◌, ℕ, zero, suc, ◌+◌, ◌-◌, ◌<◌, ◌≤◌, true, false, List, [], ◌∷◌, ◌++◌, length, map, take, drop, slice_get, Option, Some, None, Result, Ok, Err, refl, sym, ap, ◌∙◌, subst, arith}
 use Rattle.std.proofs.lemmas.List.{length-take-le, take-append-drop, take-map, take-take}
-use Rattle.payload_core.proofs.EntryLists.{slice_get_none}
+use Rattle.entry_core.proofs.EntryLists.{slice_get_none}
 use Rattle.journal_core.specs.Journals.{Kept}
 use Rattle.bench_core.specs.declared.fault.Fault.{Fault}
 use Rattle.bench_core.specs.Benches.{LeadsClusterBack, LeadsNodeBack, NodeGoesBack}

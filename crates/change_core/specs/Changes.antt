@@ -1,4 +1,4 @@
--- The single changes of a run: what the network could have done otherwise, or a node noticed, once.
+-- The single changes of a run: one thing that the network could have done otherwise, or that a node could have noticed otherwise.
 use Rattle.std.specs.Prelude.{ℕ, zero, suc, ◌+◌, ◌-◌, ◌==◌, ◌&&◌, ◌||◌, not, nat_lt, Bool, true, false, if◌then◌else◌, List, [], ◌∷◌, ◌++◌, length, slice_get, slice_range, Option, Some, None}
 use Rattle.std.specs.List.{flat_map, list_any}
 use Rattle.node_core.specs.Operations.{Operation, Deliver, Up, Down, Permdown, sends}
@@ -15,23 +15,23 @@ rank Before = 2
 rank Behind = 3
 rank Again = 4
 
--- what the network does: it delivers a message
+-- whether the network does it: a delivery of a message
 abbrev pub is_delivery : Operation → Bool
 is_delivery (Deliver sender number) = true
 is_delivery _ = false
 
--- what a node notices of another: that it is up, down or gone
+-- whether a node notices it of another: that it is up, down or gone
 abbrev pub is_notice : Operation → Bool
 is_notice (Up name) = true
 is_notice (Down name) = true
 is_notice (Permdown name) = true
 is_notice _ = false
 
--- a send of this node is among the steps
+-- whether a send of this node is among the steps
 abbrev pub has_send : List Kept → ℕ → Bool
 has_send ks node = list_any (λ k. (k.node == node) && sends k.step) ks
 
--- which steps may be moved past these: a delivery, a notice, and a send, but this past no other send of its node
+-- whether the step may be moved past these: a delivery, a notice, or a send; but a send past no other send of its node
 abbrev pub may_pass : List Kept → Kept → Bool
 may_pass ks k = is_delivery k.step || (is_notice k.step || (sends k.step && not (has_send ks k.node)))
 
@@ -52,33 +52,33 @@ may_at ks c (Some k) (Some x) = may ks c.kind c.place c.beside k x
 unfoldable pub is_change : List Kept → Change → Bool
 is_change ks c = may_at ks c (slice_get ks c.place) (slice_get ks c.beside)
 
--- which places of a run of n steps come where: of each pair those from the first on, up to the second
+-- which places of a run of n steps come in turn: each pair has the places from its first up to its second, without the second
 abbrev pub pieces : ℕ → Kind → ℕ → ℕ → List (ℕ × ℕ)
 -- all but the step at place i
 pieces n Lost i j = (0, i) ∷ (i + 1, n) ∷ []
 pieces n Never i j = (0, i) ∷ (i + 1, n) ∷ []
 -- the step at place i right before that at j
 pieces n Before i j = (0, j) ∷ (i, i + 1) ∷ (j, i) ∷ (i + 1, n) ∷ []
--- right behind it
+-- the step at place i right behind that at j
 pieces n Behind i j = (0, i) ∷ (i + 1, j + 1) ∷ (i, i + 1) ∷ (j + 1, n) ∷ []
--- right behind it once more
+-- the step at place i once more, right behind that at j
 pieces n Again i j = (0, j + 1) ∷ (i, i + 1) ∷ (j + 1, n) ∷ []
 
 abbrev pub piece : List Kept → ℕ × ℕ → List Kept
 piece ks p = slice_range ks p.0 p.1
 
--- what the nodes did with this change, each in its order: how the steps of different nodes stand to each other plays no part
+-- what the nodes did with this change, each in its order; how steps of different nodes stand to each other doesn't matter
 unfoldable pub changed : List Kept → Change → List Kept
 changed ks c = flat_map (piece ks) (pieces (length ks) c.kind c.place c.beside)
 
 -- All changes, in order: by step, by kind, the nearest first.
 
--- how far off a place can be
+-- how far from a place a change can reach
 abbrev pub reach : ℕ → Kind → ℕ → ℕ
 reach n Before i = i + 1
 reach n _ i = n - i
 
--- the place so far off
+-- the place at this distance
 abbrev pub off : Kind → ℕ → ℕ → ℕ
 off Before i d = i - d
 off _ i d = i + d
@@ -89,7 +89,7 @@ change_at kind i d = record { kind = kind; place = i; beside = off kind i d }
 abbrev pub if_change : List Kept → Change → List Change
 if_change ks c = if is_change ks c then c ∷ [] else []
 
--- those that are less than so far off
+-- the changes at a smaller distance than this
 unfoldable pub changes_within : List Kept → Kind → ℕ → ℕ → List Change
 changes_within ks kind i zero = []
 changes_within ks kind i (suc d) = changes_within ks kind i d ++ if_change ks (change_at kind i d)
@@ -97,16 +97,16 @@ changes_within ks kind i (suc d) = changes_within ks kind i d ++ if_change ks (c
 abbrev pub changes_by : List Kept → Kind → ℕ → List Change
 changes_by ks kind i = changes_within ks kind i (reach (length ks) kind i)
 
--- those of the step at place i
+-- the changes of the step at place i
 unfoldable pub changes_of : List Kept → ℕ → List Change
 changes_of ks i =
     changes_by ks Lost i ++ (changes_by ks Never i ++ (changes_by ks Before i ++ (changes_by ks Behind i ++ changes_by ks Again i)))
 
--- those of the first steps
+-- the changes of the first steps
 unfoldable pub changes_to : List Kept → ℕ → List Change
 changes_to ks zero = []
 changes_to ks (suc i) = changes_to ks i ++ changes_of ks i
 
--- all that the run has
+-- all changes of the run
 unfoldable pub changes : List Kept → List Change
 changes ks = changes_to ks (length ks)

@@ -1,4 +1,4 @@
--- Where a run leads in which the nodes did this, each in its order.
+-- Where a run leads, given what each node did, in its order.
 use Rattle.std.specs.Prelude.{List, length, Option, Some, None, Result, Ok, Err, option_map}
 use Rattle.std.specs.Option.{option_and_then}
 use Rattle.journal_core.specs.Journals.{Kept}
@@ -18,11 +18,11 @@ abbrev pub reached : Result Cluster Fault → Option Cluster
 reached (Ok c) = Some c
 reached (Err e) = None
 
--- what the steps lead to from empty nodes, if each is accepted, by the names and limits of the machine
+-- what the steps lead to from empty nodes, if each is accepted, with the names and limits of the machine
 abbrev pub run_of : Machine → List Kept → Result Cluster Fault
 run_of m ks = runs (node_limits m.limits) (length m.names) ks
 
--- what an order of these steps leads to, if they have one, and each step of it is accepted
+-- what an order of these steps leads to, if they have one and each of its steps is accepted
 unfoldable pub end_of : Machine → List Kept → Option Cluster
 end_of m ks = option_and_then (λ run. reached (run_of m run)) (order_of ks)
 

@@ -1,4 +1,4 @@
--- Who is asked for, and the rows that a cluster shows of it.
+-- What is asked about, and the rows that a cluster shows of it.
 use Rattle.std.specs.Prelude.{ℕ, List, [], filter, ◌&&◌, slice_get, Bool, Option, Some, None, Result, Ok, Err}
 use Rattle.std.specs.Str.{bytes_eq}
 use Rattle.node_core.specs.Nodes.{Node}

@@ -49,13 +49,13 @@ end_from ks first places = reached (then_runs (Ok first) (steps_in ks places))
 abbrev pub Stays : List Kept → Walk → Walk → Type 0
 Stays ks old new = (first : Cluster) → IsWalk ks first old → IsWalk ks first new
 
--- the steps at these places were asked of both walks; where these met, the steps lead both to one end
+-- the steps at these places were asked of both walks; if the walks met, the steps lead both to one end
 pub record MeetsOn (ks : List Kept) (places : List ℕ) (here here_new there there_new : Walk) (met : Bool) : Type 0 where
   pub here_stays : Stays ks here here_new
   pub there_stays : Stays ks there there_new
   pub alike : met ≡ true → end_from ks here.cluster places ≡ end_from ks there.cluster places
 
--- two runs were played; where they met, they have one end
+-- two runs were played; if they met, they have one end
 pub record Meets (ks : List Kept) (run known : List ℕ) (here here_new there there_new : Walk) (met : Bool) : Type 0 where
   pub here_stays : Stays ks here here_new
   pub there_stays : Stays ks there there_new
@@ -70,7 +70,7 @@ pub record AreWalks (ks : List Kept) (s : Search) : Type 0 where
   pub here : IsWalkOf ks s.here
   pub there : IsWalkOf ks s.there
 
--- a run was played beside known ones, which stay as they are; where one of them was found to have its end, it has
+-- a run was played beside known ones, which stay as they are; if one of them was found, the run has its end
 pub record Finds (ks : List Kept) (run : List ℕ) (old new : Search) (found : Option Bool) : Type 0 where
   pub here_stays : Stays ks old.here new.here
   pub there_stays : Stays ks old.there new.there
@@ -79,7 +79,7 @@ pub record Finds (ks : List Kept) (run : List ℕ) (old new : Search) (found : O
   pub alike : (first : Cluster) → IsWalk ks first old.here → IsWalk ks first old.there → (is_last : Bool) → found ≡ Some is_last →
       end_from ks first run ≡ end_from ks first (known_of is_last old).places
 
--- the empty nodes
+-- the cluster of empty nodes
 abbrev pub empty_of : Machine → Cluster
 empty_of m = opening_of (node_limits m.limits) (length m.names)
 
@@ -87,7 +87,7 @@ empty_of m = opening_of (node_limits m.limits) (length m.names)
 abbrev pub IsKnown : Machine → Question → List Kept → Known → Type 0
 IsKnown m q ks k = Some k.rows ≡ option_map (rows_at q) (end_from ks (empty_of m) k.places)
 
--- what each search keeps, of a bench with these steps
+-- what each search on a bench with these steps keeps
 pub record IsSearch (m : Machine) (q : Question) (ks : List Kept) (s : Search) : Type 0 where
   pub here : IsWalk ks (empty_of m) s.here
   pub there : IsWalk ks (empty_of m) s.there

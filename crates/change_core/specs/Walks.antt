@@ -16,7 +16,7 @@ pub record Taken : Type 0 where
   pub node : ℕ
   pub inverse : Inverse
 
--- the cluster to which steps led, and these
+-- the cluster to which some steps led, and these steps
 pub record Walk : Type 0 where
   pub cluster : Cluster
   pub taken : List Taken
@@ -53,11 +53,11 @@ Led ks c (t ∷ ts) d = (mid : Cluster) × Leads ks c t mid × Led ks mid ts d
 abbrev pub IsWalk : List Kept → Cluster → Walk → Type 0
 IsWalk ks first w = Led ks first w.taken w.cluster
 
--- from some first cluster
+-- the walk began at some cluster
 abbrev pub IsWalkOf : List Kept → Walk → Type 0
 IsWalkOf ks w = (first : Cluster) × IsWalk ks first w
 
--- of some steps
+-- the walk took some steps from some cluster
 abbrev pub IsSomeWalk : Walk → Type 0
 IsSomeWalk w = (ks : List Kept) × (first : Cluster) × IsWalk ks first w
 

@@ -1,4 +1,4 @@
-//! `Change`: what the network could have done otherwise, or a node noticed, once.
+//! `Change`: one thing that the network could have done otherwise, or that a node could have noticed otherwise.
 ghost use Rattle.std.specs.Prelude.{◌≡◌, ◌≤◌, ◌+◌, ◌==◌, ◌&&◌, length, slice_range};
 ghost use Rattle.node_core.specs.Operations.{plain, sends};
 ghost use Rattle.change_core.specs.Changes.{has_send, is_change, is_delivery, is_notice, may_pass, rank};
@@ -21,7 +21,8 @@ pub enum Kind {
     Again,
 }
 
-/// A change of the step at one place, from 0, beside that at another: the same place where the step is left out.
+/// A change of the step at one place, from 0. The second place is that of the step directly before or behind which it
+/// comes; where the step is left out, it is the same place.
 #[derive(Clone, Copy, Debug, PartialEq, Eq)]
 pub struct Change {
     pub kind: Kind,
@@ -30,7 +31,7 @@ pub struct Change {
 }
 
 impl Kind {
-    /// Its place among the kinds.
+    /// The place of this kind in the order of kinds.
     pub fn rank(self) -> u8
         ensures { result ≡ rank self }
     {

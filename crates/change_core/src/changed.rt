@@ -28,7 +28,7 @@ fn mark_of<W: Allocator>(kept: &Kept<W>, place: usize) -> Mark
     }
 }
 
-/// Puts the marks of the steps at these places behind those before them.
+/// Appends the marks of the steps from one place to another.
 fn put_piece<W: Allocator, A: Allocator>(
     marks: &mut Marks<A>,
     steps: &[Kept<W>],
@@ -44,7 +44,7 @@ fn put_piece<W: Allocator, A: Allocator>(
     Ok(())
 }
 
-/// Puts the marks of the steps at places that follow each other so behind those before them.
+/// Appends the marks of the steps in these ranges of places.
 fn put_pieces<W: Allocator, A: Allocator>(
     marks: &mut Marks<A>,
     steps: &[Kept<W>],

@@ -1,4 +1,5 @@
-//! `Search`: where changed runs lead, each played from where it parts with the one before, and left where it meets a run whose end is known.
+//! `Search`: where changed runs lead. It plays each run from the place where it parts with the one before, and stops where it
+//! meets a run whose end is known.
 ghost use Rattle.std.specs.Prelude.{◌≡◌, ◌<◌, ◌≤◌, ◌-◌, IfOk, drop, length, option_map};
 ghost use Rattle.bench_core.specs.Machine.{Machine};
 ghost use Rattle.change_core.specs.Ends.{rows_before};
@@ -16,8 +17,8 @@ use payload_core::{Oom, Word};
 use std::alloc::Allocator;
 use std::marker::Model;
 
-/// For how many steps a run is played beside one whose end is known. Most runs meet it at the first; those that don't within some
-/// dozens mostly never do.
+/// How many steps of a run are played to see whether it meets a run whose end is known. Most runs meet it at the first
+/// step; those that don't meet it within a few dozen mostly never do.
 const FAR: usize = 64;
 
 /// The places of a run's steps, and the rows at its end.
@@ -44,9 +45,9 @@ pub struct Search<'a, B: Allocator> {
     there: Walk<'a, B>,
     /// The recorded run.
     recorded: Known<&'a B>,
-    /// The last one that was possible.
+    /// The last run that was possible.
     last: Known<&'a B>,
-    /// Whether the run to come rather ends as the last.
+    /// Whether the next run is expected to end as the last one did.
     prefers_last: bool,
 }
 
@@ -97,7 +98,8 @@ fn meet_on<'a, B: Allocator>(
     Ok(false)
 }
 
-/// Plays two runs, from where they part to where their steps are the same again, and `far` of these: says whether they met.
+/// Plays two runs from where they part to where their steps are the same again, and then up to `far` more steps; says
+/// whether they met.
 fn meet<'a, B: Allocator>(
     here: &mut Walk<'a, B>,
     there: &mut Walk<'a, B>,
@@ -122,7 +124,7 @@ fn meet<'a, B: Allocator>(
     meet_on(here, there, steps, end, far)
 }
 
-/// The same of a known run.
+/// As `meet`, with a known run.
 fn meet_known<'a, B: Allocator>(
     here: &mut Walk<'a, B>,
     there: &mut Walk<'a, B>,
@@ -153,7 +155,7 @@ fn run_as_it_was<W: Allocator, A: Allocator + Copy>(
 }
 
 impl<'a, B: Allocator> Search<'a, B> {
-    /// Of a bench with these steps, which shows these rows.
+    /// A search on a bench with these steps, which shows these rows.
     pub fn new(
         bench: &Bench<'a, B>,
         steps: &[Kept<&'a B>],
@@ -203,14 +205,16 @@ impl<'a, B: Allocator> Search<'a, B> {
         )
     }
 
-    /// Whether the run rather ends as the last changed one than as the recorded one: it parts with that later.
+    /// Whether the run is expected to end as the last changed one rather than as the recorded one, since it parts later
+    /// with the last one.
     fn is_near_last(&self, run: &[usize]) -> bool {
         let by_last = common_end(run, self.last.places.as_slice());
         let by_recorded = common_end(run, self.recorded.places.as_slice());
         by_recorded < by_last || (by_recorded == by_last && self.prefers_last)
     }
 
-    /// The known run that ends as that of the steps at these places, if it is found: whether it is the last.
+    /// Looks for a known run that ends as the run of the steps at these places does. Gives whether it is the last one,
+    /// or `None` if neither is found to.
     fn find_known(&mut self, steps: &[Kept<&'a B>], run: &[usize]) -> Result<Option<bool>, Oom>
         requires { AreWalks steps.now self.old }
         ensures { IfOk result (Finds steps.now run.now self.old self.new) }
@@ -238,7 +242,8 @@ impl<'a, B: Allocator> Search<'a, B> {
         copied_rows(self.recorded.rows.as_slice(), alloc)
     }
 
-    /// The rows that are asked for at the end of the run of the steps at these places, which is played alone, if each is accepted.
+    /// The rows that are asked for at the end of the run of the steps at these places, if each step is accepted. The
+    /// run is played alone.
     fn own_rows(
         &mut self,
         steps: &[Kept<&'a B>],

@@ -11,14 +11,14 @@ use std::alloc::Allocator;
 /// Rows of an online list.
 pub type Rows<A> = Vec<OnlineRow<A>, A>;
 
-/// Whether the row is of this topic and key.
+/// Whether the row has this topic and key.
 fn is_of<A: Allocator>(row: &OnlineRow<A>, topic: &Word<A>, key: &Word<A>) -> bool
     ensures { result ≡ is_of topic.now key.now row.now }
 {
     row.topic == *topic && row.key == *key
 }
 
-/// Copies of the rows of this topic and key.
+/// Copies of the rows with this topic and key.
 fn rows_of<A: Allocator + Copy>(
     alloc: A,
     rows: &[OnlineRow<A>],
@@ -36,7 +36,7 @@ fn rows_of<A: Allocator + Copy>(
     Ok(found)
 }
 
-/// The rows of the node's online list with this topic and key; none where there is no such node.
+/// The rows of the node's online list with this topic and key; none if there is no such node.
 pub(crate) fn rows_in<'a, B: Allocator>(
     found: Option<&Node<'a, B>>,
     node: u16,

@@ -30,8 +30,8 @@ fn run_of<'a, B: Allocator>(
     Ok(Some(copied_at(steps, &run, alloc)?))
 }
 
-/// The remaining steps with a change, each node's in its order, and those of different nodes as near to the order in which they
-/// stand as messages let them; none where no order has each message sent before it comes.
+/// The remaining steps with a change: each node's steps in their order, and those of different nodes as near to the
+/// recorded order as messages allow; `None` where no order has each message sent before it comes.
 pub fn run_with<'a, B: Allocator>(
     bench: &Bench<'a, B>,
     change: Change,

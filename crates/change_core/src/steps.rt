@@ -34,7 +34,7 @@ pub fn copied<'a, B: Allocator>(journal: &Journal<'a, B>, alloc: &'a B) -> Resul
     Ok(copies)
 }
 
-/// Puts a copy of the step at this place, if there is one, behind those before it.
+/// Appends a copy of the step at this place, if there is one.
 fn put_copy<A: Allocator + Copy>(
     copies: &mut Steps<A>,
     steps: &[Kept<A>],

@@ -46,7 +46,7 @@ impl<'a, B: Allocator> Model for Walk<'a, B> {
     ghost view = { λ w. record { cluster = w.cluster; taken = w.taken.items } };
 }
 
-/// How many steps at the beginning were taken at these places.
+/// How many steps at the beginning of the walk are those at these places.
 fn common<A: Allocator>(taken: &[Taken<A>], places: &[usize]) -> usize
     ensures within { result ≤ length taken.now }
     ensures same { take result (places_of taken.now) ≡ take result places.now }
@@ -62,7 +62,7 @@ fn common<A: Allocator>(taken: &[Taken<A>], places: &[usize]) -> usize
 }
 
 impl<'a, B: Allocator> Walk<'a, B> {
-    /// At the beginning of the bench, with no step taken.
+    /// A walk at the beginning of the bench, with no step taken.
     pub(crate) fn new(bench: &Bench<'a, B>, alloc: &'a B) -> Result<Self, Oom>
         ensures { IfOk result (λ walk. (ks : List PlainKept) → IsWalk ks (opening_of (node_limits bench.now.limits) (length bench.now.names)) walk) }
     {
@@ -87,7 +87,7 @@ impl<'a, B: Allocator> Walk<'a, B> {
         self.taken.len()
     }
 
-    /// Has its node take the step at this place, if there is one, and says whether it was accepted.
+    /// Takes the step at this place, if there is one, and says whether it was accepted.
     pub(crate) fn ask_at(&mut self, steps: &[Kept<&'a B>], place: usize) -> Result<bool, Oom>
         ensures { IfOk result (Asks steps.now place self.old self.new) }
     {
@@ -143,7 +143,7 @@ impl<'a, B: Allocator> Walk<'a, B> {
         Ok(())
     }
 
-    /// Leads to where the steps at these places lead, and says whether all were accepted.
+    /// Goes to where the steps at these places lead, and says whether all were accepted.
     pub(crate) fn go_to(&mut self, steps: &[Kept<&'a B>], places: &[usize]) -> Result<bool, Oom>
         requires { IsWalkOf steps.now self.old }
         ensures { IfOk result (GoesTo steps.now places.now self.old self.new) }

@@ -23,7 +23,7 @@ as_rule = record (new_rule (codes "as")) { long = Some (codes "as"); value_names
 abbrev pub flag_rule : List ℕ → Rule
 flag_rule name = record (new_rule name) { long = Some name; action = Some SetTrue }
 
--- a subcommand of this name with a form, which may be strict
+-- a subcommand of this name with the option of a form, and `--strict`
 abbrev pub strict_app : List ℕ → App
 strict_app name = with_rule (with_rule (new_app name) as_rule) (flag_rule (codes "strict"))
 
@@ -48,19 +48,19 @@ import_app =
     with_rule (with_rule (with_rule (with_rule (new_app (codes "import")) as_rule) (flag_rule (codes "check"))) (flag_rule (codes "lines")))
     (flag_rule (codes "lenient"))
 
--- a word that comes in its place
+-- a word that must stand at its place
 abbrev pub word_rule : List ℕ → Rule
 word_rule name = record (new_rule name) { required = true }
 
--- a subcommand of this name with the words that ask
+-- a subcommand of this name that takes a node, a topic and a key
 abbrev pub question_app : List ℕ → App
 question_app name = with_rule (with_rule (with_rule (new_app name) (word_rule (codes "NODE"))) (word_rule (codes "TOPIC"))) (word_rule (codes "KEY"))
 
--- a word that may come in its place
+-- a word that may be left out
 abbrev pub optional_rule : List ℕ → Rule
 optional_rule name = new_rule name
 
--- a subcommand of this name that may be asked of a node, and of a topic and a key there
+-- a subcommand of this name that takes a node, and a topic and a key there, or leaves them out
 abbrev pub about_app : List ℕ → App
 about_app name =
     with_rule (with_rule (with_rule (new_app name) (optional_rule (codes "NODE"))) (optional_rule (codes "TOPIC"))) (optional_rule (codes "KEY"))
@@ -117,7 +117,7 @@ form_name Script = codes "script"
 form_name Session = codes "session"
 form_name PageForm = codes "page"
 
--- the form in which a subcommand prints where none is named
+-- the form in which a subcommand prints if none is named
 abbrev pub usual_form : Subcommand → Form
 usual_form (Import check lines lenient) = Script
 usual_form command = Report
@@ -152,19 +152,19 @@ pub record AreOptions (values : List ℕ → Option (List ℕ)) (options : Optio
   pub lines : IsFlag (values (codes "lines")) options.lines
   pub lenient : IsFlag (values (codes "lenient")) options.lenient
 
--- the words that come in their places
+-- the words at their places
 pub record IsQuestion (values : List ℕ → Option (List ℕ)) (question : Question) : Type 0 where
   pub node : values (codes "NODE") ≡ Some question.node.now
   pub topic : values (codes "TOPIC") ≡ Some question.topic.now
   pub key : values (codes "KEY") ≡ Some question.key.now
 
--- those that may: a node, and a topic and a key
+-- the words that may be left out: a node, and a topic and a key
 abbrev pub IsAbout : (List ℕ → Option (List ℕ)) → About → Type 0
 IsAbout values Cluster = values (codes "NODE") ≡ None
 IsAbout values (Node name) = (values (codes "NODE") ≡ Some name.now) × (values (codes "TOPIC") ≡ None)
 IsAbout values (Presence question) = IsQuestion values question
 
--- of which presences a picture's lanes are thick: of none where no words ask, and else of those of a topic and a key
+-- the presences for which a picture's lanes are thick: none if no words ask, and else those of a topic and a key
 abbrev pub IsOnline : Option About → Option Question → Type 0
 IsOnline (Some Cluster) online = online ≡ None
 IsOnline (Some (Presence question)) online = online ≡ Some question
@@ -178,8 +178,8 @@ AsksOtherwise (Some (Presence question)) = ⊥
 AsksOtherwise (Some (Node name)) = ⊤
 AsksOtherwise None = ⊤
 
--- the subcommand has these of the options and words that it takes; of states 100,000 are kept where it is not told how many, and no
--- delivery is lost or comes again
+-- the subcommand has the options and words that it takes; without the option 100,000 states are kept, and no delivery is lost or
+-- comes again
 abbrev pub Takes : Options → Option Question → Option About → Subcommand → Type 0
 Takes options question about (Draw drawing) =
     IsOnline about drawing.online × (drawing.why ≡ options.why) × (drawing.from ≡ options.from) × (drawing.to ≡ options.to)
@@ -208,19 +208,20 @@ race_prints Report = true
 race_prints Session = true
 race_prints form = false
 
--- a check is printed in its own form alone
+-- whether an import prints in this form; a check prints in its own form alone
 abbrev pub import_prints : Bool → Form → Bool
 import_prints check Session = not check
 import_prints check PageForm = not check
 import_prints check form = is_script form
 
--- a race is printed as a report or a session, an import as a script, a session or a page, and nothing else as a page
+-- whether the subcommand prints in this form: a race prints a report or a session, an import a script, a session or a page, and
+-- nothing else prints a page
 abbrev pub can_print : Subcommand → Form → Bool
 can_print (Import check lines lenient) form = import_prints check form
 can_print Race form = race_prints form
 can_print command form = not (is_page form)
 
--- the subcommand has this name, and the form and the rest those that its options and words give
+-- the subcommand has this name, and its options and words give the form and the rest
 pub record IsChoiceOf (name : List ℕ) (values : List ℕ → Option (List ℕ)) (choice : Choice) : Type 0 where
   pub name_is : name ≡ name_of choice.command
   pub form : IsForm (usual_form choice.command) (values (codes "as")) choice.form
@@ -233,7 +234,7 @@ pub record IsChoiceOf (name : List ℕ) (values : List ℕ → Option (List ℕ)
   pub takes : Takes options question about choice.command
   pub printed : can_print choice.command choice.form ≡ true
 
--- the words that the subcommand takes aren't there
+-- the words that the subcommand needs aren't there
 abbrev pub Lacks : Option Question → Option About → Subcommand → Type 0
 Lacks question about (Explain asked) = question ≡ None
 Lacks question about (Whatif asked change) = question ≡ None
@@ -246,7 +247,7 @@ Lacks question about Step = ⊥
 Lacks question about (Draw drawing) = AsksOtherwise about
 Lacks question about Page = ⊥
 
--- no subcommand has this name, but for one that lacks its words
+-- no subcommand has this name, unless it lacks its words
 abbrev pub IsUnnamed : List ℕ → Option Question → Option About → Type 0
 IsUnnamed name question about = (command : Subcommand) → name ≡ name_of command → Lacks question about command
 
@@ -257,12 +258,12 @@ pub record Spells (words : List (List ℕ)) (choice : Choice) : Type 0 where
   pub command : subcommand_of app words ≡ Some (name, rows)
   pub chosen : IsChoiceOf name (λ option. first_of option rows) choice
 
--- of a fault that is told of what was entered
+-- the fault is about what was entered
 abbrev pub IsUnchosen : ErrorKind → Type 0
 IsUnchosen kind = (kind ≡ InvalidValue) ⊎ (kind ≡ MissingSubcommand)
 
--- the words spell none, for this kind of fault: want of memory; what the command line finds wrong in them, or help that they ask
--- for; or they choose nothing
+-- the words spell no choice, for this kind of fault: want of memory; what the command line finds wrong in them, or a request for
+-- help; or they choose nothing
 abbrev pub Misspells : List (List ℕ) → ErrorKind → Type 0
 Misspells words kind =
     (kind ≡ OutOfMemory) ⊎ (IsAmong kind (fault_of app words) ⊎ (IsUnchosen kind × ((choice : Choice) → ¬ Spells words choice)))
@@ -271,11 +272,11 @@ Misspells words kind =
 abbrev pub SpellsBefore : List (List ℕ) → Choice → Type 0
 SpellsBefore words choice = (before : List (List ℕ)) × (words ≡ before ++ codes "-" ∷ []) × Spells before choice
 
--- where the last word is `-`, those before it spell none
+-- if the last word is `-`, those before it spell no choice
 abbrev pub NeedsLast : List (List ℕ) → Type 0
 NeedsLast words = (before : List (List ℕ)) → words ≡ before ++ codes "-" ∷ [] → (kind : ErrorKind) × Misspells before kind
 
--- what the words choose, where a last word `-` that can be left out stands for standard input
+-- what the words choose; a last word `-` that can be left out stands for standard input
 abbrev pub Chooses : List (List ℕ) → Choice → Type 0
 Chooses words choice = SpellsBefore words choice ⊎ (NeedsLast words × Spells words choice)
 

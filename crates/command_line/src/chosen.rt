@@ -1,6 +1,6 @@
 //! What a command line chooses.
 
-/// Why the presences of this topic and key are online at the node of this name, and why not.
+/// The question why the presences of this topic and key are online at the node of this name, or why not.
 #[derive(Clone, Copy, Debug, PartialEq, Eq)]
 pub struct Question<'w> {
     pub node: &'w str,
@@ -8,14 +8,14 @@ pub struct Question<'w> {
     pub key: &'w str,
 }
 
-/// What is asked of what the network could have done.
+/// What an exploration is about.
 #[derive(Clone, Copy, Debug, PartialEq, Eq)]
 pub enum About<'w> {
-    /// Where the whole cluster ends.
+    /// How the whole cluster ends.
     Cluster,
-    /// Where the node of this name does.
+    /// How the node of this name ends.
     Node(&'w str),
-    /// Which presences of a topic and a key a node lists then.
+    /// Which presences of a topic and a key a node lists at the end.
     Presence(Question<'w>),
 }
 
@@ -28,32 +28,34 @@ pub struct Drawing<'w> {
     pub why: Option<u64>,
     /// The first step that is drawn.
     pub from: Option<u64>,
-    /// The last.
+    /// The last step that is drawn.
     pub to: Option<u64>,
 }
 
 /// What the program does.
 #[derive(Clone, Copy, Debug, PartialEq, Eq)]
 pub enum Subcommand<'w> {
-    /// Plays a script; strictly, where a refused act is a fault.
+    /// Plays a script. If `strict`, a refused act is a fault.
     Play {
         strict: bool,
     },
-    /// Has the act lines of a script asked by a worker for each actor.
+    /// Runs a script as a race: a worker for each actor asks that actor's lines.
     Race,
-    /// Plays a saved session again; strictly, where a refused act is a fault.
+    /// Plays a saved session again. If `strict`, a refused act is a fault.
     Load {
         strict: bool,
     },
-    /// Makes a script of the events of logs. With `check` it tells instead where the bench and the real nodes part; with `lines`
-    /// each line stands behind the number of its event's line; `lenient` leaves out what takes a message that no line sends.
+    /// Makes a script of the events of logs. With `check` it tells instead where the bench and the real nodes part;
+    /// with `lines` it puts the number of its event's line before each line; `lenient` leaves out events that take a
+    /// message which no line sends.
     Import {
         check: bool,
         lines: bool,
         lenient: bool,
     },
-    /// Tells what the network could have made of what happened, where `lost` deliveries may be missing and `again` come twice, keeping
-    /// at most `states` different states; or the run of the outcome of this number, alone.
+    /// Tells what the network could have made of a run, with up to `lost` deliveries missing and up to `again` that
+    /// come twice; it keeps at most `states` different states. Given the number of an outcome, it prints the run of
+    /// that outcome instead.
     Explore {
         about: About<'w>,
         lost: usize,
@@ -69,14 +71,15 @@ pub enum Subcommand<'w> {
     Page,
     /// Explains why presences of a saved session are online at a node, and why not.
     Explain(Question<'w>),
-    /// Tells what else could have made a difference to these presences; or the run that the change of this number makes, alone.
+    /// Tells which single changes would have made a difference to these presences. Given the number of a change, it
+    /// prints the run with that change instead.
     Whatif {
         question: Question<'w>,
         change: Option<u64>,
     },
 }
 
-/// What it prints of the bench that was played on.
+/// What it prints of the bench once the play is over.
 #[derive(Clone, Copy, Debug, PartialEq, Eq)]
 pub enum Form {
     /// The report.
@@ -87,7 +90,7 @@ pub enum Form {
     Script,
     /// The session, which can be loaded again.
     Session,
-    /// A page of HTML, with what logs tell beside.
+    /// A page of HTML, which also has what logs tell.
     Page,
 }
 
@@ -98,7 +101,7 @@ pub struct Choice<'w> {
     pub form: Form,
 }
 
-/// What options give, but for a form.
+/// What the options give, apart from the form.
 #[derive(Clone, Copy, Debug, PartialEq, Eq)]
 pub struct Options {
     /// Whether a refused act is a fault, by `--strict`.
@@ -111,7 +114,7 @@ pub struct Options {
     pub to: Option<u64>,
     /// How many deliveries `--lost` allows to be missing.
     pub lost: Option<u64>,
-    /// How many `--again` allows to come a second time.
+    /// How many deliveries `--again` allows to come a second time.
     pub again: Option<u64>,
     /// How many states `--states` allows.
     pub states: Option<u64>,

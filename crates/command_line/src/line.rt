@@ -23,7 +23,7 @@ use clap::{Arg, ArgAction, ArgMatches, Command, Error};
 use std::alloc::{AllocError, Global};
 use std::convert::AsStr;
 
-/// The most different states that are kept, where it is not told how many.
+/// How many different states are kept at most, unless an option says otherwise.
 const MOST_STATES: u64 = 100_000;
 
 /// The option that names a form.
@@ -59,7 +59,7 @@ fn flag_option<'a>(alloc: Global, name: &'a str, about: &'a str) -> Arg<'a>
         .help(about)
 }
 
-/// A word that comes in its place.
+/// A word that must stand at its place.
 fn word_place<'a>(alloc: Global, name: &'a str, about: &'a str) -> Arg<'a>
     ensures rule { rule_of result ≡ word_rule name.entry.now }
     ensures local { result.global ≡ false }
@@ -67,7 +67,7 @@ fn word_place<'a>(alloc: Global, name: &'a str, about: &'a str) -> Arg<'a>
     Arg::new(alloc, name).required(true).help(about)
 }
 
-/// A word that may come in its place.
+/// A word that may be left out.
 fn optional_place<'a>(alloc: Global, name: &'a str, about: &'a str) -> Arg<'a>
     ensures rule { rule_of result ≡ optional_rule name.entry.now }
     ensures local { result.global ≡ false }
@@ -83,7 +83,7 @@ fn bare_subcommand<'a>(alloc: Global, name: &'a str, about: &'a str, usage: &'a 
     Command::new(alloc, name).about(about).override_usage(usage)
 }
 
-/// A subcommand with the option of a form.
+/// A subcommand with the option that names a form.
 fn form_line<'a>(
     alloc: Global,
     name: &'a str,
@@ -97,7 +97,7 @@ fn form_line<'a>(
     bare_subcommand(alloc, name, about, usage).arg(form_option(alloc, forms))
 }
 
-/// A subcommand with the option of a form, which may be strict.
+/// A subcommand with the option that names a form, and with `--strict`.
 fn strict_line<'a>(
     alloc: Global,
     name: &'a str,
@@ -110,7 +110,7 @@ fn strict_line<'a>(
     form_line(alloc, name, about, usage, FORMS)?.arg(flag_option(alloc, "strict", STRICT))
 }
 
-/// The same, whose help ends with an example.
+/// As `strict_line`, with an example at the end of its help.
 fn example_line<'a>(
     alloc: Global,
     name: &'a str,
@@ -124,7 +124,7 @@ fn example_line<'a>(
     Ok(strict_line(alloc, name, about, usage)?.after_help(example))
 }
 
-/// A subcommand that may be asked of a node, and of a topic and a key there.
+/// A subcommand that takes a node, and a topic and a key there, or leaves them out.
 fn about_line<'a>(
     alloc: Global,
     name: &'a str,
@@ -140,7 +140,7 @@ fn about_line<'a>(
         .arg(optional_place(alloc, "KEY", KEY))
 }
 
-/// The same with how many deliveries may be lost and come again.
+/// As `about_line`, with the options for how many deliveries may be lost and may come again.
 fn network_line<'a>(alloc: Global) -> Result<Command<'a>, AllocError>
     ensures app { IfOk result (λ line. app_of line ≡ network_app) }
     ensures local { IfOk result (λ line. (fields_of line).has_globals ≡ false) }
@@ -179,7 +179,7 @@ fn step_line<'a>(alloc: Global) -> Command<'a>
     bare_subcommand(alloc, "step", STEP, STEP_USAGE)
 }
 
-/// The subcommand that draws, without the range of its steps.
+/// The subcommand that draws, without the options for the range of its steps.
 fn lanes_line<'a>(alloc: Global) -> Result<Command<'a>, AllocError>
     ensures app { IfOk result (λ line. app_of line ≡ lanes_app) }
     ensures local { IfOk result (λ line. (fields_of line).has_globals ≡ false) }
@@ -205,7 +205,7 @@ fn page_line<'a>(alloc: Global) -> Command<'a>
     bare_subcommand(alloc, "page", PAGE, PAGE_USAGE)
 }
 
-/// A subcommand that asks of a node, a topic and a key.
+/// A subcommand that takes a node, a topic and a key.
 fn question_line<'a>(
     alloc: Global,
     name: &'a str,
@@ -260,7 +260,7 @@ fn with_line<'a>(
     }
 }
 
-/// The whole line. Each call takes the line before along, so that nothing large lives at an early end.
+/// The whole line. Each call takes the line before along, so that an early end has nothing large to drop.
 fn line<'a>(alloc: Global) -> Result<Command<'a>, AllocError>
     ensures { IfOk result (λ line. app_of line ≡ app) }
 {
@@ -286,7 +286,7 @@ fn line<'a>(alloc: Global) -> Result<Command<'a>, AllocError>
     with_line(line, import_line(alloc))
 }
 
-/// The words that come in their places, where all three are there.
+/// The question that the three words at their places make, if all three are there.
 fn question_of<'a>(matches: &ArgMatches<'a>) -> Option<Question<'a>>
     ensures some { IfSome result (IsQuestion (λ id. first_value (found_of matches.now) id)) }
     ensures none { IfNone result ((question : Asked) → ¬ IsQuestion (λ id. first_value (found_of matches.now) id) question) }
@@ -298,7 +298,7 @@ fn question_of<'a>(matches: &ArgMatches<'a>) -> Option<Question<'a>>
     })
 }
 
-/// What is asked of the network: of the cluster, of a node, or of a topic and a key at one; nothing where a topic has no key.
+/// What an exploration is about: the cluster, a node, or a topic and a key at a node; `None` where a topic has no key.
 fn about_of<'a>(matches: &ArgMatches<'a>) -> Option<About<'a>>
     ensures some { IfSome result (IsAbout (λ id. first_value (found_of matches.now) id)) }
     ensures none { IfNone result ((about : Of) → ¬ IsAbout (λ id. first_value (found_of matches.now) id) about) }
@@ -313,7 +313,8 @@ fn about_of<'a>(matches: &ArgMatches<'a>) -> Option<About<'a>>
     Some(About::Presence(Question { node, topic, key }))
 }
 
-/// Of which presences a picture's lanes are thick: of none where no words ask; nothing where they ask of a node alone.
+/// The presences for which a picture's lanes are thick: `Some(None)` where the words name nothing; `None` where they
+/// name a node alone.
 fn online_of<'a>(about: Option<About<'a>>) -> Option<Option<Question<'a>>>
     ensures some { IfSome result (IsOnline about.entry) }
     ensures none { IfNone result (AsksOtherwise about.entry) }
@@ -325,7 +326,7 @@ fn online_of<'a>(about: Option<About<'a>>) -> Option<Option<Question<'a>>>
     }
 }
 
-/// The subcommand of this name, with those of the options and words that it takes.
+/// The subcommand of this name, with the options and words that it takes.
 fn command_of<'a>(
     name: &str,
     options: Options,
@@ -420,7 +421,7 @@ fn has_flag<'a>(matches: &ArgMatches<'a>, option: &str) -> bool
     matches!(matches.get_str(option), Some("true"))
 }
 
-/// What the options of a subcommand's words give; or what to tell of a number that is none.
+/// What the options of a subcommand's words give; or what to print where one of them is no number.
 fn options_of<'a>(matches: &ArgMatches<'a>) -> Result<Options, &'static str>
     ensures ok { IfOk result (AreOptions (λ option. first_value (found_of matches.now) option)) }
     ensures err { OnErr result ((options : Given) → ¬ AreOptions (λ option. first_value (found_of matches.now) option) options) }
@@ -473,7 +474,7 @@ fn can_print(command: Subcommand<'_>, form: Form) -> bool
     }
 }
 
-/// What to tell of a form in which the subcommand doesn't print.
+/// What to print where the subcommand doesn't print in the form that is named.
 fn forms_of(command: Subcommand<'_>) -> &'static str {
     match command {
         Subcommand::Import { check: true, .. } => "import --check prints what it found alone",
@@ -483,7 +484,7 @@ fn forms_of(command: Subcommand<'_>) -> &'static str {
     }
 }
 
-/// What to tell of a name that chooses nothing.
+/// What to print for a name that chooses nothing: the words that it takes, or that there is no such subcommand.
 fn unnamed(name: &str) -> &'static str {
     match name {
         "explore" => "explore takes a node, or a node, a topic and a key, or none",
@@ -492,7 +493,7 @@ fn unnamed(name: &str) -> &'static str {
     }
 }
 
-/// What a subcommand's name and words choose; or what to tell where they choose nothing.
+/// What a subcommand's name and words choose; or what to print where they choose nothing.
 fn chosen<'a>(name: &str, matches: &ArgMatches<'a>) -> Result<Choice<'a>, &'static str>
     ensures ok { IfOk result (IsChoiceOf name.now (λ option. first_value (found_of matches.now) option)) }
     ensures err { OnErr result ((choice : Chosen) → ¬ IsChoiceOf name.now (λ option. first_value (found_of matches.now) option) choice) }

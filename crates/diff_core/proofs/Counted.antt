@@ -14,9 +14,9 @@ use Rattle.dots_core.specs.declared.dot.Dot.{Dot}
 use Rattle.dots_core.specs.Dots.{dot_cmp}
 use Rattle.dots_core.proofs.Order.{is_dot, is_dot-true}
 use Rattle.payload_core.specs.Presences.{Presence, Entries}
-use Rattle.payload_core.specs.EntryMoves.{AreNew, found_at, with_each, without_each}
-use Rattle.payload_core.specs.LeavesTogether.{Differ}
-use Rattle.payload_core.proofs.EntryMaps.{get-insert, get-remove, get_remove_other}
+use Rattle.store_core.specs.EntryMoves.{AreNew, found_at, with_each, without_each}
+use Rattle.store_core.specs.LeavesTogether.{Differ}
+use Rattle.block_core.proofs.EntryMaps.{get-insert, get-remove, get_remove_other}
 use Rattle.replica_core.specs.Replicas.{Replica}
 use Rattle.diff_core.specs.Rows.{Row, row_of, is_among}
 use Rattle.diff_core.specs.Online.{IsOnlineList, shown, is_shown}

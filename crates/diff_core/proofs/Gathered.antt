@@ -8,7 +8,7 @@ use Rattle.dots_core.specs.declared.dot.Dot.{Dot}
 use Rattle.std.specs.FinMap as fin
 use Rattle.payload_core.specs.Presences.{Presence, Entry, Entries, entry_of}
 use Rattle.payload_core.specs.EntryLists.{pair_of}
-use Rattle.payload_core.specs.EntryMoves.{found_at}
+use Rattle.store_core.specs.EntryMoves.{found_at}
 use Rattle.replica_core.specs.Replicas.{Replica}
 use Rattle.diff_core.specs.Rows.{Row, row_of}
 use Rattle.diff_core.specs.Online.{is_shown}

@@ -1,6 +1,6 @@
 -- That a walk over the entries collects what is shown, that a sort puts it in order, and that one list is so.
-use Rattle.std.proofs.Common.{◌≡◌, ℕ, zero, suc, ◌+◌, ◌<◌, ◌≤◌, T, Bool, true, false, cond, List, [], ◌∷◌, ◌++◌, map, filter, take, length, slice_index_or}
-use Rattle.std.proofs.Common.{Some, refl, sym, ap, ◌∙◌, subst, true≢false, arith}
+use Rattle.std.proofs.Common.{◌≡◌, ℕ, zero, suc, ◌+◌, ◌<◌, ◌≤◌, T, Bool, true, false, cond, List, [], ◌∷◌, ◌++◌, map, filter, length, slice_index_or}
+use Rattle.std.proofs.Common.{◌==◌, append_assoc, append-nil, refl, sym, ap, ◌∙◌, subst, true≢false, arith}
 use Rattle.std.specs.declared.cmp.Ordering.TheVariants.{Less}
 use Rattle.std.specs.Ordering.{is_lt, is_eq}
 use Rattle.std.specs.List.{AllByRecursion, sum_by}
@@ -8,31 +8,69 @@ use Rattle.std.specs.List.Sorted.{IsPermutation, IsSorted, IsStrictlySortedBy}
 use Rattle.std.specs.FinMap as fin
 use Rattle.std.specs.FinMap.Entries.{is_sorted, below_all}
 use Rattle.std.proofs.Math.Facts.{and_yes}
-use Rattle.std.proofs.lemmas.List.{map-append}
 use Rattle.std.proofs.lemmas.List.Sorted.{sum_by-IsPermutation, sorted_far, ranks_by}
 use Rattle.std.proofs.lemmas.List.Sums.{sum_by-cons}
 use Rattle.dots_core.specs.declared.dot.Dot.{Dot}
 use Rattle.dots_core.specs.Dots.{dot_cmp, dot}
 use Rattle.dots_core.proofs.Order.{less, is_dot, is_dot-true, is_dot_same}
 use Rattle.payload_core.specs.EntryLists.{pair_of}
-use Rattle.payload_core.specs.Presences.{Presence, Entry, Entries}
+use Rattle.payload_core.specs.Presences.{Presence, Entry, Entries, entries_of_names, entry_of}
+use Rattle.block_core.specs.Sets.{listed as walk_of}
+use Rattle.block_core.proofs.Collected.{entries-retain}
+use Rattle.block_core.proofs.MaskedEntries.{where_filter}
+use Rattle.diff_core.specs.ChangedRows.{is_of_name}
 use Rattle.replica_core.specs.Replicas.{Replica}
 use Rattle.replica_core.specs.Views.{View, is_some_up}
-use Rattle.payload_core.proofs.Collected.{entry_at, passed}
 use Rattle.diff_core.specs.Rows.{Row, row_cmp, row_of}
 use Rattle.diff_core.specs.RowOrder.{row_total}
 use Rattle.diff_core.specs.Online.{AreInOrder, IsOnlineList, shown, is_shown}
 use Rattle.diff_core.specs.Laws.{OneListLaw}
 use Rattle.diff_core.proofs.Order.{is_row, is_row-itself, is_row-true, cases_row, all_above}
 
--- one more entry that passes, with its row
-pub row_collected : (test : Dot × Presence → Bool) (ps : List (Dot × Presence)) (i : ℕ) (e : Entry) (row : Row) (rows after : List Row) →
-    Some e ≡ entry_at ps i → test (pair_of e) ≡ true → rows ≡ map row_of (filter test (take i ps)) → after ≡ rows ++ row ∷ [] →
-    row ≡ row_of (pair_of e) →
-    after ≡ map row_of (filter test (take (i + 1) ps))
-row_collected test ps i e row rows after at passes so_far is same =
-    is ∙ ap (λ rs. rs ++ row ∷ []) so_far ∙ ap (λ r. map row_of (filter test (take i ps)) ++ r ∷ []) same
-    ∙ sym (map-append row_of (filter test (take i ps)) (pair_of e ∷ [])) ∙ ap (map row_of) (sym (passed test ps i e at passes))
+-- the rows of those entries of a walk that pass
+abbrev pub rows_ahead : (Entry → Bool) → List Entry → List Row
+rows_ahead test es = map (λ e. row_of (pair_of e)) (filter test es)
+
+pub rows_walked : (test : Dot × Presence → Bool) (ps : List (Dot × Presence)) →
+    rows_ahead (λ e. test (pair_of e)) (map (λ (p : Dot × Presence). entry_of p.0 p.1) ps) ≡ map row_of (filter test ps)
+rows_walked test [] = refl
+rows_walked test (p ∷ ps) = go (test p) (rows_walked test ps)
+  where
+    go : (b : Bool) → rows_ahead (λ e. test (pair_of e)) (map (λ (p : Dot × Presence). entry_of p.0 p.1) ps) ≡ map row_of (filter test ps) →
+        map (λ e. row_of (pair_of e)) (cond b (entry_of p.0 p.1 ∷ filter (λ e. test (pair_of e)) (map (λ (p : Dot × Presence). entry_of p.0 p.1) ps))
+        (filter (λ e. test (pair_of e)) (map (λ (p : Dot × Presence). entry_of p.0 p.1) ps))) ≡ map row_of (cond b (p ∷ filter test ps) (filter test ps))
+    go true later = ap (λ rows. row_of p ∷ rows) later
+    go false later = later
+
+-- one more entry of a walk, and its end
+
+pub walked_row : (walk rest : List Entry) (e : Entry) (row : Row) (rows after whole : List Row) → walk ≡ e ∷ rest →
+    row ≡ row_of (pair_of e) → after ≡ rows ++ row ∷ [] → rows ++ map (λ e. row_of (pair_of e)) walk ≡ whole →
+    after ++ map (λ e. row_of (pair_of e)) rest ≡ whole
+walked_row walk rest e row rows after whole next is grown so_far =
+    ap (λ rs. rs ++ map (λ e. row_of (pair_of e)) rest) grown ∙ append_assoc rows (row ∷ []) (map (λ e. row_of (pair_of e)) rest)
+    ∙ ap (λ r. rows ++ r ∷ map (λ e. row_of (pair_of e)) rest) is
+    ∙ ap (λ es. rows ++ map (λ e. row_of (pair_of e)) es) (sym next) ∙ so_far
+
+pub walked_all : (test : Entry → Bool) (walk : List Entry) (rows whole : List Row) → walk ≡ [] → rows ++ rows_ahead test walk ≡ whole → rows ≡ whole
+walked_all test walk rows whole end so_far =
+    sym (append-nil rows) ∙ ap (λ es. rows ++ rows_ahead test es) (sym end) ∙ so_far
+
+pub walked_all_rows : (walk : List Entry) (rows whole : List Row) → walk ≡ [] → rows ++ map (λ e. row_of (pair_of e)) walk ≡ whole → rows ≡ whole
+walked_all_rows walk rows whole end so_far =
+    sym (append-nil rows) ∙ ap (λ es. rows ++ map (λ e. row_of (pair_of e)) es) (sym end) ∙ so_far
+
+-- the rows of the entries of one name
+
+pub rows_of_part : (name : ℕ) (m : Entries) →
+    map (λ e. row_of (pair_of e)) (walk_of (entries_of_names (λ n. n == name) m)) ≡ map row_of (filter (is_of_name name) (fin.entries m))
+rows_of_part name m =
+    plain_rows (fin.entries (entries_of_names (λ n. n == name) m))
+    ∙ ap (map row_of) (entries-retain m (λ d. d.name == name) ∙ where_filter (λ (d : Dot). d.name == name) (fin.entries m))
+  where
+    plain_rows : (ps : List (Dot × Presence)) → map (λ e. row_of (pair_of e)) (map (λ (p : Dot × Presence). entry_of p.0 p.1) ps) ≡ map row_of ps
+    plain_rows [] = refl
+    plain_rows (p ∷ ps) = ap (λ rows. row_of p ∷ rows) (plain_rows ps)
 
 -- how often a row stands in a list, and a dot among the keys of one
 abbrev pub one : Bool → ℕ

@@ -7,10 +7,10 @@ use Rattle.dots_core.specs.declared.dot.Dot.{Dot}
 use Rattle.dots_core.proofs.Order.{is_dot}
 use Rattle.payload_core.specs.Presences.{Presence, Entries}
 use Rattle.payload_core.specs.EntryLists.{pairs}
-use Rattle.payload_core.specs.EntryMoves.{AreNew, with_each, without_each}
-use Rattle.payload_core.specs.LeavesTogether.{Differ}
-use Rattle.payload_core.proofs.EntryMaps.{get-insert}
-use Rattle.payload_core.proofs.PutBack.{get-without_each}
+use Rattle.store_core.specs.EntryMoves.{AreNew, with_each, without_each}
+use Rattle.store_core.specs.LeavesTogether.{Differ}
+use Rattle.block_core.proofs.EntryMaps.{get-insert}
+use Rattle.store_core.proofs.PutBack.{get-without_each}
 use Rattle.replica_core.specs.Replicas.{Replica, is_online}
 use Rattle.replica_core.specs.Changes.{Change, ChangeLeadsSomewhere, back}
 use Rattle.replica_core.specs.Moves.{Moves, hidden_by, is_named, joined_by, left_by, shown_by}

@@ -5,14 +5,14 @@ use Rattle.std.specs.FinMap as fin
 use Rattle.dots_core.specs.declared.dot.Dot.{Dot}
 use Rattle.payload_core.specs.Presences.{Presence, Entries}
 use Rattle.payload_core.specs.EntryLists.{pairs}
-use Rattle.payload_core.specs.EntryMoves.{found_at}
+use Rattle.store_core.specs.EntryMoves.{found_at}
 use Rattle.replica_core.specs.Changes.{Change}
 use Rattle.replica_core.specs.Moves.{hidden_by, joined_by, left_by, shown_by}
 use Rattle.replica_core.specs.Replicas.{Replica}
 use Rattle.diff_core.specs.Rows.{Row, row_of}
 use Rattle.diff_core.specs.Online.{is_shown}
 
--- the rows of those of the entries that are shown
+-- the rows of the entries that are shown
 abbrev pub rows_shown : Replica → List (Dot × Presence) → List Row
 rows_shown r es = map row_of (filter (is_shown r) es)
 
@@ -34,10 +34,10 @@ abbrev pub rows_or : Option ℕ → Replica → List Row → List Row
 rows_or None r rows = rows
 rows_or (Some name) r rows = rows_of_name name r
 
--- the rows that a call took, where it left this replica: of a name that is up no more, or of what left
+-- the rows that a call which left this replica took from its list: those of a name that it put down, or of the entries that left
 abbrev pub taken_rows : Change → Replica → List Row
 taken_rows change r = rows_or (hidden_by change) r (rows_shown r (pairs (left_by change)))
 
--- the rows that a call gave, where it left this replica: of a name that is up from then on, or of what joined
+-- the rows that a call which left this replica gave to its list: those of a name that it put up, or of the entries that joined
 abbrev pub given_rows : Change → Replica → List Row
 given_rows change r = rows_or (shown_by change) r (rows_shown r (found_each (joined_by change r) r.store.entries))

@@ -7,7 +7,7 @@ use Rattle.diff_core.specs.Rows.{Row, row_cmp, is_among}
 abbrev pub alone : List Row → List Row → List Row
 alone rows others = filter (λ row. not (is_among others row)) rows
 
--- the rows from the first on that is not below this one
+-- the rows from the first that is not below this one
 abbrev pub not_below : Row → List Row → List Row
 not_below row [] = []
 not_below row (r ∷ rs) = if is_lt (row_cmp r row) then not_below row rs else r ∷ rs

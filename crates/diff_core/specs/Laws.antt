@@ -8,11 +8,11 @@ use Rattle.diff_core.specs.Diffs.{alone}
 use Rattle.diff_core.specs.Sorting.{in_order, online_of}
 use Rattle.diff_core.specs.ChangedRows.{given_rows, taken_rows}
 
--- two replicas with the same entries and statuses have the same list
+-- two replicas with the same entries and statuses have the same online list
 abbrev pub OneListLaw : Type 0
 OneListLaw = (r s : Replica) (xs ys : List Row) → r.store.entries ≡ s.store.entries → r.view ≡ s.view → IsOnlineList r xs → IsOnlineList s ys → xs ≡ ys
 
--- of a list, nothing is alone beside itself; and what is alone is in order, as the list is
+-- a list has no row that it doesn't have itself; and the rows that one list has alone are in order, as the list is
 pub record DiffLaw : Type 0 where
   pub itself : (rows : List Row) → alone rows rows ≡ []
   pub in_order : (rows others : List Row) → AreInOrder rows → AreInOrder (alone rows others)

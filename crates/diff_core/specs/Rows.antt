@@ -16,7 +16,7 @@ pub record Row : Type 0 where
   pub clock : ℕ
   pub metadata : List ℕ
 
--- by topic, key, name, process, clock and metadata
+-- rows are ordered by topic, key, name, process, clock and metadata
 abbrev pub row_cmp : Row → Row → Ordering
 row_cmp a b =
     ordering_then (ordering_then (ordering_then (ordering_then (ordering_then (slice_cmp nat_cmp a.topic b.topic)

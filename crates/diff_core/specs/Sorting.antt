@@ -5,7 +5,7 @@ use Rattle.replica_core.specs.Replicas.{Replica}
 use Rattle.diff_core.specs.Rows.{Row, row_cmp}
 use Rattle.diff_core.specs.Online.{shown}
 
--- the row before the first that is not below it
+-- the rows with this one added, before the first that is not below it
 abbrev pub with_row : Row → List Row → List Row
 with_row x [] = x ∷ []
 with_row x (y ∷ ys) = if is_lt (row_cmp y x) then y ∷ with_row x ys else x ∷ y ∷ ys

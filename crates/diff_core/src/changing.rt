@@ -1,11 +1,11 @@
-//! What the last call of a replica changed of its online list, by what is kept of the call.
+//! What the last call of a replica changed in its online list, by the call's change.
 ghost use Rattle.std.specs.Prelude.{◌≡◌, ◌++◌, ◌∷◌, [], IfOk, OnOk};
 ghost use Rattle.std.specs.FinMap as fin;
 ghost use Rattle.payload_core.specs.EntryLists.{pair_of, pairs};
-ghost use Rattle.payload_core.specs.EntryMoves.{found_at};
+ghost use Rattle.store_core.specs.EntryMoves.{found_at};
 ghost use Rattle.replica_core.specs.Changes.{back, plain_change, ChangeLeadsSomewhere};
 ghost use Rattle.replica_core.specs.Moves.{joined_by, left_by};
-ghost use Rattle.diff_core.specs.ChangedRows.{found_each, given_rows, is_of_name, rows_of_name, rows_shown, taken_rows};
+ghost use Rattle.diff_core.specs.ChangedRows.{found_each, given_rows, rows_of_name, rows_shown, taken_rows};
 ghost use Rattle.diff_core.specs.Diffs.{alone};
 ghost use Rattle.diff_core.specs.Sorting.{online_of};
 
@@ -16,7 +16,7 @@ use payload_core::{Entry, Oom};
 use replica_core::{Change, Replica};
 use std::alloc::Allocator;
 
-/// The row of an entry, where its name is known and up.
+/// Appends the row of an entry, if its name is known and up.
 fn put_row<A: Allocator + Copy>(
     rows: &mut Vec<OnlineRow<A>, A>,
     replica: &Replica<A>,
@@ -25,12 +25,12 @@ fn put_row<A: Allocator + Copy>(
     ensures { OnOk result (rows.new.items ≡ rows.old.items ++ rows_shown replica.now (pair_of entry.now ∷ [])) }
 {
     if replica.online(entry.dot.name) {
-        rows.push(OnlineRow::of(entry)?)?;
+        OnlineRow::put(rows, entry)?;
     }
     Ok(())
 }
 
-/// The row of the entry at the dot, if there is one, where its name is known and up.
+/// Appends the row of the entry at the dot, if there is one and its name is known and up.
 fn put_found<A: Allocator + Copy>(
     rows: &mut Vec<OnlineRow<A>, A>,
     replica: &Replica<A>,
@@ -44,7 +44,7 @@ fn put_found<A: Allocator + Copy>(
     }
 }
 
-/// The rows of those of the entries that left which are shown.
+/// The rows of the entries that left, as far as their names are known and up.
 fn rows_left<A: Allocator + Copy>(
     alloc: A,
     change: &Change<A>,
@@ -61,7 +61,7 @@ fn rows_left<A: Allocator + Copy>(
     Ok(rows)
 }
 
-/// The rows of those of the entries that joined which are shown.
+/// The rows of the entries that joined, as far as their names are known and up.
 fn rows_joined<A: Allocator + Copy>(
     alloc: A,
     change: &Change<A>,
@@ -78,14 +78,7 @@ fn rows_joined<A: Allocator + Copy>(
     Ok(rows)
 }
 
-/// Whether an entry is of the name.
-fn is_of_name<A: Allocator>(entry: &Entry<A>, name: u16) -> bool
-    ensures { result ≡ is_of_name name (pair_of entry.now) }
-{
-    entry.dot.name == name
-}
-
-/// The rows of a name's entries. It goes over all entries.
+/// The rows of a name's entries.
 fn rows_of_name<A: Allocator + Copy>(
     alloc: A,
     replica: &Replica<A>,
@@ -93,19 +86,15 @@ fn rows_of_name<A: Allocator + Copy>(
 ) -> Result<Vec<OnlineRow<A>, A>, Oom>
     ensures { IfOk result (λ rows. rows.items ≡ rows_of_name name replica.now) }
 {
-    let entries = replica.entries();
     let mut rows = Vec::new(alloc);
-    for place in 0..entries.len() {
-        if let Some(entry) = entries.at(place) {
-            if is_of_name(entry, name) {
-                rows.push(OnlineRow::of(entry)?)?;
-            }
-        }
+    let mut walk = replica.entries().walk_of(name);
+    while let Some(entry) = walk.next() {
+        OnlineRow::put(&mut rows, entry)?;
     }
     Ok(rows)
 }
 
-/// The rows that the call took, in any order.
+/// The rows that the call took out of the list, in any order.
 fn taken<A: Allocator + Copy>(
     alloc: A,
     change: &Change<A>,
@@ -119,7 +108,7 @@ fn taken<A: Allocator + Copy>(
     }
 }
 
-/// The rows that the call gave, in any order.
+/// The rows that the call put into the list, in any order.
 fn given<A: Allocator + Copy>(
     alloc: A,
     change: &Change<A>,
@@ -133,9 +122,9 @@ fn given<A: Allocator + Copy>(
     }
 }
 
-/// How the last call of a replica changed its online list, by what is kept of the call: the rows that left and those that
-/// joined, each side in order. It looks at what the call touched; of a name that is up from then on, or no more, at all
-/// entries.
+/// How the last call of a replica changed its online list, by the call's change: the rows that left and those that
+/// joined, each side in order. It looks at what the call touched, and at all entries of a name that the call put up or
+/// down.
 pub fn changed<A: Allocator + Copy>(
     alloc: A,
     change: &Change<A>,

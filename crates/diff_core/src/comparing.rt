@@ -25,7 +25,7 @@ pub fn diff<A: Allocator + Copy>(
     })
 }
 
-/// Copies of the rows that are none of the others, in one pass over both.
+/// Copies of the rows that aren't among the others, in one pass over both.
 fn rows_alone<A: Allocator + Copy>(
     alloc: A,
     rows: &[OnlineRow<A>],
@@ -46,7 +46,7 @@ fn rows_alone<A: Allocator + Copy>(
     Ok(found)
 }
 
-/// The rows from the first on that is not below this one.
+/// The rows from the first that is not below this one.
 pub(crate) fn not_below<'x, A: Allocator>(
     rows: &'x [OnlineRow<A>],
     row: &OnlineRow<A>,

@@ -8,8 +8,8 @@ use payload_core::Oom;
 use replica_core::Replica;
 use std::alloc::Allocator;
 
-/// The rows of the live entries whose name is known and up, in order. It sorts what is online. (In the manner of
-/// Phoenix.Tracker's lists, in which no entry of a replica that is down stands.)
+/// The rows of the live entries whose name is known and up, in order. It sorts them. (As in Phoenix.Tracker's lists,
+/// which have no entry of a replica that is down.)
 pub fn online_list<A: Allocator + Copy>(
     alloc: A,
     replica: &Replica<A>,
@@ -17,13 +17,11 @@ pub fn online_list<A: Allocator + Copy>(
     ensures rows { IfOk result (λ rows. IsOnlineList replica.now rows.items) }
     ensures value { IfOk result (λ rows. rows.items ≡ online_of replica.now) }
 {
-    let entries = replica.entries();
     let mut rows = Vec::new(alloc);
-    for place in 0..entries.len() {
-        if let Some(entry) = entries.at(place) {
-            if replica.online(entry.dot.name) {
-                rows.push(OnlineRow::of(entry)?)?;
-            }
+    let mut walk = replica.entries().walk();
+    while let Some(entry) = walk.next() {
+        if replica.online(entry.dot.name) {
+            OnlineRow::put(&mut rows, entry)?;
         }
     }
     rows.sort_unstable();

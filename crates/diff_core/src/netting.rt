@@ -35,7 +35,7 @@ fn behind_first<'x, A: Allocator>(rows: &'x [OnlineRow<A>]) -> &'x [OnlineRow<A>
     }
 }
 
-/// Copies of the rows, of which each of the others takes one that is it, in one pass over both.
+/// Copies of the rows that are left once each of the others has taken out one row equal to it, in one pass over both.
 fn rows_beyond<A: Allocator + Copy>(
     alloc: A,
     rows: &[OnlineRow<A>],
@@ -56,8 +56,8 @@ fn rows_beyond<A: Allocator + Copy>(
     Ok(found)
 }
 
-/// How an online list differs from what it was before several changes, by the rows that left and those that joined at one or
-/// another of them, each as often as it did, in any order. It sorts these rows, and looks at no list.
+/// How an online list differs from what it was before several changes, by the rows that left and those that joined in
+/// these changes, each as often as it did, in any order. It sorts these rows, and looks at no list.
 pub fn net<A: Allocator + Copy>(
     alloc: A,
     left: &[OnlineRow<A>],

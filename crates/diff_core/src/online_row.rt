@@ -1,7 +1,8 @@
 //! `OnlineRow`, what is shown of a live entry.
-ghost use Rattle.std.specs.Prelude.{◌≡◌, ◌↔◌, refl, IfOk, IsTrue, Some};
+ghost use Rattle.std.specs.Prelude.{◌≡◌, ◌↔◌, ◌++◌, ◌∷◌, [], refl, IfOk, IsTrue, OnOk, Some};
 ghost use Rattle.std.specs.Cmp.{partial_equiv_from_equiv};
 ghost use Rattle.std.specs.Ordering.{eq_by_cmp};
+ghost use Rattle.entry_core.specs.Short.{IsShort};
 ghost use Rattle.payload_core.specs.Presences.{presence_of};
 ghost use Rattle.diff_core.specs.Rows.{row_cmp, row_of};
 ghost use Rattle.diff_core.specs.RowOrder.{row_equiv, row_po, row_ties, row_total};
@@ -48,7 +49,36 @@ impl<A: Allocator> OnlineRow<A> {
         })
     }
 
-    /// Whether the two are alike in each field. It takes no memory.
+    /// The row of an entry with short words. It takes no memory.
+    fn of_short(entry: &Entry<A>) -> OnlineRow<A>
+        requires { IsShort entry.now }
+        ensures { result ≡ row_of (entry.now.dot, presence_of entry.now) }
+    {
+        OnlineRow {
+            topic: entry.topic.copy_short(),
+            key: entry.key.copy_short(),
+            name: entry.dot.name,
+            pid: entry.pid,
+            clock: entry.dot.clock,
+            metadata: entry.metadata.copy_short(),
+        }
+    }
+
+    /// Appends the row of an entry.
+    pub(crate) fn put(rows: &mut Vec<OnlineRow<A>, A>, entry: &Entry<A>) -> Result<(), Oom>
+    where
+        A: Copy,
+        ensures { OnOk result (rows.new.items ≡ rows.old.items ++ row_of (entry.now.dot, presence_of entry.now) ∷ []) }
+    {
+        let row = if entry.is_short() {
+            OnlineRow::of_short(entry)
+        } else {
+            OnlineRow::of(entry)?
+        };
+        Ok(rows.push(row)?)
+    }
+
+    /// Whether the two have the same fields. It takes no memory.
     pub fn same(&self, other: &OnlineRow<A>) -> bool
         ensures { IsTrue result ↔ (self.now ≡ other.now) }
     {
@@ -101,7 +131,7 @@ impl<A: Allocator> PartialOrd for OnlineRow<A> {
     }
 }
 
-/// By topic, key, name, process, clock and metadata, words by their bytes.
+/// Ordered by topic, key, name, process, clock and metadata, words by their bytes.
 impl<A: Allocator> Ord for OnlineRow<A> {
     ghost cmp = { row_cmp };
 

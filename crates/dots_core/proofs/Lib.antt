@@ -9,3 +9,4 @@ pub mod Changes
 pub mod Unions
 pub mod HasAll
 pub mod FirstFrom
+pub mod CloudBits

@@ -2,7 +2,7 @@
 use Rattle.std.specs.Prelude.{ℕ, zero, suc, ◌+◌, ◌==◌, List, [], ◌∷◌, if◌then◌else◌}
 use Rattle.dots_core.specs.Clocks.{Clocks}
 
--- the clock goes up for as long as the cloud goes on from it
+-- the clock rises as long as the cloud goes on without a gap
 abbrev pub absorbed : ℕ → List ℕ → Clocks
 absorbed c [] = record { clock = c; cloud = [] }
 absorbed c (x ∷ xs) = if x == c + 1 then absorbed (c + 1) xs else record { clock = c; cloud = x ∷ xs }

@@ -27,7 +27,7 @@ abbrev pub IsFirstFrom : Clocks → ℕ → Option ℕ → Type 0
 IsFirstFrom p k None = (j : ℕ) → k ≤ j → holds p j ≡ false
 IsFirstFrom p k (Some f) = (k ≤ f) × (holds p f ≡ true) × ((j : ℕ) → k ≤ j → j < f → holds p j ≡ false)
 
--- each is above the one before it, the first above b, and none is past the last clock
+-- each clock is above the one before it, the first above b, and none is past the last clock
 abbrev pub RisesAbove : ℕ → List ℕ → Type 0
 RisesAbove b [] = Unit {0}
 RisesAbove b (c ∷ cs) = (b < c) × (c ≤ 1000000000) × RisesAbove c cs

@@ -1,6 +1,6 @@
--- The context clock and the cloud of a name in a set of dots (Phoenix.Tracker.State: 'context' and 'clouds'; the causal
--- context of RR-8083). A context says of a name, in one number, that all its dots up to a clock were seen; what was seen
--- out of turn is in the cloud.
+-- The context clock and the cloud of a name in a set of dots (Phoenix.Tracker.State: 'context' and 'clouds'; the causal context
+-- of RR-8083). The context says in one number that all dots of a name up to a clock were seen; the cloud has what was seen out of
+-- turn.
 use Rattle.std.specs.Prelude.{◌≡◌, ◌↔◌, ℕ, ◌+◌, ◌<◌, ◌≤◌, ◌==◌, not, true, false, List, Contains, map, ◌++◌}
 use Rattle.std.specs.FinSet as set
 use Rattle.dots_core.specs.declared.dot.Dot.{Dot}
@@ -55,6 +55,6 @@ PartLaw = (s t : Dots) (name : ℕ) (part : Clocks) → IsPartOf s name part →
 abbrev pub part_dots : ℕ → Clocks → Dots
 part_dots name p = set.from_list (map (dot name) (count_down p.clock ++ p.cloud))
 
--- the set with these clocks in the place of the name's
+-- the set with these clocks in place of the name's
 abbrev pub with_part : ℕ → Clocks → Dots → Dots
 with_part name p s = set.union (others name s) (part_dots name p)

@@ -12,7 +12,7 @@ pub record IsValid (d : Dot) : Type 0 where
   pub first : 1 ≤ d.clock
   pub last : d.clock ≤ 1000000000
 
--- by name, and then by clock
+-- dots are ordered by name, and then by clock
 abbrev pub dot_cmp : Dot → Dot → Ordering
 dot_cmp a b = ordering_then (nat_cmp a.name b.name) (nat_cmp a.clock b.clock)
 

@@ -11,7 +11,7 @@ names_from n (b ∷ bs) = if b then set.insert (names_from (suc n) bs) n else na
 abbrev pub names_of_flags : List Bool → Names
 names_of_flags bs = names_from 0 bs
 
--- whether the set has n, the next number, and so on for m of them
+-- whether the set has n, whether it has the next number, and so on for m of them
 unfoldable pub flags_from : ℕ → ℕ → Names → List Bool
 flags_from n zero names = []
 flags_from n (suc m) names = set.contains names n ∷ flags_from (suc n) m names

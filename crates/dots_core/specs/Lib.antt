@@ -7,3 +7,4 @@ pub mod Clocks
 pub mod Absorbed
 pub mod Parts
 pub mod Unions
+pub mod ClockBits

@@ -6,10 +6,10 @@ use Rattle.std.specs.FinSet as set
 abbrev pub Names : Type 0
 Names = set.FinSet nat_cmp
 
--- it has each name
+-- the set has each name
 abbrev pub HasAll : Names → Type 0
 HasAll names = (n : ℕ) → n < 32 → set.contains names n ≡ true
 
--- each of its names is below this number
+-- each name of the set is below this number
 abbrev pub AreNamesBelow : ℕ → Names → Type 0
 AreNamesBelow count names = (n : ℕ) → set.contains names n ≡ true → n < count

@@ -26,7 +26,7 @@ part_at ps n = slice_index_or ps n no_clocks
 abbrev pub AllCanonical : List Clocks → Type 0
 AllCanonical ps = AllByRecursion IsCanonical ps
 
--- one part for each name, each kept in the one way
+-- one part for each name, each kept in its one form
 pub record AreParts (ps : List Clocks) : Type 0 where
   pub names : length ps ≡ 32
   pub canonical : AllCanonical ps

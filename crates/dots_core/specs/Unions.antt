@@ -9,12 +9,12 @@ use Rattle.dots_core.specs.Parts.{part_at, AreParts}
 abbrev pub HasEach : Clocks → List ℕ → Type 0
 HasEach p ks = (k : ℕ) → is_among k ks ≡ true → holds p k ≡ true
 
--- the union of p and q, or nothing where that is p
+-- the union of p and q, or `None` where it is p
 abbrev pub IsGrown : Clocks → Clocks → Option Clocks → Type 0
 IsGrown p q None = IsUnion p q p
 IsGrown p q (Some u) = IsCanonical u × IsUnion p q u
 
--- the least number of two rising lists, which have none only where both are empty
+-- the least number of two rising lists; there is none only if both are empty
 abbrev pub IsLeast : List ℕ → List ℕ → Option ℕ → Type 0
 IsLeast xs ys None = (xs ≡ []) × (ys ≡ [])
 IsLeast xs ys (Some n) = ((is_among n xs || is_among n ys) ≡ true) × ((k : ℕ) → (is_among k xs || is_among k ys) ≡ true → n ≤ k)
@@ -24,11 +24,11 @@ abbrev pub without_first : ℕ → List ℕ → List ℕ
 without_first n [] = []
 without_first n (x ∷ xs) = if x == n then xs else x ∷ xs
 
--- after has no number but those of before and n
+-- after has only numbers of before, and n
 abbrev pub AddsOnly : List ℕ → ℕ → List ℕ → Type 0
 AddsOnly before n after = (k : ℕ) → is_among k after ≡ true → (is_among k before ≡ true) ⊎ (k ≡ n)
 
--- after has the clocks of before, and from the name on also those that the others have of the names
+-- `after` has the clocks of `before`, and those of `others` at each name among `names` from `name` on
 pub record IsUnionFrom (names : Names) (name : ℕ) (before others after : List Clocks) : Type 0 where
   pub parts : AreParts after
   pub clocks : (n k : ℕ) → holds (part_at after n) k ≡ (holds (part_at before n) k ||

@@ -1,7 +1,8 @@
 //! A finite set of dots, kept as a context clock and a cloud for each name.
 
-ghost use Rattle.std.specs.Prelude.{◌≡◌, ◌↔◌, ◌<◌, ◌≤◌, ◌==◌, ◌&&◌, not, IsOk, IsTrue, IfOk, OnOk, OnErr, length};
+ghost use Rattle.std.specs.Prelude.{◌≡◌, ◌↔◌, ◌^◌, ◌<◌, ◌≤◌, ◌==◌, ◌&&◌, not, IsOk, IsTrue, IfOk, OnOk, OnErr, length};
 ghost use Rattle.std.specs.FinSet as set;
+ghost use Rattle.dots_core.specs.ClockBits.{AreBitsOf};
 ghost use Rattle.dots_core.specs.Dots.{IsFirstDot, IsValid, AreValid, of_names};
 ghost use Rattle.dots_core.specs.Contexts.{HasAllOf, IsContext, IsNext, IsLast, IsCloudOf, IsPartOf, others, with_part};
 ghost use Rattle.dots_core.specs.Clocks.{no_clocks};
@@ -17,8 +18,8 @@ use std::alloc::{Allocator, Global};
 use std::marker::Model;
 use std::mem;
 
-/// A finite set of dots. It keeps of each name one `Part`, in a place of its own, so an empty set takes no memory. Such
-/// a value is large, some 1,300 bytes over a reference to an allocator: move few of them about.
+/// A finite set of dots. It keeps one `Part` for each name, in a place of its own, so an empty set takes no memory. The
+/// value is large, some 1,300 bytes with a reference as its allocator: move few of them about.
 #[derive(Drop)]
 pub struct DotSet<A: Allocator = Global> {
     parts: [Part<A>; 32],
@@ -62,6 +63,18 @@ impl<A: Allocator> DotSet<A> {
         match self.parts.get(usize::from(dot.name)) {
             Some(part) => part.has(dot.clock),
             None => false,
+        }
+    }
+
+    /// The name's dots whose clocks have this quotient by 64, as bits: a clock's bit stands at its remainder. The
+    /// context clock gives them by a shift, and the cloud by one search.
+    pub fn bits_of(&self, name: u16, base: u64) -> u64
+        requires { base < 2 ^ 58 }
+        ensures { AreBitsOf name base result self.now }
+    {
+        match self.parts.get(usize::from(name)) {
+            Some(part) => part.bits(base),
+            None => 0,
         }
     }
 
@@ -116,8 +129,8 @@ impl<A: Allocator> DotSet<A> {
         self.parts[at].has_all_of(&other.parts[at])
     }
 
-    /// The first of its dots of these names that is not below this one: of the dot's own name by a search, and else the
-    /// first dot of a later name.
+    /// The first dot of the set that has one of these names and is not below this dot: one of the dot's own name, found
+    /// by a search, or else the first dot of a later name.
     pub fn first_from(&self, names: NameSet, dot: Dot) -> Option<Dot>
         ensures { IsFirstDot (set.contains names) self.now dot result }
     {
@@ -132,8 +145,9 @@ impl<A: Allocator> DotSet<A> {
         None
     }
 
-    /// Puts the dot in, and says whether it is new. The dot after the context clock moves that clock on, past the clocks
-    /// of the cloud that follow on it; any other new dot goes into the cloud, which alone may take memory.
+    /// Inserts the dot, and says whether it is new. The dot after the context clock moves that clock on, past the
+    /// clocks of the cloud that follow it without a gap; any other new dot goes into the cloud. The cloud alone may
+    /// take memory.
     pub fn insert(&mut self, dot: Dot) -> Result<bool, Oom>
         requires { IsValid dot }
         ensures ok { OnOk result (self.new ≡ set.insert self.old dot) }
@@ -144,8 +158,8 @@ impl<A: Allocator> DotSet<A> {
         self.parts[usize::from(dot.name)].insert(dot.clock)
     }
 
-    /// Takes the dot out, and says whether it was there. Where it was below the context clock, those between them go into
-    /// the cloud, which may take memory; the name's last dot takes none.
+    /// Takes out the dot, and says whether it was there. If it was below the context clock, the clocks between the two
+    /// go into the cloud, which may take memory. The last dot of a name takes none.
     pub fn remove(&mut self, dot: Dot) -> Result<bool, Oom>
         requires { IsValid dot }
         ensures ok { OnOk result (self.new ≡ set.remove self.old dot) }
@@ -156,8 +170,8 @@ impl<A: Allocator> DotSet<A> {
         self.parts[usize::from(dot.name)].remove(dot.clock)
     }
 
-    /// Adds the other's dots of the known names but the own one, in time linear in their parts. A name of which the other
-    /// has no new dot takes no memory.
+    /// Adds the other's dots of the known names other than the own one, in time linear in their parts. A name where the
+    /// other has no new dot takes no memory.
     pub fn union_known(&mut self, other: &DotSet<A>, known: NameSet, own: u16) -> Result<(), Oom>
     where
         A: Copy,
@@ -168,8 +182,8 @@ impl<A: Allocator> DotSet<A> {
         union_from(&mut self.parts, &other.parts, known.without(own), 0)
     }
 
-    /// Adds the other's dots of these names, in time linear in their parts. A name of which the other has no new dot
-    /// takes no memory.
+    /// Adds the other's dots of these names, in time linear in their parts. A name where the other has no new dot takes
+    /// no memory.
     pub fn union_named(&mut self, other: &DotSet<A>, names: NameSet) -> Result<(), Oom>
     where
         A: Copy,
@@ -216,7 +230,7 @@ impl<A: Allocator> DotSet<A> {
         self.parts[usize::from(name)].try_copy()
     }
 
-    /// Takes the name's dots out, and gives its context clock and cloud.
+    /// Takes out the name's dots, and gives its context clock and cloud.
     pub fn drop_name(&mut self, name: u16) -> Part<A>
     where
         A: Copy,
@@ -229,8 +243,8 @@ impl<A: Allocator> DotSet<A> {
         mem::replace(&mut self.parts[usize::from(name)], Part::empty(alloc))
     }
 
-    /// Puts this context clock and cloud in the place of the name's dots. With what `part_of` or `drop_name` gave of the
-    /// name, `laws::part_law` says that its dots are as they were then.
+    /// Replaces the name's context clock and cloud by these. If `part_of` or `drop_name` gave them for the name,
+    /// `laws::part_law` says that its dots are again what they were then.
     pub fn set_part(&mut self, name: u16, part: Part<A>)
         requires { name < 32 }
         ensures part { IsPartOf self.new name part }
@@ -241,7 +255,7 @@ impl<A: Allocator> DotSet<A> {
         self.parts[usize::from(name)] = part;
     }
 
-    /// Does nothing. Its contract says that each dot of the set is ok, as `remove` asks of a dot that was found.
+    /// Does nothing. Its contract says that each dot of the set is ok, as `remove` requires of a dot that was found.
     pub fn valid_law(&self)
         ensures { AreValid self.now }
     {
@@ -257,7 +271,7 @@ impl<A: Allocator> DotSet<A> {
     }
 }
 
-// The least clock with which a dot of the name, which is not below the dot's own, is not below the dot.
+// The least clock at which a dot of `name` is not below `dot`. The name is not below that of the dot.
 fn clock_from(dot: Dot, name: u16) -> u64
     ensures own { name ≡ dot.name → result ≡ dot.clock }
     ensures later { dot.name < name → result ≡ 0 }
@@ -265,8 +279,8 @@ fn clock_from(dot: Dot, name: u16) -> u64
     if name == dot.name { dot.clock } else { 0 }
 }
 
-// Adds the other parts of these names, from `name` on. What may be refused memory comes first, of all names, and then
-// each part is put in place: the calls hold them until then.
+// Adds the other parts of these names, from `name` on. Whatever may be refused memory comes first, for all
+// names; then each part is put in place. The calls hold the parts until then.
 fn union_from<A: Allocator + Copy>(
     parts: &mut [Part<A>],
     others: &[Part<A>],

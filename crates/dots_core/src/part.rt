@@ -1,10 +1,12 @@
 //! The dots of one name in a set: a context clock, and a cloud of the clocks above it.
 
-ghost use Rattle.std.specs.Prelude.{◌≡◌, ℕ, ◌+◌, ◌-◌, ◌<◌, ◌≤◌, ◌↔◌, ◌++◌, drop, length, slice_get, not, All, IsOk, IsTrue, IfOk, OnOk, OnErr};
+ghost use Rattle.std.specs.Prelude.{◌≡◌, ℕ, ◌+◌, ◌-◌, ◌*◌, ◌^◌, ◌<◌, ◌≤◌, ◌↔◌, ◌++◌, drop, length, slice_get, not, All, IsOk, IsTrue, IfOk, OnOk, OnErr};
+ghost use Rattle.dots_core.specs.ClockBits.{has_bit};
 ghost use Rattle.dots_core.specs.Clocks.{no_clocks, holds, HoldsAllOf, IsCanonical, IsFirstFrom, IsGreatest, Gains, Loses};
 ghost use Rattle.dots_core.specs.Absorbed.{absorbed, numbers};
 
 use crate::Oom;
+use crate::clock_bits::{cloud_bits, run_bits};
 use std::alloc::{Allocator, Global};
 use std::marker::Model;
 
@@ -44,6 +46,14 @@ impl<A: Allocator> Part<A> {
         } else {
             self.cloud.binary_search(&clock).is_ok()
         }
+    }
+
+    /// The clocks that it has among the 64 whose quotient by 64 is `base`, as bits.
+    pub(crate) fn bits(&self, base: u64) -> u64
+        requires { base < 2 ^ 58 }
+        ensures { (k : ℕ) → k < 64 → has_bit result k ≡ holds self.now (base * 64 + k) }
+    {
+        run_bits(self.clock, base * 64) | cloud_bits(&self.cloud, base * 64)
     }
 
     pub(crate) fn is_empty(&self) -> bool
@@ -87,7 +97,8 @@ impl<A: Allocator> Part<A> {
         }
     }
 
-    /// A clock in its place: the next one moves the context clock, which then takes in what follows on it in the cloud.
+    /// Inserts a clock, and says whether it is new. The next clock moves the context clock on, past the clocks of the
+    /// cloud that follow it without a gap.
     pub(crate) fn insert(&mut self, clock: u64) -> Result<bool, Oom>
         requires positive { 0 < clock }
         requires last { clock ≤ 1000000000 }
@@ -115,7 +126,7 @@ impl<A: Allocator> Part<A> {
         }
     }
 
-    /// What stood between the clock and the context clock goes into the cloud.
+    /// Takes out a clock, and says whether it was there. The clocks between it and the context clock go into the cloud.
     pub(crate) fn remove(&mut self, clock: u64) -> Result<bool, Oom>
         requires { 0 < clock }
         ensures canonical { IsCanonical self.new }
@@ -156,7 +167,7 @@ fn clock_at(cloud: &[u64], place: usize) -> Option<u64>
     cloud.get(place).copied()
 }
 
-// How many clocks at the front of the cloud follow on the clock, one after another.
+// How many clocks at the front of the cloud follow the clock without a gap.
 fn run_after(clock: u64, cloud: &[u64]) -> usize
     requires clock { clock ≤ 1000000000 }
     requires cloud { All (λ c. c ≤ 1000000000) cloud.now }

@@ -8,7 +8,7 @@ use crate::Oom;
 use crate::part::Part;
 use std::alloc::Allocator;
 
-/// The union of the two parts, or nothing where `own` has all clocks of `other` already.
+/// The union of the two parts, or `None` where `own` has all clocks of `other` already.
 pub(crate) fn grown<A: Allocator + Copy>(
     own: &Part<A>,
     other: &Part<A>,

@@ -17,7 +17,7 @@ use Rattle.bench_core.specs.Acts.{Action, Do, Undo, Back}
 use Rattle.bench_core.specs.Machine.{Event}
 use Rattle.json_core.specs.InLists.{number_in, text_in, ends_at}
 
--- the next step of a reading in `do`, where the step before gave a value
+-- the next step of a reading in `do`, if the step before gave a value
 infixl 10 ◌>>=◌
 abbrev pub ◌>>=◌ : {A B : Type 0} → Option A → (A → Option B) → Option B
 (Some x) >>= f = f x
@@ -58,7 +58,7 @@ leave_all_at d = do
 abbrev pub number_of : Data → Option ℕ
 number_of d = option_and_then as_u64 (as_number d)
 
--- the set of these numbers, where each is below 32 and above those before, which end below `least`
+-- the set of these numbers: each is below 32 and above those before it, which end below `least`
 abbrev pub names_from : ℕ → Names → Items → Option Names
 names_from least names no_items = Some names
 names_from least names (item d ds) = do
@@ -90,14 +90,14 @@ name_at d = do
   name ← node_in 2 d
   kept_if (ends_at 3 d) name
 
--- a status of another name
+-- a step that sets the status of another name
 unfoldable pub status_at : List ℕ → Data → Option Operation
 status_at verb d =
     if bytes_eq verb (codes "up") then option_map Up (name_at d)
     else (if bytes_eq verb (codes "down") then option_map Down (name_at d)
     else (if bytes_eq verb (codes "permdown") then option_map Permdown (name_at d) else None))
 
--- a message sent or delivered, or else a status
+-- a step that sends or delivers a message, or else sets a status
 unfoldable pub message_at : List ℕ → Data → Option Operation
 message_at verb d =
     if bytes_eq verb (codes "broadcast") then kept_if (ends_at 2 d) Broadcast
@@ -106,7 +106,7 @@ message_at verb d =
     else (if bytes_eq verb (codes "request") then kept_if (ends_at 2 d) Request
     else (if bytes_eq verb (codes "answer") then answer_at d else status_at verb d))))
 
--- a change of the own entries, or else one of the others
+-- a step that changes the own entries, or else one of the others
 unfoldable pub tracking_at : List ℕ → Data → Option Operation
 tracking_at verb d =
     if bytes_eq verb (codes "join") then option_map Join (presence_at d)
@@ -140,19 +140,19 @@ act_at d = do
 
 -- replies
 
--- of faults that are numbered from i on, the one of this number, or else another
+-- the fault of this number among these, which are numbered from i on; else `other`
 abbrev pub numbered_from : ℕ → List Fault → Option Fault → ℕ → Option Fault
 numbered_from i [] other n = other
 numbered_from i (fault ∷ rest) other n = if n == i then Some fault else numbered_from (suc i) rest other n
 
--- the recorded faults with no more to them than a number, from 1 on
+-- the recorded faults without fields, which are numbered from 1 on
 abbrev pub plain_faults : List Fault
 plain_faults =
     faults.OwnReplica ∷ faults.NotKnown ∷ faults.NotDown ∷ faults.AlreadyTracked ∷ faults.NotTracked ∷ faults.NothingToSend ∷ faults.EntriesFull
     ∷ faults.ClockFull ∷ faults.OwnMessage ∷ faults.NoSuchMessage ∷ faults.OutboxFull ∷ faults.UnknownNode ∷ faults.NoSuchStep
     ∷ faults.AlreadyUndone ∷ faults.NothingToUndo ∷ []
 
--- and from 18 on
+-- the recorded faults without fields that are numbered from 18 on
 abbrev pub request_faults : List Fault
 request_faults = faults.NotRequest ∷ faults.IsRequest ∷ []
 

@@ -20,7 +20,7 @@ list ds = array (items_of ds)
 abbrev pub whole : ℕ → Data
 whole n = number (unsigned n)
 
--- those in the set of a number of numbers from `first` on
+-- the numbers in the set, among the next few from `first` on
 unfoldable pub numbers_from : Names → ℕ → ℕ → List ℕ
 numbers_from names first zero = []
 numbers_from names first (suc count) =
@@ -50,7 +50,7 @@ act_json (Do operation) = list (string (codes "do") ∷ step_data operation)
 act_json (Undo k) = list (string (codes "undo") ∷ whole k ∷ [])
 act_json (Back node) = list (string (codes "back") ∷ whole node ∷ [])
 
--- what stands behind a fault's number: the step and what holds it
+-- what comes after a fault's number: for HasConsequence, the step and what holds it
 abbrev pub fault_rest : Fault → List Data
 fault_rest (faults.HasConsequence step held_by) = whole step ∷ whole held_by ∷ []
 fault_rest _ = []

@@ -1,4 +1,4 @@
--- Which recorded calls can be told by their JSON.
+-- Which recorded calls their JSON can give back.
 use Rattle.std.specs.Prelude.{◌≡◌, nat_lt, true}
 use Rattle.payload_core.specs.Words.{is_word}
 use Rattle.payload_core.specs.Presences.{Presence}
@@ -35,7 +35,7 @@ IsAction (Do operation) = IsOperation operation
 IsAction (Undo k) = Unit {0}
 IsAction (Back node) = nat_lt node 65536 ≡ true
 
--- its actor and the nodes that it names are numbers below 65,536, and its words are words
+-- the event's actor and the nodes that it names are numbers below 65,536, and its words are words
 abbrev pub IsEvent : Event → Type 0
 IsEvent e = (nat_lt e.actor 65536 ≡ true) × IsAction e.act
 
@@ -49,6 +49,6 @@ abbrev pub IsRecordedReply : Reply → Type 0
 IsRecordedReply (Refused fault) = IsRecordedFault fault
 IsRecordedReply _ = Unit {0}
 
--- the event can be told by its JSON
+-- the event can be had again from its JSON
 abbrev pub IsTold : Event → Type 0
 IsTold e = IsEvent e × IsRecordedReply e.reply

@@ -8,7 +8,7 @@ use bench_core::{Fault, Reply};
 use json_core::{Unread, ends_at, number_in, text_in};
 use serde_json::Value;
 
-/// The fault of a number, of those with no more to them that are recorded.
+/// The fault with this number, among those that are recorded and have no fields.
 fn fault_of(code: u64) -> Option<Fault>
     ensures { result ≡ fault_of code }
 {

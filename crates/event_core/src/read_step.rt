@@ -183,7 +183,7 @@ fn name_at(list: &Value) -> Result<u16, Unread>
     Ok(name)
 }
 
-/// A status of another name.
+/// A step that sets the status of another name.
 #[tactic(auto, unfolding(crate::specs::Decoding::status_at))]
 fn status_at<A: Allocator>(verb: &str, list: &Value) -> Result<Step<A>, Unread>
     ensures { Gives plain result (status_at verb.now (view list.now)) }
@@ -202,7 +202,7 @@ fn status_at<A: Allocator>(verb: &str, list: &Value) -> Result<Step<A>, Unread>
     }
 }
 
-/// A message sent or delivered, or else a status.
+/// A step that sends or delivers a message, or else sets a status.
 #[tactic(auto, unfolding(crate::specs::Decoding::message_at))]
 fn message_at<A: Allocator>(verb: &str, list: &Value) -> Result<Step<A>, Unread>
     ensures { Gives plain result (message_at verb.now (view list.now)) }
@@ -219,7 +219,7 @@ fn message_at<A: Allocator>(verb: &str, list: &Value) -> Result<Step<A>, Unread>
     }
 }
 
-/// A change of the own entries, or else another step.
+/// A step that changes the own entries, or else another step.
 #[tactic(auto, unfolding(crate::specs::Decoding::tracking_at))]
 fn tracking_at<'a, B: Allocator>(
     alloc: &'a B,

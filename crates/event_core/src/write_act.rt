@@ -86,7 +86,7 @@ fn message_value(heap: Global, verb: &str, sender: u16, number: u64) -> Result<V
     json!(in heap; ["do", verb, sender, number])
 }
 
-/// A status of another name.
+/// A step that sets the status of another name.
 fn status_value(heap: Global, verb: &str, name: u16) -> Result<Value, AllocError>
     ensures { IfOk result (λ v. view v ≡ list (string (codes "do") ∷ string verb.now ∷ whole name ∷ [])) }
 {

@@ -15,14 +15,14 @@ fn numbered_value(heap: Global, word: &str, number: u64) -> Result<Value, AllocE
     json!(in heap; [word, number])
 }
 
-/// A refusal for a consequence.
+/// A refusal that names a consequence.
 fn consequence_value(heap: Global, step: u64, held_by: u64) -> Result<Value, AllocError>
     ensures { IfOk result (λ v. view v ≡ list (string (codes "no") ∷ whole 16 ∷ whole step ∷ whole held_by ∷ [])) }
 {
     json!(in heap; ["no", 16u8, step, held_by])
 }
 
-/// A refusal for a fault with no more to it.
+/// A refusal whose fault has no fields.
 fn refusal_value(heap: Global, fault: Fault) -> Result<Value, AllocError>
     ensures { IfOk result (λ v. view v ≡ list (string (codes "no") ∷ whole (code_of fault) ∷ [])) }
 {

@@ -26,7 +26,8 @@ sends_at events place = (event_at events place).sends
 abbrev pub WasSent : List Logged → List ℕ → ℕ → Type 0
 WasSent events came message = (place : ℕ) × Contains came place × (sends_at events place ≡ Some message)
 
--- after the events that came, this one can come: it didn't yet, the earlier ones of its node did, and what it waits for was sent
+-- after the events that came, this one can come: it hasn't come yet, the earlier events of its node have, and the message that it
+-- waits for was sent
 pub record CanCome (events : List Logged) (came : List ℕ) (place : ℕ) : Type 0 where
   pub there : place < length events
   pub new : Contains came place → ⊥
@@ -37,7 +38,7 @@ pub record CanCome (events : List Logged) (came : List ℕ) (place : ℕ) : Type
 pub record IsBegun (events : List Logged) (order : List ℕ) : Type 0 where
   pub each : (k : ℕ) → k < length order → CanCome events (take k order) (slice_index order k)
 
--- and these are all
+-- the events can come in this order, and these are all events
 pub record IsOrder (events : List Logged) (order : List ℕ) : Type 0 where
   pub begun : IsBegun events order
   pub all : (place : ℕ) → place < length events → Contains order place
@@ -51,7 +52,7 @@ abbrev pub SendsAgain : List Logged → ℕ → Type 0
 SendsAgain events place =
     (earlier : ℕ) × (message : ℕ) × (earlier < place) × (sends_at events earlier ≡ Some message) × (sends_at events place ≡ Some message)
 
--- it is the first such event
+-- the event is the first that sends a message which an earlier one sends
 pub record IsTwiceAt (events : List Logged) (place : ℕ) : Type 0 where
   pub there : place < length events
   pub again : SendsAgain events place
@@ -75,20 +76,20 @@ pub record IsNeverSentAt (events : List Logged) (place : ℕ) : Type 0 where
 abbrev pub AllSent : List Logged → Type 0
 AllSent events = (place message : ℕ) → place < length events → waits_at events place ≡ Some message → IsSent events message
 
--- the first event that waits forever: however the events are begun, it doesn't come, and each before it can be made to
+-- the first event that waits forever: it never comes, however the events begin, and each event before it can be made to come
 pub record IsStuckAt (events : List Logged) (place : ℕ) : Type 0 where
   pub there : place < length events
   pub never : (order : List ℕ) → IsBegun events order → Contains order place → ⊥
   pub first : (earlier : ℕ) → earlier < place → (order : List ℕ) × IsBegun events order × Contains order earlier
 
--- why there is no order: the first reason of three, each at the first event that has it
+-- why there is no order: the first of three reasons, at the first event that has it
 abbrev pub IsFaultOf : List Logged → OrderFault → Type 0
 IsFaultOf events (Twice at) = IsTwiceAt events at
 IsFaultOf events (NeverSent at) = NoTwice events × IsNeverSentAt events at
 IsFaultOf events (Circle at) = NoTwice events × AllSent events × IsStuckAt events at
 IsFaultOf events OutOfMemory = Unit {0}
 
--- what is wanted of an order: it is the nearest, and of messages that are each sent once
+-- what `ordered` gives: the nearest order of events, each of whose messages is sent once
 pub record IsOrdered (events : List Logged) (order : List ℕ) : Type 0 where
   pub is : IsOrder events order
   pub nearest : IsNearest events order

@@ -1,4 +1,4 @@
--- What is kept of an order as far as it has come: the next event of each node, and which messages were sent.
+-- What is kept of an order under way: the next event of each node, and which messages were sent.
 use Rattle.std.specs.Prelude.{◌≡◌, ℕ, ◌-◌, ◌<◌, ◌≤◌, Bool, true, false, List, length, slice_index, slice_index_or, Option, Some, None}
 use Rattle.std.specs.List.{Contains, sum_by}
 use Rattle.event_order.specs.declared.logged.Logged.{Logged}
@@ -6,30 +6,30 @@ use Rattle.event_order.specs.declared.order_fault.OrderFault.{OrderFault}
 use Rattle.event_order.specs.declared.order_fault.OrderFault.TheVariants.{Twice, NeverSent, Circle, OutOfMemory}
 use Rattle.event_order.specs.Ordering.{node_at, waits_at, sends_at, WasSent, SendsAgain, IsBegun, IsNearest, CanCome, IsTwiceAt, IsNeverSentAt, NoTwice, IsStuckAt}
 
--- the first event of the node from a place on, or the number of all where there is none
+-- the first event of the node from a place on, or the number of all events if there is none
 pub record IsFirstOf (events : List Logged) (node : ℕ) (from place : ℕ) : Type 0 where
   pub low : from ≤ place
   pub within : place ≤ length events
   pub before : (q : ℕ) → from ≤ q → q < place → node_at events q ≡ node → ⊥
   pub here : place < length events → node_at events place ≡ node
 
--- the first event of the node that didn't come: those before it came, and none from it on
+-- the first event of the node that hasn't come: those of the node before it came, and none from it on
 pub record IsHead (events : List Logged) (came : List ℕ) (node head : ℕ) : Type 0 where
   pub within : head ≤ length events
   pub low : (q : ℕ) → q < head → node_at events q ≡ node → Contains came q
   pub here : head < length events → node_at events head ≡ node
   pub high : (q : ℕ) → head ≤ q → q < length events → node_at events q ≡ node → Contains came q → ⊥
 
--- that of each node
+-- each of these is the head of its node
 abbrev pub AreHeads : List Logged → List ℕ → List ℕ → Type 0
 AreHeads events came heads = (node : ℕ) → node < length heads → IsHead events came node (slice_index heads node)
 
--- whether a message was sent, if it is one
+-- whether a message was sent, if there is one
 abbrev pub is_sent : Option ℕ → List Bool → Bool
 is_sent None sent = true
 is_sent (Some message) sent = slice_index_or sent message false
 
--- the messages that the events that came sent
+-- the messages that were sent by the events that came
 pub record AreSent (events : List Logged) (came : List ℕ) (sent : List Bool) : Type 0 where
   pub sound : (message : ℕ) → slice_index_or sent message false ≡ true → WasSent events came message
   pub all : (message : ℕ) → WasSent events came message → slice_index_or sent message false ≡ true
@@ -38,14 +38,14 @@ pub record IsWalk (events : List Logged) (came heads : List ℕ) (sent : List Bo
   pub next : AreHeads events came heads
   pub messages : AreSent events came sent
 
--- the first of these events whose message was sent, or the number of all
+-- the first of these events that waits for nothing or for a sent message, or the number of all events
 pub record IsLeastReady (events : List Logged) (heads : List ℕ) (sent : List Bool) (place : ℕ) : Type 0 where
   pub within : place ≤ length events
   pub among : place < length events → (j : ℕ) × (j < length heads) × (slice_index heads j ≡ place)
   pub ready : place < length events → is_sent (waits_at events place) sent ≡ true
   pub first : (j : ℕ) → j < length heads → slice_index heads j < place → is_sent (waits_at events (slice_index heads j)) sent ≡ true → ⊥
 
--- how many places the heads have before them
+-- how many places there are from each head to the end, added up
 abbrev pub left_of : List Logged → List ℕ → ℕ
 left_of events heads = sum_by (λ head. length events - head) heads
 
@@ -60,7 +60,7 @@ pub record IsSentUpTo (events : List Logged) (end : ℕ) (sent : List Bool) : Ty
   pub sound : (message : ℕ) → slice_index_or sent message false ≡ true → (place : ℕ) × (place < end) × (sends_at events place ≡ Some message)
   pub all : (place message : ℕ) → place < end → sends_at events place ≡ Some message → slice_index_or sent message false ≡ true
 
--- and none of them twice
+-- no message is sent twice by the events below a place
 abbrev pub NoTwiceUpTo : List Logged → ℕ → Type 0
 NoTwiceUpTo events end = (place : ℕ) → place < end → SendsAgain events place → ⊥
 
@@ -71,14 +71,14 @@ pub record IsStopped (events : List Logged) (came heads : List ℕ) : Type 0 whe
   pub next : AreHeads events came heads
   pub none : (place : ℕ) → CanCome events came place → ⊥
 
--- of the reasons why there is no order those of messages alone
+-- of the reasons why there is no order, the two about messages
 abbrev pub IsMessageFault : List Logged → OrderFault → Type 0
 IsMessageFault events (Twice at) = IsTwiceAt events at
 IsMessageFault events (NeverSent at) = NoTwice events × IsNeverSentAt events at
 IsMessageFault events (Circle at) = ⊥
 IsMessageFault events OutOfMemory = Unit {0}
 
--- and that of an event that waits forever
+-- of the reasons why there is no order, the one about an event that waits forever
 abbrev pub IsWaitFault : List Logged → OrderFault → Type 0
 IsWaitFault events (Twice at) = ⊥
 IsWaitFault events (NeverSent at) = ⊥

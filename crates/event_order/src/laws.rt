@@ -2,12 +2,13 @@
 
 ghost use Rattle.event_order.specs.Laws.{InterleavingLaw, NearestLaw, OneNearestLaw, NoOrderLaw};
 
-/// An order is an interleaving: each event comes once, those of a node in their order, and what waits behind what it waits for.
+/// An order is an interleaving: each event comes once, the events of a node come in their order, and an event comes
+/// after the one it waits for.
 pub fn interleaving_law()
     ensures { InterleavingLaw }
 {}
 
-/// Of all orders, the nearest has the earlier event of the input where it first differs from another.
+/// Where the nearest order first differs from another, it has the earlier event of the input.
 pub fn nearest_law()
     ensures { NearestLaw }
 {}

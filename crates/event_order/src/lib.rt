@@ -1,8 +1,9 @@
 //! The order in which logged events of several nodes can have come.
 //!
-//! Each node logs its own events in their order; of the others it knows only that what it takes was sent before. It stands on
-//! std and `thiserror` alone. In the order to read them: `logged`, an event as far as its order goes; `order_fault`, why there
-//! is no order; `senders`, which messages are sent; `walk`, an order as far as it has come; `ordering`, the whole; `laws`.
+//! Each node logs its own events in their order. Of other nodes it knows only that a message which it takes was sent before.
+//! The crate stands on std and `thiserror` alone. In the order to read them: `logged`, what an order needs to know of an event;
+//! `order_fault`, why there is no order; `senders`, which messages are sent; `walk`, an order as far as it has come;
+//! `ordering`, the whole; `laws`.
 #![tactic(auto)]
 
 pub mod laws;

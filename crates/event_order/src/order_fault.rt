@@ -8,7 +8,7 @@ use thiserror::Error;
 /// Why events have no order. Places count from 0.
 #[derive(Clone, Copy, Debug, PartialEq, Eq, Error)]
 pub enum OrderFault {
-    /// The event at this place sends a message that an earlier one sends.
+    /// The event at this place sends a message that an earlier event sends, too.
     #[error("Twice at {at}")]
     Twice { at: usize },
     /// The event at this place waits for a message that no event sends.

@@ -9,7 +9,7 @@ use crate::senders::{mark_senders, never_sent};
 use crate::walk::{first_heads, least, walk};
 use std::alloc::Allocator;
 
-/// Whether each message is sent once; else the first event that sends one again or waits for one that nobody sends.
+/// Ok if no message is sent twice and each message that an event waits for is sent; else the first event at fault.
 fn check_messages<A: Allocator>(
     alloc: A,
     events: &[Logged],
@@ -28,7 +28,7 @@ fn check_messages<A: Allocator>(
     Ok(())
 }
 
-/// The order, once the first event of each node is known; or the first event that waits forever.
+/// The order, from the first event of each node; or the first event that waits forever.
 fn order_from<A: Allocator>(
     alloc: A,
     events: &[Logged],
@@ -48,7 +48,7 @@ fn order_from<A: Allocator>(
     Ok(order)
 }
 
-/// The order of the events that is nearest to the input, by their places there; or why there is none.
+/// The order of the events that is nearest to the input, by their places in the input; or why there is none.
 pub fn ordered<A: Allocator + Copy>(
     alloc: A,
     events: &[Logged],

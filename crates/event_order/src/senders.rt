@@ -1,11 +1,11 @@
-//! Which messages are sent, and the first event that sends one again or waits for one that nobody sends.
+//! Which messages are sent, and the first event that sends one again or waits for one that is never sent.
 ghost use Rattle.std.specs.Prelude.{◌≡◌, IfOk, Some, length, MatchOption, MatchResult};
 ghost use Rattle.event_order.specs.Ordering.{HasMessages, IsTwiceAt, IsNeverSentAt, NoTwice, AllSent};
 ghost use Rattle.event_order.specs.Walks.{IsSentUpTo};
 
 use crate::logged::Logged;
 
-/// Marks the messages that the events send; else the first event that sends one again.
+/// Marks the messages that the events send; or gives the first event that sends one again.
 pub(crate) fn mark_senders(events: &[Logged], sent: &mut [bool]) -> Result<(), usize>
     requires messages { HasMessages (length sent.old) events.now }
     requires none { IsSentUpTo events.now 0 sent.old }

@@ -74,7 +74,8 @@ pub(crate) fn first_heads<A: Allocator>(
     Ok(heads)
 }
 
-/// The event at a head comes.
+/// Appends the event at the head of its node to the order: the head moves on, and the message that the event sends is
+/// marked.
 fn come(events: &[Logged], place: usize, heads: &mut [usize], sent: &mut [bool])
     requires there { place < length events.now }
     requires nodes { HasNodes (length heads.old) events.now }
@@ -90,7 +91,7 @@ fn come(events: &[Logged], place: usize, heads: &mut [usize], sent: &mut [bool])
     }
 }
 
-/// The events come, the first that can come at each point, until none can.
+/// Appends events to the order, each time the first that can come, until none can.
 pub(crate) fn walk<A: Allocator>(
     alloc: A,
     events: &[Logged],

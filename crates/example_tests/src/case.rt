@@ -2,7 +2,7 @@
 use bench_core::Limits;
 use std::alloc::Global;
 
-/// A case of a file. It stands for one after the other, as the file is read.
+/// A case of a file. As the file is read, one value stands for one case after the other.
 #[derive(Drop)]
 pub struct Case {
     pub heap: Global,
@@ -17,16 +17,16 @@ pub struct Case {
     pub part: String,
     /// The input with its parts replaced.
     pub altered: Option<Vec<u8>>,
-    /// How many bytes of it the program is given, at most.
+    /// How many bytes of the input the program gets, at most.
     pub front: usize,
-    /// Whether the read behind the input fails.
+    /// Whether the read after the input fails.
     pub fails: bool,
     /// How many bytes the output takes before a write fails.
     pub room: usize,
     pub limits: Limits,
     /// Whether the input is a terminal.
     pub terminal: bool,
-    /// Whether the output may go on behind what the case has of it.
+    /// Whether the case's output is only the beginning of what the program may print.
     pub begins: bool,
     pub output: Vec<u8>,
     pub errors: Vec<u8>,
@@ -34,7 +34,7 @@ pub struct Case {
 }
 
 impl Case {
-    /// Before the first case.
+    /// The value before the first case.
     pub fn new(heap: Global) -> Case {
         Case {
             heap,
@@ -87,7 +87,7 @@ impl Case {
         whole.get(..self.front).unwrap_or(whole)
     }
 
-    /// The input as the case's own, to put bytes behind it.
+    /// The input, made the case's own, so that bytes can be appended.
     pub fn own_input(&mut self) -> &mut Vec<u8> {
         if !self.is_own {
             self.is_own = true;

@@ -1,5 +1,5 @@
-//! Runs the cases of `data/cases/` on the program, with its words and its streams lent, and compares what goes out, the lines
-//! that are told and the status with what each case says. Given a file, prints the report of the script in it.
+//! Runs the cases of `data/cases/` on the program, lends it words and streams, and compares its output, its errors and its
+//! status with what each case says. Given a file, prints the report of the script in it.
 //!
 //! `data/README.md` has the form of a case. In the order to read them: `case`, what a case has; `reading`, what a line of a file
 //! gives its case; `running`, whether a case comes out as it says; here, all of them.
@@ -22,7 +22,7 @@ use std::{env, fs, io};
 /// The file with the names of the files of cases, a line each.
 const FILES: &str = "cases/files";
 
-/// How many cases were run, and how many of them came out otherwise.
+/// How many cases were run, and how many of them came out otherwise than they say.
 #[derive(Drop)]
 struct Counts {
     all: u64,
@@ -85,7 +85,7 @@ fn run_file<T: Threads + Wait + Sync>(
     Ok(counts)
 }
 
-/// Runs the cases of all files. Whether all come out as they say.
+/// Runs the cases of all files, and says whether all come out as they say.
 fn run_files<T: Threads + Wait + Sync>(rt: &HostRuntime, threads: &T) -> io::Result<bool> {
     let files = fs::read_to_string(rt, FILES)?;
     let mut counts = Counts::new();
@@ -105,7 +105,7 @@ fn prints(rt: &HostRuntime, path: &str) -> io::Result<bool> {
     Ok(answer.is_ok())
 }
 
-/// Does what the words after the program's name ask, and tells whether that went well.
+/// Does what the words after the program's name ask, and says whether that went well.
 fn ends_well<T: Threads + Wait + Sync>(rt: &HostRuntime, threads: &T) -> io::Result<bool> {
     let mut words = env::args(rt)?.skip(1);
     match words.next() {

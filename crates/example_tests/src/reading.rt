@@ -1,10 +1,10 @@
-//! What a line of a file gives its case. A line is a mark, a space and a text; one of no such form ends the run.
+//! What a line of a file gives its case. A line is a mark, a space and a text; a line of another form ends the run.
 use crate::case::Case;
 use bench_core::Limits;
 use std::io::ErrorKind;
 use std::{fs, io};
 
-/// What is told of a line of no form.
+/// The error for a line that has none of the forms.
 fn no_form() -> io::Error {
     io::Error::from(ErrorKind::InvalidData)
 }
@@ -16,7 +16,7 @@ fn number(text: &str) -> io::Result<usize> {
     }
 }
 
-/// Puts bytes that are spelled by two hexadecimal digits each.
+/// Appends bytes that are spelled by two hexadecimal digits each.
 fn put_bytes(bytes: &mut Vec<u8>, spelled: &str) -> io::Result<()> {
     for digits in spelled.split(' ') {
         let Ok(byte) = u8::from_str_radix(digits, 16) else {
@@ -27,7 +27,7 @@ fn put_bytes(bytes: &mut Vec<u8>, spelled: &str) -> io::Result<()> {
     Ok(())
 }
 
-/// Puts the text of `N TEXT` N times, each with this end.
+/// Appends the text of `N TEXT` N times, each time with this end.
 fn put_repeated(bytes: &mut Vec<u8>, spelled: &str, end: &str) -> io::Result<()> {
     let Some((times, text)) = spelled.split_once(' ') else {
         return Err(no_form());
@@ -39,8 +39,8 @@ fn put_repeated(bytes: &mut Vec<u8>, spelled: &str, end: &str) -> io::Result<()>
     Ok(())
 }
 
-/// Puts what a line of this form gives: a line, a text without its end, bytes, a text or a line many
-/// times, or a file.
+/// Appends what a line of this form gives: a line, a text without its end, bytes, a text or a line many times, or a
+/// file.
 fn put(rt: &HostRuntime, bytes: &mut Vec<u8>, form: &str, text: &str) -> io::Result<()> {
     match form {
         "" => {
@@ -57,7 +57,7 @@ fn put(rt: &HostRuntime, bytes: &mut Vec<u8>, form: &str, text: &str) -> io::Res
     Ok(())
 }
 
-/// Puts a text in the place of the first part of the input that is the case's.
+/// Replaces the case's part, where it first stands in the input, by a text.
 fn replace(case: &mut Case, by: &str) -> io::Result<()> {
     let Ok(text) = str::from_utf8(case.whole_input()) else {
         return Err(no_form());
@@ -84,7 +84,7 @@ fn limits(spelled: &str) -> io::Result<Limits> {
     Limits::new(acts, entries, clock, messages).ok_or(no_form())
 }
 
-/// Sets how the streams and the bench are.
+/// Sets up the streams and the bench.
 fn set(case: &mut Case, text: &str) -> io::Result<()> {
     let (name, rest) = text.split_once(' ').unwrap_or((text, ""));
     match name {
@@ -119,7 +119,7 @@ fn status(text: &str) -> io::Result<u8> {
     }
 }
 
-/// Puts what the line gives to the input, the output or the errors.
+/// Adds what the line gives to the input, the output or the errors.
 fn put_in_stream(rt: &HostRuntime, case: &mut Case, mark: &str, text: &str) -> io::Result<()> {
     if let Some(form) = mark.strip_prefix('<') {
         return put(rt, case.own_input(), form, text);

@@ -1,4 +1,4 @@
-//! Whether a case comes out as it says, and what is told where it doesn't.
+//! Whether a case comes out as it says, and what to print where it doesn't.
 use crate::case::Case;
 use program_core::program_within;
 use progress_core::FakeClock;
@@ -67,7 +67,7 @@ fn first_difference<'a>(one: &'a str, other: &'a str) -> (u64, &'a str, &'a str)
     )
 }
 
-/// Whether the stream has these bytes. Where it hasn't, the first line that differs is told.
+/// Whether the stream has these bytes. If not, prints the first line that differs.
 fn is_same(rt: &HostRuntime, place: &str, written: &[u8], expected: &[u8]) -> io::Result<bool> {
     if written == expected {
         return Ok(true);
@@ -80,7 +80,7 @@ fn is_same(rt: &HostRuntime, place: &str, written: &[u8], expected: &[u8]) -> io
     Ok(false)
 }
 
-/// The part of the output that the case speaks of.
+/// The part of the output that the case compares.
 fn looked_at<'a>(case: &Case, written: &'a [u8]) -> &'a [u8] {
     if !case.begins {
         return written;
@@ -88,7 +88,7 @@ fn looked_at<'a>(case: &Case, written: &'a [u8]) -> &'a [u8] {
     written.get(..case.output.len()).unwrap_or(written)
 }
 
-/// Whether the case comes out as it says. Where it doesn't, its file and line are told with what differs.
+/// Whether the case comes out as it says. If not, prints its file and line with what differs.
 pub fn comes_out<T: Threads + Wait + Sync>(
     rt: &HostRuntime,
     threads: &T,

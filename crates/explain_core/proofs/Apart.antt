@@ -8,8 +8,8 @@ use Rattle.dots_core.specs.declared.dot.Dot.{Dot}
 use Rattle.dots_core.proofs.Sets.{contains-retain, contains_insert_other}
 use Rattle.payload_core.specs.Presences.{Presence, is_tracked_as}
 use Rattle.payload_core.specs.Messages.{Message}
-use Rattle.payload_core.specs.Stores.{is_other}
-use Rattle.payload_core.proofs.EntryMaps.{get-names, get_insert_other, get_remove_other}
+use Rattle.store_core.specs.Stores.{is_other}
+use Rattle.block_core.proofs.EntryMaps.{get-names, get_insert_other, get_remove_other}
 use Rattle.replica_core.specs.declared.status.Status.TheVariants as statuses
 use Rattle.replica_core.specs.Replicas.{Replica, dots_of_process, dropped, dropped_each, forgotten, fresh, joined, left, left_each, own_dots, tracked_dots, updated, with_status}
 use Rattle.replica_core.specs.Refusals.{down_refusal, join_refusal, leave_all_refusal, leave_refusal, permdown_refusal, up_refusal}

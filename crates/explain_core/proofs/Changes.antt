@@ -10,7 +10,7 @@ use Rattle.dots_core.proofs.OwnClock.{not_fresh}
 use Rattle.dots_core.proofs.Sets.{contains_insert_more, of_names_has}
 use Rattle.payload_core.specs.Presences.{Presence, is_tracked_as}
 use Rattle.payload_core.specs.Messages.{AreSeen, Message}
-use Rattle.payload_core.specs.Stores.{Store, is_other}
+use Rattle.store_core.specs.Stores.{Store, is_other}
 use Rattle.replica_core.specs.declared.replica_fault.ReplicaFault.{ReplicaFault}
 use Rattle.replica_core.specs.declared.replica_fault.ReplicaFault.TheVariants.{OwnReplica, NotKnown, NotDown}
 use Rattle.replica_core.specs.declared.status.Status.TheVariants as statuses

@@ -1,4 +1,4 @@
--- The text of an explanation: of each presence of a topic and key how it stands at a node, and by which of the remaining steps.
+-- The text of an explanation: how each presence of a topic and key stands at a node, and by which of the remaining steps.
 use Rattle.std.specs.Prelude.{ℕ, ◌&&◌, if◌then◌else◌, List, [], ◌++◌, length, codes, decimal, Option, Some, None}
 use Rattle.std.specs.List.{flat_map}
 use Rattle.dots_core.specs.declared.dot.Dot.{Dot}
@@ -29,7 +29,7 @@ labelled_if names label (Some k) = labelled names label k
 unfoldable pub step_line : Machine → List ℕ → ℕ → List ℕ
 step_line m label number = labelled_if m.names label (find_number m.state.remaining number)
 
--- that of a step, if there is one
+-- the line of a step, if there is one
 abbrev pub step_line_if : Machine → List ℕ → Option ℕ → List ℕ
 step_line_if m label None = []
 step_line_if m label (Some number) = step_line m label number
@@ -60,11 +60,11 @@ finding_text m what finding = what ++ codes " " ++ found_text m finding
 unfoldable pub dot_line : Texts → Dot → List ℕ
 dot_line names d = codes "dot " ++ name_at names d.name ++ codes " " ++ decimal d.clock ++ codes "\n"
 
--- where it has left at its own node: by which step
+-- if the presence has left at its own node: by which step
 unfoldable pub left_text : Machine → Dot → Track → List ℕ
 left_text m d t = if has_left m d then step_line_if m (codes "left") (stand_at t.stands d.name).by else []
 
--- where it is live at the node and has left at its own: why the removal didn't come
+-- if the presence is live at the node and has left at its own: why the removal didn't come
 unfoldable pub removal_text : Machine → ℕ → Dot → Track → List ℕ
 removal_text m node d t =
     if is_same (standing_at m node d) Live && has_left m d then finding_text m (codes "removal") (missing t.hops node Gone) else []
@@ -76,8 +76,8 @@ node_text m node d t = finding_text m (codes "at " ++ name_at m.names node) (fin
 unfoldable pub status_text : Machine → ℕ → Dot → List ℕ
 status_text m node d = step_line_if m (codes "status") (last_status None m.state.remaining node d.name)
 
--- of a presence: the step that made it, its dot, the step by which it left, how it stands at the node, the status of its name there, and
--- where it should have gone, why it didn't
+-- for a presence: the step that made it, its dot, the step by which it left, how it stands at the node, the status of its name
+-- there, and, if it should have gone, why it didn't
 unfoldable pub tracked_text : Machine → ℕ → Making → Track → List ℕ
 tracked_text m node making t =
     step_line m (codes "made") making.number ++ dot_line m.names making.dot ++ left_text m making.dot t ++ node_text m node making.dot t ++
@@ -97,7 +97,7 @@ unfoldable pub head_line : Machine → ℕ → List ℕ → List ℕ → ℕ →
 head_line m node topic key count =
     codes "explain " ++ name_at m.names node ++ codes " " ++ topic ++ codes " " ++ key ++ codes " " ++ decimal count ++ codes "\n"
 
--- the whole
+-- the whole text
 unfoldable pub explanation : Machine → ℕ → List ℕ → List ℕ → List ℕ
 explanation m node topic key =
     head_line m node topic key (length (makings_of m topic key)) ++ making_texts m node (makings_of m topic key)

@@ -34,31 +34,31 @@ abbrev pub is_forgotten : Kind → Bool
 is_forgotten kinds.Forgot = true
 is_forgotten _ = false
 
--- it sent or delivered the dot, and is this step
+-- whether the step sent or delivered the dot, and is this one
 abbrev pub is_link : Option ℕ → Hop → Bool
 is_link target h = (is_sent h.kind || is_came h.kind) && is_number target h.number
 
--- one step more of a chain that goes back: what is looked for, and the numbers that were found, the newest first
+-- a chain that goes back, so far: the step that is looked for, and the numbers found, the newest first
 abbrev pub Back : Type 0
 Back = Option ℕ × List ℕ
 
 abbrev pub one_back : Back → Hop → Back
 one_back back h = if is_link back.0 h then (h.reads, back.1 ++ h.number ∷ []) else back
 
--- from the newest of these on
+-- the chain, followed further from the newest of these hops on
 unfoldable pub backwards : Back → List Hop → Back
 backwards back [] = back
 backwards back (h ∷ hops) = one_back (backwards back hops) h
 
--- the sends and deliveries that brought the dot to the step, in their order: the step, if it is one, is the last, before it what it
--- read, and so on
+-- the sends and deliveries that brought the dot to the step, in their order: the step itself comes last, before it the one that
+-- it read, and so on
 abbrev pub chain : List Hop → Option ℕ → List ℕ
 chain hops by = reverse (backwards (by, []) hops).1
 
 abbrev pub is_of : ℕ → Standing → Hop → Bool
 is_of node wanted h = (h.node == node) && is_same h.standing wanted
 
--- the node forgot the dot, which stood so there, or above
+-- whether the step made the node forget the dot, which stood there as `wanted` or above
 abbrev pub is_forgotten_at : ℕ → Standing → Hop → Bool
 is_forgotten_at node wanted h = is_forgotten h.kind && ((h.node == node) && not (is_above wanted h.standing))
 
@@ -68,7 +68,7 @@ is_missed_at node wanted h = is_missed h.kind && is_of node wanted h
 abbrev pub is_sent_as : Standing → Hop → Bool
 is_sent_as wanted h = is_sent h.kind && is_same h.standing wanted
 
--- it is a step of this kind for which the dot doesn't stand so at the node
+-- whether the step is of this kind, and is a reason why the dot doesn't stand as `wanted` at the node
 abbrev pub is_why : Kind → ℕ → Standing → Hop → Bool
 is_why kinds.Forgot node wanted h = is_forgotten_at node wanted h
 is_why kinds.Missed node wanted h = is_missed_at node wanted h
@@ -81,7 +81,7 @@ numbers_of test hops = map (λ h. h.number) (filter test hops)
 abbrev pub found : Verdict → List ℕ → Finding
 found verdict steps = record { verdict = verdict; steps = steps }
 
--- the first of these that there are any of
+-- the first kind of reason for which there is a step
 abbrev pub sent_or_not : List ℕ → Finding
 sent_or_not [] = found Unsent []
 sent_or_not (n ∷ ns) = found Undelivered (n ∷ ns)
@@ -94,8 +94,8 @@ abbrev pub forgotten_or : List ℕ → Finding → Finding
 forgotten_or [] other = other
 forgotten_or (n ∷ ns) other = found Forgotten (n ∷ ns)
 
--- why the dot doesn't stand so at the node: it did and was forgotten; its deliveries were missed; it was sent, and no step of the
--- node delivered it; or it was never sent
+-- why the dot doesn't stand as `wanted` at the node: it did and was forgotten; its deliveries were missed; it was sent, and no
+-- step of the node delivered it; or it was never sent
 unfoldable pub missing : List Hop → ℕ → Standing → Finding
 missing hops node wanted =
     forgotten_or (numbers_of (is_forgotten_at node wanted) hops)
@@ -105,11 +105,11 @@ abbrev pub is_shown : Option Node → ℕ → Bool
 is_shown None name = false
 is_shown (Some node) name = is_online node.replica name
 
--- whether the node knows the name, and has it up
+-- whether the node knows the name and has it up
 unfoldable pub is_up_at : Machine → ℕ → ℕ → Bool
 is_up_at m node name = is_shown (node_of m node) name
 
--- it has left at its own node
+-- whether the dot has left at its own node
 abbrev pub has_left : Machine → Dot → Bool
 has_left m d = is_same (standing_at m d.name d) Gone
 
@@ -118,23 +118,23 @@ found_as m node d t Live = found (if is_up_at m node d.name then Online else Hid
 found_as m node d t Gone = found Removed (chain t.hops (stand_at t.stands node).by)
 found_as m node d t Unseen = if has_left m d then found Left [] else missing t.hops node Live
 
--- how it stands at the node, and why
+-- how the dot stands at the node, and why
 unfoldable pub finding_of : Machine → ℕ → Dot → Track → Finding
 finding_of m node d t = found_as m node d t (standing_at m node d)
 
--- the step is an up, a down or a permanently down of this name
+-- whether the step is an up, a down or a permanently down of this name
 abbrev pub is_status_of : ℕ → Operation → Bool
 is_status_of name (Up other) = other == name
 is_status_of name (Down other) = other == name
 is_status_of name (Permdown other) = other == name
 is_status_of name _ = false
 
--- the last status step of the node about the name, after those of which o was the last
+-- the last status step of the node about the name among these, or else o
 unfoldable pub last_status : Option ℕ → List Kept → ℕ → ℕ → Option ℕ
 last_status o [] node name = o
 last_status o (k ∷ ks) node name =
     last_status (if (k.node == node) && is_status_of name k.step then Some k.number else o) ks node name
 
--- the last status steps of the node about the first names, by number
+-- the last status step of the node about each of the first names, by number
 abbrev pub AreStatuses : List Kept → ℕ → List (Option ℕ) → Type 0
 AreStatuses ks node statuses = (name : ℕ) → name < length statuses → slice_get statuses name ≡ Some (last_status None ks node name)

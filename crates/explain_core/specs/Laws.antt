@@ -1,4 +1,4 @@
--- What holds of explanations, told by the remaining steps and the cluster that they give.
+-- What holds of explanations, by the remaining steps and the cluster that they give.
 use Rattle.std.specs.Prelude.{◌≡◌, ◌≢◌, ℕ, ◌||◌, true, List, [], ◌∷◌, reverse, Option, Some}
 use Rattle.std.specs.List.{Contains}
 use Rattle.dots_core.specs.declared.dot.Dot.{Dot}
@@ -22,8 +22,8 @@ pub record Moves (hops : List Hop) (number : ℕ) (h : Hop) : Type 0 where
   pub is : h.number ≡ number
   pub moved : (is_sent h.kind || is_came h.kind) ≡ true
 
--- from the newest back: the first of these is step `by`, and each read what the next one made; what the last of them read, no step sent
--- or delivered
+-- from the newest step back: the first is step `by`, each read what the next one made, and no step sent or delivered what the
+-- last of them read
 abbrev pub LeadsBack : List Hop → Option ℕ → List ℕ → Type 0
 LeadsBack hops by [] = (number : ℕ) (h : Hop) → by ≡ Some number → Moves hops number h → ⊥
 LeadsBack hops by (number ∷ numbers) = (by ≡ Some number) × ((h : Hop) × Moves hops number h × LeadsBack hops h.reads numbers)
@@ -32,11 +32,11 @@ LeadsBack hops by (number ∷ numbers) = (by ≡ Some number) × ((h : Hop) × M
 abbrev pub IsChain : List Hop → Option ℕ → List ℕ → Type 0
 IsChain hops by numbers = LeadsBack hops by (reverse numbers)
 
--- of each node the chain to the step since which the dot stands there as it does
+-- the chain to the step since which the dot stands at the node as it does
 abbrev pub ChainLaw : Type 0
 ChainLaw = (m : Machine) (d : Dot) (by : Option ℕ) → IsReached (config_of m) m.state → IsChain (track_of m d).hops by (chain (track_of m d).hops by)
 
--- the node has had the dot stand so since this step, which remains and is the node's own
+-- this step is the node's own, remains, and is the one since which the dot stands at the node as it does
 pub record IsSince (m : Machine) (node number : ℕ) : Type 0 where
   pub step : Kept
   pub remains : find_number m.state.remaining number ≡ Some step
@@ -51,7 +51,7 @@ StandingLaw =
       since : (number : ℕ) → (stand_at (track_of m d).stands node).by ≡ Some number → IsSince m node number;
     }
 
--- a delivery of a message in which the dot stands so, which read the step that sent that
+-- a delivery of a message in which the dot stands as the hop says, which read the step that sent the message
 pub record IsDelivery (m : Machine) (d : Dot) (h : Hop) (k : Kept) : Type 0 where
   pub sender : ℕ
   pub message : ℕ
@@ -61,8 +61,8 @@ pub record IsDelivery (m : Machine) (d : Dot) (h : Hop) (k : Kept) : Type 0 wher
   pub sent : source_of m.state.remaining k.step ≡ Some source
   pub has : standing_sent m sender message d ≡ h.standing
 
--- what a step of a track did: it sent this message, with the dot standing so in it; it delivered such a message; or it took the dot's
--- name permanently down
+-- what a step of a track did: it sent this message, in which the dot stands as the hop says; it delivered such a message; or it
+-- took the dot's name permanently down
 abbrev pub Did : Machine → Dot → Hop → Kept → Kind → Type 0
 Did m d h k Sent =
     (sends k.step ≡ true) × (sender_of m.state.remaining h.node h.message ≡ Some h.number) × (standing_sent m h.node h.message d ≡ h.standing)
@@ -80,13 +80,14 @@ pub record IsOfStep (m : Machine) (d : Dot) (h : Hop) : Type 0 where
 abbrev pub StepLaw : Type 0
 StepLaw = (m : Machine) (d : Dot) (h : Hop) → IsReached (config_of m) m.state → Contains (track_of m d).hops h → IsOfStep m d h
 
--- where it says that the dot was never sent live, or gone, it stands so in no message
+-- if an explanation says that the dot was never sent live, or gone, it stands like that in no message
 abbrev pub UnsentLaw : Type 0
 UnsentLaw =
     (m : Machine) (d : Dot) (node : ℕ) (wanted : Standing) → IsReached (config_of m) m.state → wanted ≢ Unseen →
     (missing (track_of m d).hops node wanted).verdict ≡ Unsent → (sender number : ℕ) → standing_sent m sender number d ≡ wanted → ⊥
 
--- the step of this number sent a message in which the dot stands so, and no remaining step of the node delivered that message
+-- the step of this number sent a message in which the dot stands as `wanted`, and no remaining step of the node delivered that
+-- message
 pub record IsUndelivered (m : Machine) (d : Dot) (node : ℕ) (wanted : Standing) (number : ℕ) : Type 0 where
   pub sender : ℕ
   pub message : ℕ
@@ -94,7 +95,8 @@ pub record IsUndelivered (m : Machine) (d : Dot) (node : ℕ) (wanted : Standing
   pub has : standing_sent m sender message d ≡ wanted
   pub undelivered : (k : Kept) → Contains m.state.remaining k → k.node ≡ node → k.step ≡ Deliver sender message → ⊥
 
--- where a dot doesn't stand so at a node, and it says that it was sent and not delivered: of each step that is told that is so
+-- if a dot doesn't stand as `wanted` at a node, and an explanation says that it was sent and not delivered, this is true of each
+-- step that it names
 abbrev pub UndeliveredLaw : Type 0
 UndeliveredLaw =
     (m : Machine) (d : Dot) (node : ℕ) (wanted : Standing) → IsReached (config_of m) m.state → is_above wanted (standing_at m node d) ≡ true →

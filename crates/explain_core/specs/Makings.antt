@@ -1,4 +1,4 @@
--- The steps that made presences of a topic and key, each with the dot that it gave.
+-- The steps that made presences of a topic and key, each with the presence's dot.
 use Rattle.std.specs.Prelude.{ℕ, ◌&&◌, if◌then◌else◌, List, [], ◌∷◌, ◌++◌, slice_get, Option, Some, None}
 use Rattle.std.specs.Str.{bytes_eq}
 use Rattle.dots_core.specs.declared.dot.Dot.{Dot}
@@ -43,6 +43,6 @@ makings_from topic key asked [] = []
 makings_from topic key asked (k ∷ ks) =
     making_of (after_step asked k) topic key k ++ makings_from topic key (after_step asked k) ks
 
--- all of them, in the order of their steps
+-- what all steps made, in their order
 unfoldable pub makings_of : Machine → List ℕ → List ℕ → List Making
 makings_of m topic key = makings_from topic key (opened m) m.state.remaining

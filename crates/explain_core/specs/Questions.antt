@@ -1,8 +1,8 @@
 -- An explanation that is asked for by words.
 use Rattle.std.specs.Prelude.{◌≡◌, ◌⊎◌, ℕ, false, true, List, ⊤, None, Some, IsSome}
 use Rattle.payload_core.specs.Words.{is_word}
-use Rattle.payload_core.specs.declared.word.WordFault.{WordFault}
-use Rattle.payload_core.specs.declared.word.WordFault.TheVariants as words
+use Rattle.entry_core.specs.declared.word.WordFault.{WordFault}
+use Rattle.entry_core.specs.declared.word.WordFault.TheVariants as words
 use Rattle.bench_core.specs.Machine.{Machine}
 use Rattle.bench_core.specs.NameList.{number_in}
 use Rattle.explain_core.specs.Explanations.{explanation}
@@ -22,7 +22,7 @@ pub record IsAnswer (m : Machine) (question : Question) (text : List ℕ) : Type
   pub key : is_word question.key.now ≡ true
   pub told : text ≡ explanation m node question.topic.now question.key.now
 
--- nothing is explained: there is no such node; there is, and the topic or the key is no word; or memory was refused
+-- why there is no explanation: there is no such node; there is, and the topic or the key is no word; or memory was refused
 abbrev pub Refuses : Machine → Question → AskFault → Type 0
 Refuses m question faults.NoSuchNode = number_in m.names question.node.now ≡ None
 Refuses m question faults.NoWord =

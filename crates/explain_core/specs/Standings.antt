@@ -12,13 +12,13 @@ use Rattle.report_core.specs.Shown.{node_of}
 use Rattle.explain_core.specs.declared.standing.Standing.{Standing}
 use Rattle.explain_core.specs.declared.standing.Standing.TheVariants.{Unseen, Live, Gone}
 
--- by the entry of the dot, and whether the dot was seen
+-- how a dot stands, by its entry and whether it was seen
 abbrev pub standing_by : Option Presence → Bool → Standing
 standing_by (Some presence) seen = Live
 standing_by None true = Gone
 standing_by None false = Unseen
 
--- among these dots and entries
+-- how a dot stands among these dots and entries
 abbrev pub standing_in : Dots → Entries → Dot → Standing
 standing_in seen entries d = standing_by (fin.get entries d) (set.contains seen d)
 
@@ -26,7 +26,7 @@ abbrev pub standing_of : Option Node → Dot → Standing
 standing_of None d = Unseen
 standing_of (Some node) d = standing_in node.replica.store.seen node.replica.store.entries d
 
--- at a node, as the remaining steps give it
+-- how a dot stands at a node, as the remaining steps give it
 unfoldable pub standing_at : Machine → ℕ → Dot → Standing
 standing_at m node d = standing_of (node_of m node) d
 
@@ -38,7 +38,7 @@ abbrev pub outbox_of : Option Node → ℕ → Option Message
 outbox_of None number = None
 outbox_of (Some node) number = numbered node.outbox number
 
--- in a message of a node
+-- how a dot stands in a message of a node
 unfoldable pub standing_sent : Machine → ℕ → ℕ → Dot → Standing
 standing_sent m node number d = standing_told (outbox_of (node_of m node) number) d
 
@@ -50,7 +50,7 @@ last_in (Some node) = length node.outbox
 unfoldable pub last_message : Machine → ℕ → ℕ
 last_message m node = last_in (node_of m node)
 
--- a delivery makes of two standings the one that is above the other
+-- whether a delivery puts the first standing in place of the other
 abbrev pub is_above : Standing → Standing → Bool
 is_above Live Unseen = true
 is_above Gone Unseen = true

@@ -11,23 +11,23 @@ pub record Traced : Type 0 where
   pub making : Making
   pub track : Track
 
--- before the first step
+-- the presence before the first step
 abbrev pub untraced : ℕ → Making → Traced
 untraced nodes making = record { making = making; track = no_track nodes }
 
--- after a step, on the machine after it
+-- the presence after a step, on the machine after it
 abbrev pub traced_on : Machine → Kept → Traced → Traced
 traced_on asked k t = record { making = t.making; track = followed t.making.dot asked k t.track }
 
--- after these steps, which are asked of the machine
+-- the presence after these steps, which the machine takes
 abbrev pub traced_from : Machine → List Kept → Traced → Traced
 traced_from asked ks t = record { making = t.making; track = track_from t.making.dot asked ks t.track }
 
--- after all
+-- the presence after all steps
 abbrev pub traced_of : Machine → Making → Traced
 traced_of m making = record { making = making; track = track_of m making.dot }
 
--- a dot that a step doesn't reach is left as it is
+-- a step that doesn't reach the dot leaves the presence as it is
 abbrev pub IsLeft : Machine → Kept → Traced → Type 0
 IsLeft asked k t = reaches asked k t.making.dot ≡ false → traced_on asked k t ≡ t
 

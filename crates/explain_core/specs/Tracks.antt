@@ -15,7 +15,7 @@ use Rattle.explain_core.specs.declared.hop.Stand.{Stand}
 use Rattle.explain_core.specs.declared.standing.Standing.{Standing}
 use Rattle.explain_core.specs.declared.standing.Standing.TheVariants.{Unseen, Live, Gone}
 
--- of each node how the dot stands there and since which of its steps; and the steps that sent, delivered, missed or forgot it
+-- how the dot stands at each node, and since which of the node's steps; and the steps that sent, delivered, missed or forgot it
 pub record Track : Type 0 where
   pub stands : List Stand
   pub hops : List Hop
@@ -30,7 +30,7 @@ abbrev pub is_sent : Kind → Bool
 is_sent Sent = true
 is_sent _ = false
 
--- the step sent message p of the node, and the dot is in it
+-- whether the step sent message p of the node, and the dot is in it
 abbrev pub is_sender : ℕ → ℕ → Hop → Bool
 is_sender node p h = is_sent h.kind && ((h.node == node) && (h.message == p))
 
@@ -42,19 +42,21 @@ abbrev pub hop_of : Kept → Kind → Standing → ℕ → Option ℕ → Hop
 hop_of k kind standing message reads =
     record { kind = kind; number = k.number; node = k.node; standing = standing; message = message; reads = reads }
 
--- of a send: none where the message doesn't have the dot; else it reads the step by which the dot came to stand so at the node
+-- what a send did: nothing if the message doesn't have the dot; else it reads the step since which the dot stands at the node as
+-- it does
 abbrev pub sent_hop : Kept → Stand → ℕ → Standing → Option Hop
 sent_hop k before message Unseen = None
 sent_hop k before message Live = Some (hop_of k Sent Live message before.by)
 sent_hop k before message Gone = Some (hop_of k Sent Gone message before.by)
 
--- of a delivery of a message of step `reads`, after which the dot stands so: it came, or it was missed, or nothing came of it
+-- what a delivery did, of a message that step `reads` sent, by how the dot stands after it: the dot came, or was missed, or
+-- nothing happened to it
 abbrev pub delivered_hop : Kept → Stand → Standing → Standing → Option ℕ → Option Hop
 delivered_hop k before told now reads =
     if is_same before.standing now then (if is_above told now then Some (hop_of k Missed told 0 reads) else None)
     else Some (hop_of k Came now 0 reads)
 
--- of another step: it forgot what it had
+-- what another step did: it forgot the dot, if it stood there before
 abbrev pub other_hop : Kept → Stand → Standing → Option Hop
 other_hop k before now = if is_same now Unseen && is_above before.standing Unseen then Some (hop_of k Forgot before.standing 0 before.by) else None
 
@@ -72,12 +74,12 @@ abbrev pub with_hop : List Hop → Option Hop → List Hop
 with_hop hops None = hops
 with_hop hops (Some h) = hops ++ h ∷ []
 
--- the node's standing, since this step where it is another one than before
+-- the node's standing, which dates from this step if it is another than before
 abbrev pub with_stand : List Stand → Kept → Standing → List Stand
 with_stand stands k now =
     if is_same (stand_at stands k.node).standing now then stands else slice_set stands k.node (record { standing = now; by = Some k.number })
 
--- after a step, on the machine after it
+-- the track after a step, on the machine after it
 unfoldable pub followed : Dot → Machine → Kept → Track → Track
 followed d asked k t =
     record {
@@ -85,7 +87,7 @@ followed d asked k t =
       hops = with_hop t.hops (hop_at d asked k t.hops (stand_at t.stands k.node));
     }
 
--- the machine after this step is asked of it
+-- the machine after it has taken this step
 unfoldable pub after_step : Machine → Kept → Machine
 after_step asked k = after_act asked k.node (Do k.step)
 

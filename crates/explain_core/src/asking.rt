@@ -8,7 +8,7 @@ use bench_core::Bench;
 use payload_core::Word;
 use std::alloc::Allocator;
 
-/// Why the presences of this topic and key are online at the node of this name, and why not.
+/// The question why the presences of this topic and key are online at the node of this name, or why not.
 #[derive(Clone, Copy, Debug, PartialEq, Eq)]
 pub struct Question<'q> {
     pub node: &'q str,

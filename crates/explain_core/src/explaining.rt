@@ -21,7 +21,7 @@ use std::alloc::Allocator;
 const FOLLOWED_TOGETHER: usize = 512;
 
 impl Verdict {
-    /// As it is printed.
+    /// The verdict as it is printed.
     fn text(self) -> &'static str
         ensures { result.now ≡ verdict_text self }
     {
@@ -114,7 +114,7 @@ fn put_found<'a, A: Allocator, B: Allocator, F: Allocator>(
     put_steps(bench, text, "by", &finding.steps)
 }
 
-/// The step by which it left at its own node.
+/// The step by which the presence left at its own node.
 #[tactic(auto, unfolding(crate::specs::Explanations::left_text))]
 fn put_left<'a, A: Allocator, B: Allocator>(
     bench: &Bench<'a, B>,
@@ -132,7 +132,7 @@ fn put_left<'a, A: Allocator, B: Allocator>(
     }
 }
 
-/// How it stands at the node, and why.
+/// How the presence stands at the node, and why.
 #[tactic(auto, unfolding(crate::specs::Explanations::node_text, crate::specs::Explanations::finding_text))]
 fn put_node<'a, A: Allocator, B: Allocator>(
     bench: &Bench<'a, B>,
@@ -205,7 +205,7 @@ fn put_removal<'a, A: Allocator, B: Allocator>(
     }
 }
 
-/// What is told of a presence with this track.
+/// The text for a presence with this track.
 #[tactic(auto, unfolding(crate::specs::Explanations::tracked_text))]
 fn put_tracked<'a, A: Allocator, B: Allocator>(
     bench: &Bench<'a, B>,
@@ -227,7 +227,7 @@ fn put_tracked<'a, A: Allocator, B: Allocator>(
     put_removal(bench, text, node, making.dot, track, alloc)
 }
 
-/// What is told of each of these.
+/// The text for each of these presences.
 fn put_traced<'a, A: Allocator, B: Allocator>(
     bench: &Bench<'a, B>,
     text: &mut String<A>,
@@ -245,7 +245,7 @@ fn put_traced<'a, A: Allocator, B: Allocator>(
     Ok(())
 }
 
-/// What is told of each of these presences, whose tracks are followed together.
+/// The text for each of these presences, whose tracks are followed together.
 fn put_some<'a, A: Allocator, B: Allocator>(
     bench: &Bench<'a, B>,
     text: &mut String<A>,
@@ -264,7 +264,7 @@ fn put_some<'a, A: Allocator, B: Allocator>(
     put
 }
 
-/// What is told of each presence. Few are followed at a time, so their tracks take little memory.
+/// The text for each presence. Few are followed at a time, so their tracks take little memory.
 #[tactic(auto, unfolding(crate::specs::Explanations::making_texts))]
 fn put_makings<'a, A: Allocator, B: Allocator>(
     bench: &Bench<'a, B>,
@@ -303,7 +303,7 @@ fn put_head<'a, A: Allocator, B: Allocator>(
     Ok(writeln!(text, " {key} {count}")?)
 }
 
-/// The line that says how many presences there are, and what is told of each.
+/// The line that says how many presences there are, and the text for each.
 fn put_explanation<'a, A: Allocator, B: Allocator>(
     bench: &Bench<'a, B>,
     text: &mut String<A>,
@@ -320,10 +320,10 @@ fn put_explanation<'a, A: Allocator, B: Allocator>(
     put_makings(bench, text, node, makings, alloc)
 }
 
-/// Why the presences of a topic and key are online at a node, and why not: of each that a remaining step made, in the order of
-/// these steps, the step; the one by which it left at its own node, if it did; how it stands at the node, with the steps that
-/// brought it there or by which it was lost; the last status step of the node about its name; and, where it left and is still
-/// there, why the removal didn't come.
+/// Why the presences of a topic and key are online at a node, and why not. For each presence that a remaining step
+/// made, in the order of these steps, it tells the step; the step by which it left at its own node, if it did; how it
+/// stands at the node, with the steps that brought it there or lost it; the last status step of the node about its
+/// name; and, if it left and is still there, why the removal didn't come.
 #[tactic(auto, unfolding(crate::specs::Explanations::explanation))]
 pub fn explain<'a, B: Allocator>(
     bench: &Bench<'a, B>,

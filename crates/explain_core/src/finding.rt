@@ -22,7 +22,7 @@ pub enum Verdict {
     Online,
     /// The node has it, and its name is down there.
     Down,
-    /// A delivery took it out, or a step of the node itself.
+    /// A delivery, or a step of the node itself, took it out.
     Removed,
     /// It left at its own node, and the node has nothing of it.
     Left,
@@ -52,7 +52,7 @@ impl<A: Allocator> Model for Finding<A> {
 }
 
 impl Hop {
-    /// Whether it sent or delivered the dot, and is this step.
+    /// Whether the step sent or delivered the dot, and is this one.
     fn is_link(&self, target: Option<u64>) -> bool
         ensures { result ≡ is_link target self.now }
     {
@@ -64,7 +64,7 @@ impl Hop {
         }
     }
 
-    /// Whether the node forgot the dot by it, which stood so there, or above.
+    /// Whether this step made the node forget the dot, which stood there as `wanted` or above.
     fn is_forgotten_at(&self, node: u16, wanted: Standing) -> bool
         ensures { result ≡ is_forgotten_at node wanted self.now }
     {
@@ -83,7 +83,7 @@ impl Hop {
         matches!(self.kind, Kind::Sent) && self.standing.is_same(wanted)
     }
 
-    /// Whether it is a step of this kind for which the dot doesn't stand so at the node.
+    /// Whether it is a step of this kind, and a reason why the dot doesn't stand as `wanted` at the node.
     fn is_why(&self, kind: Kind, node: u16, wanted: Standing) -> bool
         ensures { result ≡ is_why kind node wanted self.now }
     {
@@ -115,7 +115,7 @@ fn chain<A: Allocator>(alloc: A, hops: &[Hop], by: Option<u64>) -> Result<Vec<u6
     Ok(numbers)
 }
 
-/// The numbers of the steps of this kind for which the dot doesn't stand so at the node.
+/// The numbers of the steps of this kind that are reasons why the dot doesn't stand as `wanted` at the node.
 fn numbers_of<A: Allocator>(
     alloc: A,
     hops: &[Hop],
@@ -131,7 +131,7 @@ fn numbers_of<A: Allocator>(
         .collect(alloc)
 }
 
-/// Why the dot doesn't stand so at the node.
+/// Why the dot doesn't stand as `wanted` at the node.
 #[tactic(auto, unfolding(crate::specs::Findings::missing))]
 pub fn missing<A: Allocator + Copy>(
     alloc: A,
@@ -177,14 +177,14 @@ fn is_up_at<'a, B: Allocator>(bench: &Bench<'a, B>, node: u16, name: u16) -> boo
     }
 }
 
-/// Whether it has left at its own node.
+/// Whether the presence has left at its own node.
 pub fn has_left<'a, B: Allocator>(bench: &Bench<'a, B>, dot: Dot) -> bool
     ensures { result ≡ has_left bench.now dot }
 {
     standing_at(bench, dot.name, dot).is_same(Standing::Gone)
 }
 
-/// This verdict, with the steps that brought the dot to how it stands at the node.
+/// This verdict, with the steps that brought the dot to its standing at the node.
 fn brought<A: Allocator, T: Allocator>(
     alloc: A,
     track: &Track<T>,
@@ -256,7 +256,7 @@ fn last_status<'a, B: Allocator>(journal: &Journal<'a, B>, node: u16, name: u16)
     last
 }
 
-/// The last status steps of the node about the first names, by number.
+/// The last status step of the node about each of the first names, by number.
 pub fn last_statuses<'a, B: Allocator>(
     journal: &Journal<'a, B>,
     node: u16,
@@ -272,7 +272,7 @@ pub fn last_statuses<'a, B: Allocator>(
     Ok(statuses)
 }
 
-/// That about one name, by those about the first names.
+/// The last status step about one name, looked up among those about the first names.
 pub fn status_among<'a, B: Allocator>(
     journal: &Journal<'a, B>,
     statuses: &[Option<u64>],

@@ -9,9 +9,9 @@ use crate::standing::Standing;
 pub enum Kind {
     /// It sent a message that has the dot.
     Sent,
-    /// It delivered such a message, and the dot came to stand as it does there.
+    /// It delivered a message that has the dot, and since then the dot stands at the node as in the message.
     Came,
-    /// It delivered such a message, of which nothing was kept, since the node didn't know the dot's name.
+    /// It delivered a message that has the dot, but the node didn't know the dot's name and kept nothing of it.
     Missed,
     /// It forgot the dot.
     Forgot,
@@ -25,7 +25,7 @@ pub struct Hop {
     pub node: u16,
     /// How the dot stands in the message, or stood before it was forgotten.
     pub standing: Standing,
-    /// Of a send the number of the message, else 0.
+    /// The number of the message that a send sent; else 0.
     pub message: u64,
     /// The step that made what this step read.
     pub reads: Option<u64>,

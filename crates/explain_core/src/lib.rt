@@ -1,4 +1,4 @@
-//! Why a presence is online at a node of a bench, and why not, told by the steps that remain.
+//! Why a presence is online at a node of a bench, and why not, explained by the steps that remain.
 //!
 //! Stands on `report_core`, which prints steps, and names the plain types of the crates below. In the order to read them:
 //! `standing`, how a dot stands at a node and in a message; `hop`, what a step did to a dot; `track`, how it came to stand as it

@@ -33,7 +33,8 @@ fn tracked_dot<'a, B: Allocator>(
     found.replica().entries().find(node, pid, topic, key)
 }
 
-/// Puts what a step made behind what those before it made, on the bench after it.
+/// Appends the number of a step and the dot that it made, if it made a presence of this topic and key. `asked` is the
+/// bench after the step.
 #[tactic(auto, unfolding(crate::specs::Makings::making_of))]
 fn put_making<'a, B: Allocator>(
     makings: &mut Vec<Making, &'a B>,
@@ -80,7 +81,7 @@ fn put_made<A: Allocator>(
     Ok(())
 }
 
-/// Puts what the steps made behind what those before them made.
+/// Appends the makings of these steps.
 #[tactic(auto, unfolding(crate::specs::Makings::makings_from))]
 fn put_makings<'a, B: Allocator>(
     makings: &mut Vec<Making, &'a B>,

@@ -19,7 +19,8 @@ pub enum Standing {
 }
 
 impl Standing {
-    /// Whether a delivery of a message where the dot stands so would change how it stands there.
+    /// Whether a delivery of a message in which a dot stands like this replaces `other`, the dot's standing at the
+    /// node.
     pub fn is_above(self, other: Standing) -> bool
         ensures { result ≡ is_above self other }
     {
@@ -30,6 +31,7 @@ impl Standing {
         }
     }
 
+    /// Whether both are one standing.
     pub fn is_same(self, other: Standing) -> bool
         ensures { result ≡ is_same self other }
     {
@@ -42,7 +44,7 @@ impl Standing {
     }
 }
 
-/// Among these dots and entries.
+/// How a dot stands among these dots and entries.
 fn standing_in<A: Allocator>(seen: &DotSet<A>, entries: &EntrySet<A>, dot: Dot) -> Standing
     ensures { result ≡ standing_in seen.now entries.now.map dot }
 {
@@ -58,7 +60,7 @@ fn standing_in<A: Allocator>(seen: &DotSet<A>, entries: &EntrySet<A>, dot: Dot) 
     }
 }
 
-/// At a node, as the remaining steps give it.
+/// How a dot stands at a node, as the remaining steps give it.
 #[tactic(auto, unfolding(crate::specs::Standings::standing_at, report_core::specs::Shown::node_of))]
 pub fn standing_at<'a, B: Allocator>(bench: &Bench<'a, B>, node: u16, dot: Dot) -> Standing
     ensures { result ≡ standing_at bench.now node dot }
@@ -70,7 +72,7 @@ pub fn standing_at<'a, B: Allocator>(bench: &Bench<'a, B>, node: u16, dot: Dot) 
     standing_in(replica.seen(), replica.entries(), dot)
 }
 
-/// In a message. That the dot wasn't seen is the cheaper to know.
+/// How a dot stands in a message. It first asks whether the dot was seen, which is cheaper.
 fn standing_told<A: Allocator>(message: &Payload<A>, dot: Dot) -> Standing
     ensures { result ≡ standing_told (Some message.now) dot }
 {
@@ -81,7 +83,7 @@ fn standing_told<A: Allocator>(message: &Payload<A>, dot: Dot) -> Standing
     standing_in(message.seen(), entries, dot)
 }
 
-/// In a message of a node.
+/// How a dot stands in a message of a node, by its number.
 #[tactic(auto, unfolding(crate::specs::Standings::standing_sent, report_core::specs::Shown::node_of))]
 pub fn standing_sent<'a, B: Allocator>(
     bench: &Bench<'a, B>,

@@ -40,7 +40,7 @@ impl<'a, B: Allocator> Traced<&'a B> {
     }
 }
 
-/// Puts a presence with the track of a dot that no step has seen behind those before it.
+/// Appends a presence with the track of a dot that no step has seen yet.
 fn put_untraced<'a, B: Allocator>(
     traced: &mut Vec<Traced<&'a B>, &'a B>,
     making: Making,
@@ -53,7 +53,7 @@ fn put_untraced<'a, B: Allocator>(
     Ok(traced.push(Traced { making, track })?)
 }
 
-/// Each presence with the track of a dot that no step has seen.
+/// Each presence with the track of a dot that no step has seen yet.
 fn untraced<'a, B: Allocator>(
     makings: &[Making],
     nodes: usize,
@@ -83,7 +83,7 @@ fn follow_step<'a, B: Allocator>(
     Ok(())
 }
 
-/// Follows each dot over the steps that remain of a bench, which are asked of another once for all.
+/// Follows each dot over the remaining steps of a bench. Another bench takes these steps once for all dots.
 fn follow_steps<'a, B: Allocator>(
     bench: &Bench<'a, B>,
     asked: &mut Bench<'a, B>,

@@ -12,8 +12,8 @@ use payload_core::Oom;
 use std::alloc::Allocator;
 use std::marker::Model;
 
-/// Of each node how a dot stands there, and since which of its steps; and the steps that sent, delivered, missed or forgot it,
-/// in their order.
+/// How a dot stands at each node, and since which of the node's steps; and the steps that sent, delivered, missed or
+/// forgot it, in their order.
 #[derive(Drop)]
 pub struct Track<A: Allocator> {
     pub stands: Vec<Stand, A>,
@@ -102,7 +102,7 @@ fn delivered_hop<A: Allocator>(
     }
 }
 
-/// What the delivery of this message did. Who sent it is looked for only where something came of it.
+/// What the delivery of this message did. It looks for the sending step only where the delivery did something.
 fn received_hop<A: Allocator>(
     kept: &Kept<A>,
     hops: &[Hop],
@@ -121,7 +121,7 @@ fn received_hop<A: Allocator>(
     delivered_hop(kept, before, told, now, reads)
 }
 
-/// What a step did that neither sends nor delivers.
+/// What a step that neither sends nor delivers did.
 fn other_hop<A: Allocator>(kept: &Kept<A>, before: Stand, now: Standing) -> Option<Hop>
     ensures { result ≡ other_hop kept.now before now }
 {
@@ -179,7 +179,8 @@ fn is_changed<A: Allocator>(step: &Step<A>, node: u16, name: u16) -> bool
     }
 }
 
-/// Whether the step may have done something to the dot, on the bench after it. It is cheaper to know than what it did.
+/// Whether the step may have done something to the dot, on the bench after it. This is cheaper to find out than what it
+/// did.
 #[tactic(auto, unfolding(crate::specs::Tracks::reaches))]
 pub fn reaches<'a, B: Allocator>(asked: &Bench<'a, B>, kept: &Kept<&'a B>, dot: Dot) -> bool
     ensures { result ≡ reaches asked.now kept.now dot }
@@ -219,7 +220,7 @@ fn put_stand<A: Allocator, W: Allocator>(
 }
 
 impl<A: Allocator> Track<A> {
-    /// That of a dot which no step has seen.
+    /// The track of a dot that no step has seen yet.
     pub fn new(alloc: A, nodes: usize) -> Result<Track<A>, Oom>
     where
         A: Copy,
@@ -237,7 +238,7 @@ impl<A: Allocator> Track<A> {
 }
 
 impl<'a, B: Allocator> Track<&'a B> {
-    /// After a step, on the bench after it.
+    /// Follows the dot over one more step, on the bench after it.
     #[tactic(auto, unfolding(crate::specs::Tracks::followed))]
     pub fn follow(&mut self, dot: Dot, asked: &Bench<'a, B>, kept: &Kept<&'a B>) -> Result<(), Oom>
         ensures { OnOk result (self.new ≡ followed dot asked.now kept.now self.old) }

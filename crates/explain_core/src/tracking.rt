@@ -14,7 +14,7 @@ pub fn opened<'a, B: Allocator>(bench: &Bench<'a, B>, alloc: &'a B) -> Result<Be
     Bench::new(alloc, names, bench.limits())
 }
 
-/// Asks a step of the bench.
+/// Has the bench take a step.
 #[tactic(auto, unfolding(crate::specs::Tracks::after_step, report_core::specs::ActTexts::after_act))]
 pub fn ask<'a, B: Allocator>(asked: &mut Bench<'a, B>, kept: &Kept<&'a B>) -> Result<(), Oom>
     ensures { OnOk result (asked.new ≡ after_step asked.old kept.now) }
@@ -22,7 +22,7 @@ pub fn ask<'a, B: Allocator>(asked: &mut Bench<'a, B>, kept: &Kept<&'a B>) -> Re
     let act = Act::Do(kept.step.try_copy()?);
     let reply = asked.act(kept.node, &act);
     drop(act);
-    if reply == Reply::Refused(Fault::OutOfMemory) {
+    if reply.same(Reply::Refused(Fault::OutOfMemory)) {
         return Err(Oom);
     }
     Ok(())

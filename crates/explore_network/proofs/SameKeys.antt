@@ -7,7 +7,7 @@ use Rattle.std.specs.Option.{option_to_list}
 use Rattle.dots_core.specs.declared.dot.Dot.{Dot}
 use Rattle.dots_core.specs.Names.{Names}
 use Rattle.payload_core.specs.Messages.{Message, numbered}
-use Rattle.payload_core.specs.Stores.{standing, store_of}
+use Rattle.store_core.specs.Stores.{standing, store_of}
 use Rattle.replica_core.specs.Replicas.{Replica, delta_message, opening, request_of}
 use Rattle.node_core.specs.Nodes.{Node}
 use Rattle.node_core.specs.Operations.{Operation, Join, Leave, LeaveAll, Update, Broadcast, Extract, Deliver, Request, Answer, Up, Down, Permdown, sends}

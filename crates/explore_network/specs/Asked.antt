@@ -1,4 +1,4 @@
--- The dots that are asked for, and where they matter at the end.
+-- The dots that a question is about, and where they matter at the end.
 use Rattle.std.specs.Prelude.{◌≡◌, ℕ, ◌<◌, if◌then◌else◌, List, [], ◌∷◌, ◌++◌, zero, suc, slice_get, Option, Some, None, Ok}
 use Rattle.std.specs.List.{AllByRecursion}
 use Rattle.dots_core.specs.declared.dot.Dot.{Dot}
@@ -27,17 +27,17 @@ abbrev pub dots_up_to : ℕ → ℕ → List Dot
 dots_up_to name zero = []
 dots_up_to name (suc n) = dots_up_to name n ++ dot name (suc n) ∷ []
 
--- the dots of its own that a node has seen
+-- the own dots that a node has seen
 abbrev pub own_of : Option Node → List Dot
 own_of None = []
 own_of (Some x) = dots_up_to (last x.replica).name (last x.replica).clock
 
--- and those of the first `count` nodes
+-- the own dots that the first `count` nodes have seen
 unfoldable pub own_of_all : Cluster → ℕ → List Dot
 own_of_all c zero = []
 own_of_all c (suc n) = own_of_all c n ++ own_of (slice_get c n)
 
--- the dots are all that is asked for, if the steps can be taken
+-- the dots are all that the question is about, if the steps can be taken
 pub record AreAsked (l : NodeLimits) (count : ℕ) (steps : List Kept) (q : Question) (dots : List Dot) : Type 0 where
   pub names : AllByRecursion (λ (d : Dot). d.name < 32) dots
   pub wants : (end : Cluster) → runs l count steps ≡ Ok end → Wants l steps count (is_wanted dots) q

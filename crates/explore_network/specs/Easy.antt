@@ -9,9 +9,9 @@ use Rattle.network_rules.specs.Turns.{delivery_of, AreSpent}
 
 -- why a step can come first
 pub data GoesFirst (p : Plan) (counts : List ℕ) (c : Cluster) (k : Kept) (x : Rank) : Type 0 where
-  -- it is an own step that speaks of its node alone, or nothing more is delivered there
+  -- it is an own step that concerns its node alone, or nothing more is delivered there
   IsOwnStep : delivery_of k.step ≡ None → IsEasyAt c k.node k.step ⊎ AreSpent p.turns counts p.again k.node → GoesFirst p counts c k x
-  -- it is a delivery of which nothing matters
+  -- it is a delivery that brings nothing which matters
   IsIdleStep : (m : ℕ × ℕ) → delivery_of k.step ≡ Some m → IsIdleAt c p.tables p.turns counts k.node x.turn m.0 m.1 → GoesFirst p counts c k x
 
 -- the step at this place can come first, if it comes next

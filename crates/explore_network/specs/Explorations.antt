@@ -1,4 +1,4 @@
--- What is told of all that the network could have made of a run.
+-- The outcomes of all that the network could have made of a run.
 use Rattle.std.specs.Prelude.{◌≡◌, ◌≢◌, ◌⊎◌, ◌<◌, ℕ, ◌&&◌, Bool, false, List, [], ◌∷◌, ◌++◌, length, Option, Some, None, Ok}
 use Rattle.std.specs.List.{AllByRecursion}
 use Rattle.std.specs.Str.{bytes_eq}
@@ -14,21 +14,21 @@ use Rattle.network_core.specs.NetworkRuns.{HaveSame, IsNetworkRun}
 use Rattle.explore_network.specs.Questions.{shown, Question}
 use Rattle.explore_network.specs.Walks.{steps_at, Outcome}
 
--- one of the list is so
+-- the list has an element for which P holds
 abbrev pub IsAny : {X : Type 0} → (X → Type 0) → List X → Type 0
 IsAny P [] = ⊥
 IsAny P (x ∷ xs) = P x ⊎ IsAny P xs
 
--- of a machine's remaining steps the network could have made a run that leads to this cluster
+-- the network could have made this run of a machine's remaining steps, and it leads to this cluster
 pub record CanLeadTo (m : Machine) (lost again : ℕ) (run : List Kept) (end : Cluster) : Type 0 where
   pub is_run : IsNetworkRun m.state.remaining lost again run
   pub leads : runs (node_limits m.limits) (length m.names) run ≡ Ok end
 
--- each end of such a run shows what an outcome shows
+-- each run that the network could have made ends in a cluster that shows what an outcome shows
 abbrev pub MissesNothing : Machine → Question → ℕ → ℕ → List Outcome → Type 0
 MissesNothing m q lost again os = (run : List Kept) (end : Cluster) → CanLeadTo m lost again run end → IsAny (λ (o : Outcome). shown q o.cluster ≡ shown q end) os
 
--- each outcome has such a run beside it, by the places of its steps
+-- each outcome has a run beside it, by the places of its steps, that the network could have made
 abbrev pub InventsNothing : Machine → ℕ → ℕ → List Outcome → Type 0
 InventsNothing m lost again os = AllByRecursion (λ (o : Outcome). CanLeadTo m lost again (steps_at m.state.remaining o.run) o.cluster) os
 
@@ -37,7 +37,7 @@ abbrev pub AreDistinct : Question → List Outcome → Type 0
 AreDistinct q [] = Unit {0}
 AreDistinct q (o ∷ os) = AllByRecursion (λ (x : Outcome). shown q o.cluster ≢ shown q x.cluster) os × AreDistinct q os
 
--- the first is that of the recorded run
+-- the first outcome is that of the recorded run
 abbrev pub BeginsAsRecorded : Machine → List Outcome → Type 0
 BeginsAsRecorded m [] = ⊥
 BeginsAsRecorded m (o ∷ os) = steps_at m.state.remaining o.run ≡ m.state.remaining
@@ -50,13 +50,13 @@ is_asked_of topic key (Some p) = bytes_eq p.topic topic && bytes_eq p.key key
 abbrev pub is_asked : List ℕ → List ℕ → Operation → Bool
 is_asked topic key s = is_asked_of topic key (presence_made s)
 
--- a beginning of such runs: it goes on to one, and each of its own steps is accepted
+-- a beginning of a run of the network that leads on to a whole run, each of its steps accepted
 pub record CanBegin (m : Machine) (lost again : ℕ) (run : List Kept) : Type 0 where
   pub rest : List Kept
   pub goes_on : IsNetworkRun m.state.remaining lost again (run ++ rest)
   pub accepted : (c : Cluster) × (runs (node_limits m.limits) (length m.names) run ≡ Ok c)
 
--- two beginnings are of one state where the same steps came, each as often, and led to the same cluster
+-- two beginnings are of one state if the same steps came in both, each as often, and they lead to the same cluster
 pub record AreOfOneState (m : Machine) (run other : List Kept) : Type 0 where
   pub steps : HaveSame run other
   pub cluster : runs (node_limits m.limits) (length m.names) run ≡ runs (node_limits m.limits) (length m.names) other

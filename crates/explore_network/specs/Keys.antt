@@ -1,4 +1,4 @@
--- Keys among others.
+-- Keys, and whether a key is among them.
 use Rattle.std.specs.Prelude.{◌≡◌, ◌⊎◌, ℕ, List, [], ◌∷◌}
 
 -- the key is one of these
@@ -6,7 +6,7 @@ abbrev pub IsAmong : List ℕ → List (List ℕ) → Type 0
 IsAmong key [] = ⊥
 IsAmong key (k ∷ ks) = (k ≡ key) ⊎ IsAmong key ks
 
--- no two of them are the same
+-- no two of the keys are the same
 abbrev pub AreDifferent : List (List ℕ) → Type 0
 AreDifferent [] = Unit {0}
 AreDifferent (k ∷ ks) = (IsAmong k ks → ⊥) × AreDifferent ks

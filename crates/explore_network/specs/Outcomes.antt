@@ -1,4 +1,4 @@
--- What a plan tells, for the code's own use alone.
+-- What a plan finds, for the code's own use alone.
 use Rattle.std.specs.Prelude.{◌≡◌, List, [], ◌∷◌, Ok}
 use Rattle.std.specs.List.{AllByRecursion}
 use Rattle.bench_core.specs.Clusters.{Cluster}
@@ -16,11 +16,11 @@ pub record IsRecorded (p : Plan) (o : Outcome) : Type 0 where
   pub run : steps_at p.steps o.run ≡ p.steps
   pub leads : (end : Cluster) → runs p.limits p.count p.steps ≡ Ok end → o.cluster ≡ end
 
--- it is the only one
+-- the outcome of the recorded run is the only one
 abbrev pub BeginsWith : Plan → List Outcome → Type 0
 BeginsWith p os = (o : Outcome) × ((os ≡ o ∷ []) × IsRecorded p o)
 
--- each end of a run of the network shows what is told, and nothing else is
+-- the outcomes are those of the runs of the network, all of them, each once, and the recorded run's first
 pub record AllIsTold (p : Plan) (q : Question) (os : List Outcome) : Type 0 where
   pub told : IsTold p q os []
   pub outcomes : AllByRecursion (IsOutcome p) os

@@ -1,4 +1,4 @@
--- What is fixed of all runs of the network.
+-- What all runs of the network have in common.
 use Rattle.std.specs.Prelude.{◌≡◌, ℕ, ◌≤◌, ◌<◌, ◌==◌, ◌&&◌, not, Bool, true, List, Option, refl}
 use Rattle.std.specs.Coded.{Coded, code_by, coded×, coded_ℕ, coded_list, coded_option}
 use Rattle.replica_core.specs.declared.node_limits.NodeLimits.{NodeLimits}
@@ -52,14 +52,14 @@ plan_code =
     (λ p. (p.limits, (p.count, (p.steps, (p.lost, (p.again, (p.most, (p.turns, (p.ranks, p.tables)))))))))
     (λ t. record { limits = t.0; count = t.1.0; steps = t.1.1.0; lost = t.1.1.1.0; again = t.1.1.1.1.0; most = t.1.1.1.1.1.0; turns = t.1.1.1.1.1.1.0; ranks = t.1.1.1.1.1.1.1.0; tables = t.1.1.1.1.1.1.1.1 }) (λ _. refl)
 
--- what matters where: to a node, of other names' dots, and of messages
+-- what matters where: other names' dots at a node, and dots in messages
 abbrev pub cone_of : Tables → Cone
 cone_of t = record {
   at = λ n p d. is_wanted t.dots d && (set.contains (matter t n p) d.name && not (d.name == n));
   of = λ n i d. is_wanted t.dots d && set.contains (carried t n i) d.name;
 }
 
--- all that is fixed, and the clusters that were told
+-- what the walk goes by: all that the runs have in common, and the clusters whose outcomes were found
 abbrev pub walk_of : Plan → (Cluster → Bool) → Walk
 walk_of p told = record {
   limits = p.limits;
@@ -71,13 +71,13 @@ walk_of p told = record {
   told = told;
 }
 
--- all that the nodes can see of other nodes' dots is wanted, or the dots of the topic and the key alone
+-- the dots that matter: all dots of other nodes that the nodes can see, or those of the topic and the key alone
 abbrev pub Wants : NodeLimits → List Kept → ℕ → (Dot → Bool) → Question → Type 0
 Wants l j count wanted OfCluster = WantsSeen l j count wanted
 Wants l j count wanted (OfNode node) = WantsSeen l j count wanted
 Wants l j count wanted (OfPresence node topic key) = WantsMade l j wanted topic key
 
--- the plan is that of its steps, which fill no node; and nothing that matters for the question is left out
+-- the plan is made of its steps, which fill no node; and it leaves out nothing that matters for the question
 pub record IsPlan (p : Plan) (q : Question) : Type 0 where
   pub few : p.count ≤ 32
   pub limits : AreNodeLimits p.limits

@@ -1,4 +1,4 @@
--- What is asked for, and what a cluster shows of it.
+-- What is asked, and what a cluster shows to it.
 use Rattle.std.specs.Prelude.{◌<◌, ℕ, List, [], ◌∷◌, map, slice_get, Option, Some, None}
 use Rattle.replica_core.specs.Replicas.{Replica}
 use Rattle.node_core.specs.Nodes.{Node}
@@ -19,13 +19,13 @@ plain questions.Cluster = OfCluster
 plain (questions.Node node) = OfNode node
 plain (questions.Presence node topic key) = OfPresence node topic key
 
--- the node, where one is asked for, is one of `count`
+-- the node that is asked about, if one is, is one of `count`
 abbrev pub IsThere : ℕ → Question → Type 0
 IsThere count OfCluster = Unit {0}
 IsThere count (OfNode node) = node < count
 IsThere count (OfPresence node topic key) = node < count
 
--- the node that is asked for, unless all are
+-- the node that is asked about, or none for all
 abbrev pub node_of : Question → Option ℕ
 node_of OfCluster = None
 node_of (OfNode node) = Some node
@@ -39,13 +39,13 @@ abbrev pub replicas_in : Option Node → List Replica
 replicas_in None = []
 replicas_in (Some x) = x.replica ∷ []
 
--- by what clusters are told apart
+-- what decides whether two clusters differ
 pub data Shown : Type 0 where
   Rows : List Row → Shown
   Replicas : List Replica → Shown
 
--- the rows of the topic and the key in the node's online list, and nothing else; the node's replica, but not the messages that it
--- sent; the replicas of all nodes
+-- what a cluster shows: the rows of the topic and the key in the node's online list; the node's replica, without the messages
+-- that it sent; or the replicas of all nodes
 unfoldable pub shown : Question → Cluster → Shown
 shown OfCluster c = Replicas (map (λ x. x.replica) c)
 shown (OfNode node) c = Replicas (replicas_in (slice_get c node))

@@ -1,4 +1,4 @@
--- All turns of a run, and where its steps stand among those of their turn.
+-- All turns of a run, and the rank of each step in its turn.
 use Rattle.std.specs.Prelude.{ℕ, zero, suc, if◌then◌else◌, List, [], ◌∷◌, ◌++◌, filter, length, map, Option, Some, None}
 use Rattle.std.specs.Option.{is_some, unwrap_or}
 use Rattle.journal_core.specs.Journals.{Kept, sent_by}
@@ -6,11 +6,11 @@ use Rattle.network_rules.specs.declared.turn.Turn.{Turn}
 use Rattle.network_rules.specs.declared.turn.Rank.{Rank}
 use Rattle.network_rules.specs.Turns.{delivery_of, is_of}
 
--- how many of the steps are
+-- how many of the steps are of this turn
 abbrev pub count_of : Turn → List Kept → ℕ
 count_of t ks = length (filter (is_of t) ks)
 
--- of each turn
+-- how many of the steps are of each turn
 abbrev pub counts_of : List Turn → List Kept → List ℕ
 counts_of ts ks = map (λ t. count_of t ks) ts
 
@@ -18,7 +18,7 @@ counts_of ts ks = map (λ t. count_of t ks) ts
 abbrev pub turn_of : List Kept → ℕ → Option (ℕ × ℕ) → Turn
 turn_of j node delivers = record { node = node; delivers = delivers; recorded = count_of (record { node = node; delivers = delivers; recorded = 0 }) j }
 
--- that of this step
+-- the turn of this step
 abbrev pub named : Kept → Turn
 named k = record { node = k.node; delivers = delivery_of k.step; recorded = 0 }
 
@@ -27,7 +27,7 @@ abbrev pub own_turns : List Kept → ℕ → List Turn
 own_turns j zero = []
 own_turns j (suc n) = own_turns j n ++ turn_of j n None ∷ []
 
--- the place of the first that the step is one of, where the list begins at place n
+-- the place of the first turn that the step is of, if the list begins at place n
 abbrev pub place_from : ℕ → List Turn → Kept → Option ℕ
 place_from n [] k = None
 place_from n (t ∷ ts) k = if is_of t k then Some n else place_from (suc n) ts k
@@ -46,7 +46,8 @@ noted_all j ts (k ∷ ks) = noted_all j (noted j ts k) ks
 abbrev pub turns_of : List Kept → ℕ → List Turn
 turns_of j count = noted_all j (own_turns j count) j
 
--- of a step behind these the turn, how many of that turn stand before it, and the number of the message that it sends, if it sends one
+-- for a step after these: its turn, how many steps of that turn stand before it, and the number of the message that it sends, if
+-- it sends one
 abbrev pub rank_of : List Turn → List Kept → Kept → Rank
 rank_of ts done k = record { turn = unwrap_or (place_of ts k) 0; before = count_of (named k) done; number = suc (length (sent_by done k.node)) }
 

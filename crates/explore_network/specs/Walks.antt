@@ -1,4 +1,4 @@
--- Where a walk stands, what was told, and what is settled by it.
+-- Where a walk stands, which outcomes it has found, and what that settles.
 use Rattle.std.specs.Prelude.{◌≡◌, ℕ, ◌+◌, ◌-◌, ◌<◌, ◌≤◌, Bool, true, false, List, [], ◌∷◌, ◌++◌, length, slice_get, Option, Some, None, Ok, refl}
 use Rattle.std.specs.Coded.{Coded, code_by, coded×, coded_ℕ, coded_list}
 use Rattle.std.specs.List.{AllByRecursion, list_any}
@@ -37,16 +37,16 @@ abbrev pub steps_at : List Kept → List ℕ → List Kept
 steps_at j [] = []
 steps_at j (p ∷ ps) = with_step (slice_get j p) (steps_at j ps)
 
--- whether an outcome shows what the cluster does
+-- whether an outcome shows the same as the cluster
 abbrev pub told_by : Question → List Outcome → Cluster → Bool
 told_by q os c = list_any (λ o. same_shown (shown q o.cluster) (shown q c)) os
 
--- no more came again than may, and no delivery came more than twice as often as it was recorded
+-- no more deliveries came again than may, and none came more than twice as often as it was recorded
 pub record IsWithin (p : Plan) (w : List Kept) : Type 0 where
   pub again : extra p.turns (counts_of p.turns w) 0 ≤ p.again
   pub twice : AllByRecursion (λ (t : Turn). count_of t w - t.recorded ≤ t.recorded) p.turns
 
--- after these recorded steps the cluster is this, and the turns came so often; and each node took the first of its own steps
+-- after these recorded steps the cluster and the counts of the turns are these; and each node took the first of its own steps
 pub record IsAt (p : Plan) (w : List Kept) (counts : List ℕ) (c : Cluster) : Type 0 where
   pub ran : runs p.limits p.count w ≡ Ok c
   pub counted : counts ≡ counts_of p.turns w
@@ -54,11 +54,11 @@ pub record IsAt (p : Plan) (w : List Kept) (counts : List ℕ) (c : Cluster) : T
   pub own : (n : ℕ) → (later : List Kept) × (ordered p.steps n ≡ ordered w n ++ later)
   pub within : IsWithin p w
 
--- whatever a run of the network that begins so leads to shows what an outcome shows
+-- each run of the network that begins like this leads to what an outcome shows
 abbrev pub IsTold : Plan → Question → List Outcome → List Kept → Type 0
 IsTold p q os w = IsSettled (walk_of p (told_by q os)) w
 
--- this step can come first, whatever was told
+-- this step can come first, whatever outcomes were found
 abbrev pub CanBeFirst : Plan → List Kept → Cluster → Kept → Type 0
 CanBeFirst p w c k =
     (told : Cluster → Bool) (d : Cluster) → IsWalk (walk_of p told) → step c k.node k.step ≡ Ok d → IsSettled (walk_of p told) (w ++ k ∷ []) → IsSettled (walk_of p told) w
@@ -71,7 +71,7 @@ pub record IsFirst (p : Plan) (counts : List ℕ) (c : Cluster) (place : ℕ) : 
   pub next : next_in p counts place ≡ true
   pub first : (w : List Kept) (k : Kept) → IsAt p w counts c → slice_get p.steps place ≡ Some k → CanBeFirst p w c k
 
--- the key is that of a beginning of runs of the network of which all was told
+-- the key is that of a beginning of runs of the network from which all outcomes were found
 pub record IsKeyOf (p : Plan) (q : Question) (os : List Outcome) (key : List ℕ) : Type 0 where
   pub first : List Kept
   pub counts : List ℕ
@@ -98,7 +98,7 @@ pub record Keeps (p : Plan) (q : Question) (known : List (List ℕ)) (os : List 
   pub apart : AreApart q os
   pub few : length known ≤ p.most
 
--- more states were met than may be kept, and `n` outcomes found
+-- more states came up than may be kept, and `n` outcomes had been found
 pub record IsTooMany (p : Plan) (q : Question) (n : ℕ) : Type 0 where
   pub plan : IsPlan p q
   pub known : List (List ℕ)
@@ -110,7 +110,7 @@ pub record IsTooMany (p : Plan) (q : Question) (n : ℕ) : Type 0 where
   pub apart : AreApart q found
   pub count : length found ≡ n
 
--- there is a reason for the stop, where it was not want of memory
+-- there is a reason for the stop, unless it was want of memory
 abbrev pub HasReason : Plan → Question → Stop → Type 0
 HasReason p q (TooManyStates n) = IsTooMany p q n
 HasReason p q OutOfMemory = Unit {0}
@@ -119,19 +119,20 @@ HasReason p q OutOfMemory = Unit {0}
 abbrev pub AreMore : List Outcome → List Outcome → Type 0
 AreMore os more = (rest : List Outcome) × (more ≡ os ++ rest)
 
--- what goes on with the step at a place: where it is accepted, all that begins with it was told; and it was, if so said
+-- what came of going on with the step at a place: if it is accepted, all outcomes that begin with it were found; and `did` says
+-- that it was accepted
 pub record GoesThrough (p : Plan) (q : Question) (w : List Kept) (c : Cluster) (place : ℕ) (did : Bool) (os : List Outcome) : Type 0 where
   pub told : (k : Kept) (d : Cluster) → slice_get p.steps place ≡ Some k → step c k.node k.step ≡ Ok d → IsTold p q os (w ++ k ∷ [])
   pub taken : did ≡ true → (k : Kept) × ((d : Cluster) × ((slice_get p.steps place ≡ Some k) × (step c k.node k.step ≡ Ok d)))
 
--- as each call of the walk begins: with a plan, what it keeps, where it stands, and how many steps may come yet
+-- what each call of the walk needs: a plan, what the walk keeps, where it stands, and how many steps may still come
 pub record IsReady (p : Plan) (q : Question) (path : List ℕ) (c : Cluster) (known : List (List ℕ)) (os : List Outcome) (counts : List ℕ) (rest : ℕ) : Type 0 where
   pub plan : IsPlan p q
   pub keeps : Keeps p q known os
   pub at : IsAt p (steps_at p.steps path) counts c
   pub left : length (steps_at p.steps path) + rest ≡ length p.steps + p.again
 
--- a step came behind the path that was the next of its turn
+-- a step came after the path, and it was the next of its turn
 pub record IsBehind (p : Plan) (path : List ℕ) (place : ℕ) (k : Kept) (counts : List ℕ) (c : Cluster) : Type 0 where
   pub before : Cluster
   pub at : IsAt p (steps_at p.steps path) counts before
@@ -139,16 +140,16 @@ pub record IsBehind (p : Plan) (path : List ℕ) (place : ℕ) (k : Kept) (count
   pub next : next_in p counts place ≡ true
   pub took : step before k.node k.step ≡ Ok c
 
--- what each call keeps
+-- what each call of a walk leaves: the outcomes so far and perhaps more, and what each walk keeps
 pub record Went (p : Plan) (q : Question) (os : List Outcome) (known : List (List ℕ)) (new : List Outcome) : Type 0 where
   pub more : AreMore os new
   pub keeps : Keeps p q known new
 
--- all was told that begins with the step at this place, if it may come next
+-- if the step at this place may come next, all outcomes that begin with it were found
 abbrev pub GoesThroughAt : Plan → Question → List ℕ → Cluster → List ℕ → List Outcome → ℕ → Type 0
 GoesThroughAt p q path c counts os place =
     (k : Kept) (d : Cluster) → next_in p counts place ≡ true → slice_get p.steps place ≡ Some k → step c k.node k.step ≡ Ok d → IsTold p q os (steps_at p.steps path ++ k ∷ [])
 
--- whichever place it is
+-- whichever place it is, all outcomes that begin with its step were found, if the step may come next
 abbrev pub AllGoThrough : Plan → Question → List ℕ → Cluster → List ℕ → List Outcome → Type 0
 AllGoThrough p q path c counts os = (place : ℕ) → GoesThroughAt p q path c counts os place

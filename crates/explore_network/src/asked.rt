@@ -57,7 +57,7 @@ fn fresh<'a, B: Allocator>(node: &Node<'a, B>) -> Dot
     }
 }
 
-/// Puts the dot of the entry that a step makes, if it is of this topic and key.
+/// Appends the dot of the entry that a step makes, if it is of this topic and key.
 fn put_asked<'a, B: Allocator>(
     dots: &mut Vec<Dot, &'a B>,
     cluster: &Cluster<'a, B>,
@@ -77,7 +77,7 @@ fn put_asked<'a, B: Allocator>(
     }
 }
 
-/// Puts the dots of all presences of a topic and a key that the steps make, which are played.
+/// Plays these steps, and appends the dots of all presences of a topic and a key that they make.
 fn put_all_asked<'a, B: Allocator>(
     dots: &mut Vec<Dot, &'a B>,
     cluster: &mut Cluster<'a, B>,
@@ -117,7 +117,7 @@ fn dots_of_presences<'a, B: Allocator>(
     Ok(dots)
 }
 
-/// Puts the dots of its own that a node has seen.
+/// Appends the dots of a name up to its last.
 fn put_own<'a, B: Allocator>(dots: &mut Vec<Dot, &'a B>, last: Dot) -> Result<(), Oom>
     ensures { OnOk result (dots.new.items ≡ dots.old.items ++ dots_up_to last.name last.clock) }
 {
@@ -130,7 +130,7 @@ fn put_own<'a, B: Allocator>(dots: &mut Vec<Dot, &'a B>, last: Dot) -> Result<()
     Ok(())
 }
 
-/// The same of a node, if it is there.
+/// Appends the own dots that a node has seen, if the node is there.
 fn put_own_of<'a, B: Allocator>(
     dots: &mut Vec<Dot, &'a B>,
     node: Option<&Node<'a, B>>,
@@ -147,7 +147,7 @@ fn put_own_of<'a, B: Allocator>(
     }
 }
 
-/// The same of the first `count` nodes.
+/// Appends the own dots that the first `count` nodes have seen.
 fn put_own_of_all<'a, B: Allocator>(
     dots: &mut Vec<Dot, &'a B>,
     cluster: &Cluster<'a, B>,
@@ -162,7 +162,7 @@ fn put_own_of_all<'a, B: Allocator>(
     Ok(())
 }
 
-/// The dots of their own that the nodes of a cluster have seen.
+/// The own dots that the nodes of a cluster have seen.
 fn own_dots<'a, B: Allocator>(
     cluster: &Cluster<'a, B>,
     count: u16,
@@ -176,7 +176,7 @@ fn own_dots<'a, B: Allocator>(
     Ok(dots)
 }
 
-/// The dots of their own that the nodes have seen at the end.
+/// The own dots that the nodes have seen at the end of the steps.
 fn dots_of_nodes<'a, B: Allocator>(
     steps: &[Kept<&'a B>],
     count: u16,
@@ -195,7 +195,7 @@ fn dots_of_nodes<'a, B: Allocator>(
     dots
 }
 
-/// The dots that are asked for.
+/// The dots that a question is about.
 pub(crate) fn dots_of<'a, B: Allocator>(
     steps: &[Kept<&'a B>],
     count: u16,

@@ -8,7 +8,7 @@ use network_rules::{Turn, count_at};
 use node_core::Oom;
 use std::alloc::Allocator;
 
-/// How often a turn came that came so often, with one step more.
+/// The count of a turn after one more step, if it was `count` before.
 fn count_with<A: Allocator>(turn: Turn, kept: &Kept<A>, count: usize) -> usize
     ensures { (w : List PlainKept) → count ≡ count_of turn w → length w + 1 < 2 ^ 64 → result ≡ count_of turn (w ++ kept.now ∷ []) }
 {
@@ -19,7 +19,7 @@ fn count_with<A: Allocator>(turn: Turn, kept: &Kept<A>, count: usize) -> usize
     }
 }
 
-/// How often each turn came, with one step more.
+/// How often each turn came, with one more step.
 pub(crate) fn counted<'a, B: Allocator>(
     kept: &Kept<&'a B>,
     turns: &[Turn],

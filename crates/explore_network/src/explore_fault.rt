@@ -1,19 +1,21 @@
-//! `ExploreFault`: why nothing is told.
+//! `ExploreFault`: why an exploration gives no outcomes.
 ghost use Rattle.std.specs.Prelude.{◌≡◌, ◌≢◌, ℕ};
 
 use node_core::Oom;
 
-/// Why the outcomes aren't told.
+/// Why an exploration gives no outcomes.
 #[derive(Clone, Copy, Debug, PartialEq, Eq)]
 pub enum ExploreFault {
-    /// As many states were kept as may be, and there was another; these outcomes had been found, by their number.
+    /// The walk reached a further state when it had kept as many as it may; it had found this many outcomes.
     TooManyStates { outcomes: usize },
     /// In some order the joins and updates could fill a node.
     MayFill,
+    /// A run could have more than 3,000 steps.
+    TooManySteps,
     OutOfMemory,
 }
 
-/// Why a walk ended before all was told.
+/// Why a walk ended before it had found all outcomes.
 #[derive(Clone, Copy, Debug, PartialEq, Eq)]
 pub(crate) enum Stop {
     TooManyStates { outcomes: usize },
@@ -40,9 +42,10 @@ impl From<Oom> for ExploreFault {
     }
 }
 
-/// The same, where the steps fill no node.
+/// The fault of an exploration that stopped for this reason. Its steps fill no node.
 pub(crate) fn fault_of(stop: Stop) -> ExploreFault
     ensures fills_not { result ≢ ExploreFault.MayFill }
+    ensures few_steps { result ≢ ExploreFault.TooManySteps }
     ensures same { (found : ℕ) → result ≡ ExploreFault.TooManyStates found → stop ≡ Stop.TooManyStates found }
 {
     match stop {

@@ -33,6 +33,9 @@ use node_core::Oom;
 use progress_core::{Walked, Watch};
 use std::alloc::Allocator;
 
+/// The steps that a run may have, since the walk goes a call deeper at each.
+const MOST_STEPS: u128 = 3000;
+
 /// What was found, and how many states were kept.
 #[derive(Drop)]
 pub struct Explored<'a, B: Allocator> {
@@ -40,7 +43,7 @@ pub struct Explored<'a, B: Allocator> {
     pub states: usize,
 }
 
-/// The turns, the ranks and the names that matter, of these steps.
+/// The turns and ranks of these steps, and the names that matter for them.
 #[derive(Drop)]
 struct Parts<'a, B: Allocator> {
     turns: Vec<Turn, &'a B>,
@@ -48,7 +51,7 @@ struct Parts<'a, B: Allocator> {
     cone: Cone<'a, B>,
 }
 
-/// What a plan finds in its steps.
+/// What a plan finds out about its steps.
 fn parts_of<'a, B: Allocator>(
     steps: &[Kept<&'a B>],
     count: u16,
@@ -199,7 +202,7 @@ fn explored_of<'a, B: Allocator>(walk: Walk<'a, B>) -> Explored<'a, B>
     Explored { outcomes, states }
 }
 
-/// All outcomes of a plan, of whose recorded run each step is accepted.
+/// All outcomes of a plan whose recorded run is accepted.
 fn explore_plan<'a, B: Allocator, W: Watch<Walked>>(
     plan: &Plan<'a, B>,
     question: &Question<&'a B>,
@@ -232,8 +235,9 @@ fn explore_plan<'a, B: Allocator, W: Watch<Walked>>(
     }
 }
 
-/// All outcomes of what the network could have made of the steps that remain: with up to `lost` deliveries missing, and up to
-/// `again` that come a second time. At most `most` states are kept. The watcher is told how far the walk has come.
+/// All outcomes of what the network could have made of the steps that remain: with up to `lost` deliveries missing, and
+/// up to `again` that come a second time. It keeps at most `most` states. It tells the watcher how far the walk has
+/// come.
 pub fn explore<'a, B: Allocator, W: Watch<Walked>>(
     bench: &Bench<'a, B>,
     question: &Question<&'a B>,
@@ -252,6 +256,8 @@ pub fn explore<'a, B: Allocator, W: Watch<Walked>>(
     ensures too_many { (found : ℕ) → result ≡ Err (ExploreFault.TooManyStates found) → AreTooMany bench.now (plain question.now) lost again most found }
     ensures may_fill { result ≡ Err ExploreFault.MayFill → (node_limits bench.now.limits).entries < made bench.now.state.remaining }
     ensures fills_not { IsOk result → made bench.now.state.remaining ≤ (node_limits bench.now.limits).entries }
+    ensures too_many_steps { result ≡ Err ExploreFault.TooManySteps → 3000 < length bench.now.state.remaining + again }
+    ensures few_steps { IsOk result → length bench.now.state.remaining + again ≤ 3000 }
     ensures watched { Watched W.told watch.old watch.new }
 {
     bench.bench_law();
@@ -260,6 +266,10 @@ pub fn explore<'a, B: Allocator, W: Watch<Walked>>(
     if made(&steps) as u64 > limits.entries {
         drop(steps);
         return Err(ExploreFault::MayFill);
+    }
+    if steps.len() as u128 + again as u128 > MOST_STEPS {
+        drop(steps);
+        return Err(ExploreFault::TooManySteps);
     }
     let count = bench.names().len() as u16;
     let plan = plan_of(steps, count, limits, question, lost, again, most, alloc)?;

@@ -1,4 +1,4 @@
-//! What may come before all that needs not come first.
+//! The step that can be taken first without missing an outcome.
 ghost use Rattle.std.specs.Prelude.{◌≡◌, ◌⊎◌, IsTrue, IfSome};
 ghost use Rattle.explore_network.specs.Easy.{CanGoFirst, GoesFirst};
 ghost use Rattle.explore_network.specs.Plans.{IsPlan};
@@ -12,7 +12,7 @@ use bench_core::{Cluster, Kept};
 use network_rules::{Rank, are_spent, delivery, is_easy, is_idle, is_next};
 use std::alloc::Allocator;
 
-/// Whether an own step speaks of its node alone, or nothing more is delivered there.
+/// Whether an own step concerns its node alone, or nothing more is delivered there.
 fn is_alone<'a, B: Allocator>(
     plan: &Plan<'a, B>,
     cluster: &Cluster<'a, B>,
@@ -27,7 +27,7 @@ fn is_alone<'a, B: Allocator>(
     are_spent(plan.turns(), counts, plan.again(), kept.node)
 }
 
-/// Whether the step can come before all that needs not come first, if it comes next.
+/// Whether the step, if it comes next, can be taken first without missing an outcome.
 fn goes_first<'a, B: Allocator>(
     plan: &Plan<'a, B>,
     cluster: &Cluster<'a, B>,
@@ -52,7 +52,7 @@ fn goes_first<'a, B: Allocator>(
     }
 }
 
-/// The same of the step at a place.
+/// As `goes_first`, for the step at a place.
 fn can_go_first<'a, B: Allocator>(
     plan: &Plan<'a, B>,
     cluster: &Cluster<'a, B>,
@@ -70,7 +70,7 @@ fn can_go_first<'a, B: Allocator>(
     goes_first(plan, cluster, counts, kept, *rank)
 }
 
-/// The first step that can come before all that needs not come first, if there is such.
+/// The first step that can be taken first without missing an outcome, if there is one.
 pub(crate) fn first<'a, B: Allocator>(
     plan: &Plan<'a, B>,
     cluster: &Cluster<'a, B>,

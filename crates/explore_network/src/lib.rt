@@ -1,9 +1,10 @@
 //! All that the network could have made of the steps of a bench: what each node did, in its order, with messages that come at
-//! other times, get lost, or come again. Which outcomes that has, each with a run that leads there.
+//! other times, get lost, or come again. It finds the outcomes, each with a run that leads there.
 //!
-//! In the order to read them: `question`, `shown` and `outcome`, what is told apart; `turns`, whose step or delivery each step is, and
-//! `counts`, how often each came; `playing`, runs that are played; `asked`, which dots matter, and `rounds`, which names matter
-//! where; `plan`; `table`, which states are known; `first`, what may come before all else; `walk`; `steps` and `exploring`.
+//! In the order to read them: `question`, `shown` and `outcome`, what counts as one outcome; `turns`, whose step or delivery
+//! each step is, and `counts`, how often each came; `playing`, runs that are played; `asked`, which dots matter, and `rounds`,
+//! which names matter where; `plan`; `table`, which states are known; `first`, the step that can be taken first; `walk`;
+//! `steps` and `exploring`.
 #![tactic(auto)]
 
 mod asked;

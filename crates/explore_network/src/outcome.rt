@@ -42,7 +42,7 @@ impl<'a, B: Allocator> Outcome<'a, B> {
         self.run.as_slice()
     }
 
-    /// Where they lead.
+    /// The cluster to which the steps lead.
     pub fn cluster(&self) -> &Cluster<'a, B>
         ensures { result.now ≡ self.now.cluster }
     {
@@ -50,7 +50,7 @@ impl<'a, B: Allocator> Outcome<'a, B> {
     }
 }
 
-/// Whether one of the outcomes shows what a cluster does.
+/// Whether one of the outcomes shows the same as a cluster.
 pub(crate) fn is_told<'a, B: Allocator>(
     outcomes: &[Outcome<'a, B>],
     cluster: &Cluster<'a, B>,

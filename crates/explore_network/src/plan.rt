@@ -1,4 +1,4 @@
-//! `Plan`: what is fixed of all runs of the network.
+//! `Plan`: what all runs of the network have in common.
 ghost use Rattle.std.specs.Prelude.{◌≡◌, ◌≤◌};
 
 use bench_core::{Kept, NodeLimits};
@@ -8,7 +8,7 @@ use std::marker::Model;
 
 pub(crate) type Steps<A> = Vec<Kept<A>, A>;
 
-/// What is fixed of all runs of the network.
+/// What all runs of the network have in common.
 #[derive(Drop)]
 pub(crate) struct Plan<'a, B: Allocator> {
     pub(crate) limits: NodeLimits,
@@ -17,7 +17,7 @@ pub(crate) struct Plan<'a, B: Allocator> {
     pub(crate) steps: Steps<&'a B>,
     /// How many deliveries may be missing.
     pub(crate) lost: usize,
-    /// How many may come a second time.
+    /// How many deliveries may come a second time.
     pub(crate) again: usize,
     /// How many states may be kept.
     pub(crate) most: usize,

@@ -1,4 +1,4 @@
-//! Runs by the places of their steps among the recorded ones, played.
+//! Plays runs that are given by the places of their steps among the recorded ones.
 ghost use Rattle.std.specs.Prelude.{◌≡◌, ◌≤◌, [], IfNone, IfOk, IfSome, OnOk, Ok, slice_get};
 ghost use Rattle.node_core.specs.Inverses.{plain_inverse};
 ghost use Rattle.bench_core.specs.Benches.{LeadsClusterBack, LeadsNodeBack, NodeGoesBack};
@@ -30,7 +30,7 @@ pub(crate) fn played<'a, B: Allocator>(
     Ok(cluster)
 }
 
-/// Has its node take the step at a place, if it is accepted.
+/// Has the node of the step at a place take it, if it is accepted.
 pub(crate) fn play<'a, B: Allocator>(
     cluster: &mut Cluster<'a, B>,
     steps: &[Kept<&'a B>],
@@ -51,7 +51,7 @@ pub(crate) fn play<'a, B: Allocator>(
     }
 }
 
-/// Has its node take a step: where it is accepted, what leads back.
+/// Has its node take a step. Gives the inverse, if the step is accepted.
 pub(crate) fn ask<'a, B: Allocator>(
     cluster: &mut Cluster<'a, B>,
     kept: &Kept<&'a B>,
@@ -68,7 +68,7 @@ pub(crate) fn ask<'a, B: Allocator>(
     }
 }
 
-/// Back from a step that its node took.
+/// Takes back a step that its node took.
 pub(crate) fn lead_back<'a, B: Allocator>(
     cluster: &mut Cluster<'a, B>,
     node: u16,

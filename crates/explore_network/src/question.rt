@@ -1,11 +1,11 @@
-//! `Question`: what is asked for, by which clusters are told apart.
+//! `Question`: what is asked, which decides when two clusters count as different.
 ghost use Rattle.std.specs.Prelude.{◌≡◌, ◌↔◌, IsTrue};
 ghost use Rattle.explore_network.specs.Questions.{node_of, plain, IsThere};
 
 use payload_core::Word;
 use std::alloc::Allocator;
 
-/// What is asked for.
+/// What is asked.
 #[derive(Drop)]
 pub enum Question<A: Allocator> {
     /// All of the cluster: the replica of each node.
@@ -21,7 +21,7 @@ pub enum Question<A: Allocator> {
 }
 
 impl<A: Allocator> Question<A> {
-    /// Whether the node that is asked for, where one is, is one of `count`.
+    /// Whether the node that is asked about, if any, is one of `count` nodes.
     pub fn is_there(&self, count: usize) -> bool
         ensures { IsTrue result ↔ IsThere count (plain self.now) }
     {
@@ -36,7 +36,7 @@ impl<A: Allocator> Question<A> {
         }
     }
 
-    /// The node that is asked for, unless all are.
+    /// The node that is asked about, or `None` for all.
     pub(crate) fn node(&self) -> Option<u16>
         ensures { result ≡ node_of (plain self.now) }
     {

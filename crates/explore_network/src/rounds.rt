@@ -1,5 +1,5 @@
-//! Which names matter where, found by rounds from what is asked at the end backwards. Nothing is proved of the rounds: what they
-//! find is checked.
+//! Which names matter where. Rounds find it, from the end of the run back to its beginning. Nothing is proved of the rounds:
+//! what they find is checked.
 ghost use Rattle.std.specs.Prelude.{◌≡◌, ◌<◌, IfOk};
 ghost use Rattle.std.specs.List.{AllByRecursion};
 ghost use Rattle.dots_core.specs.declared.dot.Dot.{Dot as PlainDot};
@@ -12,7 +12,7 @@ use network_rules::{Cone, Rank, Rows, Turn, all_names, cone_of, delivery, said};
 use node_core::Oom;
 use std::alloc::Allocator;
 
-/// Both.
+/// The names of both sets.
 fn union(one: NameSet, other: NameSet) -> NameSet {
     let mut names = one;
     for name in 0..32u16 {
@@ -23,20 +23,20 @@ fn union(one: NameSet, other: NameSet) -> NameSet {
     names
 }
 
-// While the rounds go, sets of names stand in rows of one width, one for each node: behind each number of its own steps, or of each
-// of its messages.
+// During the rounds the sets of names stand in rows of one width, one row for each node: a set after each
+// number of its own steps, or for each of its messages.
 
-/// Where a place of a node's row stands.
+/// The index of a place in a node's row.
 fn index(width: usize, node: u16, place: usize) -> usize {
     (node as usize).saturating_mul(width).saturating_add(place)
 }
 
-/// The names there; none beyond the end.
+/// The names at an index; none beyond the end.
 fn at(names: &[NameSet], index: usize) -> NameSet {
     names.get(index).copied().unwrap_or(NameSet::empty())
 }
 
-/// These names matter there, too. Whether that is news.
+/// Adds names that matter at an index, and says whether any is new.
 fn add(names: &mut [NameSet], index: usize, more: NameSet) -> bool {
     let Some(before) = names.get_mut(index) else {
         return false;
@@ -47,7 +47,7 @@ fn add(names: &mut [NameSet], index: usize, more: NameSet) -> bool {
     is_news
 }
 
-/// What matters to a node from its beginning on matters of a message that it may take. Whether that is news.
+/// What matters to a node from its beginning on matters in a message that it may take. Says whether any name is new.
 fn widen_message(
     matters: &[NameSet],
     carries: &mut [NameSet],
@@ -61,7 +61,7 @@ fn widen_message(
     add(carries, index(width, sender, place), names)
 }
 
-/// What matters behind an own step matters before it, and so does what it sends. Whether that is news.
+/// What matters after an own step matters before it, and in what it sends. Says whether any name is new.
 fn widen_node<A: Allocator>(
     matters: &mut [NameSet],
     carries: &[NameSet],
@@ -76,7 +76,7 @@ fn widen_node<A: Allocator>(
     add(matters, here, union(behind, sent))
 }
 
-/// What matters behind a step matters before it. Whether that is news.
+/// What matters after a step matters before it. Says whether any name is new.
 fn widen<A: Allocator>(
     matters: &mut [NameSet],
     carries: &mut [NameSet],
@@ -92,7 +92,7 @@ fn widen<A: Allocator>(
     }
 }
 
-/// One round, from the last step to the first.
+/// One round, from the last step to the first. Says whether any name is new.
 fn widen_all<A: Allocator>(
     matters: &mut [NameSet],
     carries: &mut [NameSet],
@@ -110,7 +110,7 @@ fn widen_all<A: Allocator>(
     is_news
 }
 
-/// Has all names matter that can.
+/// Makes rounds until no name is new, at most 2,048.
 fn close<A: Allocator>(
     matters: &mut [NameSet],
     carries: &mut [NameSet],
@@ -125,7 +125,7 @@ fn close<A: Allocator>(
     }
 }
 
-/// What matters at the end of the node that is asked for, or of all: rows of `count` nodes.
+/// The rows of `count` nodes at the end of the run: what matters there, for the node that is asked about, or for all.
 fn begun<'a, B: Allocator>(
     width: usize,
     asked: Option<u16>,
@@ -147,7 +147,7 @@ fn begun<'a, B: Allocator>(
     Ok(names)
 }
 
-/// So many names from a place on.
+/// A copy of `count` sets of names, from a place on.
 fn row<'a, B: Allocator>(
     names: &[NameSet],
     first: usize,
@@ -161,7 +161,7 @@ fn row<'a, B: Allocator>(
     Ok(row)
 }
 
-/// The names that matter to nodes, as many of each as it has own steps, and one more.
+/// The names that matter to the nodes: of each node a set at its beginning, and one after each of its own steps.
 fn rows_of_nodes<'a, B: Allocator>(
     matters: &[NameSet],
     width: usize,
@@ -177,7 +177,7 @@ fn rows_of_nodes<'a, B: Allocator>(
     Ok(rows)
 }
 
-/// The names that matter of messages, as many of each node as it sends.
+/// The names that matter in messages: of each node a set for each message that it sends.
 fn rows_of_messages<'a, B: Allocator>(
     steps: &[Kept<&'a B>],
     carries: &[NameSet],
@@ -192,7 +192,7 @@ fn rows_of_messages<'a, B: Allocator>(
     Ok(rows)
 }
 
-/// Of nodes and of messages the names that matter.
+/// The names that matter to nodes, and in messages.
 #[derive(Drop)]
 struct Found<A: Allocator> {
     matters: Rows<A>,
@@ -218,7 +218,7 @@ fn rows_found<'a, B: Allocator>(
     Ok(Found { matters, carries })
 }
 
-/// What matters for these dots at the end of the node that is asked for, or of all.
+/// The cone of these dots: what matters for them at the end of the node that is asked about, or of all.
 pub(crate) fn cone_for<'a, B: Allocator>(
     steps: &[Kept<&'a B>],
     dots: Vec<Dot, &'a B>,

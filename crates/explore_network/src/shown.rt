@@ -1,4 +1,4 @@
-//! Whether two clusters show the same of what is asked.
+//! Whether two clusters show the same to a question.
 ghost use Rattle.std.specs.Prelude.{◌≡◌, ◌↔◌, ◌≤◌, IfOk, IsTrue, filter, length, map, option_map, slice_get};
 ghost use Rattle.network_core.specs.Rows.{is_row_of};
 ghost use Rattle.explore_network.specs.Questions.{plain, replicas_in, rows_in, shown};
@@ -13,14 +13,14 @@ use std::alloc::Allocator;
 
 type Rows<A> = Vec<OnlineRow<A>, A>;
 
-/// Whether the row is of this topic and key.
+/// Whether the row has this topic and key.
 fn is_of<A: Allocator>(row: &OnlineRow<A>, topic: &Word<A>, key: &Word<A>) -> bool
     ensures { result ≡ is_row_of topic.now key.now row.now }
 {
     row.topic == *topic && row.key == *key
 }
 
-/// Copies of the rows of this topic and key.
+/// Copies of the rows with this topic and key.
 fn rows_of<A: Allocator + Copy>(
     alloc: A,
     rows: &[OnlineRow<A>],
@@ -38,7 +38,7 @@ fn rows_of<A: Allocator + Copy>(
     Ok(found)
 }
 
-/// The rows of the node's online list with this topic and key; none where there is no such node.
+/// The rows of the node's online list with this topic and key; none if there is no such node.
 pub fn rows_in<'a, B: Allocator>(
     found: Option<&Node<'a, B>>,
     topic: &Word<&'a B>,
@@ -63,7 +63,7 @@ fn same_rows<A: Allocator>(rows: &[OnlineRow<A>], others: &[OnlineRow<A>]) -> bo
     rows == others
 }
 
-/// Whether a node of both has the same rows of this topic and key.
+/// Whether two nodes show the same rows of this topic and key.
 fn same_rows_in<'a, B: Allocator>(
     one: Option<&Node<'a, B>>,
     other: Option<&Node<'a, B>>,
@@ -81,7 +81,7 @@ fn same_rows_in<'a, B: Allocator>(
     Ok(same)
 }
 
-/// Whether a node of both has the same replica.
+/// Whether two nodes have the same replica.
 fn same_replica<'a, B: Allocator>(one: Option<&Node<'a, B>>, other: Option<&Node<'a, B>>) -> bool
     ensures { IsTrue result ↔ (replicas_in (option_map (λ n. n.now) one.entry) ≡ replicas_in (option_map (λ n. n.now) other.entry)) }
 {
@@ -94,7 +94,7 @@ fn same_replica<'a, B: Allocator>(one: Option<&Node<'a, B>>, other: Option<&Node
     }
 }
 
-/// Whether each node of both has the same replica.
+/// Whether the nodes of two clusters have the same replicas, node by node.
 fn same_replicas<'a, B: Allocator>(one: &Cluster<'a, B>, other: &Cluster<'a, B>) -> bool
     requires few { length one.now ≤ 32 }
     requires few_too { length other.now ≤ 32 }
@@ -108,7 +108,7 @@ fn same_replicas<'a, B: Allocator>(one: &Cluster<'a, B>, other: &Cluster<'a, B>)
     true
 }
 
-/// Whether both clusters show the same.
+/// Whether both clusters show the same to the question.
 #[tactic(auto, unfolding(crate::specs::Questions::shown))]
 pub(crate) fn show_same<'a, B: Allocator>(
     one: &Cluster<'a, B>,

@@ -1,4 +1,4 @@
-//! `Table`: the keys of states of which all was told.
+//! `Table`: the keys of the states from which all outcomes were found.
 ghost use Rattle.std.specs.Prelude.{◌≡◌, ◌⊎◌, ◌++◌, ◌∷◌, [], IsTrue, OnOk, length};
 ghost use Rattle.explore_network.specs.Keys.{IsAmong};
 
@@ -9,7 +9,7 @@ use std::alloc::Allocator;
 use std::hash::{BuildHasherDefault, FoldHasher};
 use std::marker::Model;
 
-/// The keys of states of which all was told.
+/// The keys of the states from which all outcomes were found.
 #[derive(Drop)]
 pub(crate) struct Table<'a, B: Allocator> {
     known: IndexSet<Key<&'a B>, BuildHasherDefault<FoldHasher>, &'a B>,
@@ -46,7 +46,7 @@ impl<'a, B: Allocator> Table<'a, B> {
         self.known.contains(key)
     }
 
-    /// Puts a key behind the others, unless it is among them.
+    /// Adds a key, unless it is among them.
     pub(crate) fn put(&mut self, key: Key<&'a B>) -> Result<(), Oom>
         ensures { OnOk result ((self.new ≡ self.old) ⊎ ((self.new ≡ self.old ++ key.entry.items ∷ []) × (IsAmong key.entry.items self.old → ⊥))) }
     {

@@ -1,4 +1,4 @@
-//! The turns of a run, and where its steps stand among those of theirs.
+//! The turns of a run, and the rank of each step in its turn.
 ghost use Rattle.std.specs.Prelude.{◌≡◌, ◌+◌, ◌<◌, ◌≤◌, ◌^◌, IfOk, OnOk, length};
 ghost use Rattle.journal_core.specs.Journals.{sent_by};
 ghost use Rattle.explore_network.specs.Turns.{count_of, noted, own_turns, place_of, rank_of, ranks_of, turn_of, turns_of};
@@ -43,7 +43,7 @@ fn turn_of<A: Allocator>(steps: &[Kept<A>], node: u16, delivers: Option<(u16, u6
     }
 }
 
-/// Puts the turn of a step behind the others, unless it is among them.
+/// Appends the turn of a step, unless it is among these.
 fn note<'a, B: Allocator>(
     turns: &mut Vec<Turn, &'a B>,
     steps: &[Kept<&'a B>],
@@ -100,7 +100,7 @@ pub(crate) fn sent<A: Allocator>(steps: &[Kept<A>], node: u16) -> usize
         .count()
 }
 
-/// Where a step stands that comes behind these.
+/// The rank of a step that comes after these.
 fn rank_of<A: Allocator>(turns: &[Turn], done: &[Kept<A>], kept: &Kept<A>) -> Rank
     requires { length done.now + 1 < 2 ^ 64 }
     ensures { result ≡ rank_of turns.now done.now kept.now }
@@ -117,7 +117,7 @@ fn rank_of<A: Allocator>(turns: &[Turn], done: &[Kept<A>], kept: &Kept<A>) -> Ra
     }
 }
 
-/// Where the steps stand, by place.
+/// The ranks of the steps, by place.
 pub(crate) fn ranks_of<'a, B: Allocator>(
     steps: &[Kept<&'a B>],
     turns: &[Turn],

@@ -39,12 +39,12 @@ pub(crate) struct Walk<'a, B: Allocator> {
     pub(crate) cluster: Cluster<'a, B>,
     /// The places of the steps so far.
     pub(crate) path: Vec<usize, &'a B>,
-    /// The states of which all outcomes were told.
+    /// The states from which all outcomes were found.
     pub(crate) settled: Table<'a, B>,
     pub(crate) outcomes: Vec<Outcome<'a, B>, &'a B>,
 }
 
-/// Tells where the path leads, unless an outcome shows the same.
+/// Adds the outcome to which the path leads, unless another shows the same.
 fn tell<'a, B: Allocator>(tour: &Tour<'a, '_, B>, walk: &mut Walk<'a, B>) -> Result<(), Oom>
     requires plan { IsPlan tour.now.plan.now (plain tour.now.question.now) }
     requires keeps { Keeps tour.now.plan.now (plain tour.now.question.now) walk.old.settled walk.old.outcomes.items }
@@ -77,7 +77,7 @@ pub(crate) fn outcome_of<'a, B: Allocator>(
     Ok(Outcome::new(run, cluster))
 }
 
-/// Tells where the path leads, if nothing need come any more.
+/// Adds the outcome to which the path leads, if all steps that must come have come.
 fn tell_end<'a, B: Allocator>(
     tour: &Tour<'a, '_, B>,
     walk: &mut Walk<'a, B>,
@@ -119,7 +119,7 @@ fn key_at<'a, B: Allocator>(
     )
 }
 
-/// Goes on behind a step that was taken.
+/// Goes on after a step that was taken.
 #[cycle(visit)]
 fn onward<'a, B: Allocator, W: Watch<Walked>>(
     tour: &Tour<'a, '_, B>,
@@ -150,7 +150,8 @@ fn onward<'a, B: Allocator, W: Watch<Walked>>(
     Ok(())
 }
 
-/// Goes on with the step at this place, if it is accepted, and back.
+/// Takes the step at this place, if it is accepted, goes on from there, and takes it back. Says whether it was
+/// accepted.
 #[cycle(visit)]
 fn through<'a, B: Allocator, W: Watch<Walked>>(
     tour: &Tour<'a, '_, B>,
@@ -235,7 +236,7 @@ fn go_on<'a, B: Allocator, W: Watch<Walked>>(
     Ok(())
 }
 
-/// Goes on with the first step that can come before all that needs not come first, and says whether there is such.
+/// Goes on with the first step that can be taken first without missing an outcome, and says whether there is one.
 #[cycle(visit)]
 fn go_first<'a, B: Allocator, W: Watch<Walked>>(
     tour: &Tour<'a, '_, B>,
@@ -258,7 +259,7 @@ fn go_first<'a, B: Allocator, W: Watch<Walked>>(
     }
 }
 
-/// Tells where the path leads, if it may end here, and all that goes on.
+/// Adds the outcome to which the path leads, if it may end here, and those of all that goes on from here.
 #[cycle(visit)]
 fn tell_all<'a, B: Allocator, W: Watch<Walked>>(
     tour: &Tour<'a, '_, B>,
@@ -279,7 +280,7 @@ fn tell_all<'a, B: Allocator, W: Watch<Walked>>(
     go_on(tour, walk, counts, left, watch)
 }
 
-/// Tells all outcomes of what can come from here on, unless they were told.
+/// Adds all outcomes of what can come from here on, unless they were found before.
 #[cycle(visit)]
 fn tell_once<'a, B: Allocator, W: Watch<Walked>>(
     tour: &Tour<'a, '_, B>,
@@ -310,7 +311,7 @@ fn tell_once<'a, B: Allocator, W: Watch<Walked>>(
     Ok(())
 }
 
-/// Tells all outcomes of what can come from here on. The watcher is told how far the walk has come.
+/// Adds all outcomes of what can come from here on. It tells the watcher how far the walk has come.
 #[cycle(visit)]
 pub(crate) fn visit<'a, B: Allocator, W: Watch<Walked>>(
     tour: &Tour<'a, '_, B>,

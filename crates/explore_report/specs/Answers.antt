@@ -1,5 +1,5 @@
 -- What is asked by words: all outcomes, or the run of one.
-use Rattle.std.specs.Prelude.{◌≡◌, ◌<◌, ◌≤◌, ℕ, List, [], Some, None, length}
+use Rattle.std.specs.Prelude.{◌≡◌, ◌<◌, ◌≤◌, ◌+◌, ℕ, List, [], Some, None, length}
 use Rattle.payload_core.specs.Messages.{numbered}
 use Rattle.bench_core.specs.Limits.{node_limits}
 use Rattle.bench_core.specs.Machine.{Machine}
@@ -22,12 +22,12 @@ pub record AreOutcomes (m : Machine) (q : Plain) (lost again : ℕ) (os : List O
   pub distinct : AreDistinct q os
   pub first : BeginsAsRecorded m os
 
--- there are these of what is asked
+-- these are the outcomes that the question asks for
 pub record HasOutcomes (m : Machine) (question : Question) (q : Plain) (os : List Outcome) : Type 0 where
   pub asks : Asks m question.about q
   pub outcomes : AreOutcomes m q question.lost question.again os
 
--- the text tells them
+-- the text tells these outcomes
 pub record IsAnswer (m : Machine) (question : Question) (text : List ℕ) : Type 0 where
   pub q : Plain
   pub outcomes : List Outcome
@@ -36,7 +36,7 @@ pub record IsAnswer (m : Machine) (question : Question) (text : List ℕ) : Type
   pub few : states ≤ question.states
   pub told : text ≡ explore_text m q outcomes states
 
--- the text is the run of the outcome that is told under this number, as a script
+-- the text is the run of an outcome as a script: of the outcome with this number among those found
 pub record IsRun (m : Machine) (question : Question) (number : ℕ) (text : List ℕ) : Type 0 where
   pub q : Plain
   pub outcomes : List Outcome
@@ -53,22 +53,24 @@ pub record HasNoOutcome (m : Machine) (question : Question) (number there_are : 
   pub count : length outcomes ≡ there_are
   pub none : numbered outcomes number ≡ None
 
--- the outcomes aren't told: more states would be kept than may be; more entries are made than a node may hold; or memory was refused
+-- why the outcomes aren't told: there are more states than may be kept; the steps make more entries than a node may hold; a run
+-- could have too many steps; or memory was refused
 abbrev pub StopsShort : Machine → Question → Plain → ReportFault → Type 0
 StopsShort m question q (faults.TooManyStates states outcomes) =
     (states ≡ question.states) × AreTooMany m q question.lost question.again question.states outcomes
 StopsShort m question q faults.MayFill = (node_limits m.limits).entries < made m.state.remaining
+StopsShort m question q faults.TooManySteps = 3000 < length m.state.remaining + question.again
 StopsShort m question q faults.OutOfMemory = Unit {0}
 StopsShort m question q _ = ⊥
 
--- nothing is told: what is asked stands for no question; or it does, and the outcomes aren't told
+-- why there is no text: what is asked stands for no question; or it does, and the outcomes aren't told
 abbrev pub Refuses : Machine → Question → ReportFault → Type 0
 Refuses m question faults.NoSuchNode = IsUnasked m question.about faults.NoSuchNode
 Refuses m question faults.NoWord = IsUnasked m question.about faults.NoWord
 Refuses m question faults.OutOfMemory = Unit {0}
 Refuses m question fault = (q : Plain) × (Asks m question.about q × StopsShort m question q fault)
 
--- or there is no outcome of this number
+-- why there is no run: what is asked stands for no question; the outcomes aren't told; or there is no outcome with this number
 abbrev pub RefusesRun : Machine → Question → ℕ → ReportFault → Type 0
 RefusesRun m question number (faults.NoSuchOutcome there_are) = HasNoOutcome m question number there_are
 RefusesRun m question number fault = Refuses m question fault

@@ -9,13 +9,13 @@ use Rattle.explore_report.specs.declared.question.About.TheVariants.{Cluster, No
 use Rattle.explore_report.specs.declared.report_fault.ReportFault.{ReportFault}
 use Rattle.explore_report.specs.declared.report_fault.ReportFault.TheVariants as faults
 
--- the question, where there is a node of the name
+-- the question, if there is a node of the name
 abbrev pub named : Machine → About → Option Question
 named m Cluster = Some OfCluster
 named m (Node name) = option_map OfNode (number_in m.names name.now)
 named m (Presence node topic key) = option_map (λ n. OfPresence n topic.now key.now) (number_in m.names node.now)
 
--- topic and key are words
+-- whether topic and key are words
 abbrev pub are_words : About → Bool
 are_words Cluster = true
 are_words (Node name) = true
@@ -26,7 +26,7 @@ pub record Asks (m : Machine) (about : About) (q : Question) : Type 0 where
   pub is : named m about ≡ Some q
   pub words : are_words about ≡ true
 
--- it stands for none: there is no such node; there is, and topic or key is no word; or memory was refused
+-- what is asked stands for no question: there is no such node; there is, and topic or key is no word; or memory was refused
 abbrev pub IsUnasked : Machine → About → ReportFault → Type 0
 IsUnasked m about faults.NoSuchNode = named m about ≡ None
 IsUnasked m about faults.NoWord = IsSome (named m about) × (are_words about ≡ false)

@@ -26,12 +26,12 @@ head_line names q outcomes states =
 unfoldable pub node_text : Texts → Cluster → ℕ → List ℕ
 node_text names c node = online_text names node (listed_in (slice_get c node)) ++ dots_text names (slice_get c node)
 
--- of the first nodes, by number
+-- the texts of the first nodes, by number
 unfoldable pub nodes_text : Texts → Cluster → ℕ → List ℕ
 nodes_text names c zero = []
 nodes_text names c (suc node) = nodes_text names c node ++ node_text names c node
 
--- what is asked: that of each node; of one; or the rows of a topic and a key at one, each after `= `
+-- what the question shows: the text of each node; that of one; or the rows of a topic and a key at one, each after `= `
 unfoldable pub shown_text : Texts → Question → Cluster → List ℕ
 shown_text names OfCluster c = nodes_text names c (length names)
 shown_text names (OfNode node) c = node_text names c node
@@ -50,11 +50,11 @@ run_of m o = steps_at m.state.remaining o.run
 unfoldable pub outcome_text : Machine → Question → ℕ → Outcome → List ℕ
 outcome_text m q k o = codes "outcome " ++ decimal k ++ codes "\n" ++ shown_text m.names q o.cluster ++ run_text (codes "  ") m.names (run_of m o)
 
--- each, numbered from k on
+-- the texts of the outcomes, numbered from k on
 unfoldable pub outcomes_text : Machine → Question → ℕ → List Outcome → List ℕ
 outcomes_text m q k [] = []
 outcomes_text m q k (o ∷ os) = outcome_text m q k o ++ outcomes_text m q (suc k) os
 
--- the whole: how many outcomes there are and how many states were kept, and each outcome
+-- the whole text: how many outcomes there are and how many states were kept, and each outcome
 unfoldable pub explore_text : Machine → Question → List Outcome → ℕ → List ℕ
 explore_text m q os states = head_line m.names q (length os) states ++ outcomes_text m q 1 os

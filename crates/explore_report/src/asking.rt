@@ -14,7 +14,7 @@ use explore_network::{Explored, Outcome, Question as Plain, explore};
 use progress_core::{Walked, Watch};
 use std::alloc::Allocator;
 
-/// The outcomes of what is asked.
+/// The outcomes that a question asks for.
 fn explored<'a, B: Allocator, W: Watch<Walked>>(
     bench: &Bench<'a, B>,
     asked: &Plain<&'a B>,
@@ -59,7 +59,7 @@ pub fn explore_asked<'a, B: Allocator, W: Watch<Walked>>(
     Ok(text?)
 }
 
-/// The outcome that is told under this number, from 1.
+/// The outcome with this number in the text, from 1.
 fn outcome_at<'l, 'a, B: Allocator>(
     outcomes: &'l [Outcome<'a, B>],
     number: u64,
@@ -70,7 +70,7 @@ fn outcome_at<'l, 'a, B: Allocator>(
     outcomes.get(place as usize)
 }
 
-/// The run of the outcome that is told under this number, as a script that plays it.
+/// The run of the outcome with this number in the text, as a script that plays it.
 pub fn run_of_outcome<'a, B: Allocator, W: Watch<Walked>>(
     alloc: &'a B,
     bench: &Bench<'a, B>,

@@ -9,7 +9,7 @@ use explore_network::Question as Plain;
 use payload_core::Word;
 use std::alloc::Allocator;
 
-/// By what outcomes are told apart.
+/// What decides whether two outcomes differ.
 #[derive(Clone, Copy, Debug, PartialEq, Eq)]
 pub enum About<'q> {
     /// The whole cluster.
@@ -24,8 +24,8 @@ pub enum About<'q> {
     },
 }
 
-/// What the network could have made of the steps that remain: with up to `lost` deliveries missing, and up to `again` that come a
-/// second time. At most `states` states are kept.
+/// The question what the network could have made of the steps that remain: with up to `lost` deliveries missing, and up
+/// to `again` that come a second time. At most `states` states are kept.
 #[derive(Clone, Copy, Debug, PartialEq, Eq)]
 pub struct Question<'q> {
     pub about: About<'q>,
@@ -34,7 +34,7 @@ pub struct Question<'q> {
     pub states: usize,
 }
 
-/// The same by a node's number and by words.
+/// What is asked, with the node's number and with words in place of texts.
 pub(crate) fn asked<'a, B: Allocator>(
     bench: &Bench<'a, B>,
     about: About<'_>,

@@ -1,4 +1,4 @@
-//! `ReportFault`: why nothing is told.
+//! `ReportFault`: why there is no text.
 ghost use Rattle.std.specs.Prelude.{◌≡◌};
 ghost use Rattle.explore_report.specs.Faults.{fault_of_explore};
 
@@ -6,7 +6,7 @@ use explore_network::ExploreFault;
 use payload_core::{Oom, WordFault};
 use thiserror::Error;
 
-/// Why nothing is told.
+/// Why there is no text.
 #[derive(Clone, Copy, Debug, PartialEq, Eq, Error)]
 pub enum ReportFault {
     /// No node has this name.
@@ -15,12 +15,15 @@ pub enum ReportFault {
     /// The text is no word, so nothing is tracked under it.
     #[error("NoWord")]
     NoWord,
-    /// `states` states were kept, which is all that may be, and there was another; `outcomes` outcomes had been found.
+    /// The walk kept `states` states, which is all that it may, and reached another; it had found `outcomes` outcomes.
     #[error("TooManyStates, more than {states}, outcomes so far {outcomes}")]
     TooManyStates { states: usize, outcomes: usize },
     /// In some order the joins and updates could fill a node.
     #[error("MayFill")]
     MayFill,
+    /// A run could have more than 3,000 steps.
+    #[error("TooManySteps, more than 3000")]
+    TooManySteps,
     /// There are `outcomes` outcomes, and none has the number that was asked for.
     #[error("NoSuchOutcome, there are {outcomes}")]
     NoSuchOutcome { outcomes: usize },
@@ -52,7 +55,7 @@ impl From<WordFault> for ReportFault {
     }
 }
 
-/// The same of a walk that may keep `states` states.
+/// The fault of a walk that may keep `states` states.
 pub(crate) fn fault_of(fault: ExploreFault, states: usize) -> ReportFault
     ensures { result ≡ fault_of_explore states fault }
 {
@@ -61,6 +64,7 @@ pub(crate) fn fault_of(fault: ExploreFault, states: usize) -> ReportFault
             ReportFault::TooManyStates { states, outcomes }
         }
         ExploreFault::MayFill => ReportFault::MayFill,
+        ExploreFault::TooManySteps => ReportFault::TooManySteps,
         ExploreFault::OutOfMemory => ReportFault::OutOfMemory,
     }
 }

@@ -1,4 +1,4 @@
-//! A run as a script, told by the places of its steps.
+//! A run, given by the places of its steps, as a script.
 ghost use Rattle.std.specs.Prelude.{◌≡◌, ◌++◌, [], IfOk, OnOk, slice_get, string_bytes};
 ghost use Rattle.journal_core.specs.Holdings.{kepts};
 ghost use Rattle.explore_network.specs.Walks.{steps_at};
@@ -43,7 +43,7 @@ fn put_steps<'a, A: Allocator, N: Allocator, B: Allocator>(
     Ok(())
 }
 
-/// The run of the remaining steps at these places, behind an indent.
+/// The run of the remaining steps at these places, each line with an indent.
 #[tactic(auto, unfolding(transcript_core::specs::Runs::run_text))]
 pub(crate) fn put_run<'a, A: Allocator, B: Allocator>(
     bench: &Bench<'a, B>,
@@ -58,7 +58,7 @@ pub(crate) fn put_run<'a, A: Allocator, B: Allocator>(
     put_steps(bench.remaining(), text, indent, bench.names(), places)
 }
 
-/// It as a script.
+/// The run of the remaining steps at these places, as a script.
 pub(crate) fn script_of<'a, B: Allocator>(
     bench: &Bench<'a, B>,
     places: &[usize],

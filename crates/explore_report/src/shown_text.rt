@@ -1,4 +1,4 @@
-//! What an outcome shows of what is asked.
+//! What an outcome shows to the question.
 ghost use Rattle.std.specs.Prelude.{◌≡◌, ◌++◌, IfOk, OnOk, codes, length, option_map, string_bytes};
 ghost use Rattle.explore_network.specs.Questions.{plain, rows_in};
 ghost use Rattle.report_core.specs.Rows.{online_text, row_lines};
@@ -12,7 +12,7 @@ use payload_core::{Oom, Word};
 use report_core::{name_at, put_dots, put_rows};
 use std::alloc::Allocator;
 
-/// The node's online list; an empty one where there is no such node.
+/// The node's online list; an empty one if there is no such node.
 fn listed<'a, B: Allocator>(
     found: Option<&Node<'a, B>>,
     alloc: &'a B,
@@ -59,7 +59,7 @@ fn put_node<'a, A: Allocator, N: Allocator, B: Allocator>(
     put_dots(cluster.node(node), text, names)
 }
 
-/// The same of each node.
+/// What `show` and `dots` print of each node.
 fn put_nodes<'a, A: Allocator, N: Allocator, B: Allocator>(
     cluster: &Cluster<'a, B>,
     text: &mut String<A>,
@@ -92,7 +92,7 @@ fn put_presences<'a, A: Allocator, N: Allocator, B: Allocator>(
     put
 }
 
-/// What the cluster shows of what is asked.
+/// What the cluster shows to the question.
 #[tactic(auto, unfolding(crate::specs::Texts::shown_text))]
 pub(crate) fn put_shown<'a, A: Allocator, N: Allocator, B: Allocator>(
     cluster: &Cluster<'a, B>,

@@ -1,19 +1,19 @@
--- What a reader of scripts answers, against what was meant: a value, or the first fault.
+-- What a reader of scripts answers, compared with what it should: a value, or the first fault.
 use Rattle.std.specs.Prelude.{◌≡◌, Result, Ok, Err}
 use Rattle.payload_core.specs.Answers.{GivesUnless}
 use Rattle.grammar_core.specs.declared.fault.FaultKind.{FaultKind}
 use Rattle.grammar_core.specs.declared.fault.FaultKind.TheVariants.{OutOfMemory}
 use Rattle.grammar_core.specs.declared.fault.ScriptFault.{ScriptFault}
 
--- of a line or a part of it
+-- for a line or a part of it
 abbrev pub Gives : {X Y : Type 0} → (X → Y) → Result X FaultKind → Result Y FaultKind → Type 0
 Gives = GivesUnless OutOfMemory
 
--- of a part of a line for which no memory is asked: it is what was meant
+-- for a part of a line that asks for no memory: the answer is the one that it should be
 abbrev pub Meets : {X Y : Type 0} → (X → Y) → Result X FaultKind → Result Y FaultKind → Type 0
 Meets view (Ok x) meant = meant ≡ Ok (view x)
 Meets view (Err kind) meant = meant ≡ Err kind
 
--- of a script
+-- for a script
 abbrev pub GivesScript : {X Y : Type 0} → (X → Y) → Result X ScriptFault → Result Y ScriptFault → Type 0
 GivesScript = GivesUnless (record { line = 0; kind = OutOfMemory })

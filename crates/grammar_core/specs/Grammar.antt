@@ -58,14 +58,14 @@ verb_of word =
     else (if bytes_eq word (codes "unwind") then Some verbs.Unwind
     else None))))))))))))))
 
--- the verbs of a console
+-- whether the verb is one of a console
 abbrev pub is_for_consoles : Verb → Bool
 is_for_consoles verbs.Undo = true
 is_for_consoles verbs.Back = true
 is_for_consoles verbs.Unwind = true
 is_for_consoles _ = false
 
--- a fault in the place of a value that isn't there
+-- a fault in place of a value that isn't there
 abbrev pub or_fault : {A : Type 0} → FaultKind → Option A → Result A FaultKind
 or_fault kind None = Err kind
 or_fault kind (Some value) = Ok value
@@ -87,7 +87,7 @@ of_names (Err fault) = Err (kind_of fault)
 unfoldable pub unreserved : List ℕ → List ℕ
 unreserved word = if is_some (keyword_of word) then [] else word
 
--- the names of a `nodes` line: 1 to 32, among which a reserved word is none
+-- the names of a `nodes` line: 1 to 32 names, and a reserved word is none
 unfoldable pub node_names : Texts → Result Texts FaultKind
 node_names words = of_names (names_of (map unreserved words))
 
@@ -97,7 +97,7 @@ opening first names =
     if not (bytes_eq first (codes "nodes")) then Err NoNodes
     else (node_names names >>= λ nodes. Ok (record { nodes = nodes; consoles = [] }))
 
--- the consoles with one more, whose name is none of a node or a console
+-- the consoles with one more, whose name no node and no console has
 unfoldable pub with_console : Texts → Texts → List ℕ → Result Texts FaultKind
 with_console nodes consoles name =
     if not (is_name name) || is_some (keyword_of name) then Err BadName
@@ -180,7 +180,7 @@ down_of nodes args = one_node nodes args >>= λ name. Ok (Down name)
 unfoldable pub permdown_of : Texts → Texts → Result Operation FaultKind
 permdown_of nodes args = one_node nodes args >>= λ name. Ok (Permdown name)
 
--- nothing
+-- no arguments
 unfoldable pub broadcast_of : Texts → Result Operation FaultKind
 broadcast_of [] = Ok Broadcast
 broadcast_of (word ∷ words) = Err WrongCount
@@ -319,7 +319,7 @@ script_of bytes =
 
 -- the act lines of a script
 
--- that of a line, where it is one
+-- the act of a line, if the line asks one
 abbrev pub call_of : Line → Result (ℕ × Action) ScriptFault
 call_of line = by line.number line.command
   where
@@ -327,7 +327,7 @@ call_of line = by line.number line.command
     by number (Call actor act) = Ok (actor, act)
     by number _ = Err (record { line = number; kind = NotAllowed })
 
--- those of the lines after these, or the first line that is none
+-- these acts and those of the lines, or the first line that is no act
 unfoldable pub with_calls : List (ℕ × Action) → List Line → Result (List (ℕ × Action)) ScriptFault
 with_calls calls [] = Ok calls
 with_calls calls (line ∷ lines) = do

@@ -30,12 +30,14 @@ impl<A: Allocator> Model for Cast<A> {
 }
 
 impl<A: Allocator> Cast<A> {
+    /// The names of the nodes.
     pub fn nodes(&self) -> &Names<A>
         ensures { result.now ≡ self.now.nodes }
     {
         &self.nodes
     }
 
+    /// The names of the consoles.
     pub fn consoles(&self) -> &TextSet<A>
         ensures { result.now ≡ self.now.consoles }
     {
@@ -79,7 +81,7 @@ fn all_unreserved<'w, A: Allocator>(alloc: A, words: &[&'w str]) -> Result<Vec<&
     Ok(plain)
 }
 
-/// The names of a `nodes` line, among which a reserved word is none.
+/// The names of a `nodes` line. A reserved word is no name.
 #[tactic(auto, unfolding(crate::specs::Grammar::node_names))]
 fn node_names<A: Allocator + Copy>(alloc: A, words: &[&str]) -> Result<Names<A>, FaultKind>
     ensures { Gives (λ names. names) result (node_names (map (λ word. word.now) words.now)) }
@@ -143,7 +145,7 @@ fn add_each<A: Allocator + Copy>(
     Ok(())
 }
 
-/// `consoles NAME ..`, of which a fault adds none.
+/// `consoles NAME ..`. Where there is a fault it adds none of them.
 #[tactic(auto, unfolding(crate::specs::Grammar::with_consoles))]
 pub fn add_consoles<A: Allocator + Copy>(
     alloc: A,

@@ -16,7 +16,7 @@ use crate::steps::{
 use bench_core::{Act, Names};
 use std::alloc::Allocator;
 
-/// What a line of a script asks. Nodes and actors go by their numbers.
+/// What a line of a script asks. It has nodes and actors by their numbers.
 #[derive(Drop)]
 pub enum Command<A: Allocator> {
     /// An act of this actor.

@@ -31,10 +31,10 @@ pub enum FaultKind {
     /// A console's line whose verb is for nodes, or a line that is no act where acts alone are asked for.
     #[error("NotAllowed")]
     NotAllowed,
-    /// A number that isn't one.
+    /// A word that should be a number and isn't one.
     #[error("BadNumber")]
     BadNumber,
-    /// A name that isn't one.
+    /// A word that should be a name and isn't one.
     #[error("BadName")]
     BadName,
     /// A request for memory was refused.

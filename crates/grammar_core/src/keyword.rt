@@ -33,6 +33,7 @@ pub enum Verb {
     Unwind,
 }
 
+/// The keyword that the word is, if it is one.
 #[tactic(auto, unfolding(crate::specs::Grammar::keyword_of))]
 pub fn keyword_of(word: &str) -> Option<Keyword>
     ensures { result ≡ keyword_of word.now }
@@ -48,6 +49,7 @@ pub fn keyword_of(word: &str) -> Option<Keyword>
     }
 }
 
+/// The verb that the word is, if it is one.
 #[tactic(auto, unfolding(crate::specs::Grammar::verb_of))]
 pub fn verb_of(word: &str) -> Option<Verb>
     ensures { result ≡ verb_of word.now }

@@ -28,7 +28,7 @@ pub struct Reading<A: Allocator> {
     pub lines: Vec<Line<A>, A>,
 }
 
-/// A significant line: its first word, and those behind it.
+/// Reads a significant line: its first word, and those after it.
 #[tactic(auto, unfolding(crate::specs::Grammar::with_words_by))]
 fn read_significant<A: Allocator + Copy>(
     alloc: A,
@@ -74,7 +74,7 @@ fn read_words<A: Allocator + Copy>(
     read_significant(alloc, reading, number, first, rest)
 }
 
-/// A line, whose fault changes nothing.
+/// Reads a line. A fault changes nothing.
 #[tactic(auto, unfolding(crate::specs::Grammar::with_line))]
 pub fn read_line<A: Allocator + Copy>(
     alloc: A,

@@ -46,7 +46,7 @@ pub fn lines<A: Allocator>(script: &Script<A>) -> &[Line<A>]
     &script.lines
 }
 
-/// The number of the line that stands at a place among those which ask something, from 0.
+/// The number of the line at a place, from 0, among the lines that ask something.
 pub fn line_number<A: Allocator>(script: &Script<A>, place: usize) -> Option<u64>
     ensures { result ≡ option_map (λ line. line.number) (slice_get (plain_script script.now).lines place) }
 {
@@ -60,7 +60,7 @@ pub fn actors<A: Allocator>(script: &Script<A>) -> u16
     script.cast.len()
 }
 
-/// The act of a line, where it is one.
+/// The act of a line, if the line asks one.
 fn call_of<A: Allocator + Copy>(line: &Line<A>) -> Result<(u16, Act<A>), ScriptFault>
     ensures { GivesScript (λ call. (call.0, plain_act call.1)) result (call_of (plain_line line.now)) }
 {
@@ -73,7 +73,8 @@ fn call_of<A: Allocator + Copy>(line: &Line<A>) -> Result<(u16, Act<A>), ScriptF
     }
 }
 
-/// The acts of the lines in order, each with its actor, or the first line that is no act, as `NotAllowed`. An `unwind` is none.
+/// The acts of the lines in order, each with its actor; or the first line that is no act, as `NotAllowed`. An `unwind`
+/// is no act.
 #[tactic(auto, unfolding(crate::specs::Grammar::with_calls))]
 pub fn acts<A: Allocator + Copy>(
     alloc: A,

@@ -32,6 +32,7 @@ fn number_at(digits: &str) -> Result<u64, FaultKind>
     number_of(digits).ok_or(FaultKind::BadNumber)
 }
 
+/// Reads a word of a line as a topic, key or metadata. The word is visible, so it can only be too long.
 #[tactic(auto, unfolding(crate::specs::Grammar::word_at))]
 fn word_at<A: Allocator + Clone>(alloc: A, word: &str) -> Result<Word<A>, FaultKind>
     requires { IsTrue (is_visible word.now) }
@@ -90,6 +91,7 @@ fn presence_of<A: Allocator + Copy>(alloc: A, args: &[&str]) -> Result<Presence<
     presence_with(alloc, pid, topic, key, metadata)
 }
 
+/// A join: `PID TOPIC KEY META`.
 #[tactic(auto, unfolding(crate::specs::Grammar::join_of))]
 pub fn join_of<A: Allocator + Copy>(alloc: A, args: &[&str]) -> Result<Step<A>, FaultKind>
     requires { IsTrue (list_all is_visible (map (λ word. word.now) args.now)) }
@@ -104,6 +106,7 @@ pub fn join_of<A: Allocator + Copy>(alloc: A, args: &[&str]) -> Result<Step<A>, 
     })
 }
 
+/// An update: `PID TOPIC KEY META`.
 #[tactic(auto, unfolding(crate::specs::Grammar::update_of))]
 pub fn update_of<A: Allocator + Copy>(alloc: A, args: &[&str]) -> Result<Step<A>, FaultKind>
     requires { IsTrue (list_all is_visible (map (λ word. word.now) args.now)) }
@@ -147,6 +150,7 @@ pub fn leave_of<A: Allocator + Copy>(alloc: A, args: &[&str]) -> Result<Step<A>,
     leave_with(alloc, pid, topic, key)
 }
 
+/// The number that is the only word.
 #[tactic(auto, unfolding(crate::specs::Grammar::one_number))]
 pub fn one_number(args: &[&str]) -> Result<u64, FaultKind>
     ensures { Meets (λ number. number) result (one_number (map (λ word. word.now) args.now)) }
@@ -157,6 +161,7 @@ pub fn one_number(args: &[&str]) -> Result<u64, FaultKind>
     number_at(number)
 }
 
+/// The node whose name is the only word.
 #[tactic(auto, unfolding(crate::specs::Grammar::one_node))]
 pub fn one_node<A: Allocator>(nodes: &Names<A>, args: &[&str]) -> Result<u16, FaultKind>
     ensures { Meets (λ node. node) result (one_node nodes.now (map (λ word. word.now) args.now)) }
@@ -167,6 +172,7 @@ pub fn one_node<A: Allocator>(nodes: &Names<A>, args: &[&str]) -> Result<u16, Fa
     node_at(nodes, name)
 }
 
+/// A leave of every entry of a process: `PID`.
 #[tactic(auto, unfolding(crate::specs::Grammar::leave_all_of))]
 pub fn leave_all_of<A: Allocator>(args: &[&str]) -> Result<Step<A>, FaultKind>
     ensures { Meets plain result (leave_all_of (map (λ word. word.now) args.now)) }
@@ -175,6 +181,7 @@ pub fn leave_all_of<A: Allocator>(args: &[&str]) -> Result<Step<A>, FaultKind>
     Ok(Step::LeaveAll { pid })
 }
 
+/// An up: `NAME`.
 #[tactic(auto, unfolding(crate::specs::Grammar::up_of))]
 pub fn up_of<A: Allocator>(nodes: &Names<A>, args: &[&str]) -> Result<Step<A>, FaultKind>
     ensures { Meets plain result (up_of nodes.now (map (λ word. word.now) args.now)) }
@@ -183,6 +190,7 @@ pub fn up_of<A: Allocator>(nodes: &Names<A>, args: &[&str]) -> Result<Step<A>, F
     Ok(Step::Up { name })
 }
 
+/// A down: `NAME`.
 #[tactic(auto, unfolding(crate::specs::Grammar::down_of))]
 pub fn down_of<A: Allocator>(nodes: &Names<A>, args: &[&str]) -> Result<Step<A>, FaultKind>
     ensures { Meets plain result (down_of nodes.now (map (λ word. word.now) args.now)) }
@@ -191,6 +199,7 @@ pub fn down_of<A: Allocator>(nodes: &Names<A>, args: &[&str]) -> Result<Step<A>,
     Ok(Step::Down { name })
 }
 
+/// A permanently down: `NAME`.
 #[tactic(auto, unfolding(crate::specs::Grammar::permdown_of))]
 pub fn permdown_of<A: Allocator>(nodes: &Names<A>, args: &[&str]) -> Result<Step<A>, FaultKind>
     ensures { Meets plain result (permdown_of nodes.now (map (λ word. word.now) args.now)) }
@@ -199,6 +208,7 @@ pub fn permdown_of<A: Allocator>(nodes: &Names<A>, args: &[&str]) -> Result<Step
     Ok(Step::Permdown { name })
 }
 
+/// A broadcast, which has no words.
 #[tactic(auto, unfolding(crate::specs::Grammar::broadcast_of))]
 pub fn broadcast_of<A: Allocator>(args: &[&str]) -> Result<Step<A>, FaultKind>
     ensures { Meets plain result (broadcast_of (map (λ word. word.now) args.now)) }
@@ -209,6 +219,7 @@ pub fn broadcast_of<A: Allocator>(args: &[&str]) -> Result<Step<A>, FaultKind>
     Ok(Step::Broadcast)
 }
 
+/// A request, which has no words.
 #[tactic(auto, unfolding(crate::specs::Grammar::request_of))]
 pub fn request_of<A: Allocator>(args: &[&str]) -> Result<Step<A>, FaultKind>
     ensures { Meets plain result (request_of (map (λ word. word.now) args.now)) }
@@ -274,6 +285,7 @@ fn one_message<A: Allocator>(nodes: &Names<A>, args: &[&str]) -> Result<(u16, u6
     message_with(nodes, name, number)
 }
 
+/// A delivery: `NAME NUMBER`.
 #[tactic(auto, unfolding(crate::specs::Grammar::deliver_of))]
 pub fn deliver_of<A: Allocator>(nodes: &Names<A>, args: &[&str]) -> Result<Step<A>, FaultKind>
     ensures { Meets plain result (deliver_of nodes.now (map (λ word. word.now) args.now)) }
@@ -282,6 +294,7 @@ pub fn deliver_of<A: Allocator>(nodes: &Names<A>, args: &[&str]) -> Result<Step<
     Ok(Step::Deliver { sender, number })
 }
 
+/// An answer: `NAME NUMBER`.
 #[tactic(auto, unfolding(crate::specs::Grammar::answer_of))]
 pub fn answer_of<A: Allocator>(nodes: &Names<A>, args: &[&str]) -> Result<Step<A>, FaultKind>
     ensures { Meets plain result (answer_of nodes.now (map (λ word. word.now) args.now)) }

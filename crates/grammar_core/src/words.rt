@@ -7,7 +7,7 @@ ghost use Rattle.grammar_core.specs.Words.{lines_of, words_of, is_text, is_numer
 use payload_core::Oom;
 use std::alloc::Allocator;
 
-/// What the line feeds divide. Behind a last line feed stands one more line, which is empty.
+/// The lines, separated by line feeds. If the bytes end with a line feed, one more line comes after it, which is empty.
 pub fn lines_of<A: Allocator>(alloc: A, bytes: &[u8]) -> Result<Vec<&[u8], A>, Oom>
     ensures { IfOk result (λ lines. map (λ line. line.now) lines.items ≡ lines_of bytes.now) }
 {
@@ -60,7 +60,7 @@ fn is_numeral(digits: &[u8]) -> bool
     has_digits(digits)
 }
 
-/// The number that the digits spell, if they spell one: as numbers are printed, so with no sign and no zero in front.
+/// The number that the digits spell, if they spell one: with no sign and no zero in front, as numbers are printed.
 pub fn number_of(digits: &str) -> Option<u64>
     ensures { result ≡ number_of digits.now }
 {

@@ -15,16 +15,16 @@ use Rattle.hint_core.specs.LineWords.{few_words, word_at, is_begun, is_node, is_
 use Rattle.hint_core.specs.Forms.{form}
 use Rattle.hint_core.specs.Sessions.{begins_object, is_blank, is_marked}
 
--- one about a word, where there is one
+-- a hint about a word, if there is one
 abbrev pub about : List ℕ → List ℕ → List ℕ → Option Hint
 about before word after = if length word == 0 then None else Some (About before word after)
 
--- NotText: the first byte of the line that no text has
+-- NotText: the first byte of the line that can't be in a text
 
 abbrev pub is_text_byte : ℕ → Bool
 is_text_byte byte = nat_le 32 byte && nat_le byte 126
 
--- what such a byte is, and what to do
+-- what a byte that can't be in a text is, and what to do
 unfoldable pub byte_text : ℕ → List ℕ
 byte_text byte =
     if byte == 9 then codes ", a tab; spaces divide words"
@@ -32,7 +32,7 @@ byte_text byte =
     else (if nat_lt byte 128 then codes ", a control character; words have none"
     else codes ", beyond ASCII; words may spell such bytes, as `%C3%BC` does"))
 
--- the first such byte, of those from this place on
+-- the hint for the first byte that can't be in a text, from this place on
 abbrev pub byte_from : ℕ → List ℕ → Option Hint
 byte_from place [] = None
 byte_from place (byte ∷ bytes) = if is_text_byte byte then byte_from (place + 1) bytes else Some (Byte place byte (byte_text byte))
@@ -42,7 +42,7 @@ not_text number line =
     if (number == 1) && is_marked line then Some (Plain (codes "the input begins with a byte order mark; save it without one"))
     else byte_from 1 line
 
--- TooLong: the line, or its first topic, key or metadata that is
+-- TooLong: the line; or its first topic, key or metadata that is too long
 unfoldable pub too_long : List ℕ → Texts → Option Hint
 too_long line words =
     if nat_lt 4096 (length line) then Some (Plain (codes "a line has at most 4096 bytes"))
@@ -52,7 +52,7 @@ too_long line words =
 unfoldable pub no_nodes : Texts → Option Hint
 no_nodes words = about (codes "the first line is `nodes NAME ..`, and not ") (word_at words 0) (codes " ..")
 
--- Twice: the line, or the first word that stands before: in the line, or as the name of a node
+-- Twice: the line; or the first word that was given before, in the line or as the name of a node
 abbrev pub names_actors : List ℕ → Bool
 names_actors first = bytes_eq first (codes "nodes") || bytes_eq first (codes "consoles")
 
@@ -65,7 +65,7 @@ twice lines words =
     else (if is_begun (word_at words 0) lines then about (codes "a line ") (word_at words 0) (codes " stands before this one, and names them all")
     else again (first_again lines [] (drop 1 words)))
 
--- UnknownWord: the verb of somebody who is named, or the line's first word
+-- UnknownWord: the line's verb, if somebody has its first word as a name; else its first word
 abbrev pub is_console_verb : List ℕ → Bool
 is_console_verb verb = bytes_eq verb (codes "undo") || bytes_eq verb (codes "back") || bytes_eq verb (codes "unwind")
 
@@ -79,14 +79,14 @@ unknown_word lines words =
 unfoldable pub wrong_count : Texts → Option Hint
 wrong_count words = Some (Plain (form (word_at words 0) (word_at words 1)))
 
--- NotAllowed: a line that is no act where acts alone are taken, or a console's verb
+-- NotAllowed: a line that is no act where only acts are taken, or a console's verb
 unfoldable pub not_allowed : Texts → Option Hint
 not_allowed words =
     if is_some (keyword_of (word_at words 0)) then about (codes "only act lines are taken here, and ") (word_at words 0) (codes " is none")
     else (if bytes_eq (word_at words 1) (codes "unwind") then about (codes "only act lines are taken here, and ") (word_at words 1) (codes " is none")
     else about [] (word_at words 1) (codes " is for nodes; a console may undo, go back and unwind"))
 
--- BadNumber: the word in the place of the line's number
+-- BadNumber: the word at the place of the line's number
 abbrev pub number_place : List ℕ → List ℕ → ℕ
 number_place first verb =
     if bytes_eq first (codes "why") then 1
@@ -96,11 +96,11 @@ unfoldable pub bad_number : Texts → Option Hint
 bad_number words =
     about [] (word_at words (number_place (word_at words 0) (word_at words 1))) (codes " is no number of at most 18446744073709551615, as 0 or 17")
 
--- BadName: in the lines `nodes` and `consoles` the first that can't be a name, and why; elsewhere the first that is no node's
+-- BadName: in the lines `nodes` and `consoles` the first word that can't be a name, and why; elsewhere the first that no node has
 abbrev pub is_reserved : List ℕ → Bool
 is_reserved word = is_some (keyword_of word)
 
--- the first byte of the word that is in no name, of those from this place on
+-- the first byte of the word, from this place on, that can't be in a name
 abbrev pub letter_from : List ℕ → ℕ → List ℕ → Option Hint
 letter_from word place [] = None
 letter_from word place (byte ∷ bytes) = if is_name_byte byte then letter_from word (place + 1) bytes else Some (Letter word place)
@@ -126,7 +126,7 @@ bad_name lines words =
     (unwrap_or (find (λ word. not (is_node lines word)) (drop (name_place (word_at words 0)) words)) [])
     (codes "; the line `nodes` names them all")
 
--- that of a line, behind these lines
+-- the hint for a line; `lines` are the lines before it
 unfoldable pub hint_of_line : ℕ → Texts → List ℕ → FaultKind → Option Hint
 hint_of_line number lines line NotText = not_text number line
 hint_of_line number lines line TooLong = too_long line (few_words line)
@@ -139,7 +139,7 @@ hint_of_line number lines line BadNumber = bad_number (few_words line)
 hint_of_line number lines line BadName = bad_name lines (few_words line)
 hint_of_line number lines line OutOfMemory = None
 
--- that of the whole input
+-- the hint for the whole input
 unfoldable pub hint_of_whole : List ℕ → FaultKind → Option Hint
 hint_of_whole bytes TooLong = Some (Plain (codes "a script has at most 1048576 bytes; a session may have 67108864"))
 hint_of_whole bytes NoNodes =
@@ -155,7 +155,8 @@ abbrev pub wants_memory : FaultKind → Bool
 wants_memory OutOfMemory = true
 wants_memory _ = false
 
--- the hint of the first fault of a script, memory apart: that it is none, as it begins with a brace, or what is wrong with the line
+-- the hint for the first fault of a script, memory apart: it is no script, as it begins with a brace; or what is wrong with the
+-- line
 unfoldable pub hint_of : List ℕ → ScriptFault → Option Hint
 hint_of bytes fault =
     if wants_memory fault.kind then None
@@ -163,6 +164,6 @@ hint_of bytes fault =
     else (if fault.line == 0 then hint_of_whole bytes fault.kind
     else hint_at bytes fault.line (slice_get (lines_of bytes) (fault.line - 1)) fault.kind))
 
--- and its line
+-- the hint for the first fault of a script, as a line
 abbrev pub hint_line : List ℕ → ScriptFault → Option (List ℕ)
 hint_line bytes fault = option_map line_of (hint_of bytes fault)

@@ -1,8 +1,8 @@
--- The form of a line, as a hint tells it.
+-- The form of a line, as a hint prints it.
 use Rattle.std.specs.Prelude.{ℕ, List, ◌++◌, codes, if◌then◌else◌}
 use Rattle.std.specs.Str.{bytes_eq}
 
--- by the verb, of an actor's line
+-- the form of an actor's line, by its verb
 unfoldable pub actor_form : List ℕ → List ℕ
 actor_form verb =
     if bytes_eq verb (codes "join") then codes "the form of the line is `NODE join PID TOPIC KEY META`, each one word"
@@ -22,7 +22,7 @@ actor_form verb =
     else (if bytes_eq verb (codes "unwind") then codes "the form of the line is `ACTOR unwind NUMBER`"
     else codes "the form of the line is `ACTOR VERB ..`; the verb is missing"))))))))))))))
 
--- by the first word, and the verb
+-- the form of a line, by its first word and its verb
 unfoldable pub form : List ℕ → List ℕ → List ℕ
 form first verb =
     if bytes_eq first (codes "nodes") then codes "the form of the line is `nodes NAME ..`, with 1 to 32 names"

@@ -1,10 +1,10 @@
--- A hint, and the line that it is printed as.
+-- A hint, and how it is printed as a line.
 use Rattle.std.specs.Prelude.{ℕ, nat_le, List, ◌++◌, length, take, codes, decimal, if◌then◌else◌}
 use Rattle.hint_core.specs.declared.hint.Hint.{Hint as CodeHint}
 use Rattle.hint_core.specs.declared.hint.Hint.TheVariants as hints
 
--- a text alone; one about a word of the line, which stands between two others; one about a byte of the line, by its place from 1;
--- one about the byte at a place of a word that can't be in a name
+-- a text alone; a hint about a word of the line, which stands between two texts; one about a byte of the line, by its place from
+-- 1; one about the byte at a place of a word that can't be in a name
 pub data Hint : Type 0 where
   Plain : (text : List ℕ) → Hint
   About : (before word after : List ℕ) → Hint
@@ -17,7 +17,7 @@ plain_hint (hints.About before word after) = About before.now word.now after.now
 plain_hint (hints.Byte place byte after) = Byte place byte after.now
 plain_hint (hints.Letter word place) = Letter word.now place
 
--- a word as it is shown: in quotes, and of one that is long the beginning
+-- a word as it is shown: in quotes, and only the beginning of a long one
 abbrev pub shown : List ℕ → List ℕ
 shown word = if nat_le (length word) 32 then codes "`" ++ word ++ codes "`" else codes "`" ++ take 32 word ++ codes "..`"
 

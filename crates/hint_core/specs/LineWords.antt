@@ -5,11 +5,11 @@ use Rattle.std.specs.Str.{bytes_eq}
 use Rattle.bench_core.specs.NameList.{Texts}
 use Rattle.grammar_core.specs.Words.{is_text, words_of}
 
--- the words that are looked at, of a line that is text: no line of a script has more than 34
+-- the words that are looked at, if the line is text: no line of a script has more than 34
 abbrev pub few_words : List ℕ → Texts
 few_words line = if is_text line then take 34 (words_of line) else []
 
--- the word at a place, from 0, or nothing
+-- the word at a place, from 0, or an empty one
 abbrev pub word_at : Texts → ℕ → List ℕ
 word_at words place = unwrap_or (slice_get words place) []
 
@@ -28,15 +28,15 @@ begins keyword line = bytes_eq (word_at (few_words line) 0) keyword
 abbrev pub is_begun : List ℕ → Texts → Bool
 is_begun keyword lines = list_any (begins keyword) lines
 
--- whether one of these lines names a node so
+-- whether one of these lines names a node by this word
 abbrev pub is_node : Texts → List ℕ → Bool
 is_node lines word = list_any (names (codes "nodes") word) lines
 
--- or a console
+-- whether one of these lines names a console by this word
 abbrev pub is_console : Texts → List ℕ → Bool
 is_console lines word = list_any (names (codes "consoles") word) lines
 
--- the first of the words that is a node in these lines, or stands among those before it, or nothing
+-- the first word that already names a node in these lines, or that repeats a word before it; else an empty one
 unfoldable pub first_again : Texts → Texts → Texts → List ℕ
 first_again lines before [] = []
 first_again lines before (word ∷ words) =

@@ -11,7 +11,7 @@ abbrev pub is_blank : List ℕ → Bool
 is_blank [] = true
 is_blank (byte ∷ bytes) = if is_space byte then is_blank bytes else false
 
--- whether the first that is none is `{`
+-- whether the first byte that isn't white space is `{`
 abbrev pub begins_object : List ℕ → Bool
 begins_object [] = false
 begins_object (byte ∷ bytes) = if is_space byte then begins_object bytes else byte == 123

@@ -2,7 +2,7 @@
 ghost use Rattle.std.specs.Prelude.{◌≡◌};
 ghost use Rattle.hint_core.specs.Sessions.{is_space, is_blank, begins_object, is_marked};
 
-/// What JSON takes as white space.
+/// Whether JSON takes the byte as white space.
 fn is_space(byte: u8) -> bool
     ensures { result ≡ is_space byte }
 {

@@ -2,7 +2,7 @@
 ghost use Rattle.std.specs.Prelude.{◌≡◌};
 ghost use Rattle.hint_core.specs.Forms.{actor_form, form};
 
-/// By the verb, of an actor's line.
+/// The form of an actor's line, by its verb.
 #[tactic(auto, unfolding(crate::specs::Forms::actor_form))]
 fn actor_form(verb: &str) -> &'static str
     ensures { result.now ≡ actor_form verb.now }
@@ -27,7 +27,7 @@ fn actor_form(verb: &str) -> &'static str
     }
 }
 
-/// By the first word and the second.
+/// The form of a line, by its first word and its second.
 #[tactic(auto, unfolding(crate::specs::Forms::form))]
 pub(crate) fn form(first: &str, verb: &str) -> &'static str
     ensures { result.now ≡ form first.now verb.now }

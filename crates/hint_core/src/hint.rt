@@ -1,4 +1,4 @@
-//! `Hint`: what is told of a fault, and its text.
+//! `Hint`: what to say about a fault, and its text.
 ghost use Rattle.std.specs.Prelude.{◌≡◌, ◌++◌, ◌<◌, OnOk, IfOk, length, take, decimal, option_map};
 ghost use Rattle.hint_core.specs.Hints.{shown, byte_body, letter_tail, body, line_of, plain_hint};
 ghost use Rattle.hint_core.specs.Choices.{about};
@@ -9,7 +9,7 @@ use std::alloc::Allocator;
 /// The most bytes that are shown of a word.
 const SHOWN: usize = 32;
 
-/// What is told of a fault.
+/// What to say about a fault.
 #[derive(Clone, Copy)]
 pub enum Hint<'l> {
     /// A text alone.
@@ -26,7 +26,7 @@ pub enum Hint<'l> {
         byte: u8,
         after: &'static str,
     },
-    /// A word in which the byte at a place, from 1, is none of a name.
+    /// A word whose byte at a place, from 1, can't be in a name.
     Letter {
         word: &'l str,
         place: usize,
@@ -65,7 +65,7 @@ fn beginning(word: &str) -> &[u8]
     &word.as_bytes()[..SHOWN]
 }
 
-/// A word in quotes; of one that is long the beginning.
+/// A word in quotes; only the beginning of a long one.
 fn put_word<A: Allocator>(line: &mut Vec<u8, A>, word: &str) -> Result<(), Oom>
     ensures { OnOk result (line.new.items ≡ line.old.items ++ shown word.now) }
 {

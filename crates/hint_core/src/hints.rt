@@ -15,7 +15,7 @@ use crate::words_hint::{bad_number, no_nodes, not_allowed, unknown_word, wrong_c
 use grammar_core::{FaultKind, ScriptFault};
 use std::alloc::Allocator;
 
-/// That of a line behind the first ones.
+/// The hint for a line after the first `count` lines.
 #[tactic(auto, unfolding(crate::specs::Choices::hint_of_line))]
 fn hint_of_line<'l>(
     number: u64,
@@ -42,7 +42,7 @@ fn hint_of_line<'l>(
     }
 }
 
-/// That of the whole input.
+/// The hint for the whole input.
 #[tactic(auto, unfolding(crate::specs::Choices::hint_of_whole))]
 fn hint_of_whole(bytes: &[u8], kind: FaultKind) -> Option<Hint<'static>>
     ensures { option_map plain_hint result ≡ hint_of_whole bytes.now kind }
@@ -67,7 +67,7 @@ fn line_at(bytes: &[u8], place: usize) -> Option<&[u8]>
     bytes.split(|byte| *byte == b'\n').nth(place)
 }
 
-/// The hint of a line of the input.
+/// The hint for a line of the input.
 fn hint_at(bytes: &[u8], number: u64, kind: FaultKind) -> Option<Hint<'_>>
     ensures { option_map plain_hint result ≡ hint_at bytes.now number (slice_get (lines_of bytes.now) (number - 1)) kind }
 {

@@ -1,4 +1,4 @@
-//! What the first fault of a script means, and what to do about it, told by the input that was refused, in one line.
+//! What the first fault of a script means, and what to do about it, in one line. The input that was refused gives it.
 //!
 //! It stands on `grammar_core` (faults, and what a line and its words are) and on the kit's `arrayvec`: words are looked at in
 //! place, and memory is asked for the text alone. In the order to read them: `hint`, a hint and its text; `line_words`, the words

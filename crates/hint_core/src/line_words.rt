@@ -17,7 +17,7 @@ fn is_text(line: &[u8]) -> bool
     line.iter().all(|byte| (0x20..=0x7e).contains(byte))
 }
 
-/// The line as text, where it is one.
+/// The line as text, if it is text.
 fn text_of(line: &[u8]) -> Option<&str>
     ensures { option_copied result ≡ (if is_text line.now then Some line.now else None) }
 {
@@ -30,7 +30,7 @@ fn text_of(line: &[u8]) -> Option<&str>
     }
 }
 
-/// The words of a line that is text, as many as a line of a script may have.
+/// The words of a line of text, at most as many as a line of a script may have.
 pub(crate) fn few_words(line: &[u8]) -> ArrayVec<&str, MOST>
     ensures { map (λ word. word.now) result.items ≡ few_words line.now }
 {
@@ -44,7 +44,7 @@ pub(crate) fn few_words(line: &[u8]) -> ArrayVec<&str, MOST>
     words
 }
 
-/// The word at a place, or nothing.
+/// The word at a place, or an empty one.
 pub(crate) fn word_at<'l>(words: &[&'l str], place: usize) -> &'l str
     ensures { result.now ≡ word_at (map (λ word. word.now) words.now) place }
 {
@@ -54,7 +54,7 @@ pub(crate) fn word_at<'l>(words: &[&'l str], place: usize) -> &'l str
     }
 }
 
-/// The words behind the first few.
+/// The words after the first `count`.
 pub(crate) fn behind<'w, 'l>(words: &'w [&'l str], count: usize) -> &'w [&'l str]
     ensures { map (λ word. word.now) result.now ≡ drop count (map (λ word. word.now) words.now) }
 {
@@ -116,21 +116,21 @@ fn is_named(bytes: &[u8], count: usize, keyword: &str, word: &str) -> bool
         .any(|line| names(line, keyword, word))
 }
 
-/// Whether one of the first lines names a node so.
+/// Whether one of the first lines names a node by this word.
 pub(crate) fn is_node(bytes: &[u8], count: usize, word: &str) -> bool
     ensures { result ≡ is_node (take count (lines_of bytes.now)) word.now }
 {
     is_named(bytes, count, "nodes", word)
 }
 
-/// Whether one of the first lines names a console so.
+/// Whether one of the first lines names a console by this word.
 pub(crate) fn is_console(bytes: &[u8], count: usize, word: &str) -> bool
     ensures { result ≡ is_console (take count (lines_of bytes.now)) word.now }
 {
     is_named(bytes, count, "consoles", word)
 }
 
-/// The first of the words that is a node in the first lines, or stands among those before it, or nothing.
+/// The first word that already names a node in the first lines, or that repeats a word before it; else an empty one.
 #[tactic(auto, unfolding(crate::specs::LineWords::first_again))]
 pub(crate) fn first_again<'l>(bytes: &[u8], count: usize, words: &[&'l str]) -> &'l str
     ensures { result.now ≡ first_again (take count (lines_of bytes.now)) [] (map (λ word. word.now) words.now) }

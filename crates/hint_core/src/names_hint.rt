@@ -24,7 +24,7 @@ fn again<'l>(word: &'l str) -> Option<Hint<'l>>
     about("", word, " was named before; each name stands once")
 }
 
-/// Of a second line `nodes` or `consoles`, and of a name that stands before.
+/// The hint for a second line `nodes` or `consoles`, or for a name that was given before.
 #[tactic(auto, unfolding(crate::specs::Choices::twice))]
 pub(crate) fn twice<'l>(bytes: &[u8], count: usize, words: &[&'l str]) -> Option<Hint<'l>>
     ensures { option_map plain_hint result ≡ twice (take count (lines_of bytes.now)) (map (λ word. word.now) words.now) }
@@ -49,7 +49,7 @@ fn is_name_byte(byte: u8) -> bool
     matches!(byte, b'a'..=b'z' | b'0'..=b'9' | b'_')
 }
 
-/// The first byte of a word that is in no name.
+/// The hint for the first byte of a word that can't be in a name.
 fn letter_hint<'l>(word: &'l str) -> Option<Hint<'l>>
     ensures { option_map plain_hint result ≡ letter_from word.now 1 word.now }
 {
@@ -83,7 +83,7 @@ fn no_name_hint<'l>(word: &'l str) -> Option<Hint<'l>>
     letter_hint(word)
 }
 
-/// The first word that can't be given as a name, or nothing.
+/// The first word that can't be given as a name, or an empty one.
 fn no_name<'l>(words: &[&'l str]) -> &'l str
     ensures { result.now ≡ unwrap_or (find (λ word. not (is_given_name word)) (map (λ word. word.now) words.now)) [] }
 {
@@ -95,7 +95,7 @@ fn no_name<'l>(words: &[&'l str]) -> &'l str
     ""
 }
 
-/// The first word that is no node's name, or nothing.
+/// The first word that is no node's name, or an empty one.
 fn no_node<'l>(bytes: &[u8], count: usize, words: &[&'l str]) -> &'l str
     ensures { result.now ≡ unwrap_or (find (λ word. not (is_node (take count (lines_of bytes.now)) word)) (map (λ word. word.now) words.now)) [] }
 {
@@ -114,7 +114,7 @@ fn name_place(first: &str) -> usize
     if is_reserved(first) { 1 } else { 2 }
 }
 
-/// Of a name that can't be one, or is no node's.
+/// The hint for a name that can't be one, or that no node has.
 #[tactic(auto, unfolding(crate::specs::Choices::bad_name))]
 pub(crate) fn bad_name<'l>(bytes: &[u8], count: usize, words: &[&'l str]) -> Option<Hint<'l>>
     ensures { option_map plain_hint result ≡ bad_name (take count (lines_of bytes.now)) (map (λ word. word.now) words.now) }

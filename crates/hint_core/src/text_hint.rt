@@ -7,7 +7,7 @@ use crate::first_bytes::is_marked;
 use crate::hint::{Hint, about};
 use crate::line_words::behind;
 
-/// What a byte is that no text has, and what to do.
+/// What a byte is that can't be in a text, and what to do.
 #[tactic(auto, unfolding(crate::specs::Choices::byte_text))]
 fn byte_text(byte: u8) -> &'static str
     ensures { result.now ≡ byte_text byte }
@@ -26,7 +26,7 @@ fn is_text_byte(byte: u8) -> bool
     (0x20..=0x7e).contains(&byte)
 }
 
-/// The first byte that no text has.
+/// The hint for the first byte that can't be in a text.
 fn byte_hint(line: &[u8]) -> Option<Hint<'static>>
     ensures { option_map plain_hint result ≡ byte_from 1 line.now }
 {
@@ -42,7 +42,7 @@ fn byte_hint(line: &[u8]) -> Option<Hint<'static>>
     None
 }
 
-/// Of a line that is no text.
+/// The hint for a line that is no text.
 #[tactic(auto, unfolding(crate::specs::Choices::not_text))]
 pub(crate) fn not_text(number: u64, line: &[u8]) -> Option<Hint<'static>>
     ensures { option_map plain_hint result ≡ not_text number line.now }
@@ -53,7 +53,7 @@ pub(crate) fn not_text(number: u64, line: &[u8]) -> Option<Hint<'static>>
     byte_hint(line)
 }
 
-/// The first word that is too long for one, or nothing.
+/// The first word that is too long, or an empty one.
 fn long_word<'l>(words: &[&'l str]) -> &'l str
     ensures { result.now ≡ unwrap_or (find (λ word. nat_lt 200 (length word)) (map (λ word. word.now) words.now)) [] }
 {
@@ -65,7 +65,7 @@ fn long_word<'l>(words: &[&'l str]) -> &'l str
     ""
 }
 
-/// Of a line that is too long, or has a word that is.
+/// The hint for a line that is too long, or has a word that is too long.
 #[tactic(auto, unfolding(crate::specs::Choices::too_long))]
 pub(crate) fn too_long<'l>(line: &[u8], words: &[&'l str]) -> Option<Hint<'l>>
     ensures { option_map plain_hint result ≡ too_long line.now (map (λ word. word.now) words.now) }

@@ -8,7 +8,7 @@ use crate::forms::form;
 use crate::hint::{Hint, about};
 use crate::line_words::{is_begun, is_console, is_node, word_at};
 
-/// Whether the word is one of the six that are no names.
+/// Whether the word is one of the six that can't be names.
 #[tactic(auto, unfolding(grammar_core::specs::Grammar::keyword_of))]
 pub(crate) fn is_reserved(word: &str) -> bool
     ensures { result ≡ is_reserved word.now }
@@ -19,7 +19,7 @@ pub(crate) fn is_reserved(word: &str) -> bool
     )
 }
 
-/// Of a first line that isn't `nodes`.
+/// The hint for a first line that isn't `nodes`.
 #[tactic(auto, unfolding(crate::specs::Choices::no_nodes))]
 pub(crate) fn no_nodes<'l>(words: &[&'l str]) -> Option<Hint<'l>>
     ensures { option_map plain_hint result ≡ no_nodes (map (λ word. word.now) words.now) }
@@ -38,7 +38,7 @@ fn is_console_verb(verb: &str) -> bool
     verb == "undo" || verb == "back" || verb == "unwind"
 }
 
-/// Of a line of nobody who is named before, or without a verb that is one.
+/// The hint for a line whose first word names nobody, or whose second word is no verb.
 #[tactic(auto, unfolding(crate::specs::Choices::unknown_word))]
 pub(crate) fn unknown_word<'l>(bytes: &[u8], count: usize, words: &[&'l str]) -> Option<Hint<'l>>
     ensures { option_map plain_hint result ≡ unknown_word (take count (lines_of bytes.now)) (map (λ word. word.now) words.now) }
@@ -66,7 +66,7 @@ pub(crate) fn unknown_word<'l>(bytes: &[u8], count: usize, words: &[&'l str]) ->
     )
 }
 
-/// Of a line with too few words, or too many.
+/// The hint for a line with too few words, or too many.
 #[tactic(auto, unfolding(crate::specs::Choices::wrong_count))]
 pub(crate) fn wrong_count(words: &[&str]) -> Option<Hint<'static>>
     ensures { option_map plain_hint result ≡ wrong_count (map (λ word. word.now) words.now) }
@@ -74,7 +74,7 @@ pub(crate) fn wrong_count(words: &[&str]) -> Option<Hint<'static>>
     Some(Hint::Plain(form(word_at(words, 0), word_at(words, 1))))
 }
 
-/// Of a line that is no act where acts alone are taken, and of a console's that is a node's.
+/// The hint for a line that is no act where only acts are taken, and for a console's line whose verb is for nodes.
 #[tactic(auto, unfolding(crate::specs::Choices::not_allowed))]
 pub(crate) fn not_allowed<'l>(words: &[&'l str]) -> Option<Hint<'l>>
     ensures { option_map plain_hint result ≡ not_allowed (map (λ word. word.now) words.now) }
@@ -107,7 +107,7 @@ fn number_place(first: &str, verb: &str) -> usize
     }
 }
 
-/// Of a line whose number is none.
+/// The hint for a line with a word that should be a number and isn't one.
 #[tactic(auto, unfolding(crate::specs::Choices::bad_number))]
 pub(crate) fn bad_number<'l>(words: &[&'l str]) -> Option<Hint<'l>>
     ensures { option_map plain_hint result ≡ bad_number (map (λ word. word.now) words.now) }

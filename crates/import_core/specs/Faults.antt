@@ -33,7 +33,7 @@ abbrev pub fault_at : ℕ → FaultKind → ImportFault
 fault_at line OutOfMemory = record { line = 0; kind = OutOfMemory }
 fault_at line kind = record { line = line; kind = kind }
 
--- what is wrong with a line, where these nodes were named before it
+-- what is wrong with a line, if the lines before it name these nodes
 abbrev pub IsWrong : Texts → List ℕ → FaultKind → Type 0
 IsWrong nodes line TooLong = HasNoValue line line_faults.TooLong
 IsWrong nodes line NotJson = HasNoValue line line_faults.NotJson
@@ -45,11 +45,11 @@ IsWrong nodes line NeverSent = ⊥
 IsWrong nodes line Circle = ⊥
 IsWrong nodes line OutOfMemory = Unit {0}
 
--- the nodes that the lines before this place name, behind these
+-- these nodes, and after them those that the lines before this place name
 abbrev pub nodes_before : Texts → List (List ℕ) → ℕ → Texts
 nodes_before nodes lines place = with_texts nodes (names_on (take place lines))
 
--- the line of this place has that fault, and those before it have none
+-- the line at this place has that fault, and the lines before it have none
 pub record IsFirstWrong (nodes : Texts) (lines : List (List ℕ)) (place : ℕ) (kind : FaultKind) : Type 0 where
   pub tables : AllTables
   pub notes : List Note
@@ -58,7 +58,7 @@ pub record IsFirstWrong (nodes : Texts) (lines : List (List ℕ)) (place : ℕ) 
   pub few : length nodes ≤ 32 → length (nodes_before nodes lines place) ≤ 32
   pub wrong : IsWrong (nodes_before nodes lines place) (slice_index_or lines place []) kind
 
--- a line has a fault, those before it have none; or memory was refused
+-- a line has a fault, and those before it have none; or memory was refused
 abbrev pub IsLineFault : Texts → List (List ℕ) → ImportFault → Type 0
 IsLineFault nodes lines fault = by fault.kind
   where
@@ -69,7 +69,7 @@ IsLineFault nodes lines fault = by fault.kind
     by OutOfMemory = Unit {0}
     by kind = first
 
--- the events of notes have no order, and this is why, at the line of the event
+-- the events of these notes have no order, for this reason, which is given at the line of the event
 abbrev pub IsOrderFault : List Note → ImportFault → Type 0
 IsOrderFault notes fault = by fault.kind
   where
@@ -83,7 +83,7 @@ IsOrderFault notes fault = by fault.kind
     by OutOfMemory = Unit {0}
     by kind = ⊥
 
--- no event stays; or else they have no order
+-- no event stays; or those that stay have no order
 abbrev pub IsNotesFault : List Note → ImportFault → Type 0
 IsNotesFault notes fault = by fault.kind
   where
@@ -91,7 +91,7 @@ IsNotesFault notes fault = by fault.kind
     by NoNodes = (notes ≡ []) × (fault.line ≡ 0)
     by kind = IsOrderFault notes fault
 
--- no line has a fault, but of the events that stay there is none, or they have no order
+-- no line has a fault, but no event stays, or those that stay have no order
 pub record IsWholeFault (lenient : Bool) (bytes : List ℕ) (fault : ImportFault) : Type 0 where
   pub tables : AllTables
   pub all : List Note
@@ -101,7 +101,7 @@ pub record IsWholeFault (lenient : Bool) (bytes : List ℕ) (fault : ImportFault
   pub stay : Stay lenient all notes left_out
   pub wrong : IsNotesFault notes fault
 
--- why the input can't be imported: a line has a fault, the first; or it is one of the whole
+-- why the input can't be imported: the first fault of a line, or a fault of the whole
 abbrev pub IsImportFault : Bool → List ℕ → ImportFault → Type 0
 IsImportFault lenient bytes fault = by fault.kind
   where

@@ -8,18 +8,18 @@ use Rattle.import_core.specs.Lenient.{Stay}
 use Rattle.import_core.specs.Notes.{Note, IsNoteOf, AreNotesOf, logged_of}
 use Rattle.import_core.specs.Seen.{names_on, with_texts}
 
--- the lines say events, and these are their notes
+-- these are the notes of the events that the lines have
 pub record AreNoted (t : AllTables) (lines : List (List ℕ)) (notes : List Note) : Type 0 where
   pub events : List Numbered
   pub say : Say 1 lines events
   pub noted : AreNotesOf t events notes
 
--- what is noted of a line
+-- the note of a line, if it has an event
 abbrev pub IsNoted : AllTables → ℕ → List ℕ → Option Note → Type 0
 IsNoted t number line None = Says line None
 IsNoted t number line (Some note) = (event : Line) × Says line (Some event) × IsNoteOf t (record { number = number; line = event }) note
 
--- it is put behind what was noted
+-- the notes, and this one after them, if there is one
 abbrev pub with_note : List Note → Option Note → List Note
 with_note notes None = notes
 with_note notes (Some note) = notes ++ note ∷ []

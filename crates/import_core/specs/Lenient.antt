@@ -1,4 +1,4 @@
--- Deliveries and answers of messages that no event sends, left out.
+-- Leaves out deliveries and answers of messages that no event sends.
 use Rattle.std.specs.Prelude.{◌≡◌, ℕ, zero, suc, ◌==◌, Bool, true, false, not, List, [], ◌++◌, map, Option, Some, None}
 use Rattle.std.specs.List.{filter, list_any}
 use Rattle.import_core.specs.Notes.{Note}
@@ -7,31 +7,31 @@ abbrev pub is_message : ℕ → Option ℕ → Bool
 is_message message None = false
 is_message message (Some sent) = message == sent
 
--- one of the events sends the message
+-- whether one of the events sends the message
 unfoldable pub is_sent : List Note → ℕ → Bool
 is_sent notes message = list_any (λ note. is_message message note.logged.sends) notes
 
--- the messages for which the test is true have what an event waits for
+-- whether the message that an event waits for passes the test; true if it waits for none
 abbrev pub has_awaited : (ℕ → Bool) → Option ℕ → Bool
 has_awaited test None = true
 has_awaited test (Some message) = test message
 
--- the lines of those that go, where these messages stay
+-- the lines of the events that wait for a message which doesn't pass the test
 abbrev pub lines_gone : (ℕ → Bool) → List Note → List ℕ
 lines_gone test notes = map (λ note. note.number) (filter (λ note. not (has_awaited test note.logged.waits)) notes)
 
--- the event waits for nothing, or for a message that one of these sends
+-- whether the event waits for nothing, or for a message that one of these sends
 abbrev pub can_stay : List Note → Note → Bool
 can_stay notes note = has_awaited (is_sent notes) note.logged.waits
 
--- those that stay, and the lines of those that go
+-- the events that stay, and the lines of those that go
 unfoldable pub staying : List Note → List Note
 staying notes = filter (can_stay notes) notes
 
 unfoldable pub gone : List Note → List ℕ
 gone notes = lines_gone (is_sent notes) notes
 
--- round after round those go whose messages none of the rest sends
+-- the events left after some rounds: in each go those that wait for a message which none of the rest sends
 unfoldable pub after_rounds : ℕ → List Note → List Note
 after_rounds zero notes = notes
 after_rounds (suc rounds) notes = staying (after_rounds rounds notes)
@@ -40,14 +40,14 @@ unfoldable pub gone_in_rounds : ℕ → List Note → List ℕ
 gone_in_rounds zero notes = []
 gone_in_rounds (suc rounds) notes = gone_in_rounds rounds notes ++ gone (after_rounds rounds notes)
 
--- these stay, since what they wait for is sent by one of them; the others went in rounds, and these are their lines
+-- these events stay, since what they wait for is sent by one of them; the others went in rounds, and these are their lines
 pub record IsLenient (notes kept : List Note) (left_out : List ℕ) : Type 0 where
   pub rounds : ℕ
   pub kept_are : kept ≡ after_rounds rounds notes
   pub left_are : left_out ≡ gone_in_rounds rounds notes
   pub done : gone kept ≡ []
 
--- all stay, unless it is lenient
+-- all events stay, unless the import is lenient
 abbrev pub Stay : Bool → List Note → List Note → List ℕ → Type 0
 Stay false notes kept left_out = (kept ≡ notes) × (left_out ≡ [])
 Stay true notes kept left_out = IsLenient notes kept left_out

@@ -5,7 +5,7 @@ use Rattle.diff_core.specs.Rows.{Row}
 use Rattle.log_core.specs.Events as log
 use Rattle.import_core.specs.Tables.{AllTables, IsNumberOf, IsWordOf, IsNodeOf}
 
--- the row stands for what was listed, at the clock 0
+-- the row stands for the listed one, at the clock 0
 pub record IsRowOf (t : AllTables) (listed : log.Row) (row : Row) : Type 0 where
   pub node : IsNodeOf t listed.node row.name
   pub pid : IsNumberOf t.pids listed.tracked.pid row.pid
@@ -14,12 +14,12 @@ pub record IsRowOf (t : AllTables) (listed : log.Row) (row : Row) : Type 0 where
   pub metadata : IsWordOf t.longs listed.tracked.meta row.metadata
   pub clock : row.clock ≡ 0
 
--- the rest holds of these rows, and one that stands for what was listed behind them
+-- `Rest` holds of these rows; if there is a listed row, with the row that stands for it added at the end
 abbrev pub RowIn : AllTables → List Row → Option log.Row → (List Row → Type 0) → Type 0
 RowIn t found None Rest = Rest found
 RowIn t found (Some listed) Rest = (row : Row) × IsRowOf t listed row × Rest (found ++ row ∷ [])
 
--- these rows, and behind them those of the values, each of which stands for what was listed
+-- these rows, and after them those that stand for the values, each of which is a listed row
 abbrev pub AreRowsOf : AllTables → List Row → Items → List Row → Type 0
 AreRowsOf t found no_items rows = rows ≡ found
 AreRowsOf t found (item d ds) rows = RowIn t found (log.row_at d) (λ more. AreRowsOf t more ds rows)

@@ -1,4 +1,4 @@
--- The events of a log as they are ordered and played.
+-- The events of a log, as they are ordered and played.
 use Rattle.std.specs.Prelude.{◌≡◌, ℕ, ◌<◌, true, List, map, Option, Some, None, option_map}
 use Rattle.std.specs.List.{AllZip}
 use Rattle.diff_core.specs.Rows.{Row}
@@ -11,7 +11,7 @@ use Rattle.import_core.specs.Tables.{AllTables, IsNodeOf}
 use Rattle.import_core.specs.Steps.{IsStepOf, IsSentOf, is_online}
 use Rattle.import_core.specs.Listed.{IsListOf}
 
--- an event as far as its order goes, with the number of its line; its step, if it is one, and the rows that it lists
+-- what an order needs to know of an event, the number of its line, its step, if it is one, and the rows that it lists
 pub record Note : Type 0 where
   pub number : ℕ
   pub logged : Logged
@@ -29,7 +29,7 @@ abbrev pub awaited : Option Operation → Option ℕ
 awaited None = None
 awaited (Some step) = option_map message_of (delivers step)
 
--- the step stands for the event; what was listed has none
+-- the step stands for the event; an event that lists rows has none
 abbrev pub IsMaybeStepOf : AllTables → log.Event → Option Operation → Type 0
 IsMaybeStepOf t event None = is_online event ≡ true
 IsMaybeStepOf t event (Some step) = IsStepOf t event step

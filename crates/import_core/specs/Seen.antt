@@ -11,15 +11,16 @@ use Rattle.log_core.specs.Events as log
 use Rattle.log_core.specs.Lines.{is_blank}
 use Rattle.import_core.specs.Tables.{AllTables}
 
--- the texts, and behind them this one, if it is new
+-- the texts, and this one after them, if it is new
 unfoldable pub with_text : Texts → List ℕ → Texts
 with_text texts text = if list_any (bytes_eq text) texts then texts else texts ++ text ∷ []
 
--- and each of these
+-- the texts, and each of the new ones among these after them
 abbrev pub with_texts : Texts → Texts → Texts
 with_texts texts more = fold with_text texts more
 
--- the nodes are those from before, and behind them these, by first sight; and there are too many with these
+-- the later nodes are the earlier ones, and after them the new ones among these, by first sight. The next definition: there are
+-- too many with these
 abbrev pub SeesNodes : AllTables → AllTables → Texts → Type 0
 SeesNodes earlier later names = later.nodes ≡ with_texts earlier.nodes names
 
@@ -44,7 +45,7 @@ abbrev pub nodes_among : Items → Texts
 nodes_among no_items = []
 nodes_among (item d ds) = node_if (log.row_at d) ++ nodes_among ds
 
--- the nodes that an event names beside its own: by a message that is sent or taken, by a status, by rows that are listed
+-- the nodes that an event names besides its own: by a message that is sent or taken, by a status, or by rows that are listed
 abbrev pub message_names : log.Event → Texts
 message_names (log.extract names message) = names_among names
 message_names (log.deliver from message) = from ∷ []
@@ -64,7 +65,7 @@ row_names event = []
 abbrev pub step_names : log.Event → Texts
 step_names event = message_names event ++ status_names event
 
--- an event's own node, and behind it those that it names
+-- an event's own node, and after it the nodes that it names
 abbrev pub names_in : log.Line → Texts
 names_in line = line.node ∷ (step_names line.event ++ row_names line.event)
 

@@ -20,7 +20,7 @@ pub record IsPresenceOf (t : AllTables) (tracked : log.Tracked) (presence : Pres
   pub key : IsWordOf t.longs tracked.key presence.key
   pub metadata : IsWordOf t.longs tracked.meta presence.metadata
 
--- the rest holds of these nodes, and the one of this name among them
+-- `Rest` holds of these nodes; if there is a name, with its node added
 abbrev pub NodeIn : AllTables → Names → Option (List ℕ) → (Names → Type 0) → Type 0
 NodeIn t found None Rest = Rest found
 NodeIn t found (Some name) Rest = (node : ℕ) × IsNodeOf t name node × Rest (set.insert found node)
@@ -53,7 +53,7 @@ IsSentOf t node (log.extract names message) sends = (k : ℕ) × (sends ≡ Some
 IsSentOf t node (log.answer from message answer) sends = (k : ℕ) × (sends ≡ Some k) × IsMessageOf t node answer k
 IsSentOf t node event sends = sends ≡ None
 
--- a change of the own presences; a message sent or taken; a status; and what was listed, which is no step
+-- a change of the own presences; a message sent or taken; a status; and a list of rows, which is no step
 abbrev pub is_own : log.Event → Bool
 is_own (log.join tracked) = true
 is_own (log.update tracked) = true

@@ -9,16 +9,16 @@ use Rattle.import_core.specs.declared.tables.Tables.{Tables}
 use Rattle.spelling_core.specs.declared.spelling.TheConstants.{LONGEST}
 use Rattle.spelling_core.specs.WordText.{spelled, word_of, AreBytes}
 
--- the later list of texts has those of the earlier one with their numbers
+-- the later list of texts has those of the earlier one, with the same numbers
 abbrev pub Extends : Texts → Texts → Type 0
 Extends earlier later = (more : Texts) × (later ≡ earlier ++ more)
 
--- a text from which the value is read again; without a float it is the only one with no space
+-- a text from which the value is read again; if the value has no float, there is only one such text without spaces
 pub record IsTextOf (d : Data) (text : List ℕ) : Type 0 where
   pub reads : depth d ≤ max_depth → read text ≡ Some d
   pub compact : has_float d ≡ false → text ≡ compact_text d
 
--- the bytes by which a value is told, and whether it is a string: a string's own, or else a text of the value
+-- the bytes that stand for a value, and whether it is a string: a string's own bytes, or else a text of the value
 abbrev pub ToldBy : Option (List ℕ) → Data → Bool → List ℕ → Type 0
 ToldBy (Some bytes) d is_string text = (is_string ≡ true) × (text ≡ bytes)
 ToldBy None d is_string text = (is_string ≡ false) × IsTextOf d text
@@ -30,14 +30,14 @@ pub record IsSpellingOf (d : Data) (spelling : List ℕ) : Type 0 where
   pub told : ToldBy (as_str d) d is_string text
   pub is : spelling ≡ spelled is_string text
 
--- the number of a value among those whose texts these are
+-- the number of a value among those with these texts
 pub record IsNumberOf (texts : Texts) (d : Data) (number : ℕ) : Type 0 where
   pub text : List ℕ
   pub small : number < 2 ^ 64
   pub tells : IsTextOf d text
   pub numbered : number_in texts text ≡ Some number
 
--- the word of a value, which is cut under the number of the value where its spelling is too long
+-- the word of a value; if its spelling is too long, the word is cut and has the value's number
 pub record IsWordOf (longs : Texts) (d : Data) (word : List ℕ) : Type 0 where
   pub spelling : List ℕ
   pub number : ℕ
@@ -59,7 +59,7 @@ all_of t = record { nodes = t.nodes; pids = t.pids; messages = t.messages; longs
 abbrev pub no_tables : AllTables
 no_tables = record { nodes = []; pids = []; messages = []; longs = [] }
 
--- all that is numbered stays what it is
+-- all that has a number in the tables keeps it
 pub record Keeps (earlier later : AllTables) : Type 0 where
   pub nodes : Extends earlier.nodes later.nodes
   pub pids : Extends earlier.pids later.pids
@@ -69,7 +69,7 @@ pub record Keeps (earlier later : AllTables) : Type 0 where
 abbrev pub IsNodeOf : AllTables → List ℕ → ℕ → Type 0
 IsNodeOf t name node = number_in t.nodes name ≡ Some node
 
--- a message is told by its sender's number, a space, and a text of its value
+-- a message as a text: its sender's number, a space, and a text of its value
 abbrev pub message_text : ℕ → List ℕ → List ℕ
 message_text sender text = decimal sender ++ 32 ∷ text
 
@@ -78,13 +78,13 @@ pub record IsMessageOf (t : AllTables) (sender : ℕ) (d : Data) (message : ℕ)
   pub tells : IsTextOf d text
   pub numbered : number_in t.messages (message_text sender text) ≡ Some message
 
--- one word, or one number, is that of one value
+-- a word, or a number, stands for one value alone
 pub record OneValueLaw : Type 0 where
   pub words : (longs : Texts) (d e : Data) (word : List ℕ) → depth d ≤ max_depth → depth e ≤ max_depth → IsWordOf longs d word →
       IsWordOf longs e word → d ≡ e
   pub pids : (pids : Texts) (d e : Data) (pid : ℕ) → depth d ≤ max_depth → depth e ≤ max_depth → IsNumberOf pids d pid → IsNumberOf pids e pid → d ≡ e
 
--- and of a value without a float it stays what it is, and stays alone, while more are numbered
+-- what stands for a value without a float stays the same, and stands for it alone, while more values are numbered
 pub record KeptLaw : Type 0 where
   pub words : (longs later : Texts) (d : Data) (word : List ℕ) → Extends longs later → IsWordOf longs d word → IsWordOf later d word
   pub pids : (pids later : Texts) (d : Data) (pid : ℕ) → Extends pids later → IsNumberOf pids d pid → IsNumberOf later d pid

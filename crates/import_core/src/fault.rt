@@ -23,10 +23,10 @@ pub enum FaultKind {
     /// More than 32 nodes.
     #[error("TooManyNodes")]
     TooManyNodes,
-    /// No line says an event.
+    /// No line has an event.
     #[error("NoNodes")]
     NoNodes,
-    /// The line sends a message that an earlier one sends.
+    /// The line sends a message that an earlier line sends, too.
     #[error("Twice")]
     Twice,
     /// The line waits for a message that no line sends.

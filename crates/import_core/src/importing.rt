@@ -18,7 +18,8 @@ use std::alloc::{Allocator, Global};
 /// How many nodes there can be.
 const NODES: u16 = 32;
 
-/// What an input gives: what stands for what, the notes of the events that stay, and an order of them, by their places.
+/// What an input gives: the tables of what stands for what, the notes of the events that stay, and an order of these,
+/// by their places.
 #[derive(Drop)]
 pub struct Import<A: Allocator> {
     pub tables: Tables<A>,
@@ -28,14 +29,14 @@ pub struct Import<A: Allocator> {
     pub left_out: Vec<u64, A>,
 }
 
-/// What the line feeds divide.
+/// The lines, separated by line feeds.
 fn lines_of<A: Allocator>(alloc: A, bytes: &[u8]) -> Result<Vec<&[u8], A>, Oom>
     ensures { IfOk result (λ lines. map (λ line. line.now) lines.items ≡ lines_of bytes.now) }
 {
     bytes.split(|byte| *byte == b'\n').collect(alloc)
 }
 
-/// The events as far as their order goes.
+/// What an order needs to know of the events.
 fn logged<A: Allocator + Copy>(alloc: A, notes: &[Noted<A>]) -> Result<Vec<Logged, A>, Oom>
     ensures { IfOk result (λ logged. logged.items ≡ logged_of (map note_of notes.now)) }
 {
@@ -56,7 +57,7 @@ fn number_at<A: Allocator>(notes: &[Noted<A>], place: usize) -> u64
     }
 }
 
-/// Why events have no order, at the line of the event.
+/// Why events have no order, with the line of the event at fault.
 fn fault_of<A: Allocator>(notes: &[Noted<A>], fault: OrderFault) -> ImportFault
     requires { IsFaultOf (logged_of (map note_of notes.now)) fault }
     ensures { IsOrderFault (map note_of notes.now) result }
@@ -103,8 +104,9 @@ fn order_of<A: Allocator + Copy>(
     }
 }
 
-/// The events of the input's lines, with what stands for what and the nearest order; or the first reason why there are none.
-/// Where it is `lenient`, deliveries and answers of messages that no line sends which stays are left out.
+/// The events of the input's lines, with the tables of what stands for what and the nearest order; or the first reason
+/// why there are none. If `lenient`, it leaves out each delivery and answer whose message no line sends, then those
+/// whose message was sent by a line that was left out, and so on.
 pub fn imported<A: Allocator + Copy>(
     heap: Global,
     alloc: A,

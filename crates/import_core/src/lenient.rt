@@ -1,4 +1,4 @@
-//! Deliveries and answers of messages that no line sends, left out: for logs that begin in the middle.
+//! Leaves out deliveries and answers whose messages no line sends: for logs that begin in the middle.
 ghost use Rattle.std.specs.Prelude.{◌≡◌, ◌<◌, ◌++◌, ◌∷◌, [], ◌==◌, ◌||◌, ℕ, not, length, map, slice_index_or, false, IfOk, IfSome, OnOk};
 ghost use Rattle.std.specs.List.{AllByRecursion};
 ghost use Rattle.import_core.specs.Lenient.{IsLenient, Stay, gone, has_awaited, is_message, is_sent, lines_gone, staying};
@@ -19,7 +19,7 @@ fn mark<A: Allocator>(sent: &mut Vec<bool, A>, sends: Option<usize>)
     }
 }
 
-/// Which of all messages the events send, by their numbers.
+/// For each message, by its number, whether the events send it.
 fn sent_by<A: Allocator + Copy>(
     alloc: A,
     notes: &[Noted<A>],
@@ -45,7 +45,7 @@ fn can_stay<A: Allocator>(note: &Noted<A>, sent: &[bool]) -> bool
     }
 }
 
-/// Puts the line of an event that goes behind those that went.
+/// Appends the number of the event's line, if the event is left out.
 fn add_gone<A: Allocator>(
     left_out: &mut Vec<u64, A>,
     note: &Noted<A>,
@@ -59,7 +59,7 @@ fn add_gone<A: Allocator>(
     Ok(())
 }
 
-/// Puts the lines of the events that go behind those that went.
+/// Appends the lines of the events that go.
 fn note_gone<A: Allocator>(
     left_out: &mut Vec<u64, A>,
     notes: &[Noted<A>],
@@ -74,7 +74,7 @@ fn note_gone<A: Allocator>(
     Ok(())
 }
 
-/// Lets those go whose messages none of these sends. Tells whether any went.
+/// Takes out the events that wait for a message which none of these sends, and says whether there were any.
 fn let_go<A: Allocator + Copy>(
     alloc: A,
     notes: &mut Vec<Noted<A>, A>,
@@ -93,7 +93,8 @@ fn let_go<A: Allocator + Copy>(
     Ok(left_out.len() != before)
 }
 
-/// Leaves out what waits for a message that no event sends which stays. Gives the lines of what went.
+/// Takes out events until each that stays waits only for a message that one of them sends. Gives the lines of those
+/// that it took out.
 fn leave_out<A: Allocator + Copy>(
     alloc: A,
     notes: &mut Vec<Noted<A>, A>,
@@ -111,7 +112,7 @@ fn leave_out<A: Allocator + Copy>(
     Ok(left_out)
 }
 
-/// The same where it is lenient; else all stay.
+/// As `leave_out`, if `lenient`; else all events stay.
 pub(crate) fn stay<A: Allocator + Copy>(
     alloc: A,
     lenient: bool,

@@ -1,4 +1,4 @@
-//! From the events of logs to notes of them in an order, as a bench can play them.
+//! From the events of logs to notes of them, in an order in which a bench can play them.
 //!
 //! It stands on `log_core` for what a line says, on `event_order` for the order of events, on `spelling_core` for words, on
 //! `diff_core` for rows, and on the bench's own names and steps. In the order to read them: `numbering`, the number of a text;

@@ -1,11 +1,11 @@
-//! `NoteFault`: why an event has no step.
+//! `NoteFault`: why no step stands for an event.
 ghost use Rattle.std.specs.Prelude.{◌≡◌};
 ghost use Rattle.import_core.specs.declared.note_fault.NoteFault.TheVariants.{OutOfMemory};
 
 use dots_core::Oom;
 use thiserror::Error;
 
-/// Why an event has no step.
+/// Why no step stands for an event.
 #[derive(Clone, Copy, Debug, PartialEq, Eq, Error)]
 pub enum NoteFault {
     /// There are more than 32 nodes.

@@ -20,7 +20,7 @@ use event_order::Logged;
 use log_core::{LogLine, line_at, value_of_line};
 use std::alloc::{Allocator, Global};
 
-/// An event as far as its order goes, with the number of its line; its step, if it is one, and the rows that it lists.
+/// What an order needs to know of an event, the number of its line, its step, if it is one, and the rows that it lists.
 #[derive(Drop)]
 pub struct Noted<A: Allocator> {
     pub number: u64,
@@ -42,7 +42,7 @@ fn awaited<A: Allocator>(step: &Option<Step<A>>) -> Option<usize>
     }
 }
 
-/// What is noted of an event.
+/// The note of an event.
 fn note_for<A: Allocator + Copy>(
     heap: Global,
     alloc: A,
@@ -68,7 +68,7 @@ fn note_for<A: Allocator + Copy>(
     })
 }
 
-/// What is noted of an event, if there are no more than 32 nodes with those that it names.
+/// The note of an event, if there are no more than 32 nodes with those that it names.
 fn note_of_event<A: Allocator + Copy>(
     heap: Global,
     alloc: A,
@@ -90,7 +90,7 @@ fn note_of_event<A: Allocator + Copy>(
     Ok(note)
 }
 
-/// What is noted of a line, if it says an event.
+/// The note of a line, if it has an event.
 fn note_of_line<A: Allocator + Copy>(
     heap: Global,
     alloc: A,
@@ -121,7 +121,7 @@ fn add<A: Allocator + Copy>(notes: &mut Vec<Noted<A>, A>, note: Noted<A>) -> Res
     Ok(())
 }
 
-/// Puts what is noted of a line behind these.
+/// Appends the note of a line, if it has an event.
 fn add_line<A: Allocator + Copy>(
     heap: Global,
     alloc: A,
@@ -143,7 +143,7 @@ fn add_line<A: Allocator + Copy>(
     Ok(())
 }
 
-/// What is noted of the lines, numbered from 1, or the first line's fault.
+/// The notes of the lines, numbered from 1, or the fault of the first line at fault.
 pub(crate) fn noted_all<A: Allocator + Copy>(
     heap: Global,
     alloc: A,

@@ -50,7 +50,7 @@ pub(crate) fn presence_for<A: Allocator + Copy>(
     })
 }
 
-/// What stands for a leave.
+/// The step that stands for a leave.
 fn leave_for<A: Allocator + Copy>(
     heap: Global,
     alloc: A,
@@ -87,7 +87,7 @@ fn taken_from<A: Allocator + Copy>(
     Ok((sender, message as u64))
 }
 
-/// The nodes with these names, of which each is a text.
+/// The nodes with these names, each of which is a text.
 fn nodes_for<A: Allocator + Copy>(
     tables: &mut Tables<A>,
     names: &[Value],
@@ -106,7 +106,7 @@ fn nodes_for<A: Allocator + Copy>(
     Ok(nodes)
 }
 
-/// What stands for a join.
+/// The step that stands for a join.
 fn join_for<A: Allocator + Copy>(
     heap: Global,
     alloc: A,
@@ -126,7 +126,7 @@ fn join_for<A: Allocator + Copy>(
     })
 }
 
-/// What stands for an update.
+/// The step that stands for an update.
 fn update_for<A: Allocator + Copy>(
     heap: Global,
     alloc: A,
@@ -146,7 +146,7 @@ fn update_for<A: Allocator + Copy>(
     })
 }
 
-/// What stands for a change of the own presences.
+/// The step that stands for a change of the own presences.
 fn own_step_for<A: Allocator + Copy>(
     heap: Global,
     alloc: A,
@@ -171,7 +171,7 @@ fn own_step_for<A: Allocator + Copy>(
     }
 }
 
-/// What stands for an answer.
+/// The step that stands for an answer.
 fn answer_for<A: Allocator + Copy>(
     heap: Global,
     tables: &mut Tables<A>,
@@ -187,7 +187,7 @@ fn answer_for<A: Allocator + Copy>(
     Ok(Step::Answer { sender, number })
 }
 
-/// What stands for a delivery.
+/// The step that stands for a delivery.
 fn deliver_for<A: Allocator + Copy>(
     heap: Global,
     tables: &mut Tables<A>,
@@ -203,7 +203,7 @@ fn deliver_for<A: Allocator + Copy>(
     Ok(Step::Deliver { sender, number })
 }
 
-/// What stands for a message that is sent or taken.
+/// The step that stands for an event which sends or takes a message.
 fn message_step_for<A: Allocator + Copy>(
     heap: Global,
     tables: &mut Tables<A>,
@@ -231,7 +231,7 @@ fn message_step_for<A: Allocator + Copy>(
     }
 }
 
-/// What stands for a status.
+/// The step that stands for a status.
 fn status_for<A: Allocator + Copy>(
     tables: &mut Tables<A>,
     event: &LogEvent<'_>,
@@ -256,7 +256,7 @@ fn status_for<A: Allocator + Copy>(
     }
 }
 
-/// The step that stands for an event. There is none for what was listed.
+/// The step that stands for an event. There is none for an event that lists rows.
 pub(crate) fn step_for<A: Allocator + Copy>(
     heap: Global,
     alloc: A,

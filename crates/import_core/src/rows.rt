@@ -49,7 +49,7 @@ fn add_row<A: Allocator + Copy>(
     Ok(())
 }
 
-/// What stands for the rows among these values, of which each is one.
+/// The rows that stand for these values, each of which is a row.
 fn rows_for<A: Allocator + Copy>(
     heap: Global,
     alloc: A,
@@ -71,7 +71,7 @@ fn rows_for<A: Allocator + Copy>(
     Ok(rows)
 }
 
-/// The rows that an event lists, if it lists some.
+/// The rows that stand for those of an event, if it lists some.
 pub(crate) fn listed_for<A: Allocator + Copy>(
     heap: Global,
     alloc: A,

@@ -24,7 +24,7 @@ pub struct Tables<A: Allocator> {
     pub longs: TextSet<A>,
 }
 
-/// The number of a value among those whose texts these are.
+/// The number of a value among those with these texts.
 fn number_in<A: Allocator + Copy>(
     heap: Global,
     texts: &mut TextSet<A>,
@@ -56,7 +56,7 @@ fn word_in<A: Allocator + Copy>(
     word_of(alloc, &spelling, number)
 }
 
-/// A message as a text: the number of its sender, and what tells it.
+/// A message as a text: the number of its sender, and the text of its value.
 fn message_text(heap: Global, sender: u16, text: &str) -> Result<String, Oom>
     ensures { IfOk result (λ s. string_bytes s ≡ message_text sender text.now) }
 {
@@ -65,7 +65,7 @@ fn message_text(heap: Global, sender: u16, text: &str) -> Result<String, Oom>
 }
 
 impl<A: Allocator + Copy> Tables<A> {
-    /// Nothing stands for anything yet.
+    /// Tables in which nothing stands for anything yet.
     pub(crate) fn new(alloc: A) -> Tables<A>
         ensures { all_of result ≡ no_tables }
     {

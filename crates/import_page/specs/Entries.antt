@@ -1,4 +1,4 @@
--- The events of logs as JSON, one object for each: its line and its time, and of one that is no call what it tells.
+-- The events of logs as JSON, an object for each: its line and its time, and, if it is no call, what it tells.
 use Rattle.std.specs.Prelude.{◌≡◌, ℕ, ◌+◌, ◌-◌, List, [], ◌∷◌, ◌++◌, codes, decimal, map, slice_index_or, Option, Some, None}
 use Rattle.bench_core.specs.Machine.{Machine}
 use Rattle.diff_core.specs.Rows.{Row}
@@ -30,21 +30,21 @@ row_head name pid = codes "[" ++ decimal name ++ codes ",\"" ++ decimal pid ++ c
 unfoldable pub row_text : Row → List ℕ
 row_text row = row_head row.name row.pid ++ word_text row.topic ++ word_text row.key ++ word_text row.metadata ++ codes "]"
 
--- the rows from this place on, divided by commas
+-- the rows from this place on, separated by commas
 unfoldable pub rows_text : ℕ → List Row → List ℕ
 rows_text place [] = []
 rows_text place (row ∷ rows) = comma_at place ++ row_text row ++ rows_text (place + 1) rows
 
--- of a list of the node the rows that only the bench has, and those that only the real node listed
+-- for a list of the node: the rows that only the bench has, and those that only the real node listed
 unfoldable pub list_text : ℕ → List Row → List Row → List ℕ
 list_text node ours theirs =
     number_key (codes "node") node ++ codes ",\"online\":[[" ++ rows_text 0 ours ++ codes "],[" ++ rows_text 0 theirs ++ codes "]]"
 
--- of a step of the node that isn't asked, as its message was not sent
+-- for a step of the node that isn't asked, as its message was not sent
 unfoldable pub unsent_text : ℕ → List ℕ
 unsent_text node = number_key (codes "node") node ++ codes ",\"unsent\":true"
 
--- a list that a node listed, against that of the bench
+-- a list that a real node listed, compared with that of the bench
 pub record IsListTold (note : Note) (bench : List Row) (text : List ℕ) : Type 0 where
   pub ours : List Row
   pub theirs : List Row
@@ -52,13 +52,13 @@ pub record IsListTold (note : Note) (bench : List Row) (text : List ℕ) : Type 
   pub theirs_are : AreOnly theirs (map unclocked note.rows) (map unclocked bench)
   pub text_is : text ≡ list_text note.logged.node ours theirs
 
--- what is told of an event by what is asked for it: a step is told as a call
+-- what the page tells of an event, by what the event asks; a step appears as its call
 abbrev pub IsAskedTold : Machine → Note → Asked → List ℕ → Type 0
 IsAskedTold m note list text = IsListTold note (rows_at m note.logged.node) text
 IsAskedTold m note nothing text = text ≡ unsent_text note.logged.node
 IsAskedTold m note (step operation) text = text ≡ []
 
--- the object of an event, which stands at this place
+-- the object of the event at this place
 pub record IsEntry (lines : List (List ℕ)) (p : Playing) (place : ℕ) (note : Note) (text : List ℕ) : Type 0 where
   pub time : Option (List ℕ)
   pub told : List ℕ
@@ -66,7 +66,7 @@ pub record IsEntry (lines : List (List ℕ)) (p : Playing) (place : ℕ) (note :
   pub told_is : IsAskedTold p.machine note (asked_by p.numbers note.step) told
   pub text_is : text ≡ head_text place note.number time ++ told ++ codes "}"
 
--- of events one after another, from this place on
+-- the objects of events one after another, from this place on
 abbrev pub AreEntries : List (List ℕ) → Playing → ℕ → List Note → List ℕ → Type 0
 AreEntries lines p place [] text = text ≡ []
 AreEntries lines p place (note ∷ notes) text =

@@ -1,4 +1,4 @@
--- What the data of an import's page has behind its calls.
+-- What the data of an import's page has after the calls.
 use Rattle.std.specs.Prelude.{◌≡◌, ℕ, Bool, List, ◌++◌, codes, length}
 use Rattle.bench_core.specs.Limits.{Limits}
 use Rattle.bench_core.specs.Machine.{Machine}
@@ -23,7 +23,7 @@ keys_text t entries =
 abbrev pub start_of : Limits → AllTables → Playing
 start_of limits t = opening limits (shown_names t.nodes) (length t.messages)
 
--- the bench that the events of an input leave, and the keys of them
+-- the bench that the events of an input leave, and the keys that they give
 pub record IsShownOf (lenient : Bool) (limits : Limits) (bytes : List ℕ) (bench : Machine) (keys left_out : List ℕ) : Type 0 where
   pub tables : AllTables
   pub notes : List Note

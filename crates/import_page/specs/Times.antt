@@ -5,7 +5,7 @@ use Rattle.serde_json.specs.Find.{as_number, as_str, get}
 use Rattle.log_core.specs.Lines.{IsValueOf}
 use Rattle.import_core.specs.Tables.{IsTextOf}
 
--- a string is told by its own bytes, a number by a text of it, and other values tell no time
+-- the time of a value: a string's own bytes, or a text of a number; other values give no time
 abbrev pub IsTimeBy : Option (List ℕ) → Option Num → Data → Option (List ℕ) → Type 0
 IsTimeBy (Some bytes) number d time = time ≡ Some bytes
 IsTimeBy None (Some number) d time = (text : List ℕ) × IsTextOf d text × (time ≡ Some text)
@@ -19,6 +19,6 @@ IsTimeIn (Some d) time = IsTimeBy (as_str d) (as_number d) d time
 abbrev pub IsTimeOf : Data → Option (List ℕ) → Type 0
 IsTimeOf d time = IsTimeIn (get (codes "time") d) time
 
--- that a line has, which has none without a value
+-- the time that a line has; a line without a value has none
 abbrev pub IsTimeOn : List ℕ → Option (List ℕ) → Type 0
 IsTimeOn line time = ((d : Data) × IsValueOf line (Some d) × IsTimeOf d time) ⊎ (((d : Data) → ¬ IsValueOf line (Some d)) × (time ≡ None))

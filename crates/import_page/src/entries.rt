@@ -60,7 +60,7 @@ fn put_unsent<A: Allocator>(text: &mut String<A>, node: u16) -> Result<(), Oom>
     Ok(text.push_str(",\"unsent\":true")?)
 }
 
-/// A step of an event is asked of the bench.
+/// Asks the bench a step of an event.
 #[tactic(auto, unfolding(import_report::specs::Events::after_step))]
 fn ask<'a, B: Allocator>(
     bench: &mut Bench<'a, B>,
@@ -80,7 +80,7 @@ fn ask<'a, B: Allocator>(
     }
 }
 
-/// What an event tells that is no call, and the bench after it.
+/// Plays an event, and appends what it tells besides its call.
 #[tactic(auto, unfolding(import_report::specs::Events::after_event))]
 fn put_told<'a, B: Allocator>(
     bench: &mut Bench<'a, B>,
@@ -103,7 +103,7 @@ fn put_told<'a, B: Allocator>(
     }
 }
 
-/// An event, which stands at this place, and the bench after it.
+/// Plays the event at this place, and appends what it tells.
 fn put_entry<'a, B: Allocator>(
     bench: &mut Bench<'a, B>,
     text: &mut String<&'a B>,
@@ -125,7 +125,7 @@ fn put_entry<'a, B: Allocator>(
     Ok(text.push_str("}")?)
 }
 
-/// The events in this order, one after another, and the bench after them.
+/// Plays the events in this order, and appends what each tells.
 pub(crate) fn put_entries<'a, B: Allocator>(
     bench: &mut Bench<'a, B>,
     text: &mut String<&'a B>,

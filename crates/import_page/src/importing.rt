@@ -1,4 +1,4 @@
-//! From the bytes of logs to a bench and what they tell beside its calls.
+//! From the bytes of logs to a bench, and to what the logs tell besides its calls.
 ghost use Rattle.std.specs.Prelude.{◌≡◌, ◌<◌, ◌≤◌, ◌++◌, ℕ, List, IfOk, IfErr, OnOk, length, map, string_bytes};
 ghost use Rattle.std.specs.List.{All};
 ghost use Rattle.log_core.specs.Lines.{lines_of};
@@ -25,7 +25,7 @@ fn lines_of<A: Allocator>(alloc: A, bytes: &[u8]) -> Result<Vec<&[u8], A>, Oom>
     bytes.split(|byte| *byte == b'\n').collect(alloc)
 }
 
-/// A bench, and what the events that were played on it tell beside its calls.
+/// A bench, and what the events that were played on it tell besides its calls.
 #[derive(Drop)]
 pub struct Shown<'a, B: Allocator> {
     pub bench: Bench<'a, B>,
@@ -55,7 +55,7 @@ fn keys_text<A: Allocator + Copy>(
     Ok(keys)
 }
 
-/// The events of what was imported are played.
+/// Plays the events of an import.
 fn played<'a, B: Allocator>(
     heap: Global,
     alloc: &'a B,
@@ -95,7 +95,7 @@ fn played<'a, B: Allocator>(
     }
 }
 
-/// What was imported, as it is shown.
+/// An import as a page shows it.
 fn shown_of<'a, B: Allocator>(
     heap: Global,
     alloc: &'a B,
@@ -129,8 +129,8 @@ fn left_out_of<A: Allocator>(import: Import<A>) -> Vec<u64, A>
     import.left_out
 }
 
-/// The bench that the events of logs leave, whose bytes these are, with these limits, and what they tell beside its calls; and
-/// the lines of the deliveries and answers that were left out, which none are unless it is `lenient`.
+/// The bench that the events of these logs leave, with these limits; what they tell besides its calls; and the lines of
+/// the deliveries and answers that were left out. Only a `lenient` import leaves out any.
 pub fn import_shown<'a, B: Allocator>(
     heap: Global,
     alloc: &'a B,

@@ -1,4 +1,4 @@
-//! What logs tell on a page beside the calls of the bench on which they were played: the data's further keys.
+//! What logs tell on a page besides the calls of the bench on which they were played: the data's further keys.
 //!
 //! It stands on `import_report`, which plays events, on `listed_core` for what a real node listed, and on `page_data` for JSON. In
 //! the order to read them: `times`, the time of a line; `rows`, lists that part; `entries`, an event; `importing`, from the bytes

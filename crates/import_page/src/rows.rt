@@ -33,7 +33,7 @@ fn put_row<A: Allocator, R: Allocator>(text: &mut String<A>, row: &OnlineRow<R>)
     Ok(text.push_str("]")?)
 }
 
-/// The rows, divided by commas.
+/// The rows, separated by commas.
 fn put_rows<A: Allocator, R: Allocator>(
     text: &mut String<A>,
     rows: &[OnlineRow<R>],

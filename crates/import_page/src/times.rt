@@ -17,7 +17,7 @@ fn text_of(heap: Global, value: &Value) -> Result<String, Oom>
     value.to_string(heap)
 }
 
-/// A string by itself, and a number by its text.
+/// The text of a time: a string itself, or the text of a number.
 fn told(heap: Global, value: &Value) -> Result<Option<String>, Oom>
     ensures { IfOk result (λ time. IsTimeBy (as_str (view value.now)) (as_number (view value.now)) (view value.now) (option_map string_bytes time)) }
 {

@@ -23,11 +23,11 @@ use Rattle.import_report.specs.Scripts.{in_order, opening}
 unfoldable pub place_text : Texts → Note → List ℕ
 place_text names note = codes "line " ++ decimal note.number ++ codes " " ++ name_at names note.logged.node
 
--- of a list the rows that only the bench has, and those that only the real node listed; nothing where there are none
+-- for a list: the rows that only the bench has, and those that only the real node listed; nothing if there are none
 unfoldable pub list_text : Texts → Note → List Row → List Row → List ℕ
 list_text names note ours theirs = if is_no_change ours theirs then [] else ended (place_text names note) ++ change_lines names ours theirs
 
--- a list, against that of the bench: whether they agree, and what is told
+-- a list compared with that of the bench: whether they agree, and the text about it
 pub record IsListChecked (names : Texts) (note : Note) (bench : List Row) (agrees : Bool) (text : List ℕ) : Type 0 where
   pub ours : List Row
   pub theirs : List Row
@@ -36,17 +36,17 @@ pub record IsListChecked (names : Texts) (note : Note) (bench : List Row) (agree
   pub agrees_is : agrees ≡ is_no_change ours theirs
   pub text_is : text ≡ list_text names note ours theirs
 
--- of a step its refusal: `line L NODE no NAME`
+-- for a step: its refusal, `line L NODE no NAME`
 unfoldable pub refusal_text : Texts → Note → Reply → List ℕ
 refusal_text names note (Taken number) = []
 refusal_text names note (Undone number) = []
 refusal_text names note (Refused fault) = place_text names note ++ codes " no " ++ fault_text fault ++ codes "\n"
 
--- of an event that asks nothing, as its message was not sent
+-- for an event that asks nothing, as its message was not sent
 unfoldable pub unsent_text : Texts → Note → List ℕ
 unsent_text names note = place_text names note ++ codes " no message\n"
 
--- of what is asked for an event of the bench: whether lists agree, one for a list, and what is told
+-- for what an event asks of the bench: whether lists agree, one answer for each list, and the text about it
 abbrev pub IsAskedChecked : Texts → Machine → Note → Asked → List Bool → List ℕ → Type 0
 IsAskedChecked names m note list agreements text = (agrees : Bool) × (agreements ≡ agrees ∷ []) × IsListChecked names note (rows_at m note.logged.node) agrees text
 IsAskedChecked names m note nothing agreements text = (agreements ≡ []) × (text ≡ unsent_text names note)
@@ -55,18 +55,18 @@ IsAskedChecked names m note (step operation) agreements text = (agreements ≡ [
 unfoldable pub IsEventChecked : Texts → Playing → Note → List Bool → List ℕ → Type 0
 IsEventChecked names p note agreements text = IsAskedChecked names p.machine note (asked_by p.numbers note.step) agreements text
 
--- of events one after another
+-- for events one after another: whether lists agree, one answer for each list, and the text about them
 abbrev pub AreChecked : Texts → Playing → List Note → List Bool → List ℕ → Type 0
 AreChecked names p [] agreements text = (agreements ≡ []) × (text ≡ [])
 AreChecked names p (note ∷ notes) agreements text =
     (here : List Bool) × (later : List Bool) × (now : List ℕ) × (rest : List ℕ) × IsEventChecked names p note here now
     × AreChecked names (after_event p note) notes later rest × (agreements ≡ here ++ later) × (text ≡ now ++ rest)
 
--- `agree K of N`, of the lists
+-- `agree K of N`, for the lists
 unfoldable pub agree_line : List Bool → List ℕ
 agree_line agreements = codes "agree " ++ decimal (count_by (λ agrees. agrees) agreements) ++ codes " of " ++ decimal (length agreements) ++ codes "\n"
 
--- what is told of the events of an input; they differ where anything is told before the last line
+-- the text about the events of an input; the bench and the real nodes differ if it has more than its last line
 pub record IsCheckOf (lenient : Bool) (limits : Limits) (bytes text : List ℕ) (differs : Bool) (left_out : List ℕ) : Type 0 where
   pub tables : AllTables
   pub notes : List Note

@@ -7,7 +7,7 @@ use Rattle.import_core.specs.Tables.{AllTables}
 use Rattle.import_report.specs.Ascii.{ascii_text, string_text}
 use Rattle.import_report.specs.Events.{ended}
 
--- of a text that is too long for a line the beginning
+-- a text, or the beginning of one that is too long for a line
 abbrev pub shortened : List ℕ → List ℕ
 shortened bytes = if nat_le (length bytes) 4000 then bytes else take 4000 bytes ++ codes ".."
 
@@ -18,7 +18,7 @@ node_line name node = codes "# " ++ name ++ codes " is \"" ++ shortened (string_
 abbrev pub node_comment : List ℕ → List ℕ → List ℕ
 node_comment name node = if bytes_eq name node then [] else ended (node_line name node)
 
--- those of the nodes from number n on
+-- the comments of the nodes from number n on
 unfoldable pub nodes_comments : Texts → ℕ → Texts → List ℕ
 nodes_comments names n [] = []
 nodes_comments names n (node ∷ nodes) = node_comment (name_at names n) node ++ nodes_comments names (n + 1) nodes

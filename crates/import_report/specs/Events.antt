@@ -16,19 +16,20 @@ use Rattle.report_core.specs.Shown.{node_of}
 use Rattle.report_core.specs.StepText.{act_line}
 use Rattle.import_core.specs.Notes.{Note}
 
--- a bench, and the number of each message in its sender's outbox; 0 where it was not sent
+-- a bench, and the number of each message in its sender's outbox, or 0 if it was not sent
 pub record Playing : Type 0 where
   pub machine : Machine
   pub numbers : List ℕ
 
--- the number in its sender's outbox of a message that was sent
+-- the number that a sent message has in its sender's outbox
 abbrev pub sent_number : ℕ → Option ℕ
 sent_number number = if nat_lt 0 number && nat_lt number (2 ^ 64) then Some number else None
 
 abbrev pub number_at : List ℕ → ℕ → Option ℕ
 number_at numbers message = sent_number (slice_index numbers message)
 
--- the step as the bench is asked it: the message by its number in the outbox; nothing where it was not sent, or of no nodes
+-- the step as the bench is asked it, with the message's number in the outbox; `None` if that message was not sent, or if an
+-- extract names no node
 abbrev pub asked : List ℕ → Operation → Option Operation
 asked numbers (Extract names) = if list_all (λ name. nat_lt name 0) (set.items names) then None else Some (Extract names)
 asked numbers (Deliver sender message) = option_map (λ number. Deliver sender number) (number_at numbers message)
@@ -44,14 +45,14 @@ abbrev pub numbers_after : Machine → List ℕ → ℕ → Option ℕ → Reply
 numbers_after m numbers node (Some message) (Taken step) = slice_set numbers message (outbox_length (node_of m node))
 numbers_after m numbers node _ _ = numbers
 
--- after a step of a node that sends this message, if any
+-- the bench after a step of a node that sends this message, if any
 unfoldable pub after_step : Playing → ℕ → Option ℕ → Operation → Playing
 after_step p node sends step = record {
   machine = after_act p.machine node (Do step);
   numbers = numbers_after (after_act p.machine node (Do step)) p.numbers node sends (reply_of p.machine node (Do step));
 }
 
--- what is asked for an event: the node's list, a step, or nothing
+-- what an event asks: the node's list, a step, or nothing
 pub data Asked : Type 0 where
   list : Asked
   nothing : Asked
@@ -69,7 +70,7 @@ asked_by numbers (Some operation) = step_or_nothing (asked numbers operation)
 abbrev pub mark_line : ℕ → List ℕ
 mark_line number = codes "# line " ++ decimal number
 
--- its line: `show NODE`, the step, or a comment
+-- the line for an event: `show NODE`, the step, or a comment
 abbrev pub line_for : Texts → Note → Asked → List ℕ
 line_for names note list = codes "show " ++ name_at names note.logged.node
 line_for names note nothing = mark_line note.number ++ codes ": its message was not sent"
@@ -98,7 +99,7 @@ event_commands p note = commands_for note (asked_by p.numbers note.step)
 abbrev pub ended : List ℕ → List ℕ
 ended line = line ++ codes "\n"
 
--- `# line L`, where lines are told
+-- `# line L`, if lines are to be told
 abbrev pub mark_text : Bool → ℕ → List ℕ
 mark_text false number = []
 mark_text true number = ended (mark_line number)
@@ -111,7 +112,7 @@ unfoldable pub events_text : Bool → Texts → Playing → List Note → List �
 events_text told names p [] = []
 events_text told names p (note ∷ notes) = event_text told names p note ++ events_text told names (after_event p note) notes
 
--- the bench after them
+-- the bench after these events
 unfoldable pub after_events : Playing → List Note → Playing
 after_events p [] = p
 after_events p (note ∷ notes) = after_events (after_event p note) notes

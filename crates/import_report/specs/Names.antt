@@ -21,6 +21,6 @@ abbrev pub or_numbered : ℕ → Result Texts FaultKind → Texts
 or_numbered count (Ok names) = names
 or_numbered count (Err kind) = numbered_names count
 
--- the nodes keep their names, where a `nodes` line can have them all
+-- the nodes keep their names if a `nodes` line can have them all
 abbrev pub shown_names : Texts → Texts
 shown_names nodes = or_numbered (length nodes) (node_names nodes)

@@ -27,7 +27,7 @@ nodes_line names = codes "nodes" ++ spaced_names names
 abbrev pub in_order : List Note → List ℕ → List Note
 in_order notes order = map (note_at notes) order
 
--- a fresh bench of these nodes, and no message that was sent
+-- a fresh bench of these nodes, and no message sent yet
 abbrev pub opening : Limits → Texts → ℕ → Playing
 opening limits names messages = record { machine = opening_machine names limits; numbers = replicate messages 0 }
 
@@ -39,7 +39,7 @@ script_text told limits names t notes =
 abbrev pub commands_of : List Line → List Command
 commands_of lines = map (λ line. line.command) lines
 
--- the text is read as a script of these nodes, which asks this
+-- the text is read as a script of these nodes which asks these commands
 pub record IsReadAs (text : List ℕ) (names : Texts) (asked : List Command) : Type 0 where
   pub script : Script
   pub read : script_of text ≡ Ok script

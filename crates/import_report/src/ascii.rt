@@ -1,4 +1,4 @@
-//! JSON in ASCII: a character that is no visible byte and no space is escaped.
+//! JSON in ASCII, where each character that is neither a visible byte nor a space is escaped.
 ghost use Rattle.std.specs.Prelude.{◌≡◌, ◌++◌, ◌∷◌, [], ◌<◌, IfOk, OnOk, string_bytes};
 ghost use Rattle.import_report.specs.Ascii.{ascii_char, ascii_text, escaped_char, escaped_unit, hex_digit, string_char, string_text};
 

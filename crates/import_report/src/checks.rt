@@ -69,7 +69,8 @@ pub fn rows_at<'a, B: Allocator>(
     }
 }
 
-/// A list that a real node listed, against that of the bench. Gives whether they agree.
+/// Compares a list that a real node listed with that of the bench, appends where they part, and gives whether they
+/// agree.
 fn check_list<'a, B: Allocator>(
     bench: &Bench<'a, B>,
     text: &mut String<&'a B>,
@@ -120,7 +121,7 @@ fn put_refusal<A: Allocator, N: Allocator, W: Allocator>(
     Ok(writeln!(text, " no {fault}")?)
 }
 
-/// A step of an event: its refusal, and the bench after it.
+/// Plays a step of an event, and appends its refusal, if any.
 #[tactic(auto, unfolding(crate::specs::Events::after_step))]
 fn check_step<'a, B: Allocator>(
     bench: &mut Bench<'a, B>,
@@ -139,7 +140,7 @@ fn check_step<'a, B: Allocator>(
     put_refusal(text, bench.names(), note, played?)
 }
 
-/// An event, against the bench before it: what is told, whether lists agree, and the bench after it.
+/// Checks an event against the bench before it: appends where they part, notes whether lists agree, and plays it.
 #[tactic(auto, unfolding(crate::specs::Checks::IsEventChecked, crate::specs::Events::after_event))]
 fn check_event<'a, B: Allocator>(
     bench: &mut Bench<'a, B>,
@@ -165,7 +166,7 @@ fn check_event<'a, B: Allocator>(
     }
 }
 
-/// The events in this order, one after another.
+/// Checks the events in this order.
 fn check_events<'a, B: Allocator>(
     bench: &mut Bench<'a, B>,
     text: &mut String<&'a B>,
@@ -195,7 +196,7 @@ fn put_agree<A: Allocator>(text: &mut String<A>, agreements: &[bool]) -> Result<
     Ok(writeln!(text, "agree {agree} of {all}")?)
 }
 
-/// What is told of events in this order, on a fresh bench; and whether they differ from it.
+/// Checks events in this order on a fresh bench, and gives whether they differ from it.
 pub(crate) fn checked<'a, B: Allocator>(
     bench: &mut Bench<'a, B>,
     text: &mut String<&'a B>,

@@ -47,7 +47,7 @@ fn put_node<A: Allocator + Copy>(
     Ok(text.push_str("\"\n")?)
 }
 
-/// That of each node.
+/// Appends for each node whose own name differs from its name in the script a comment with its own name.
 fn put_nodes<A: Allocator + Copy, N: Allocator>(
     alloc: A,
     text: &mut String<A>,
@@ -79,7 +79,7 @@ fn put_word<A: Allocator + Copy>(
     Ok(text.push_str("\n")?)
 }
 
-/// That of each value.
+/// Appends for each value whose word was cut a comment with its text.
 fn put_words<A: Allocator + Copy>(
     alloc: A,
     text: &mut String<A>,
@@ -94,7 +94,7 @@ fn put_words<A: Allocator + Copy>(
     Ok(())
 }
 
-/// What stands for what, where it can't be seen.
+/// The comments that say what stands for what, where it can't be seen.
 #[tactic(auto, unfolding(crate::specs::Comments::comments_text))]
 pub(crate) fn put_comments<A: Allocator + Copy, N: Allocator>(
     alloc: A,

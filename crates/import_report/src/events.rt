@@ -54,7 +54,7 @@ fn put_step<A: Allocator, N: Allocator, W: Allocator>(
     Ok(text.push_str("\n")?)
 }
 
-/// A step of a node is asked, which sends this message, if any.
+/// Has a node take a step, which sends this message, if any.
 #[tactic(auto, unfolding(crate::specs::Events::after_step))]
 pub fn play<'a, B: Allocator>(
     bench: &mut Bench<'a, B>,
@@ -72,7 +72,7 @@ pub fn play<'a, B: Allocator>(
     Ok(reply)
 }
 
-/// A step of an event: its line, and the bench after it.
+/// Plays a step of an event, and appends its line.
 #[tactic(auto, unfolding(crate::specs::Events::after_step))]
 fn put_played<'a, B: Allocator>(
     text: &mut String<&'a B>,
@@ -96,7 +96,7 @@ fn put_played<'a, B: Allocator>(
     }
 }
 
-/// An event: its line, and the bench after it.
+/// Plays an event, and appends its line.
 #[tactic(auto, unfolding(crate::specs::Events::event_line, crate::specs::Events::after_event))]
 fn put_event<'a, B: Allocator>(
     text: &mut String<&'a B>,
@@ -119,7 +119,7 @@ fn put_event<'a, B: Allocator>(
     put_played(text, bench, numbers, node, note.logged.sends, step)
 }
 
-/// `# line L`, where lines are told.
+/// `# line L`, if `told`.
 fn put_mark<A: Allocator>(text: &mut String<A>, told: bool, number: u64) -> Result<(), Oom>
     ensures { OnOk result (string_bytes text.new ≡ string_bytes text.old ++ mark_text told number) }
 {
@@ -130,7 +130,7 @@ fn put_mark<A: Allocator>(text: &mut String<A>, told: bool, number: u64) -> Resu
     Ok(text.push_str("\n")?)
 }
 
-/// An event: its lines, and the bench after it.
+/// Plays an event, and appends its lines.
 #[tactic(auto, unfolding(crate::specs::Events::event_text))]
 pub(crate) fn put_lines<'a, B: Allocator>(
     text: &mut String<&'a B>,

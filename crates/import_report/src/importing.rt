@@ -55,9 +55,9 @@ fn left_out_of<A: Allocator>(import: Import<A>) -> Vec<u64, A>
     import.left_out
 }
 
-/// The script that stands for logs, whose bytes these are, and the bench on which it was played as it was made, with these
-/// limits; and the lines of the deliveries and answers that were left out, which none are unless it is `lenient`. `told` says
-/// whether each line of the script stands behind a comment with the number of its event's line.
+/// The script of these logs; the bench, with these limits, on which its lines were played as they were made; and the
+/// lines of the deliveries and answers that were left out. Only a `lenient` import leaves out any. If `told`, a comment
+/// before each line of the script has the number of its event's line.
 pub fn import_script<'a, B: Allocator>(
     heap: Global,
     alloc: &'a B,
@@ -83,7 +83,7 @@ pub fn import_script<'a, B: Allocator>(
     Ok((scripted, left_out))
 }
 
-/// The bench alone, however long the script would be.
+/// As `import_script`, but the bench alone, however long the script would be.
 pub fn import_bench<'a, B: Allocator>(
     heap: Global,
     alloc: &'a B,
@@ -112,11 +112,11 @@ fn bench_of<'a, B: Allocator>(scripted: Scripted<'a, B>) -> Bench<'a, B>
 #[derive(Drop)]
 pub struct Checked<'a, B: Allocator> {
     pub text: String<&'a B>,
-    /// Whether a list is another, or the bench refused or wasn't asked a step.
+    /// Whether a list differs, or the bench refused a step, or a step couldn't be asked.
     pub differs: bool,
 }
 
-/// What is told of what was imported.
+/// The check of an import.
 fn check_of_import<'a, B: Allocator>(
     alloc: &'a B,
     limits: Limits,
@@ -147,7 +147,7 @@ fn check_of_import<'a, B: Allocator>(
     Ok(Checked { text, differs })
 }
 
-/// Where the bench and the real nodes part, of logs whose bytes these are.
+/// Where the bench and the real nodes part, for these logs.
 pub fn import_check<'a, B: Allocator>(
     heap: Global,
     alloc: &'a B,

@@ -63,7 +63,7 @@ fn first_words<'s, 't>(words: &'s [&'t str], count: usize) -> &'s [&'t str]
     &words[..count]
 }
 
-/// So many names `n0`, `n1` ..
+/// `count` names `n0`, `n1` ..
 fn numbered_names<A: Allocator + Copy>(alloc: A, count: usize) -> Result<Names<A>, Oom>
     requires some { 0 < count }
     requires few { count ≤ 32 }
@@ -81,7 +81,7 @@ fn numbered_names<A: Allocator + Copy>(alloc: A, count: usize) -> Result<Names<A
     }
 }
 
-/// Names `n0`, `n1` .. for nodes whose own have this fault, unless it is want of memory.
+/// Names `n0`, `n1` .. for nodes whose own names have this fault. Want of memory stays a fault.
 fn or_numbered<A: Allocator + Copy>(
     alloc: A,
     fault: NamesFault,

@@ -9,7 +9,7 @@ use payload_core::Oom;
 use report_core::node;
 use std::alloc::Allocator;
 
-/// The number in its sender's outbox of a message that was sent.
+/// The number that a sent message has in its sender's outbox.
 fn number_at(numbers: &[u64], message: u64) -> Option<u64>
     ensures { result ≡ number_at numbers.now message }
 {
@@ -17,7 +17,8 @@ fn number_at(numbers: &[u64], message: u64) -> Option<u64>
     if number == 0 { None } else { Some(number) }
 }
 
-/// The step as the bench is asked it: the message by its number in the outbox; nothing where that was not sent, or of no nodes.
+/// The step as the bench is asked it, with the message's number in the outbox; `None` where that message was not sent,
+/// or where an extract names no node.
 pub fn asked<A: Allocator + Copy>(step: &Step<A>, numbers: &[u64]) -> Result<Option<Step<A>>, Oom>
     ensures { IfOk result (λ s. option_map plain s ≡ asked numbers.now (plain step.now)) }
 {
@@ -56,7 +57,7 @@ fn outbox_length<'a, B: Allocator>(bench: &Bench<'a, B>, number: u16) -> u64
     }
 }
 
-/// After a step of the node, with this reply, the message that it sends has the last number of the outbox.
+/// Notes the number of the message that a step of the node sent, if the reply took it: the last of the outbox.
 pub(crate) fn note_sent<'a, B: Allocator>(
     bench: &Bench<'a, B>,
     numbers: &mut [u64],

@@ -37,7 +37,7 @@ fn put_nodes<A: Allocator, N: Allocator>(text: &mut String<A>, names: &Names<N>)
     Ok(text.push_str("\n")?)
 }
 
-/// The events in this order: their lines, and the bench after them.
+/// Plays the events in this order, and appends their lines.
 #[tactic(auto, unfolding(crate::specs::Events::events_text))]
 fn put_events<'a, B: Allocator>(
     text: &mut String<&'a B>,
@@ -72,7 +72,7 @@ pub struct Scripted<'a, B: Allocator> {
     pub bench: Bench<'a, B>,
 }
 
-/// Puts the first lines: the nodes, and what stands for what.
+/// Appends the first lines: the nodes, and what stands for what.
 fn put_head<'a, B: Allocator>(
     alloc: &'a B,
     text: &mut String<&'a B>,

@@ -1,4 +1,4 @@
--- How a future is gathered: from the step on, by a bound for each node, above which its steps follow.
+-- How a future is gathered, from its step on: each node has a bound, and the node's steps above it follow from the step.
 use Rattle.std.specs.Prelude.{◌≡◌, ℕ, ◌-◌, ◌&&◌, nat_lt, nat_le, length, Bool, true, false, if◌then◌else◌, List, [], ◌∷◌, filter}
 use Rattle.std.specs.Prelude.{slice_set, slice_index_or, Option, Some, None}
 use Rattle.journal_core.specs.Numbers.{first_above}
@@ -6,7 +6,7 @@ use Rattle.journal_core.specs.Journals.{Kept, find_number, is_consequence, numbe
 use Rattle.journal_core.specs.Futures.{Follows}
 use Rattle.journal_core.specs.Causes.{Causes, causes_at, delivered}
 
--- whether a number is above a bound, if there is one
+-- whether a number is above a bound; without a bound it isn't
 abbrev pub is_above : Option ℕ → ℕ → Bool
 is_above None n = false
 is_above (Some a) n = nat_lt a n
@@ -19,22 +19,22 @@ bound_at bs node = slice_index_or bs node None
 abbrev pub reaches : List (Option ℕ) → Kept → Bool
 reaches bs k = is_above (bound_at bs k.node) k.number
 
--- a bound that is below this number too
+-- the bound, lowered below this number, if it isn't yet
 abbrev pub lower_bound : Option ℕ → ℕ → Option ℕ
 lower_bound None n = Some (n - 1)
 lower_bound (Some a) n = Some (if nat_lt a n then a else n - 1)
 
--- the bounds, that of the step's node below the step
+-- the bounds, with that of the step's node lowered below the step
 abbrev pub lower_at : List (Option ℕ) → Option Kept → List (Option ℕ)
 lower_at bs None = bs
 lower_at bs (Some k) = slice_set bs k.node (lower_bound (bound_at bs k.node) k.number)
 
--- the bounds, below the steps of these numbers
+-- the bounds, lowered below the steps of these numbers
 abbrev pub lowered : List Kept → List ℕ → List (Option ℕ) → List (Option ℕ)
 lowered ks [] bs = bs
 lowered ks (n ∷ ns) bs = lowered ks ns (lower_at bs (find_number ks n))
 
--- the deliveries of what step n sent, where it is this step
+-- the deliveries of what step n sent, in the index of this step's node; none if there is no step
 abbrev pub delivered_from : List Causes → Option Kept → ℕ → List ℕ
 delivered_from cs None n = []
 delivered_from cs (Some k) n = delivered (causes_at cs k.node).sent (causes_at cs k.node).deliveries n
@@ -48,12 +48,13 @@ abbrev pub is_before : Option ℕ → ℕ → Bool
 is_before None n = true
 is_before (Some m) n = nat_lt n m
 
--- the step, if it is one, is above the bound of its node
+-- the next step, if there is one, is above the bound of its node
 abbrev pub IsNext : List Kept → List (Option ℕ) → Option ℕ → Type 0
 IsNext ks bs None = Unit {0}
 IsNext ks bs (Some m) = (k : Kept) × (find_number ks m ≡ Some k) × (reaches bs k ≡ true)
 
--- of the future of step n, what comes before the next step is gathered, and the bounds are closed under its consequences
+-- the steps that follow from step n are gathered up to the next step, and each consequence of one of them is above the bound of
+-- its node
 pub record IsGatheredUpTo (ks : List Kept) (n : ℕ) (ns : List ℕ) (bs : List (Option ℕ)) (next : Option ℕ) : Type 0 where
   pub gathered : ns ≡ numbers (filter (λ k. reaches bs k && is_before next k.number) ks)
   pub upcoming : IsNext ks bs next
@@ -62,7 +63,7 @@ pub record IsGatheredUpTo (ks : List Kept) (n : ℕ) (ns : List ℕ) (bs : List 
   pub closed : (k j : Kept) → find_number ks k.number ≡ Some k → find_number ks j.number ≡ Some j → reaches bs k ≡ true →
       is_before next k.number ≡ true → is_consequence ks k j ≡ true → reaches bs j ≡ true
 
--- how many steps are still to be looked at
+-- how many steps it has still to look at
 abbrev pub steps_left : List Kept → Option ℕ → ℕ
 steps_left ks None = 0
 steps_left ks (Some m) = length (filter (λ k. nat_le m k.number) ks)

@@ -1,4 +1,4 @@
--- The index of causes, node by node: which of its steps sent which message, and which steps deliver it.
+-- The index of causes, node by node: which of the node's steps sent which message, and which steps deliver it.
 use Rattle.std.specs.Prelude.{◌≡◌, ℕ, suc, ◌-◌, take, true, ◌<◌, ◌≤◌, ◌==◌, ◌&&◌, Bool, false, List, [], ◌∷◌, ◌++◌, length, slice_index_or}
 use Rattle.std.specs.Prelude.{Option, Some, None, refl}
 use Rattle.std.specs.List.{AllByRecursion, filter}
@@ -8,8 +8,8 @@ use Rattle.node_core.specs.Operations.{delivers}
 use Rattle.journal_core.specs.Numbers.{Rises, place_of, head, and_last}
 use Rattle.journal_core.specs.Journals.{Kept, AreInCausalOrder, own_steps, sent_by, numbers}
 
--- the numbers of a node's steps, of those that sent, and beside each of these of those that deliver the message; and for
--- how many more steps there is room
+-- the numbers of a node's steps, and of those that sent; beside each of the latter the numbers of the steps that deliver its
+-- message; and for how many more steps there is room
 pub record Causes : Type 0 where
   pub own : List ℕ
   pub sent : List ℕ
@@ -61,7 +61,7 @@ is_message n q (Some m) = (m.0 == n) && (m.1 == q)
 abbrev pub delivering : List Kept → ℕ → ℕ → List Kept
 delivering ks n q = filter (λ k. is_message n q (delivers k.step)) ks
 
--- c is the index of node n: of these steps, and of the deliveries among those. The two lists are one where no step is
+-- c is the index of node n: of these steps, and of the deliveries among the others. The two lists are the same while no step is
 -- being kept or taken out
 pub record IsIndexOf (ks js : List Kept) (n : ℕ) (c : Causes) : Type 0 where
   pub own : c.own ≡ numbers (own_steps ks n)
@@ -89,15 +89,15 @@ IsIndexed ks cs = AreInCausalOrder ks × AreKnown (length cs) ks × AreIndexed k
 
 -- edits of an index
 
--- but for the deliveries at one place
+-- the two lists of deliveries are the same, except at one place
 abbrev pub SameBut : ℕ → List (SmallVec ℕ) → List (SmallVec ℕ) → Type 0
 SameBut p vs ws = (length ws ≡ length vs) × ((q : ℕ) → (q ≡ p → ⊥) → deliveries_at ws q ≡ deliveries_at vs q)
 
--- one more message, which nothing delivers
+-- the index has one more message, which nothing delivers
 abbrev pub AddsMessage : List (SmallVec ℕ) → List (SmallVec ℕ) → Type 0
 AddsMessage vs ws = (v : SmallVec ℕ) × (ws ≡ vs ++ v ∷ []) × (v.items ≡ [])
 
--- all but for room
+-- the two indices are the same, except for their room
 abbrev pub IsSameIndex : Causes → Causes → Type 0
 IsSameIndex b c =
     (c.own ≡ b.own) × (c.sent ≡ b.sent) × ((p : ℕ) → (deliveries_at c.deliveries p).items ≡ (deliveries_at b.deliveries p).items)
@@ -110,29 +110,29 @@ AreSameIndices cs ds = (length ds ≡ length cs) × ((n : ℕ) → IsSameIndex (
 abbrev pub OthersStay : ℕ → List Causes → List Causes → Type 0
 OthersStay node cs ds = (length ds ≡ length cs) × ((n : ℕ) → (n ≡ node → ⊥) → causes_at ds n ≡ causes_at cs n)
 
--- step n is the last one, and sends or not
+-- step n is appended; the flag says whether it sends a message
 abbrev pub AddsStep : Bool → ℕ → Causes → Causes → Type 0
 AddsStep true n b c = (c.own ≡ and_last n b.own) × (c.sent ≡ and_last n b.sent) × AddsMessage b.deliveries c.deliveries
 AddsStep false n b c = (c.own ≡ and_last n b.own) × (c.sent ≡ b.sent) × (c.deliveries ≡ b.deliveries)
 
--- the last step is gone, which sent or not
+-- the last step, which sent or didn't, is gone
 abbrev pub DropsStep : Bool → Causes → Causes → Type 0
 DropsStep true b c =
     (c.own ≡ take (length b.own - 1) b.own) × (c.sent ≡ take (length b.sent - 1) b.sent)
     × (c.deliveries ≡ take (length b.deliveries - 1) b.deliveries)
 DropsStep false b c = (c.own ≡ take (length b.own - 1) b.own) × (c.sent ≡ b.sent) × (c.deliveries ≡ b.deliveries)
 
--- there is this message, if it is one
+-- there is this message, if one is named
 abbrev pub HasMessage : Option (ℕ × ℕ) → List Causes → Type 0
 HasMessage None cs = Unit {0}
 HasMessage (Some m) cs = (m.0 < length cs) × (0 < m.1) × (m.1 ≤ length (causes_at cs m.0).deliveries)
 
--- there is room for a delivery of this message, if it is one
+-- there is room for a delivery of this message, if one is named
 abbrev pub HasDeliveryRoom : Option (ℕ × ℕ) → List Causes → Type 0
 HasDeliveryRoom None cs = Unit {0}
 HasDeliveryRoom (Some m) cs = HasRoomFor (deliveries_at (causes_at cs m.0).deliveries (m.1 - 1)) 1
 
--- the deliveries of this message, if it is one, are edited, and nothing else
+-- the deliveries of this message, if one is named, are edited, and nothing else
 abbrev pub EditsDeliveries : (List ℕ → List ℕ) → Option (ℕ × ℕ) → List Causes → List Causes → Type 0
 EditsDeliveries edit None cs ds = ds ≡ cs
 EditsDeliveries edit (Some m) cs ds =
@@ -141,7 +141,7 @@ EditsDeliveries edit (Some m) cs ds =
     × SameBut (m.1 - 1) (causes_at cs m.0).deliveries (causes_at ds m.0).deliveries
     × ((deliveries_at (causes_at ds m.0).deliveries (m.1 - 1)).items ≡ edit (deliveries_at (causes_at cs m.0).deliveries (m.1 - 1)).items)
 
--- the deliveries of this message, if it is one, rise with n last
+-- the deliveries of this message, if one is named, rise with n at their end
 abbrev pub DeliveriesRiseWith : ℕ → Option (ℕ × ℕ) → List Causes → Type 0
 DeliveriesRiseWith n None cs = Unit {0}
 DeliveriesRiseWith n (Some m) cs = Rises (and_last n (deliveries_at (causes_at cs m.0).deliveries (m.1 - 1)).items)

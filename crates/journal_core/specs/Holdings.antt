@@ -12,7 +12,7 @@ pub record Held : Type 0 where
   pub kept : Kept
   pub inverse : Option Inverse
 
--- for which steps there is room: those of a node that deliver this message, if any, and that send one or don't
+-- a kind of step for which room was made: its node, the message that it delivers, if any, and whether it sends one
 pub record Room : Type 0 where
   pub node : ℕ
   pub delivers : Option (ℕ × ℕ)
@@ -22,7 +22,7 @@ pub record Room : Type 0 where
 abbrev pub room_for : ℕ → Operation → Room
 room_for node s = record { node = node; delivers = delivers s; sends = sends s }
 
--- how many nodes there are, the remaining steps, and what room was made since a step was last kept
+-- how many nodes there are, the remaining steps, and the room that was made since a step was last kept
 pub record Journal : Type 0 where
   pub nodes : ℕ
   pub steps : List Held
@@ -59,7 +59,7 @@ abbrev pub inverse_of : Option Held → Option Inverse
 inverse_of None = None
 inverse_of (Some h) = h.inverse
 
--- the steps with this beside step n
+-- the steps, with this inverse beside step n
 abbrev pub with_inverse : List Held → ℕ → Option Inverse → List Held
 with_inverse [] n o = []
 with_inverse (h ∷ hs) n o = if h.kept.number == n then record { kept = h.kept; inverse = o } ∷ hs else h ∷ with_inverse hs n o
@@ -81,7 +81,8 @@ abbrev pub HasSender : List Kept → Option (ℕ × ℕ) → Type 0
 HasSender ks None = Unit {0}
 HasSender ks (Some m) = (n : ℕ) × (source_at ks (Some m) ≡ Some n)
 
--- the step can be kept: its number is above all others, its node is one, what it delivers was sent, and no inverse is lent
+-- the step can be kept: its number is above all others, its node is one of the nodes, what it delivers was sent, and no inverse
+-- is lent
 pub record CanBeKept (j : Journal) (number node : ℕ) (operation : Operation) : Type 0 where
   pub positive : 0 < number
   pub above : AreBelow number (kepts j.steps)

@@ -22,7 +22,7 @@ kept_code =
 abbrev pub numbers : List Kept → List ℕ
 numbers ks = map (λ k. k.number) ks
 
--- the numbers strictly rise, from above n
+-- the numbers rise strictly, and the first is above n
 abbrev pub NumbersRise : ℕ → List Kept → Type 0
 NumbersRise n [] = Unit {0}
 NumbersRise n (k ∷ ks) = (n < k.number) × NumbersRise k.number ks
@@ -64,11 +64,11 @@ abbrev pub is_number : Option ℕ → ℕ → Bool
 is_number None n = false
 is_number (Some m) n = m == n
 
--- j delivers what k sent
+-- whether j delivers what k sent
 abbrev pub delivers_from : List Kept → Kept → Kept → Bool
 delivers_from ks j k = is_number (source_of ks j.step) k.number
 
--- j is a direct consequence of k: a later step of k's node, or a delivery of what k sent
+-- whether j is a direct consequence of k: a later step of k's node, or a delivery of what k sent
 abbrev pub is_consequence : List Kept → Kept → Kept → Bool
 is_consequence ks k j = ((k.node == j.node) && nat_lt k.number j.number) || delivers_from ks j k
 
@@ -93,7 +93,7 @@ abbrev pub steps_before : List Kept → ℕ → List Kept
 steps_before [] n = []
 steps_before (k ∷ ks) n = if k.number == n then [] else k ∷ steps_before ks n
 
--- the last of the node's steps, after those of which o was the last
+-- the last of the node's steps among these, or else o
 abbrev pub last_own : Option ℕ → List Kept → ℕ → Option ℕ
 last_own o [] node = o
 last_own o (k ∷ ks) node = last_own (if k.node == node then Some k.number else o) ks node

@@ -7,21 +7,21 @@ use Rattle.journal_core.specs.Gathering.{gathered_numbers}
 use Rattle.journal_core.specs.Holdings.{Held, find_held, inverse_of, with_inverse, without_held}
 
 pub record LoanLaw : Type 0 where
-  -- what is lent and put back is as before
+  -- an inverse that is lent and put back leaves all as before
   pub put_back : (hs : List Held) (n : ℕ) (i : Inverse) → inverse_of (find_held hs n) ≡ Some i →
       with_inverse (with_inverse hs n None) n (Some i) ≡ hs
-  -- what is lent and taken out doesn't change the others
+  -- a step whose inverse is lent and that is taken out leaves the others as they are
   pub taken_out : (hs : List Held) (n : ℕ) → without_held (with_inverse hs n None) n ≡ without_held hs n
 
 pub record FutureLaw : Type 0 where
-  -- each number has a future, which is empty where its step doesn't remain
+  -- each number has a future, which is empty if its step doesn't remain
   pub some : (ks : List Kept) (n : ℕ) → AreInCausalOrder ks → (numbers : List ℕ) × IsFuture ks n numbers
-  -- and only one
+  -- each number has only one future
   pub one : (ks : List Kept) (n : ℕ) (a b : List ℕ) → IsFuture ks n a → IsFuture ks n b → a ≡ b
-  -- its steps can be taken back in turn
+  -- the steps of a future can be taken back in turn
   pub taken_back : (ks : List Kept) (n : ℕ) (numbers : List ℕ) → AreInCausalOrder ks → IsFuture ks n numbers →
       undo_all ks numbers ≡ Some (without_all ks numbers)
-  -- whatever undos take a step back, they take back all that follows from it
+  -- any undos that take a step back take back all that follows from it
   pub least : (ks left : List Kept) (n : ℕ) (undos : List ℕ) → NumbersRise 0 ks → undo_all ks undos ≡ Some left →
       find_number left n ≡ None → (j : ℕ) → Follows ks n j → find_number left j ≡ None
 

@@ -1,7 +1,7 @@
 -- Lists of numbers that rise.
 use Rattle.std.specs.Prelude.{ℕ, ◌+◌, ◌<◌, ◌==◌, not, nat_lt, if◌then◌else◌, List, [], ◌∷◌, ◌++◌, filter, Option, Some, None, option_map}
 
--- the numbers strictly rise, from above a
+-- the numbers rise strictly, and the first is above a
 abbrev pub RisesAbove : ℕ → List ℕ → Type 0
 RisesAbove a [] = Unit {0}
 RisesAbove a (n ∷ ns) = (a < n) × RisesAbove n ns
@@ -23,7 +23,7 @@ first_above n (m ∷ ms) = if nat_lt n m then Some m else first_above n ms
 abbrev pub all_but : ℕ → List ℕ → List ℕ
 all_but n ms = filter (λ m. not (m == n)) ms
 
--- the numbers, and n last
+-- the numbers, with n at the end
 abbrev pub and_last : ℕ → List ℕ → List ℕ
 and_last n ns = ns ++ n ∷ []
 
@@ -31,12 +31,12 @@ abbrev pub head : List ℕ → Option ℕ
 head [] = None
 head (n ∷ ns) = Some n
 
--- the last number, after those of which o was the last
+-- the last of these numbers, or else o
 abbrev pub last : Option ℕ → List ℕ → Option ℕ
 last o [] = o
 last o (n ∷ ns) = last (Some n) ns
 
--- the lesser of two, where there are two
+-- the lesser of two numbers, or the one that there is
 abbrev pub least : Option ℕ → Option ℕ → Option ℕ
 least None o = o
 least (Some a) None = Some a

@@ -1,18 +1,18 @@
--- Room for steps to come, which keeps whatever is lent, put back and taken out.
+-- Room for steps to come, which stays whatever is lent, put back and taken out.
 use Rattle.std.specs.Prelude.{ℕ, ◌<◌, ◌≤◌, List, length, Option, Some, None}
 use Rattle.std.specs.List.{AllByRecursion}
 use Rattle.smallvec.specs.SmallVec.{HasRoomFor}
 use Rattle.journal_core.specs.Holdings.{Room}
 use Rattle.journal_core.specs.Causes.{Causes, causes_at, deliveries_at, HasDeliveryRoom}
 
--- no room for a step of a node, or for a delivery of a message that is still there, is less
+-- there is no less room for a step of a node, nor for a delivery of a message that is still there
 pub record KeepsRoom (cs ds : List Causes) : Type 0 where
   pub nodes : (n : ℕ) → (causes_at cs n).room ≤ (causes_at ds n).room
   pub shorter : (n : ℕ) → length (causes_at ds n).deliveries ≤ length (causes_at cs n).deliveries
   pub messages : (n p : ℕ) → p < length (causes_at ds n).deliveries → HasRoomFor (deliveries_at (causes_at cs n).deliveries p) 1 →
       HasRoomFor (deliveries_at (causes_at ds n).deliveries p) 1
 
--- room for a delivery of this message, if it is one and is still there
+-- there is room for a delivery of this message, if one is named and is still there
 abbrev pub HasDeliveryRoomIfThere : Option (ℕ × ℕ) → List Causes → Type 0
 HasDeliveryRoomIfThere None cs = Unit {0}
 HasDeliveryRoomIfThere (Some m) cs = 0 < m.1 → m.1 ≤ length (causes_at cs m.0).deliveries → HasDeliveryRoom (Some m) cs

@@ -1,4 +1,4 @@
--- Steps beside their numbers in slots, of which some are empty.
+-- Steps beside their numbers in slots, some of which may be empty.
 use Rattle.std.specs.Prelude.{◌≡◌, ℕ, ◌<◌, Bool, false, is_none, List, [], ◌∷◌, Option, Some, None, refl}
 use Rattle.std.specs.List.{AllByRecursion}
 use Rattle.std.specs.Coded.{Coded, code_by, coded×, coded_ℕ, coded_list}
@@ -33,13 +33,13 @@ AreAligned (n ∷ ns) (Some h ∷ os) = (h.kept.number ≡ n) × AreAligned ns o
 abbrev pub IsAboveAll : ℕ → List Held → Type 0
 IsAboveAll n hs = (0 < n) × AllByRecursion (λ (h : Held). h.kept.number < n) hs
 
--- the last slot is empty
+-- whether the last slot is empty
 abbrev pub ends_empty : List (Option Held) → Bool
 ends_empty [] = false
 ends_empty (o ∷ []) = is_none o
 ends_empty (o ∷ p ∷ os) = ends_empty (p ∷ os)
 
--- this beside the step of a slot
+-- the step of a slot, with this inverse
 abbrev pub lent_in : Option Inverse → Option Held → Option Held
 lent_in i None = None
 lent_in i (Some h) = Some (record { kept = h.kept; inverse = i })

@@ -10,8 +10,8 @@ use smallvec::SmallVec;
 use std::alloc::Allocator;
 use std::marker::Model;
 
-/// Of one node: the rising numbers of its steps, those of its sending steps, and beside each of these the rising numbers
-/// of the steps that deliver the message.
+/// For one node: the rising numbers of its steps; those of its sending steps; and beside each of these the rising
+/// numbers of the steps that deliver its message.
 #[derive(Drop)]
 pub(crate) struct Causes<'a, B: Allocator> {
     own: Vec<u64, &'a B>,
@@ -67,7 +67,7 @@ impl<'a, B: Allocator> Causes<'a, B> {
         first_above(&self.own, number)
     }
 
-    /// The number of the first step that delivers what the step of this number sent, if it is one that sent.
+    /// The number of the first step that delivers what the step of this number sent, if it sent a message.
     pub(crate) fn first_delivery(&self, number: u64) -> Option<u64>
         ensures { result ≡ first_delivered self.now.sent self.now.deliveries number }
     {
@@ -77,7 +77,7 @@ impl<'a, B: Allocator> Causes<'a, B> {
         self.deliveries[place].first().copied()
     }
 
-    /// The numbers of the steps that deliver what the step of this number sent, if it is one that sent.
+    /// The numbers of the steps that deliver what the step of this number sent, if it sent a message.
     pub(crate) fn deliveries_of(&self, number: u64) -> &[u64]
         ensures { result.now ≡ delivered self.now.sent self.now.deliveries number }
     {
@@ -87,7 +87,7 @@ impl<'a, B: Allocator> Causes<'a, B> {
         }
     }
 
-    /// How many messages it has sent that remain.
+    /// How many of its sending steps remain.
     pub(crate) fn messages(&self) -> usize
         ensures { result ≡ length self.now.deliveries }
     {
@@ -117,7 +117,7 @@ impl<'a, B: Allocator> Causes<'a, B> {
         self.deliveries[place].reserve(1)
     }
 
-    /// Puts a step last that sends nothing.
+    /// Appends a step that sends nothing.
     pub(crate) fn push(&mut self, number: u64)
         requires room { 0 < self.old.room }
         requires rises { Rises (self.old.own ++ number ∷ []) }
@@ -128,7 +128,7 @@ impl<'a, B: Allocator> Causes<'a, B> {
         self.own.push_reserved(number);
     }
 
-    /// Puts a step last that sends a message.
+    /// Appends a step that sends a message.
     pub(crate) fn push_sending(&mut self, number: u64)
         requires room { 0 < self.old.room }
         requires rises { Rises (self.old.own ++ number ∷ []) }
@@ -143,7 +143,7 @@ impl<'a, B: Allocator> Causes<'a, B> {
         self.deliveries.push_reserved(SmallVec::new(alloc));
     }
 
-    /// Puts a delivery of the message at a place last.
+    /// Appends a delivery of the message at a place.
     pub(crate) fn deliver(&mut self, place: usize, number: u64)
         requires place { place < length self.old.deliveries }
         requires room { HasRoomFor (deliveries_at self.old.deliveries place) 1 }
@@ -157,7 +157,7 @@ impl<'a, B: Allocator> Causes<'a, B> {
         self.deliveries[place].push_reserved(number);
     }
 
-    /// Takes the last step away, one that sent nothing.
+    /// Takes out the last step, which sent nothing.
     pub(crate) fn pop(&mut self)
         ensures own { self.new.own ≡ take (length self.old.own - 1) self.old.own }
         ensures sent { self.new.sent ≡ self.old.sent }
@@ -167,7 +167,7 @@ impl<'a, B: Allocator> Causes<'a, B> {
         self.own.pop();
     }
 
-    /// Takes the last step away, one that sent a message, with that message.
+    /// Takes out the last step, which sent a message, and that message.
     pub(crate) fn pop_sending(&mut self)
         ensures own { self.new.own ≡ take (length self.old.own - 1) self.old.own }
         ensures sent { self.new.sent ≡ take (length self.old.sent - 1) self.old.sent }
@@ -179,7 +179,7 @@ impl<'a, B: Allocator> Causes<'a, B> {
         drop(self.deliveries.pop());
     }
 
-    /// Takes a delivery of the message at a place away.
+    /// Takes out a delivery of the message at a place.
     pub(crate) fn undeliver(&mut self, place: usize, number: u64)
         requires { place < length self.old.deliveries }
         ensures own { self.new.own ≡ self.old.own }

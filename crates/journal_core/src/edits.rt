@@ -29,7 +29,7 @@ pub(crate) fn make_room<'a, B: Allocator>(
     causes[node].make_room()
 }
 
-/// Whether there is this message of a node.
+/// Whether a node has this message.
 fn has_message<'a, B: Allocator>(causes: &[Causes<'a, B>], sender: u16, number: u64) -> bool
     ensures { IsTrue result ↔ HasMessage (Some (sender, number)) causes.now }
 {
@@ -37,7 +37,7 @@ fn has_message<'a, B: Allocator>(causes: &[Causes<'a, B>], sender: u16, number: 
     sender < causes.len() && 0 < number && number <= causes[sender].messages() as u64
 }
 
-/// Makes room for a delivery of this message, if it is one and is there.
+/// Makes room for a delivery of this message, if there is one and its sender has it.
 pub(crate) fn make_room_for<'a, B: Allocator>(
     causes: &mut Vec<Causes<'a, B>, &'a B>,
     message: Option<(u16, u64)>,
@@ -56,7 +56,7 @@ pub(crate) fn make_room_for<'a, B: Allocator>(
     causes[sender as usize].make_room_at(number as usize - 1)
 }
 
-/// Puts a step last.
+/// Appends a step to the index of its node.
 pub(crate) fn add_step<'a, B: Allocator>(
     causes: &mut Vec<Causes<'a, B>, &'a B>,
     node: usize,
@@ -76,7 +76,7 @@ pub(crate) fn add_step<'a, B: Allocator>(
     }
 }
 
-/// Puts a delivery of this message last.
+/// Appends a delivery of this message, if there is one.
 pub(crate) fn add_delivery<'a, B: Allocator>(
     causes: &mut Vec<Causes<'a, B>, &'a B>,
     message: Option<(u16, u64)>,
@@ -92,7 +92,7 @@ pub(crate) fn add_delivery<'a, B: Allocator>(
     }
 }
 
-/// Takes the last step of a node away.
+/// Takes out the last step of a node.
 pub(crate) fn drop_step<'a, B: Allocator>(
     causes: &mut Vec<Causes<'a, B>, &'a B>,
     node: usize,
@@ -109,7 +109,7 @@ pub(crate) fn drop_step<'a, B: Allocator>(
     }
 }
 
-/// Takes a delivery of this message away.
+/// Takes out a delivery of this message, if there is one.
 pub(crate) fn drop_delivery<'a, B: Allocator>(
     causes: &mut Vec<Causes<'a, B>, &'a B>,
     message: Option<(u16, u64)>,
@@ -142,7 +142,7 @@ pub(crate) fn make_all_room<'a, B: Allocator>(
     make_room_for(causes, room.delivers)
 }
 
-/// Makes room for a step, unless it is among what was made.
+/// Makes room for a step, unless it is among the room that was made.
 pub(crate) fn make_sure<'a, B: Allocator>(
     slots: &mut Slots<'a, B>,
     causes: &mut Vec<Causes<'a, B>, &'a B>,
@@ -164,7 +164,7 @@ pub(crate) fn make_sure<'a, B: Allocator>(
     make_all_room(slots, causes, room)
 }
 
-/// Keeps a step for which there is room: it comes last.
+/// Keeps a step for which there is room, after the others.
 pub(crate) fn keep<'a, B: Allocator>(
     slots: &mut Slots<'a, B>,
     causes: &mut Vec<Causes<'a, B>, &'a B>,
@@ -187,7 +187,7 @@ pub(crate) fn keep<'a, B: Allocator>(
     add_step(causes, room.node as usize, number, room.sends);
 }
 
-/// Takes a step out, of which nothing follows. No room is less.
+/// Takes out a step from which nothing follows. All room stays.
 pub(crate) fn take_out<'a, B: Allocator>(
     slots: &mut Slots<'a, B>,
     causes: &mut Vec<Causes<'a, B>, &'a B>,

@@ -1,4 +1,4 @@
-//! The future of a step: what follows from it, all the way.
+//! The future of a step: the step, its direct consequences, theirs, and so on.
 ghost use Rattle.std.specs.Prelude.{◌≡◌, ◌<◌, ◌-◌, ◌&&◌, replicate, nat_lt, IfOk, OnOk, OnErr, length, Some, None, [], option_map, option_copied};
 ghost use Rattle.std.specs.Prelude.{slice_set};
 ghost use Rattle.journal_core.specs.Journals.{AreInCausalOrder, find_number, first_number, NumbersRise};
@@ -14,7 +14,7 @@ use crate::slots::Slots;
 use node_core::Oom;
 use std::alloc::Allocator;
 
-/// Brings the bound of a step's node below the step.
+/// Marks a step as reached: brings the bound of its node below it.
 fn lower_below<'a, B: Allocator>(held: &Held<'a, B>, bounds: &mut [Option<u64>])
     requires { held.now.kept.node < length bounds.old }
     ensures { bounds.new ≡ lower_at bounds.old (Some held.now.kept) }
@@ -28,7 +28,7 @@ fn lower_below<'a, B: Allocator>(held: &Held<'a, B>, bounds: &mut [Option<u64>])
     bounds[node] = Some(lower);
 }
 
-/// Brings the bounds below the steps of these numbers.
+/// Marks the steps of these numbers as reached.
 fn lower_all<'a, B: Allocator>(slots: &Slots<'a, B>, numbers: &[u64], bounds: &mut [Option<u64>])
     requires { AreKnown (length bounds.old) (kepts slots.now.steps) }
     ensures { bounds.new ≡ lowered (kepts slots.now.steps) numbers.now bounds.old }
@@ -40,7 +40,7 @@ fn lower_all<'a, B: Allocator>(slots: &Slots<'a, B>, numbers: &[u64], bounds: &m
     }
 }
 
-/// The first step of a node above its bound and above a number.
+/// The first step of a node that is reached and above a number.
 fn next_of<'a, B: Allocator>(causes: &Causes<'a, B>, bound: Option<u64>, number: u64) -> Option<u64>
     ensures { result ≡ next_own bound number causes.now.own }
 {
@@ -50,7 +50,7 @@ fn next_of<'a, B: Allocator>(causes: &Causes<'a, B>, bound: Option<u64>, number:
     }
 }
 
-/// The first step above the bound of its node and above a number.
+/// The first step that is reached and above a number.
 fn next_above<'a, B: Allocator>(
     slots: &Slots<'a, B>,
     causes: &[Causes<'a, B>],
@@ -70,7 +70,7 @@ fn next_above<'a, B: Allocator>(
     next
 }
 
-/// Brings the bounds below the deliveries of what a step sent.
+/// Marks each delivery of the step's message as reached.
 fn lower<'a, B: Allocator>(
     slots: &Slots<'a, B>,
     causes: &[Causes<'a, B>],
@@ -88,7 +88,7 @@ fn lower<'a, B: Allocator>(
     lower_all(slots, causes[node].deliveries_of(number), bounds);
 }
 
-/// Of no node the bound, but of this one: below this number.
+/// The bounds at the start: below this number for this node, and none for the others.
 fn start<'a, B: Allocator>(
     alloc: &'a B,
     nodes: usize,
@@ -148,7 +148,8 @@ fn gather_back<'a, B: Allocator>(
     Ok(numbers)
 }
 
-/// The numbers of a step and of all that follows from it, greatest first. It takes time with the steps found times a logarithm.
+/// The numbers of a step and of all that follows from it, greatest first. The time grows with the steps found times a
+/// logarithm.
 pub(crate) fn future<'a, B: Allocator>(
     slots: &Slots<'a, B>,
     causes: &[Causes<'a, B>],

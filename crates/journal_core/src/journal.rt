@@ -24,8 +24,8 @@ use std::marker::Model;
 /// The steps that remain, by rising number, each with its inverse beside it. No delivery stands before the step that sent
 /// its message.
 ///
-/// A contract sees the steps with their inverses, an inverse that is lent as `None`, how many nodes there are, and for
-/// which steps room was made since one was last kept.
+/// A contract sees the steps with their inverses (`None` for one that is lent), how many nodes there are, and the steps
+/// for which room was made since one was last kept.
 #[derive(Drop)]
 pub struct Journal<'a, B: Allocator> {
     slots: Slots<'a, B>,
@@ -75,7 +75,8 @@ impl<'a, B: Allocator> Journal<'a, B> {
         self.slots.len()
     }
 
-    /// The step at this place, from 0: one read where no step was taken out but at the end, else a walk.
+    /// The step at this place, from 0. It takes one read if steps were taken out at the end alone, and a walk
+    /// otherwise.
     pub fn at(&self, place: usize) -> Option<&Kept<&'a B>>
         ensures { option_copied result ≡ slice_get (kepts self.now.steps) place }
     {
@@ -102,7 +103,7 @@ impl<'a, B: Allocator> Journal<'a, B> {
         }
     }
 
-    /// The inverse of the step of this number, for looking, if the step remains and its inverse is not lent.
+    /// The inverse of the step of this number, to look at, if the step remains and its inverse is not lent.
     pub fn inverse(&self, number: u64) -> Option<&Inverse<&'a B>>
         ensures { option_map (λ i. plain_inverse i.now) result ≡ inverse_of (find_held self.now.steps number) }
     {
@@ -121,8 +122,8 @@ impl<'a, B: Allocator> Journal<'a, B> {
         self.causes[node as usize].last()
     }
 
-    /// The number of the least direct consequence of a step: of the steps that are later ones of its node, or deliver what
-    /// it sent.
+    /// The number of the least direct consequence of a step: a later step of its node, or one that delivers what it
+    /// sent.
     pub fn first_consequence(&self, number: u64) -> Option<u64>
         ensures { result ≡ first_consequence (kepts self.now.steps) number }
     {
@@ -133,7 +134,7 @@ impl<'a, B: Allocator> Journal<'a, B> {
         least(causes.next(number), causes.first_delivery(number))
     }
 
-    /// The number of a step and those of all that follows from it: of its direct consequences, of theirs, and so on.
+    /// The numbers of a step and of all that follows from it: of its direct consequences, of theirs, and so on.
     /// Greatest first; none where the step doesn't remain.
     pub fn future(&self, number: u64) -> Result<Vec<u64, &'a B>, Oom>
         ensures future { IfOk result (λ numbers. IsFuture (kepts self.now.steps) number numbers.items) }
@@ -147,8 +148,8 @@ impl<'a, B: Allocator> Journal<'a, B> {
         )
     }
 
-    /// Makes room for one step of this node. After an `Ok` the next `keep`, if it is of such a step, isn't refused; room
-    /// that was made before stays.
+    /// Makes room for this step of this node. After an `Ok` the next `keep` of such a step isn't refused. Room that was
+    /// made before stays.
     pub fn make_room(&mut self, node: u16, step: &Step<&'a B>) -> Result<(), Oom>
         requires { node < self.old.nodes }
         ensures nodes { self.new.nodes ≡ self.old.nodes }
@@ -162,7 +163,7 @@ impl<'a, B: Allocator> Journal<'a, B> {
         Ok(())
     }
 
-    /// Puts a step with its inverse last. On a refusal both come back, and the journal is unchanged.
+    /// Appends a step with its inverse. Where memory is refused both come back, and the journal is unchanged.
     pub fn keep(
         &mut self,
         number: u64,
@@ -208,7 +209,7 @@ impl<'a, B: Allocator> Journal<'a, B> {
         self.slots.lend(number)
     }
 
-    /// Ends a loan: the inverse is from then on that of the step.
+    /// Ends a loan: puts the inverse beside its step again.
     pub fn put_back(&mut self, number: u64, inverse: Inverse<&'a B>)
         requires { IsLent self.old.steps number }
         ensures { self.new ≡ record self.old { steps = with_inverse self.old.steps number (Some (plain_inverse inverse.entry)) } }
@@ -216,7 +217,7 @@ impl<'a, B: Allocator> Journal<'a, B> {
         self.slots.put_back(number, inverse);
     }
 
-    /// Ends a loan: the step, of which nothing follows, is taken out, and every other stays with its inverse.
+    /// Ends a loan: takes out the step, from which nothing follows. Every other step stays with its inverse.
     pub fn take_out(&mut self, number: u64)
         requires lent { IsLent self.old.steps number }
         requires free { first_consequence (kepts self.old.steps) number ≡ None }

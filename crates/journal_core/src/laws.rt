@@ -3,13 +3,14 @@
 //! A crate above uses a law by calling its function.
 ghost use Rattle.journal_core.specs.Laws.{FutureLaw, GatheredLaw, LoanLaw};
 
-/// What is lent and put back is as before; what is lent and taken out leaves the other steps with their inverses.
+/// An inverse that is lent and put back leaves all as before. A step whose inverse is lent and that is taken out leaves
+/// the others with their inverses.
 pub fn loan_law()
     ensures { LoanLaw }
 {}
 
-/// Of a journal in order: each step has one future, whose steps can be taken back in turn; and whatever undos take the
-/// step back take back all of it. (Danos and Krivine.)
+/// In a journal in order each step has one future. It can be taken back step by step, and any undos that take the step
+/// back take back its whole future. (Danos and Krivine.)
 pub fn future_law()
     ensures { FutureLaw }
 {}

@@ -1,4 +1,4 @@
-//! `Room`: for which steps to come there is room.
+//! `Room`: the coming steps for which there is room.
 ghost use Rattle.std.specs.Prelude.{◌≡◌, ◌↔◌, IsTrue, map};
 ghost use Rattle.std.specs.List.{Contains};
 ghost use Rattle.node_core.specs.Operations.{plain};
@@ -7,7 +7,7 @@ ghost use Rattle.journal_core.specs.Holdings.{plain_room, room_for};
 use node_core::Step;
 use std::alloc::Allocator;
 
-/// For which steps room was made: those of a node that deliver this message, if any, and that send one or don't.
+/// A kind of step for which room was made: its node, the message that it delivers, if any, and whether it sends one.
 #[derive(Clone, Copy, PartialEq, Eq)]
 pub(crate) struct Room {
     pub(crate) node: u16,

@@ -60,7 +60,7 @@ impl<'a, B: Allocator> Slots<'a, B> {
         self.count
     }
 
-    /// The step at this place, from 0: one read where no slot is empty, else a walk.
+    /// The step at this place, from 0. It takes one read if no slot is empty, and a walk otherwise.
     pub(crate) fn at(&self, place: usize) -> Option<&Held<'a, B>>
         ensures { option_copied result ≡ slice_get self.now.steps place }
     {
@@ -98,7 +98,7 @@ impl<'a, B: Allocator> Slots<'a, B> {
         self.slots.reserve(1)
     }
 
-    /// Puts a step last.
+    /// Appends a step.
     pub(crate) fn push(&mut self, held: Held<'a, B>)
         requires room { 0 < self.old.room }
         requires above { IsAboveAll held.kept.number self.old.steps }

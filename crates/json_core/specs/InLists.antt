@@ -9,6 +9,6 @@ number_in i d = option_and_then as_u64 (option_and_then as_number (at i d))
 abbrev pub text_in : ℕ → Data → Option (List ℕ)
 text_in i d = option_and_then as_str (at i d)
 
--- nothing stands at this place, so a list has no more items
+-- whether nothing stands at this place, so a list has no more items
 abbrev pub ends_at : ℕ → Data → Bool
 ends_at i d = is_none (at i d)

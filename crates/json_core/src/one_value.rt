@@ -15,7 +15,7 @@ use json::{Reader, Token};
 use serde_json::{Map, Value};
 use std::alloc::Global;
 
-/// The whole number that the text writes by digits alone, where it has 64 bits.
+/// The whole number that the text writes in digits alone, if it fits into 64 bits.
 fn whole_number(text: &str) -> Option<u64>
     ensures { IfSome result (λ whole. number_of text.now ≡ Some (unsigned whole)) }
 {

@@ -1,4 +1,4 @@
-//! `Unread`: why a value, or what it is to say, can't be had of a text.
+//! `Unread`: why a value can't be had from a text, or isn't what the text should have.
 ghost use Rattle.std.specs.Prelude.{◌≡◌};
 ghost use Rattle.json_core.specs.declared.unread.Unread.TheVariants.{Memory, Shape};
 
@@ -10,7 +10,7 @@ use std::alloc::{AllocError, AllocFailed};
 pub enum Unread {
     /// A request for memory was refused.
     Memory,
-    /// It is not of its form.
+    /// It doesn't have the form that it should have.
     Shape,
 }
 

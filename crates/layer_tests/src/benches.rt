@@ -1,4 +1,4 @@
-//! Benches from scripts: the calls that act lines ask, and a bench that was asked them.
+//! Benches from scripts: the calls that act lines ask, and a bench that has played them.
 use bench_core::{Act, Bench, History, Limits, Reply};
 use grammar_core::{Script, acts, node_names, parse_script};
 use std::alloc::Global;
@@ -31,7 +31,7 @@ pub fn opened<'a>(text: &str, limits: Limits, heap: &'a Heap, rt: &impl Abort) -
     Bench::new(heap, names, limits).expect(rt, "a bench")
 }
 
-/// Asks the calls, none of which is refused.
+/// Makes the calls; the bench refuses none.
 pub fn ask<'a>(bench: &mut Bench<'a, Heap>, calls: &Calls<'a>, rt: &impl Abort) {
     for (actor, act) in calls {
         let reply = bench.act(*actor, act);
@@ -39,7 +39,7 @@ pub fn ask<'a>(bench: &mut Bench<'a, Heap>, calls: &Calls<'a>, rt: &impl Abort) 
     }
 }
 
-/// A bench that was asked the acts of the script, of which it refused none.
+/// A bench that has played the acts of the script and refused none.
 pub fn played<'a>(text: &str, limits: Limits, heap: &'a Heap, rt: &impl Abort) -> Bench<'a, Heap> {
     let mut bench = opened(text, limits, heap, rt);
     let calls = calls_of(text, heap, rt);
@@ -48,14 +48,14 @@ pub fn played<'a>(text: &str, limits: Limits, heap: &'a Heap, rt: &impl Abort) -
     bench
 }
 
-/// Two benches that are asked the same calls, one of them where memory is refused.
+/// Two benches that get the same calls, one of them with memory refused.
 #[derive(Drop)]
 pub struct Pair<'a> {
     pub bench: Bench<'a, Heap>,
     pub other: Bench<'a, Heap>,
 }
 
-/// Two benches that were asked the acts of the script, of which they refused none.
+/// Two benches that have played the acts of the script and refused none.
 pub fn played_twice<'a>(text: &str, limits: Limits, heap: &'a Heap, rt: &impl Abort) -> Pair<'a> {
     let bench = played(text, limits, heap, rt);
     let other = played(text, limits, heap, rt);

@@ -1,5 +1,5 @@
-//! Clusters: each request for memory of a step is refused in turn, and so are steps of nodes that aren't there. The steps are
-//! those of a script; a bench that is asked them says what the nodes are after each.
+//! Clusters: each request of a step for memory is refused in turn, and so are steps of nodes that aren't there. The steps are
+//! those of a script; a bench that takes the same steps says what the nodes are after each.
 use crate::benches::{Calls, Heap, calls_of, opened};
 use bench_core::{Act, Bench, Cluster, Fault, Limits, Step};
 use std::process::Abort;
@@ -28,7 +28,8 @@ fn has_nodes_of<'a>(cluster: &Cluster<'a, Heap>, bench: &Bench<'a, Heap>) -> boo
     true
 }
 
-/// Takes the step, whose first, second, .. request for memory is refused before: then nothing changes.
+/// Refuses the first, second, .. request of the step for memory in turn, which changes nothing, and then takes the
+/// step.
 fn step_refused<'a>(
     cluster: &mut Cluster<'a, Heap>,
     bench: &Bench<'a, Heap>,
@@ -50,7 +51,7 @@ fn step_refused<'a>(
     holds!(rt, false);
 }
 
-/// Takes the steps of the calls, and asks the bench the same.
+/// Takes the steps of the calls, and has the bench take the same.
 fn play<'a>(
     cluster: &mut Cluster<'a, Heap>,
     bench: &mut Bench<'a, Heap>,

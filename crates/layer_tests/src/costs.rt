@@ -1,4 +1,4 @@
-//! How many bytes a step and its undo ask for, however much the node holds: no node is copied, and no step is run again.
+//! How many bytes a step and its undo ask for, however much the node holds. They copy no node, and run no step again.
 use crate::benches::{Calls, Heap, ask, calls_of, played};
 use bench_core::{Bench, Limits};
 use std::process::Abort;
@@ -18,7 +18,7 @@ fn joins<'a>(heap: &'a Heap, rt: &impl Abort) -> String<&'a Heap> {
     text
 }
 
-/// How many bytes the calls asked for. They asked a few times.
+/// How many bytes the calls asked for, in fewer than 65 requests.
 fn bytes_of<'a>(
     bench: &mut Bench<'a, Heap>,
     calls: &Calls<'a>,

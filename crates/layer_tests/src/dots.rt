@@ -35,7 +35,7 @@ fn a_name_set_has_what_was_put_in(rt: HostRuntime) {
     holds!(&rt, !names.same(NameSet::empty()));
 }
 
-/// Puts the dot in, for which there is memory, and says whether it was new.
+/// Inserts the dot, and says whether it was new. The heap has memory for it.
 fn puts_in<A: Allocator>(rt: &impl Abort, dots: &mut DotSet<A>, dot: Dot) -> bool {
     assert!(rt; dot.ok());
     dots.insert(dot).expect(rt, "a dot")
@@ -67,7 +67,7 @@ enum Edit {
 
 const FAR: [(u16, u64); 2] = [(0, 9), (1, 9)];
 
-/// Makes the edit, which is of a dot or of dots that change the set.
+/// Makes the edit, and says whether it changed the set.
 fn edits<A: Allocator + Copy>(
     rt: &impl Abort,
     dots: &mut DotSet<A>,
@@ -126,7 +126,7 @@ fn is_seen<A: Allocator>(dots: &DotSet<A>, name: u16, clock: u64, cloud: &[u64])
     dots.clock_of(name) == clock && dots.cloud_of(name) == cloud
 }
 
-/// Edits of one set in turn, each of which leaves this context clock and this cloud of name 0.
+/// Edits of one set in turn, each with the context clock and the cloud of name 0 that it leaves.
 const CLOUDS: [(Edit, u64, &[u64]); 5] = [
     (Edit::Insert(0, 1), 1, &[]),
     (Edit::Insert(0, 3), 1, &[3]),
@@ -159,7 +159,8 @@ fn only_keeps_the_names_alone(rt: HostRuntime) {
     drop(dots);
 }
 
-/// Whether the union of none with these dots, of the known names but the own one, has them all; else it has none.
+/// Unites an empty set with these dots, as far as their names are known and not its own. Says whether it then has them
+/// all; if not, it must have none.
 fn takes<A: Allocator + Copy>(
     rt: &impl Abort,
     alloc: A,
@@ -245,7 +246,7 @@ fn each_name_below_32_has_its_dots(rt: HostRuntime) {
 
 type Heap = Refusing<Global>;
 
-/// Makes the edit with one request for memory refused. Says whether it was made, and then, that it met no refusal.
+/// Makes the edit with one request for memory refused. Says whether it was made, and whether it then met no refusal.
 fn is_made<'a>(
     dots: &mut DotSet<&'a Heap>,
     far: &DotSet<&'a Heap>,
@@ -262,7 +263,7 @@ fn is_made<'a>(
     answer.is_ok()
 }
 
-/// The dots of a set, an edit of it, how often that is refused memory, and the dots then.
+/// The dots of a set, an edit of it, how many of its requests for memory can be refused, and the dots after it.
 type Refusal = (&'static [(u16, u64)], Edit, u64, &'static [(u16, u64)]);
 
 const REFUSALS: [Refusal; 3] = [
@@ -286,8 +287,8 @@ const REFUSALS: [Refusal; 3] = [
     ),
 ];
 
-/// Makes the edit with its first, second, .. request for memory refused, until it meets none. Each refused one leaves the
-/// set as it was. Gives how many were refused.
+/// Makes the edit with its first, second, .. request for memory refused, until it meets no refusal. Each refusal leaves
+/// the set as it was. Gives how many were refused.
 fn refused_in_turn<'a>(
     dots: &mut DotSet<&'a Heap>,
     far: &DotSet<&'a Heap>,
@@ -318,7 +319,7 @@ fn a_refused_edit_changes_nothing(rt: HostRuntime) {
     drop(far);
 }
 
-/// Whether the edit is refused so often, and then leaves these dots.
+/// Whether the edit can be refused this many times, and then leaves these dots.
 fn is_refused_in_turn<'a>(
     far: &DotSet<&'a Heap>,
     refusal: Refusal,
@@ -377,7 +378,8 @@ fn what_grows_no_cloud_takes_no_memory(rt: HostRuntime) {
     drop(dots);
 }
 
-/// Fills the gap, goes on from there, and goes out and in again; the part of no name is empty.
+/// Inserts the dot that closes the gap, and the next one; takes out the name's part and puts it back; and takes the
+/// part of no names, which has no dot. Says whether all of that went as it should.
 fn grows_its_context<A: Allocator + Copy>(rt: &impl Abort, dots: &mut DotSet<A>) -> bool {
     let fills = puts_in(rt, dots, Dot { name: 0, clock: 2 });
     let goes_on = puts_in(rt, dots, Dot { name: 0, clock: 5 });
@@ -390,7 +392,8 @@ fn grows_its_context<A: Allocator + Copy>(rt: &impl Abort, dots: &mut DotSet<A>)
     fills && goes_on && is_out && has_none && is_seen(dots, 0, 5, &[])
 }
 
-/// Takes nothing new in, and takes the dot at the context clock out and in again.
+/// Takes a union that brings nothing new, takes out a dot below the context clock, and inserts it again. Says whether
+/// the set is the same as before.
 fn takes_again<A: Allocator + Copy>(
     rt: &impl Abort,
     dots: &mut DotSet<A>,
@@ -404,7 +407,7 @@ fn takes_again<A: Allocator + Copy>(
     was_there && is_new && dots.same(same)
 }
 
-/// Puts many dots of the name 1 in, which lie far apart from the others.
+/// Inserts many dots of the name 1, far apart from the others.
 fn grows_its_cloud<A: Allocator>(rt: &impl Abort, dots: &mut DotSet<A>) {
     for clock in 11..=30u8 {
         let clock = u64::from(clock);
@@ -412,7 +415,7 @@ fn grows_its_cloud<A: Allocator>(rt: &impl Abort, dots: &mut DotSet<A>) {
     }
 }
 
-/// A union takes its memory of the set that grows, and none of the other's.
+/// A union takes its memory from the allocator of the set that grows, and none from the other's.
 #[test]
 fn a_union_takes_the_memory_of_the_set_that_grows(rt: HostRuntime) {
     let own = Refusing::new(rt.alloc());
@@ -429,7 +432,7 @@ fn a_union_takes_the_memory_of_the_set_that_grows(rt: HostRuntime) {
     drop(far);
 }
 
-/// A part takes its memory, and what it grows by, of the set that it is a part of.
+/// A part takes its memory, and what it grows by, from the allocator of its set.
 #[test]
 fn a_part_keeps_the_memory_of_its_set(rt: HostRuntime) {
     let own = Refusing::new(rt.alloc());

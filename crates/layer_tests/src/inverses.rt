@@ -1,13 +1,14 @@
-//! Inverses: what each step destroyed is kept to take it back, and nothing more, nor another call's record that would serve as
-//! well. A bench lends them for looking.
+//! Inverses: a bench keeps what each step destroyed, to take it back, and nothing more, not even another call's record that
+//! would serve as well. It lends the inverses to be looked at.
 use crate::benches::{Heap, played};
 use crate::rows::holds_at;
 use bench_core::{Bench, Inverse, Limits};
 use dots_core::Dot;
-use payload_core::{Delivered, Entry, Forgotten, Left, OldPart};
+use payload_core::Handle;
 use replica_core::{Change, Status};
 use std::alloc::Allocator;
 use std::process::Abort;
+use store_core::{Delivered, Forgotten, Left, OldPart};
 use test_alloc::Refusing;
 
 /// The last of 32 names.
@@ -21,7 +22,8 @@ struct Stood {
     in_delta: bool,
 }
 
-/// What is kept of a step of the first node; the names and the dots of others are those of the last one, dots by their clocks.
+/// What is kept of a step of the first node. The names and the dots of others are those of the last node; dots are
+/// given by their clocks.
 #[derive(Clone, Copy)]
 enum Told {
     Join,
@@ -49,8 +51,8 @@ fn is_left<A: Allocator>(left: &Left<A>, told: Stood) -> bool {
         unsent,
         in_delta,
     } = left;
-    entry.dot.name == 0
-        && entry.dot.clock == told.clock
+    entry.dot().name == 0
+        && entry.dot().clock == told.clock
         && unsent.is_some() == told.unsent
         && *in_delta == told.in_delta
 }
@@ -75,12 +77,12 @@ fn are_dots(dots: &[Dot], clocks: &[u64]) -> bool {
             .all(|(dot, clock)| is_there(*dot, *clock))
 }
 
-fn are_entries<A: Allocator>(entries: &[Entry<A>], clocks: &[u64]) -> bool {
+fn are_entries<A: Allocator>(entries: &[Handle<A>], clocks: &[u64]) -> bool {
     entries.len() == clocks.len()
         && entries
             .iter()
             .zip(clocks.iter())
-            .all(|(entry, clock)| is_there(entry.dot, *clock))
+            .all(|(entry, clock)| is_there(entry.dot(), *clock))
 }
 
 fn are_parts<A: Allocator>(parts: &[OldPart<A>], clocks: &[u64]) -> bool {
@@ -120,7 +122,7 @@ fn is_forgotten<A: Allocator>(forgotten: &Forgotten<A>, told: Told) -> bool {
     part.clock == clock && part.cloud.is_empty() && are_entries(entries, clocks)
 }
 
-/// Whether the change has what is told of it. Each variant is here, with each of its fields.
+/// Whether the change is what the row says. Each variant is here, with each of its fields.
 fn is_change<A: Allocator>(change: &Change<A>, told: Told) -> bool {
     match change {
         Change::Join => matches!(told, Told::Join),
@@ -149,7 +151,7 @@ fn is_change<A: Allocator>(change: &Change<A>, told: Told) -> bool {
     }
 }
 
-/// Whether the inverse has what is told of it. Each variant is here, with each of its fields.
+/// Whether the inverse is what the row says. Each variant is here, with each of its fields.
 fn is_inverse<A: Allocator>(inverse: &Inverse<A>, told: Told) -> bool {
     match inverse {
         Inverse::Change(change) => is_change(change, told),
@@ -158,8 +160,8 @@ fn is_inverse<A: Allocator>(inverse: &Inverse<A>, told: Told) -> bool {
     }
 }
 
-/// What the last node sends: a join, that its process left, and a request. Then the steps of the first: own ones, of entries
-/// that were sent and that were not; and those on what the last one sent.
+/// The last node sends a join, the leave of its process, and a request. Then come the steps of the first: own ones, on
+/// entries that were sent and on entries that weren't; and those that read what the last one sent.
 const SCRIPT: &str = "nodes a b c d e f g h i j k l m n o p q r s t u v w x y z aa ab ac ad ae af
 af join 1 r bob desk
 af broadcast
@@ -282,7 +284,7 @@ const KEPT: &[Told] = &[
     Told::Sent,
 ];
 
-/// Whether what the bench keeps of the step is what is told.
+/// Whether the bench keeps of the step what the row says.
 fn keeps<'a>(bench: &Bench<'a, Heap>, number: u64, told: Told) -> bool {
     match bench.way_back(number) {
         Some(inverse) => is_inverse(inverse, told),

@@ -1,5 +1,5 @@
-//! Journals: how a loan of an inverse ends, and what there is memory for. A journal reads no inverse, so that of any step
-//! stands beside each.
+//! Journals: how a loan of an inverse ends, and which calls have memory. A journal reads no inverse, so the inverse of any step
+//! may stand beside each.
 ghost use Rattle.std.specs.Prelude.{◌≡◌, ◌++◌, ◌∷◌, [], None, Some};
 ghost use Rattle.node_core.specs.Operations.{plain};
 ghost use Rattle.node_core.specs.Inverses.{plain_inverse};
@@ -36,7 +36,7 @@ fn inverse<'a>(heap: &'a Heap, rt: &impl Abort) -> Inverse<&'a Heap> {
     inverse
 }
 
-/// Whether the step is kept.
+/// Keeps the step, and asserts that it was kept.
 fn keeps<'a>(
     journal: &mut Journal<'a, Heap>,
     step: Step<&'a Heap>,
@@ -90,7 +90,7 @@ fn has_first<'a>(journal: &Journal<'a, Heap>) -> bool {
     }
 }
 
-/// Keeps a send, for which room was made, lends its inverse, which is put back, and lends it again, and takes the send out.
+/// Keeps a send for which room was made, lends its inverse and has it put back, lends it again, and takes the send out.
 fn keeps_and_lends<'a>(journal: &mut Journal<'a, Heap>, inverse: Inverse<&'a Heap>, rt: &impl Abort)
     requires nodes { journal.old.nodes ≡ 2 }
     requires steps { journal.old.steps ≡ [] }
@@ -125,7 +125,7 @@ fn a_step_with_room_and_its_loans_take_no_memory(rt: HostRuntime) {
     drop(journal);
 }
 
-/// Without room it comes back.
+/// Without room, a step that is refused memory comes back.
 #[test]
 fn a_step_that_is_refused_memory_is_not_kept(rt: HostRuntime) {
     let heap = Refusing::new(rt.alloc());

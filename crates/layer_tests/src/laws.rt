@@ -1,4 +1,4 @@
-//! That the laws can be used of a bench that somebody hands over: what its contracts say of it is what they ask for.
+//! The laws can be used on any bench: its contracts say what the laws ask for.
 ghost use Rattle.std.specs.Prelude.{◌≡◌, ℕ, List, Ok, Some, None, length, map};
 ghost use Rattle.journal_core.specs.Journals.{Kept, NumbersRise, steps_before, find_number, first_consequence, own_steps, without};
 ghost use Rattle.journal_core.specs.Futures.{IsFuture};

@@ -1,19 +1,19 @@
 //! Tests of the crates from `dots_core` to `bench_core`, of `diff_core`, `order_core`, `explore_network`, `page_data` and `test_alloc`, in a crate of their own, so
 //! that those crates are proved once. It has no code but these tests.
 //!
-//! Each says what a call alone can show and no clause says: that calls succeed with memory, what a refusal of memory leaves,
-//! which calls take none, whose memory is taken, and what an inverse keeps. Rows of calls with their replies, lists and clocks
-//! are data of `example_tests`, and cost no proof there.
+//! Each test says what only a call can show and no clause says: that calls succeed with memory, what a refusal of memory
+//! leaves, which calls take none, whose memory is taken, and what an inverse keeps. Rows of calls with their replies, lists and
+//! clocks are data of `example_tests`, and cost no proof there.
 //!
 //! In the order to read them: `rows`, assertions; `refusing`, the allocator that these tests use; `dots`, sets of dots;
-//! `benches`, from a script to a bench that was asked its acts, which prepares most tests; `payloads`, words, entries and messages;
-//! `journals`, loans of inverses; `inverses`, what each step keeps; `undone`, nodes taken back; `memory` and `unwinds`, what refused
-//! memory leaves of a bench; `clusters`, nodes without a bench; `costs`, the bytes of a step; `wide`, large values; `reads`, the calls
-//! that take no memory; `names`, `swaps`, `orders`, `networks`, `lists`, `laws` and
-//! `pages`.
+//! `benches`, from a script to a bench that has played its acts, which prepares most tests; `payloads`, words, entries and
+//! messages; `journals`, loans of inverses; `inverses`, what each step keeps; `undone`, nodes taken back; `memory` and
+//! `unwinds`, what refused memory leaves of a bench; `clusters`, nodes without a bench; `costs`, the bytes of a step; `wide`,
+//! large values; `reads`, the calls that take no memory; `names`, `swaps`, `orders`, `networks`, `lists`, `laws` and `pages`.
 #![tactic(auto)]
 
-/// An assertion as a call: it is told by its own words. An `assert!` in its place is an exit more where much is live.
+/// An assertion as a call; its own text names it. An `assert!` here would add an exit, which is costly to prove where
+/// many values are live.
 #[cfg(test)]
 macro_rules! holds {
     ($rt:expr, $is_so:expr $(,)?) => {

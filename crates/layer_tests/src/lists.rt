@@ -41,8 +41,8 @@ fn list_of<'a>(bench: &Bench<'a, Heap>, number: u16, heap: &'a Heap, rt: &impl A
     online_list(heap, node.replica()).expect(rt, "a list")
 }
 
-/// Whether the lists differ by these rows, what left and what joined, and so do several changes that come to it; and how many
-/// requests for memory that took. None, where a request was refused.
+/// Whether the lists differ by these rows: the first ones left, the second ones joined. `None` where memory was
+/// refused.
 fn differ<'a>(
     before: &Rows<'a>,
     after: &Rows<'a>,
@@ -59,7 +59,8 @@ fn differ<'a>(
     Some(are_these)
 }
 
-/// How many rows are left and joined where these come and go: whether they are `counts`.
+/// Whether changes with these rows that left and joined come to `counts` rows on either side. `None` where memory was
+/// refused.
 fn come_to<'a>(
     left: &Rows<'a>,
     joined: &Rows<'a>,
@@ -108,7 +109,7 @@ const AT_B_ALONE: &[Seen] = &[
     ("r", "alice", 1, 7, 1, "home"),
 ];
 
-/// Whether two rows that follow one another do so in order, and a copy of the first is the same.
+/// Whether each row and the next are in order, and a copy of the first list is the same.
 fn are_in_order<'a>(rows: &Rows<'a>) -> bool {
     let [first, second, ..] = rows.as_slice() else {
         return false;
@@ -123,8 +124,8 @@ fn are_in_order<'a>(rows: &Rows<'a>) -> bool {
     }
 }
 
-/// Compares the lists with the first, second, .. request for memory refused, until none is met: from then on they are had.
-/// Gives how many were refused.
+/// Compares the lists with the first, second, .. request for memory refused, until no refusal is met. Gives how many
+/// were refused.
 fn refused_in_turn<'a>(a: &Rows<'a>, b: &Rows<'a>, heap: &'a Heap, rt: &impl Abort) -> u64
     requires a { AreInOrder a.now.items }
     requires b { AreInOrder b.now.items }
@@ -163,7 +164,7 @@ fn lists_differ_by_their_own_rows(rt: HostRuntime) {
     compares(SCRIPT, &heap, &rt);
 }
 
-/// How many rows are in the one alone, and how many in the other.
+/// How many rows the one list has alone, and how many the other.
 fn counts_of<'a>(one: &Rows<'a>, other: &Rows<'a>, heap: &'a Heap) -> Option<(usize, usize)>
     requires one { AreInOrder one.now.items }
     requires other { AreInOrder other.now.items }

@@ -1,5 +1,5 @@
-//! What calls of a bench leave where memory is refused. The calls are those of a script; another bench that was asked the same
-//! ones, with memory, says what there was before each.
+//! What calls of a bench leave where memory is refused. The calls are those of a script; another bench, which makes the same
+//! calls with memory, says what there was before each.
 use crate::benches::{Calls, Heap, Pair, are_same, calls_of, limits_of, opened, played_twice};
 use crate::rows::holds;
 use bench_core::{Act, Bench, Fault, Limits, Reply, Step};
@@ -7,7 +7,7 @@ use dots_core::NameSet;
 use std::process::Abort;
 use test_alloc::Refusing;
 
-/// All twelve steps, each of which is taken back by number; steps back; and refusals.
+/// All twelve steps, each undone by its number; steps back; and refusals.
 pub const SCRIPT: &str = "nodes a b
 consoles c
 b join 9 r bob desk
@@ -88,8 +88,9 @@ enum Refusal {
     From(u64),
 }
 
-/// Asks a bench the call, for which memory was told to be refused. Where it is refused, the bench is as another that was asked
-/// all calls before, with memory; then both are asked, with memory, and are the same. Whether it was refused.
+/// Makes the call on a bench with memory refused. If the bench refuses it, it is the same as the other bench, which
+/// made all calls before with memory; then both make the call with memory, and are the same. Says whether it was
+/// refused.
 fn is_refused<'a>(
     pair: &mut Pair<'a>,
     call: &(u16, Act<&'a Heap>),
@@ -110,7 +111,7 @@ fn is_refused<'a>(
     is_refused
 }
 
-/// Asks each of the calls so. Whether one was refused.
+/// Makes each of the calls while the heap refuses memory. Says whether one was refused.
 fn ask_refused<'a>(
     pair: &mut Pair<'a>,
     calls: &Calls<'a>,
@@ -132,8 +133,8 @@ fn ask_refused<'a>(
 /// The nodes of the script.
 const NODES: &str = "nodes a b";
 
-/// The same of two new benches. In the end the meter tells the steps that were taken: an undo, a step back and a refusal count
-/// nothing.
+/// Makes the calls on two new benches while the heap refuses memory, and says whether one was refused. At the end the
+/// meter counts the steps that were taken; an undo, a step back and a refusal count nothing.
 fn is_met<'a>(calls: &Calls<'a>, refusal: Refusal, heap: &'a Heap, rt: &impl Abort) -> bool {
     let mut pair = played_twice(NODES, Limits::usual(), heap, rt);
     let is_met = ask_refused(&mut pair, calls, refusal, heap, rt);
@@ -143,7 +144,8 @@ fn is_met<'a>(calls: &Calls<'a>, refusal: Refusal, heap: &'a Heap, rt: &impl Abo
     is_met
 }
 
-/// Each call with its first, second, .. request for memory refused, alone and with all that follow, until none is met.
+/// Makes each call with its first, second, .. request for memory refused, alone and with all that follow, until no
+/// refusal is met.
 #[test]
 fn a_call_that_is_refused_memory_changes_nothing(rt: HostRuntime) {
     let heap = Refusing::new(rt.alloc());
@@ -164,7 +166,7 @@ fn a_call_that_is_refused_memory_changes_nothing(rt: HostRuntime) {
     holds!(&rt, 0 < most && most < 99);
 }
 
-/// The limits of a bench, acts after which no step can be taken, or nothing be recorded, and acts that are refused then.
+/// The limits of a bench; acts after which it has no place for a step, or for a record; and acts that it then refuses.
 struct Full {
     limits: [u64; 4],
     script: &'static str,
@@ -177,8 +179,8 @@ const HELD: Fault = Fault::HasConsequence {
     held_by: 2,
 };
 
-/// One place is too few for a step; there is none for a step, nor for a refusal, also that of an undo with a consequence, or
-/// of one that was made; and there is none at all from the first.
+/// The rows: one place, which is too few for a step; no place, for a step and for refusals, also of an undo with a
+/// consequence and of an undo that was already made; and a bench with no place from the start.
 const FULL: &[Full] = &[
     Full {
         limits: [3, 10, 10, 10],
@@ -230,7 +232,7 @@ const FULL: &[Full] = &[
     },
 ];
 
-/// Asks the calls with all memory refused: each is refused for this, and asks for none.
+/// Makes the calls with all memory refused: each meets this fault, and asks for no memory.
 fn are_free<'a>(
     bench: &mut Bench<'a, Heap>,
     calls: &[(u16, Act<&'a Heap>)],
@@ -246,7 +248,8 @@ fn are_free<'a>(
     heap.refuse_none();
 }
 
-/// Plays and asks so, which is recorded nowhere.
+/// Plays the acts, and makes the calls with all memory refused: each is refused with its fault, asks for no memory and
+/// isn't recorded.
 fn refuse_for_free<'a>(full: &Full, heap: &'a Heap, rt: &impl Abort) {
     let limits = limits_of(full.limits, rt);
     let calls = calls_of(full.refused, heap, rt);
@@ -265,7 +268,7 @@ fn a_refusal_without_a_place_takes_no_memory(rt: HostRuntime) {
     }
 }
 
-/// Calls that name no node of two.
+/// Calls that name a node which a bench of two nodes doesn't have.
 fn unknown<'a>() -> [(u16, Act<&'a Heap>); 6] {
     let names = NameSet::empty().with(5);
     let answer = Step::Answer {
@@ -282,7 +285,7 @@ fn unknown<'a>() -> [(u16, Act<&'a Heap>); 6] {
     ]
 }
 
-/// Whether the calls are run, each refused since it names no node.
+/// Whether the bench runs the calls and refuses each, since it names no node.
 fn run_unknown<'a>(bench: &mut Bench<'a, Heap>, calls: &[(u16, Act<&'a Heap>)]) -> bool {
     match bench.run(calls) {
         Ok(replies) => {

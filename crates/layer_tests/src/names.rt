@@ -61,7 +61,7 @@ const ALL: [&str; 32] = [
     "5",
 ];
 
-/// The same, but for the last one.
+/// As many names as there can be; only the last differs from `ALL`.
 const OTHERS: [&str; 32] = [
     "b_1",
     "a",
@@ -112,7 +112,7 @@ fn are_all<'a>(names: &Names<&'a Heap>) -> bool {
     names.len() == 32 && names.text(32).is_none() && names.number_of("c").is_none()
 }
 
-/// Whether names that differ in the last one are others.
+/// Whether `same` tells names apart that differ in the last one alone.
 fn are_told<'a>(names: &Names<&'a Heap>, heap: &'a Heap, rt: &impl Abort) -> bool {
     let others = named(heap, &OTHERS, rt);
     let are_same = names.same(&others);
@@ -131,7 +131,8 @@ fn names_are_numbered_in_their_order_without_memory(rt: HostRuntime) {
     drop(names);
 }
 
-/// Makes all names with the first, second, .. request for memory refused, until none is met. Gives how many were refused.
+/// Makes all names with the first, second, .. request for memory refused, until no refusal is met. Gives how many were
+/// refused.
 fn refused_names(heap: &Heap, rt: &impl Abort) -> u64 {
     for number in 1..100 {
         heap.refuse_only(number);
@@ -144,7 +145,8 @@ fn refused_names(heap: &Heap, rt: &impl Abort) -> u64 {
     99
 }
 
-/// Copies names so: the copy is the same.
+/// Copies the names with the first, second, .. request for memory refused, until no refusal is met: the copy is the
+/// same. Gives how many were refused.
 fn refused_copies<'a>(names: &Names<&'a Heap>, heap: &'a Heap, rt: &impl Abort) -> u64 {
     for number in 1..100 {
         heap.refuse_only(number);

@@ -1,5 +1,5 @@
-//! What the network could have done: the outcomes of small runs by hand, each of which a run has beside it; what is refused; and each
-//! request for memory is refused in turn. A run is told by the places of its steps.
+//! What the network could have done: the outcomes of small runs, worked by hand, each with a run beside it; what is refused;
+//! and each request for memory refused in turn. A run is given by the places of its steps.
 use crate::benches::{Heap, limits_of, played};
 use crate::wide;
 use bench_core::{Bench, Cluster, Limits};
@@ -54,8 +54,8 @@ struct Row {
     runs: &'static [&'static [usize]],
 }
 
-/// An up comes before or behind a delivery, which concerns its own node alone; a message is lost; a join comes behind its leave no
-/// more, and no more when it comes again; an answer waits for its request.
+/// An up comes before or after a delivery, and concerns its own node alone; a message is lost; a join comes after its
+/// leave and has no effect, also when it comes again; an answer waits for its request.
 const ROWS: &[Row] = &[
     Row {
         text: UP_LATE,
@@ -108,8 +108,8 @@ const ROWS: &[Row] = &[
     },
 ];
 
-/// A script; the node whose replica is asked for, or none where all of the cluster is; and of each outcome how dots of a stand, by
-/// node and clock: 0 not seen, 1 with its entry, 2 without.
+/// A script; the node whose replica is asked for, or none for all of the cluster; and for each outcome how dots of a
+/// stand, by node and clock: 0 not seen, 1 with its entry, 2 without.
 struct Standings {
     text: &'static str,
     node: Option<u16>,
@@ -117,7 +117,7 @@ struct Standings {
     outcomes: &'static [&'static [u8]],
 }
 
-/// A node that misses what its rows don't show; and nodes that each miss a message or don't.
+/// A node that misses something that its rows don't show; and nodes that may each miss a message.
 const STANDINGS: &[Standings] = &[
     Standings {
         text: UP_LATE,
@@ -151,7 +151,7 @@ fn presence<'a>(node: u16, key: &str, heap: &'a Heap, rt: &impl Abort) -> Questi
     Question::Presence { node, topic, key }
 }
 
-/// What is told of what is there.
+/// What an exploration of the bench gives.
 fn explored<'a>(
     bench: &Bench<'a, Heap>,
     asked: &Question<&'a Heap>,
@@ -195,7 +195,7 @@ fn rows_come_out_by_what_the_network_does(rt: HostRuntime) {
     }
 }
 
-/// How a dot of a stands at a node.
+/// How a dot of node a stands at a node.
 fn standing<'a>(cluster: &Cluster<'a, Heap>, node: u16, clock: u64) -> u8 {
     let dot = Dot { name: 0, clock };
     let Some(node) = cluster.node(node) else {
@@ -210,7 +210,7 @@ fn standing<'a>(cluster: &Cluster<'a, Heap>, node: u16, clock: u64) -> u8 {
     0
 }
 
-/// Whether the dots stand so in the outcome.
+/// Whether the dots stand like this in the outcome.
 fn is_so<'a>(outcome: &Outcome<'a, Heap>, dots: &[(u16, u64)], so: &[u8]) -> bool {
     for (dot, standing_wanted) in dots.iter().zip(so) {
         let (node, clock) = *dot;
@@ -221,7 +221,7 @@ fn is_so<'a>(outcome: &Outcome<'a, Heap>, dots: &[(u16, u64)], so: &[u8]) -> boo
     true
 }
 
-/// Whether the dots stand so in one of the outcomes.
+/// Whether the dots stand like this in one of the outcomes.
 fn is_one_so<'a>(explored: &Explored<'a, Heap>, dots: &[(u16, u64)], so: &[u8]) -> bool {
     for outcome in &explored.outcomes {
         if is_so(outcome, dots, so) {
@@ -231,7 +231,8 @@ fn is_one_so<'a>(explored: &Explored<'a, Heap>, dots: &[(u16, u64)], so: &[u8]) 
     false
 }
 
-/// Whether the outcomes are as many as were told, and the dots stand so in one of them each.
+/// Whether there are as many outcomes as the row lists, and for each that it lists there is one in which the dots stand
+/// like that.
 fn are_so<'a>(explored: &Explored<'a, Heap>, told: &Standings) -> bool {
     for so in told.outcomes {
         if !is_one_so(explored, told.dots, so) {
@@ -292,7 +293,7 @@ fn joins_that_may_fill_a_node_are_refused(rt: HostRuntime) {
     holds!(&rt, fault == Some(ExploreFault::MayFill));
 }
 
-/// Of 65 deliveries one brings what is asked for, before its name is up or then.
+/// Of 65 deliveries one brings what is asked for, before its name is up or afterwards.
 #[test]
 fn a_wide_run_has_few_states(rt: HostRuntime) {
     let heap = Refusing::new(rt.alloc());
@@ -306,7 +307,7 @@ fn a_wide_run_has_few_states(rt: HostRuntime) {
     holds!(&rt, told.is_ok_and(|told| told.outcomes.len() == 2));
 }
 
-/// Each request for memory is refused in turn, until none is met.
+/// Refuses each request for memory in turn, until no refusal is met.
 fn explore_refused<'a>(
     bench: &Bench<'a, Heap>,
     asked: &Question<&'a Heap>,
@@ -337,7 +338,7 @@ fn each_request_for_memory_is_refused(rt: HostRuntime) {
     drop(bench);
 }
 
-/// How often it was told, of how many states at last, and whether ever of fewer than before.
+/// How often the watcher was called, with how many states at last, and whether ever with fewer than before.
 #[derive(Drop)]
 struct Counting {
     calls: u64,
@@ -357,8 +358,8 @@ impl Watch<Walked> for Counting {
     }
 }
 
-/// A join, a broadcast, an up and a delivery, and a delivery and an up: seven times the walk stands somewhere, and the last two times it
-/// has kept what is behind the first up.
+/// The walk takes a join, a broadcast, an up and a delivery, and then the delivery before the up. It calls the watcher
+/// at seven states, and at the last two it has kept the state after the first up.
 #[test]
 fn a_watcher_is_told_how_far_the_walk_is(rt: HostRuntime) {
     let heap = Refusing::new(rt.alloc());

@@ -1,10 +1,10 @@
-//! Orders of small runs, told by hand.
+//! Orders of small runs, worked by hand.
 use order_core::{Mark, order};
 use std::alloc::Global;
 use std::process::Abort;
 
-/// Steps, each by its node and the message that it delivers, by sender and number; one that delivers none sends. And the places
-/// of the steps in the order that they have, if they have one.
+/// Steps, each by its node and the message that it delivers, by sender and number; a step that delivers none sends one.
+/// And the places of the steps in their order, if they have one.
 struct Row {
     steps: &'static [(u16, Option<(u16, u64)>)],
     places: Option<&'static [usize]>,

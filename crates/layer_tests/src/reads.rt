@@ -1,4 +1,4 @@
-//! The calls that take no memory, on large values, with all memory refused: each is had, and none asks for any.
+//! The calls that take no memory, on large values, with all memory refused: each succeeds, and asks for none.
 use crate::benches::{Heap, calls_of, played};
 use crate::memory::SCRIPT;
 use crate::payloads::is_made_of_its_parts;
@@ -10,7 +10,7 @@ use replica_core::{Replica, Status, laws};
 use std::process::Abort;
 use test_alloc::Refusing;
 
-/// A set of 65 entries or more is read.
+/// Reads a set of 65 entries or more.
 fn reads_entries<'a>(entries: &EntrySet<&'a Heap>, rt: &impl Abort) {
     let last = Dot {
         name: 0,
@@ -28,7 +28,7 @@ fn reads_entries<'a>(entries: &EntrySet<&'a Heap>, rt: &impl Abort) {
     holds!(rt, entries.same(entries));
 }
 
-/// The last of 130 messages is read.
+/// Reads the last of 130 messages.
 fn reads_message<'a>(message: &Payload<&'a Heap>, rt: &impl Abort) {
     holds!(rt, message.sender() == 0);
     holds!(rt, message.asked().is_none());
@@ -37,7 +37,7 @@ fn reads_message<'a>(message: &Payload<&'a Heap>, rt: &impl Abort) {
     holds!(rt, message.same(message));
 }
 
-/// An outbox of 130 messages is read.
+/// Reads an outbox of 130 messages.
 fn reads_outbox<'a>(outbox: &Outbox<'a, Heap>, rt: &impl Abort) {
     holds!(rt, outbox.len() == 130);
     holds!(rt, !outbox.is_empty() && !outbox.is_full());
@@ -46,7 +46,7 @@ fn reads_outbox<'a>(outbox: &Outbox<'a, Heap>, rt: &impl Abort) {
     reads_message(message, rt);
 }
 
-/// The first replica is read, which sends.
+/// Reads the first replica, which sends.
 fn reads_sender<'a>(a: &Replica<&'a Heap>, rt: &impl Abort) {
     holds!(rt, a.own() == 0);
     holds!(rt, a.seen().clock_of(0) == 131);
@@ -64,7 +64,7 @@ fn asks_for<'a>(replica: &Replica<&'a Heap>, known: NameSet) -> bool {
     matches!(asked, Some(names) if names.same(known))
 }
 
-/// The second replica is read, to which messages came, and the request that it would send.
+/// Reads the second replica, to which messages came, and the request that it would send.
 fn reads_receiver<'a>(b: &Replica<&'a Heap>, rt: &impl Abort) {
     let known = NameSet::empty().with(0).with(1);
     holds!(rt, asks_for(b, known) && b.known().same(known));
@@ -74,7 +74,7 @@ fn reads_receiver<'a>(b: &Replica<&'a Heap>, rt: &impl Abort) {
     reads_entries(b.entries(), rt);
 }
 
-/// The journal of 327 steps is read.
+/// Reads the journal of 327 steps.
 fn reads_journal<'a>(journal: &Journal<'a, Heap>, rt: &impl Abort) {
     let last = journal.at(326).expect(rt, "a step");
     let found = journal.find(327).expect(rt, "a step");
@@ -92,7 +92,7 @@ fn reads_history<'a>(history: &History<'a, Heap>, rt: &impl Abort) {
     holds!(rt, history.len() == 327);
 }
 
-/// The parts of the bench are read.
+/// Reads the parts of the bench.
 fn reads_bench<'a>(bench: &Bench<'a, Heap>, rt: &impl Abort) {
     holds!(rt, bench.names().number_of("af") == Some(31));
     holds!(rt, bench.limits() == Limits::usual());
@@ -105,7 +105,7 @@ fn reads_bench<'a>(bench: &Bench<'a, Heap>, rt: &impl Abort) {
     reads_history(bench.history(), rt);
 }
 
-/// The first two nodes are read.
+/// Reads the first two nodes.
 fn reads_nodes<'a>(bench: &Bench<'a, Heap>, rt: &impl Abort) {
     let a = bench.node(0).expect(rt, "a node");
     let b = bench.node(1).expect(rt, "a node");
@@ -115,7 +115,7 @@ fn reads_nodes<'a>(bench: &Bench<'a, Heap>, rt: &impl Abort) {
     reads_receiver(b.replica(), rt);
 }
 
-/// All of a bench is read; then copies are made of what its first node holds, and changed.
+/// Reads all of a bench; then copies what its first node holds, and changes the copies.
 fn plays<'a>(script: &str, heap: &'a Heap, rt: &impl Abort) {
     let bench = played(script, Limits::usual(), heap, rt);
     heap.refuse_from(1);
@@ -184,7 +184,7 @@ fn sends<'a>(replica: &Replica<&'a Heap>, heap: &'a Heap, rt: &impl Abort) {
     drop(copy);
 }
 
-/// A copy of the message is taken apart.
+/// Takes a copy of the message apart.
 fn falls_apart<'a>(message: &Payload<&'a Heap>, heap: &'a Heap, rt: &impl Abort) {
     let copy = message.try_copy().expect(rt, "a copy");
     heap.refuse_from(1);

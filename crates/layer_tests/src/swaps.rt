@@ -21,7 +21,7 @@ b up a
 a broadcast
 b deliver a 1";
 
-/// Steps of two nodes, and the same in another order, which three swaps lead to.
+/// Steps of two nodes, and the same steps in another order, to which three swaps lead.
 const IN_TURN: &str = "nodes a b
 a join 1 r alice phone
 b join 9 r bob desk
@@ -34,12 +34,12 @@ b join 8 r dora desk
 a join 1 r alice phone
 a join 2 r carl phone";
 
-/// Swaps by place, and what the steps of one bench and of another come to by them.
+/// Swaps by place, and what they answer for the steps of one bench and another.
 struct Swaps {
     name: &'static str,
     one: &'static str,
     other: &'static str,
-    /// The limits of the other.
+    /// The limits of the other bench.
     limits: [u64; 4],
     places: &'static [u64],
     answer: Result<(), SwapFault>,
@@ -152,7 +152,7 @@ const SWAPS: &[Swaps] = &[
     },
 ];
 
-/// Answers with the first, second, .. request for memory refused alone, until none is met. Gives the answer, and how many were
+/// The answer, with the first, second, .. request for memory refused alone, until no refusal is met; and how many were
 /// refused.
 fn answer_of<'a>(
     one: &Bench<'a, Heap>,
@@ -171,7 +171,8 @@ fn answer_of<'a>(
     (Err(SwapFault::OutOfMemory), 9)
 }
 
-/// Compares the bench with the other one so. Memory is asked for just where they are of one kind.
+/// Compares the bench with the other one, as `answer_of` does. It asks for no memory if the benches are of different
+/// kinds.
 fn compare<'a>(one: &Bench<'a, Heap>, swaps: &Swaps, heap: &'a Heap, rt: &impl Abort) {
     let limits = limits_of(swaps.limits, rt);
     let other = played(swaps.other, limits, heap, rt);

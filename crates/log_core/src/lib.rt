@@ -1,7 +1,7 @@
 //! A line of a log as an event of a node.
 //!
-//! It stands on the kit's `serde_json` alone, and takes no memory beside the value of the line: an event shows parts of that. In
-//! the order to read them: `line_fault`, why a line has no value; `value`, the value of a line; `event`, what an event says;
+//! It stands on the kit's `serde_json` alone, and takes no memory besides the value of the line: an event shows parts of that.
+//! In the order to read them: `line_fault`, why a line has no value; `value`, the value of a line; `event`, what an event says;
 //! `members`, what stands under a key; `reading`, from a value to an event.
 #![tactic(auto)]
 

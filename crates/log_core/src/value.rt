@@ -17,7 +17,7 @@ fn is_space(byte: u8) -> bool
     matches!(byte, b' ' | b'\t' | b'\r')
 }
 
-/// Whether the line has white space alone; a carriage return at its end is some.
+/// Whether the line has white space alone, a carriage return among it.
 fn is_blank(line: &[u8]) -> bool
     ensures { result ≡ is_blank line.now }
 {
@@ -41,7 +41,7 @@ fn value_of(heap: Global, line: &[u8]) -> Result<Value, LineFault>
     }
 }
 
-/// The value of a line; of one that has white space alone there is none.
+/// The value of a line; `None` for one that has white space alone.
 pub fn value_of_line(heap: Global, line: &[u8]) -> Result<Option<Value>, LineFault>
     ensures ok { IfOk result (λ v. IsValueOf line.now (option_map view v)) }
     ensures err { IfErr result (HasNoValue line.now) }

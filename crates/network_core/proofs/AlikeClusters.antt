@@ -7,8 +7,8 @@ use Rattle.std.specs.FinMap as fin
 use Rattle.dots_core.specs.declared.dot.Dot.{Dot}
 use Rattle.payload_core.specs.Presences.{Presence}
 use Rattle.payload_core.specs.Messages.{Message, AreSeen, numbered}
-use Rattle.payload_core.specs.Stores.{Store, store_of}
-use Rattle.payload_core.proofs.StoreMerges.{entry_after, get-merged, contains-merged}
+use Rattle.store_core.specs.Stores.{Store, store_of}
+use Rattle.store_core.proofs.StoreMerges.{entry_after, get-merged, contains-merged}
 use Rattle.replica_core.specs.Replicas.{Replica}
 use Rattle.replica_core.specs.Deliveries.{is_other_known, merged}
 use Rattle.node_core.specs.Operations.{Deliver}

@@ -6,7 +6,7 @@ use Rattle.std.specs.FinMap as fin
 use Rattle.dots_core.specs.declared.dot.Dot.{Dot}
 use Rattle.payload_core.specs.Messages.{Message, AreSeen}
 use Rattle.payload_core.specs.Presences.{Presence}
-use Rattle.payload_core.specs.Stores.{Store, standing, store_of}
+use Rattle.store_core.specs.Stores.{Store, standing, store_of}
 use Rattle.replica_core.specs.declared.node_limits.NodeLimits.{NodeLimits}
 use Rattle.replica_core.specs.Replicas.{Replica, opening}
 use Rattle.node_core.specs.Nodes.{Node}

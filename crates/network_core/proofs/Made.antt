@@ -8,7 +8,7 @@ use Rattle.dots_core.specs.declared.dot.Dot.{Dot}
 use Rattle.dots_core.specs.Dots.{dot, dot_cmp}
 use Rattle.payload_core.specs.Messages.{Message}
 use Rattle.payload_core.specs.Presences.{Presence, is_tracked_as}
-use Rattle.payload_core.specs.Stores.{Store, is_other}
+use Rattle.store_core.specs.Stores.{Store, is_other}
 use Rattle.payload_core.proofs.TrackedDots.{Found, found_all}
 use Rattle.replica_core.specs.declared.node_limits.NodeLimits.{NodeLimits}
 use Rattle.replica_core.specs.declared.status.Status.TheVariants as statuses

@@ -10,7 +10,7 @@ use Rattle.std.specs.FinMap as fin
 use Rattle.dots_core.specs.declared.dot.Dot.{Dot}
 use Rattle.payload_core.specs.Presences.{Presence, Entries}
 use Rattle.payload_core.specs.Messages.{Message, numbered}
-use Rattle.payload_core.proofs.EntryMaps.{get-remove, same_entries}
+use Rattle.block_core.proofs.EntryMaps.{get-remove, same_entries}
 use Rattle.replica_core.specs.declared.node_limits.NodeLimits.{NodeLimits}
 use Rattle.replica_core.specs.declared.replica_fault.ReplicaFault.TheVariants as causes
 use Rattle.replica_core.specs.declared.replica_fault.ReplicaFault.TheVariants.{OwnReplica, NotKnown, NotDown}

@@ -8,10 +8,10 @@ use Rattle.dots_core.specs.declared.dot.Dot.{Dot}
 use Rattle.dots_core.proofs.Sets.{same_dots}
 use Rattle.payload_core.specs.Messages.{Message}
 use Rattle.payload_core.specs.Presences.{Presence, is_tracked_as}
-use Rattle.payload_core.specs.Stores as stores
-use Rattle.payload_core.specs.Stores.{Store, store_of}
-use Rattle.payload_core.proofs.EntryMaps.{same_entries}
-use Rattle.payload_core.proofs.StoreMerges.{entry_after, get-merged, contains-merged}
+use Rattle.store_core.specs.Stores as stores
+use Rattle.store_core.specs.Stores.{Store, store_of}
+use Rattle.block_core.proofs.EntryMaps.{same_entries}
+use Rattle.store_core.proofs.StoreMerges.{entry_after, get-merged, contains-merged}
 use Rattle.replica_core.specs.declared.replica_fault.ReplicaFault.TheVariants.{NotTracked, ClockFull}
 use Rattle.replica_core.specs.declared.status.Status.{Status}
 use Rattle.replica_core.specs.Replicas.{Replica, is_known, joined, left_each, dropped_each, tracked_dots, dots_of_process, with_status}

@@ -7,9 +7,9 @@ use Rattle.std.specs.FinMap.Entries.{where_key}
 use Rattle.dots_core.specs.declared.dot.Dot.{Dot}
 use Rattle.dots_core.specs.Dots.{dot_cmp}
 use Rattle.payload_core.specs.Presences.{Presence}
-use Rattle.payload_core.specs.Stores.{Store}
-use Rattle.payload_core.proofs.Collected.{entries-retain}
-use Rattle.payload_core.proofs.EntryMaps.{get-retain, same_entries}
+use Rattle.store_core.specs.Stores.{Store}
+use Rattle.block_core.proofs.Collected.{entries-retain}
+use Rattle.block_core.proofs.EntryMaps.{get-retain, same_entries}
 use Rattle.replica_core.specs.Replicas.{Replica}
 use Rattle.diff_core.specs.Rows.{Row, row_of}
 use Rattle.diff_core.specs.Online.{is_shown}

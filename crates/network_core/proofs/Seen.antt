@@ -9,8 +9,8 @@ use Rattle.dots_core.specs.Dots.{dot, dot_cmp}
 use Rattle.dots_core.proofs.Sets.{same_dots}
 use Rattle.payload_core.specs.Messages.{Message, numbered}
 use Rattle.payload_core.specs.Presences.{Presence}
-use Rattle.payload_core.specs.Stores.{Store}
-use Rattle.payload_core.proofs.EntryMaps.{same_entries}
+use Rattle.store_core.specs.Stores.{Store}
+use Rattle.block_core.proofs.EntryMaps.{same_entries}
 use Rattle.replica_core.specs.declared.node_limits.NodeLimits.{NodeLimits}
 use Rattle.replica_core.specs.Replicas.{Replica, opening, own_clock}
 use Rattle.node_core.specs.Operations.{delivers}

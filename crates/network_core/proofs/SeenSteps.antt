@@ -9,8 +9,8 @@ use Rattle.dots_core.specs.Dots.{dot_cmp}
 use Rattle.dots_core.proofs.Sets.{contains-retain, contains_inserted, contains_insert_more, inserted_cases, of_names_cases}
 use Rattle.payload_core.specs.Messages.{Message, message_of_names, numbered}
 use Rattle.payload_core.specs.Presences.{Presence, Entries, is_tracked_as}
-use Rattle.payload_core.specs.Stores.{is_other, store_of}
-use Rattle.payload_core.proofs.StoreMerges.{contains-merged}
+use Rattle.store_core.specs.Stores.{is_other, store_of}
+use Rattle.store_core.proofs.StoreMerges.{contains-merged}
 use Rattle.payload_core.proofs.TrackedDots.{EachPasses, dots_of_pass}
 use Rattle.replica_core.specs.Deliveries.{is_other_known, merged}
 use Rattle.replica_core.specs.declared.replica_fault.ReplicaFault.{ReplicaFault}

@@ -2,7 +2,7 @@
 use Rattle.std.proofs.Common.{◌≡◌, ℕ, Bool, true, false, cond, List, [], ◌∷◌, ◌++◌, length, Some, Ok, refl, sym, ap, ◌∙◌, subst, append-nil, append_assoc, arith}
 use Rattle.std.proofs.lemmas.List.Elements.{filter-append}
 use Rattle.payload_core.specs.Messages.{Message, numbered}
-use Rattle.payload_core.specs.Stores.{standing, store_of}
+use Rattle.store_core.specs.Stores.{standing, store_of}
 use Rattle.replica_core.specs.declared.node_limits.NodeLimits.{NodeLimits}
 use Rattle.node_core.specs.Nodes.{Node}
 use Rattle.node_core.specs.Operations.{Operation, Deliver}

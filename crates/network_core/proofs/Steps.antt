@@ -9,7 +9,7 @@ use Rattle.dots_core.specs.declared.dot.Dot.{Dot}
 use Rattle.dots_core.specs.Names.{Names}
 use Rattle.payload_core.specs.Messages.{Message, numbered, message_of_names}
 use Rattle.payload_core.specs.Presences.{Presence, is_tracked_as}
-use Rattle.payload_core.specs.Stores.{Store, store_of, is_other}
+use Rattle.store_core.specs.Stores.{Store, store_of, is_other}
 use Rattle.replica_core.specs.declared.replica_fault.ReplicaFault.{ReplicaFault}
 use Rattle.replica_core.specs.declared.replica_fault.ReplicaFault.TheVariants as causes
 use Rattle.replica_core.specs.declared.status.Status.{Status}

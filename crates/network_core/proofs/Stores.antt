@@ -5,10 +5,10 @@ use Rattle.std.specs.FinMap as fin
 use Rattle.dots_core.specs.declared.dot.Dot.{Dot}
 use Rattle.dots_core.proofs.Sets.{contains-retain}
 use Rattle.payload_core.specs.Messages.{Message, message_of_names}
-use Rattle.payload_core.specs.Stores as stores
-use Rattle.payload_core.specs.Stores.{Store, store_of, part}
-use Rattle.payload_core.proofs.EntryMaps.{get-retain}
-use Rattle.payload_core.proofs.StoreMerges.{entry_after, get-merged, contains-merged}
+use Rattle.store_core.specs.Stores as stores
+use Rattle.store_core.specs.Stores.{Store, store_of, part}
+use Rattle.block_core.proofs.EntryMaps.{get-retain}
+use Rattle.store_core.proofs.StoreMerges.{entry_after, get-merged, contains-merged}
 use Rattle.replica_core.specs.Replicas.{Replica}
 use Rattle.network_core.proofs.OwnEdits.{OwnAlike, Edits}
 use Rattle.network_core.specs.Alike.{StoreAlike, MessageAlike, ReplicaAlike, kept}

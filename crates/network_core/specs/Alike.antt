@@ -1,23 +1,24 @@
--- A cluster as far as some dots go, of each node's store and of each message; and how that passes through a step.
+-- Which dots matter, in each node's store and in each message; clusters that are alike in these dots; and what matters before a
+-- step and after it.
 use Rattle.std.specs.Prelude.{◌≡◌, ℕ, suc, ◌==◌, ◌&&◌, ◌||◌, Bool, true, false, List, [], ◌∷◌, length, slice_get, Option, Some, None, Ok}
 use Rattle.std.specs.FinMap as fin
 use Rattle.std.specs.FinSet as set
 use Rattle.dots_core.specs.declared.dot.Dot.{Dot}
 use Rattle.dots_core.specs.Names.{Names}
 use Rattle.payload_core.specs.Messages.{Message, numbered}
-use Rattle.payload_core.specs.Stores.{Store, store_of}
+use Rattle.store_core.specs.Stores.{Store, store_of}
 use Rattle.replica_core.specs.Replicas.{Replica}
 use Rattle.node_core.specs.Operations.{Operation, Extract, Deliver, Answer, Permdown}
 use Rattle.node_core.specs.Nodes.{Node}
 use Rattle.journal_core.specs.Journals.{Kept}
 use Rattle.bench_core.specs.Clusters.{Cluster, message_at, step}
 
--- which dots matter: of each node's store, and of each message, by sender and number
+-- which dots matter: in each node's store, and in each message, by sender and number
 pub record Cares : Type 0 where
   pub at : ℕ → Dot → Bool
   pub of : ℕ → ℕ → Dot → Bool
 
--- a node's own dots matter to it too
+-- whether the dot matters to the node: its own dots matter, too
 abbrev pub kept : (Dot → Bool) → ℕ → Dot → Bool
 kept at own d = at d || (d.name == own)
 
@@ -30,7 +31,7 @@ pub record MessageAlike (asked : Dot → Bool) (m k : Message) : Type 0 where
   pub asks : k.asked ≡ m.asked
   pub store : StoreAlike asked (store_of m) (store_of k)
 
--- both are there, and so, or neither is
+-- both are there and R holds of them, or neither is there
 abbrev pub BothAre : {X : Type 0} → (X → X → Type 0) → Option X → Option X → Type 0
 BothAre R None None = Unit {0}
 BothAre R None (Some y) = ⊥
@@ -40,7 +41,7 @@ BothAre R (Some x) (Some y) = R x y
 abbrev pub SentAlike : (ℕ → Dot → Bool) → List Message → List Message → Type 0
 SentAlike of xs ys = (i : ℕ) → BothAre (MessageAlike (of i)) (numbered xs i) (numbered ys i)
 
--- but for its store, the replica is the same
+-- the replicas are the same, except for dots of the store that don't matter
 pub record ReplicaAlike (at : Dot → Bool) (r s : Replica) : Type 0 where
   pub store : Store
   pub is : s ≡ record r { store = store }
@@ -55,14 +56,14 @@ pub record ClusterAlike (t : Cares) (c d : Cluster) : Type 0 where
   pub long : length d ≡ length c
   pub each : (n : ℕ) → BothAre (NodeAlike (t.at n) (t.of n)) (slice_get c n) (slice_get d n)
 
--- what passes through a step
+-- what matters before a step and after it
 
 -- the names that a message asks for
 abbrev pub asked_of : Option Message → Option Names
 asked_of None = None
 asked_of (Some m) = m.asked
 
--- the names of which a step sends what its node has
+-- the names whose dots and entries a step sends from what its node has
 abbrev pub sends_of : Cluster → Operation → Option Names
 sends_of c (Extract names) = Some names
 sends_of c (Answer sender number) = asked_of (message_at c (Some (sender, number)))
@@ -73,19 +74,19 @@ abbrev pub forgets : Operation → ℕ → Bool
 forgets (Permdown name) n = n == name
 forgets _ n = false
 
--- what matters behind the step came of what matters before it
+-- what matters after the step comes from what matters before it
 pub record Narrows (c : Cluster) (k : Kept) (t u : Cares) : Type 0 where
-  -- of a store, but for what is forgotten
+  -- what matters in a store after the step mattered there before, unless the step forgets it
   pub at : (n : ℕ) (d : Dot) → ((n == k.node) && forgets k.step d.name) ≡ false → u.at n d ≡ true → t.at n d ≡ true
-  -- of a message that is there
+  -- what matters in a message that is there mattered in it before
   pub of : (n i : ℕ) (m : Message) → message_at c (Some (n, i)) ≡ Some m → (d : Dot) → u.of n i d ≡ true → t.of n i d ≡ true
-  -- a delivery brings it
+  -- what a delivery brings mattered in its message
   pub read : (sender number : ℕ) → k.step ≡ Deliver sender number → (d : Dot) → u.at k.node d ≡ true → t.of sender number d ≡ true
   -- what an extract or an answer sends was there
   pub sent : (x : Node) (names : Names) → slice_get c k.node ≡ Some x → sends_of c k.step ≡ Some names → (d : Dot) →
       u.of k.node (suc (length x.outbox)) d ≡ true → set.contains names d.name ≡ true → kept (t.at k.node) x.replica.own d ≡ true
 
--- what matters at the end came of what matters before these steps
+-- what matters at the end comes from what matters before these steps
 pub data Follows : Cluster → Cares → List Kept → Cares → Type 0 where
   Ends : (c : Cluster) (t : Cares) → Follows c t [] t
   Goes : (c : Cluster) (t : Cares) (k : Kept) (ks : List Kept) (u end : Cares) → Narrows c k t u →

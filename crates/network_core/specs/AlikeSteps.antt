@@ -1,4 +1,4 @@
--- Clusters that are alike as far as what matters goes stay so, step by step.
+-- Clusters that are alike in what matters stay so, step by step.
 use Rattle.std.specs.Prelude.{◌≡◌, ◌≢◌, List, Result, Ok, Err}
 use Rattle.journal_core.specs.Journals.{Kept}
 use Rattle.bench_core.specs.declared.fault.Fault.{Fault}
@@ -7,7 +7,7 @@ use Rattle.bench_core.specs.Clusters.{Cluster, step}
 use Rattle.bench_core.specs.Runs.{then_runs}
 use Rattle.network_core.specs.Alike.{Cares, ClusterAlike, Narrows, Follows}
 
--- both clusters took the step, and are alike; or both refuse it for one cause; or one of them is full
+-- both clusters took the step, and are alike; or both refuse it with one fault; or one of them is full
 pub data StepTogether (u : Cares) (one two : Result Cluster Fault) : Type 0 where
   IsFull : one ≡ Err EntriesFull → StepTogether u one two
   IsFullToo : two ≡ Err EntriesFull → StepTogether u one two
@@ -18,7 +18,7 @@ pub data StepTogether (u : Cares) (one two : Result Cluster Fault) : Type 0 wher
 abbrev pub StepLaw : Type 0
 StepLaw = (t u : Cares) (c d : Cluster) (k : Kept) → ClusterAlike t c d → Narrows c k t u → StepTogether u (step c k.node k.step) (step d k.node k.step)
 
--- steps that one can take, the other can, but for its entries, and they end alike
+-- if one cluster takes these steps, so does the other, unless it gets too many entries, and they end alike
 abbrev pub StepsLaw : Type 0
 StepsLaw =
     (t end : Cares) (c d e : Cluster) (ks : List Kept) → ClusterAlike t c d → Follows c t ks end → then_runs (Ok c) ks ≡ Ok e →

@@ -1,4 +1,4 @@
--- Which dots matter where in a run of the network, and when one beginning of it will do for another.
+-- Which dots matter where in a run of the network, and when one beginning of it serves for another.
 use Rattle.std.specs.Prelude.{◌≡◌, ℕ, suc, ◌+◌, ◌<◌, ◌≤◌, Bool, true, false, List, [], ◌∷◌, ◌++◌, filter, length, Some, Ok}
 use Rattle.std.specs.List.{AllByRecursion}
 use Rattle.std.specs.FinSet as set
@@ -15,7 +15,8 @@ use Rattle.network_core.specs.EasySteps.{GoesOn}
 use Rattle.network_core.specs.NetworkRuns.{IsNetworkRun, HaveSame, deliveries, how_many, is_delivery, is_of_kind, ordered}
 use Rattle.network_core.specs.Room.{made}
 
--- which dots matter: of each node's store, after a number of its steps other than deliveries, and of each message, by sender and number
+-- which dots matter: in each node's store, after a number of its steps other than deliveries, and in each message, by sender and
+-- number
 pub record Cone : Type 0 where
   pub at : ℕ → ℕ → Dot → Bool
   pub of : ℕ → ℕ → Dot → Bool
@@ -24,7 +25,7 @@ pub record Cone : Type 0 where
 abbrev pub position : List Kept → ℕ → ℕ
 position w n = length (ordered w n)
 
--- what matters behind these steps
+-- what matters after these steps
 abbrev pub cares : Cone → List Kept → Cares
 cares t w = record { at = λ n. t.at n (position w n); of = t.of }
 
@@ -38,34 +39,34 @@ says (Extract names) name = set.contains names name
 says (Answer sender number) name = true
 says _ name = false
 
--- what matters came of what mattered before, whatever the network made of the recorded run
+-- the cone is closed: what matters comes from what matters before it, whatever the network makes of the recorded run
 pub record IsCone (j : List Kept) (t : Cone) : Type 0 where
-  -- what matters to a node mattered to it before
+  -- what matters to a node after a step mattered to it before
   pub before : (n p : ℕ) (d : Dot) → t.at n (suc p) d ≡ true → t.at n p d ≡ true
-  -- what matters where a message is delivered matters of the message
+  -- what matters where a message is delivered matters in the message
   pub read : AllByRecursion (λ (k : Kept). (sender number : ℕ) → k.step ≡ Deliver sender number → (d : Dot) → t.at k.node 0 d ≡ true → t.of sender number d ≡ true) j
-  -- what matters of a message matters to the node that sends it, where it sends what it has, or is its own
+  -- what matters in a message matters to the node that sends it, if the node sends what it has, or is the node's own
   pub sent : (n : ℕ) (first rest : List Kept) (k : Kept) → ordered j n ≡ first ++ k ∷ rest → (d : Dot) → t.of n (sends_in first + 1) d ≡ true →
       says k.step d.name ≡ true → kept (t.at n (length first)) n d ≡ true
 
--- so what matters passes through all that can come
+-- in each run of the network, what matters after its steps comes from what matters before them
 abbrev pub ConeLaw : Type 0
 ConeLaw =
     (l : NodeLimits) (count : ℕ) (j : List Kept) (lost again : ℕ) (t : Cone) (first rest : List Kept) (c : Cluster) → IsCone j t →
     IsNetworkRun j lost again (first ++ rest) → runs l count first ≡ Ok c → Follows c (cares t first) rest (cares t (first ++ rest))
 
--- beginnings after which the same is left to be done
+-- beginnings after which the same is left to do
 pub record LeaveSame (first other : List Kept) : Type 0 where
   pub own : (n : ℕ) → ordered other n ≡ ordered first n
   pub delivered : HaveSame (deliveries other) (deliveries first)
 
--- a run of the network goes on so to a cluster like this, as far as what is asked at the end goes
+-- a run of the network that begins like this leads to a cluster which is alike to this one in what matters at the end
 pub record GoesLike (l : NodeLimits) (count : ℕ) (j : List Kept) (lost again : ℕ) (t : Cone) (first : List Kept) (c : Cluster) : Type 0 where
   pub end : Cluster
   pub alike : ClusterAlike (cares t j) c end
   pub goes : GoesOn l count j lost again first end
 
--- one beginning will do for another where the same is left to be done and the clusters are alike as far as what matters goes
+-- one beginning serves for another if the same is left to do and the clusters are alike in what matters
 abbrev pub StandsLaw : Type 0
 StandsLaw =
     (l : NodeLimits) (count : ℕ) (j : List Kept) (lost again : ℕ) (t : Cone) (first other : List Kept) (old new c : Cluster) → IsCone j t → made j ≤ l.entries →
@@ -78,7 +79,7 @@ pub record IsIdle (t : Cares) (c : Cluster) (node sender number : ℕ) : Type 0 
   pub there : message_at c (Some (sender, number)) ≡ Some message
   pub nothing : (d : Dot) → t.at node d ≡ true → set.contains message.seen d ≡ false
 
--- a delivery that is accepted, brings nothing that matters and did not come as often yet as was recorded can come first
+-- a delivery can come first if it is accepted, brings nothing that matters, and has come less often than it was recorded
 abbrev pub IdleLaw : Type 0
 IdleLaw =
     (l : NodeLimits) (count : ℕ) (j : List Kept) (lost again : ℕ) (t : Cone) (first : List Kept) (i node sender number : ℕ) (old new c : Cluster) → IsCone j t →
@@ -86,7 +87,7 @@ IdleLaw =
     how_many (is_of_kind node sender number) first < how_many (is_of_kind node sender number) j → GoesOn l count j lost again first c →
     GoesLike l count j lost again t (first ++ delivery i node sender number ∷ []) c
 
--- a step that its node takes next, at which nothing more is delivered, can come first where its message is there
+-- the next step of a node can come first if nothing more is delivered at the node and the step's message is there
 abbrev pub AloneLaw : Type 0
 AloneLaw =
     (l : NodeLimits) (count : ℕ) (j : List Kept) (lost again node : ℕ) (first more : List Kept) (k : Kept) (old new c : Cluster) → runs l count first ≡ Ok old →

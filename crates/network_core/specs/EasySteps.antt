@@ -1,4 +1,4 @@
--- Steps that can come before all that needs not come first: a node's own ones, and ups of names that it knows.
+-- Steps that can be taken first without missing an outcome: a node's own ones, and ups of names that it knows.
 use Rattle.std.specs.Prelude.{◌≡◌, ◌≢◌, ◌⊎◌, ℕ, ◌≤◌, Bool, true, false, List, [], ◌∷◌, ◌++◌, slice_get, Some, Ok, Err}
 use Rattle.std.specs.List.{AllByRecursion}
 use Rattle.replica_core.specs.declared.node_limits.NodeLimits.{NodeLimits}
@@ -12,7 +12,7 @@ use Rattle.bench_core.specs.Runs.{runs}
 use Rattle.network_core.specs.NetworkRuns.{IsNetworkRun, ordered}
 use Rattle.network_core.specs.Room.{made}
 
--- whether a step speaks of its node's own entries, its delta and the names that it knows, and of nothing else
+-- whether a step concerns only its node's own entries, its delta and the names that it knows
 abbrev pub is_own : Operation → Bool
 is_own (Join presence) = true
 is_own (Leave pid topic key) = true
@@ -26,7 +26,7 @@ is_own _ = false
 abbrev pub step_of : ℕ → ℕ → Operation → Kept
 step_of number node s = record { number = number; node = node; step = s }
 
--- a step that can come before deliveries of its node: an own one, or an up of a name that the node knows then
+-- a step that can come before deliveries at its node: an own one, or an up of a name that the node knows by then
 pub data IsEasy (l : NodeLimits) (count : ℕ) (first : List Kept) (node : ℕ) (s : Operation) : Type 0 where
   IsOwn : is_own s ≡ true → IsEasy l count first node s
   IsKnownUp : (name : ℕ) → s ≡ Up name →
@@ -36,21 +36,21 @@ pub data IsEasy (l : NodeLimits) (count : ℕ) (first : List Kept) (node : ℕ) 
 abbrev pub MayBeFirst : ℕ → Kept → Type 0
 MayBeFirst n k = (k.node ≢ n) ⊎ ((k.node ≡ n) × ((sender : ℕ) × ((message : ℕ) × (k.step ≡ Deliver sender message))))
 
--- an own step that comes behind deliveries at its node, and behind steps of others, can come before them all, where that
--- fills no node
+-- an own step after deliveries at its node and steps of other nodes can be moved before them all, unless that fills a node
 abbrev pub EagerLaw : Type 0
 EagerLaw =
     (l : NodeLimits) (count number node : ℕ) (first before rest : List Kept) (s : Operation) → IsEasy l count first node s → AllByRecursion (MayBeFirst node) before →
     ((xs ys : List Kept) (k : Kept) → before ≡ xs ++ k ∷ ys → runs l count ((first ++ xs) ++ step_of number node s ∷ k ∷ []) ≢ Err EntriesFull) → (c : Cluster) →
     runs l count (first ++ (before ++ step_of number node s ∷ rest)) ≡ Ok c → runs l count (first ++ step_of number node s ∷ (before ++ rest)) ≡ Ok c
 
--- a run of the network that goes on so leads to this cluster
+-- a run of the network that begins with these steps leads to this cluster
 pub record GoesOn (l : NodeLimits) (count : ℕ) (j : List Kept) (lost again : ℕ) (first : List Kept) (c : Cluster) : Type 0 where
   pub rest : List Kept
   pub is_run : IsNetworkRun j lost again (first ++ rest)
   pub ends : runs l count (first ++ rest) ≡ Ok c
 
--- where the next ordered step of a node is an easy one, it can come next of all: what a run can lead to, one leads to that begins with it
+-- if the next ordered step of a node is easy, it can come before all else: what a run can lead to, a run that begins with it
+-- leads to
 abbrev pub EagerStepLaw : Type 0
 EagerStepLaw =
     (l : NodeLimits) (count : ℕ) (j : List Kept) (lost again node : ℕ) (first more : List Kept) (k : Kept) (c : Cluster) →

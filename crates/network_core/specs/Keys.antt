@@ -1,9 +1,9 @@
--- What of two beginnings of a run of the network tells that their clusters are alike: how dots stand, as far as they matter.
+-- What shows that the clusters of two beginnings of a run of the network are alike: how the dots that matter stand.
 use Rattle.std.specs.Prelude.{◌≡◌, ℕ, ◌==◌, true, false, List, [], ◌∷◌, ◌++◌, slice_get, Option, Some, None, Ok}
 use Rattle.std.specs.Option.{option_to_list}
 use Rattle.dots_core.specs.declared.dot.Dot.{Dot}
 use Rattle.payload_core.specs.Messages.{Message, numbered}
-use Rattle.payload_core.specs.Stores.{standing, store_of}
+use Rattle.store_core.specs.Stores.{standing, store_of}
 use Rattle.replica_core.specs.declared.node_limits.NodeLimits.{NodeLimits}
 use Rattle.replica_core.specs.Replicas.{Replica, delta_message, opening, request_of}
 use Rattle.node_core.specs.Operations.{Operation, Broadcast, Extract, Request, Answer}
@@ -15,7 +15,7 @@ use Rattle.network_core.specs.Alike.{Cares, ClusterAlike}
 use Rattle.network_core.specs.Made.{own_after}
 use Rattle.network_core.specs.NetworkRuns.{ordered}
 
--- what a step sends, as far as its node's own steps tell it: the message; or that there is one, which has what the node holds; or nothing
+-- what a step sends, as far as its node's own steps decide it: this message; or one that has what the node holds; or nothing
 abbrev pub sent_own : Operation → Replica → Option (Option Message)
 sent_own Broadcast r = Some (Some (delta_message r))
 sent_own Request r = Some (Some (request_of r))
@@ -23,23 +23,24 @@ sent_own (Extract names) r = Some None
 sent_own (Answer sender number) r = Some None
 sent_own _ r = None
 
--- and several
+-- what several steps send
 abbrev pub own_sent : Replica → List Kept → List (Option Message)
 own_sent r [] = []
 own_sent r (k ∷ ks) = option_to_list (sent_own k.step r) ++ own_sent (own_after k.step r) ks
 
--- of a node that took these steps the messages, as far as they tell
+-- the messages that a node sent with these steps; `None` for a message that these steps don't decide
 abbrev pub sent_of : NodeLimits → ℕ → List Kept → List (Option Message)
 sent_of l n first = own_sent (opening n l) (ordered first n)
 
--- in both clusters the dots stand alike that matter, at nodes of other names and in messages that have what their nodes hold
+-- in both clusters the dots that matter stand alike: those of other names at nodes, and those in messages that have what their
+-- nodes hold
 pub record StandAlike (t : Cares) (l : NodeLimits) (first : List Kept) (c d : Cluster) : Type 0 where
   pub nodes : (n : ℕ) (x y : Node) → slice_get c n ≡ Some x → slice_get d n ≡ Some y → (q : Dot) → t.at n q ≡ true → (q.name == n) ≡ false →
       standing y.replica.store q ≡ standing x.replica.store q
   pub messages : (n i : ℕ) (x y : Node) (m k : Message) → slice_get c n ≡ Some x → slice_get d n ≡ Some y → numbered x.outbox i ≡ Some m → numbered y.outbox i ≡ Some k →
       numbered (sent_of l n first) i ≡ Some None → (q : Dot) → t.of n i q ≡ true → standing (store_of k) q ≡ standing (store_of m) q
 
--- so the clusters are alike, where each node took the same steps
+-- if each node took the same steps, clusters in which the dots that matter stand alike are alike
 abbrev pub StandAlikeLaw : Type 0
 StandAlikeLaw =
     (l : NodeLimits) (count : ℕ) (first other : List Kept) (t : Cares) (c d : Cluster) → runs l count first ≡ Ok c → runs l count other ≡ Ok d →

@@ -31,7 +31,7 @@ own_after (Up name) r = with_status name statuses.Up r
 own_after (Down name) r = with_status name statuses.Down r
 own_after (Permdown name) r = forgotten name r
 
--- and several
+-- what accepted steps make, one after another, of their node's own part
 abbrev pub own_from : Replica → List Kept → Replica
 own_from r [] = r
 own_from r (k ∷ ks) = own_from (own_after k.step r) ks
@@ -46,7 +46,7 @@ pub record IsMade (l : NodeLimits) (ks : List Kept) (d : Dot) (p : Presence) : T
   pub makes : presence_made k.step ≡ Some p
   pub at : d ≡ fresh (own_from (opening node l) before)
 
--- each entry of a node was made so
+-- each entry of a node was made by a step of the run
 abbrev pub MadeLaw : Type 0
 MadeLaw =
     (l : NodeLimits) (count : ℕ) (ks : List Kept) (c : Cluster) (n : ℕ) (x : Node) (d : Dot) (p : Presence) → runs l count ks ≡ Ok c → slice_get c n ≡ Some x →
@@ -58,11 +58,12 @@ FreshLaw =
     (l : NodeLimits) (count : ℕ) (ks : List Kept) (c : Cluster) (n : ℕ) (x : Node) → runs l count ks ≡ Ok c → slice_get c n ≡ Some x →
     fresh x.replica ≡ fresh (own_from (opening n l) (ordered ks n))
 
--- the dots of the topic and the key are wanted that the recorded run makes
+-- the dots that the recorded run makes under the topic and the key are wanted
 abbrev pub WantsMade : NodeLimits → List Kept → (Dot → Bool) → List ℕ → List ℕ → Type 0
 WantsMade l j wanted topic key = (d : Dot) (p : Presence) → IsMade l j d p → is_row_of topic key (row_of (d, p)) ≡ true → wanted d ≡ true
 
--- so they are at each end of a run of the network
+-- if the dots that the recorded run makes under the topic and the key are wanted, so are the dots of all entries under them at
+-- each end of a run of the network
 abbrev pub WantedLaw : Type 0
 WantedLaw =
     (l : NodeLimits) (count : ℕ) (j r : List Kept) (lost again n : ℕ) (wanted : Dot → Bool) (topic key : List ℕ) (c : Cluster) (x : Node) → WantsMade l j wanted topic key →

@@ -8,7 +8,7 @@ abbrev pub is_delivery : Operation → Bool
 is_delivery (Deliver sender number) = true
 is_delivery _ = false
 
--- whether a step is one of this node that the network has no hand in
+-- whether a step is one of this node, and no delivery
 abbrev pub is_ordered : ℕ → Kept → Bool
 is_ordered n k = (k.node == n) && not (is_delivery k.step)
 
@@ -16,11 +16,11 @@ is_ordered n k = (k.node == n) && not (is_delivery k.step)
 abbrev pub ordered : List Kept → ℕ → List Kept
 ordered ks n = filter (is_ordered n) ks
 
--- the deliveries
+-- the deliveries among these steps
 abbrev pub deliveries : List Kept → List Kept
 deliveries ks = filter (λ k. is_delivery k.step) ks
 
--- how many of the steps pass a test of their node and of what it does
+-- how many of the steps pass a test of the node and the operation
 abbrev pub how_many : (ℕ → Operation → Bool) → List Kept → ℕ
 how_many p ks = length (filter (λ k. p k.node k.step) ks)
 
@@ -29,13 +29,13 @@ abbrev pub is_of_kind : ℕ → ℕ → ℕ → ℕ → Operation → Bool
 is_of_kind node sender number n (Deliver s i) = (n == node) && ((s == sender) && (i == number))
 is_of_kind node sender number n _ = false
 
--- the lists have the same steps, as often, whatever their numbers: whatever the test, as many pass
+-- the lists have the same steps, each as often, whatever the numbers: for each test as many pass
 abbrev pub HaveSame : List Kept → List Kept → Type 0
 HaveSame ks js = (p : ℕ → Operation → Bool) → how_many p ks ≡ how_many p js
 
--- r is a run of the network, where j is what was recorded: what each node does besides deliveries is as in j, in the same
--- order; and the deliveries are those of j, each at its node, at any places, but for up to `lost` that are missing, and up to `again` that
--- come a second time. That it is possible is said apart: where it runs, no delivery stands before its send
+-- r is a run of the network if j is the recorded run: what each node does besides deliveries is as in j, in the same order; and
+-- the deliveries are those of j, each at its node, at any places; up to `lost` of them are missing, and up to `again` come a
+-- second time. Whether it is possible is said apart: if it runs, no delivery stands before its send
 pub record IsNetworkRun (j : List Kept) (lost again : ℕ) (r : List Kept) : Type 0 where
   pub own : (n : ℕ) → ordered r n ≡ ordered j n
   pub missing : List Kept
@@ -43,6 +43,6 @@ pub record IsNetworkRun (j : List Kept) (lost again : ℕ) (r : List Kept) : Typ
   pub once : List Kept
   pub few_missing : length missing ≤ lost
   pub few_repeated : length repeated ≤ again
-  -- what comes a second time is some of what was delivered
+  -- the deliveries that come a second time are some of those recorded
   pub of_these : HaveSame (repeated ++ once) (deliveries j)
   pub delivered : HaveSame (deliveries r ++ missing) (deliveries j ++ repeated)

@@ -11,7 +11,7 @@ use Rattle.bench_core.specs.Runs.{runs}
 abbrev pub makes : Operation → Bool
 makes s = is_some (presence_made s)
 
--- how many of the steps do
+-- how many of the steps make an entry
 abbrev pub made : List Kept → ℕ
 made [] = 0
 made (k ∷ ks) = if makes k.step then made ks + 1 else made ks

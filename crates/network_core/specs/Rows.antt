@@ -1,4 +1,4 @@
--- The rows of a topic and a key, which are read off the projection of the dots that have them.
+-- The rows of a topic and a key, which the dots that have them give.
 use Rattle.std.specs.Prelude.{◌≡◌, ℕ, ◌&&◌, Bool, true, List, filter}
 use Rattle.std.specs.List.{AllByRecursion}
 use Rattle.std.specs.FinMap as fin
@@ -19,11 +19,11 @@ is_row_of topic key row = bytes_eq row.topic topic && bytes_eq row.key key
 abbrev pub rows_of : List ℕ → List ℕ → Replica → List Row
 rows_of topic key r = filter (is_row_of topic key) (shown r)
 
--- and in the online list
+-- the rows of the topic and the key in the online list
 abbrev pub online_rows_of : List ℕ → List ℕ → Replica → List Row
 online_rows_of topic key r = filter (is_row_of topic key) (online_of r)
 
--- where the one are the same, the others are
+-- if the shown rows of the topic and the key are the same, so are those in the online lists
 abbrev pub OnlineRowsLaw : Type 0
 OnlineRowsLaw = (topic key : List ℕ) (r s : Replica) → rows_of topic key r ≡ rows_of topic key s → online_rows_of topic key r ≡ online_rows_of topic key s
 
@@ -32,7 +32,7 @@ abbrev pub AreWanted : (Dot → Bool) → List ℕ → List ℕ → Replica → 
 AreWanted wanted topic key r =
     AllByRecursion (λ (e : Dot × Presence). is_row_of topic key (row_of e) ≡ true → wanted e.0 ≡ true) (fin.entries r.store.entries)
 
--- replicas that are the same as far as these dots go show the same rows
+-- replicas that are the same in these dots show the same rows
 abbrev pub RowsLaw : Type 0
 RowsLaw =
     (wanted : Dot → Bool) (topic key : List ℕ) (r s : Replica) → ReplicaAlike wanted r s → AreWanted wanted topic key r → AreWanted wanted topic key s →

@@ -18,17 +18,17 @@ pub record IsGiven (l : NodeLimits) (count : ℕ) (ks : List Kept) (d : Dot) : T
   pub least : 1 ≤ d.clock
   pub most : d.clock ≤ own_clock (own_from (opening d.name l) (ordered ks d.name))
 
--- each dot that a node has seen is
+-- each dot that a node has seen is one that the own steps of its name's node give
 abbrev pub SeenLaw : Type 0
 SeenLaw =
     (l : NodeLimits) (count : ℕ) (ks : List Kept) (c : Cluster) (n : ℕ) (x : Node) (d : Dot) → runs l count ks ≡ Ok c → slice_get c n ≡ Some x →
     set.contains x.replica.store.seen d ≡ true → IsGiven l count ks d
 
--- all dots are wanted that a run of the network can see
+-- all dots that a run of the network can see are wanted
 abbrev pub WantsSeen : NodeLimits → List Kept → ℕ → (Dot → Bool) → Type 0
 WantsSeen l j count wanted = (d : Dot) → IsGiven l count j d → wanted d ≡ true
 
--- replicas at ends of runs of the network that are the same as far as all these go are the same
+-- if the replicas at two ends of runs of the network are the same in all dots that such a run can see, they are the same
 abbrev pub SameReplicaLaw : Type 0
 SameReplicaLaw =
     (l : NodeLimits) (count : ℕ) (j r s : List Kept) (lost again n : ℕ) (wanted : Dot → Bool) (c d : Cluster) (x y : Node) → WantsSeen l j count wanted →

@@ -1,4 +1,4 @@
--- A beginning of runs of the network is settled where whatever can come from it ends so that it was told.
+-- A beginning of runs of the network is settled if all that can come from it ends in outcomes that were found.
 use Rattle.std.specs.Prelude.{◌≡◌, ◌⊎◌, ℕ, ◌+◌, ◌≤◌, ◌<◌, length, Bool, true, false, List, [], ◌∷◌, ◌++◌, Ok}
 use Rattle.std.specs.List.{AllByRecursion}
 use Rattle.replica_core.specs.declared.node_limits.NodeLimits.{NodeLimits}
@@ -14,7 +14,8 @@ use Rattle.network_core.specs.Keys.{StandAlike}
 use Rattle.network_core.specs.NetworkRuns.{IsNetworkRun, how_many, is_delivery, is_of_kind, ordered}
 use Rattle.network_core.specs.Room.{made}
 
--- what is fixed of all runs of the network: the limits, the number of nodes, the recorded run, what may be lost and come again, what matters, and which clusters were told
+-- what all runs of the network have in common: the limits, the number of nodes, the recorded run, what may be lost and come
+-- again, what matters, and the clusters whose outcomes were found
 pub record Walk : Type 0 where
   pub limits : NodeLimits
   pub count : ℕ
@@ -30,13 +31,14 @@ pub record IsEnd (g : Walk) (c : Cluster) : Type 0 where
   pub is_run : IsNetworkRun g.recorded g.lost g.again run
   pub ends : runs g.limits g.count run ≡ Ok c
 
--- the recorded run fills no node, what matters passes through, and of ends that are alike as far as what is asked goes both are told or neither
+-- the recorded run fills no node, the cone is closed, and of two ends that are alike in what matters either both were found or
+-- neither
 pub record IsWalk (g : Walk) : Type 0 where
   pub room : made g.recorded ≤ g.limits.entries
   pub cone : IsCone g.recorded g.cone
   pub told : (c d : Cluster) → IsEnd g c → IsEnd g d → ClusterAlike (cares g.cone g.recorded) c d → g.told d ≡ true → g.told c ≡ true
 
--- whatever a run of the network that begins so leads to was told
+-- whatever a run of the network that begins like this leads to, was found
 abbrev pub IsSettled : Walk → List Kept → Type 0
 IsSettled g w = (c : Cluster) → GoesOn g.limits g.count g.recorded g.lost g.again w c → g.told c ≡ true
 
@@ -47,44 +49,45 @@ Ran g w c = runs g.limits g.count w ≡ Ok c
 abbrev pub IsNext : Walk → List Kept → Kept → Type 0
 IsNext g w k = (later : List Kept) × (ordered g.recorded k.node ≡ ordered w k.node ++ k ∷ later)
 
--- in no run of the network that begins so more is delivered at the node
+-- no run of the network that begins like this has another delivery at the node
 abbrev pub IsQuiet : Walk → List Kept → ℕ → Type 0
 IsQuiet g w n = (rest : List Kept) → IsNetworkRun g.recorded g.lost g.again (w ++ rest) → AllByRecursion (λ (x : Kept). x.node ≡ n → is_delivery x.step ≡ false) rest
 
 -- when a beginning is settled
 pub record SettleLaw : Type 0 where
-  -- its next step is easy, and behind it all is settled
+  -- the next step is easy, and after it all is settled
   pub easy : (g : Walk) (w : List Kept) (k : Kept) → IsWalk g → IsNext g w k → IsEasy g.limits g.count w k.node k.step → IsSettled g (w ++ k ∷ []) → IsSettled g w
-  -- nothing more is delivered at its node
+  -- the next step is one of a node at which nothing more is delivered, and after it all is settled
   pub alone : (g : Walk) (w : List Kept) (k : Kept) (c d : Cluster) → IsWalk g → IsNext g w k → IsQuiet g w k.node → Ran g w c → step c k.node k.step ≡ Ok d →
       IsSettled g (w ++ k ∷ []) → IsSettled g w
-  -- the next is a delivery of which nothing matters
+  -- the next is a delivery that brings nothing which matters, and after it all is settled
   pub idle : (g : Walk) (w : List Kept) (i node sender number : ℕ) (c d : Cluster) → IsWalk g → Ran g w c → IsIdle (cares g.cone w) c node sender number →
       step c node (Deliver sender number) ≡ Ok d → how_many (is_of_kind node sender number) w < how_many (is_of_kind node sender number) g.recorded →
       IsSettled g (w ++ delivery i node sender number ∷ []) → IsSettled g w
-  -- another one is, after which the same is left, and in which the dots that matter stand alike
+  -- another beginning is settled, after which the same is left to do and the dots that matter stand alike
   pub same : (g : Walk) (w v : List Kept) (c d : Cluster) → IsWalk g → Ran g w c → Ran g v d → LeaveSame w v → StandAlike (cares g.cone w) g.limits w c d → IsSettled g v → IsSettled g w
-  -- its last step is a delivery, and so it is with another number
+  -- the last step is a delivery, and the same beginning with another number for that step is settled
   pub renumbered : (g : Walk) (w : List Kept) (i j node sender number : ℕ) (c d : Cluster) → IsWalk g → Ran g w c → step c node (Deliver sender number) ≡ Ok d →
       IsSettled g (w ++ delivery i node sender number ∷ []) → IsSettled g (w ++ delivery j node sender number ∷ [])
-  -- the cluster was told, if nothing need come any more, and behind each step that can come all is settled
+  -- the cluster was found, if the run may end here, and after each step that can come all is settled
   pub all : (g : Walk) (w : List Kept) (c : Cluster) → Ran g w c → (IsNetworkRun g.recorded g.lost g.again w → g.told c ≡ true) →
       ((k : Kept) (d : Cluster) (rest : List Kept) → IsNetworkRun g.recorded g.lost g.again (w ++ k ∷ rest) → step c k.node k.step ≡ Ok d → IsSettled g (w ++ k ∷ [])) → IsSettled g w
 
--- a run of the network is no longer than the recorded one with what comes a second time
+-- a run of the network is no longer than the recorded run and what comes a second time
 abbrev pub LengthLaw : Type 0
 LengthLaw = (j r : List Kept) (lost again : ℕ) → IsNetworkRun j lost again r → length r ≤ length j + again
 
--- of a message as many deliveries came to a node as were recorded, and none comes a second time
+-- as many deliveries of a message came to a node as were recorded, and none comes a second time
 pub record IsSpent (g : Walk) (w : List Kept) (n sender number : ℕ) : Type 0 where
   pub came : how_many (is_of_kind n sender number) g.recorded ≤ how_many (is_of_kind n sender number) w
   pub last : (g.again ≡ 0) ⊎ (how_many (is_of_kind n sender number) g.recorded ≡ 0)
 
--- where that is so of each message, nothing more is delivered at the node
+-- if as many deliveries of each message came to a node as can come, nothing more is delivered there
 abbrev pub QuietLaw : Type 0
 QuietLaw = (g : Walk) (w : List Kept) (n : ℕ) → ((sender number : ℕ) → IsSpent g w n sender number) → IsQuiet g w n
 
--- what is delivered next was recorded, and of it no more came yet than twice as many as were recorded; as many, where nothing comes a second time
+-- what is delivered next was recorded, and came less than twice as often as it was recorded; if nothing comes a second time, less
+-- often than it was recorded
 pub record MayCome (g : Walk) (w : List Kept) (n sender number : ℕ) : Type 0 where
   pub recorded : 0 < how_many (is_of_kind n sender number) g.recorded
   pub twice : how_many (is_of_kind n sender number) w < how_many (is_of_kind n sender number) g.recorded + how_many (is_of_kind n sender number) g.recorded

@@ -12,7 +12,7 @@ ghost use Rattle.network_core.specs.Rows.{OnlineRowsLaw, RowsLaw};
 ghost use Rattle.network_core.specs.Seen.{SameReplicaLaw, SeenLaw};
 ghost use Rattle.network_core.specs.Settling.{LengthLaw, NextDeliveryLaw, QuietLaw, SettleLaw};
 
-/// A delivery past a join, a leave, an update, a status of a known name, a broadcast and a request of its node.
+/// A delivery can pass a join, a leave, an update, a status of a known name, a broadcast and a request of its node.
 pub fn own_law()
     ensures { OwnLaw }
 {}
@@ -22,41 +22,44 @@ pub fn never_full_law()
     ensures { NeverFullLaw }
 {}
 
-/// An easy step of a node can come before all deliveries at its node, and before all steps of others, behind which it comes.
+/// An easy step of a node can be moved before the deliveries at its node and the steps of other nodes that stand before
+/// it.
 pub fn easy_law()
     ensures in_runs { EagerLaw }
     ensures in_network_runs { EagerStepLaw }
 {}
 
-/// Clusters that are alike as far as what matters goes stay so, and refuse the same steps.
+/// Clusters that are alike in what matters stay so, and refuse the same steps.
 pub fn alike_law()
     ensures step { StepLaw }
     ensures steps { StepsLaw }
 {}
 
-/// Where the entries of a run were made, and that the recorded run tells it.
+/// Each entry in a run was made by a join or an update of its node, at a dot that the node's own steps give. So the
+/// recorded run tells which entries there can be.
 pub fn made_law()
     ensures made { MadeLaw }
     ensures wanted { WantedLaw }
     ensures fresh { FreshLaw }
 {}
 
-/// The dots that nodes have seen are those that the own steps of the recorded run give; and replicas that are the same as far as those
-/// go are the same.
+/// The dots that nodes have seen are those that the own steps of the recorded run give. Replicas that are the same in
+/// these dots are the same.
 pub fn seen_law()
     ensures seen { SeenLaw }
     ensures same { SameReplicaLaw }
 {}
 
-/// The rows of a topic and a key, as far as the dots go that have them; and so they are in the online list.
+/// Replicas that are the same in the dots of a topic and a key show the same rows of these, also in their online lists.
 pub fn rows_law()
     ensures shown { RowsLaw }
     ensures online { OnlineRowsLaw }
 {}
 
-/// What matters passes through all that can come. So one beginning of a run of the network will do for another, where the same is
-/// left to be done and the clusters are alike; a delivery of which nothing matters can come first; and so can the next step of a
-/// node at which nothing more is delivered, where its message is there.
+/// In each run of the network, what matters after a step comes from what matters before it. So one beginning of a run
+/// serves for another, if the same is left to be done and the clusters are alike. A delivery that brings nothing which
+/// matters can come first, and so can the next step of a node at which nothing more is delivered, if its message is
+/// there.
 pub fn cone_law()
     ensures passes { ConeLaw }
     ensures stands { StandsLaw }
@@ -64,18 +67,19 @@ pub fn cone_law()
     ensures alone { AloneLaw }
 {}
 
-/// Clusters in which the dots that matter stand alike are alike, where each node took the same steps.
+/// If each node took the same steps, clusters in which the dots that matter stand alike are alike.
 pub fn keys_law()
     ensures { StandAlikeLaw }
 {}
 
-/// When all that can come from a beginning of runs of the network ends so that it was told; and how long such runs are.
+/// When all that can come from a beginning of runs of the network ends in outcomes that were found; and how long such
+/// runs are.
 pub fn settle_law()
     ensures settled { SettleLaw }
     ensures length { LengthLaw }
 {}
 
-/// What of the deliveries of a message at a node is left.
+/// Which deliveries of a message at a node are left.
 pub fn next_law()
     ensures quiet { QuietLaw }
     ensures next { NextDeliveryLaw }

@@ -13,17 +13,17 @@ use Rattle.network_rules.specs.declared.turn.Turn.{Turn}
 use Rattle.network_rules.specs.Tables.{is_wanted, matter, Tables}
 use Rattle.network_rules.specs.Turns.{count_at}
 
--- the step speaks of its node's own entries, its delta and names that it knows alone
+-- the step concerns only its node's own entries, its delta and names that it knows
 pub data IsEasyAt (c : Cluster) (node : ℕ) (s : Operation) : Type 0 where
   IsOwn : is_own s ≡ true → IsEasyAt c node s
   IsKnownUp : (name : ℕ) → s ≡ Up name → ((x : Node) → slice_get c node ≡ Some x → is_known x.replica name ≡ true) → IsEasyAt c node s
 
--- of the dots that are asked for the message has none of these names, but its own node's
+-- the message has none of the dots of these names that are asked for, other than the node's own
 abbrev pub BringsNone : List Dot → Names → ℕ → Message → Type 0
 BringsNone dots names own m =
     (d : Dot) → is_wanted dots d ≡ true → (d.name == own) ≡ false → set.contains names d.name ≡ true → set.contains m.seen d ≡ false
 
--- a delivery was recorded once more than it came, is there, and brings nothing that matters
+-- one more delivery than came was recorded, its message is there, and it brings nothing that matters
 pub record IsIdleAt (c : Cluster) (tables : Tables) (ts : List Turn) (counts : List ℕ) (node place sender number : ℕ) : Type 0 where
   pub turn : Turn
   pub found : slice_get ts place ≡ Some turn

@@ -1,10 +1,10 @@
--- What a state is told by: how often each turn came, and how dots stand that matter, at nodes and in messages.
+-- What decides what can come of a state: how often each turn came, and how the dots that matter stand, at nodes and in messages.
 use Rattle.std.specs.Prelude.{ℕ, zero, suc, ◌==◌, ◌&&◌, not, nat_lt, Bool, true, false, if◌then◌else◌, List, [], ◌∷◌, ◌++◌, length, map, slice_get, Option, Some, None}
 use Rattle.std.specs.FinSet as set
 use Rattle.dots_core.specs.declared.dot.Dot.{Dot}
 use Rattle.dots_core.specs.Names.{Names}
 use Rattle.payload_core.specs.Messages.{Message}
-use Rattle.payload_core.specs.Stores.{standing, store_of}
+use Rattle.store_core.specs.Stores.{standing, store_of}
 use Rattle.node_core.specs.Operations.{Operation, Extract, Answer}
 use Rattle.node_core.specs.Nodes.{Node}
 use Rattle.journal_core.specs.Journals.{Kept}
@@ -18,7 +18,7 @@ pub data Query : Type 0 where
   AtNode : (n : ℕ) (d : Dot) → Query
   InMessage : (n i : ℕ) (d : Dot) → Query
 
--- 3 where the node or the message isn't there
+-- how a dot stands at a node or in a message; 3 if the node or the message isn't there
 abbrev pub at_node : Option Node → Dot → ℕ
 at_node None d = 3
 at_node (Some x) d = standing x.replica.store d
@@ -34,7 +34,7 @@ answer c (InMessage n i d) = in_message (message_at c (Some (n, i))) d
 abbrev pub answers : Cluster → List Query → List ℕ
 answers c qs = map (answer c) qs
 
--- of the first dots those that matter at a node
+-- for the first dots: those that matter at a node
 abbrev pub node_query : ℕ → Names → Option Dot → List Query
 node_query n names None = []
 node_query n names (Some d) = if not (d.name == n) && set.contains names d.name then AtNode n d ∷ [] else []
@@ -51,7 +51,7 @@ abbrev pub message_queries : List Dot → ℕ → ℕ → Names → ℕ → List
 message_queries dots n number names zero = []
 message_queries dots n number names (suc i) = message_queries dots n number names i ++ message_query n number names (slice_get dots i)
 
--- of the first nodes
+-- for the first nodes
 unfoldable pub queries_at_nodes : Tables → List ℕ → ℕ → List Query
 queries_at_nodes t cs zero = []
 queries_at_nodes t cs (suc n) = queries_at_nodes t cs n ++ node_queries t.dots n (matter t n (count_at cs n)) (length t.dots)
@@ -68,7 +68,7 @@ sent_queries t cs (Some k) None = []
 sent_queries t cs (Some k) (Some x) =
     if sends_held k.step && nat_lt x.before (count_at cs k.node) then message_queries t.dots k.node x.number (carried t k.node x.number) (length t.dots) else []
 
--- of the messages that the first steps sent, if they came
+-- for the messages that the first steps sent, if these steps came
 unfoldable pub queries_of_messages : Tables → List Kept → List Rank → List ℕ → ℕ → List Query
 queries_of_messages t steps ranks cs zero = []
 queries_of_messages t steps ranks cs (suc p) = queries_of_messages t steps ranks cs p ++ sent_queries t cs (slice_get steps p) (slice_get ranks p)

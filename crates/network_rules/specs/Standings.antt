@@ -3,7 +3,7 @@ use Rattle.std.specs.Prelude.{ℕ}
 use Rattle.dots_core.specs.declared.dot.Dot.{Dot}
 use Rattle.dots_core.specs.Dots.{Dots}
 use Rattle.payload_core.specs.Presences.{Entries}
-use Rattle.payload_core.specs.Stores.{standing}
+use Rattle.store_core.specs.Stores.{standing}
 
 abbrev pub standing_in : Dots → Entries → Dot → ℕ
 standing_in seen entries dot = standing (record { seen = seen; entries = entries }) dot

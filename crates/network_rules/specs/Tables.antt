@@ -1,4 +1,4 @@
--- Which names matter where, as tables, and the dots that are asked for.
+-- Which names matter where, as tables; and the dots that are asked for.
 use Rattle.std.specs.Prelude.{◌≡◌, ℕ, suc, ◌-◌, ◌<◌, ◌==◌, ◌&&◌, Bool, true, false, List, length, slice_get, Option, Some, None, refl}
 use Rattle.std.specs.Coded.{Coded, code_by, coded×, coded_ℕ, coded_list}
 use Rattle.std.specs.List.{list_any}
@@ -15,8 +15,8 @@ use Rattle.network_rules.specs.declared.turn.Rank.{Rank}
 use Rattle.network_rules.specs.declared.turn.Turn.{Turn}
 use Rattle.network_rules.specs.NameSets.{all_names}
 
--- the dots that are asked for; of each node, behind each number of its own steps, the names whose dots matter there; and of each
--- node and each of its messages the names whose dots matter of it
+-- the dots that are asked for; for each node, after each number of its own steps, the names whose dots matter there; and for each
+-- message of a node the names whose dots matter in it
 pub record Tables : Type 0 where
   pub dots : List Dot
   pub matters : List (List Names)
@@ -30,7 +30,7 @@ tables_code =
     code_by (List Dot × (List (List Names) × List (List Names))) (coded× (coded_list dot_code) (coded× rows_code rows_code))
     (λ t. (t.dots, (t.matters, t.carries))) (λ p. record { dots = p.0; matters = p.1.0; carries = p.1.1 }) (λ _. refl)
 
--- the names at a place of a row; behind its end those at its last one; all, where there is no row
+-- the names at a place of a row; past its end, those at its last place; all names, if there is no row
 abbrev pub in_row : Option (List Names) → ℕ → Names
 in_row None place = all_names
 in_row (Some row) place = unwrap_or (slice_get row place) (unwrap_or (slice_get row (length row - 1)) all_names)
@@ -42,7 +42,7 @@ names_at rows n place = in_row (slice_get rows n) place
 abbrev pub matter : Tables → ℕ → ℕ → Names
 matter t n taken = names_at t.matters n taken
 
--- what matters of a message, by its number from 1
+-- what matters in a message, by its number from 1
 abbrev pub carried : Tables → ℕ → ℕ → Names
 carried t n number = names_at t.carries n (number - 1)
 
@@ -57,7 +57,8 @@ is_wanted dots d = list_any (λ e. same_dot e d) dots
 abbrev pub Within : Names → Names → Type 0
 Within one other = (q : ℕ) → set.contains one q ≡ true → set.contains other q ≡ true
 
--- what is needed where a step stands: a message has what matters where it is delivered; and what it sends of what its node has matters there
+-- what the tables need at a step: a message that it delivers has what matters there; and what it sends of what its node has
+-- matters to the node
 pub record KeepsAt (t : Tables) (k : Kept) (x : Rank) : Type 0 where
   pub read : (sender number : ℕ) → k.step ≡ Deliver sender number → Within (matter t k.node 0) (carried t sender number)
   pub sent : is_delivery k.step ≡ false → (q : ℕ) → set.contains (carried t k.node x.number) q ≡ true → says k.step q ≡ true → set.contains (matter t k.node x.before) q ≡ true
@@ -67,19 +68,19 @@ pub record IsClosed (steps : List Kept) (ranks : List Rank) (t : Tables) : Type 
   pub falls : (n p : ℕ) → Within (matter t n (suc p)) (matter t n p)
   pub keeps : (place : ℕ) (k : Kept) (x : Rank) → slice_get steps place ≡ Some k → slice_get ranks place ≡ Some x → KeepsAt t k x
 
--- all that is asked for matters to this node after `taken` of its own steps
+-- all dots that are asked for matter to this node after `taken` of its own steps
 abbrev pub IsAsked : Tables → ℕ → ℕ → Type 0
 IsAsked t n taken = (d : Dot) → is_wanted t.dots d ≡ true → set.contains (matter t n taken) d.name ≡ true
 
--- whether it is asked what this node has: one node is asked for, or all are
+-- whether the question is about this node: about it alone, or about all
 abbrev pub asks : Option ℕ → ℕ → Bool
 asks None n = true
 asks (Some node) n = node == n
 
--- all dots that are asked for matter to this node behind all its own steps, if it is asked what it has
+-- if the question is about this node, every dot that is asked for matters to it after all its own steps
 abbrev pub IsAskedAt : List Turn → Option ℕ → ℕ → Tables → Type 0
 IsAskedAt ts asked n t = asks asked n ≡ true → (turn : Turn) → slice_get ts n ≡ Some turn → IsAsked t n turn.recorded
 
--- and so of each node
+-- every dot that is asked for matters, after all its own steps, to each node that the question is about
 abbrev pub AreAllAsked : List Turn → ℕ → Option ℕ → Tables → Type 0
 AreAllAsked ts count asked t = (n : ℕ) → n < count → IsAskedAt ts asked n t

@@ -6,7 +6,7 @@ use Rattle.journal_core.specs.Journals.{Kept}
 use Rattle.network_rules.specs.declared.turn.Turn.{Turn}
 use Rattle.network_rules.specs.declared.turn.Rank.{Rank}
 
--- the message that a step delivers that answers nothing
+-- the message that a step delivers, unless the step is an answer
 abbrev pub delivery_of : Operation → Option (ℕ × ℕ)
 delivery_of (Deliver sender number) = Some (sender, number)
 delivery_of _ = None
@@ -21,21 +21,21 @@ same_message (Some m) (Some n) = (n.0 == m.0) && (n.1 == m.1)
 abbrev pub is_of : Turn → Kept → Bool
 is_of t k = (k.node == t.node) && same_message t.delivers (delivery_of k.step)
 
--- of the turn at a place, how often it came
+-- how often the turn at a place came
 abbrev pub count_at : List ℕ → ℕ → ℕ
 count_at cs i = unwrap_or (slice_get cs i) 0
 
--- how many steps came that were not recorded so often, of turns that stand from a place on
+-- how many steps came beyond those that were recorded, in the turns from a place on
 unfoldable pub extra : List Turn → List ℕ → ℕ → ℕ
 extra [] cs i = 0
 extra (t ∷ ts) cs i = (count_at cs i - t.recorded) + extra ts cs (suc i)
 
--- how many are missing
+-- how many recorded steps are missing, in the turns from a place on
 unfoldable pub missing : List Turn → List ℕ → ℕ → ℕ
 missing [] cs i = 0
 missing (t ∷ ts) cs i = (t.recorded - count_at cs i) + missing ts cs (suc i)
 
--- of each node all own steps came, and no delivery more than twice as often as it was recorded
+-- whether a turn is whole: all own steps of its node came, or its delivery came at most twice as often as it was recorded
 abbrev pub is_whole_by : Option (ℕ × ℕ) → ℕ → ℕ → Bool
 is_whole_by None recorded count = nat_le recorded count
 is_whole_by (Some m) recorded count = nat_le (count - recorded) recorded
@@ -44,12 +44,12 @@ unfoldable pub is_whole : List Turn → List ℕ → ℕ → Bool
 is_whole [] cs i = true
 is_whole (t ∷ ts) cs i = is_whole_by t.delivers t.recorded (count_at cs i) && is_whole ts cs (suc i)
 
--- whether nothing need come any more
+-- whether a run may end here, since all that must come has come
 abbrev pub is_end : List Turn → List ℕ → ℕ → ℕ → Bool
 is_end ts cs lost again = is_whole ts cs 0 && (nat_le (missing ts cs 0) lost && nat_le (extra ts cs 0) again)
 
--- whether this step is the next of its turn, and may come: a step of `recorded` recorded ones, with `before` of them before it, where `count` came,
--- and where one more may come again or not
+-- whether this step is the next of its turn and may come: `recorded` steps of the turn were recorded, `before` of them stand
+-- before it, `count` came, and `more` says whether one more may come again
 abbrev pub is_next_by : Option (ℕ × ℕ) → ℕ → ℕ → ℕ → Bool → Bool
 is_next_by None recorded before count more = before == count
 is_next_by (Some m) recorded before count more =
@@ -67,7 +67,7 @@ is_next_at ts counts again (Some x) = is_next_of (slice_get ts x.turn) x.before 
 abbrev pub is_next : List Turn → List Rank → List ℕ → ℕ → ℕ → Bool
 is_next ts ranks counts again place = is_next_at ts counts again (slice_get ranks place)
 
--- of no message more is delivered at the node
+-- no message is delivered at the node any more
 abbrev pub AreSpent : List Turn → List ℕ → ℕ → ℕ → Type 0
 AreSpent ts cs again node =
     (i : ℕ) (t : Turn) → slice_get ts i ≡ Some t → t.node ≡ node → is_some t.delivers ≡ true → (again ≡ 0) × (t.recorded ≤ count_at cs i)

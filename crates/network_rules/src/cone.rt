@@ -1,4 +1,4 @@
-//! `Cone`: which names matter where. Of what a node has seen, after some of its own steps, and of a message.
+//! `Cone`: which names matter where: in what a node has seen, after each number of its own steps, and in a message.
 ghost use Rattle.std.specs.Prelude.{◌≡◌, ◌<◌, ℕ, List, map, suc, true, IsTrue, Some, slice_get};
 ghost use Rattle.std.specs.FinSet.{contains};
 ghost use Rattle.std.specs.List.{AllByRecursion};
@@ -17,16 +17,16 @@ use dots_core::{Dot, NameSet};
 use std::alloc::Allocator;
 use std::marker::Model;
 
-/// Of each node a list of sets of names.
+/// For each node a list of sets of names.
 pub type Rows<A> = Vec<Vec<NameSet, A>, A>;
 
 /// The dots that are asked for, and which names matter where.
 #[derive(Drop)]
 pub struct Cone<'a, B: Allocator> {
     dots: Vec<Dot, &'a B>,
-    /// Of each node, behind each number of its own steps, the names whose dots matter there.
+    /// For each node, after each number of its own steps, the names whose dots matter there.
     matters: Rows<&'a B>,
-    /// Of each node and each of its messages the names whose dots matter of it.
+    /// For each node and each of its messages, the names whose dots matter in it.
     carries: Rows<&'a B>,
 }
 
@@ -64,7 +64,7 @@ fn names_at<A: Allocator>(rows: &[Vec<NameSet, A>], node: usize, place: usize) -
     }
 }
 
-/// The names that a step sends of what its node has, if they matter of the message.
+/// The names among those carried that a step sends from what its node has.
 pub fn said<A: Allocator>(step: &Step<A>, carried: NameSet) -> NameSet
     ensures { (q : ℕ) → contains carried q ≡ true → says (plain step.now) q ≡ true → contains result q ≡ true }
 {
@@ -93,7 +93,7 @@ impl<'a, B: Allocator> Cone<'a, B> {
         names_at(self.matters.as_slice(), node as usize, taken)
     }
 
-    /// The names that matter of a message of a node, by its number from 1.
+    /// The names that matter in a message of a node, by its number from 1.
     pub fn carried(&self, node: u16, number: u64) -> NameSet
         ensures { result ≡ carried self.now node number }
     {
@@ -104,14 +104,14 @@ impl<'a, B: Allocator> Cone<'a, B> {
         )
     }
 
-    /// Whether no row has a name that is missing right before.
+    /// Whether each set of a row has all names of the next one.
     fn falls(&self) -> bool
         ensures { IsTrue result → (n p : ℕ) → Within (matter self.now n (suc p)) (matter self.now n p) }
     {
         are_falling(self.matters.as_slice())
     }
 
-    /// Whether nothing is left out where this step stands.
+    /// Whether the cone leaves nothing out at this step.
     fn keeps_at<A: Allocator>(&self, kept: &Kept<A>, rank: Rank) -> bool
         ensures { IsTrue result → KeepsAt self.now kept.now rank }
     {
@@ -126,7 +126,7 @@ impl<'a, B: Allocator> Cone<'a, B> {
         }
     }
 
-    /// The same of the step at a place.
+    /// As `keeps_at`, for the step at a place.
     fn keeps_place<A: Allocator>(&self, steps: &[Kept<A>], ranks: &[Rank], place: usize) -> bool
         ensures { IsTrue result → (k : PlainKept) (x : PlainRank) → slice_get steps.now place ≡ Some k → slice_get ranks.now place ≡ Some x → KeepsAt self.now k x }
     {
@@ -139,7 +139,7 @@ impl<'a, B: Allocator> Cone<'a, B> {
         self.keeps_at(kept, *rank)
     }
 
-    /// Whether nothing is left out where steps stand.
+    /// Whether the cone leaves nothing out at any of the steps.
     fn keeps_all<A: Allocator>(&self, steps: &[Kept<A>], ranks: &[Rank]) -> bool
         ensures { IsTrue result → (place : ℕ) (k : PlainKept) (x : PlainRank) → slice_get steps.now place ≡ Some k → slice_get ranks.now place ≡ Some x → KeepsAt self.now k x }
     {
@@ -151,21 +151,21 @@ impl<'a, B: Allocator> Cone<'a, B> {
         true
     }
 
-    /// Whether nothing is left out.
+    /// Whether the cone leaves nothing out.
     fn is_closed<A: Allocator>(&self, steps: &[Kept<A>], ranks: &[Rank]) -> bool
         ensures { IsTrue result → IsClosed steps.now ranks.now self.now }
     {
         self.falls() && self.keeps_all(steps, ranks)
     }
 
-    /// Whether all that is asked for matters to this node after `taken` of its own steps.
+    /// Whether all dots that are asked for matter to this node after `taken` of its own steps.
     fn is_asked(&self, node: u16, taken: usize) -> bool
         ensures { IsTrue result → IsAsked self.now node taken }
     {
         have_all(self.dots(), self.matter(node, taken))
     }
 
-    /// The same of a node, behind all its own steps, if it is asked what it has.
+    /// As `is_asked`, for a node after all its own steps, if the question is about the node.
     fn is_asked_at(&self, turns: &[Turn], asked: Option<u16>, node: u16) -> bool
         ensures { IsTrue result → IsAskedAt turns.now asked node self.now }
     {
@@ -175,7 +175,7 @@ impl<'a, B: Allocator> Cone<'a, B> {
         self.is_asked(node, recorded(turns, node))
     }
 
-    /// The same of each node that it is asked of.
+    /// As `is_asked_at`, for each of the first `count` nodes.
     fn are_asked(&self, turns: &[Turn], count: u16, asked: Option<u16>) -> bool
         ensures { IsTrue result → AreAllAsked turns.now count asked self.now }
     {
@@ -188,7 +188,7 @@ impl<'a, B: Allocator> Cone<'a, B> {
     }
 }
 
-/// Whether it is asked what this node has: one node is asked for, or all are.
+/// Whether the question is about this node: about it alone, or about all.
 fn asks(asked: Option<u16>, number: u16) -> bool
     ensures { result ≡ asks asked number }
 {
@@ -208,7 +208,7 @@ fn recorded(turns: &[Turn], place: u16) -> usize
     }
 }
 
-/// Whether the names have those of all dots.
+/// Whether the name of each dot is among these names.
 fn have_all(dots: &[Dot], names: NameSet) -> bool
     ensures { IsTrue result → (d : PlainDot) → is_wanted dots.now d ≡ true → contains names d.name ≡ true }
 {
@@ -244,8 +244,8 @@ fn is_falling(row: &[NameSet]) -> bool
     true
 }
 
-/// The names that were found to matter, for these dots at the end of the node that is asked for, or of all; where they leave something
-/// out, all names.
+/// The cone of these dots, with the names that were found to matter at the end of the node that is asked about, or of
+/// all. If they leave something out, all names matter.
 pub fn cone_of<'a, B: Allocator>(
     steps: &[Kept<&'a B>],
     dots: Vec<Dot, &'a B>,

@@ -1,4 +1,4 @@
-//! Steps that can come before all that needs not come first, by the present cluster.
+//! Steps that can be taken first without missing an outcome, by the present cluster.
 ghost use Rattle.std.specs.Prelude.{◌≡◌, ◌==◌, false, true, IsTrue};
 ghost use Rattle.std.specs.FinSet.{contains};
 ghost use Rattle.node_core.specs.Operations.{plain, Up};
@@ -13,7 +13,7 @@ use dots_core::{Dot, NameSet};
 use payload_core::Payload;
 use std::alloc::Allocator;
 
-/// Whether a step speaks of its node's own entries, its delta and names that it knows alone.
+/// Whether a step concerns only its node's own entries, its delta and names that it knows.
 pub fn is_easy<'a, B: Allocator>(cluster: &Cluster<'a, B>, node: u16, step: &Step<&'a B>) -> bool
     ensures { IsTrue result → IsEasyAt cluster.now node (plain step.now) }
 {
@@ -54,14 +54,14 @@ fn knows<'a, B: Allocator>(cluster: &Cluster<'a, B>, node: u16, name: u16) -> bo
     }
 }
 
-/// Whether a message has nothing of this dot that matters; what it has of the node's own is no news there.
+/// Whether a message brings nothing of this dot that matters. The node's own dots are no news to it.
 fn is_no_news<A: Allocator>(dot: Dot, message: &Payload<A>, names: NameSet, own: u16) -> bool
     ensures { IsTrue result → (dot.name == own) ≡ false → contains names dot.name ≡ true → contains message.now.seen dot ≡ false }
 {
     dot.name == own || !names.has(dot.name) || !message.seen().contains(dot)
 }
 
-/// Whether the message has nothing of these names that is asked for.
+/// Whether the message brings none of the dots of these names that are asked for.
 fn brings_none<A: Allocator>(dots: &[Dot], message: &Payload<A>, names: NameSet, own: u16) -> bool
     ensures { IsTrue result → BringsNone dots.now names own message.now }
 {
@@ -73,7 +73,7 @@ fn brings_none<A: Allocator>(dots: &[Dot], message: &Payload<A>, names: NameSet,
     true
 }
 
-/// Whether a delivery of this turn was recorded once more, is there, and would change nothing that matters.
+/// Whether another delivery of this turn was recorded, its message is there, and it would change nothing that matters.
 pub fn is_idle<'a, B: Allocator>(
     cluster: &Cluster<'a, B>,
     cone: &Cone<'a, B>,

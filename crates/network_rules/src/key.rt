@@ -1,4 +1,4 @@
-//! `Key`: what of a state tells what can come of it.
+//! `Key`: what decides what can come of a state.
 ghost use Rattle.std.specs.Prelude.{◌≡◌, ◌++◌, IfOk, OnOk, Some, length, option_map, slice_get};
 ghost use Rattle.std.specs.Option.{option_copied};
 ghost use Rattle.node_core.specs.Operations.{plain};
@@ -16,10 +16,10 @@ use node_core::Oom;
 use payload_core::{EntrySet, Payload};
 use std::alloc::Allocator;
 
-/// How often each turn came, and how dots stand, at nodes and in messages, as far as they matter.
+/// How often each turn came, and how the dots that matter stand, at nodes and in messages.
 pub type Key<A> = Vec<usize, A>;
 
-/// 1 where it has its entry, 2 where its entry went, 0 where it was not seen.
+/// How a dot stands: 1 where it has its entry, 2 where its entry went, 0 where it was not seen.
 fn standing<A: Allocator>(seen: &DotSet<A>, entries: &EntrySet<A>, dot: Dot) -> usize
     ensures { result ≡ standing_in seen.now entries.now.map dot }
 {
@@ -32,7 +32,7 @@ fn standing<A: Allocator>(seen: &DotSet<A>, entries: &EntrySet<A>, dot: Dot) -> 
     0
 }
 
-/// How a dot stands at a node.
+/// How a dot stands at a node; 3 if there is no node.
 fn at_node<'a, B: Allocator>(node: Option<&Node<'a, B>>, dot: Dot) -> usize
     ensures { result ≡ at_node (option_map (λ n. n.now) node.entry) dot }
 {
@@ -42,7 +42,7 @@ fn at_node<'a, B: Allocator>(node: Option<&Node<'a, B>>, dot: Dot) -> usize
     }
 }
 
-/// How it stands in a message.
+/// How a dot stands in a message; 3 if there is no message.
 fn in_message<A: Allocator>(message: Option<&Payload<A>>, dot: Dot) -> usize
     ensures { result ≡ in_message (option_map (λ m. m.now) message.entry) dot }
 {
@@ -63,7 +63,7 @@ pub fn message_of<'x, 'a, B: Allocator>(
     cluster.node(node)?.outbox().get(number)
 }
 
-/// How a dot stands at a node, if it matters there; its own are told by its own steps.
+/// Appends how a dot stands at a node, if it matters there. A node's own dots follow from its own steps.
 fn put_at_node<'a, B: Allocator>(
     key: &mut Key<&'a B>,
     dot: Dot,
@@ -79,7 +79,7 @@ fn put_at_node<'a, B: Allocator>(
     Ok(())
 }
 
-/// How the dots of these names stand there.
+/// Appends how the dots of these names stand at a node.
 fn put_node<'a, B: Allocator>(
     key: &mut Key<&'a B>,
     dots: &[Dot],
@@ -95,7 +95,7 @@ fn put_node<'a, B: Allocator>(
     Ok(())
 }
 
-/// How a dot stands in a message, if it matters.
+/// Appends how a dot stands in a message, if it matters.
 fn put_in_message<'a, B: Allocator>(
     key: &mut Key<&'a B>,
     dot: Dot,
@@ -112,7 +112,7 @@ fn put_in_message<'a, B: Allocator>(
     Ok(())
 }
 
-/// How the dots of these names stand there.
+/// Appends how the dots of these names stand in a message.
 fn put_message<'a, B: Allocator>(
     key: &mut Key<&'a B>,
     dots: &[Dot],
@@ -143,7 +143,7 @@ fn sends_held<A: Allocator>(step: &Step<A>) -> bool
     }
 }
 
-/// How they stand at the nodes.
+/// Appends how the dots that matter stand at the nodes.
 fn put_nodes<'a, B: Allocator>(
     key: &mut Key<&'a B>,
     cone: &Cone<'a, B>,
@@ -160,7 +160,7 @@ fn put_nodes<'a, B: Allocator>(
     Ok(())
 }
 
-/// How they stand in the message that a step sent, if it came.
+/// Appends how the dots that matter stand in the message that a step sent, if the step came.
 fn put_sent<'a, B: Allocator>(
     key: &mut Key<&'a B>,
     cone: &Cone<'a, B>,
@@ -178,7 +178,7 @@ fn put_sent<'a, B: Allocator>(
     Ok(())
 }
 
-/// The same, where the rank of the step is known.
+/// As `put_sent`, if the rank of the step is known.
 fn put_place<'a, B: Allocator>(
     key: &mut Key<&'a B>,
     cone: &Cone<'a, B>,
@@ -195,7 +195,7 @@ fn put_place<'a, B: Allocator>(
     }
 }
 
-/// How they stand in the messages.
+/// Appends how the dots that matter stand in the messages.
 fn put_messages<'a, B: Allocator>(
     key: &mut Key<&'a B>,
     cone: &Cone<'a, B>,

@@ -1,8 +1,9 @@
-//! The rules of runs of the network: what may come next, what may come before all else, which names matter where, and by what a
-//! state is told. A walk over such runs asks each of them.
+//! The rules of runs of the network: what may come next, what can be taken first, which names matter where, and what decides
+//! what can come of a state. A walk over such runs asks each of them.
 //!
-//! In the order to read them: `turn`, whose step or delivery a step is; `next`, what may come next; `names` and `cone`, which names
-//! matter where; `key`, by what a state is told; `first`, what may come before all else; `path`, the run of an outcome.
+//! In the order to read them: `turn`, whose step or delivery a step is; `next`, what may come next; `names` and `cone`, which
+//! names matter where; `key`, what decides what can come of a state; `first`, what can be taken first; `path`, the run of an
+//! outcome.
 #![tactic(auto)]
 
 mod cone;

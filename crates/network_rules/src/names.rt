@@ -17,7 +17,7 @@ pub fn all_names() -> NameSet
     names
 }
 
-/// With this one, if it is to be.
+/// The names, with this one if `wanted`.
 fn with_if(names: NameSet, name: u16, wanted: bool) -> NameSet
     requires { name < 32 }
     ensures { result ≡ (if wanted then set.insert names name else names) }
@@ -25,7 +25,7 @@ fn with_if(names: NameSet, name: u16, wanted: bool) -> NameSet
     if wanted { names.with(name) } else { names }
 }
 
-/// What they have in common.
+/// The names that both have.
 pub(crate) fn common(one: NameSet, other: NameSet) -> NameSet
     ensures { (n : ℕ) → contains one n ≡ true → contains other n ≡ true → contains result n ≡ true }
 {

@@ -12,7 +12,7 @@ pub fn count_at(counts: &[usize], place: usize) -> usize
     counts.get(place).copied().unwrap_or(0)
 }
 
-/// Whether at most `most` came more often than they were recorded.
+/// Whether at most `most` deliveries came beyond those that were recorded.
 fn few_extra(turns: &[Turn], counts: &[usize], most: usize) -> bool
     ensures { result ≡ nat_le (extra turns.now counts.now 0) most }
 {
@@ -27,7 +27,7 @@ fn few_extra(turns: &[Turn], counts: &[usize], most: usize) -> bool
     true
 }
 
-/// Whether at most `most` are missing.
+/// Whether at most `most` deliveries are missing.
 fn few_missing(turns: &[Turn], counts: &[usize], most: usize) -> bool
     ensures { result ≡ nat_le (missing turns.now counts.now 0) most }
 {
@@ -51,7 +51,8 @@ fn may_repeat(turns: &[Turn], counts: &[usize], again: usize) -> bool
     again > 0 && few_extra(turns, counts, again - 1)
 }
 
-/// Whether all own steps of a node came, or no delivery came more than twice as often as it was recorded.
+/// Whether a turn is whole: all own steps of its node came, or its delivery came at most twice as often as it was
+/// recorded.
 fn is_whole_by(turn: Turn, count: usize) -> bool
     ensures { result ≡ is_whole_by turn.delivers turn.recorded count }
 {
@@ -73,14 +74,14 @@ fn is_whole(turns: &[Turn], counts: &[usize]) -> bool
     true
 }
 
-/// Whether nothing need come any more.
+/// Whether a run may end here, since all that must come has come.
 pub fn is_end(turns: &[Turn], counts: &[usize], lost: usize, again: usize) -> bool
     ensures { result ≡ is_end turns.now counts.now lost again }
 {
     is_whole(turns, counts) && few_missing(turns, counts, lost) && few_extra(turns, counts, again)
 }
 
-/// Whether a step is the next of its turn, with `before` of the turn before it, where `count` came.
+/// Whether a step is the next of its turn, where `before` steps of the turn stand before it and `count` came.
 fn is_next_by(
     turns: &[Turn],
     counts: &[usize],
@@ -125,7 +126,7 @@ pub fn is_next(turns: &[Turn], ranks: &[Rank], counts: &[usize], again: usize, p
     )
 }
 
-/// Whether no more of this turn is delivered at this node.
+/// Whether nothing more of this turn is delivered at this node.
 fn is_spent(turn: Turn, count: usize, again: usize, node: u16) -> bool
     ensures { IsTrue result → turn.node ≡ node → is_some turn.delivers ≡ true → (again ≡ 0) × (turn.recorded ≤ count) }
 {

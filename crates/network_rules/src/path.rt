@@ -4,7 +4,7 @@ ghost use Rattle.std.specs.Prelude.{◌≡◌, ◌++◌, ◌∷◌, [], IfOk, On
 use node_core::Oom;
 use std::alloc::Allocator;
 
-/// One step further.
+/// Appends a step to the path, by its place.
 pub fn extend<A: Allocator>(path: &mut Vec<usize, A>, place: usize) -> Result<(), Oom>
     ensures { OnOk result (path.new.items ≡ path.old.items ++ place ∷ []) }
 {

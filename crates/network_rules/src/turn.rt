@@ -10,14 +10,14 @@ use std::alloc::Allocator;
 #[derive(Clone, Copy)]
 pub struct Turn {
     pub node: u16,
-    /// The message that is delivered, by its sender and number; none where the steps are the node's own.
+    /// The message that is delivered, by its sender and number; `None` where the steps are the node's own.
     pub delivers: Option<(u16, u64)>,
-    /// How many were recorded.
+    /// How many of them were recorded.
     pub recorded: usize,
 }
 
-/// Of a recorded step the place of its turn, how many of that turn stand before it, and the number of the message that it sends, if
-/// it sends one.
+/// For a recorded step: the place of its turn, how many steps of that turn stand before it, and the number of the
+/// message that it sends, if it sends one.
 #[derive(Clone, Copy)]
 pub struct Rank {
     pub turn: usize,
@@ -25,7 +25,7 @@ pub struct Rank {
     pub number: u64,
 }
 
-/// The message that a step delivers that answers nothing.
+/// The message that a step delivers, unless the step is an answer.
 pub fn delivery<A: Allocator>(step: &Step<A>) -> Option<(u16, u64)>
     ensures { result ≡ delivery_of (plain step.now) }
 {
@@ -35,7 +35,7 @@ pub fn delivery<A: Allocator>(step: &Step<A>) -> Option<(u16, u64)>
     }
 }
 
-/// Whether it is the same message, or none is one.
+/// Whether both are the same message, or neither is one.
 fn same_message(one: Option<(u16, u64)>, other: Option<(u16, u64)>) -> bool
     ensures { result ≡ same_message one other }
 {

@@ -13,7 +13,7 @@ use Rattle.node_core.specs.Operations.{Operation}
 use Rattle.node_core.specs.Nodes.{Node, take, with_sent}
 use Rattle.node_core.specs.Invariant.{IsNode}
 
--- a step changed the replica; or it sent the delta; or it sent a message beside it: an extract, a request or an answer
+-- a step changed the replica; or it sent the delta; or it sent another message: an extract, a request or an answer
 pub data Inverse : Type 0 where
   OfChange : (change : changes.Change) → Inverse
   OfBroadcast : Inverse
@@ -24,7 +24,7 @@ plain_inverse (variants.Change change) = OfChange (changes.plain_change change)
 plain_inverse variants.Broadcast = OfBroadcast
 plain_inverse variants.Sent = OfSent
 
--- whether the step is taken back without memory: one that sent a message, and one whose change needs none
+-- whether the step is taken back without memory, as one that sent a message is, and one whose change needs none
 abbrev pub needs_no_memory : Inverse → Bool
 needs_no_memory (OfChange change) = changes.needs_no_memory change
 needs_no_memory OfBroadcast = true
@@ -82,7 +82,7 @@ LeadsSomewhere inverse b = (a : Node) × LeadsBack inverse b a
 abbrev pub GivesBack : Inverse → Node → Node → Type 0
 GivesBack inverse b new = (a : Node) → LeadsBack inverse b a → new ≡ a
 
--- a step is answered as `take` says, with an inverse that leads back; or by the fault, memory apart, and nothing changed
+-- `take` answers the step: it gives an inverse that leads back; or the fault, or want of memory, and nothing changed
 abbrev pub Takes : {X : Type 0} → Node → Operation → Option Message → Result (declared.Inverse X) StepFault → Node → Type 0
 Takes old s m (Ok inverse) new = (take old s m ≡ Ok new) × LeadsBack (plain_inverse inverse) new old
 Takes old s m (Err fault) new = (new ≡ old) × (fault ≢ OutOfMemory → take old s m ≡ Err fault)

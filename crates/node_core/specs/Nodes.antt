@@ -58,7 +58,7 @@ broadcast true n = unless_full n (with_sent n (delta_message n.replica) (without
 abbrev pub extract : Node → Names → Result Node StepFault
 extract n names = unless_full n (with_sent n (message_of_names (set.contains names) n.replica.own n.replica.store.seen n.replica.store.entries) n.replica)
 
--- a delivery of a message that asks for these names, or for none: a request is not delivered so
+-- a delivery of a message that asks for these names, or for none; a request can't be delivered like this
 abbrev pub deliver_unasked : Option Names → Node → Message → Result Node StepFault
 deliver_unasked None n m = unless (merge_refusal n.replica m) (with_replica n (merged m n.replica))
 deliver_unasked (Some names) n m = Err IsRequest
@@ -78,7 +78,7 @@ abbrev pub answer : Node → Option Message → Result Node StepFault
 answer n None = Err NoSuchMessage
 answer n (Some m) = answer_asked m.asked n
 
--- what a node becomes by a step, or the step's fault; a delivery and an answer are given the named message
+-- what a node becomes by a step, or the step's fault; a delivery and an answer get the message that they name
 abbrev pub take : Node → Operation → Option Message → Result Node StepFault
 take n (Join p) _ = unless (join_refusal n.replica p.pid p.topic p.key) (with_replica n (joined p n.replica))
 take n (Leave pid topic key) _ =

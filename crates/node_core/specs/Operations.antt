@@ -97,7 +97,7 @@ AreNames (Up name) = name < 32
 AreNames (Down name) = name < 32
 AreNames (Permdown name) = name < 32
 
--- an operation is stored as the number of its kind, with a presence, names and two numbers, which each kind uses or not
+-- an operation is stored as the number of its kind, with a presence, names and two numbers, as far as the kind uses them
 abbrev Stored : Type 0
 Stored = ℕ × (Presence × (Names × (ℕ × ℕ)))
 

@@ -6,14 +6,14 @@ ghost use Rattle.node_core.specs.Inverses.{change_of, plain_inverse};
 use replica_core::Change;
 use std::alloc::Allocator;
 
-/// What one step of a node destroyed: from it `Node::give_back` takes the step back (Danos and Krivine: causal undo).
+/// What one step of a node destroyed: with it `Node::give_back` takes the step back (Danos and Krivine: causal undo).
 #[derive(Drop)]
 pub enum Inverse<A: Allocator> {
     /// The step changed the replica.
     Change(Change<A>),
-    /// The step sent the delta: it is the last message.
+    /// The step sent the delta, as the last message.
     Broadcast,
-    /// The step sent the last message beside the delta: an extract, a request or an answer.
+    /// The step sent the last message, which wasn't the delta: an extract, a request or an answer.
     Sent,
 }
 

@@ -8,7 +8,8 @@ pub fn way_back_law()
     ensures { OneWayBackLaw }
 {}
 
-/// The change of an inverse leads back as the inverse does; where it has none, entries and view are the same.
+/// The change of an inverse leads back as the inverse does. Where the inverse has no change, entries and view stay the
+/// same.
 pub fn change_law()
     ensures { ChangeOfLaw }
 {}

@@ -40,7 +40,7 @@ impl<'a, B: Allocator> Model for Node<'a, B> {
 }
 
 impl<'a, B: Allocator> Node<'a, B> {
-    /// Its replica.
+    /// The replica of the node.
     pub fn replica(&self) -> &Replica<&'a B>
         ensures { result.now ≡ self.now.replica }
     {
@@ -69,8 +69,8 @@ impl<'a, B: Allocator> Node<'a, B> {
         let _ = &self.outbox;
     }
 
-    /// Takes back the last step, which the inverse is of. Where memory is refused the node is unchanged, and the inverse
-    /// comes back; a step that sent a message is taken back without memory, and so are a join, an up and a down.
+    /// Takes back the last step by its inverse. Where memory is refused the node is unchanged, and the inverse comes
+    /// back. It needs no memory for a step that sent a message, nor for a join, an up and a down.
     pub fn give_back(&mut self, inverse: Inverse<&'a B>) -> Result<(), (Inverse<&'a B>, Oom)>
         requires { LeadsSomewhere (plain_inverse inverse) self.old }
         ensures ok { OnOk result (GivesBack (plain_inverse inverse.entry) self.old self.new) }
@@ -333,10 +333,10 @@ impl<'a, B: Allocator> Node<'a, B> {
         }
     }
 
-    /// Takes the step forward, and gives the inverse that leads back. A delivery and an answer are given the
-    /// named message, or `None` where there is none; other steps ignore it. The faults come in this order: `OwnMessage`,
-    /// `NoSuchMessage`, `NotRequest`, `IsRequest`, those of the replica, `OutboxFull`. `OutOfMemory` comes where a request
-    /// for memory was refused.
+    /// Takes the step forward, and gives the inverse that leads back. `message` is the one that a delivery or an answer
+    /// names, or `None` where there is none; other steps ignore it. The faults come in this order: `OwnMessage`,
+    /// `NoSuchMessage`, `NotRequest`, `IsRequest`, those of the replica, `OutboxFull`. `OutOfMemory` comes where a
+    /// request for memory was refused.
     pub fn take(
         &mut self,
         step: &Step<&'a B>,

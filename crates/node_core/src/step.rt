@@ -61,7 +61,7 @@ pub enum Step<A: Allocator> {
     Down {
         name: u16,
     },
-    /// Nothing more is held of another name, a known one that is down, and it is known no longer.
+    /// Forgets another name, a known one that is down: holds nothing more of it, and no longer knows it.
     Permdown {
         name: u16,
     },
@@ -214,7 +214,7 @@ impl<A: Allocator> Step<A> {
         }
     }
 
-    /// A second step that asks the same.
+    /// A copy of the step.
     pub fn try_copy(&self) -> Result<Self, Oom>
     where
         A: Copy,

@@ -19,7 +19,7 @@ pub enum StepFault {
     /// An own entry has this process, topic and key.
     #[error("AlreadyTracked")]
     AlreadyTracked,
-    /// No own entry is the one named.
+    /// No own entry has the process, topic and key of the step, or its process alone if it leaves all.
     #[error("NotTracked")]
     NotTracked,
     /// The delta has no dot.

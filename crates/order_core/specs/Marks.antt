@@ -13,21 +13,21 @@ of_mark = record { node = λ m. m.node; delivers = λ m. m.delivers; sends = λ 
 abbrev pub order_of_marks : List Mark → Option (List Mark)
 order_of_marks ms = turns.order_of of_mark ms
 
--- the mark is of this step, which stands at its place among all
+-- the mark is that of this step, and has the step's place among all
 pub record IsMark (all : List Kept) (m : Mark) (k : Kept) : Type 0 where
   pub node : m.node ≡ k.node
   pub delivers : m.delivers ≡ delivers k.step
   pub sends : m.sends ≡ sends k.step
   pub place : slice_get all m.place ≡ Some k
 
--- one by one
+-- the marks are those of these steps, one by one
 abbrev pub AreMarks : List Kept → List Mark → List Kept → Type 0
 AreMarks all [] [] = Unit {0}
 AreMarks all [] (k ∷ ks) = ⊥
 AreMarks all (m ∷ ms) [] = ⊥
 AreMarks all (m ∷ ms) (k ∷ ks) = IsMark all m k × AreMarks all ms ks
 
--- either both are there, or neither
+-- the marks are those of the steps; or there are neither
 abbrev pub AreMarksOf : List Kept → Option (List Mark) → Option (List Kept) → Type 0
 AreMarksOf all None None = Unit {0}
 AreMarksOf all None (Some ks) = ⊥

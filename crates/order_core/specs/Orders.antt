@@ -1,4 +1,4 @@
--- What each node did, in its order, and the orders of all in which that can have come.
+-- What each node did, in its order, and the orders in which all of it can have come.
 use Rattle.std.specs.Prelude.{◌≡◌, ℕ, Bool, true, List, [], ◌∷◌, ◌++◌, map, Option}
 use Rattle.node_core.specs.Operations.{Operation, delivers, sends}
 use Rattle.journal_core.specs.Journals.{Kept, own_steps}
@@ -16,11 +16,11 @@ own ks n = map (λ k. k.step) (own_steps ks n)
 abbrev pub SameOwn : List Kept → List Kept → Type 0
 SameOwn ks js = (n : ℕ) → own ks n ≡ own js n
 
--- whether these steps sent the message, if it is one
+-- whether these steps sent the message, if there is one
 abbrev pub is_there : List Kept → Option (ℕ × ℕ) → Bool
 is_there first message = turns.is_there of_step first message
 
--- behind the first, each delivery and each answer of these steps stands behind the send of its message
+-- each delivery and each answer of these steps, which come after the first ones, comes after the send of its message
 abbrev pub AreBehind : List Kept → List Kept → Type 0
 AreBehind first [] = Unit {0}
 AreBehind first (k ∷ ks) = (is_there first (delivers k.step) ≡ true) × (AreBehind (first ++ k ∷ []) ks)
@@ -30,6 +30,7 @@ pub record IsOrderOf (ks js : List Kept) : Type 0 where
   pub own : SameOwn ks js
   pub behind : AreBehind [] js
 
--- an order of what the nodes did in these steps: at each turn comes the first of them that can; None where none can, and steps are left
+-- an order of what the nodes did in these steps: at each turn the first step that can come next; None if steps are left and none
+-- can
 abbrev pub order_of : List Kept → Option (List Kept)
 order_of ks = turns.order_of of_step ks

@@ -3,15 +3,15 @@
 //! A crate above uses a law by calling its function.
 ghost use Rattle.order_core.specs.Laws.{BehindLaw, FoundRunLaw, MarksLaw, OrderOfLaw, OrderRunsLaw, SameOwnLaw};
 
-/// What the nodes did, each in its order, says how a run ends; and each order of it in which no message comes before it
-/// is sent is a run, where one of them is.
+/// What each node did, in its order, decides how a run ends. If one order of it runs, so does each other order in which
+/// no message comes before it is sent.
 pub fn order_law()
     ensures behind { BehindLaw }
     ensures order_runs { OrderRunsLaw }
     ensures same_own { SameOwnLaw }
 {}
 
-/// An order of what the nodes did is found where there is one, and it runs where any does.
+/// If what the nodes did has an order, one is found, and it runs if any does.
 pub fn found_law()
     ensures order_of { OrderOfLaw }
     ensures found_run { FoundRunLaw }

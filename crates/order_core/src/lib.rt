@@ -1,8 +1,8 @@
 //! Runs as what each node did, in its order.
 //!
-//! Runs in which each node did the same end the same: so a run can be told by what each node did, and any order of it
-//! serves in which no message comes before it is sent. It stands on `bench_core` (clusters and their runs). In the order to
-//! read them: `mark`, a step as far as its order goes; `ordering`, which finds an order; `laws`.
+//! Runs in which each node did the same end the same. So what each node did stands for a run, and any order of it serves in
+//! which no message comes before it is sent. It stands on `bench_core` (clusters and their runs). In the order to read them:
+//! `mark`, what an order needs to know of a step; `ordering`, which finds an order; `laws`.
 #![tactic(auto)]
 
 pub mod laws;

@@ -1,4 +1,4 @@
-//! `Mark`: a step as far as its order goes.
+//! `Mark`: what an order needs to know of a step.
 
 /// A step of a run, by its place from 0: its node, the message that it delivers or answers, by sender and number, and whether it
 /// sends one.

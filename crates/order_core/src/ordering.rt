@@ -1,6 +1,7 @@
-//! The order: at each turn the first step that can come next. Where each message is sent before it comes, the steps come as they stand.
+//! The order: at each turn the first step that can come next. If each message is sent before it comes, the steps stay as they
+//! stand.
 //!
-//! Of each node it keeps its next step and how many messages it sent, and looks at these alone.
+//! For each node it keeps the next step and the number of messages sent, and looks at these alone.
 ghost use Rattle.std.specs.Prelude.{◌≡◌, ◌<◌, ◌≤◌, ℕ, [], Some, IfOk, drop, length, option_map, slice_get, true};
 ghost use Rattle.order_core.specs.declared.mark.Mark.{Mark as PlainMark};
 ghost use Rattle.order_core.specs.Marks.{order_of_marks};
@@ -94,7 +95,7 @@ fn next_place(marks: &[Mark], stands: &[Stand]) -> usize
     least
 }
 
-/// Whether each message is sent before it comes where the steps come as they stand.
+/// Whether each message is sent before it comes, if the steps come as they stand.
 fn is_behind<A: Allocator>(alloc: A, marks: &[Mark]) -> Result<bool, Oom>
     ensures { IfOk result (λ behind. behind ≡ true → order_of_marks marks.now ≡ Some marks.now) }
 {

@@ -13,11 +13,11 @@ escaped_byte b = if b == 38 then codes "&amp;" else (if b == 60 then codes "&lt;
 unfoldable pub escaped : List ℕ → List ℕ
 escaped text = flat_map escaped_byte text
 
--- up to the still picture: the policy, the style and the body
+-- the page up to the still picture: the policy, the style and the body
 unfoldable pub page_before : List ℕ
 page_before = HEAD.now ++ STYLE.now ++ BODY_BEGINS.now ++ BODY.now ++ STILL_BEGINS.now
 
--- from the end of the data on: the script
+-- the page from the end of the data on: the script
 unfoldable pub page_after : List ℕ
 page_after = SCRIPT_BEGINS.now ++ SCRIPT.now ++ TAIL.now
 
@@ -25,6 +25,6 @@ page_after = SCRIPT_BEGINS.now ++ SCRIPT.now ++ TAIL.now
 unfoldable pub report_text : List ℕ → List ℕ
 report_text report = REPORT_BEGINS.now ++ escaped report ++ RUN_BEGINS.now
 
--- the page of a run: what stands there without scripts, its still picture and its report, and its data
+-- the page of a run: what stands there without scripts, its still picture, its report, and its data
 unfoldable pub page_text : List ℕ → List ℕ → List ℕ → List ℕ
 page_text still report run = page_before ++ still ++ report_text report ++ run ++ page_after

@@ -1,10 +1,11 @@
 //! What stands between the parts of a page.
 
-/// Before the style. The digests of the policy are those of the script, of the style and of the picture's, so no other is taken.
+/// Before the style. The digests of the policy are those of the script, of the style and of the picture's style, so a
+/// browser takes no other.
 pub const HEAD: &str = r#"<!doctype html>
 <html lang="en">
 <meta charset="utf-8">
-<meta http-equiv="Content-Security-Policy" content="default-src 'none'; script-src 'sha256-yQRlLQ36gRF3G3zsRTzlsg9Su3WbLZ/N/j4wOdXY4iQ='; style-src 'sha256-Z9Vle8t2InjJaqMFgYt2uyBRovC2mjnYh9NZm1sIS5Q=' 'sha256-q4MnRjbjrnzgSyy6+iBKwnSXtEkaPMSShdTCfpUVpwk='; base-uri 'none'; form-action 'none'">
+<meta http-equiv="Content-Security-Policy" content="default-src 'none'; script-src 'sha256-21T0l71hAxVtdz4Ovi0lZAH5lFbVt8YY7DKcHKFhf0E='; style-src 'sha256-f+eXaAytge8XmyVWlhZ9rcXKyZ1noLmXSfayaIXKTFY=' 'sha256-q4MnRjbjrnzgSyy6+iBKwnSXtEkaPMSShdTCfpUVpwk='; base-uri 'none'; form-action 'none'">
 <meta name="viewport" content="width=device-width,initial-scale=1">
 <title>presence_bench</title>
 <style>"#;
@@ -24,5 +25,5 @@ pub const RUN_BEGINS: &str = "</pre></noscript>\n<script type=\"application/json
 /// Between the data and the script.
 pub const SCRIPT_BEGINS: &str = "</script>\n<script>";
 
-/// Behind the script.
+/// After the script.
 pub const TAIL: &str = "</script>\n</html>\n";

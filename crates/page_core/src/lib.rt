@@ -1,6 +1,6 @@
-//! A page on which a run is looked at: one file of HTML, around the data of the run.
+//! A page to look at a run: one file of HTML, around the data of the run.
 //!
-//! It stands on std alone. In the order to read them: `body`, `style` and `script`, what is the same of each page, a file each;
+//! It stands on std alone. In the order to read them: `body`, `style` and `script`, what all pages have in common, a file each;
 //! `frame`, what stands between them; `page`, the whole.
 #![tactic(auto)]
 

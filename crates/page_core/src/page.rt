@@ -10,7 +10,7 @@ use crate::script::SCRIPT;
 use crate::style::STYLE;
 use std::alloc::{AllocError, Allocator};
 
-/// A byte of a text as HTML has it.
+/// A byte of a text as HTML writes it.
 #[tactic(auto, unfolding(crate::specs::Page::escaped_byte))]
 fn put_byte<A: Allocator>(page: &mut Vec<u8, A>, byte: u8) -> Result<(), AllocError>
     ensures { OnOk result (page.new.items ≡ page.old.items ++ escaped_byte byte) }
@@ -28,7 +28,7 @@ fn put_byte<A: Allocator>(page: &mut Vec<u8, A>, byte: u8) -> Result<(), AllocEr
     Ok(())
 }
 
-/// A text as HTML has it.
+/// A text as HTML writes it.
 #[tactic(auto, unfolding(crate::specs::Page::escaped))]
 fn put_escaped<A: Allocator>(page: &mut Vec<u8, A>, text: &[u8]) -> Result<(), AllocError>
     ensures { OnOk result (page.new.items ≡ page.old.items ++ escaped text.now) }
@@ -46,7 +46,7 @@ fn put_text<A: Allocator>(page: &mut Vec<u8, A>, text: &str) -> Result<(), Alloc
     page.extend_from_slice(text.as_bytes())
 }
 
-/// Up to the still picture.
+/// The page up to the still picture.
 fn put_before<A: Allocator>(page: &mut Vec<u8, A>) -> Result<(), AllocError>
     ensures { OnOk result (page.new.items ≡ page.old.items ++ page_before) }
 {
@@ -58,7 +58,7 @@ fn put_before<A: Allocator>(page: &mut Vec<u8, A>) -> Result<(), AllocError>
     Ok(())
 }
 
-/// From the end of the data on.
+/// The page from the end of the data on.
 fn put_after<A: Allocator>(page: &mut Vec<u8, A>) -> Result<(), AllocError>
     ensures { OnOk result (page.new.items ≡ page.old.items ++ page_after) }
 {
@@ -78,7 +78,7 @@ fn put_report<A: Allocator>(page: &mut Vec<u8, A>, report: &[u8]) -> Result<(), 
     put_text(page, RUN_BEGINS)
 }
 
-/// Puts the page of a run behind what is there: of its still picture, which is HTML, its report, which is any text, and its data.
+/// Appends the page of a run, made of its still picture (HTML), its report (any text) and its data.
 pub fn put_page<A: Allocator>(
     page: &mut Vec<u8, A>,
     still: &[u8],

@@ -5,32 +5,36 @@ pub const SCRIPT: &str = r##""use strict";
 (() => {
 const $ = id => document.getElementById(id);
 const { nodes: plain, consoles, calls, names, pids, cut, events } = JSON.parse($("run").textContent);
-const nodes = names || plain, N = nodes.length, ROW = 20, CHUNK = 20, END = Infinity, UNKNOWN = 0, DOWN = 2;
+const own = names || plain, N = own.length, ROW = 20, CHUNK = 20, END = Infinity, UNKNOWN = 0, DOWN = 2;
 
 const many = (k, word) => `${k} ${word}${k === 1 ? "" : "s"}`;
 
+// No text ends its row, or turns it round.
+const safe = text => text.replace(/[\p{C}\u2028\u2029]/gu, c => `\\u{${c.codePointAt().toString(16)}}`);
+const quoted = text => safe(/^[^\s"\p{C}]+$/u.test(text) ? text : JSON.stringify(text)), nodes = own.map(quoted);
 // Of logs a word stands for a value: bytes as `%XX`, or `%=` and a text; a cut one ends with `~` and a number.
-const quoted = text => /^[^\s"]+$/.test(text) ? text : JSON.stringify(text), ofJson = json => json[0] === '"' ? quoted(JSON.parse(json)) : json;
+const ofJson = json => json[0] === '"' ? quoted(JSON.parse(json)) : safe(json);
 const brief = (text, mark) => { const c = [...text.slice(0, 200)]; return c.length > 80 ? c.slice(0, 79).join("") + "\u2026" + mark : text; };
 function value(word) {
   if (!events || !/[%~]/.test(word)) return word;
   const k = word.lastIndexOf("~"), text = k < 0 ? decodeURIComponent(word.replace(/^%(=|$)/, "")) : "";
-  return k >= 0 ? brief(ofJson(cut[word.slice(k + 1)]), word.slice(k)) : word.startsWith("%=") ? text : quoted(text);
+  return k >= 0 ? brief(ofJson(cut[word.slice(k + 1)]), word.slice(k)) : word.startsWith("%=") ? safe(text) : quoted(text);
 }
 const process = n => pids ? brief(ofJson(pids[n]), "#" + n) : n;
 // A line with the nodes' own names and the values.
 function spoken(line) {
-  const [node, verb, ...rest] = line.split(" "), own = name => nodes[plain.indexOf(name)] ?? name;
-  return [own(node), verb, ...rest.map(/^(join|update|leave)/.test(verb) ? (w, k) => k ? value(w) : process(w) : own)].join(" ");
+  const [node, verb, ...rest] = line.split(" "), named = name => nodes[plain.indexOf(name)] ?? name;
+  return [named(node), verb, ...rest.map(/^(join|update|leave)/.test(verb) ? (w, k) => k ? value(w) : process(w) : named)].join(" ");
 }
 calls.forEach(c => { c.verb = c.line.split(" ")[1]; if (events) c.line = spoken(c.line); });
-// Each event in its order: one that is no call is a row, too.
+// Each event in its order: one that is no call is a row, too. A full bench recorded no more calls.
 if (events) {
   const asked = calls.splice(0);
   for (const { line, time, node, online } of events) {
     const c = node === undefined ? asked.shift() : { by: node, verb: "online", no: "message", line: nodes[node] + (online ? " online" : ": its message was not sent") };
+    if (!c) continue;
     if (online) Object.assign(c, { node, online, differs: online[0].length + online[1].length > 0 });
-    calls.push(Object.assign(c, { input: line, time }));
+    calls.push(Object.assign(c, { input: line, time: time && safe(time) }));
   }
 }
 
@@ -140,8 +144,8 @@ const css = (k, v) => document.documentElement.style.setProperty(k, v + "px");
 css("--lanes", width);
 css("--pitch", pitch);
 css("--top", top);
-const times = calls.some(c => c.time);
-css("--times", 12 + 7.3 * Math.min(26, Math.max(...calls.map(c => (c.time || "").length))));
+const times = calls.reduce((k, c) => Math.max(k, (c.time || "").length), 0);
+css("--times", 12 + 7.3 * Math.min(26, times));
 css("--bar-width", Math.min(12, Math.round(pitch * 0.45)));
 
 function el(tag, cls, ...kids) {
@@ -583,7 +587,7 @@ function hash(i, n = why, text = query) {
   const w = words_of(text).map(encodeURIComponent), out = [calls[i]?.step ? "step=" + calls[i].step : "call=" + (i + 1)];
   if (w.length === 2) out.push("topic=" + w.shift());
   if (w.length) out.push("key=" + w.join("%20"));
-  if (w.length && n >= 0) out.push("at=" + encodeURIComponent(nodes[n]));
+  if (w.length && n >= 0) out.push("at=" + encodeURIComponent(own[n]));
   if (tab !== "online") out.push("tab=" + tab);
   for (const [k, v] of Object.entries({ only, past, future })) if (v) out.push(k);
   if (differ !== usual) out.push("differ=" + +differ);
@@ -596,7 +600,7 @@ function load() {
   future = given.has("future");
   differ = given.has("differ") ? given.get("differ") !== "0" : usual;
   tab = ["seen", "messages"].find(x => x === given.get("tab")) || "online";
-  why = nodes.indexOf(given.get("at"));
+  why = own.indexOf(given.get("at"));
   $("find").value = text;
   renew();
   go(at[+given.get("step") || 0] ?? (given.get("call") ?? calls.length) - 1, "center");
@@ -631,6 +635,7 @@ function find(text, n = -1) {
   renew();
   show("nearest");
 }
+const near = () => $("side").scrollIntoView({ block: "nearest" });
 const turn = change => () => { change(); press(); show(); };
 const act = {
   only() { if (found.size) { only = !only; renew(); show("nearest"); } },
@@ -640,7 +645,7 @@ const act = {
   online: turn(() => { tab = "online"; }),
   seen: turn(() => { tab = "seen"; }),
   messages: turn(() => { tab = "messages"; }),
-  keys() { $("help").hidden = !$("help").hidden; $("side").scrollTop = 0; press(); },
+  keys() { $("help").hidden = !$("help").hidden; $("side").scrollTop = 0; press(); near(); },
 };
 for (const id in act) $(id).onclick = act[id];
 $("find").oninput = () => find($("find").value);
@@ -675,7 +680,7 @@ document.onkeydown = e => {
   e.preventDefault();
   keys[e.key]();
 };
-$("time").onclick = e => { const row = e.target.closest(".row"); if (row) go(row.id.slice(1) - 1); };
+$("time").onclick = e => { const row = e.target.closest(".row"); if (row) { go(row.id.slice(1) - 1); near(); } };
 const pointed = e => Math.floor((e.clientX - $("grid").getBoundingClientRect().left - 52) / pitch);
 $("grid").onmousemove = e => { $("grid").title = nodes[pointed(e)] || ""; };
 $("grid").onclick = e => {
@@ -693,6 +698,7 @@ onhashchange = load;
 const size = [many(N, "node"), many(at.filter(i => i >= 0).length, "step"), many(presences.length, "presence"), ...events ? [many(calls.filter(c => c.online).length, "list")] : []].join(", ");
 document.title += ": " + size;
 $("sum").append(size);
+if (events?.length > calls.length) $("sum").append(warn(`${events.length - calls.length} not recorded (HistoryFull)`));
 for (const kind of ["differ", "not asked", "refused", "not kept", "late", "again", "lost", "not to all", "undone"]) {
   const all = places.filter(i => calls[i].notes.includes(kind));
   if (!all.length) continue;

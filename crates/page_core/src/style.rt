@@ -22,7 +22,8 @@ button.warn{color:var(--warn)}
 #time{flex:1;min-width:0;overflow:auto;position:relative}
 #map{flex:none;border-left:1px solid var(--line);cursor:pointer}
 #heads,#again{position:sticky;top:0;z-index:2;background:var(--bg)}
-#heads,#again,.chunk,#grid{min-width:calc(232px + var(--lanes))}
+#heads,.chunk{min-width:calc(214px + var(--lanes) + 1.5*var(--times))}
+#again,#grid{min-width:calc(232px + var(--lanes))}
 #heads{border-bottom:1px solid var(--line);height:var(--top)}
 .heads{display:block}
 .chunk>.heads{display:none}
@@ -32,8 +33,9 @@ text{font:12px monospace;fill:var(--fg)}
 .chunk{position:relative;content-visibility:auto;height:calc(var(--n)*20px)}
 .draw{position:absolute;left:52px;top:0;pointer-events:none;overflow:hidden}
 .row,.srow{display:flex;height:20px;white-space:pre;cursor:pointer}
-.no{flex:none;width:calc(52px + var(--lanes));padding-left:8px;overflow:hidden;text-overflow:ellipsis;color:var(--dim);font:12px/20px monospace}
-.at{flex:none;width:var(--times);padding-left:8px;overflow:hidden;text-overflow:ellipsis;color:var(--dim);font:12px/20px monospace}
+.no,.at{flex:none;padding-left:8px;overflow:hidden;text-overflow:ellipsis;color:var(--dim);font:12px/20px monospace}
+.no{width:calc(52px + var(--lanes))}
+.at{width:var(--times)}
 .words{flex:1;min-width:0;overflow:hidden;text-overflow:ellipsis;font:12px/20px monospace;padding-left:8px}
 .row .words{display:flex}
 .words>span{overflow:hidden;text-overflow:ellipsis;flex:0 1 auto}

@@ -9,10 +9,10 @@ use Rattle.std.specs.List.{Contains}
 use Rattle.dots_core.specs.declared.dot.Dot.{Dot}
 use Rattle.dots_core.specs.Absorbed.{numbers}
 use Rattle.dots_core.specs.Dots.{AreValid, Dots, dot}
-use Rattle.payload_core.specs.Laws.{IsStore}
+use Rattle.store_core.specs.Laws.{IsStore}
 use Rattle.payload_core.specs.Messages.{Message}
 use Rattle.payload_core.specs.Presences.{Presence}
-use Rattle.payload_core.specs.Stores.{Store, standing, store_of}
+use Rattle.store_core.specs.Stores.{Store, standing, store_of}
 use Rattle.replica_core.specs.Deliveries.{is_other_known, merged}
 use Rattle.replica_core.specs.Replicas.{Replica}
 use Rattle.replica_core.proofs.Deliveries.{standing_holds}

@@ -1,4 +1,4 @@
--- Which node a call is to change, as the machine has it before the call.
+-- Which node a call will change, by the machine before the call.
 use Rattle.std.specs.Prelude.{ℕ, ◌==◌, ◌&&◌, Bool, Option, Some, None}
 use Rattle.bench_core.specs.Acts.{Action, Do, Undo, Back}
 use Rattle.bench_core.specs.Machine.{Machine}
@@ -12,7 +12,7 @@ abbrev pub node_undone : Machine → Option ℕ → Option ℕ
 node_undone m None = None
 node_undone m (Some number) = node_of_step m.state.remaining number
 
--- the node that asks for a step, or that of the step which is to be taken back
+-- the node that asks for a step, or the node of the step that the call takes back
 unfoldable pub asked_node : Machine → ℕ → Action → Option ℕ
 asked_node m actor (Do operation) = Some actor
 asked_node m actor (Undo number) = node_undone m (asked_undo m (Undo number))
@@ -22,6 +22,6 @@ abbrev pub node_if : Machine → Option ℕ → Option Node
 node_if m None = None
 node_if m (Some number) = node_of m number
 
--- whether a step is a sending one of the node
+-- whether a step is a sending step of the node
 abbrev pub is_sent : Kept → ℕ → Bool
 is_sent k node = (k.node == node) && sends k.step

@@ -5,7 +5,7 @@ use Rattle.dots_core.specs.Absorbed.{numbers}
 use Rattle.dots_core.specs.Dots.{Dots, dot}
 use Rattle.node_core.specs.Nodes.{Node}
 use Rattle.payload_core.specs.Messages.{Message, numbered}
-use Rattle.payload_core.specs.Stores.{Store, standing, store_of}
+use Rattle.store_core.specs.Stores.{Store, standing, store_of}
 use Rattle.replica_core.specs.Replicas.{Replica, is_known}
 use Rattle.replica_core.specs.Deliveries.{is_other_known}
 use Rattle.report_core.specs.Dots.{clock_of, cloud_of}
@@ -18,7 +18,7 @@ clocks_of seen name = numbers 1 (clock_of seen name) ++ cloud_of seen name
 unfoldable pub more_of : Dots → ℕ → ℕ
 more_of seen name = length (cloud_of seen name)
 
--- whether the name's dot of this clock stands so: 1 with its entry, 2 without it
+-- whether the name's dot of this clock stands as `wanted`: 1 with its entry, 2 without it
 abbrev pub stands_so : Store → ℕ → ℕ → ℕ → Bool
 stands_so s name wanted clock = standing s (dot name clock) == wanted
 
@@ -26,14 +26,14 @@ abbrev pub clock_if : Bool → ℕ → List ℕ
 clock_if true clock = clock ∷ []
 clock_if false clock = []
 
--- the clocks of the name's dots in a message that stand so
+-- the clocks of the name's dots in a message that stand as `wanted`
 unfoldable pub clocks_standing : Message → ℕ → ℕ → List ℕ
 clocks_standing m name wanted = filter (stands_so (store_of m) name wanted) (clocks_of m.seen name)
 
 abbrev pub name_if_any : ℕ → ℕ → ℕ → List ℕ
 name_if_any name clock more = if (clock == 0) && (more == 0) then [] else name ∷ []
 
--- those of the first names of which the message has dots
+-- the first names, as far as the message has dots of them
 unfoldable pub names_in : Message → ℕ → List ℕ
 names_in m zero = []
 names_in m (suc name) = names_in m name ++ name_if_any name (clock_of m.seen name) (more_of m.seen name)
@@ -41,18 +41,18 @@ names_in m (suc name) = names_in m name ++ name_if_any name (clock_of m.seen nam
 abbrev pub hop_by : ℕ → ℕ → ℕ → ℕ → List ℕ
 hop_by name clock here coming = if nat_lt here coming then name ∷ clock ∷ coming ∷ [] else []
 
--- `NAME,CLOCK,STANDING` of a dot that stands higher in what comes than here: so it stands here from then on
+-- `NAME,CLOCK,STANDING` for a dot, if it stands higher in the message than here: it stands here like that from then on
 abbrev pub hop : Store → Store → ℕ → ℕ → List ℕ
 hop here coming name clock = hop_by name clock (standing here (dot name clock)) (standing coming (dot name clock))
 
--- of each dot that the message has of the name
+-- `NAME,CLOCK,STANDING` for each dot that the message has of the name and that stands higher there than here
 unfoldable pub hops_of : Store → Message → ℕ → List ℕ
 hops_of here m name = flat_map (hop here (store_of m) name) (clocks_of m.seen name)
 
 abbrev pub hops_if : Bool → Store → Message → ℕ → List ℕ
 hops_if kept here m name = if kept then hops_of here m name else []
 
--- of each of the first names, where it is another one that the node knows
+-- `hops_of` for each of the first names that isn't the node's own and that the node knows
 unfoldable pub hops_to : Replica → Message → ℕ → List ℕ
 hops_to r m zero = []
 hops_to r m (suc name) = hops_to r m name ++ hops_if (is_other_known r name) r.store m name
@@ -60,13 +60,13 @@ hops_to r m (suc name) = hops_to r m name ++ hops_if (is_other_known r name) r.s
 abbrev pub missed_if : Bool → ℕ → ℕ → ℕ → List ℕ
 missed_if known name clock more = if known || ((clock == 0) && (more == 0)) then [] else name ∷ clock ∷ more ∷ []
 
--- `NAME,CLOCK,MORE` of each of the first names that the node doesn't know: of it the message has the dots up to this clock and
--- MORE beyond it, of which none is kept
+-- `NAME,CLOCK,MORE` for each of the first names that the node doesn't know: the message has the name's dots up to this clock, and
+-- MORE beyond it, and the node keeps none of them
 unfoldable pub missed_by : Replica → Message → ℕ → List ℕ
 missed_by r m zero = []
 missed_by r m (suc name) = missed_by r m name ++ missed_if (is_known r name) name (clock_of m.seen name) (more_of m.seen name)
 
--- of what a node sent, and where there is no such message, nothing
+-- the hops and misses of a message at a node; nothing if the node or the message is missing
 
 abbrev pub message_in : Option Node → ℕ → Option Message
 message_in None number = None

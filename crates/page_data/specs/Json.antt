@@ -9,8 +9,8 @@ hex_digit value = if nat_lt value 10 then 48 + value else 87 + value
 unfoldable pub escaped_byte : ℕ → List ℕ
 escaped_byte b = codes "\\u00" ++ hex_digit (b / 16 % 16) ∷ hex_digit (b % 16) ∷ []
 
--- a character of a string: a backslash stands before `"` and before another, and `<` and what is no visible byte and no space below
--- it are told by their numbers
+-- a character of a string: `"` and a backslash get a backslash before them; `<`, and what is neither a visible byte nor a space
+-- below it, become numbers
 unfoldable pub string_char : ℕ → List ℕ
 string_char c =
     if c == 34 then codes "\\\"" else (if c == 92 then codes "\\\\" else (if (c == 60) || nat_lt c 32 then escaped_byte c else encode_utf8 c))
@@ -22,7 +22,7 @@ string_chars text = flat_map string_char (chars text)
 unfoldable pub string_text : List ℕ → List ℕ
 string_text text = codes "\"" ++ string_chars text ++ codes "\""
 
--- a comma, but before the first
+-- a comma, except before the first
 abbrev pub comma_at : ℕ → List ℕ
 comma_at place = if place == 0 then [] else codes ","
 
@@ -30,7 +30,7 @@ comma_at place = if place == 0 then [] else codes ","
 unfoldable pub more_numbers : List ℕ → List ℕ
 more_numbers numbers = flat_map (λ n. codes "," ++ decimal n) numbers
 
--- the numbers, divided by commas
+-- the numbers, separated by commas
 unfoldable pub numbers_text : List ℕ → List ℕ
 numbers_text [] = []
 numbers_text (n ∷ numbers) = decimal n ++ more_numbers numbers
@@ -39,12 +39,12 @@ numbers_text (n ∷ numbers) = decimal n ++ more_numbers numbers
 unfoldable pub number_key : List ℕ → ℕ → List ℕ
 number_key key number = codes ",\"" ++ key ++ codes "\":" ++ decimal number
 
--- that, where there is one
+-- `,"KEY":NUMBER`, if there is a number
 abbrev pub number_key_if : List ℕ → Option ℕ → List ℕ
 number_key_if key None = []
 number_key_if key (Some number) = number_key key number
 
--- `,"KEY":[NUMBER,..]`, where there are any
+-- `,"KEY":[NUMBER,..]`, if there are any
 unfoldable pub numbers_key : List ℕ → List ℕ → List ℕ
 numbers_key key numbers = if length numbers == 0 then [] else codes ",\"" ++ key ++ codes "\":[" ++ numbers_text numbers ++ codes "]"
 

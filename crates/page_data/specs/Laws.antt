@@ -7,9 +7,9 @@ use Rattle.bench_core.specs.declared.reply.Reply.TheVariants.{Taken}
 use Rattle.bench_core.specs.Acts.{Action, Do}
 use Rattle.dots_core.specs.declared.dot.Dot.{Dot}
 use Rattle.dots_core.specs.Dots.{AreValid}
-use Rattle.payload_core.specs.Laws.{IsStore}
+use Rattle.store_core.specs.Laws.{IsStore}
 use Rattle.payload_core.specs.Messages.{Message}
-use Rattle.payload_core.specs.Stores.{standing, store_of}
+use Rattle.store_core.specs.Stores.{standing, store_of}
 use Rattle.replica_core.specs.Deliveries.{merged}
 use Rattle.replica_core.specs.Replicas.{Replica}
 use Rattle.bench_core.specs.Headline.{IsReached}
@@ -36,11 +36,11 @@ is_plain byte = not (byte == 60)
 abbrev pub IsPlain : List ℕ → Type 0
 IsPlain text = list_all is_plain text ≡ true
 
--- so no data ends the element that it stands in
+-- no `<` stands in the data of a page, so no data ends the element in which it stands
 abbrev pub PlainLaw : Type 0
 PlainLaw = (m : Machine) (consoles : Texts) → IsPlain (page_data m consoles)
 
--- nor does any with further keys in which none stands
+-- nor do data with further keys, if these have no `<`
 abbrev pub PlainWithLaw : Type 0
 PlainWithLaw = (m : Machine) (consoles : Texts) (keys : List ℕ) → IsPlain keys → IsPlain (data_with m consoles keys)
 
@@ -48,32 +48,32 @@ PlainWithLaw = (m : Machine) (consoles : Texts) (keys : List ℕ) → IsPlain ke
 abbrev pub seen_by : Machine → ℕ → List Seen
 seen_by m node = seen_in (node_of m node) (length m.names)
 
--- how a call changed its node, told: the rows that left and joined the list, and what the node has seen since
+-- how the text tells that a call changed its node: the rows that left and joined the list, and what the node has seen since
 abbrev pub change_told : Machine → ℕ → Action → Option ℕ → List ℕ
 change_told m actor act None = []
 change_told m actor act (Some node) =
     changed_text (left_by m actor act) (joined_by m actor act) (seen_by m node) (node_of (after_act m actor act) node) (length m.names)
 
--- the text of a call ends so
+-- the text of a call ends with what it tells of the node that the call changed
 pub record EndsWithChange (cast : Cast) (m : Machine) (actor : ℕ) (act : Action) : Type 0 where
   pub before : List ℕ
   pub text : call_text cast m actor act ≡ before ++ (change_told m actor act (changed_by m actor act) ++ codes "}")
 
--- `minus` and `plus` of each call are the rows, and `dots` what was seen, of which the next two laws speak
+-- `minus` and `plus` of each call are its rows, and `dots` is what was seen; the next two laws are about these
 abbrev pub ChangeLaw : Type 0
 ChangeLaw = (cast : Cast) (m : Machine) (actor : ℕ) (act : Action) → EndsWithChange cast m actor act
 
--- what is told of a node, where a call changed it
+-- the list, if the call changed this node; else nothing
 abbrev pub of_node : {X : Type 0} → ℕ → Option ℕ → List X → List X
 of_node node None told = []
 of_node node (Some n) told = if n == node then told else []
 
--- the machine behind calls, asked one after another
+-- the machine after calls, asked one after another
 unfoldable pub after_calls : Machine → List Event → Machine
 after_calls m [] = m
 after_calls m (e ∷ events) = after_calls (after_act m e.actor e.act) events
 
--- the rows that left a node's list by them, and those that joined it
+-- the rows that left a node's list by these calls, and those that joined it
 unfoldable pub gone_by : ℕ → Machine → List Event → List Row
 gone_by node m [] = []
 gone_by node m (e ∷ events) =
@@ -84,8 +84,7 @@ come_by node m [] = []
 come_by node m (e ∷ events) =
     of_node node (changed_by m e.actor e.act) (joined_by m e.actor e.act) ++ come_by node (after_act m e.actor e.act) events
 
--- what left and joined by calls comes to each node's online list behind them: so whoever applies `minus` and `plus` of the
--- first calls has the lists
+-- applied in order, the `minus` and `plus` of the first calls lead to each node's online list after these calls
 abbrev pub RowsLaw : Type 0
 RowsLaw =
     (m : Machine) (node : ℕ) (events : List Event) → IsReached (config_of m) m.state →
@@ -104,7 +103,7 @@ dots_by node m (e ∷ events) =
     of_node node (changed_by m e.actor e.act) (changes_in (seen_by m node) (node_of (after_act m e.actor e.act) node) (length m.names)) ++
     dots_by node (after_act m e.actor e.act) events
 
--- whoever applies `dots` of the first calls has what each node has seen behind them
+-- applied in order, the `dots` of the first calls lead to what each node has seen after these calls
 abbrev pub DotsLaw : Type 0
 DotsLaw =
     (m : Machine) (node : ℕ) (events : List Event) → IsReached (config_of m) m.state →
@@ -119,23 +118,23 @@ abbrev pub link_to : ℕ → Option ℕ → List Link
 link_to step None = []
 link_to step (Some before) = record { step = step; before = before } ∷ []
 
--- those of a call that was answered so, as `reads_keys` has them
+-- the links of a call with this reply, as `reads_keys` has them
 abbrev pub links_of : Machine → ℕ → Action → Reply → List Link
 links_of m actor (Do operation) (Taken number) =
     link_to number (last_of m.state.remaining actor) ++ link_to number (source_of m.state.remaining operation)
 links_of m actor _ _ = []
 
--- those of calls
+-- the links of calls
 unfoldable pub links_by : Machine → List Event → List Link
 links_by m [] = []
 links_by m (e ∷ events) = links_of m e.actor e.act (reply_of m e.actor e.act) ++ links_by (after_act m e.actor e.act) events
 
--- from step n forward along links
+-- a way from step n forward along links
 pub data Leads (links : List Link) (n : ℕ) : ℕ → Type 0 where
   Itself : Leads links n n
   Next : (before step : ℕ) → Leads links n before → Contains links (record { step = step; before = before }) → Leads links n step
 
--- of two steps that remain behind calls, `prev` and `from` lead from the later back to the earlier where the later follows from it
+-- of two steps that remain after calls, `prev` and `from` lead from the later back to the earlier if the later follows from it
 abbrev pub PastLaw : Type 0
 PastLaw =
     (names : Texts) (limits : Limits) (events : List Event) (n j : ℕ) (x y : Kept) →
@@ -143,12 +142,12 @@ PastLaw =
     find_number (after_calls (opening_machine names limits) events).state.remaining j ≡ Some y →
     Leads (links_by (opening_machine names limits) events) n j ↔ Follows (after_calls (opening_machine names limits) events).state.remaining n j
 
--- how a dot stands by hops, where it stood so before: as the last of its own says
+-- how a dot stands by hops, if it stood as `before`: as the last hop of the dot says
 unfoldable pub stands_by : List ℕ → Dot → ℕ → ℕ
 stands_by (name ∷ clock ∷ there ∷ hops) d before = stands_by hops d (if (name == d.name) && (clock == d.clock) then there else before)
 stands_by _ d before = before
 
--- whoever applies the hops of a delivery has how each dot of the first names stands behind it
+-- applied to how a dot stood before, the hops of a delivery give how it stands after it, for each dot of the first names
 abbrev pub HopsLaw : Type 0
 HopsLaw =
     (r : Replica) (m : Message) (count : ℕ) (d : Dot) → IsStore r.store → IsStore (store_of m) → AreValid m.seen → d.name < count →

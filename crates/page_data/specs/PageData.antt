@@ -31,11 +31,11 @@ use Rattle.page_data.specs.declared.seen.Seen.{Seen}
 
 -- rows of online lists
 
--- `NAME,CLOCK` of each
+-- `NAME,CLOCK` for each
 unfoldable pub row_dots : List Row → List ℕ
 row_dots rows = flat_map (λ row. row.name ∷ row.clock ∷ []) rows
 
--- `NAME,CLOCK,STANDING` of each
+-- `NAME,CLOCK,STANDING` for each
 unfoldable pub row_hops : ℕ → List Row → List ℕ
 row_hops standing rows = flat_map (λ row. row.name ∷ row.clock ∷ standing ∷ []) rows
 
@@ -43,7 +43,7 @@ row_hops standing rows = flat_map (λ row. row.name ∷ row.clock ∷ standing �
 unfoldable pub rows_keys : List Row → List Row → List ℕ
 rows_keys left joined = numbers_key (codes "minus") (row_dots left) ++ numbers_key (codes "plus") (row_dots joined)
 
--- whether a step changes the node's own presences, all of which its list shows
+-- whether a step changes the node's own presences, which its list shows all
 abbrev pub is_own : Operation → Bool
 is_own (Join presence) = true
 is_own (Leave pid topic key) = true
@@ -51,7 +51,8 @@ is_own (LeaveAll pid) = true
 is_own (Update presence) = true
 is_own _ = false
 
--- by such a step what left is gone, and what joined is live
+-- the hops of a step that changes the node's own presences: the rows that left as gone, and those that joined as live; nothing
+-- for other steps
 unfoldable pub own_keys : Operation → List Row → List Row → List ℕ
 own_keys operation left joined = if is_own operation then numbers_key (codes "hops") (row_hops 2 left ++ row_hops 1 joined) else []
 
@@ -66,7 +67,8 @@ abbrev pub arrival_keys : Machine → ℕ → Operation → List ℕ
 arrival_keys m node (Deliver sender number) = delivery_keys (node_of m node) (message_in (node_of m sender) number) (length m.names)
 arrival_keys m node _ = []
 
--- of a step of the node, before it is taken: the step before it, the one that sent what it delivers, and what that changes
+-- for a step of the node, before it is taken: the step before it, the one that sent what it delivers, and what the delivery
+-- changes
 unfoldable pub reads_keys : Machine → ℕ → Operation → List ℕ
 reads_keys m node operation =
     number_key_if (codes "prev") (last_of m.state.remaining node) ++ number_key_if (codes "from") (source_of m.state.remaining operation) ++
@@ -78,7 +80,7 @@ act_reads m actor _ = []
 
 -- what a step sends and makes
 
--- of a broadcast the clocks of the dots that it carries, with their entries and without; of other messages the names
+-- for a broadcast, the clocks of the dots that it carries, with their entries and without; for other messages, the names
 abbrev pub carried_keys : Operation → Message → ℕ → ℕ → List ℕ
 carried_keys Broadcast m node count =
     numbers_key (codes "live") (clocks_standing m node 1) ++ numbers_key (codes "gone") (clocks_standing m node 2)
@@ -117,7 +119,7 @@ abbrev pub made_keys : Machine → ℕ → Option Presence → List ℕ
 made_keys after node None = []
 made_keys after node (Some p) = made_at (node_of after node) p
 
--- of a step of the node, after it was taken, which took these rows from its online list and gave it those
+-- for a step of the node, after it was taken; it took the first rows from the node's online list and gave it the others
 unfoldable pub gives_keys : Machine → ℕ → Operation → List Row → List Row → List ℕ
 gives_keys after node operation left joined =
     sent_keys after node operation ++ made_keys after node (presence_made operation) ++ own_keys operation left joined
@@ -128,28 +130,28 @@ act_gives after actor _ left joined = []
 
 -- what a call changed
 
--- the rows that left and joined the online list of a node, of which this was seen before, and what it has seen since
+-- the rows that left and joined the online list of a node, and what the node has seen since; `before` is what it had seen
 unfoldable pub changed_text : List Row → List Row → List Seen → Option Node → ℕ → List ℕ
 changed_text left joined before node count = rows_keys left joined ++ numbers_key (codes "dots") (changes_in before node count)
 
--- a step of the node that was taken and read this
+-- the head of a step of the node that was taken, with what the step read
 unfoldable pub taken_head : ℕ → ℕ → List ℕ → List ℕ
 taken_head node number reads = number_key (codes "step") number ++ number_key (codes "node") node ++ reads
 
--- that, and what it changed
+-- a step of the node that was taken, and what it changed
 unfoldable pub taken_text : Machine → ℕ → Action → ℕ → List ℕ → List Row → List Row → List Seen → List ℕ
 taken_text after actor act number reads left joined before =
     taken_head actor number reads ++ act_gives after actor act left joined ++
     changed_text left joined before (node_of after actor) (length after.names)
 
--- the text of the last step stands behind a text, which took these rows from the online list and gave it those
+-- the new text is the old one with that of the last step, which took the first rows from the online list and gave it the others
 pub record Tells (after : Machine) (actor : ℕ) (act : Action) (number : ℕ) (reads : List ℕ) (before : List Seen) (old new : List ℕ) : Type 0 where
   pub left : List Row
   pub joined : List Row
   pub tells : TellsStep after number left joined
   pub text : new ≡ old ++ taken_text after actor act number reads left joined before
 
--- on the machine before and the one after it
+-- the text of a step that was taken, by the machines before and after it
 unfoldable pub taken_keys : Machine → Machine → ℕ → Action → ℕ → List ℕ
 taken_keys m after actor act number =
     taken_text after actor act number (act_reads m actor act) (alone (rows_at m actor) (rows_at after actor))
@@ -164,7 +166,7 @@ undone_at after (Some node) left joined before =
 unfoldable pub undone_text : Machine → ℕ → Option ℕ → List Row → List Row → List Seen → List ℕ
 undone_text after number node left joined before = number_key (codes "undoes") number ++ undone_at after node left joined before
 
--- on the machine before and the one after it
+-- the text of a step that was taken back, by the machines before and after it
 abbrev pub undone_of : Machine → Machine → ℕ → Option ℕ → List ℕ
 undone_of m after number node =
     undone_text after number node (alone (rows_of m node) (rows_of after node)) (alone (rows_of after node) (rows_of m node))
@@ -182,7 +184,7 @@ held_keys _ = []
 unfoldable pub refused_keys : Fault → List ℕ
 refused_keys fault = text_key (codes "no") (fault_text fault) ++ held_keys fault
 
--- what a call that was answered so changed
+-- what a call with this reply changed
 abbrev pub outcome_keys : Machine → Machine → ℕ → Action → Reply → List ℕ
 outcome_keys m after actor act (Taken number) = taken_keys m after actor act number
 outcome_keys m after actor act (Undone number) = undone_keys m after number
@@ -196,13 +198,13 @@ unfoldable pub call_text : Cast → Machine → ℕ → Action → List ℕ
 call_text cast m actor act =
     asked_text cast actor act ++ outcome_keys m (after_act m actor act) actor act (reply_of m actor act) ++ codes "}"
 
--- the calls from this place on, each on what those before it left
+-- the calls from this place on, each on the machine that those before it left
 unfoldable pub calls_text : Cast → Machine → ℕ → List Event → List ℕ
 calls_text cast m place [] = []
 calls_text cast m place (e ∷ events) =
     comma_at place ++ call_text cast m e.actor e.act ++ calls_text cast (after_act m e.actor e.act) (place + 1) events
 
--- the texts from this place on, divided by commas
+-- the texts from this place on, separated by commas
 unfoldable pub texts_text : ℕ → Texts → List ℕ
 texts_text place [] = []
 texts_text place (text ∷ texts) = comma_at place ++ string_text text ++ texts_text (place + 1) texts
@@ -214,15 +216,15 @@ nodes_text nodes = codes "{\"version\":1,\"nodes\":[" ++ texts_text 0 nodes ++ c
 unfoldable pub consoles_text : Texts → List ℕ
 consoles_text consoles = codes ",\"consoles\":[" ++ texts_text 0 consoles ++ codes "],\"calls\":["
 
--- up to the last call, where the consoles have these names
+-- the data up to the last call, with these names of the consoles
 unfoldable pub run_text : Machine → Texts → List ℕ
 run_text m consoles =
     nodes_text m.names ++ consoles_text consoles ++ calls_text (cast_of m consoles) (opening_machine m.names m.limits) 0 m.state.history
 
--- the whole
+-- the whole data
 unfoldable pub page_data : Machine → Texts → List ℕ
 page_data m consoles = run_text m consoles ++ codes "]}"
 
--- the whole, with further keys behind the calls
+-- the whole data, with further keys after the calls
 unfoldable pub data_with : Machine → Texts → List ℕ → List ℕ
 data_with m consoles keys = run_text m consoles ++ codes "]" ++ keys ++ codes "}"

@@ -1,7 +1,7 @@
 //! What a delivery of a message changes at a node, and what it misses.
 ghost use Rattle.std.specs.Prelude.{◌≡◌, ◌++◌, ◌<◌, ◌≤◌, IfOk, OnOk, option_map};
 ghost use Rattle.std.specs.List.{flat_map};
-ghost use Rattle.payload_core.specs.Stores.{store_of};
+ghost use Rattle.store_core.specs.Stores.{store_of};
 ghost use Rattle.replica_core.specs.Deliveries.{is_other_known};
 ghost use Rattle.replica_core.specs.Replicas.{is_known};
 ghost use Rattle.report_core.specs.Dots.{clock_of};
@@ -14,7 +14,7 @@ use payload_core::{Oom, Payload};
 use replica_core::Replica;
 use std::alloc::Allocator;
 
-/// `NAME,CLOCK,STANDING` of a dot that stands higher in what comes than here.
+/// `NAME,CLOCK,STANDING` for a dot, if it stands higher in the message than at the node.
 fn put_hop_by<A: Allocator>(
     numbers: &mut Vec<u64, A>,
     dot: Dot,
@@ -31,7 +31,7 @@ fn put_hop_by<A: Allocator>(
     Ok(())
 }
 
-/// Of a dot that stands higher in the message than at the replica.
+/// As `put_hop_by`, for a dot by the replica and the message.
 fn put_hop<A: Allocator, R: Allocator>(
     numbers: &mut Vec<u64, A>,
     replica: &Replica<R>,
@@ -45,7 +45,7 @@ fn put_hop<A: Allocator, R: Allocator>(
     put_hop_by(numbers, dot, here, coming)
 }
 
-/// Of each of these clocks of the name.
+/// As `put_hop`, for each of these clocks of the name.
 fn put_each_hop<A: Allocator, R: Allocator>(
     numbers: &mut Vec<u64, A>,
     replica: &Replica<R>,
@@ -66,7 +66,7 @@ fn put_each_hop<A: Allocator, R: Allocator>(
     Ok(())
 }
 
-/// Of each dot that the message has of the name.
+/// As `put_hop`, for each dot that the message has of the name.
 #[tactic(auto, unfolding(crate::specs::Carried::hops_of))]
 fn put_hops_of<A: Allocator + Copy, R: Allocator>(
     numbers: &mut Vec<u64, A>,
@@ -89,7 +89,7 @@ fn is_other_known<R: Allocator>(replica: &Replica<R>, name: u16) -> bool
     replica.status(name).is_some() && name != replica.own()
 }
 
-/// Of the name, where it is another one that the replica knows.
+/// As `put_hops_of`, if the name is another one that the replica knows.
 fn put_hops_if<A: Allocator + Copy, R: Allocator>(
     numbers: &mut Vec<u64, A>,
     replica: &Replica<R>,
@@ -107,7 +107,8 @@ fn put_hops_if<A: Allocator + Copy, R: Allocator>(
     Ok(())
 }
 
-/// Of each of the first `count` names.
+/// `NAME,CLOCK,STANDING` for each dot of the first `count` names that stands higher in the message, if the replica
+/// knows its name as another one.
 fn hops_to<A: Allocator + Copy, R: Allocator>(
     replica: &Replica<R>,
     message: &Payload<R>,
@@ -124,7 +125,8 @@ fn hops_to<A: Allocator + Copy, R: Allocator>(
     Ok(numbers)
 }
 
-/// What a delivery of a message changes at a node, where there are both: how its dots stand there from then on.
+/// What a delivery of a message changes at a node, if both are there: how the message's dots stand at the node from
+/// then on.
 pub fn hops_at<'a, A: Allocator + Copy, B: Allocator>(
     node: Option<&Node<'a, B>>,
     message: Option<&Payload<&'a B>>,
@@ -141,7 +143,7 @@ pub fn hops_at<'a, A: Allocator + Copy, B: Allocator>(
     }
 }
 
-/// `NAME,CLOCK,MORE`, where the name isn't known and there are dots of it.
+/// `NAME,CLOCK,MORE`, if the name isn't known and there are dots of it.
 fn put_missed_if<A: Allocator>(
     numbers: &mut Vec<u64, A>,
     is_known: bool,
@@ -160,7 +162,7 @@ fn put_missed_if<A: Allocator>(
     Ok(())
 }
 
-/// Of a name that the replica doesn't know, where the message has dots of it.
+/// As `put_missed_if`, for a name by the replica and the message.
 fn put_missed<A: Allocator, R: Allocator>(
     numbers: &mut Vec<u64, A>,
     replica: &Replica<R>,
@@ -182,7 +184,7 @@ fn put_missed<A: Allocator, R: Allocator>(
     )
 }
 
-/// Of each of the first `count` names.
+/// `NAME,CLOCK,MORE` for each of the first `count` names that the replica doesn't know and the message has dots of.
 fn missed_by<A: Allocator, R: Allocator>(
     replica: &Replica<R>,
     message: &Payload<R>,
@@ -199,8 +201,8 @@ fn missed_by<A: Allocator, R: Allocator>(
     Ok(numbers)
 }
 
-/// What a delivery of a message misses at a node, where there are both: of each name that it doesn't know, how many dots the
-/// message has.
+/// What a node misses in a delivery of a message, if both are there: for each name that it doesn't know, how many dots
+/// the message has.
 pub fn missed_at<'a, A: Allocator, B: Allocator>(
     node: Option<&Node<'a, B>>,
     message: Option<&Payload<&'a B>>,

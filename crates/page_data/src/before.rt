@@ -17,11 +17,11 @@ use std::alloc::Allocator;
 /// What is kept of a bench before a call.
 #[derive(Drop)]
 pub struct Before<'a, B: Allocator> {
-    /// What the step reads that the call asks for, as its keys.
+    /// What the step that the call asks for reads, as its keys.
     pub reads: String<&'a B>,
     /// The node that the call is to change.
     pub node: Option<u16>,
-    /// How the step changed the list of that node which the call is to take back.
+    /// How the step that the call is to take back changed the list of that node.
     pub undone: Diff<&'a B>,
     /// What that node has seen of each name.
     pub seen: Vec<Seen, &'a B>,
@@ -62,7 +62,7 @@ fn node_if<'x, 'a, B: Allocator>(
     }
 }
 
-/// What the step reads that a call asks for.
+/// What the step that a call asks for reads.
 fn reads<'a, B: Allocator>(
     bench: &Bench<'a, B>,
     actor: u16,

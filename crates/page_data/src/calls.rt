@@ -1,4 +1,4 @@
-//! A call asked again of a bench, and what is told of it.
+//! A call asked again of a bench, and what the page tells of it.
 ghost use Rattle.std.specs.Prelude.{◌≡◌, ◌++◌, ◌<◌, ◌≤◌, None, OnOk, length, option_map, string_bytes};
 ghost use Rattle.bench_core.specs.Acts.{plain_act};
 ghost use Rattle.journal_core.specs.Journals.{first_consequence};
@@ -42,7 +42,7 @@ fn put_changed<'a, B: Allocator>(
     put_numbers_key(text, "dots", &changes)
 }
 
-/// What the step sent and made that an act asked for.
+/// What the step that an act asked for sent and made.
 fn put_act_gives<'a, B: Allocator>(
     text: &mut String<&'a B>,
     bench: &Bench<'a, B>,
@@ -61,7 +61,7 @@ fn put_act_gives<'a, B: Allocator>(
     }
 }
 
-/// A step of the node that was taken and read this.
+/// The head of a step of the node that was taken, with what the step read.
 #[tactic(auto, unfolding(crate::specs::PageData::taken_head))]
 fn put_taken_head<A: Allocator>(
     text: &mut String<A>,
@@ -76,7 +76,7 @@ fn put_taken_head<A: Allocator>(
     Ok(text.push_str(reads)?)
 }
 
-/// That, and what it changed, on the bench after it.
+/// A step of the node that was taken, and what it changed, on the bench after it.
 #[tactic(auto, unfolding(crate::specs::PageData::taken_text))]
 fn put_taken<'a, B: Allocator>(
     text: &mut String<&'a B>,
@@ -106,7 +106,7 @@ fn put_taken<'a, B: Allocator>(
     )
 }
 
-/// The last step, which was taken, and what it changed.
+/// The last step that was taken, and what it changed.
 fn put_step<'a, B: Allocator>(
     text: &mut String<&'a B>,
     bench: &Bench<'a, B>,
@@ -194,7 +194,7 @@ fn put_refused<'a, B: Allocator>(
     put_held(text, fault)
 }
 
-/// Asks the act, of which this is kept, and tells what it changed.
+/// Asks the act, and tells what it changed, compared with what was kept before it.
 fn put_outcome<'a, B: Allocator>(
     text: &mut String<&'a B>,
     bench: &mut Bench<'a, B>,
@@ -261,7 +261,7 @@ fn put_act<'a, B: Allocator>(
     Ok(text.push_str("}")?)
 }
 
-/// Asks a recorded call again, and tells of it; it stands at this place.
+/// Asks the recorded call at this place again, and tells of it.
 pub fn put_event<'a, B: Allocator>(
     text: &mut String<&'a B>,
     bench: &mut Bench<'a, B>,

@@ -1,7 +1,7 @@
 //! The dots of a name, and how they stand.
 ghost use Rattle.std.specs.Prelude.{◌≡◌, ◌++◌, ◌<◌, IfOk, OnOk};
 ghost use Rattle.dots_core.specs.Absorbed.{numbers};
-ghost use Rattle.payload_core.specs.Stores.{standing, store_of};
+ghost use Rattle.store_core.specs.Stores.{standing, store_of};
 ghost use Rattle.report_core.specs.Dots.{clock_of};
 ghost use Rattle.page_data.specs.Carried.{clocks_of, more_of};
 

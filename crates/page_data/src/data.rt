@@ -11,7 +11,7 @@ use report_core::name_at;
 use std::alloc::Allocator;
 use transcript_core::console_at;
 
-/// The names of the nodes, divided by commas.
+/// The names of the nodes, separated by commas.
 fn put_names<A: Allocator, N: Allocator>(text: &mut String<A>, names: &Names<N>) -> Result<(), Oom>
     ensures { OnOk result (string_bytes text.new ≡ string_bytes text.old ++ texts_text 0 names.now) }
 {
@@ -22,7 +22,7 @@ fn put_names<A: Allocator, N: Allocator>(text: &mut String<A>, names: &Names<N>)
     Ok(())
 }
 
-/// The texts as strings, divided by commas.
+/// The texts as strings, separated by commas.
 pub fn put_texts<A: Allocator, C: Allocator>(
     text: &mut String<A>,
     texts: &TextSet<C>,
@@ -54,7 +54,7 @@ fn put_events<'a, B: Allocator>(
     Ok(())
 }
 
-/// The names of the nodes, behind the version.
+/// The names of the nodes, after the version.
 #[tactic(auto, unfolding(crate::specs::PageData::nodes_text))]
 fn put_nodes<A: Allocator, N: Allocator>(text: &mut String<A>, names: &Names<N>) -> Result<(), Oom>
     ensures { OnOk result (string_bytes text.new ≡ string_bytes text.old ++ nodes_text names.now) }
@@ -97,8 +97,8 @@ fn run_text<'a, B: Allocator>(
     Ok(text)
 }
 
-/// The data of the page of a bench: its recorded calls as JSON, asked again of a bench of the same names, where the consoles
-/// have these names. No `<` stands in it.
+/// The data of the page of a bench: its recorded calls as JSON, asked again of a bench of the same names, with these
+/// names of the consoles. No `<` stands in it.
 #[tactic(auto, unfolding(crate::specs::PageData::page_data))]
 pub fn page_data<'a, B: Allocator>(
     alloc: &'a B,
@@ -112,7 +112,7 @@ pub fn page_data<'a, B: Allocator>(
     Ok(text)
 }
 
-/// The same with further keys behind the calls, each with a comma before it.
+/// As `page_data`, with further keys after the calls, each with a comma before it.
 #[tactic(auto, unfolding(crate::specs::PageData::data_with))]
 pub fn page_data_with<'a, B: Allocator>(
     alloc: &'a B,

@@ -72,7 +72,7 @@ pub fn put_string<A: Allocator>(text: &mut String<A>, string: &str) -> Result<()
     Ok(text.push_str("\"")?)
 }
 
-/// A comma, but before the first.
+/// A comma, except before the first.
 pub fn put_comma<A: Allocator>(text: &mut String<A>, place: usize) -> Result<(), Oom>
     ensures { OnOk result (string_bytes text.new ≡ string_bytes text.old ++ comma_at place) }
 {
@@ -93,7 +93,7 @@ fn put_more<A: Allocator>(text: &mut String<A>, numbers: &[u64]) -> Result<(), O
     Ok(())
 }
 
-/// The numbers, divided by commas.
+/// The numbers, separated by commas.
 #[tactic(auto, unfolding(crate::specs::Json::numbers_text))]
 fn put_numbers<A: Allocator>(text: &mut String<A>, numbers: &[u64]) -> Result<(), Oom>
     ensures { OnOk result (string_bytes text.new ≡ string_bytes text.old ++ numbers_text numbers.now) }
@@ -113,7 +113,7 @@ pub fn put_number_key<A: Allocator>(text: &mut String<A>, key: &str, number: u64
     Ok(write!(text, ",\"{key}\":{number}")?)
 }
 
-/// That, where there is a number.
+/// `,"KEY":NUMBER`, if there is a number.
 pub fn put_number_if<A: Allocator>(
     text: &mut String<A>,
     key: &str,
@@ -127,7 +127,7 @@ pub fn put_number_if<A: Allocator>(
     }
 }
 
-/// `,"KEY":[NUMBER,..]`, where there are any numbers.
+/// `,"KEY":[NUMBER,..]`, if there are any numbers.
 #[tactic(auto, unfolding(crate::specs::Json::numbers_key))]
 pub fn put_numbers_key<A: Allocator>(
     text: &mut String<A>,

@@ -8,34 +8,35 @@ pub fn plain_law()
     ensures { PlainLaw }
 {}
 
-/// The same of data with further keys, where none stands in these.
+/// No `<` stands in data with further keys, if none stands in these keys.
 pub fn plain_with_law()
     ensures { PlainWithLaw }
 {}
 
-/// The text of a call ends with the rows that it took from the online list of its node and gave it, and with what the node
-/// has seen since: those of which the next two laws speak.
+/// The text of a call ends with the rows that it took from the online list of its node and gave to it, and with what
+/// the node has seen since. The next two laws are about these.
 pub fn change_law()
     ensures { ChangeLaw }
 {}
 
-/// What calls took from a node's online list and gave it comes to its list behind them.
+/// Applied in order, the rows that calls took from a node's online list and gave to it lead to its list after these
+/// calls.
 pub fn rows_law()
     ensures { RowsLaw }
 {}
 
-/// What calls tell of what a node has seen comes to what it has seen behind them.
+/// Applied in order, what calls tell of what a node has seen leads to what it has seen after these calls.
 pub fn dots_law()
     ensures { DotsLaw }
 {}
 
-/// Of two steps that remain, `prev` and `from` lead from the later back to the earlier exactly where the later follows from it.
-/// (Danos and Krivine: causal undo.)
+/// Among the steps that remain, `prev` and `from` lead from a later step back to an earlier one exactly if the later
+/// follows from it. (Danos and Krivine: causal undo.)
 pub fn past_law()
     ensures { PastLaw }
 {}
 
-/// The hops of a delivery come to how each dot stands behind it.
+/// Applied to how a dot stood before, the hops of a delivery give how it stands after it.
 pub fn hops_law()
     ensures { HopsLaw }
 {}

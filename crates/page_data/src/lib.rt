@@ -1,4 +1,4 @@
-//! The data of a page on which a run is looked at: its calls as JSON.
+//! The data of a page to look at a run: its calls as JSON.
 //!
 //! For each recorded call it tells what was asked and answered, which steps it follows from, which rows left and joined the
 //! online list of its node, what that node has seen, and what a message carried. It stands on `report_core` (what a call

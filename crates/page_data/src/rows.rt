@@ -9,7 +9,7 @@ use diff_core::OnlineRow;
 use payload_core::Oom;
 use std::alloc::Allocator;
 
-/// `NAME,CLOCK` of each row.
+/// `NAME,CLOCK` for each row.
 #[tactic(auto, unfolding(crate::specs::PageData::row_dots))]
 fn row_dots<A: Allocator, R: Allocator>(rows: &[OnlineRow<R>], alloc: A) -> Result<Vec<u64, A>, Oom>
     ensures { IfOk result (λ numbers. numbers.items ≡ row_dots rows.now) }
@@ -22,7 +22,7 @@ fn row_dots<A: Allocator, R: Allocator>(rows: &[OnlineRow<R>], alloc: A) -> Resu
     Ok(numbers)
 }
 
-/// `NAME,CLOCK,STANDING` of each row.
+/// `NAME,CLOCK,STANDING` for each row.
 #[tactic(auto, unfolding(crate::specs::PageData::row_hops))]
 fn put_hops<A: Allocator, R: Allocator>(
     numbers: &mut Vec<u64, A>,
@@ -65,7 +65,8 @@ fn is_own<W: Allocator>(step: &Step<W>) -> bool
     )
 }
 
-/// By such a step what left is gone, and what joined is live.
+/// Appends the hops of a step that changes the node's own presences: the rows that left as gone, and those that joined
+/// as live. Appends nothing for other steps.
 #[tactic(auto, unfolding(crate::specs::PageData::own_keys))]
 pub fn put_own_keys<A: Allocator, M: Allocator + Copy, R: Allocator, W: Allocator>(
     text: &mut String<A>,

@@ -1,4 +1,4 @@
-//! `Seen`: what a node has seen of a name, in numbers; and what of it changed.
+//! `Seen`: what a node has seen of a name, as numbers; and what changed in it.
 ghost use Rattle.std.specs.Prelude.{◌≡◌, ◌++◌, ◌<◌, ◌≤◌, IfOk, OnOk, option_map};
 ghost use Rattle.page_data.specs.Seen.{all_seen, change_of, changes_in, changes_of, is_same, seen_at, seen_in, seen_of, status_number};
 
@@ -55,7 +55,7 @@ fn seen_of<R: Allocator>(replica: &Replica<R>, name: u16) -> Seen
     }
 }
 
-/// Of each of the first `count` names.
+/// What a replica has seen of each of the first `count` names.
 fn all_seen<A: Allocator, R: Allocator>(
     replica: &Replica<R>,
     count: u16,
@@ -97,7 +97,7 @@ fn seen_at(before: &[Seen], name: u16) -> Seen
     })
 }
 
-/// `NAME,STATUS,CLOCK,MORE`, where it is another than before.
+/// `NAME,STATUS,CLOCK,MORE`, if it differs from before.
 fn put_change<A: Allocator>(
     numbers: &mut Vec<u64, A>,
     name: u16,
@@ -116,7 +116,7 @@ fn put_change<A: Allocator>(
     Ok(())
 }
 
-/// Of each of the first `count` names.
+/// `NAME,STATUS,CLOCK,MORE` for each of the first `count` names for which it changed.
 fn changes_of<A: Allocator, R: Allocator>(
     replica: &Replica<R>,
     before: &[Seen],
@@ -134,7 +134,7 @@ fn changes_of<A: Allocator, R: Allocator>(
     Ok(numbers)
 }
 
-/// What changed of what a node has seen of each of the first `count` names.
+/// What changed in what a node has seen, for each of the first `count` names.
 pub fn changes_in<'a, A: Allocator, B: Allocator>(
     node: Option<&Node<'a, B>>,
     before: &[Seen],

@@ -1,4 +1,4 @@
-//! The step that sent what a step delivers.
+//! The step that sent what another step delivers.
 ghost use Rattle.std.specs.Prelude.{◌≡◌};
 ghost use Rattle.journal_core.specs.Holdings.{kepts};
 ghost use Rattle.journal_core.specs.Journals.{sender_of, source_of};
@@ -8,14 +8,14 @@ ghost use Rattle.page_data.specs.Asked.{is_sent};
 use bench_core::{Journal, Kept, Step};
 use std::alloc::Allocator;
 
-/// Whether a step is a sending one of the node.
+/// Whether a step is a sending step of the node.
 fn is_sent_by<A: Allocator>(kept: &Kept<A>, node: u16) -> bool
     ensures { result ≡ is_sent kept.now node }
 {
     kept.node == node && kept.step.sends()
 }
 
-/// The number of the step that sent this message of the node, by the messages' numbers from 1, if it remains.
+/// The number of the step that sent this message of the node, if it remains. Messages are numbered from 1.
 fn sender_of<'a, B: Allocator>(journal: &Journal<'a, B>, node: u16, message: u64) -> Option<u64>
     ensures { result ≡ sender_of (kepts journal.now.steps) node message }
 {

@@ -1,6 +1,6 @@
 //! What a message carries.
 ghost use Rattle.std.specs.Prelude.{◌≡◌, ◌++◌, ◌<◌, ◌≤◌, IfOk, OnOk, filter};
-ghost use Rattle.payload_core.specs.Stores.{store_of};
+ghost use Rattle.store_core.specs.Stores.{store_of};
 ghost use Rattle.report_core.specs.Dots.{clock_of};
 ghost use Rattle.page_data.specs.Carried.{clock_if, clocks_standing, more_of, name_if_any, names_in, stands_so};
 
@@ -9,14 +9,14 @@ use dots_core::Dot;
 use payload_core::{Oom, Payload};
 use std::alloc::Allocator;
 
-/// Whether the name's dot of this clock stands so in the message.
+/// Whether the name's dot of this clock stands as `wanted` in the message.
 fn stands_so<R: Allocator>(message: &Payload<R>, name: u16, wanted: u64, clock: u64) -> bool
     ensures { result ≡ stands_so (store_of message.now) name wanted clock }
 {
     standing_told(message, Dot { name, clock }) == wanted
 }
 
-/// The clock, where it is wanted.
+/// The clock, if it is wanted.
 fn put_clock_if<A: Allocator>(
     numbers: &mut Vec<u64, A>,
     clock: u64,
@@ -30,7 +30,7 @@ fn put_clock_if<A: Allocator>(
     Ok(())
 }
 
-/// Those of these clocks whose dots stand so.
+/// The clocks among these whose dots stand as `wanted`.
 fn put_standing<A: Allocator, R: Allocator>(
     numbers: &mut Vec<u64, A>,
     message: &Payload<R>,
@@ -46,7 +46,7 @@ fn put_standing<A: Allocator, R: Allocator>(
     Ok(())
 }
 
-/// The clocks of the name's dots in a message that stand so: 1 with their entries, 2 without.
+/// The clocks of the name's dots in a message that stand as `wanted`: 1 with their entries, 2 without.
 #[tactic(auto, unfolding(crate::specs::Carried::clocks_standing))]
 pub fn clocks_standing<A: Allocator + Copy, R: Allocator>(
     message: &Payload<R>,
@@ -63,7 +63,7 @@ pub fn clocks_standing<A: Allocator + Copy, R: Allocator>(
     Ok(numbers)
 }
 
-/// The name, where there are any.
+/// The name, if there are any dots of it.
 fn put_name_if<A: Allocator>(
     numbers: &mut Vec<u64, A>,
     name: u16,
@@ -79,7 +79,7 @@ fn put_name_if<A: Allocator>(
     Ok(())
 }
 
-/// The name, where the message has dots of it.
+/// The name, if the message has dots of it.
 fn put_name_of<A: Allocator, R: Allocator>(
     numbers: &mut Vec<u64, A>,
     message: &Payload<R>,
@@ -93,7 +93,7 @@ fn put_name_of<A: Allocator, R: Allocator>(
     put_name_if(numbers, name, last_of(seen, name), more_of(seen, name))
 }
 
-/// Those of the first `count` names of which the message has dots.
+/// The names below `count` of the dots that the message has.
 pub fn names_in<A: Allocator, R: Allocator>(
     message: &Payload<R>,
     count: u16,

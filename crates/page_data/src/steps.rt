@@ -68,7 +68,8 @@ fn put_arrival<'a, B: Allocator>(
     }
 }
 
-/// Of a step of the node, before it is taken: the step before it, the one that sent what it delivers, and what that changes.
+/// For a step of the node, before it is taken: the step before it, the one that sent what it delivers, and what the
+/// delivery changes.
 #[tactic(auto, unfolding(crate::specs::PageData::reads_keys))]
 pub fn put_reads<'a, B: Allocator>(
     text: &mut String<&'a B>,
@@ -87,7 +88,7 @@ pub fn put_reads<'a, B: Allocator>(
     put_arrival(text, bench, actor, step, alloc)
 }
 
-/// Of a broadcast the clocks of the dots that it carries, with their entries and without.
+/// For a broadcast: the clocks of the dots that it carries, with their entries and without.
 fn put_broadcast<'a, B: Allocator>(
     text: &mut String<&'a B>,
     message: &Payload<&'a B>,
@@ -103,7 +104,7 @@ fn put_broadcast<'a, B: Allocator>(
     put_numbers_key(text, "gone", &gone)
 }
 
-/// What a message carries that the step sent.
+/// What the message that a step sent carries.
 fn put_carried<'a, B: Allocator>(
     text: &mut String<&'a B>,
     step: &Step<&'a B>,
@@ -237,7 +238,8 @@ fn put_made<'a, B: Allocator>(
     }
 }
 
-/// Of a step of the node, after it was taken: what it sent and made, and how the node's own presences stand from then on.
+/// For a step of the node, after it was taken: what it sent and made, and how the node's own presences stand from then
+/// on.
 #[tactic(auto, unfolding(crate::specs::PageData::gives_keys))]
 pub fn put_gives<'a, B: Allocator>(
     text: &mut String<&'a B>,

@@ -6,11 +6,12 @@ use Rattle.dots_core.specs.declared.dot.Dot.{Dot}
 use Rattle.dots_core.specs.Dots.{dot_cmp}
 use Rattle.dots_core.proofs.Order.{is_dot, is_dot-true, is_dot_same}
 use Rattle.payload_core.specs.Marks.{mark_of}
-use Rattle.payload_core.specs.Presences.{Presence, Entries, is_tracked_as, dots_of}
+use Rattle.entry_core.specs.Presences.{Presence, Entry, Entries, entry_of, is_tracked_as, dots_of}
+use Rattle.std.specs.Option.{option_map}
 use Rattle.payload_core.specs.TrackIndices.{TrackIndex, Covers, Holds, dot_if, held_as, holder_of, in_box, tracked_at}
 use Rattle.payload_core.specs.declared.track_index.Holder.{Holder}
 use Rattle.payload_core.specs.declared.track_index.Holder.TheVariants.{One, Several}
-use Rattle.payload_core.proofs.EntryMaps.{get-insert, get-remove}
+use Rattle.block_core.proofs.EntryMaps.{get-insert, get-remove}
 use Rattle.payload_core.proofs.TrackedDots.{EachPasses, dots_of_pass, none_passes, tracked_as}
 
 module _ (name pid : ℕ) (topic key : List ℕ) (m : Entries) (index : TrackIndex) (covers : Covers index m) where
@@ -136,3 +137,12 @@ same_dot a b e =
     let name : a.name ≡ b.name = eqb-true a.name b.name parts.0 in
     let clock : a.clock ≡ b.clock = eqb-true a.clock b.clock parts.1 in
     ap (dot_at a.clock) name ∙ ap (λ k. dot_at k b.name) clock
+
+-- an entry that was found at a dot has that dot
+pub dot_found : (d : Dot) (o : Option Presence) (e : Entry) → Some e ≡ option_map (entry_of d) o → e.dot ≡ d
+dot_found d None e h = absurd (cc)
+dot_found d (Some p) e h = let same : e ≡ entry_of d p = cc in ap (λ e. e.dot) same
+
+pub none_found : (d : Dot) (o : Option Presence) → option_map (entry_of d) o ≡ None → o ≡ None
+none_found d None h = refl
+none_found d (Some p) h = absurd (cc)

@@ -7,9 +7,9 @@ use Rattle.dots_core.specs.declared.dot.Dot.{Dot}
 use Rattle.dots_core.specs.Dots.{Dots, dot_cmp, of_names}
 use Rattle.dots_core.proofs.Order.{is_dot}
 use Rattle.dots_core.proofs.Sets.{contains-insert, contains-retain}
-use Rattle.payload_core.specs.Presences.{Presence, Entries, entries_of_names}
+use Rattle.entry_core.specs.Presences.{Presence, Entries, entries_of_names}
 use Rattle.payload_core.specs.Messages.{AreSeen}
-use Rattle.payload_core.proofs.EntryMaps.{get-insert, get-remove, get-names}
+use Rattle.block_core.proofs.EntryMaps.{get-insert, get-remove, get-names}
 
 pub seen_none : (seen : Dots) → AreSeen seen fin.empty
 seen_none seen d h = absurd (true≢false (sym h ∙ ap is_some (fin.get-empty dot_cmp d)))

@@ -11,7 +11,7 @@ use Rattle.std.specs.List.{AllByRecursion}
 use Rattle.dots_core.specs.declared.dot.Dot.{Dot}
 use Rattle.dots_core.specs.Dots.{dot_cmp}
 use Rattle.dots_core.proofs.Order.{is_dot, is_dot-true, is_dot_same, is_dot_above}
-use Rattle.payload_core.specs.Presences.{Presence, Entries, is_tracked_as, dots_of}
+use Rattle.entry_core.specs.Presences.{Presence, Entries, is_tracked_as, dots_of}
 
 -- a process, a topic and a key
 

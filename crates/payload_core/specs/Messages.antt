@@ -7,7 +7,7 @@ use Rattle.std.specs.FinSet as set
 use Rattle.dots_core.specs.declared.dot.Dot.{Dot}
 use Rattle.dots_core.specs.Dots.{Dots, dot_code, of_names}
 use Rattle.dots_core.specs.Names.{Names}
-use Rattle.payload_core.specs.Presences.{Entries, entries_code, entries_of_names}
+use Rattle.entry_core.specs.Presences.{Entries, entries_code, entries_of_names}
 
 -- a dot that is seen and has no entry was removed; a request has names, and neither dots nor entries
 pub record Message : Type 0 where
@@ -42,7 +42,7 @@ pub record IsMessage (m : Message) : Type 0 where
   pub live : AreSeen m.seen m.entries
   pub bare : IfSome m.asked (λ names. m ≡ request_message m.sender names)
 
--- the message of the names that pass the test, of what its sender has seen and holds
+-- the message of what its sender has seen and holds, for the names that pass the test
 abbrev pub message_of_names : (ℕ → Bool) → ℕ → Dots → Entries → Message
 message_of_names named sender seen es = store_message sender (of_names named seen) (entries_of_names named es)
 

@@ -1,15 +1,15 @@
--- What a contract sees of an outbox: how many messages it may hold, those that it holds, and for how many more memory is there.
+-- What a contract sees of an outbox: how many messages it may hold, those that it holds, and how many more have memory.
 use Rattle.std.specs.Prelude.{ℕ, List, refl}
 use Rattle.std.specs.Coded.{Coded, code_by, coded×, coded_ℕ, coded_list}
 use Rattle.payload_core.specs.Messages.{Message, message_code}
 
--- the messages in the order of their numbers; the room is no part of `same`, nor of what a copy keeps
+-- the messages in the order of their numbers; neither `same` nor a copy looks at the room
 pub record Outbox : Type 0 where
   pub limit : ℕ
   pub messages : List Message
   pub room : ℕ
 
--- it is stored as the tuple of its fields
+-- an outbox is stored as the tuple of its fields
 abbrev pub outbox_code : Coded Outbox
 outbox_code =
     code_by (ℕ × (List Message × ℕ)) (coded× coded_ℕ (coded× (coded_list message_code) coded_ℕ)) (λ o. (o.limit, (o.messages, o.room)))

@@ -1,23 +1,24 @@
 //! `EntrySet`, the live entries by their dots.
-ghost use Rattle.std.specs.Prelude.{◌≡◌, ◌↔◌, ◌==◌, ◌+◌, ◌^◌, ◌<◌, ◌≤◌, IfErr, IfOk, IsOk, IsTrue, OnErr, OnOk, slice_get};
+ghost use Rattle.std.specs.Prelude.{◌≡◌, ◌↔◌, ◌==◌, ◌+◌, ◌^◌, ◌<◌, ◌≤◌, IfErr, IfOk, IsOk, IsTrue, OnErr, OnOk, is_some, slice_get};
 ghost use Rattle.std.specs.FinMap as fin;
 ghost use Rattle.std.specs.FinSet as set;
 ghost use Rattle.std.specs.Option.{option_copied, option_map};
-ghost use Rattle.payload_core.specs.EntryLists.{IsPlaceFrom};
-ghost use Rattle.payload_core.specs.Presences.{dots_of, entries_of_names, entry_of, is_tracked_as, presence_of};
+ghost use Rattle.block_core.specs.Deliveries.{is_gone, is_new};
+ghost use Rattle.block_core.specs.Sets.{listed};
+ghost use Rattle.entry_core.specs.EntryLists.{IsPlaceFrom, pairs};
+ghost use Rattle.entry_core.specs.Presences.{dots_of, entries_of_names, entry_of, is_tracked_as, presence_of};
 ghost use Rattle.payload_core.specs.TrackIndices.{tracked_at};
 
-use crate::entries_by_dot::EntriesByDot;
-use crate::entry::Entry;
 use crate::mark::mark;
 use crate::track_index::{Holder, TrackIndex};
-use crate::word::Word;
-use dots_core::{Dot, NameSet, Oom};
+use block_core::{EntriesByDot, Walk};
+use dots_core::{Dot, DotSet, NameSet, Oom};
+use entry_core::{Entry, Handle, Word};
 use std::alloc::Allocator;
 use std::marker::Model;
 
-/// Live entries by their dots, with room for more. An index may find those of one name by process, topic and key; a copy
-/// goes without.
+/// Live entries by their dots, with room for more. An index may find those of one name by process, topic and key; a
+/// copy has no index.
 #[derive(Drop)]
 pub struct EntrySet<A: Allocator> {
     by_dot: EntriesByDot<A>,
@@ -26,7 +27,7 @@ pub struct EntrySet<A: Allocator> {
 
 impl<A: Allocator> Model for EntrySet<A> {
     ghost use Rattle.std.specs.Prelude.{min};
-    ghost use Rattle.payload_core.specs.EntrySets.{EntrySet, entry_set_code};
+    ghost use Rattle.block_core.specs.EntrySets.{EntrySet, entry_set_code};
     ghost use Rattle.payload_core.specs.TrackIndices.{Covers};
 
     ghost Value = { EntrySet };
@@ -75,8 +76,22 @@ impl<A: Allocator> EntrySet<A> {
         self.by_dot.first_from(dot)
     }
 
-    /// The dot of the least clock among those of a name that are tracked as this process, topic and key. Where at most one
-    /// is, and the index is of the name, it is found at once.
+    /// A walk over the entries by rising dot.
+    pub fn walk(&self) -> Walk<'_, A>
+        ensures { result ≡ listed self.now.map }
+    {
+        self.by_dot.walk()
+    }
+
+    /// A walk over the entries of a name by rising clock. It passes over those of other names.
+    pub fn walk_of(&self, name: u16) -> Walk<'_, A>
+        ensures { result ≡ listed (entries_of_names (λ n. n == name) self.now.map) }
+    {
+        self.by_dot.walk_of(name)
+    }
+
+    /// The dot of the least clock among those of a name that are tracked as this process, topic and key. It is found at
+    /// once if the index is of the name and there is at most one.
     pub fn find(&self, name: u16, pid: u64, topic: &Word<A>, key: &Word<A>) -> Option<Dot>
         ensures { result ≡ slice_get (dots_of name (is_tracked_as pid topic.now key.now) self.now.map) 0 }
     {
@@ -87,7 +102,7 @@ impl<A: Allocator> EntrySet<A> {
         }
     }
 
-    /// The dot, where its entry is of the name and tracked as this process, topic and key.
+    /// The dot, if its entry is of the name and tracked as this process, topic and key.
     fn tracked_at(
         &self,
         dot: Dot,
@@ -106,15 +121,32 @@ impl<A: Allocator> EntrySet<A> {
         }
     }
 
-    /// Takes the entry of the dot out, in a logarithm of comparisons. The room never falls.
+    /// Takes out the entry of the dot, in a logarithm of comparisons. The room never falls.
     pub fn remove(&mut self, dot: Dot) -> Option<Entry<A>>
         ensures entry { result ≡ option_map (entry_of dot) (fin.get self.old.map dot) }
         ensures map { self.new.map ≡ fin.remove self.old.map dot }
         ensures room { self.old.room ≤ self.new.room }
     {
         let entry = self.by_dot.remove(dot)?;
-        self.by_mark.remove(entry.mark(), dot);
+        self.by_mark.remove(&entry);
         Some(entry)
+    }
+
+    /// Drops the entry of the dot, and says whether there was one. It takes no memory, and copies nothing. The room
+    /// never falls.
+    pub fn discard(&mut self, dot: Dot) -> bool
+        ensures was { result ≡ is_some (fin.get self.old.map dot) }
+        ensures map { self.new.map ≡ fin.remove self.old.map dot }
+        ensures room { self.old.room ≤ self.new.room }
+    {
+        if !self.by_mark.is_of(dot.name) {
+            return self.by_dot.discard(dot);
+        }
+        match self.by_dot.get(dot) {
+            Some(entry) => self.by_mark.remove(entry),
+            None => return false,
+        }
+        self.by_dot.discard(dot)
     }
 
     /// Whether both have the same entries, whatever their room. It takes no memory.
@@ -146,7 +178,7 @@ impl<A: Allocator + Copy> EntrySet<A> {
         }
     }
 
-    /// After an `Ok` as many inserts succeed. The entries stay, and so does the room that was made before, also where
+    /// After an `Ok`, `count` inserts succeed. The entries stay, and so does the room that was made before, also where
     /// memory is refused.
     pub fn make_room(&mut self, count: usize) -> Result<(), Oom>
         ensures map { self.new.map ≡ self.old.map }
@@ -158,7 +190,7 @@ impl<A: Allocator + Copy> EntrySet<A> {
         self.by_mark.make_room(count, self.by_dot.allocator())
     }
 
-    /// Puts a new entry in, in a logarithm of comparisons. Where memory is refused, it comes back.
+    /// Inserts a new entry, in a logarithm of comparisons. Where memory is refused, the entry comes back.
     pub fn insert(&mut self, entry: Entry<A>) -> Result<(), (Entry<A>, Oom)>
         requires { fin.get self.old.map entry.dot ≡ None }
         ensures ok { OnOk result (self.new.map ≡ fin.insert self.old.map entry.dot (presence_of entry)) }
@@ -167,12 +199,92 @@ impl<A: Allocator + Copy> EntrySet<A> {
         ensures err { OnErr result (self.new.map ≡ self.old.map) }
         ensures given_back { IfErr result (λ failed. failed.0 ≡ entry) }
     {
-        if let Err(failed) = self.make_room(1) {
+        let alloc = self.by_dot.allocator();
+        if let Err(failed) = self.by_mark.make_room(1, alloc) {
             return Err((entry, failed));
         }
-        self.by_mark.add(entry.mark(), entry.dot);
-        self.by_dot.insert(entry);
-        Ok(())
+        self.by_mark.add(&entry);
+        match self.by_dot.insert(entry) {
+            Ok(()) => Ok(()),
+            Err(entry) => {
+                self.by_mark.remove(&entry);
+                Err((entry, Oom))
+            }
+        }
+    }
+
+    /// The allocator of its lists.
+    pub fn allocator(&self) -> A {
+        self.by_dot.allocator()
+    }
+
+    /// A handle of the dot's entry.
+    pub fn handle(&self, dot: Dot) -> Result<Option<Handle<A>>, Oom>
+        ensures { IfOk result (λ handle. handle ≡ option_map (entry_of dot) (fin.get self.now.map dot)) }
+    {
+        self.by_dot.handle(dot)
+    }
+
+    /// Takes out the entry of the dot as a handle, which others share where they have it too. The room never falls. A refusal
+    /// changes nothing.
+    pub fn take(&mut self, dot: Dot) -> Result<Option<Handle<A>>, Oom>
+        ensures entry { IfOk result (λ taken. taken ≡ option_map (entry_of dot) (fin.get self.old.map dot)) }
+        ensures map { OnOk result (self.new.map ≡ fin.remove self.old.map dot) }
+        ensures room { self.old.room ≤ self.new.room }
+        ensures err { OnErr result (self.new.map ≡ self.old.map) }
+    {
+        let Some(entry) = self.by_dot.take(dot)? else {
+            return Ok(None);
+        };
+        self.by_mark.remove(entry.entry());
+        Ok(Some(entry))
+    }
+
+    /// Inserts a new entry, which others may have. It may be refused memory even where room was made.
+    pub fn put(&mut self, entry: Handle<A>) -> Result<(), Oom>
+        requires { fin.get self.old.map entry.dot ≡ None }
+        ensures ok { OnOk result (self.new.map ≡ fin.insert self.old.map entry.dot (presence_of entry)) }
+        ensures err { OnErr result (self.new.map ≡ self.old.map) }
+    {
+        let alloc = self.by_dot.allocator();
+        self.by_mark.make_room(1, alloc)?;
+        self.by_mark.add(entry.entry());
+        match self.by_dot.put(entry) {
+            Ok(()) => Ok(()),
+            Err(entry) => {
+                self.by_mark.remove(entry.entry());
+                Err(Oom)
+            }
+        }
+    }
+
+    /// Inserts a new entry, which others may have and for which room was made.
+    pub fn put_ready(&mut self, entry: Handle<A>)
+        requires absent { fin.get self.old.map entry.dot ≡ None }
+        requires room { 0 < self.old.room }
+        ensures { self.new.map ≡ fin.insert self.old.map entry.dot (presence_of entry) }
+    {
+        self.by_mark.add(entry.entry());
+        self.by_dot.put_ready(entry);
+    }
+
+    /// Handles of the entries of these names that weren't seen, by rising dot.
+    pub fn joining(&self, seen: &DotSet<A>, names: NameSet) -> Result<Vec<Handle<A>, A>, Oom>
+        ensures { IfOk result (λ joining. pairs joining.items ≡ fin.entries (fin.retain_keys self.now.map (is_new (set.contains names) seen.now))) }
+    {
+        self.by_dot.joining(seen, names)
+    }
+
+    /// The dots of the entries of these names that a message has seen and doesn't have, rising.
+    pub fn leaving(
+        &self,
+        message: &EntrySet<A>,
+        seen: &DotSet<A>,
+        names: NameSet,
+    ) -> Result<Vec<Dot, A>, Oom>
+        ensures { IfOk result (λ leaving. leaving.items ≡ fin.keys (fin.retain_keys self.now.map (is_gone (set.contains names) seen.now message.now.map))) }
+    {
+        self.by_dot.leaving(&message.by_dot, seen, names)
     }
 
     /// The entries of these names.

@@ -3,13 +3,13 @@
 ghost use Rattle.std.specs.Prelude.{◌≡◌};
 ghost use Rattle.payload_core.specs.Marks.{mark_of, mixed, mixed_all};
 
-use crate::word::Word;
+use entry_core::Word;
 use std::alloc::Allocator;
 
 /// An odd number that spreads each byte over the bits above it.
 const FACTOR: u64 = 1_099_511_628_211;
 
-/// The mark of what is tracked. The 0 stands in no word, so it tells where the topic ends.
+/// The mark of what is tracked. A 0, which stands in no word, marks the end of the topic.
 pub fn mark<A: Allocator>(pid: u64, topic: &Word<A>, key: &Word<A>) -> u64
     ensures { result ≡ mark_of pid topic.now key.now }
 {
@@ -17,14 +17,14 @@ pub fn mark<A: Allocator>(pid: u64, topic: &Word<A>, key: &Word<A>) -> u64
     mix_all(with_topic, key.as_str().as_bytes())
 }
 
-/// A mark with one number more.
+/// The mark with one more number mixed in.
 fn mix(mark: u64, number: u64) -> u64
     ensures { result ≡ mixed mark number }
 {
     mark.wrapping_mul(FACTOR).wrapping_add(number)
 }
 
-/// A mark with these bytes more.
+/// The mark with these bytes mixed in.
 fn mix_all(start: u64, bytes: &[u8]) -> u64
     ensures { result ≡ mixed_all start bytes.now }
 {

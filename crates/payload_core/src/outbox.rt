@@ -93,7 +93,7 @@ impl<'a, B: Allocator> Outbox<'a, B> {
         }
     }
 
-    /// Takes the last message out; its number is free again. The room never falls.
+    /// Takes out the last message; its number is free again. The room never falls.
     pub fn pop(&mut self) -> Option<Payload<&'a B>>
         ensures found { IsSome result ↔ (0 < length self.old.messages) }
         ensures messages { self.old.messages ≡ self.new.messages ++ option_to_list result }
@@ -114,8 +114,7 @@ impl<'a, B: Allocator> Outbox<'a, B> {
         self.messages.reserve(1)
     }
 
-    /// Puts a message behind the others, and gives its number. A fault gives the message back: `OutboxFull` comes
-    /// first.
+    /// Puts a message after the others, and gives its number. A fault gives the message back: `OutboxFull` comes first.
     pub fn push(&mut self, payload: Payload<&'a B>) -> Result<u64, (Payload<&'a B>, OutboxFault)>
         ensures number { IfOk result (λ number. number ≡ length self.old.messages + 1) }
         ensures ok { OnOk result (self.new.messages ≡ self.old.messages ++ payload.entry ∷ []) }

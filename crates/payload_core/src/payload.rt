@@ -7,8 +7,8 @@ use dots_core::{DotSet, NameSet, Oom};
 use std::alloc::Allocator;
 use std::marker::Model;
 
-/// A message: its sender, the dots that it has seen, and the live entries among them; or, of a request, the names that it
-/// asks for, without dots and entries. A contract sees these as one `Message`.
+/// A message: its sender, the dots that it has seen, and the live entries among them. A request has the names that it
+/// asks for, and neither dots nor entries. A contract sees these as one `Message`.
 #[derive(Drop)]
 pub struct Payload<A: Allocator> {
     sender: u16,
@@ -50,7 +50,7 @@ impl<A: Allocator> Payload<A> {
         self.sender
     }
 
-    /// The names that a request asks for; `None` of other messages. A request has neither dots nor entries.
+    /// The names that a request asks for; `None` for other messages. A request has neither dots nor entries.
     pub fn asked(&self) -> Option<NameSet>
         ensures asked { result ≡ self.now.asked }
         ensures bare { IfSome result (λ names. self.now ≡ request_message self.now.sender names) }

@@ -2,9 +2,12 @@
 ghost use Rattle.std.specs.Prelude.{◌≡◌, ◌≢◌, ◌+◌, ◌<◌, ◌≤◌, IsOk, OnOk, ℕ};
 ghost use Rattle.dots_core.specs.declared.dot.Dot.{Dot};
 ghost use Rattle.std.specs.HashMap.{spare};
+ghost use Rattle.payload_core.specs.Marks.{mark_of};
 ghost use Rattle.payload_core.specs.TrackIndices.{Holds, held_as, holder_of, is_of};
 
+use crate::mark::mark;
 use dots_core::{Dot, Oom};
+use entry_core::Entry;
 use std::alloc::Allocator;
 use std::collections::HashMap;
 use std::hash::{BuildHasherDefault, FoldHasher};
@@ -22,8 +25,8 @@ pub enum Holder {
 /// What is known of each mark. It stands on the heap, so that a set that needs none stays small.
 type Holders<A> = HashMap<u64, Holder, BuildHasherDefault<FoldHasher>, A>;
 
-/// What is known of each mark among the entries of one name, or of none: of a mark that it doesn't have, the name has no
-/// entry. Of other names it knows nothing. It takes no memory before room is made.
+/// What is known of each mark among the entries of one name, or of no name. A mark that it doesn't have belongs to no
+/// entry of the name. It knows nothing of other names. It takes no memory before room is made.
 #[derive(Drop)]
 pub struct TrackIndex<A: Allocator> {
     name: Option<u16>,
@@ -43,7 +46,7 @@ impl<A: Allocator> Model for TrackIndex<A> {
 }
 
 impl<A: Allocator> TrackIndex<A> {
-    /// The index of this name's entries, of which there are none. It takes no memory.
+    /// An index of this name, which has no entries yet. It takes no memory.
     pub fn of(name: u16) -> TrackIndex<A> {
         TrackIndex {
             name: Some(name),
@@ -51,7 +54,7 @@ impl<A: Allocator> TrackIndex<A> {
         }
     }
 
-    /// The index of no name, whatever entries there are. It takes no memory.
+    /// An index of no name, whatever entries there are. It takes no memory.
     pub fn of_none() -> TrackIndex<A>
         ensures { (name mark : ℕ) (dot : Dot) → Holds (holder_of result name mark) dot }
     {
@@ -62,7 +65,7 @@ impl<A: Allocator> TrackIndex<A> {
     }
 
     /// Whether it is of this name.
-    fn is_of(&self, name: u16) -> bool
+    pub fn is_of(&self, name: u16) -> bool
         ensures { result ≡ is_of self.now.name name }
     {
         match self.name {
@@ -84,23 +87,24 @@ impl<A: Allocator> TrackIndex<A> {
         }
     }
 
-    /// An entry with this mark left the dot. The room never falls.
-    pub fn remove(&mut self, mark: u64, dot: Dot)
-        ensures others { (n m : ℕ) (d : Dot) → d ≢ dot → Holds (holder_of self.old n m) d → Holds (holder_of self.new n m) d }
+    /// Notes that the entry left its dot. The room never falls.
+    pub fn remove(&mut self, entry: &Entry<A>)
+        ensures others { (n m : ℕ) (d : Dot) → d ≢ entry.now.dot → Holds (holder_of self.old n m) d → Holds (holder_of self.new n m) d }
         ensures room { self.old.room ≤ self.new.room }
     {
-        if !self.is_of(dot.name) {
+        if !self.is_of(entry.dot.name) {
             return;
         }
+        let mark = mark(entry.pid, &entry.topic, &entry.key);
         if let Some(mut holders) = self.holders.take() {
-            take_out(&mut holders, mark, dot);
+            take_out(&mut holders, mark, entry.dot);
             self.holders = Some(holders);
         }
     }
 }
 
 impl<A: Allocator + Copy> TrackIndex<A> {
-    /// After an `Ok` there is room for as many more.
+    /// After an `Ok` there is room for `count` more.
     pub fn make_room(&mut self, count: usize, alloc: A) -> Result<(), Oom>
         ensures stays { (n m : ℕ) (d : Dot) → Holds (holder_of self.old n m) d → Holds (holder_of self.new n m) d }
         ensures room_stays { self.old.room ≤ self.new.room }
@@ -119,24 +123,25 @@ impl<A: Allocator + Copy> TrackIndex<A> {
         made
     }
 
-    /// An entry with this mark came to the dot.
-    pub fn add(&mut self, mark: u64, dot: Dot)
+    /// Notes that the entry came to its dot.
+    pub fn add(&mut self, entry: &Entry<A>)
         requires { 0 < self.old.room }
-        ensures added { Holds (holder_of self.new dot.name mark) dot }
+        ensures added { Holds (holder_of self.new entry.now.dot.name (mark_of entry.now.pid entry.now.topic entry.now.key)) entry.now.dot }
         ensures stays { (n m : ℕ) (d : Dot) → Holds (holder_of self.old n m) d → Holds (holder_of self.new n m) d }
         ensures room { self.old.room ≤ self.new.room + 1 }
     {
-        if !self.is_of(dot.name) {
+        if !self.is_of(entry.dot.name) {
             return;
         }
+        let mark = mark(entry.pid, &entry.topic, &entry.key);
         if let Some(mut holders) = self.holders.take() {
-            put_in(&mut holders, mark, dot);
+            put_in(&mut holders, mark, entry.dot);
             self.holders = Some(holders);
         }
     }
 }
 
-/// What is known of a mark among these.
+/// What is known of a mark among these holders.
 fn holder_in<A: Allocator>(holders: &Holders<A>, mark: u64) -> Option<Holder>
     ensures { result ≡ held_as holders.now.entries mark }
 {
@@ -146,7 +151,7 @@ fn holder_in<A: Allocator>(holders: &Holders<A>, mark: u64) -> Option<Holder>
     }
 }
 
-/// An entry with this mark left the dot.
+/// Notes that an entry with this mark left the dot.
 fn take_out<A: Allocator>(holders: &mut Holders<A>, mark: u64, dot: Dot)
     ensures others { (m : ℕ) (d : Dot) → d ≢ dot → Holds (held_as holders.old.entries m) d → Holds (held_as holders.new.entries m) d }
     ensures room { spare holders.old ≤ spare holders.new }
@@ -158,7 +163,7 @@ fn take_out<A: Allocator>(holders: &mut Holders<A>, mark: u64, dot: Dot)
     }
 }
 
-/// An entry with this mark came to the dot.
+/// Notes that an entry with this mark came to the dot.
 fn put_in<A: Allocator + Copy>(holders: &mut Holders<A>, mark: u64, dot: Dot)
     requires { 0 < spare holders.old }
     ensures added { Holds (held_as holders.new.entries mark) dot }

@@ -10,7 +10,7 @@ use Rattle.report_core.specs.Shown.{rows_of}
 use Rattle.picture_core.specs.Plans.{across, down}
 use Rattle.picture_core.specs.declared.online.Turn.{Turn}
 
--- a topic and key, and the node that is asked of, or each
+-- a topic and key, and the node that is asked about, or none for each
 pub record Asked : Type 0 where
   pub node : Option ℕ
   pub topic : List ℕ
@@ -23,13 +23,13 @@ is_asked asked row = bytes_eq row.topic asked.topic && bytes_eq row.key asked.ke
 unfoldable pub lists : Asked → List Row → Bool
 lists asked rows = list_any (is_asked asked) rows
 
--- a node that listed some, or none, and now does, or does not
+-- a turn at this row, if the node listed some before and doesn't now, or the other way round
 abbrev pub turn_if : ℕ → ℕ → Bool → Bool → List Turn
 turn_if row node was now =
     if was then (if now then [] else record { row = row; node = node; begins = false } ∷ [])
     else (if now then record { row = row; node = node; begins = true } ∷ [] else [])
 
--- a call at this row, which changed the online list of the node from the first of these to the second
+-- the turn of a call at this row that changed the online list of the node from the first of these to the second
 abbrev pub turn_of : Asked → ℕ → Option ℕ → List Row → List Row → List Turn
 turn_of asked row None before after = []
 turn_of asked row (Some node) before after = turn_if row node (lists asked before) (lists asked after)
@@ -38,7 +38,7 @@ unfoldable pub turn_at : Option Asked → ℕ → Option ℕ → List Row → Li
 turn_at None row changed before after = []
 turn_at (Some asked) row changed before after = turn_of asked row changed before after
 
--- a call that is asked on a machine
+-- the turn of a call that a machine is asked
 abbrev pub turn_by : Option Asked → Machine → ℕ → Event → List Turn
 turn_by asked m row e =
     turn_at asked row (changed_by m e.actor e.act) (rows_of m (changed_by m e.actor e.act))
@@ -47,17 +47,17 @@ turn_by asked m row e =
 abbrev pub with_call : Option Asked → Machine → ℕ → Event → List Turn → List Turn
 with_call asked m row e turns = turns ++ turn_by asked m row e
 
--- a node begins to list some: the pen goes there; it ends: the pen draws to there
+-- the path of a turn: the pen goes to where a node begins to list some, and draws to where it ends
 abbrev pub turn_path : ℕ → Turn → List ℕ
 turn_path nodes t =
     if t.begins then codes "M" ++ decimal (across nodes t.node) ++ codes " " ++ decimal (down t.row)
     else codes "V" ++ decimal (down t.row)
 
--- to the last row, where it still lists some
+-- the path to the last row, if the node still lists some
 abbrev pub end_path : Bool → ℕ → List ℕ
 end_path listing last = if listing then codes "V" ++ decimal (20 * last) else []
 
--- from where the pen is, and whether the node lists some there
+-- the path of these turns, from where the pen is; `listing` says whether the node lists some there
 unfoldable pub turns_path : ℕ → ℕ → ℕ → Bool → List Turn → List ℕ
 turns_path nodes node last listing [] = end_path listing last
 turns_path nodes node last listing (t ∷ turns) =

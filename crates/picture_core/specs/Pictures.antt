@@ -48,14 +48,14 @@ front = beside style ground
 
 -- which rows are drawn
 
--- the call took a step of at least, or of more than, this number
+-- whether the call took a step of this number or a greater one; if `beyond`, of a greater one
 abbrev pub is_from : Bool → ℕ → Reply → Bool
 is_from false number (Taken step) = nat_le number step
 is_from true number (Taken step) = nat_lt number step
 is_from beyond number (Undone step) = false
 is_from beyond number (Refused fault) = false
 
--- how many calls stand before the first that did
+-- how many calls come before the first one that took a step with this number or a greater one; if `beyond`, with a greater one
 unfoldable pub calls_before : Bool → ℕ → List Event → ℕ
 calls_before beyond number [] = 0
 calls_before beyond number (e ∷ events) = if is_from beyond number e.reply then 0 else 1 + calls_before beyond number events
@@ -68,7 +68,7 @@ abbrev pub last_row : List Event → Option ℕ → ℕ
 last_row events None = length events
 last_row events (Some to) = calls_before true to events
 
--- from the row of step `from` to that before the first step behind `to`
+-- the rows from that of step `from` to the one before the first step after `to`
 unfoldable pub range_of : List Event → Option ℕ → Option ℕ → Range
 range_of events from to = record { first = first_row events from; last = last_row events to }
 
@@ -77,7 +77,7 @@ range_of events from to = record { first = first_row events from; last = last_ro
 abbrev pub longest_name : Texts → ℕ
 longest_name names = fold (λ longest name. with_length longest (length name)) 0 names
 
--- above the lanes stand the names
+-- the names stand above the lanes
 unfoldable pub head_height : Texts → ℕ
 head_height names = 20 + wide (longest_name names)
 
@@ -89,7 +89,7 @@ unfoldable pub lanes_from : Range → ℕ → ℕ → Texts → Tree
 lanes_from range nodes n [] = Nothing
 lanes_from range nodes n (name ∷ names) = beside (lane nodes n range.first range.last) (lanes_from range nodes (n + 1) names)
 
--- where nodes begin to list what is asked of, and where they end
+-- where nodes begin and end to list what is asked about
 unfoldable pub turns_from : Option Asked → Machine → ℕ → List Event → List Turn → List Turn
 turns_from asked m row [] turns = turns
 turns_from asked m row (e ∷ events) turns =
@@ -99,7 +99,7 @@ abbrev pub is_of : Option ℕ → ℕ → Bool
 is_of None node = true
 is_of (Some n) node = n == node
 
--- where the lanes of the nodes are thick that are asked of
+-- the thick parts of the lanes of the nodes that are asked about
 abbrev pub bar_at : Option Asked → ℕ → ℕ → List Turn → ℕ → Tree
 bar_at None nodes last turns node = Nothing
 bar_at (Some asked) nodes last turns node = if is_of asked.node node then bar (bar_path nodes node last turns) else Nothing
@@ -111,7 +111,7 @@ bars_from asked nodes last turns n (name ∷ names) =
 
 -- the whole
 
--- the machine from which its history leads
+-- the machine before its history
 abbrev pub opened : Machine → Machine
 opened m = opening_machine m.names m.limits
 
@@ -145,7 +145,7 @@ size_of width height seen =
 abbrev pub size : ℕ → ℕ → List Attribute
 size width height = size_of width height (view_box 0 width height)
 
--- the part below the names, in which the drawn rows are seen and no others
+-- the part below the names, which shows the drawn rows and no others
 abbrev pub part_of : ℕ → ℕ → ℕ → List ℕ → List Attribute
 part_of top width height seen =
     attribute (codes "y") (decimal top) ∷ attribute (codes "width") (decimal width) ∷ attribute (codes "height") (decimal height) ∷
@@ -154,7 +154,7 @@ part_of top width height seen =
 abbrev pub part : ℕ → ℕ → ℕ → ℕ → List Attribute
 part top first width height = part_of top width height (view_box (20 * first) width height)
 
--- with these messages and rows
+-- the picture with these messages and rows
 unfoldable pub drawing : Texts → Range → Option Asked → List Turn → ℕ → Tree → Tree → Tree
 drawing names range asked turns bytes messages rows =
     element (codes "svg") (size (width (length names) bytes) (head_height names + height range))
@@ -165,7 +165,7 @@ drawing names range asked turns bytes messages rows =
     (beside (lanes_from range (length names) 0 names)
     (beside messages rows))))))
 
--- its text, with these texts in the place of its messages and its rows
+-- the text of that picture, with these texts in place of its messages and its rows
 unfoldable pub text_around : Texts → Range → Option Asked → List Turn → ℕ → List ℕ → List ℕ → List ℕ
 text_around names range asked turns bytes messages rows =
     opening_text (codes "svg") (size (width (length names) bytes) (head_height names + height range)) ++ text_of front ++
@@ -174,7 +174,8 @@ text_around names range asked turns bytes messages rows =
     text_of (bars_from asked (length names) range.last turns 0 names) ++ text_of (lanes_from range (length names) 0 names) ++ messages ++
     rows ++ end_text (codes "svg") ++ end_text (codes "svg")
 
--- the names above; below them where nodes list what is asked of, the lanes over that, the messages over them, and the rows
+-- the whole picture: the names above; below them the thick parts of the lanes, the lanes over them, the messages over these, and
+-- the rows
 unfoldable pub picture : Machine → Texts → List ℕ → Range → Option Asked → Tree
 picture m consoles painted range asked =
     drawing m.names range asked (turns m asked) (longest m range consoles) (messages m (drawn_steps m painted) range)

@@ -1,7 +1,7 @@
 -- Where things stand in a picture: time goes down, with a row for each recorded call, and each node has a lane.
 use Rattle.std.specs.Prelude.{ℕ, ◌+◌, ◌-◌, ◌*◌, ◌%◌, nat_lt, if◌then◌else◌}
 
--- from one lane to the next, by how many nodes there are
+-- the distance from one lane to the next, by how many nodes there are
 unfoldable pub pitch : ℕ → ℕ
 pitch nodes = if nat_lt nodes 5 then 56 else (if nat_lt nodes 9 then 40 else (if nat_lt nodes 17 then 24 else 18))
 
@@ -9,7 +9,7 @@ pitch nodes = if nat_lt nodes 5 then 56 else (if nat_lt nodes 9 then 40 else (if
 unfoldable pub slots : ℕ → ℕ
 slots nodes = if nat_lt nodes 5 then 8 else (if nat_lt nodes 9 then 5 else (if nat_lt nodes 17 then 3 else 2))
 
--- the lane of a node; that behind the last is where the words begin
+-- where the lane of a node is; the words begin where one more lane would be
 unfoldable pub across : ℕ → ℕ → ℕ
 across nodes node = 64 + pitch nodes * node
 
@@ -21,11 +21,11 @@ down row = 20 * row + 10
 unfoldable pub aside : ℕ → ℕ → ℕ
 aside nodes step = 6 + 3 * (step % slots nodes)
 
--- where it waits for a node, on the side from which it comes
+-- where that message waits for a node, on the side from which it comes
 unfoldable pub waits_at : ℕ → ℕ → ℕ → ℕ → ℕ
 waits_at nodes sender node step =
     if nat_lt sender node then across nodes node - aside nodes step else across nodes node + aside nodes step
 
--- how wide words are, and how high a name that is written upwards
+-- how wide words are, and how high a name is that is written upwards
 abbrev pub wide : ℕ → ℕ
 wide bytes = 8 * bytes

@@ -19,15 +19,15 @@ use Rattle.picture_core.specs.declared.kind.Kind.TheVariants as kinds
 use Rattle.picture_core.specs.declared.range.Range.{Range}
 use Rattle.picture_core.specs.declared.standing.Drawn.{Drawn}
 
--- the row is drawn
+-- whether the row is drawn
 abbrev pub is_drawn : Range → ℕ → Bool
 is_drawn range row = nat_le range.first row && nat_lt row range.last
 
--- a message that goes from one row to another is seen
+-- whether a message that goes from one row to another is seen
 abbrev pub is_seen : Range → ℕ → ℕ → Bool
 is_seen range from to = nat_lt from range.last && nat_le range.first to
 
--- from the step that sent a message, if it remained, to the one that delivers it
+-- the message from the step that sent it, if that remained, to the one that delivers it
 abbrev pub message_between : ℕ → List Drawn → Range → ℕ → ℕ → ℕ → ℕ → Option ℕ → Tree
 message_between nodes steps range row number node sender None = Nothing
 message_between nodes steps range row number node sender (Some source) =
@@ -41,7 +41,7 @@ message_by nodes steps range row number node remaining None = Nothing
 message_by nodes steps range row number node remaining (Some m) =
     message_between nodes steps range row number node m.0 (sender_of remaining m.0 m.1)
 
--- that of a step, of which the steps that then remained are known
+-- the message that a step delivers, while these steps remained
 unfoldable pub message_to : ℕ → List Drawn → Range → ℕ → ℕ → ℕ → List Kept → Operation → Tree
 message_to nodes steps range row number node remaining operation =
     message_by nodes steps range row number node remaining (delivers operation)
@@ -56,7 +56,7 @@ message_of_reply nodes steps range row node remaining act (Taken number) = messa
 message_of_reply nodes steps range row node remaining act (Undone number) = Nothing
 message_of_reply nodes steps range row node remaining act (Refused fault) = Nothing
 
--- of a recorded call, before which those steps remained
+-- the message that a recorded call delivered, while these steps remained before it
 unfoldable pub message_of : ℕ → List Drawn → Range → List Kept → ℕ → Event → Tree
 message_of nodes steps range remaining row e = message_of_reply nodes steps range row e.actor remaining e.act e.reply
 
@@ -66,7 +66,7 @@ looks steps (Taken number) = kind_of (step_at steps number).standing
 looks steps (Undone number) = kinds.Back
 looks steps (Refused fault) = kinds.Refused
 
--- the node of the step that was taken back, and that which a call changed that was answered so
+-- the node of the step that was taken back; and the node that a call with this reply changed
 abbrev pub node_undone : Machine → Option ℕ → Option ℕ
 node_undone m None = None
 node_undone m (Some number) = node_of_step m.state.remaining number
@@ -76,7 +76,8 @@ node_changed actor (Taken number) of_it = Some actor
 node_changed actor (Undone number) of_it = of_it
 node_changed actor (Refused fault) of_it = None
 
--- at whose lane its mark stands: at that of the node which changed, or of who was refused, if it is a node
+-- the lane of the call's mark: that of the node which changed; or, if the call was refused, that of its actor, if the actor is a
+-- node
 abbrev pub lane_of : ℕ → ℕ → Reply → Option ℕ → Option ℕ
 lane_of nodes actor (Taken number) changed = changed
 lane_of nodes actor (Undone number) changed = changed
@@ -97,21 +98,21 @@ row_tree nodes steps lane row reply title words =
     beside (number_by row reply)
     (beside (mark_at nodes row (looks steps reply) title lane) (words_label nodes row (looks steps reply) words))
 
--- of a recorded call that changed this node, with this title and these words
+-- the row of a recorded call that changed this node, with this title and these words
 unfoldable pub row_told : ℕ → List Drawn → Option ℕ → ℕ → Event → List ℕ → List ℕ → Tree
 row_told nodes steps changed row e title words = row_tree nodes steps (lane_of nodes e.actor e.reply changed) row e.reply title words
 
--- where it is drawn
+-- the row of a recorded call that changed this node, if the row is drawn
 unfoldable pub row_if : ℕ → List Drawn → Range → Option ℕ → ℕ → Event → List ℕ → List ℕ → Tree
 row_if nodes steps range changed row e title words =
     if is_drawn range row then row_told nodes steps changed row e title words else Nothing
 
--- of a recorded call
+-- the row of a recorded call
 unfoldable pub row_of : ℕ → List Drawn → Range → Texts → Machine → ℕ → Event → Tree
 row_of nodes steps range consoles asked row e =
     row_if nodes steps range (changed_by asked e.actor e.act) row e (title_of asked consoles e) (words_of asked consoles e)
 
--- of recorded calls, asked one after another from a machine on
+-- recorded calls, asked one after another from a machine on
 
 unfoldable pub messages_from : ℕ → List Drawn → Range → Machine → ℕ → List Event → Tree
 messages_from nodes steps range asked row [] = Nothing
@@ -125,14 +126,14 @@ rows_from nodes steps range consoles asked row (e ∷ events) =
     beside (row_of nodes steps range consoles asked row e)
     (rows_from nodes steps range consoles (after_act asked e.actor e.act) (row + 1) events)
 
--- the most bytes that the words of a drawn row have, and no fewer than these; a line of a script has at most 4,096
+-- the most bytes that the words of a drawn row have, and at least `longest`; a line of a script has at most 4,096
 abbrev pub cut_length : ℕ → ℕ
 cut_length bytes = if nat_lt 4096 bytes then 4096 else bytes
 
 unfoldable pub with_length : ℕ → ℕ → ℕ
 with_length longest bytes = if nat_lt longest (cut_length bytes) then cut_length bytes else longest
 
--- those of this row among them
+-- the most bytes so far, with the words of this row
 unfoldable pub with_words : Range → ℕ → List ℕ → ℕ → ℕ
 with_words range row words longest = if is_drawn range row then with_length longest (length words) else longest
 

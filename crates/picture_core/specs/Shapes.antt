@@ -10,7 +10,7 @@ use Rattle.picture_core.specs.declared.standing.Standing.TheVariants.{Remains, P
 abbrev pub attribute : List ℕ → List ℕ → Attribute
 attribute name value = record { name = name; value = value }
 
--- what is drawn of a call by its looks: of a step by how it stands; of one that takes a step back; of one that is refused
+-- how a call looks, and the class of its shapes: a step by its standing, a call that takes a step back, or a refused one
 abbrev pub kind_of : Standing → Kind
 kind_of Remains = kinds.Step
 kind_of Painted = kinds.Future
@@ -78,7 +78,7 @@ message_title source number = codes "step " ++ decimal source ++ codes " to step
 abbrev pub message_class : Kind → List ℕ
 message_class kind = codes "message " ++ class_of kind
 
--- from the row and the node of the step `source` to those of the step `number`
+-- a message from the row and the node of the step `source` to those of the step `number`
 unfoldable pub message : ℕ → Kind → ℕ × ℕ → ℕ × ℕ → ℕ → ℕ → Tree
 message nodes kind from to source number =
     titled_path (message_class kind) (message_path nodes from to source) (message_title source number)
@@ -103,7 +103,7 @@ abbrev pub mark : ℕ → ℕ → ℕ → Kind → List ℕ → Tree
 mark nodes node row kinds.Back title = cross_sign nodes node row title
 mark nodes node row kind title = dot_sign nodes node row kind title
 
--- the number of a step before its row, and the words of a call behind it
+-- the number of a step before its row, and the words of a call after it
 unfoldable pub number_label : ℕ → ℕ → Tree
 number_label row number =
     leaf (codes "text") (attribute (codes "class") (codes "number") ∷ attribute (codes "x") (codes "50") ∷

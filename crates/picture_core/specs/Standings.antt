@@ -10,7 +10,7 @@ use Rattle.picture_core.specs.declared.standing.Drawn.{Drawn}
 use Rattle.picture_core.specs.declared.standing.Standing.{Standing}
 use Rattle.picture_core.specs.declared.standing.Standing.TheVariants.{Remains, Painted, Undone as TakenBack}
 
--- a step that was found, painted or not
+-- the standing of a step, by whether it remains and is painted
 abbrev pub unless_undone : Option Kept → Bool → Standing
 unless_undone None is_painted = TakenBack
 unless_undone (Some step) is_painted = if is_painted then Painted else Remains
@@ -18,12 +18,12 @@ unless_undone (Some step) is_painted = if is_painted then Painted else Remains
 unfoldable pub standing_of : List Kept → List ℕ → ℕ → Standing
 standing_of remaining painted number = unless_undone (find_number remaining number) (list_any (λ n. n == number) painted)
 
--- the steps that are painted: those that the undo of a step would take back with it, if it remains
+-- the steps that are painted: those that an unwind of the step would take back, if it remains
 abbrev pub painted_of : State → Option ℕ → List ℕ
 painted_of s None = []
 painted_of s (Some number) = unwound s number
 
--- of a step: the row of the call that took it, and how it stands
+-- what is known of the steps after this reply: the row of the call that took a step, and how the step stands
 abbrev pub with_reply : List Kept → List ℕ → ℕ → Reply → List Drawn → List Drawn
 with_reply remaining painted row (Taken number) steps =
     slice_set steps number (record { row = row; standing = standing_of remaining painted number })
@@ -38,7 +38,7 @@ noted_from remaining painted row (e ∷ events) steps =
 abbrev pub nothing_drawn : Drawn
 nothing_drawn = record { row = 0; standing = TakenBack }
 
--- that of each step at its number; no step has a greater number than there are calls
+-- what is known of each step, at its number; no step has a greater number than there are calls
 unfoldable pub drawn_steps : Machine → List ℕ → List Drawn
 drawn_steps m painted =
     noted_from m.state.remaining painted 0 m.state.history (replicate (length m.state.history + 1) nothing_drawn)
@@ -46,7 +46,7 @@ drawn_steps m painted =
 abbrev pub step_at : List Drawn → ℕ → Drawn
 step_at steps number = unwrap_or (slice_get steps number) nothing_drawn
 
--- a message is painted where both its ends are, and taken back with its delivery
+-- a message is painted if its send and its delivery are, and taken back if its delivery is
 abbrev pub of_message : Standing → Standing → Standing
 of_message TakenBack sent = TakenBack
 of_message Painted Painted = Painted

@@ -1,8 +1,8 @@
 -- A picture that is asked for by words.
 use Rattle.std.specs.Prelude.{◌≡◌, ◌⊎◌, ℕ, false, true, List, ⊤, Option, None, Some, IsSome, option_copied}
 use Rattle.payload_core.specs.Words.{is_word}
-use Rattle.payload_core.specs.declared.word.WordFault.{WordFault}
-use Rattle.payload_core.specs.declared.word.WordFault.TheVariants as words
+use Rattle.entry_core.specs.declared.word.WordFault.{WordFault}
+use Rattle.entry_core.specs.declared.word.WordFault.TheVariants as words
 use Rattle.bench_core.specs.Machine.{Machine}
 use Rattle.bench_core.specs.NameList.{Texts, number_in}
 use Rattle.svg_core.specs.Trees.{text_of}
@@ -18,7 +18,7 @@ abbrev pub fault_of_word : WordFault → DrawFault
 fault_of_word words.BadWord = faults.NoWord
 fault_of_word words.OutOfMemory = faults.OutOfMemory
 
--- the number of the node of this name, where one is named
+-- the number of the node of this name, if one is named
 abbrev pub IsNode : Machine → Option (List ℕ) → Option ℕ → Type 0
 IsNode m None node = node ≡ None
 IsNode m (Some name) node = (number_in m.names name ≡ node) × IsSome node
@@ -42,11 +42,11 @@ pub record IsPicture (m : Machine) (consoles : Texts) (view : View) (text : List
   pub drawn :
       text ≡ text_of (picture m consoles (painted_of m.state view.why) (range_of m.state.history view.from view.to) asked)
 
--- the picture of a whole run, of which nothing is asked
+-- the picture of a whole run, without a question
 unfoldable pub whole_picture : Machine → Texts → List ℕ
 whole_picture m consoles = text_of (picture m consoles (painted_of m.state None) (range_of m.state.history None None) None)
 
--- nothing is drawn: no node has the name; the topic or the key is no word; or memory was refused
+-- why there is no picture: no node has the name; the topic or the key is no word; or memory was refused
 abbrev pub IsNoNode : Machine → Option (List ℕ) → Type 0
 IsNoNode m None = ⊥
 IsNoNode m (Some name) = number_in m.names name ≡ None

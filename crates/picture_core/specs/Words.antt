@@ -1,4 +1,4 @@
--- The words of a call, behind its row.
+-- The words of a call, after its row.
 use Rattle.std.specs.Prelude.{ℕ, List, [], ◌∷◌, ◌++◌, length, codes, decimal}
 use Rattle.bench_core.specs.FaultText.{fault_text}
 use Rattle.bench_core.specs.Machine.{Event, Machine}
@@ -10,19 +10,19 @@ use Rattle.report_core.specs.ActRows.{joined_by, left_by}
 use Rattle.report_core.specs.ActTexts.{act_text}
 use Rattle.transcript_core.specs.Scripts.{call_line}
 
--- what a call got, but for a step that was taken, which has its number
+-- the words for a reply; a step that was taken has none, as its number stands elsewhere
 abbrev pub reply_words : Reply → List ℕ
 reply_words (Taken number) = []
 reply_words (Undone number) = codes "  undone " ++ decimal number
 reply_words (Refused fault) = codes "  no " ++ fault_text fault
 
--- one row by its topic and key, and more by how many they are
+-- the words for rows: one row by its topic and key, and more by how many they are
 abbrev pub row_words : List ℕ → List Row → List ℕ
 row_words sign [] = []
 row_words sign (row ∷ []) = codes "  " ++ sign ++ row.topic ++ codes " " ++ row.key
 row_words sign (row ∷ other ∷ rows) = codes "  " ++ sign ++ decimal (length (row ∷ other ∷ rows))
 
--- the call as a line of a script, what it got, and the rows that left and joined the online list of its node
+-- the call as a line of a script, its reply, and the rows that left and joined the online list of its node
 unfoldable pub words_told : Texts → Texts → Event → List Row → List Row → List ℕ
 words_told names consoles e left joined =
     call_line (record { nodes = names; consoles = consoles }) e.actor e.act ++ reply_words e.reply ++ row_words (codes "-") left ++

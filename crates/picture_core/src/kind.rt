@@ -4,7 +4,7 @@ ghost use Rattle.picture_core.specs.Shapes.{class_of, kind_of};
 
 use crate::standing::Standing;
 
-/// How a call looks: a step by how it stands, one that takes a step back, one that is refused.
+/// How a call looks: a step by its standing, a call that takes a step back, or a refused one.
 #[derive(Clone, Copy, Debug, PartialEq, Eq)]
 pub enum Kind {
     Step,
@@ -15,7 +15,7 @@ pub enum Kind {
 }
 
 impl Kind {
-    /// That of a step that stands so.
+    /// The kind of a step with this standing.
     pub fn of(standing: Standing) -> Kind
         ensures { result ≡ kind_of standing }
     {
@@ -26,7 +26,7 @@ impl Kind {
         }
     }
 
-    /// The class of what is drawn of it.
+    /// The class of its shapes.
     pub fn class(self) -> &'static str
         ensures { result.now ≡ class_of self }
     {

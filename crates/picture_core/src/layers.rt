@@ -21,8 +21,8 @@ use payload_core::Oom;
 use report_core::{Acted, ask};
 use std::alloc::Allocator;
 
-/// What lies over the lanes: the messages, and then the rows, with the most bytes that the words of one have; and where nodes
-/// begin to list what is asked of, or end.
+/// What lies over the lanes: the messages; the rows, with the most bytes that the words of one have; and where nodes
+/// begin or end to list what is asked about.
 #[derive(Drop)]
 pub struct Layers<'a, B: Allocator> {
     pub messages: String<&'a B>,
@@ -31,7 +31,7 @@ pub struct Layers<'a, B: Allocator> {
     pub turns: Vec<Turn, &'a B>,
 }
 
-/// The greater of the longest so far and `bytes`, of which no more count than a line of a script may have.
+/// The greater of the longest so far and `bytes`, which counts at most as a line of a script may have.
 #[tactic(auto, unfolding(crate::specs::Rows::with_length))]
 pub fn with_length(longest: u32, bytes: usize) -> u32
     ensures { result ≡ with_length longest bytes }
@@ -81,7 +81,7 @@ fn put_drawn<'a, N: Allocator, B: Allocator>(
     Ok(())
 }
 
-/// What is drawn of a call, and noted of it, on the bench behind it. It changed this node, and came to this.
+/// Draws a call and notes its changes, on the bench after it. It changed this node, and came to this.
 #[tactic(auto, unfolding(crate::specs::Rows::row_if, crate::specs::Rows::with_words))]
 fn put_told<'a, B: Allocator>(
     asked: &Bench<'a, B>,
@@ -133,7 +133,7 @@ fn put_told<'a, B: Allocator>(
     )
 }
 
-/// What is drawn of a recorded call, which is asked again on another bench, and noted of it.
+/// Asks a recorded call again of another bench, draws it and notes its changes.
 fn put_event<'a, B: Allocator>(
     asked: &mut Bench<'a, B>,
     layers: &mut Layers<'a, B>,
@@ -174,7 +174,7 @@ fn put_event<'a, B: Allocator>(
     told
 }
 
-/// What is drawn of recorded calls, which are asked again on another bench.
+/// Asks recorded calls again of another bench, and draws them.
 fn put_events<'a, B: Allocator>(
     asked: &mut Bench<'a, B>,
     history: &History<'a, B>,

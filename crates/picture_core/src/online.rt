@@ -15,7 +15,7 @@ use report_core::node;
 use std::alloc::Allocator;
 use std::marker::Model;
 
-/// What is asked of: a topic and key, at a node or at each.
+/// What is asked about: a topic and key, at a node or at each.
 #[derive(Drop)]
 pub struct Asked<A: Allocator> {
     pub node: Option<u32>,
@@ -31,7 +31,7 @@ impl<A: Allocator> Model for Asked<A> {
     ghost view = { λ a. record { node = a.node; topic = a.topic; key = a.key } };
 }
 
-/// In a row a node begins to list what is asked of, or ends.
+/// A row at which a node begins to list what is asked about, or ends.
 #[derive(Clone, Copy, Debug, PartialEq, Eq)]
 pub struct Turn {
     pub row: u32,
@@ -40,7 +40,7 @@ pub struct Turn {
 }
 
 impl<A: Allocator> Asked<A> {
-    /// Whether the node is asked of.
+    /// Whether the node is asked about.
     pub fn is_of(&self, node: u32) -> bool
         ensures { result ≡ is_of self.now.node node }
     {
@@ -71,7 +71,7 @@ fn is_among<A: Allocator>(rows: &[OnlineRow<A>], row: &OnlineRow<A>) -> bool
     rows.iter().any(|other| row == other)
 }
 
-/// Whether one of the rows has the topic and key, and is none of those that joined.
+/// Whether one of the rows has the topic and key, and is not among those that joined.
 fn lists_beside<A: Allocator, R: Allocator>(
     asked: &Asked<A>,
     rows: &[OnlineRow<R>],
@@ -114,8 +114,8 @@ fn push_turn<A: Allocator>(
     Ok(turns.push(Turn { row, node, begins })?)
 }
 
-/// A call at this row changed the online list of the node so, to what it is now. The list is looked through only where what is
-/// asked of left or joined.
+/// Notes how the call at this row changed what the node lists. It looks through the list only where what is asked about
+/// left or joined.
 fn note_change<'a, B: Allocator, W: Allocator>(
     bench: &Bench<'a, B>,
     turns: &mut Vec<Turn, &'a B>,
@@ -140,7 +140,8 @@ fn note_change<'a, B: Allocator, W: Allocator>(
     push_turn(turns, row, u32::from(node), was, now)
 }
 
-/// Notes where a node begins to list what is asked of, or ends: a call at this row changed its online list so.
+/// Notes whether the node begins or ends to list what is asked about, at this row, whose call changed its list like
+/// this.
 #[tactic(auto, unfolding(crate::specs::Online::turn_at, report_core::specs::Shown::rows_of))]
 pub fn note_turn<'a, B: Allocator, W: Allocator>(
     bench: &Bench<'a, B>,
@@ -175,7 +176,7 @@ fn put_turn<A: Allocator>(path: &mut String<A>, nodes: u32, turn: Turn) -> Resul
     Ok(write!(path, "V{down}")?)
 }
 
-/// To the last row, where it still lists some.
+/// Draws to the last row, if the node still lists some.
 fn put_end<A: Allocator>(path: &mut String<A>, listing: bool, last: u32) -> Result<(), Oom>
     ensures { OnOk result (string_bytes path.new ≡ string_bytes path.old ++ end_path listing last) }
 {
@@ -186,8 +187,8 @@ fn put_end<A: Allocator>(path: &mut String<A>, listing: bool, last: u32) -> Resu
     Ok(write!(path, "V{end}")?)
 }
 
-/// Where the lane of a node is thick: the pen goes to where it begins to list some, and draws to where it ends, at the latest to
-/// the last row.
+/// The thick part of a node's lane: the pen goes to where the node begins to list some, and draws to where it ends, at
+/// the latest to the last row.
 pub fn bar_path<'a, B: Allocator>(
     turns: &[Turn],
     nodes: u32,

@@ -79,7 +79,7 @@ fn longest_name<N: Allocator>(names: &Names<N>) -> u32
     longest
 }
 
-/// How much room the names have above the lanes.
+/// How much room the names take above the lanes.
 #[tactic(auto, unfolding(crate::specs::Pictures::head_height))]
 fn head_height<N: Allocator>(names: &Names<N>) -> u64
     ensures is { result ≡ head_height names.now }
@@ -121,7 +121,7 @@ fn put_lanes<'a, A: Allocator, N: Allocator, B: Allocator>(
     Ok(())
 }
 
-/// Where the lane of a node is thick, if it is asked of.
+/// The thick part of a node's lane, if the node is asked about.
 #[tactic(auto, using(crate::proofs::Texts::nothing_end))]
 fn put_bar_at<'a, A: Allocator, B: Allocator>(
     text: &mut String<A>,
@@ -144,7 +144,7 @@ fn put_bar_at<'a, A: Allocator, B: Allocator>(
     put_bar(text, &path)
 }
 
-/// Where the lanes are thick of the nodes that are asked of.
+/// The thick parts of the lanes of the nodes that are asked about.
 fn put_bars<'a, A: Allocator, N: Allocator, B: Allocator>(
     text: &mut String<A>,
     names: &Names<N>,
@@ -163,7 +163,7 @@ fn put_bars<'a, A: Allocator, N: Allocator, B: Allocator>(
     Ok(())
 }
 
-/// What is seen of a plane: from how far down, how wide and how high.
+/// The part of a plane that is seen: from how far down, how wide and how high.
 #[tactic(auto)]
 fn view_box<'a, B: Allocator>(
     top: u64,
@@ -178,7 +178,7 @@ fn view_box<'a, B: Allocator>(
     Ok(seen)
 }
 
-/// The beginning of a picture of this size, of which this is seen.
+/// The beginning of a picture of this size that shows this part of the plane.
 fn put_opening_of<A: Allocator>(
     text: &mut String<A>,
     width: u64,
@@ -212,7 +212,7 @@ fn put_opening<'a, A: Allocator, B: Allocator>(
     put_opening_of(text, width, height, seen.as_str())
 }
 
-/// The beginning of a part of the picture, of which this is seen.
+/// The beginning of a part of the picture that shows this part of the plane.
 fn put_part_of<A: Allocator>(
     text: &mut String<A>,
     top: u64,
@@ -234,7 +234,7 @@ fn put_part_of<A: Allocator>(
     )?)
 }
 
-/// The beginning of the part below the names, in which the rows from the first on are seen.
+/// The beginning of the part below the names, which shows the rows from the first on.
 fn put_part<'a, A: Allocator, B: Allocator>(
     text: &mut String<A>,
     top: u64,
@@ -297,7 +297,7 @@ fn put_drawing<'a, A: Allocator, N: Allocator, B: Allocator>(
     Ok(put_end(text, "svg")?)
 }
 
-/// The rows from that of step `from` to that before the first step behind `to`.
+/// The rows from the one of step `from` to the one before the first step after `to`.
 #[tactic(auto, unfolding(crate::specs::Pictures::range_of))]
 pub fn range_of<'a, B: Allocator>(bench: &Bench<'a, B>, from: Option<u64>, to: Option<u64>) -> Range
     ensures { result ≡ range_of bench.now.state.history from to }
@@ -342,7 +342,7 @@ pub fn painted_of<'a, B: Allocator>(
     }
 }
 
-/// The picture of a bench, with these steps painted, of these rows.
+/// The picture of these rows of a bench, with these steps painted.
 pub fn picture<'a, B: Allocator>(
     bench: &Bench<'a, B>,
     consoles: &TextSet<&'a B>,

@@ -2,7 +2,7 @@
 ghost use Rattle.std.specs.Prelude.{◌≡◌, ◌≤◌};
 ghost use Rattle.picture_core.specs.Plans.{across, aside, down, pitch, slots, waits_at, wide};
 
-/// From one lane to the next, by how many nodes there are.
+/// The distance from one lane to the next, by how many nodes there are.
 #[tactic(auto, unfolding(crate::specs::Plans::pitch))]
 fn pitch(nodes: u32) -> u64
     ensures is { result ≡ pitch nodes }
@@ -37,7 +37,7 @@ fn slots(nodes: u32) -> u64
     }
 }
 
-/// The lane of a node; that behind the last is where the words begin.
+/// Where the lane of a node is. The words begin where one more lane would be.
 #[tactic(auto, unfolding(crate::specs::Plans::across))]
 pub fn across(nodes: u32, node: u32) -> u64
     ensures is { result ≡ across nodes node }
@@ -62,7 +62,7 @@ fn aside(nodes: u32, step: u64) -> u64
     6 + 3 * (step % slots(nodes))
 }
 
-/// Where it waits for a node, on the side from which it comes.
+/// Where that message waits for a node, on the side from which it comes.
 #[tactic(auto, unfolding(crate::specs::Plans::waits_at))]
 pub fn waits_at(nodes: u32, sender: u32, node: u32, step: u64) -> u64
     ensures { result ≡ waits_at nodes sender node step }

@@ -29,7 +29,7 @@ impl Range {
     }
 }
 
-/// Whether the call took a step of at least, or of more than, this number.
+/// Whether the call took a step of this number or a greater one; of a greater one, if `beyond`.
 fn is_from(beyond: bool, number: u64, reply: Reply) -> bool
     ensures { result ≡ is_from beyond number reply }
 {
@@ -45,7 +45,8 @@ fn is_from(beyond: bool, number: u64, reply: Reply) -> bool
     }
 }
 
-/// How many calls stand before the first that did.
+/// How many calls come before the first one that took a step with this number or a greater one; if `beyond`, with a
+/// greater one.
 fn calls_before<'a, B: Allocator>(history: &History<'a, B>, beyond: bool, number: u64) -> usize
     ensures is { result ≡ calls_before beyond number history.now }
     ensures few { result ≤ length history.now }
@@ -59,6 +60,7 @@ fn calls_before<'a, B: Allocator>(history: &History<'a, B>, beyond: bool, number
     history.len()
 }
 
+/// The first row that is drawn: that of step `from`, or of the first step after it; the first of all without `from`.
 pub fn first_row<'a, B: Allocator>(history: &History<'a, B>, from: Option<u64>) -> usize
     ensures is { result ≡ first_row history.now from }
     ensures few { result ≤ length history.now }
@@ -69,6 +71,7 @@ pub fn first_row<'a, B: Allocator>(history: &History<'a, B>, from: Option<u64>) 
     }
 }
 
+/// The row after the last that is drawn: that of the first step after `to`, or the end of the history.
 pub fn last_row<'a, B: Allocator>(history: &History<'a, B>, to: Option<u64>) -> usize
     ensures is { result ≡ last_row history.now to }
     ensures few { result ≤ length history.now }

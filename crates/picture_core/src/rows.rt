@@ -53,7 +53,7 @@ fn put_between<'a, A: Allocator, B: Allocator>(
     )
 }
 
-/// The message that a step delivers, before which these steps remained.
+/// The message that a step delivers, while these steps remained before it.
 #[tactic(auto, using(crate::proofs::Texts::nothing_end), unfolding(crate::specs::Rows::message_to))]
 fn put_message_to<'a, A: Allocator, B: Allocator>(
     remaining: &Journal<'a, B>,
@@ -129,7 +129,7 @@ pub fn node_undone<'a, B: Allocator>(bench: &Bench<'a, B>, act: &Act<&'a B>) -> 
     }
 }
 
-/// The node that a call changed which was answered so, where that of the step whose undo it asked for is this.
+/// The node that a call changed, by its reply: the actor's, or that of the step whose undo it asked for.
 pub fn node_changed(actor: u16, reply: Reply, undone: Option<u16>) -> Option<u16>
     ensures { result ≡ node_changed actor reply undone }
 {
@@ -140,7 +140,8 @@ pub fn node_changed(actor: u16, reply: Reply, undone: Option<u16>) -> Option<u16
     }
 }
 
-/// At whose lane the mark of a call stands that changed this node: at its lane, or at that of who was refused, if it is a node.
+/// The lane of a call's mark: that of the node which it changed; or, if it was refused, that of its actor, if the actor
+/// is a node.
 pub fn lane_of(nodes: u32, actor: u16, reply: Reply, changed: Option<u16>) -> Option<u16>
     ensures { result ≡ lane_of nodes actor reply changed }
 {
@@ -184,7 +185,7 @@ fn put_number_by<A: Allocator>(text: &mut String<A>, row: u32, reply: Reply) -> 
     }
 }
 
-/// The number of the step of a call, its mark and its words, where the mark stands at this lane.
+/// The number of the step of a call, its mark and its words. The mark stands at this lane.
 pub fn put_row<'a, A: Allocator, B: Allocator>(
     text: &mut String<A>,
     nodes: u32,

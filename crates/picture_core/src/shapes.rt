@@ -343,7 +343,7 @@ pub fn put_number_label<A: Allocator>(
     put_end(text, "text")
 }
 
-/// The words of a call behind its row.
+/// The words of a call after its row.
 #[tactic(auto, unfolding(crate::specs::Shapes::words_label))]
 pub fn put_words_label<A: Allocator>(
     text: &mut String<A>,

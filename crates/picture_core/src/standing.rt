@@ -1,4 +1,4 @@
-//! How a step that was taken stands, and where it stands.
+//! Whether a step that was taken remains, and at which row it stands.
 ghost use Rattle.std.specs.Prelude.{◌≡◌, ◌==◌, IfOk};
 ghost use Rattle.std.specs.List.{list_any};
 ghost use Rattle.journal_core.specs.Holdings.{kepts};
@@ -13,7 +13,7 @@ use std::alloc::Allocator;
 pub enum Standing {
     /// It remains.
     Remains,
-    /// It remains, and is among those that are painted.
+    /// It remains, and is painted.
     Painted,
     /// It was taken back.
     Undone,
@@ -35,8 +35,7 @@ impl Drawn {
 }
 
 impl Standing {
-    /// That of a message from a step that stands so to one that does: it is painted where both are, and taken back with its
-    /// delivery.
+    /// The standing of a message: painted if its send and its delivery are, and taken back if its delivery is.
     pub fn of_message(self, sent: Standing) -> Standing
         ensures { result ≡ of_message self sent }
     {
@@ -57,7 +56,7 @@ fn is_painted(painted: &[u64], number: u64) -> bool
     painted.iter().any(|n| *n == number)
 }
 
-/// That of a step, by its number.
+/// The standing of a step, by its number.
 #[tactic(auto, unfolding(crate::specs::Standings::standing_of))]
 fn standing_of<'a, B: Allocator>(
     remaining: &Journal<'a, B>,
@@ -76,7 +75,7 @@ fn standing_of<'a, B: Allocator>(
     }
 }
 
-/// After a call in this row had this reply.
+/// Notes the reply that a call in this row had.
 fn note_reply<'a, B: Allocator>(
     remaining: &Journal<'a, B>,
     steps: &mut Vec<Drawn, &'a B>,

@@ -24,11 +24,11 @@ pub struct Presence<'q> {
 pub struct View<'q> {
     /// The step whose future is painted, if it remains.
     pub why: Option<u64>,
-    /// The first step of which the row is drawn.
+    /// The first step whose row is drawn.
     pub from: Option<u64>,
-    /// The last.
+    /// The last step whose row is drawn.
     pub to: Option<u64>,
-    /// The lanes are thick where their nodes list presences of these.
+    /// The lanes are thick where their nodes list these presences.
     pub of: Option<Presence<'q>>,
 }
 
@@ -64,7 +64,7 @@ fn presence_asked<'a, B: Allocator>(
     Ok(Asked { node, topic, key })
 }
 
-/// What is asked of, if anything is.
+/// What is asked about, if anything is.
 fn asked<'a, B: Allocator>(
     bench: &Bench<'a, B>,
     of: Option<Presence<'_>>,
@@ -101,7 +101,7 @@ pub fn draw<'a, B: Allocator>(
     Ok(text.into_bytes())
 }
 
-/// The picture of a whole run, of which nothing is asked.
+/// The picture of a whole run, without a question.
 #[tactic(auto, unfolding(crate::specs::Views::whole_picture))]
 pub fn draw_whole<'a, B: Allocator>(
     alloc: &'a B,

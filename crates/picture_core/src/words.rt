@@ -10,7 +10,7 @@ use report_core::{Acted, put_acted};
 use std::alloc::Allocator;
 use transcript_core::put_call;
 
-/// What a call got, but for a step that was taken, which has its number.
+/// The words for a reply. A step that was taken has none, as its number stands elsewhere.
 fn put_reply_words<A: Allocator>(text: &mut String<A>, reply: Reply) -> Result<(), Oom>
     ensures { OnOk result (string_bytes text.new ≡ string_bytes text.old ++ reply_words reply) }
 {
@@ -21,7 +21,7 @@ fn put_reply_words<A: Allocator>(text: &mut String<A>, reply: Reply) -> Result<(
     }
 }
 
-/// One row by its topic and key, and more by how many they are.
+/// The words for rows: one row by its topic and key, and more by how many they are.
 fn put_row_words<A: Allocator, R: Allocator>(
     text: &mut String<A>,
     sign: &str,
@@ -43,7 +43,7 @@ fn put_row_words<A: Allocator, R: Allocator>(
     }
 }
 
-/// The call as a line of a script, what it got, and the rows that left and joined the online list of its node.
+/// The call as a line of a script, its reply, and the rows that left and joined the online list of its node.
 #[tactic(auto, unfolding(crate::specs::Words::words_told))]
 pub fn words_of<'a, B: Allocator, N: Allocator, C: Allocator>(
     names: &Names<N>,

@@ -295,6 +295,7 @@ module _ (form : Form) (limits : Limits) (known old : Option (List ℕ)) where
       cause input reports.NoWord is refused = (inr (m, is, refused), keeps_same old)
       cause input (reports.TooManyStates most found) is refused = (inr (m, is, refused), keeps_same old)
       cause input reports.MayFill is refused = (inr (m, is, refused), keeps_same old)
+      cause input reports.TooManySteps is refused = (inr (m, is, refused), keeps_same old)
       cause input (reports.NoSuchOutcome there_are) is refused = (inr (m, is, refused), keeps_same old)
 
       go : (known : Option (List ℕ)) → IsBenchAt limits known m → EndsAt (Explore about lost again states outcome) form limits known (Err (fault_of_explore fault)) old old

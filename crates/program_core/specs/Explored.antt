@@ -1,4 +1,4 @@
--- What is told of what the network could have done, and why it isn't.
+-- The text of what the network could have done, and why there is none.
 use Rattle.std.specs.Prelude.{ℕ, List, Option, None, Some}
 use Rattle.bench_core.specs.Machine.{Machine}
 use Rattle.command_line.specs.declared.chosen.About.{About as Chosen}
@@ -12,22 +12,22 @@ use Rattle.explore_report.specs.declared.report_fault.ReportFault.TheVariants as
 use Rattle.program_core.specs.declared.fault.Fault.{Fault}
 use Rattle.program_core.specs.declared.fault.Fault.TheVariants as faults
 
--- what was chosen to be asked
+-- what the chosen exploration is about
 abbrev pub about_of : Chosen → About
 about_of chosen.Cluster = abouts.Cluster
 about_of (chosen.Node node) = abouts.Node node
 about_of (chosen.Presence question) = abouts.Presence question.node question.topic question.key
 
--- the whole question
+-- the whole question of an exploration
 abbrev pub asked_of : Chosen → ℕ → ℕ → ℕ → Question
 asked_of about lost again states = record { about = about_of about; lost = lost; again = again; states = states }
 
--- the text tells the outcomes, or is the run of that of this number
+-- the text tells the outcomes, or is the run of the outcome with this number
 abbrev pub TellsExplored : Machine → Question → Option ℕ → List ℕ → Type 0
 TellsExplored m question None text = IsAnswer m question text
 TellsExplored m question (Some number) text = IsRun m question number text
 
--- it isn't told
+-- why there is no text of the outcomes, or no run of the outcome with this number
 abbrev pub RefusesExplored : Machine → Question → Option ℕ → ReportFault → Type 0
 RefusesExplored m question None fault = Refuses m question fault
 RefusesExplored m question (Some number) fault = RefusesRun m question number fault

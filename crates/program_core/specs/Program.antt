@@ -74,6 +74,7 @@ fault_status (faults.Explore reports.NoSuchNode) = 1
 fault_status (faults.Explore reports.NoWord) = 1
 fault_status (faults.Explore (reports.TooManyStates states outcomes)) = 1
 fault_status (faults.Explore reports.MayFill) = 1
+fault_status (faults.Explore reports.TooManySteps) = 1
 fault_status (faults.Explore (reports.NoSuchOutcome outcomes)) = 1
 fault_status (faults.Explore reports.OutOfMemory) = 4
 fault_status (faults.Explain asks.NoSuchNode) = 1
@@ -124,24 +125,24 @@ fault_of_import fault = by fault.kind
     by imports.OutOfMemory = faults.OutOfMemory
     by kind = faults.Import fault
 
--- the input spells this script; so, where it is known
+-- the input spells this script, if its bytes are known
 abbrev pub IsScriptAt : Option (List ℕ) → Script → Type 0
 IsScriptAt None script = ⊤
 IsScriptAt (Some input) script = script_of input ≡ Ok script
 
--- the input is the session of this bench; so, where it is known
+-- the input is the session of this bench, if its bytes are known
 abbrev pub IsSessionAt : Option (List ℕ) → Machine → Type 0
 IsSessionAt None bench = ⊤
 IsSessionAt (Some input) bench = IsSession input bench
 
--- no script is read of the input: it has this first fault. That a read fault comes where a read failed is told by `FailsAs`
+-- why no script is read from the input: it has this first fault. `FailsAs` says that a read fault comes if a read failed
 abbrev pub RefusesScript : List ℕ → Fault → Type 0
 RefusesScript input (faults.Script fault) = script_of input ≡ Err fault
 RefusesScript input faults.ReadFault = ⊤
 RefusesScript input faults.OutOfMemory = ⊤
 RefusesScript input fault = ⊥
 
--- no session is read of the input: one that is too long, or that is none, in its case
+-- why no session is read from the input: it is too long, or it is no session, and the fault says why
 abbrev pub RefusesSession : List ℕ → Fault → Type 0
 RefusesSession input (faults.Session fault) = Refuses input fault
 RefusesSession input faults.LongSession = 67108864 < length input
@@ -151,12 +152,12 @@ RefusesSession input fault = ⊥
 
 -- a script or a session
 
--- the bytes are to be a session: the first that isn't JSON's space is `{`
+-- whether the bytes should be a session: the first that isn't JSON's space is `{`
 unfoldable pub begins_session : List ℕ → Bool
 begins_session [] = false
 begins_session (byte ∷ bytes) = if is_space byte then begins_session bytes else byte == 123
 
--- the input is to be a session; no more is looked at of it than a session may have, and a byte
+-- whether the input should be a session; this looks at no more of it than a session may have, and one byte more
 unfoldable pub is_for_session : List ℕ → Bool
 is_for_session input = begins_session (take 67108865 input)
 
@@ -168,7 +169,7 @@ IsBenchBy false limits input bench = IsOkAnd (script_of input) (λ s. bench ≡ 
 abbrev pub IsBenchOf : Limits → List ℕ → Machine → Type 0
 IsBenchOf limits input bench = IsBenchBy (is_for_session input) limits input bench
 
--- it gives this bench with these names of its consoles: those of the script; or names that are free, as a session has none
+-- the input gives this bench with these names of its consoles: those of the script; or free names, as a session has none
 abbrev pub IsRunBy : Bool → Limits → List ℕ → Machine → Texts → Type 0
 IsRunBy true limits input bench consoles = IsSession input bench × (consoles ≡ free_consoles bench)
 IsRunBy false limits input bench consoles = IsOkAnd (script_of input) (λ s. (bench ≡ played limits s) × (consoles ≡ s.cast.consoles))
@@ -176,7 +177,7 @@ IsRunBy false limits input bench consoles = IsOkAnd (script_of input) (λ s. (be
 abbrev pub IsRunOf : Limits → List ℕ → Machine → Texts → Type 0
 IsRunOf limits input bench consoles = IsRunBy (is_for_session input) limits input bench consoles
 
--- the input gives no bench: where it is to be a session, no session is read of it, and else no script
+-- why the input gives no bench: no session is read from it, if it should be one, and else no script
 abbrev pub RefusesBench : List ℕ → Fault → Type 0
 RefusesBench input fault =
     (is_for_session input ≡ true → RefusesSession input fault) × (is_for_session input ≡ false → RefusesScript input fault)
@@ -185,29 +186,29 @@ RefusesBench input fault =
 abbrev pub question_of : Chosen → Question
 question_of chosen = record { node = chosen.node; topic = chosen.topic; key = chosen.key }
 
--- nothing is explained of the bench that the input gives
+-- why there is no explanation of the input's bench
 abbrev pub RefusesAsked : Limits → Chosen → List ℕ → Fault → Type 0
 RefusesAsked limits question input (faults.Explain fault) = (m : Machine) × IsBenchOf limits input m × RefusesQuestion m (question_of question) fault
 RefusesAsked limits question input fault = ⊥
 
--- it is not drawn
+-- why there is no picture of the input's bench
 abbrev pub RefusesDrawn : Limits → View → List ℕ → Fault → Type 0
 RefusesDrawn limits view input (faults.Draw fault) = (m : Machine) × IsBenchOf limits input m × RefusesPicture m view.of fault
 RefusesDrawn limits view input fault = ⊥
 
--- of that bench it isn't told what would have made a difference
+-- why there is no text of what would have made a difference on the input's bench
 abbrev pub RefusesChanges : Limits → Chosen → Option ℕ → List ℕ → Fault → Type 0
 RefusesChanges limits question change input (faults.Whatif fault) = (m : Machine) × IsBenchOf limits input m × RefusesWhatif m question change fault
 RefusesChanges limits question change input fault = ⊥
 
--- of that bench it isn't told what the network could have done
+-- why there is no text of what the network could have done on the input's bench
 abbrev pub RefusesNetwork : Limits → Asked → Option ℕ → List ℕ → Fault → Type 0
 RefusesNetwork limits question outcome input (faults.Explore fault) =
     (m : Machine) × IsBenchOf limits input m × RefusesExplored m question outcome fault
 RefusesNetwork limits question outcome input fault = ⊥
 
--- what refuses the input of this command: of a race also that a line is no act line, or that the race can't be had; and of what is asked
--- that nothing is told
+-- what refuses the input of this command; for a race also that a line is no act line, or that the race is refused; and for a
+-- question that there is no answer
 abbrev pub IsCauseOf : Subcommand → Form → Limits → List ℕ → Fault → Type 0
 IsCauseOf Race form limits input fault = RefusesScript input fault ⊎ IsOkAnd (script_of input) (λ s. RefusesRaceOf limits s fault)
 IsCauseOf (Play strict) form limits input fault = RefusesScript input fault
@@ -221,7 +222,7 @@ IsCauseOf Page form limits input fault = RefusesBench input fault
 IsCauseOf (Explain question) form limits input fault = RefusesBench input fault ⊎ RefusesAsked limits question input fault
 IsCauseOf (Whatif question change) form limits input fault = RefusesBench input fault ⊎ RefusesChanges limits question change input fault
 
--- the same, where the reader's bytes are known
+-- what refuses the input of a command, if the reader's bytes are known
 
 abbrev pub RefusesScriptAt : Option (List ℕ) → Fault → Type 0
 RefusesScriptAt None fault = ⊤
@@ -248,7 +249,8 @@ abbrev pub shown : Form → List ℕ → Machine → List ℕ
 shown Session report bench = session_text bench
 shown _ report bench = report
 
--- the text is what the subcommand prints of the input: of a script's bench, of a session's, of either's, or at a prompt; there too it is the report of a script without faults
+-- the text is what the subcommand prints for the input: for the bench of a script, of a session, or of either; or at a prompt,
+-- where it is also the report of a script without faults
 abbrev pub Prints : Subcommand → Form → Limits → List ℕ → List ℕ → Type 0
 Prints (Play strict) form limits input text = IsOkAnd (script_of input) (λ s. PrintsPlay form limits s text)
 Prints Race form limits input text = IsOkAnd (script_of input) (λ s. (m : Machine) × IsRaceOf limits s m × (text ≡ shown form (history_text m) m))
@@ -264,7 +266,7 @@ Prints Page form limits input text = (m : Machine) × (consoles : Texts) × IsRu
 Prints (Explain question) form limits input text = (m : Machine) × IsBenchOf limits input m × IsAnswer m (question_of question) text
 Prints (Whatif question change) form limits input text = (m : Machine) × IsBenchOf limits input m × TellsWhatif m question change text
 
--- the text tells that the bench and the real nodes part
+-- the text says that the bench and the real nodes part
 abbrev pub PrintsApart : Subcommand → Form → Limits → List ℕ → List ℕ → Type 0
 PrintsApart (Import check lines lenient) form limits input text = PrintsImport check lines lenient form limits input true text
 PrintsApart (Play strict) form limits input text = ⊥
@@ -277,13 +279,13 @@ PrintsApart Page form limits input text = ⊥
 PrintsApart (Explain question) form limits input text = ⊥
 PrintsApart (Whatif question change) form limits input text = ⊥
 
--- all of the text went out, or, where the writing failed, its first `written` bytes
+-- all of the text went out; or, if the writing failed, its first `written` bytes
 abbrev pub EndsAsText : List ℕ → Result (Unit {0}) Fault → Option (List ℕ) → Option (List ℕ) → Type 0
 EndsAsText text (Ok _) old new = Appends old new text
 EndsAsText text (Err (faults.WriteFault written)) old new = (written < length text) × Appends old new (take written text)
 EndsAsText text (Err fault) old new = ⊥
 
--- a prompt's faults come at a prompt alone, where they are all that comes; what went out before is told by `EndsSoon`
+-- a prompt has faults of its own, and no others; `EndsSoon` says what went out before one
 abbrev pub HasPrompt : Subcommand → Type 0
 HasPrompt (Play strict) = ⊥
 HasPrompt Race = ⊥
@@ -296,7 +298,7 @@ HasPrompt Page = ⊥
 HasPrompt (Explain question) = ⊥
 HasPrompt (Whatif question change) = ⊥
 
--- the first act that was refused, where that is a fault
+-- the first act that was refused, if that is a fault
 abbrev pub Tells : Subcommand → Limits → List ℕ → Option Refused → Type 0
 Tells (Play strict) limits input refused = IsOkAnd (script_of input) (λ s. refused ≡ refused_line strict limits s)
 Tells (Load strict) limits input refused = (m : Machine) × IsSession input m × (refused ≡ refused_act strict m)
@@ -309,14 +311,15 @@ Tells Page limits input refused = refused ≡ None
 Tells (Explain question) limits input refused = refused ≡ None
 Tells (Whatif question change) limits input refused = refused ≡ None
 
--- the calls of the input's bench are no script, where one was asked for
+-- the calls of the input's bench are no script, and one was asked for
 abbrev pub IsUntold : Subcommand → Form → Limits → List ℕ → TranscriptFault → Type 0
 IsUntold (Play strict) ScriptForm limits input fault = IsOkAnd (script_of input) (λ s. RefusesScriptOf (played limits s) s.cast.consoles fault)
 IsUntold (Load strict) ScriptForm limits input fault = (m : Machine) × IsSession input m × RefusesScriptOf m (free_consoles m) fault
 IsUntold _ form limits input fault = ⊥
 
--- what went out, by the answer: what is printed of the input; its first bytes, where a write failed; and else nothing, and the
--- fault is the input's. That an act was refused, and that the bench and the real nodes part, is told after all of what is printed
+-- what went out, by the result: what is printed for the input; its first bytes, if a write failed; and else nothing, and the
+-- fault is the input's. That an act was refused, and that the bench and the real nodes part, are faults that come after all of
+-- the text
 abbrev pub Ends : Subcommand → Form → Limits → List ℕ → Result (Unit {0}) Fault → Option (List ℕ) → Option (List ℕ) → Type 0
 Ends command form limits input (Ok u) old new = (text : List ℕ) × Prints command form limits input text × Appends old new text × Tells command limits input None
 Ends command form limits input (Err (faults.Refused act)) old new =
@@ -329,7 +332,7 @@ Ends command form limits input (Err faults.Differs) old new = (text : List ℕ) 
 Ends command form limits input (Err (faults.Prompt fault)) old new = HasPrompt command
 Ends command form limits input (Err fault) old new = IsCauseOf command form limits input fault × Keeps old new
 
--- the same, where the reader's bytes are known
+-- what went out, by the result, if the reader's bytes are known
 abbrev pub EndsAt : Subcommand → Form → Limits → Option (List ℕ) → Result (Unit {0}) Fault → Option (List ℕ) → Option (List ℕ) → Type 0
 EndsAt command form limits None result old new = ⊤
 EndsAt command form limits (Some input) result old new = Ends command form limits input result old new
@@ -342,7 +345,7 @@ KeepsBefore faults.Differs old new = ⊤
 KeepsBefore (faults.Refused act) old new = ⊤
 KeepsBefore _ old new = Keeps old new
 
--- a prompt that ends early has answered all lines that it took in, but for the last
+-- a prompt that ends early has answered all lines that it took in, except the last
 abbrev pub EndsSoon : Subcommand → Limits → Result (Unit {0}) Fault → Option (List ℕ) → Option (List ℕ) → Option (List ℕ) → Option (List ℕ) → Type 0
 EndsSoon Step limits (Err (faults.Prompt fault)) input left old new = EndsEarly language limits fault input left old new
 EndsSoon Step limits result input left old new = ⊤
@@ -356,7 +359,7 @@ EndsSoon Page limits result input left old new = ⊤
 EndsSoon (Explain question) limits result input left old new = ⊤
 EndsSoon (Whatif question change) limits result input left old new = ⊤
 
--- it is no fault of a write, nor of a prompt, nor of what was read, nor of a check
+-- the fault is none of a write, of a prompt, of a refused act, of calls that are no script, or of a check
 abbrev pub IsUnwritten : Fault → Type 0
 IsUnwritten (faults.WriteFault written) = ⊥
 IsUnwritten (faults.Prompt fault) = ⊥
@@ -365,7 +368,7 @@ IsUnwritten (faults.Transcript fault) = ⊥
 IsUnwritten faults.Differs = ⊥
 IsUnwritten _ = ⊤
 
--- want of memory is never told as a fault of the input
+-- want of memory never comes as a fault of the input
 abbrev pub TellsMemory : Fault → Type 0
 TellsMemory (faults.Script fault) = fault.kind ≢ kinds.OutOfMemory
 TellsMemory (faults.Session fault) = fault ≢ sessions.OutOfMemory
@@ -377,13 +380,13 @@ TellsMemory (faults.Whatif fault) = fault ≢ whatifs.OutOfMemory
 TellsMemory (faults.Transcript fault) = fault ≢ transcripts.OutOfMemory
 TellsMemory _ = ⊤
 
--- a call of `read` failed exactly where a read fault is answered, and then one alone: it wasn't tried again
+-- a call of `read` failed if and only if the result is a read fault, and then only one: it wasn't tried again
 abbrev pub FailsAs : {X : Type 0} → Result X Fault → Steps → Steps → Type 0
 FailsAs (Err faults.ReadFault) old new = new.failed ≡ old.failed + 1
 FailsAs (Err (faults.Prompt prompts.ReadFault)) old new = new.failed ≡ old.failed + 1
 FailsAs _ old new = new.failed ≡ old.failed
 
--- beside the output nothing is told; or, of the events of logs, what was left out, and of long work, how far it has come
+-- to the errors went nothing; or, for the events of logs, what was left out, and for long work, how far it has come
 abbrev pub TellsAside : Subcommand → Option (List ℕ) → Option (List ℕ) → Option (List ℕ) → Type 0
 TellsAside (Import check lines lenient) input old new = TellsLeft lenient input old new
 TellsAside (Play strict) input old new = Keeps old new
@@ -413,34 +416,33 @@ word_of (Whatif question change) = codes "whatif"
 unfoldable pub input_line : Subcommand → List ℕ
 input_line command = codes "presence_bench: reads standard input: presence_bench " ++ word_of command ++ codes " < FILE\n"
 
--- a beginning of that line went out
+-- a beginning of `input_line` went out
 abbrev pub TellsInput : Subcommand → Option (List ℕ) → Option (List ℕ) → Type 0
 TellsInput command old new = (count : ℕ) × Appends old new (take count (input_line command))
 
--- it did, where the input is a terminal, and the command isn't a prompt
+-- a beginning of `input_line` went out, if the input is a terminal and the command isn't a prompt; else nothing
 abbrev pub Announces : Bool → Subcommand → Option (List ℕ) → Option (List ℕ) → Type 0
 Announces false command old new = new ≡ old
 Announces true Step old new = new ≡ old
 Announces true command old new = TellsInput command old new
 
--- what is told behind it: at a prompt on a terminal the signs
+-- what goes to the errors after `input_line`: the signs of a prompt on a terminal
 abbrev pub TellsOn : Bool → Limits → Subcommand → Option (List ℕ) → Option (List ℕ) → Option (List ℕ) → Type 0
 TellsOn terminal limits Step input old new = Shows terminal language limits input old new
 TellsOn terminal limits command input old new = TellsAside command input old new
 
--- all that is told beside the output
+-- all that goes to the errors of the program
 abbrev pub TellsBeside : Bool → Limits → Subcommand → Option (List ℕ) → Option (List ℕ) → Option (List ℕ) → Type 0
 TellsBeside false limits command input old new = TellsAside command input old new
 TellsBeside true limits Step input old new = Shows true language limits input old new
 TellsBeside true limits command input old new = (middle : Option (List ℕ)) × TellsInput command old middle × TellsAside command input middle new
 
--- the input was read to its end; at a prompt, or up to a line that ends it
+-- the input was read to its end; by a prompt perhaps only up to a line that ends it
 abbrev pub IsReadBy : Subcommand → Option (List ℕ) → Option (List ℕ) → Type 0
 IsReadBy Step input left = IsRead input left
 IsReadBy _ input left = IsAtEnd left
 
--- the status is that of an answer by which the choice may end on the input, with what is left of the input, what went out, and
--- how often the input was read
+-- the choice can end on the input like this: with this status, this rest of the input, this output and these reads
 pub record Exits (choice : Choice) (input left : Option (List ℕ)) (limits : Limits) (status : ℕ) (old new : Option (List ℕ)) (before after : Steps)
     : Type 0 where
   pub answer : Result (Unit {0}) Fault
@@ -452,32 +454,33 @@ pub record Exits (choice : Choice) (input left : Option (List ℕ)) (limits : Li
   pub early : EndsSoon choice.command limits answer input left old new
   pub failed : FailsAs answer before after
 
--- help or the version was printed, or a beginning of it, where a write failed
+-- help or the version was printed; or a beginning of it, if a write failed
 abbrev pub PrintsHelp : ℕ → Type 0
 PrintsHelp status = (status ≡ 0) ⊎ (status ≡ 3)
 
--- words that choose nothing are answered: by help or the version, or by a fault that is told, and then nothing went out
+-- words that choose nothing get help or the version; or a fault, and then nothing went out
 abbrev pub EndsRefused : ErrorKind → ℕ → Option (List ℕ) → Option (List ℕ) → Type 0
 EndsRefused refusals.DisplayHelp status old new = PrintsHelp status
 EndsRefused refusals.DisplayVersion status old new = PrintsHelp status
 EndsRefused refusals.OutOfMemory status old new = (status ≡ 4) × Keeps old new
 EndsRefused kind status old new = (status ≡ 2) × Keeps old new
 
--- the limits of a bench where nobody says otherwise
+-- the limits of a bench if nobody says otherwise
 abbrev pub usual : Limits
 usual = record { acts = 100000; entries = 10000; clock = 1000000; messages = 10000 }
 
--- what the words of the program come to: they choose, and that is done; or they are refused, and nothing was read
+-- what the program does with its words: they choose, and the program does what they choose; or they are refused, and nothing is
+-- read
 abbrev pub EndsProgram : List (List ℕ) → Option (List ℕ) → Option (List ℕ) → Limits → ℕ → Option (List ℕ) → Option (List ℕ) → Steps → Steps → Type 0
 EndsProgram words input left limits status old new before after =
     ((choice : Choice) × Chooses words choice × Exits choice input left limits status old new before after)
     ⊎ ((kind : ErrorKind) × IsRefusal words kind × EndsRefused kind status old new × Keeps input left)
 
--- a program that ends well told nothing beside its output; or its words choose what may be told
+-- a program that ends well wrote nothing to the errors, unless its words choose what may go there
 abbrev pub IsQuiet : List (List ℕ) → Option (List ℕ) → Option (List ℕ) → Option (List ℕ) → Type 0
 IsQuiet words input old new = Keeps old new ⊎ ((choice : Choice) × Chooses words choice × TellsAside choice.command input old new)
 
--- the same of a program on a terminal, or not
+-- a program on a terminal, or not, that ends well wrote nothing to the errors, unless its words choose what may go there
 abbrev pub IsQuietOn : Bool → Limits → List (List ℕ) → Option (List ℕ) → Option (List ℕ) → Option (List ℕ) → Type 0
 IsQuietOn terminal limits words input old new =
     Keeps old new ⊎ ((choice : Choice) × Chooses words choice × TellsBeside terminal limits choice.command input old new)

@@ -14,11 +14,11 @@ use Rattle.receipt_core.specs.declared.race_fault.RaceFault.{RaceFault}
 use Rattle.program_core.specs.declared.fault.Fault.{Fault}
 use Rattle.program_core.specs.declared.fault.Fault.TheVariants as faults
 
--- how many may act
+-- how many actors there are
 abbrev pub actors_of : Script → ℕ
 actors_of s = length s.cast.nodes + length s.cast.consoles
 
--- the machine is one that was asked the act lines of the script, each once, in an order in which each actor's is kept
+-- the machine was asked the act lines of the script, each once, in an order that keeps each actor's
 pub record IsRaceOf (limits : Limits) (s : Script) (m : Machine) : Type 0 where
   pub lines : List (ℕ × Action)
   pub are_lines : with_calls [] s.lines ≡ Ok lines
@@ -29,13 +29,13 @@ pub record IsRaceOf (limits : Limits) (s : Script) (m : Machine) : Type 0 where
   pub agrees : Agrees [] m.state.history lines receipts
   pub replies : AreMachineReplies (config_of m) m.state.history receipts
 
--- a race of the lines is refused so: before it begins, or later
+-- a race of these lines has this fault: before it begins, or later
 abbrev pub RefusesLines : Limits → Script → RaceFault → Type 0
 RefusesLines limits s fault =
     (lines : List (ℕ × Action)) × (with_calls [] s.lines ≡ Ok lines) ×
     MatchOption (refusal_of (opening_machine s.cast.nodes limits) (actors_of s) lines) (IsLate fault) (λ early. fault ≡ early)
 
--- a race of the script is refused so: a line is no act line, or its lines are refused
+-- a race of the script has this fault: a line is no act line, or the race of its lines has it
 abbrev pub RefusesRaceOf : Limits → Script → Fault → Type 0
 RefusesRaceOf limits s (faults.Script fault) = with_calls [] s.lines ≡ Err fault
 RefusesRaceOf limits s (faults.Race fault) = RefusesLines limits s fault

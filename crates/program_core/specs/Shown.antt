@@ -1,4 +1,4 @@
--- What is shown of a script that is played, and of a session that is played again, by the form that was chosen.
+-- What is shown of a script that is played, and of a session that is played again, in the form that was chosen.
 use Rattle.std.specs.Prelude.{◌≡◌, ◌≢◌, ℕ, ◌<◌, Bool, true, false, List, length, take, ⊤, Option, Some, None, option_map, Result, Ok, Err}
 use Rattle.std.specs.Io.KnownBytes.{Appends}
 use Rattle.bench_core.specs.Limits.{Limits}
@@ -21,17 +21,17 @@ use Rattle.program_core.specs.declared.fault.Fault.TheVariants as faults
 use Rattle.program_core.specs.declared.fault.Refused.{Refused}
 use Rattle.program_core.specs.declared.fault.Refused.TheVariants as refused
 
--- the text is what is printed of a script that is played with these limits: its report; that with each line above what it printed; the
--- recorded calls as a script, with the names of its own consoles; or the session
+-- the text is what is printed for a script that is played with these limits: its report; the report with each line above what it
+-- printed; the recorded calls as a script, with the names of its own consoles; or the session
 abbrev pub PrintsPlay : Form → Limits → Script → List ℕ → Type 0
 PrintsPlay forms.Report limits s text = text ≡ report_of limits s
 PrintsPlay forms.Steps limits s text = text ≡ script_steps limits s
 PrintsPlay forms.Script limits s text = IsScriptOf (played limits s) s.cast.consoles text
 PrintsPlay forms.Session limits s text = text ≡ session_text (played limits s)
--- no command line chooses this: a page is printed of logs, or by `page`
+-- no command line chooses this: a page comes from logs, or from `page`
 PrintsPlay forms.Page limits s text = text ≡ report_of limits s
 
--- the same of the calls that a bench recorded, whose consoles have no names of their own
+-- the text is what is printed for the calls that a bench recorded, whose consoles have no names of their own
 abbrev pub PrintsBench : Form → Machine → List ℕ → Type 0
 PrintsBench forms.Report m text = text ≡ history_text m
 PrintsBench forms.Steps m text = text ≡ bench_steps m (free_consoles m)
@@ -39,7 +39,7 @@ PrintsBench forms.Script m text = IsScriptOf m (free_consoles m) text
 PrintsBench forms.Session m text = text ≡ session_text m
 PrintsBench forms.Page m text = text ≡ history_text m
 
--- the first act that was refused, where that is a fault
+-- the first act that was refused, if that is a fault
 
 abbrev pub line_refused : Refusal → Refused
 line_refused r = refused.Line r.number r.fault
@@ -61,7 +61,7 @@ ShowsScript strict form limits s text refused = PrintsPlay form limits s text ×
 abbrev pub ShowsBench : Bool → Form → Machine → List ℕ → Option Refused → Type 0
 ShowsBench strict form m text refused = PrintsBench form m text × (refused ≡ refused_act strict m)
 
--- nothing is shown: the calls are no script, where one was asked for; or memory was refused
+-- why nothing is shown: the calls are no script, and one was asked for; or memory was refused
 
 abbrev pub fault_of_transcript : TranscriptFault → Fault
 fault_of_transcript transcripts.OutOfMemory = faults.OutOfMemory
@@ -84,7 +84,8 @@ abbrev pub RefusesBench : Form → Machine → Fault → Type 0
 RefusesBench forms.Script m fault = RefusesCalls m (free_consoles m) fault
 RefusesBench _ m fault = IsWant fault
 
--- all of the text went out, and then the act was told that was refused; or, where the writing failed, its first `written` bytes
+-- all of the text went out, and then the refused act ends the program, if there is one; or, if the writing failed, the text's
+-- first `written` bytes went out
 abbrev pub EndsAsShown : List ℕ → Option Refused → Result (Unit {0}) Fault → Option (List ℕ) → Option (List ℕ) → Type 0
 EndsAsShown text refused (Ok _) old new = (refused ≡ None) × Appends old new text
 EndsAsShown text refused (Err (faults.Refused r)) old new = (refused ≡ Some r) × Appends old new text

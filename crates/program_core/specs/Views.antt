@@ -1,4 +1,4 @@
--- What is shown of a run to be looked at: a picture, or a page.
+-- A run as something to look at: a picture, or a page.
 use Rattle.std.specs.Prelude.{ℕ, List, [], codes, if◌then◌else◌, Option, None, Some, option_map}
 use Rattle.std.specs.Str.{bytes_eq}
 use Rattle.bench_core.specs.Machine.{Machine}
@@ -16,7 +16,7 @@ use Rattle.transcript_core.specs.Steps.{bench_steps}
 use Rattle.program_core.specs.declared.fault.Fault.{Fault}
 use Rattle.program_core.specs.declared.fault.Fault.TheVariants as faults
 
--- presences at the node of this name, or at each where it is `-`
+-- presences at the node of this name, or at each node if it is `-`
 abbrev pub presence_of : Question → Presence
 presence_of question =
     record {

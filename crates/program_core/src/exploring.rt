@@ -8,7 +8,7 @@ use explore_report::{About, Question, ReportFault, explore_asked, run_of_outcome
 use progress_core::{Walked, Watch};
 use std::alloc::Allocator;
 
-/// What was chosen to be asked.
+/// What the chosen exploration is about.
 fn about_of<'w>(chosen: command_line::About<'w>) -> About<'w>
     ensures { result ≡ about_of chosen.entry }
 {
@@ -38,7 +38,7 @@ pub fn asked_of<'w>(
     }
 }
 
-/// The outcomes of what the network could have done; where there is the number of one, a run that leads there, as a script.
+/// The outcomes of what the network could have done; or, given the number of one, a run that leads there, as a script.
 pub fn tell_explored<'a, B: Allocator, W: Watch<Walked>>(
     alloc: &'a B,
     bench: &Bench<'a, B>,

@@ -29,7 +29,7 @@ pub enum Refused {
     },
 }
 
-/// Why the program ends early. Printed, it is what the line on standard error tells.
+/// Why the program ends early. Its text is the line on standard error.
 #[derive(Clone, Copy, Debug, PartialEq, Eq, Error)]
 pub enum Fault {
     /// The first fault of a script.
@@ -53,16 +53,16 @@ pub enum Fault {
     /// Why a race can't be vouched for. Want of memory is never in it.
     #[error("race: {0}")]
     Race(RaceFault),
-    /// Why it isn't told what the network could have done. Want of memory is never in it.
+    /// Why there is no exploration. Want of memory is never in it.
     #[error("explore: {0}")]
     Explore(ReportFault),
-    /// Why nothing is explained. Want of memory is never in it.
+    /// Why there is no explanation. Want of memory is never in it.
     #[error("explain: {0}")]
     Explain(AskFault),
-    /// Why nothing is drawn. Want of memory is never in it.
+    /// Why there is no picture. Want of memory is never in it.
     #[error("draw: {0}")]
     Draw(DrawFault),
-    /// Why it isn't told what would have made a difference. Want of memory is never in it.
+    /// Why there is no answer to what would have made a difference. Want of memory is never in it.
     #[error("whatif: {0}")]
     Whatif(WhatifFault),
     /// Why there is no script of a bench's calls. Want of memory is never in it.
@@ -97,6 +97,7 @@ impl Fault {
             Fault::Race(RaceFault::UnknownActor | RaceFault::NoRoom) => 1,
             Fault::Explore(ReportFault::NoSuchNode | ReportFault::NoWord) => 1,
             Fault::Explore(ReportFault::TooManyStates { .. } | ReportFault::MayFill) => 1,
+            Fault::Explore(ReportFault::TooManySteps) => 1,
             Fault::Explore(ReportFault::NoSuchOutcome { .. }) => 1,
             Fault::Explain(AskFault::NoSuchNode | AskFault::NoWord) => 1,
             Fault::Draw(DrawFault::NoSuchNode | DrawFault::NoWord) => 1,
@@ -212,6 +213,7 @@ impl From<ReportFault> for Fault {
                 outcomes: _,
             }
             | ReportFault::MayFill
+            | ReportFault::TooManySteps
             | ReportFault::NoSuchOutcome { outcomes: _ } => Fault::Explore(fault),
         }
     }

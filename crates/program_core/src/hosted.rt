@@ -32,14 +32,14 @@ impl Termination for Ended {
     }
 }
 
-/// Does what the words after the program's name ask. A race has its threads of `threads`.
+/// Does what the words after the program's name ask. A race takes its threads from `threads`.
 pub fn run<T: Threads + Wait + Sync>(rt: &HostRuntime, threads: &T) -> Ended {
     Ended {
         status: status(rt, threads),
     }
 }
 
-/// The status of the program. Words that can't be read choose nothing, and are told.
+/// The status of the program. Words that can't be read choose nothing, and the program prints why.
 fn status<T: Threads + Wait + Sync>(rt: &HostRuntime, threads: &T) -> u8 {
     let mut errors = rt.stderr();
     let words = match env::args(rt) {

@@ -24,7 +24,7 @@ use std::alloc::{Allocator, Global};
 use std::io::{Read, Write};
 use std::sync::ledger::Ledger;
 
-/// The bytes of the logs. Of an input that is too long no more is kept than they may have.
+/// The bytes of the logs. If the input is too long, it keeps no more of it than logs may have.
 fn read_events<'a, B: Allocator, R: Read, L: Ledger>(
     alloc: &'a B,
     reader: &mut R,
@@ -53,7 +53,7 @@ fn put_left_line<A: Allocator>(text: &mut String<A>, line: u64) -> Result<(), Oo
     Ok(writeln!(text, "presence_bench: line {line}: left out")?)
 }
 
-/// That of each of these lines.
+/// A line `presence_bench: line L: left out` for each of these lines.
 #[tactic(auto, unfolding(crate::specs::Imported::left_lines))]
 fn put_left<A: Allocator>(text: &mut String<A>, left_out: &[u64]) -> Result<(), Oom>
     ensures { OnOk result (string_bytes text.new ≡ string_bytes text.old ++ left_lines left_out.now) }
@@ -64,7 +64,7 @@ fn put_left<A: Allocator>(text: &mut String<A>, left_out: &[u64]) -> Result<(), 
     Ok(())
 }
 
-/// Tells the lines of what was left out, where these can be written.
+/// Prints which lines were left out, if that can be written.
 fn tell_left<A: Allocator, E: Write>(alloc: A, errors: &mut E, left_out: &[u64]) -> Result<(), Oom>
     ensures { TellsLines left_out.now (E.contents errors.old) (E.contents errors.new) }
 {
@@ -95,7 +95,7 @@ pub struct Made<A: Allocator> {
     pub left_out: Vec<u64, A>,
 }
 
-/// Their script.
+/// The script of the events.
 fn make_script<'a, B: Allocator>(
     heap: Global,
     alloc: &'a B,
@@ -121,7 +121,7 @@ fn text_of<'a, B: Allocator>(scripted: Scripted<'a, B>) -> Vec<u8, &'a B>
     scripted.text.into_bytes()
 }
 
-/// The session of the bench that they leave.
+/// The session of the bench that the events leave.
 fn make_session<'a, B: Allocator>(
     heap: Global,
     alloc: &'a B,
@@ -143,7 +143,7 @@ fn make_session<'a, B: Allocator>(
     })
 }
 
-/// The page of that bench, with what they tell beside.
+/// The page of the bench that the events leave, with what the logs tell besides its calls.
 fn make_page<'a, B: Allocator>(
     heap: Global,
     alloc: &'a B,
@@ -187,7 +187,7 @@ fn make_check<'a, B: Allocator>(
     })
 }
 
-/// What was chosen.
+/// Makes of the events what the command line chose.
 fn make<'a, B: Allocator>(
     heap: Global,
     alloc: &'a B,
@@ -216,7 +216,7 @@ fn make<'a, B: Allocator>(
     }
 }
 
-/// All of the text; then, if it tells that they part, this.
+/// Writes all of the text. Then, if the bench and the real nodes part, it ends with that fault.
 fn print_made<B: Allocator, W: Write>(writer: &mut W, made: &Made<&B>) -> Result<(), Fault>
     ensures { EndsAsMade (text_bytes made.now.text) made.now.differs result (W.contents writer.old) (W.contents writer.new) }
 {
@@ -227,7 +227,7 @@ fn print_made<B: Allocator, W: Write>(writer: &mut W, made: &Made<&B>) -> Result
     Ok(())
 }
 
-/// A script of the events that the input has, or what else was chosen of them. What is left out is told first.
+/// Prints a script of the events that the input has, or what else was chosen of them. It first tells what it left out.
 pub fn import_events<B: Allocator, R: Read, W: Write, E: Write, L: Ledger>(
     heap: Global,
     alloc: &B,

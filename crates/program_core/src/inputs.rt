@@ -1,4 +1,4 @@
-//! The run that an input gives which is a script or a session. The first byte that isn't space tells which.
+//! The run of an input that is a script or a session. The first byte that isn't space tells which.
 ghost use Rattle.std.specs.Prelude.{◌≡◌, ◌≢◌, ◌<◌, length, Err, IfOk, IfErr, IsOkAnd, OnOk};
 ghost use Rattle.std.specs.Io.KnownBytes.{IsAtEnd};
 ghost use Rattle.json.specs.Word.{is_space};
@@ -31,14 +31,14 @@ pub struct Run<'a, B: Allocator> {
     pub consoles: TextSet<&'a B>,
 }
 
-/// What JSON takes as white space.
+/// Whether JSON takes the byte as white space.
 fn is_space(byte: u8) -> bool
     ensures { result ≡ is_space byte }
 {
     byte == b' ' || byte == b'\t' || byte == b'\n' || byte == b'\r'
 }
 
-/// Whether the bytes are to be a session.
+/// Whether the bytes should be a session.
 fn begins_session(bytes: &[u8]) -> bool
     ensures { result ≡ begins_session bytes.now }
 {
@@ -62,7 +62,7 @@ fn unnamed_run<'a, B: Allocator>(alloc: &'a B, bench: Bench<'a, B>) -> Result<Ru
     Ok(Run { bench, consoles })
 }
 
-/// The run of the session that the bytes are.
+/// The run of the session in these bytes.
 fn load_bytes<'a, B: Allocator>(
     heap: Global,
     alloc: &'a B,
@@ -137,7 +137,7 @@ fn play_bytes<'a, B: Allocator>(
     }
 }
 
-/// The run of the session that the input is, or of its script.
+/// The run of the input, which is a session or a script.
 pub fn read_run<'a, B: Allocator, R: Read, L: Ledger>(
     heap: Global,
     alloc: &'a B,

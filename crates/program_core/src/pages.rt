@@ -1,4 +1,4 @@
-//! A page on which the run is looked at that an input gives.
+//! A page to look at the run that an input gives.
 ghost use Rattle.std.specs.Prelude.{◌≡◌, IfErr, IfOk, OnOk};
 ghost use Rattle.std.specs.Io.KnownBytes.{IsAtEnd};
 ghost use Rattle.command_line.specs.declared.chosen.Subcommand.TheVariants as subcommands;

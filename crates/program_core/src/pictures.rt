@@ -17,7 +17,7 @@ use std::alloc::{Allocator, Global};
 use std::io::{Read, Write};
 use std::sync::ledger::Ledger;
 
-/// The presences that were chosen, where `-` stands for each node.
+/// The presences that were chosen. `-` stands for each node.
 fn presence_of<'w>(question: Question<'w>) -> Presence<'w>
     ensures { result ≡ presence_of question.entry }
 {

@@ -43,7 +43,7 @@ pub(crate) fn print<W: Write>(writer: &mut W, text: &[u8]) -> Result<(), Fault>
     }
 }
 
-/// What the calls print in a report that a race of a script's lines recorded.
+/// What the recorded calls of a race of a script's lines print.
 fn race_report<B: Allocator + Sync, T: Threads + Wait + Sync, R: Read, W: Write, L: Ledger>(
     alloc: &B,
     reader: &mut R,
@@ -73,7 +73,7 @@ fn race_report<B: Allocator + Sync, T: Threads + Wait + Sync, R: Read, W: Write,
     print(writer, &text)
 }
 
-/// The session of the bench that such a race leaves.
+/// Runs a race, and prints the session of the bench that it leaves.
 fn race_session<B: Allocator + Sync, T: Threads + Wait + Sync, R: Read, W: Write, L: Ledger>(
     rt: &T,
     heap: Global,
@@ -213,10 +213,11 @@ fn explore_bench<B: Allocator, R: Read, W: Write, L: Ledger, C: Clock, E: Write>
     print(writer, text.as_bytes())
 }
 
-/// Reads the whole input, plays it as was chosen, and then prints; nothing is written before the whole text stands, but at a
-/// prompt, where each line is answered before the next is read. Limits are those of a script's bench; a session has its own.
-/// JSON takes its memory from `heap`, and all else from `alloc`. `steps` counts the calls of `read`. Nothing is told on `errors` but
-/// what is left out of the events of logs, at a prompt on a terminal its signs, and how far long work has come.
+/// Reads the whole input, plays it as was chosen, and then prints. It writes nothing before the whole text is ready,
+/// except at a prompt, where it answers each line before it reads the next. Limits are those of a script's bench; a
+/// session has its own. JSON takes its memory from `heap`, and all else from `alloc`. `steps` counts the calls of
+/// `read`. On `errors` it writes only what it leaves out of the events of logs, the signs of a prompt on a terminal,
+/// and how far long work has come.
 pub fn answer<
     B: Allocator + Sync,
     T: Threads + Wait + Sync,

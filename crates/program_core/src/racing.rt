@@ -31,12 +31,13 @@ fn fault_of(fault: RaceFault) -> Fault
     }
 }
 
-/// Lets go of the receipts of a race, for which it vouched.
+/// Drops the receipts of a race that it vouched for.
 fn discard<A: Allocator>(receipts: Receipts<A>) {
     drop(receipts);
 }
 
-/// The bench that a race gave, which it vouched for; the receipts go, and so does a bench that it didn't.
+/// The bench of a race, if the race vouched for it. Its receipts are dropped, and so is a bench that the race didn't
+/// vouch for.
 fn outcome<'a, B: Allocator>(
     raced: Result<(Bench<'a, B>, Receipts<&'a B>), (RaceFault, Bench<'a, B>)>,
 ) -> Result<Bench<'a, B>, Fault>
@@ -55,7 +56,7 @@ fn outcome<'a, B: Allocator>(
     }
 }
 
-/// The bench that a race of the script's lines leaves. Workers go as they come.
+/// The bench that a race of the script's lines leaves. The workers run in any order.
 pub fn race_script<'a, B: Allocator + Sync, T: Threads + Wait + Sync>(
     rt: &T,
     alloc: &'a B,

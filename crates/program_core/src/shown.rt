@@ -1,4 +1,5 @@
-//! What is shown of a script that is played, and of a session that is played again: by the form that was chosen, and strictly or not.
+//! What is shown of a script that is played, or of a session that is played again, in the form that was chosen, strictly or
+//! not.
 ghost use Rattle.std.specs.Prelude.{◌≡◌, IfErr, IfOk, OnOk};
 ghost use Rattle.std.specs.Io.KnownBytes.{IsAtEnd};
 ghost use Rattle.grammar_core.specs.Scripts.{plain_script};
@@ -25,7 +26,7 @@ use transcript_core::{
     bench_steps, first_in, first_refused, free_consoles, script_of_calls, script_steps,
 };
 
-/// A text, and the first act that was refused, where that is a fault.
+/// A text, and the first act that was refused, if that is a fault.
 #[derive(Drop)]
 pub struct Shown<A: Allocator> {
     pub text: Text<A>,
@@ -49,7 +50,7 @@ fn steps_of_script<'a, B: Allocator>(
     }
 }
 
-/// The same of the calls that a bench recorded.
+/// The report of the calls that a bench recorded, with each line above what it printed.
 fn steps_of_bench<'a, B: Allocator>(
     alloc: &'a B,
     bench: &Bench<'a, B>,
@@ -141,7 +142,7 @@ fn told_text<'a, B: Allocator>(
     text
 }
 
-/// The first line of a script that is refused, where that is a fault.
+/// The first refused line of a script, if that is a fault.
 fn refused_line<'a, B: Allocator>(
     alloc: &'a B,
     script: &Script<&'a B>,
@@ -164,7 +165,7 @@ fn refused_line<'a, B: Allocator>(
     }
 }
 
-/// The first recorded call of a bench that was refused, where that is a fault.
+/// The first refused call that a bench recorded, if that is a fault.
 fn refused_act<'a, B: Allocator>(bench: &Bench<'a, B>, strict: bool) -> Option<Refused>
     ensures { result ≡ refused_act strict bench.now }
 {
@@ -214,7 +215,7 @@ fn show_session<'a, B: Allocator>(
     Ok(Shown { text, refused })
 }
 
-/// Writes the text, and then tells the act that was refused.
+/// Writes the text, and then ends with the act that was refused, if any.
 fn finish<W: Write, A: Allocator>(writer: &mut W, shown: &Shown<A>) -> Result<(), Fault>
     ensures { EndsAsShown (text_bytes shown.now.text) shown.now.refused result (W.contents writer.old) (W.contents writer.new) }
 {

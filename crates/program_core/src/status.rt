@@ -33,8 +33,8 @@ fn status_of(answer: Result<(), Fault>) -> u8
     }
 }
 
-/// Tells a fault in a line, and in one more what to do where a script of logs is too long. That a check found what it was asked to
-/// find is no fault to tell.
+/// Prints a fault as a line. If a script of logs is too long, one more line says what to do. For a check that found a
+/// difference it prints nothing.
 fn tell<E: Write>(fault: Fault, errors: &mut E) {
     if fault == Fault::Differs {
         return;
@@ -67,7 +67,7 @@ fn word_of(command: Subcommand<'_>) -> &'static str
     }
 }
 
-/// That the command reads standard input.
+/// The line that says that the command reads standard input.
 #[tactic(auto, unfolding(crate::specs::Program::input_line))]
 fn input_line(heap: Global, command: Subcommand<'_>) -> Result<String, Oom>
     ensures { IfOk result (λ line. string_bytes line ≡ input_line command.entry) }
@@ -76,7 +76,7 @@ fn input_line(heap: Global, command: Subcommand<'_>) -> Result<String, Oom>
     Ok(format!(in heap; "presence_bench: reads standard input: presence_bench {word} < FILE\n")?)
 }
 
-/// Tells that the command reads standard input, which is a terminal, where that can be written.
+/// Prints that the command reads standard input, which is a terminal, if that can be written.
 fn tell_input<E: Write>(heap: Global, command: Subcommand<'_>, errors: &mut E)
     ensures { TellsInput command.entry (E.contents errors.old) (E.contents errors.new) }
 {
@@ -86,7 +86,7 @@ fn tell_input<E: Write>(heap: Global, command: Subcommand<'_>, errors: &mut E)
     let _ = write_out(errors, line.as_bytes());
 }
 
-/// Tells it, where the input is a terminal and the command isn't a prompt.
+/// As `tell_input`, if the input is a terminal and the command isn't a prompt.
 fn announce<E: Write>(heap: Global, command: Subcommand<'_>, errors: &mut E, terminal: bool)
     ensures { Announces terminal command.entry (E.contents errors.old) (E.contents errors.new) }
 {
@@ -99,7 +99,7 @@ fn announce<E: Write>(heap: Global, command: Subcommand<'_>, errors: &mut E, ter
     }
 }
 
-/// Tells what waits for a terminal, and then does what was chosen.
+/// Prints what `announce` prints, and then does what was chosen.
 fn answer_on<
     B: Allocator + Sync,
     T: Threads + Wait + Sync,
@@ -136,8 +136,8 @@ fn answer_on<
     )
 }
 
-/// Does what was chosen, and gives the status. A fault goes as one line to the errors, and behind it a hint where there is one,
-/// where these can be written.
+/// Does what was chosen, and gives the status. It writes a fault as one line to the errors, and a hint after it if
+/// there is one, as far as these can be written.
 fn run_choice<
     B: Allocator + Sync,
     T: Threads + Wait + Sync,
@@ -174,7 +174,7 @@ fn run_choice<
     status_of(answer)
 }
 
-/// Tells that a request for memory was refused, and gives the status of that.
+/// Prints that a request for memory was refused, and gives the status of that fault.
 pub fn want_of_memory<E: Write>(errors: &mut E) -> u8
     ensures status { result ≡ 4 }
 {
@@ -182,7 +182,7 @@ pub fn want_of_memory<E: Write>(errors: &mut E) -> u8
     4
 }
 
-/// Prints help or the version, and gives the status of that.
+/// Prints help or the version, and gives its status.
 fn print_help<W: Write, E: Write>(help: &clap::Error, writer: &mut W, errors: &mut E) -> u8
     ensures status { PrintsHelp result }
     ensures quiet { result ≡ 0 → Keeps (E.contents errors.old) (E.contents errors.new) }
@@ -194,7 +194,7 @@ fn print_help<W: Write, E: Write>(help: &clap::Error, writer: &mut W, errors: &m
     0
 }
 
-/// What is told of a word that isn't taken, which is mostly the name of a file.
+/// What to print of a word that isn't taken. It is mostly the name of a file.
 const FILE_HINT: &str =
     "hint: the input is read from standard input; put < before the name of a file\n";
 
@@ -217,10 +217,10 @@ fn refuse<W: Write, E: Write>(fault: &clap::Error, writer: &mut W, errors: &mut 
     }
 }
 
-/// Does what the words after the program's name ask, on benches with these limits, and gives the status. The words and JSON are
-/// read in memory of `heap`, and all else is done in that of `alloc`. Where the reader is a terminal, a prompt shows its signs on
-/// `errors`, and any other command tells there what it reads. `steps` counts the calls of `read`; by `clock` long work tells at times
-/// how far it has come.
+/// Does what the words after the program's name ask, on benches with these limits, and gives the status. The words and
+/// JSON are read in memory of `heap`, and all else is done in that of `alloc`. Where the reader is a terminal, a prompt
+/// shows its signs on `errors`, and any other command tells there what it reads. `steps` counts the calls of `read`;
+/// `clock` says when long work tells how far it has come.
 pub fn program_counted<
     S: AsStr,
     B: Allocator + Sync,
@@ -254,8 +254,8 @@ pub fn program_counted<
     }
 }
 
-/// `program_counted` with a count of its own, which is let go. The words have a size of their own behind a second reference, as
-/// what is passed with a count has to.
+/// `program_counted` with a count of its own, which it drops. The words stand behind a second reference, since what is
+/// passed with a count must have a size.
 fn program_from<
     S: AsStr,
     B: Allocator + Sync,
@@ -290,7 +290,7 @@ fn program_from<
     )
 }
 
-/// The same as `program_counted`, for whoever counts no calls of `read`.
+/// As `program_counted`, for callers that count no calls of `read`.
 pub fn program_within<
     S: AsStr,
     B: Allocator + Sync,

@@ -62,7 +62,7 @@ pub fn read_script<'a, B: Allocator, R: Read, L: Ledger>(
     }
 }
 
-/// What a session is read of. Of an input that is too long no more is kept than a session may have.
+/// The bytes of a session. If the input is too long, it keeps no more of it than a session may have.
 fn session_input<'a, B: Allocator, R: Read, L: Ledger>(
     alloc: &'a B,
     reader: &mut R,
@@ -83,7 +83,7 @@ fn session_input<'a, B: Allocator, R: Read, L: Ledger>(
     }
 }
 
-/// The bench of the session that the input is, with what its calls print.
+/// The bench of the session in the input, with what its calls print.
 pub fn tell_session<'a, B: Allocator, R: Read, L: Ledger>(
     heap: Global,
     alloc: &'a B,

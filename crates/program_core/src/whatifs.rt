@@ -19,7 +19,7 @@ fn question_of<'w>(chosen: command_line::Question<'w>) -> Question<'w>
     }
 }
 
-/// The changes that would have made a difference; where there is the number of one, the run with it, as a script.
+/// The changes that would have made a difference; or, given the number of one, the run with it, as a script.
 pub fn tell_whatif<'a, B: Allocator, W: Watch<Tried>>(
     alloc: &'a B,
     bench: &Bench<'a, B>,

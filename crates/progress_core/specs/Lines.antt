@@ -19,11 +19,11 @@ abbrev pub Puts : List ℕ → Bool → Option (List ℕ) → Option (List ℕ) 
 Puts line true old new = Appends old new line
 Puts line false old new = (count : ℕ) × Appends old new (take count line)
 
--- a beginning of such lines went out
+-- a beginning of some lines of this form went out
 abbrev pub TellsLines : {P : Type 0} → (P → List ℕ) → Option (List ℕ) → Option (List ℕ) → Type 0
 TellsLines {P} line old new = (works : List P) × (count : ℕ) × Appends old new (take count (flat_map line works))
 
--- the same; and all of them, where more can come
+-- a beginning of some lines of this form went out; and each line whole, if more can come
 pub record HasTold {P : Type 0} (line : P → List ℕ) (able : Bool) (old new : Option (List ℕ)) : Type 0 where
   pub part : TellsLines line old new
   pub whole : able ≡ true → (works : List P) × Appends old new (flat_map line works)

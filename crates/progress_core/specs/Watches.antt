@@ -1,5 +1,6 @@
--- What work leaves of who watches it.
+-- What work leaves of its watcher.
 
--- it was only told things: what lay between some beginning and the one lies between that and the other
+-- the watcher was only called: if something held between an earlier watcher and the old one, it holds between the earlier and the
+-- new one
 abbrev pub Watched : {W : Type 0} → (W → W → Type 0) → W → W → Type 0
 Watched {W} told old new = (start : W) → told start old → told start new

@@ -3,7 +3,7 @@ use std::cell::Cell;
 use std::io;
 use std::time::{Clock, Duration};
 
-/// At each look it is later by the same time.
+/// A clock that is later by the same time at each look.
 #[derive(Drop)]
 pub struct FakeClock {
     now: Cell<u64>,

@@ -1,7 +1,7 @@
-//! Who is told how far long work has come, and who tells it as lines.
+//! Who watches how far long work has come, and who prints it as lines.
 //!
-//! It stands on `stream_core` alone. In the order to read them: `work`, how far work has come; `watch`, who is told of it; `line`, it as a
-//! line; `pace`, when a line is due; `teller`, who tells lines; `fakes`, a clock for tests.
+//! It stands on `stream_core` alone. In the order to read them: `work`, how far work has come; `watch`, who watches it; `line`,
+//! it as a line; `pace`, when a line is due; `teller`, who prints lines; `fakes`, a clock for tests.
 #![tactic(auto)]
 
 mod fakes;

@@ -4,7 +4,7 @@ use std::time::{Clock, Instant};
 /// How many calls pass before the clock is looked at again.
 const PASSED: u32 = 15;
 
-/// When a line was due last, or the beginning; none where the clock couldn't be read then, and so none is due.
+/// When a line was due last, or when work began. If the clock couldn't be read then, there is none, and no line is due.
 #[derive(Drop)]
 pub(crate) struct Pace<'t, C> {
     clock: &'t C,
@@ -21,8 +21,8 @@ impl<'t, C: Clock> Pace<'t, C> {
         }
     }
 
-    /// Whether a second has passed since a line was due, or since the beginning. To look at the clock takes longer than some work, so
-    /// it is done at each sixteenth call.
+    /// Whether a second has passed since a line was due, or since the beginning. A look at the clock takes longer than
+    /// some work, so only each sixteenth call takes one.
     pub(crate) fn is_due(&mut self) -> bool {
         if self.calls < PASSED {
             self.calls += 1;

@@ -1,4 +1,4 @@
-//! `Teller`: who tells as lines how far work has come.
+//! `Teller`: prints as lines how far work has come.
 ghost use Rattle.std.specs.Prelude.{◌≡◌};
 ghost use Rattle.progress_core.specs.Lines.{Puts};
 
@@ -11,8 +11,8 @@ use std::io::Write;
 use std::time::Clock;
 use stream_core::write_out;
 
-/// Tells as lines how far work has come: at most one a second, and none in the first. Where a line can't be written, none comes any
-/// more; where it can't be made, it is left out.
+/// Prints as lines how far work has come: at most one a second, and none in the first. Once a line can't be written it
+/// prints no more; a line that can't be made is left out.
 #[derive(Drop)]
 pub struct Teller<'t, C, E> {
     heap: Global,
@@ -33,7 +33,7 @@ fn put<E: Write>(errors: &mut E, line: &[u8]) -> bool
 }
 
 impl<'t, C: Clock, E: Write> Teller<'t, C, E> {
-    /// One that has told nothing yet. Seconds count from now on.
+    /// A teller that has printed nothing yet. Seconds count from now on.
     pub fn new(heap: Global, clock: &'t C, errors: &'t mut E) -> Self
         ensures same_reference { result.errors.ghost_name ≡ errors.entry.ghost_name }
         ensures kept { result.errors.now ≡ errors.old }

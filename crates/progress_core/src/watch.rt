@@ -1,7 +1,8 @@
-//! `Watch`: who is told how far work has come.
+//! `Watch`: watches how far work has come.
 ghost use Rattle.progress_core.specs.Watches.{Watched};
 
-/// Who is told how far work has come, at each piece of it. Its relation says what may lie between one time and a later one.
+/// Watches how far work has come, at each piece of it. Its relation says how it may change from one time to a later
+/// one.
 pub trait Watch<P: Copy> {
     ghost told: { Self → Self → Type 0 };
 

@@ -1,13 +1,14 @@
 //! How far work has come.
 
-/// How many changes were tried, of how many there are.
+/// How many changes were tried, and how many there are.
 #[derive(Clone, Copy, Debug, PartialEq, Eq)]
 pub struct Tried {
     pub done: usize,
     pub all: usize,
 }
 
-/// How many states a walk has kept, how many outcomes it has found, and how many steps may come yet where it stands.
+/// How many states a walk has kept, how many outcomes it has found, and how many steps may still come from where it
+/// stands.
 #[derive(Clone, Copy, Debug, PartialEq, Eq)]
 pub struct Walked {
     pub states: usize,

@@ -1,18 +1,16 @@
 -- What a node has sent, message by message.
 use Rattle.std.proofs.Common.{◌≡◌, ℕ, zero, suc, ◌+◌, ◌<◌, ◌≤◌, List, [], ◌∷◌, ◌++◌, map, drop, length, Option, Some, None, slice_get, refl, sym, ap, ◌∙◌, append_assoc, add-one, arith}
-use Rattle.std.specs.Option.{option_map}
 use Rattle.std.proofs.lemmas.List.{at_drop_all, at_drop_more, append-nil}
 use Rattle.std.proofs.lemmas.Option.{slice_get_within, slice_get-get_or, get_or_from_slice_get}
 use Rattle.dots_core.specs.declared.dot.Dot.{Dot}
-use Rattle.payload_core.specs.Presences.{Presence, Entry}
+use Rattle.payload_core.specs.Presences.{Presence, Entry, entry_of}
 use Rattle.payload_core.specs.EntryLists.{pair_of}
 use Rattle.payload_core.specs.Messages.{Message, numbered}
-use Rattle.payload_core.proofs.Collected.{entry_at, found}
 use Rattle.node_core.specs.Nodes.{Node}
 use Rattle.journal_core.specs.Journals.{Kept, sent_by}
 use Rattle.bench_core.specs.Machine.{Machine}
 use Rattle.bench_core.specs.NameList.{Texts}
-use Rattle.diff_core.specs.Rows.{row_of}
+use Rattle.diff_core.specs.Rows.{Row, row_of}
 use Rattle.report_core.specs.Rows.{row_line, row_lines}
 use Rattle.report_core.specs.Shown.{node_of}
 use Rattle.prompt_core.specs.Sent.{message_text, messages_in, messages_text, sent_line, sent_text}
@@ -22,16 +20,23 @@ drop_at : {A : Type 0} (xs : List A) (i : ℕ) (x : A) → slice_get xs i ≡ So
 drop_at xs i x here =
     at_drop_more (λ ys. ys) xs i x (slice_get_within xs i x here) ∙ ap (λ y. y ∷ drop (i + 1) xs) (get_or_from_slice_get xs i x x here)
 
--- the row of the entry at a place was put behind the text
-pub row_more : (mark : List ℕ) (names : Texts) (ps : List (Dot × Presence)) (i : ℕ) (e : Entry) (text more start : List ℕ) →
-    Some e ≡ entry_at ps i → more ≡ text ++ row_line mark names (row_of (pair_of e))
-    → text ++ row_lines mark names (map row_of (drop i ps)) ≡ start
-    → more ++ row_lines mark names (map row_of (drop (i + 1) ps)) ≡ start
+-- the rows of the entries of a walk
+abbrev pub rows_ahead : List Entry → List Row
+rows_ahead es = map (λ e. row_of (pair_of e)) es
+
+pub rows_walked : (ps : List (Dot × Presence)) → rows_ahead (map (λ (p : Dot × Presence). entry_of p.0 p.1) ps) ≡ map row_of ps
+rows_walked [] = refl
+rows_walked (p ∷ ps) = ap (λ rows. row_of p ∷ rows) (rows_walked ps)
+
+-- the row of the next entry was put behind the text
+pub row_more : (mark : List ℕ) (names : Texts) (walk rest : List Entry) (e : Entry) (text more start : List ℕ) →
+    walk ≡ e ∷ rest → more ≡ text ++ row_line mark names (row_of (pair_of e)) → text ++ row_lines mark names (rows_ahead walk) ≡ start
+    → more ++ row_lines mark names (rows_ahead rest) ≡ start
 unfolding row_lines
-row_more mark names ps i e text more start at put so_far =
-    let rest = row_lines mark names (map row_of (drop (i + 1) ps)) in
-    ap (λ bytes. bytes ++ rest) put ∙ append_assoc text (row_line mark names (row_of (pair_of e))) rest
-    ∙ sym (ap (λ qs. text ++ row_lines mark names (map row_of qs)) (drop_at ps i (pair_of e) (found ps i e at)))
+row_more mark names walk rest e text more start next put so_far =
+    let later = row_lines mark names (rows_ahead rest) in
+    ap (λ bytes. bytes ++ later) put ∙ append_assoc text (row_line mark names (row_of (pair_of e))) later
+    ∙ sym (ap (λ es. text ++ row_lines mark names (rows_ahead es)) next)
     ∙ so_far
 
 -- the message of a number stands at the place below it
@@ -80,11 +85,11 @@ no_gap_of (m ∷ ms) i within none =
     cc
 
 -- all rows were put
-pub row_all : (mark : List ℕ) (names : Texts) (ps : List (Dot × Presence)) (i : ℕ) (text start : List ℕ) → length ps ≤ i →
-    text ++ row_lines mark names (map row_of (drop i ps)) ≡ start → text ≡ start
+pub row_all : (mark : List ℕ) (names : Texts) (walk : List Entry) (text start : List ℕ) → walk ≡ [] →
+    text ++ row_lines mark names (rows_ahead walk) ≡ start → text ≡ start
 unfolding row_lines
-row_all mark names ps i text start past so_far =
-    sym (append-nil text) ∙ ap (λ rest. text ++ rest) (sym (at_drop_all (λ qs. row_lines mark names (map row_of qs)) ps i past)) ∙ so_far
+row_all mark names walk text start end so_far =
+    sym (append-nil text) ∙ ap (λ es. text ++ row_lines mark names (rows_ahead es)) (sym end) ∙ so_far
 
 -- no node has this number
 pub no_node : (m : Machine) (node : ℕ) → None ≡ node_of m node → sent_line m.names node 0 ≡ sent_text m node

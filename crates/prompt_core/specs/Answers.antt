@@ -1,4 +1,4 @@
--- What is printed of each line at a prompt.
+-- What a prompt prints for each line.
 use Rattle.std.specs.Prelude.{ℕ, ◌+◌, ◌==◌, ◌&&◌, nat_le, nat_lt, length, Bool, true, false, List, [], ◌∷◌, ◌++◌, codes, decimal, if◌then◌else◌, Option, Some, None, Result, Ok, Err}
 use Rattle.std.specs.List.{list_all}
 use Rattle.std.specs.Str.{bytes_eq}
@@ -46,7 +46,7 @@ explained_at number m None topic key = fault_line number BadName
 explained_at number m (Some node) topic key =
     if is_word topic && is_word key then explanation m node topic key else fault_line number TooLong
 
--- what the words behind `:explain` ask for, once the nodes are named
+-- what the words after `:explain` ask for, once the nodes are named
 unfoldable pub explained : ℕ → Option Machine → Texts → List ℕ
 explained number None words = fault_line number NoNodes
 explained number (Some m) (node ∷ topic ∷ key ∷ []) = explained_at number m (number_in m.names node) topic key
@@ -58,7 +58,7 @@ changes_at number m None topic key = fault_line number BadName
 changes_at number m (Some node) topic key =
     if is_word topic && is_word key then whatif_text m (record { node = node; topic = topic; key = key }) else fault_line number TooLong
 
--- what the words behind `:whatif` ask for, once the nodes are named
+-- what the words after `:whatif` ask for, once the nodes are named
 unfoldable pub changes : ℕ → Option Machine → Texts → List ℕ
 changes number None words = fault_line number NoNodes
 changes number (Some m) (node ∷ topic ∷ key ∷ []) = changes_at number m (number_in m.names node) topic key
@@ -78,7 +78,7 @@ drawn number cast machine = told_by (λ m consoles. whole_picture m consoles ++ 
 abbrev pub told_steps : ℕ → Option Cast → Option Machine → List ℕ
 told_steps number cast machine = told_by bench_steps number cast machine
 
--- a script that isn't too long for one
+-- a script, unless it is longer than a script may be
 abbrev pub script_within : ℕ → List ℕ → List ℕ
 script_within number text = if nat_lt 1048576 (length text) then fault_line number TooLong else text
 
@@ -92,18 +92,18 @@ abbrev pub sent_at : ℕ → Machine → Option ℕ → List ℕ
 sent_at number m None = fault_line number BadName
 sent_at number m (Some node) = sent_text m node
 
--- what the word behind `:sent` asks for, once the nodes are named
+-- what the word after `:sent` asks for, once the nodes are named
 unfoldable pub told_sent : ℕ → Option Machine → Texts → List ℕ
 told_sent number None words = fault_line number NoNodes
 told_sent number (Some m) (node ∷ []) = sent_at number m (number_in m.names node)
 told_sent number (Some m) words = fault_line number WrongCount
 
--- what a word of the prompt's own tells that stands alone
+-- the text of a word of the prompt's own, if nothing follows the word
 abbrev pub alone : ℕ → Texts → List ℕ → List ℕ
 alone number [] text = text
 alone number (word ∷ words) text = fault_line number WrongCount
 
--- what these words tell of the run
+-- what these words print of the run
 unfoldable pub run_word : Prompt → ℕ → FaultKind → List ℕ → Texts → List ℕ
 run_word prompt number kind first words =
     if bytes_eq first (codes ":draw") then alone number words (drawn number prompt.cast prompt.machine)
@@ -112,7 +112,7 @@ run_word prompt number kind first words =
     else (if bytes_eq first (codes ":sent") then told_sent number prompt.machine words
     else fault_line number kind)))
 
--- the answer to these words, which have this fault in a script: what the first asks, where that is one of the prompt's own
+-- the answer to these words, which have this fault in a script: what the first word asks, if it is one of the prompt's own
 unfoldable pub worded : List ℕ → Prompt → ℕ → FaultKind → Texts → List ℕ
 worded help prompt number kind [] = fault_line number kind
 worded help prompt number kind (first ∷ words) =
@@ -123,13 +123,13 @@ worded help prompt number kind (first ∷ words) =
     else (if bytes_eq first (codes ":whatif") then changes number prompt.machine words
     else run_word prompt number kind first words))))
 
--- a fault of the first word
+-- whether the fault is about the first word
 abbrev pub is_first : FaultKind → Bool
 is_first UnknownWord = true
 is_first NoNodes = true
 is_first _ = false
 
--- the answer to a line that is none of a script, which has this fault there: one of the prompt's own, or the fault
+-- the answer to a line that has this fault in a script: to one of the prompt's own lines what it asks, to any other the fault
 unfoldable pub own_answer : List ℕ → Prompt → ℕ → List ℕ → FaultKind → List ℕ
 own_answer help prompt number line kind =
     if is_first kind then worded help prompt number kind (words_of line) else fault_line number kind
@@ -142,15 +142,15 @@ answer_by help prompt number line (Err kind) = (prompt, own_answer help prompt n
 unfoldable pub answer : List ℕ → Prompt → ℕ → List ℕ → Prompt × List ℕ
 answer help prompt number line = answer_by help prompt number line (taken prompt [] line)
 
--- each of these words is `:quit`
+-- whether each of these words is `:quit`
 abbrev pub are_quits : Texts → Bool
 are_quits words = list_all (λ word. bytes_eq word (codes ":quit")) words
 
--- the line ends the prompt: it has one word, which is `:quit`
+-- whether the line ends the prompt: it has one word, which is `:quit`
 unfoldable pub is_quit : List ℕ → Bool
 is_quit line = nat_le (length line) 4096 && (are_quits (words_of line) && (length (words_of line) == 1))
 
--- the answers to the lines from this number on, in order, up to one that ends the prompt
+-- the answers to the lines from this number on, in order, up to the one that ends the prompt
 unfoldable pub answers : List ℕ → Prompt → ℕ → List (List ℕ) → List ℕ
 answers help prompt number [] = []
 answers help prompt number (line ∷ lines) =

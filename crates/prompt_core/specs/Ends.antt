@@ -17,13 +17,13 @@ use Rattle.prompt_core.specs.declared.prompt_fault.PromptFault.{PromptFault}
 use Rattle.prompt_core.specs.declared.prompt_fault.PromptFault.TheVariants as prompts
 use Rattle.prompt_core.specs.declared.prompt_fault.PromptFault.TheVariants.{ReadFault, WriteFault}
 
--- why the next line could not be had, as a prompt tells it
+-- why the next line could not be had, as a fault of the prompt
 abbrev pub of_input : InputFault → PromptFault
 of_input inputs.ReadFault = prompts.ReadFault
 of_input inputs.TooLong = prompts.TooLong
 of_input inputs.OutOfMemory = prompts.OutOfMemory
 
--- a call of `read` failed exactly where a read fault is answered, and then one alone: it wasn't tried again
+-- a call of `read` failed if and only if the result is a read fault, and then only one: it wasn't tried again
 abbrev pub FailsAs : Result (Unit {0}) PromptFault → Steps → Steps → Type 0
 FailsAs (Ok u) old new = new.failed ≡ old.failed
 FailsAs (Err prompts.ReadFault) old new = new.failed ≡ old.failed + 1
@@ -31,13 +31,13 @@ FailsAs (Err prompts.WriteFault) old new = new.failed ≡ old.failed
 FailsAs (Err prompts.TooLong) old new = new.failed ≡ old.failed
 FailsAs (Err prompts.OutOfMemory) old new = new.failed ≡ old.failed
 
--- what stands behind the first line that ends the prompt, or nothing; these bytes are in front, of the same line
+-- what comes after the first line that ends the prompt, or nothing; `line` has the earlier bytes of the line that is read
 unfoldable pub unread_behind : List ℕ → List ℕ → List ℕ
 unread_behind line [] = []
 unread_behind line (byte ∷ bytes) =
     if byte == 10 then (if is_quit line then bytes else unread_behind [] bytes) else unread_behind (line ++ byte ∷ []) bytes
 
--- what a prompt leaves of an input: what stands behind the first line that ends it
+-- what a prompt leaves of an input: what comes after the first line that ends it
 abbrev pub unread : List ℕ → List ℕ
 unread input = unread_behind [] input
 
@@ -47,11 +47,11 @@ IsRead None left = ⊤
 IsRead (Some input) None = ⊥
 IsRead (Some input) (Some left) = left ≡ unread input
 
--- none of its lines ends the prompt
+-- none of the input's lines ends the prompt
 abbrev pub HasNoQuit : List ℕ → Type 0
 HasNoQuit input = list_any is_quit (lines_of input) ≡ false
 
--- all that is printed of an input
+-- all that a prompt prints for an input
 abbrev pub printed : List ℕ → Limits → List ℕ → List ℕ
 printed help limits input = answers help (new_prompt limits) 1 (lines_of input)
 
@@ -60,18 +60,18 @@ abbrev pub Answers : List ℕ → Limits → Option (List ℕ) → Option (List 
 Answers help limits None old new = ⊤
 Answers help limits (Some input) old new = Appends old new (printed help limits input)
 
--- of a script without faults its report is printed, byte for byte
+-- for a script without faults a prompt prints its report, byte for byte
 abbrev pub ReportLaw : Type 0
 ReportLaw =
     (help : List ℕ) (limits : Limits) (bytes : List ℕ) (script : Script) → script_of bytes ≡ Ok script → printed help limits bytes ≡ report_of limits script
 
--- of a script without faults its report went out, and nothing else
+-- for a script without faults its report went out, and nothing else
 abbrev pub Reports : Limits → Option (List ℕ) → Option (List ℕ) → Option (List ℕ) → Type 0
 Reports limits None old new = ⊤
 Reports limits (Some input) old new = IfOk (script_of input) (λ script. Appends old new (report_of limits script))
 
--- the answers to all lines that were taken in went out, the last one apart, of whose answer a beginning may have, where a write
--- failed; where a read did, no more than a beginning of the last one was taken in
+-- the answers to all lines that were taken in went out, except the last; a beginning of the last answer may have gone out, if a
+-- write failed; if a read failed, no more than a beginning of the last line was taken in
 pub record IsCutShort (help : List ℕ) (limits : Limits) (fault : PromptFault) (input left : List ℕ) (old new : Option (List ℕ)) : Type 0 where
   pub answered : List ℕ
   pub last : List ℕ
@@ -84,7 +84,7 @@ pub record IsCutShort (help : List ℕ) (limits : Limits) (fault : PromptFault) 
   pub within_line : fault ≡ ReadFault → All (λ b. b ≢ 10) last
   pub unended : HasNoQuit answered
 
--- the same, where the reader's bytes are known
+-- how a prompt that ends early ends, if the reader's bytes are known
 abbrev pub EndsEarly : List ℕ → Limits → PromptFault → Option (List ℕ) → Option (List ℕ) → Option (List ℕ) → Option (List ℕ) → Type 0
 EndsEarly help limits fault None left old new = ⊤
 EndsEarly help limits fault (Some input) None old new = ⊥

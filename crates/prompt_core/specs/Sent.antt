@@ -13,7 +13,7 @@ use Rattle.report_core.specs.Rows.{name_at, row_lines}
 use Rattle.report_core.specs.Shown.{node_of}
 use Rattle.report_core.specs.StepText.{act_line}
 
--- whether a step is a sending one of the node
+-- whether a step is a sending step of the node
 abbrev pub is_sent : Kept → ℕ → Bool
 is_sent k node = (k.node == node) && sends k.step
 
@@ -26,7 +26,7 @@ unfoldable pub message_line : Texts → ℕ → Kept → List ℕ
 message_line names number k =
     codes "message " ++ decimal number ++ codes " by " ++ decimal k.number ++ codes " " ++ act_line names k.node k.step ++ codes "\n"
 
--- and the rows that it holds
+-- a message line, and the rows that the message holds
 abbrev pub message_text : Texts → ℕ → Kept → Message → List ℕ
 message_text names number k message = message_line names number k ++ row_lines (codes "= ") names (rows_of message.entries)
 
@@ -45,7 +45,7 @@ messages_in (Some node) = node.outbox
 unfoldable pub sent_line : Texts → ℕ → ℕ → List ℕ
 sent_line names node count = codes "sent " ++ name_at names node ++ codes " " ++ decimal count ++ codes "\n"
 
--- the whole, of a node
+-- all that a node has sent
 unfoldable pub sent_text : Machine → ℕ → List ℕ
 sent_text m node =
     sent_line m.names node (length (messages_in (node_of m node)))

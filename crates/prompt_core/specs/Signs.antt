@@ -17,29 +17,29 @@ next_step (Some m) = given m.state.history + 1
 unfoldable pub sign : Prompt → List ℕ
 sign prompt = decimal (next_step prompt.machine) ++ codes "> "
 
--- a sign went out whole, where signs are shown; or a beginning of it, and then none is shown any longer
+-- a sign went out whole, if signs are shown; or only a beginning of it, and then no more are shown
 abbrev pub ShowsSign : Bool → List ℕ → Bool → Option (List ℕ) → Option (List ℕ) → Type 0
 ShowsSign false text shown old new = (shown ≡ false) × Keeps old new
 ShowsSign true text true old new = Appends old new text
 ShowsSign true text false old new = (count : ℕ) × Appends old new (take count text)
 
--- the lines that are read: behind a last line feed there is none
+-- the lines that are read; after a last line feed there is none
 abbrev pub read_lines : List (List ℕ) → List (List ℕ)
 read_lines [] = []
 read_lines (line ∷ []) = if length line == 0 then [] else line ∷ []
 read_lines (line ∷ next ∷ lines) = line ∷ read_lines (next ∷ lines)
 
--- the sign before each of these lines, and before the end of the input, unless a line ends the prompt
+-- the sign before each of these lines and before the end of the input, up to the line that ends the prompt
 unfoldable pub signs : List ℕ → Prompt → ℕ → List (List ℕ) → List ℕ
 signs help prompt number [] = sign prompt
 signs help prompt number (line ∷ lines) =
     sign prompt ++ (if is_quit line then [] else signs help (answer help prompt number line).0 (number + 1) lines)
 
--- those of an input
+-- the signs for an input
 abbrev pub signs_of : List ℕ → Limits → List ℕ → List ℕ
 signs_of help limits input = signs help (new_prompt limits) 1 (read_lines (lines_of input))
 
--- a beginning of the signs went out, where they are shown, and else nothing
+-- a beginning of the signs went out, if they are shown; else nothing
 abbrev pub Shows : Bool → List ℕ → Limits → Option (List ℕ) → Option (List ℕ) → Option (List ℕ) → Type 0
 Shows false help limits input old new = Keeps old new
 Shows true help limits None old new = ⊤

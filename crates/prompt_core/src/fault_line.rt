@@ -1,4 +1,4 @@
-//! The fault of a line, as it is told.
+//! The fault of a line, as a prompt prints it.
 ghost use Rattle.std.specs.Prelude.{◌≡◌, ◌++◌, OnOk};
 ghost use Rattle.prompt_core.specs.Answers.{fault_line, kind_name};
 
@@ -24,14 +24,14 @@ fn kind_name(kind: FaultKind) -> &'static str
     }
 }
 
-/// A text behind an answer.
+/// Appends a text to an answer.
 pub fn put_text<A: Allocator>(answer: &mut Vec<u8, A>, text: &str) -> Result<(), Oom>
     ensures { OnOk result (answer.new.items ≡ answer.old.items ++ text.now) }
 {
     Ok(answer.extend_from_slice(text.as_bytes())?)
 }
 
-/// The fault of a line.
+/// Appends the fault of a line.
 #[tactic(auto, unfolding(crate::specs::Answers::fault_line))]
 pub fn put_fault<A: Allocator + Copy>(
     alloc: A,

@@ -3,7 +3,7 @@ ghost use Rattle.prompt_core.specs.Ends.{ReportLaw};
 
 use run_core::laws::prompt_law;
 
-/// All that is printed at a prompt of a script without faults is the script's report, byte for byte.
+/// What a prompt prints for a script without faults is the script's report, byte for byte.
 pub fn report_law()
     ensures { ReportLaw }
 {

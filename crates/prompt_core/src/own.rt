@@ -1,4 +1,4 @@
-//! The answers to lines that are none of a script.
+//! The answers to lines that no script has.
 ghost use Rattle.std.specs.Prelude.{◌≡◌, ◌++◌, [], OnOk, codes, map, true};
 ghost use Rattle.bench_core.specs.NameList.{number_in};
 ghost use Rattle.grammar_core.specs.Words.{is_text};
@@ -16,7 +16,7 @@ use session_core::save;
 use std::alloc::{Allocator, Global};
 use whatif_report::{WhatifFault, whatif_asked};
 
-/// What `:help` tells, where no word stands behind it.
+/// What `:help` prints, if no word follows it.
 fn put_help<A: Allocator + Copy>(
     alloc: A,
     answer: &mut Vec<u8, A>,
@@ -33,7 +33,7 @@ fn put_help<A: Allocator + Copy>(
     put_fault(alloc, answer, number, FaultKind::WrongCount)
 }
 
-/// Nothing, where no word stands behind `:quit`.
+/// Nothing, if no word follows `:quit`.
 fn put_quit<A: Allocator + Copy>(
     alloc: A,
     answer: &mut Vec<u8, A>,
@@ -66,7 +66,7 @@ fn put_saved<'a, B: Allocator>(
     put_text(answer, "\n")
 }
 
-/// The session so far, where no word stands behind `:save`.
+/// The session so far, if no word follows `:save`.
 fn put_save<'a, B: Allocator>(
     prompt: &Prompt<'a, B>,
     heap: Global,
@@ -102,7 +102,7 @@ fn put_explanation<'a, B: Allocator>(
     }
 }
 
-/// What the words behind `:explain` ask for, once the nodes are named.
+/// What the words after `:explain` ask for, once the nodes are named.
 #[tactic(auto, unfolding(crate::specs::Answers::explained))]
 fn put_explained<'a, B: Allocator>(
     prompt: &Prompt<'a, B>,
@@ -143,7 +143,7 @@ fn put_whatif<'a, B: Allocator>(
     }
 }
 
-/// What the words behind `:whatif` ask for, once the nodes are named.
+/// What the words after `:whatif` ask for, once the nodes are named.
 #[tactic(auto, unfolding(crate::specs::Answers::changes))]
 fn put_changes<'a, B: Allocator>(
     prompt: &Prompt<'a, B>,
@@ -205,7 +205,8 @@ fn is_first(kind: FaultKind) -> bool
     matches!(kind, FaultKind::UnknownWord | FaultKind::NoNodes)
 }
 
-/// The answer to a line that is none of a script, which has this fault there. Where that is one of its first word, the line is text.
+/// The answer to a line that has this fault in a script: to one of the prompt's own lines what it asks, to any other
+/// the fault. If the fault is about the first word, the line is text.
 #[tactic(auto, unfolding(crate::specs::Answers::own_answer))]
 pub fn put_own<'a, B: Allocator>(
     prompt: &Prompt<'a, B>,

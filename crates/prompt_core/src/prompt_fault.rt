@@ -12,7 +12,7 @@ pub enum PromptFault {
     /// A write failed, or took nothing.
     #[error("write fault")]
     WriteFault,
-    /// More lines than numbers, or more bytes in a line.
+    /// There are more lines, or more bytes in one, than a number can count.
     #[error("TooLong")]
     TooLong,
     /// A request for memory was refused.

@@ -1,4 +1,4 @@
-//! What the prompt's own words tell of the run so far: its picture, its steps, its script, what a node has sent.
+//! What the prompt's own words print of the run so far: its picture, its steps, its script, what a node has sent.
 ghost use Rattle.std.specs.Prelude.{◌≡◌, ◌++◌, OnOk, map};
 ghost use Rattle.bench_core.specs.NameList.{number_in};
 ghost use Rattle.prompt_core.specs.Answers.{alone, drawn, run_word, script_within, sent_at, told_script, told_sent, told_steps};
@@ -33,7 +33,7 @@ fn put_picture<'a, B: Allocator>(
     put_text(answer, "\n")
 }
 
-/// The same, where no word stands behind `:draw`.
+/// The picture of the run, if no word follows `:draw`.
 fn put_draw<'a, B: Allocator>(
     prompt: &Prompt<'a, B>,
     alloc: &'a B,
@@ -68,7 +68,7 @@ fn put_bench_steps<'a, B: Allocator>(
     Ok(answer.extend_from_slice(&steps)?)
 }
 
-/// The same, where no word stands behind `:steps`.
+/// The recorded calls, each above what it printed, if no word follows `:steps`.
 fn put_steps<'a, B: Allocator>(
     prompt: &Prompt<'a, B>,
     alloc: &'a B,
@@ -84,7 +84,7 @@ fn put_steps<'a, B: Allocator>(
     put_fault(alloc, answer, number, FaultKind::WrongCount)
 }
 
-/// A script, unless it is too long for one.
+/// A script, unless it is longer than a script may be.
 fn put_within<A: Allocator + Copy>(
     alloc: A,
     answer: &mut Vec<u8, A>,
@@ -118,7 +118,7 @@ fn put_calls<'a, B: Allocator>(
     put_within(alloc, answer, number, &script)
 }
 
-/// The same, where no word stands behind `:script`.
+/// The recorded calls as a script, if no word follows `:script`.
 fn put_script<'a, B: Allocator>(
     prompt: &Prompt<'a, B>,
     alloc: &'a B,
@@ -152,7 +152,7 @@ fn put_sent_at<'a, B: Allocator>(
     put_text(answer, &text)
 }
 
-/// What the word behind `:sent` asks for, once the nodes are named.
+/// What the word after `:sent` asks for, once the nodes are named.
 #[tactic(auto, unfolding(crate::specs::Answers::told_sent))]
 fn put_told_sent<'a, B: Allocator>(
     prompt: &Prompt<'a, B>,
@@ -172,7 +172,7 @@ fn put_told_sent<'a, B: Allocator>(
     put_sent_at(bench, alloc, answer, number, node)
 }
 
-/// What the words tell of the run; of others the fault.
+/// What these words print of the run, or their fault if they ask for nothing of the run.
 #[tactic(auto, unfolding(crate::specs::Answers::run_word))]
 pub fn put_run<'a, B: Allocator>(
     prompt: &Prompt<'a, B>,

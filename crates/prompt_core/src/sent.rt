@@ -13,7 +13,7 @@ use payload_core::{Entry, EntrySet, Oom, Payload};
 use report_core::{name_at, node, put_act};
 use std::alloc::Allocator;
 
-/// Whether a step is a sending one of the node.
+/// Whether a step is a sending step of the node.
 fn is_sent<A: Allocator>(kept: &Kept<A>, node: u16) -> bool
     ensures { result ≡ is_sent kept.now node }
 {
@@ -63,10 +63,8 @@ fn put_entries<'a, A: Allocator, B: Allocator, N: Allocator>(
 ) -> Result<(), Oom>
     ensures { OnOk result (string_bytes text.new ≡ string_bytes text.old ++ row_lines (codes "= ") names.now (rows_of entries.now.map)) }
 {
-    for place in 0..entries.len() {
-        let Some(entry) = entries.at(place) else {
-            unreachable!()
-        };
+    let mut walk = entries.walk();
+    while let Some(entry) = walk.next() {
         put_entry(text, names, entry)?;
     }
     Ok(())
@@ -142,17 +140,18 @@ fn put_sent_line<A: Allocator, N: Allocator>(
 }
 
 /// `sent NODE COUNT`, and all messages of that node.
-fn put_all<'a, A: Allocator, B: Allocator>(
+fn put_all<'a, A: Allocator, B: Allocator, N: Allocator>(
     text: &mut String<A>,
-    bench: &Bench<'a, B>,
+    names: &Names<N>,
+    journal: &Journal<'a, B>,
     found: &Node<'a, B>,
     node: u16,
 ) -> Result<(), Oom>
-    ensures { OnOk result (string_bytes text.new ≡ string_bytes text.old ++ (sent_line bench.now.names node (length found.now.outbox)
-        ++ messages_text bench.now.names 1 found.now.outbox (sent_by bench.now.state.remaining node))) }
+    ensures { OnOk result (string_bytes text.new ≡ string_bytes text.old ++ (sent_line names.now node (length found.now.outbox)
+        ++ messages_text names.now 1 found.now.outbox (sent_by (kepts journal.now.steps) node))) }
 {
-    put_sent_line(text, bench.names(), node, found.outbox().len())?;
-    put_messages(text, bench.names(), bench.remaining(), found, node)
+    put_sent_line(text, names, node, found.outbox().len())?;
+    put_messages(text, names, journal, found, node)
 }
 
 /// What a node has sent.
@@ -164,8 +163,9 @@ pub fn put_sent<'a, A: Allocator, B: Allocator>(
 ) -> Result<(), Oom>
     ensures { OnOk result (string_bytes text.new ≡ string_bytes text.old ++ sent_text bench.now number) }
 {
+    let names = bench.names();
     match node(bench, number) {
-        Some(found) => put_all(text, bench, found, number),
-        None => put_sent_line(text, bench.names(), number, 0),
+        Some(found) => put_all(text, names, bench.remaining(), found, number),
+        None => put_sent_line(text, names, number, 0),
     }
 }

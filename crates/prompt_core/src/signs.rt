@@ -30,7 +30,8 @@ fn sign<'a, B: Allocator>(prompt: &Prompt<'a, B>, alloc: &'a B) -> Result<String
     Ok(format!(in alloc; "{number}> ")?)
 }
 
-/// Shows the sign, where signs are shown, and tells whether they are from then on: no longer, once one didn't go out whole.
+/// Shows the sign, if signs are shown, and says whether they still are. Once one doesn't go out whole, no more are
+/// shown.
 pub fn show_sign<'a, B: Allocator, E: Write>(
     prompt: &Prompt<'a, B>,
     alloc: &'a B,

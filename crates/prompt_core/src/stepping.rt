@@ -21,11 +21,11 @@ use std::marker::Brand;
 use std::sync::ledger::{Blank, Ledger};
 use stream_core::{Steps, next_line};
 
-/// The most bytes that are kept of a line. A line of a script has one less, so of a longer one this tells that it is too long.
+/// The most bytes of a line that are kept. A line of a script has fewer, so a line with this many bytes is too long.
 const KEPT: usize = 4097;
 
-/// Answers line by line, each before the next is read, to the end of the input or a line that ends the prompt, at a prompt that
-/// took none. Where signs are shown, there is one before each read.
+/// Answers line by line, each before it reads the next, to the end of the input or a line that ends the prompt. The
+/// prompt has taken no line yet. Where signs are shown, there is one before each read.
 fn answer_each<'a, B: Allocator, R: Read, W: Write, E: Write, L: Ledger>(
     prompt: &mut Prompt<'a, B>,
     heap: Global,
@@ -61,10 +61,11 @@ fn answer_each<'a, B: Allocator, R: Read, W: Write, E: Write, L: Ledger>(
     Err(PromptFault::TooLong)
 }
 
-/// Reads line by line, and answers each before the next is read, to the end of the input or a line that is `:quit`. What a script
-/// has is done as in a script; the prompt's own lines are answered, of which `:help` prints this help, and any other line by its
-/// fault, which changes nothing. Where it has signs, the number of the next step is shown on `errors` before each read. `steps`
-/// counts the calls of `read`; who counts none and shows none calls `step`.
+/// Reads line by line, and answers each line before it reads the next, to the end of the input or a line that is
+/// `:quit`. A line that a script can have is done as in a script. The prompt's own lines are answered; `:help` prints
+/// `help`. Any other line is answered by its fault, which changes nothing. With signs, it shows the number of the next
+/// step on `errors` before each read. `steps` counts the calls of `read`; `step` is for callers that count none and
+/// show none.
 pub fn step_counted<B: Allocator, R: Read, W: Write, E: Write, L: Ledger>(
     heap: Global,
     alloc: &B,
@@ -101,8 +102,8 @@ pub fn step_counted<B: Allocator, R: Read, W: Write, E: Write, L: Ledger>(
     ended
 }
 
-/// `step_counted` without signs, with a count of its own, which is let go. The text has a size of its own behind a second reference, as what is
-/// passed with a count has to.
+/// `step_counted` without signs, with a count of its own, which it drops. The text stands behind a second reference,
+/// since what is passed with a count must have a size.
 fn step_from<B: Allocator, R: Read, W: Write, L: Ledger>(
     heap: Global,
     alloc: &B,
@@ -135,7 +136,7 @@ fn step_from<B: Allocator, R: Read, W: Write, L: Ledger>(
     )
 }
 
-/// The same as `step_counted`, for whoever counts no calls of `read` and shows no signs.
+/// As `step_counted`, for callers that count no calls of `read` and show no signs.
 pub fn step<B: Allocator, R: Read, W: Write>(
     heap: Global,
     alloc: &B,

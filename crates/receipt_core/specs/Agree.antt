@@ -27,11 +27,11 @@ abbrev pub or_zero : Option ℕ → ℕ
 or_zero (Some p) = p
 or_zero None = 0
 
--- the place that a receipt names, from 1, and 0 where it names none
+-- the place that a receipt names, from 1, or 0 if it names none
 abbrev pub named : Receipt → ℕ
 named r = or_zero r.place
 
--- the receipt is of the line, and tells of the event at its place, which is past `last`
+-- the receipt is of the line, and matches the event at its place, which is past `last`
 pub record Answers (after : List Event) (last : ℕ) (l : Line) (r : Receipt) : Type 0 where
   pub actor : r.actor ≡ l.actor
   pub line : r.line ≡ l.number
@@ -39,14 +39,14 @@ pub record Answers (after : List Event) (last : ℕ) (l : Line) (r : Receipt) : 
   pub past : last < named r
   pub recorded : slice_get after (named r - 1) ≡ Some (record { actor = l.actor; act = l.act; reply = r.reply })
 
--- the receipts are one for each line, in order, at places that rise from `last`
+-- there is one receipt for each line, in order, at places that rise from `last`
 abbrev pub Answered : List Event → ℕ → List Line → List Receipt → Type 0
 Answered after last [] [] = Unit {0}
 Answered after last [] (r ∷ rs) = ⊥
 Answered after last (l ∷ ls) [] = ⊥
 Answered after last (l ∷ ls) (r ∷ rs) = Answers after last l r × Answered after (named r) ls rs
 
--- so is each list, of the actors from `actor` on
+-- each list, of the actors from `actor` on, answers that actor's lines
 abbrev pub AllAnswered : List Event → ℕ → List (ℕ × Action) → ℕ → List (List Receipt) → Type 0
 AllAnswered after start lines actor [] = Unit {0}
 AllAnswered after start lines actor (rs ∷ lists) = Answered after start (lines_of actor lines) rs × AllAnswered after start lines (actor + 1) lists

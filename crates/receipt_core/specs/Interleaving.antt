@@ -4,7 +4,7 @@ use Rattle.std.specs.List.{filter, AllByRecursion}
 use Rattle.bench_core.specs.Machine.{Event}
 use Rattle.receipt_core.specs.Receipts.{Receipt, event_of}
 
--- the events that receipts tell of, list by list
+-- the events of receipts, list by list
 abbrev pub told : List Receipt → List Event
 told rs = map event_of rs
 

@@ -15,11 +15,11 @@ use Rattle.receipt_core.specs.declared.race_fault.CrewFault.TheVariants as crew_
 use Rattle.receipt_core.specs.declared.race_fault.RaceFault.{RaceFault}
 use Rattle.receipt_core.specs.declared.race_fault.RaceFault.TheVariants.{UnknownActor, NoRoom, WorkerRefused, OutOfMemory, LogsDisagree}
 
--- each line's actor is one of `actors`
+-- whether each line's actor is one of `actors`
 abbrev pub are_known : ℕ → List (ℕ × Action) → Bool
 are_known actors lines = list_all (λ l. nat_lt l.0 actors) lines
 
--- the bench has twice as many free places as there are lines: each may be a step
+-- whether the bench has twice as many free places as there are lines: each may be a step
 abbrev pub has_room : Machine → List (ℕ × Action) → Bool
 has_room m lines = not (nat_lt (free_places (config_of m) m.state) (2 * length lines))
 
@@ -35,7 +35,7 @@ abbrev pub fault_of_crew : CrewFault → RaceFault
 fault_of_crew crew_faults.WorkerRefused = WorkerRefused
 fault_of_crew crew_faults.OutOfMemory = OutOfMemory
 
--- a call was refused memory
+-- whether a call was refused memory
 
 abbrev pub is_want : Reply → Bool
 is_want (replies.Refused faults.OutOfMemory) = true
@@ -44,8 +44,8 @@ is_want _ = false
 abbrev pub met_want : List (List Receipt) → Bool
 met_want lists = list_any (λ receipts. list_any (λ r. is_want r.reply) receipts) lists
 
--- a race is vouched for: the receipts account for what was added to this history, there is a list for each actor, and the bench is
--- that which the race was given
+-- a race is vouched for: the receipts account for what was added to this history, there is a list for each actor, and the bench
+-- has the names and limits that the race was given
 pub record IsVouched (history : List Event) (names : Texts) (limits : Limits) (m : Machine) (actors : ℕ) (lines : List (ℕ × Action))
     (receipts : List (List Receipt)) : Type 0 where
   pub agrees : Agrees history m.state.history lines receipts
@@ -53,7 +53,8 @@ pub record IsVouched (history : List Event) (names : Texts) (limits : Limits) (m
   pub limits_are : m.limits ≡ limits
   pub lists : length receipts ≡ actors
 
--- why a race of which the workers told can't be vouched for: want of memory; or no call was refused memory, and it isn't so
+-- why a race can't be vouched for once its workers have told: want of memory; or no call was refused memory, and `vouched`
+-- doesn't hold
 abbrev pub IsUnvouched : Type 0 → List (List Receipt) → RaceFault → Type 0
 IsUnvouched vouched receipts OutOfMemory = ⊤
 IsUnvouched vouched receipts LogsDisagree = (met_want receipts ≡ false) × ¬ vouched

@@ -1,4 +1,4 @@
--- The replies that receipts tell, as the machine's.
+-- The replies of receipts, compared with the machine's.
 use Rattle.std.specs.Prelude.{◌≡◌, ℕ, ◌-◌, List, map, take}
 use Rattle.std.specs.List.{AllByRecursion}
 use Rattle.bench_core.specs.Acts.{Action}
@@ -10,14 +10,14 @@ use Rattle.receipt_core.specs.Agree.{named}
 abbrev pub call_of : Event → ℕ × Action
 call_of e = (e.actor, e.act)
 
--- the machine's state once it was asked the calls of these events, from the opening on
+-- the machine's state after the calls of these events, from the opening on
 abbrev pub state_after : Config → List Event → State
 state_after c es = calls c opening_state (map call_of es)
 
--- the receipt's reply is the machine's, asked its call after all that the history has before its place
+-- the receipt's reply is the one that the machine gives after all that the history has before the receipt's place
 abbrev pub IsMachineReply : Config → List Event → Receipt → Type 0
 IsMachineReply c h r = r.reply ≡ reply_to c (state_after c (take (named r - 1) h)) r.actor r.act
 
--- so is that of each receipt of the lists
+-- the replies of all receipts in the lists are the machine's
 abbrev pub AreMachineReplies : Config → List Event → List (List Receipt) → Type 0
 AreMachineReplies c h lists = AllByRecursion (λ rs. AllByRecursion (IsMachineReply c h) rs) lists

@@ -18,7 +18,7 @@ fn same_event<A: Allocator>(one: &Event<A>, other: &Event<A>) -> bool
     one.actor == other.actor && one.act.same(&other.act) && one.reply.same(other.reply)
 }
 
-/// Whether the receipt is of the line, and tells of the event at its place, which is past `last`.
+/// Whether the receipt is of the line, and matches the event at its place, which is past `last`.
 fn answers<'a, B: Allocator>(
     after: &History<'a, B>,
     last: u64,
@@ -124,7 +124,7 @@ fn are_known<A: Allocator>(lines: &[(u16, Act<A>)], lists: usize) -> bool
     true
 }
 
-/// Whether the receipts account for what was added to the history `before`, as `agree` tells.
+/// Whether the receipts account for what was added to the history `before`, as `agree` says.
 pub(crate) fn account<'a, B: Allocator>(
     before: &History<'a, B>,
     after: &History<'a, B>,

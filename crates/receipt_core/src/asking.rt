@@ -8,7 +8,7 @@ use crate::receipt::Receipt;
 use bench_core::{Act, Bench};
 use std::alloc::Allocator;
 
-/// Makes one call of the bench. Threads that share a bench make it on what the guard of its lock lends.
+/// Makes one call of the bench. Threads that share a bench make it on what their lock's guard lends.
 pub fn ask<'a, B: Allocator>(
     bench: &mut Bench<'a, B>,
     actor: u16,

@@ -8,7 +8,7 @@ use thiserror::Error;
 /// Why a race can't be vouched for.
 #[derive(Clone, Copy, Debug, PartialEq, Eq, Error)]
 pub enum RaceFault {
-    /// A line's actor is none.
+    /// A line's actor isn't one of the actors.
     #[error("UnknownActor")]
     UnknownActor,
     /// There are fewer than twice as many free places as lines.

@@ -1,4 +1,4 @@
-//! Whether a race may begin, and whether it can be vouched for once its workers told.
+//! Whether a race may begin, and whether it can be vouched for by what its workers told.
 ghost use Rattle.std.specs.Prelude.{◌≡◌, OnOk, IfOk, IfErr, IfSome, Err, MatchResult, drop, false, length, map, vec_len};
 ghost use Rattle.std.specs.List.{list_any};
 ghost use Rattle.bench_core.specs.Acts.{calls_of};
@@ -67,7 +67,7 @@ fn has_want<A: Allocator>(receipts: &[Receipt<A>]) -> bool
     false
 }
 
-/// Whether a call was refused memory.
+/// Whether any call was refused memory.
 fn met_want<A: Allocator>(lists: &[Vec<Receipt<A>, A>]) -> bool
     ensures { result ≡ met_want (map (λ v. v.items) lists.now) }
 {
@@ -79,7 +79,7 @@ fn met_want<A: Allocator>(lists: &[Vec<Receipt<A>, A>]) -> bool
     false
 }
 
-/// What is kept of the bench that a race is given, to compare it with what comes out.
+/// What is kept of a race's bench, to compare it with what comes out.
 #[derive(Drop)]
 pub struct Known<'a, B: Allocator> {
     pub history: History<'a, B>,
@@ -125,7 +125,7 @@ fn vouch<'a, B: Allocator>(
     }
 }
 
-/// What is known of the bench, copied; none where memory is refused.
+/// What is known of the bench, copied; `None` where memory is refused.
 pub fn known_of<'a, B: Allocator>(bench: &Bench<'a, B>) -> Option<Known<'a, B>>
     ensures history { IfSome result (λ known. known.history ≡ bench.now.state.history) }
     ensures names { IfSome result (λ known. known.names ≡ bench.now.names) }
@@ -144,12 +144,12 @@ pub fn known_of<'a, B: Allocator>(bench: &Bench<'a, B>) -> Option<Known<'a, B>>
     })
 }
 
-/// Lets go of receipts that nobody vouches for.
+/// Drops receipts that nobody vouches for.
 fn discard<A: Allocator>(receipts: Receipts<A>) {
     drop(receipts);
 }
 
-/// What the workers told, if a race can be vouched for. `OutOfMemory` comes before `LogsDisagree`.
+/// What the workers told, if the race can be vouched for. `OutOfMemory` comes before `LogsDisagree`.
 pub fn vouched<'a, B: Allocator>(
     bench: &Bench<'a, B>,
     before: Known<'a, B>,

@@ -17,7 +17,7 @@ pub record Parts : Type 0 where
 abbrev pub version_of : Data → Option ℕ
 version_of d = option_and_then as_u64 (option_and_then as_number (get (codes "version") d))
 
--- each limit is in its range
+-- whether each limit is in its range
 abbrev pub are_limits : Limits → Bool
 are_limits l =
     nat_le 1 l.acts && nat_le l.acts 1000000 && (nat_le 1 l.entries && nat_le l.entries 100000)
@@ -43,7 +43,7 @@ abbrev pub if_ok : {A E : Type 0} → Result A E → Option A
 if_ok (Ok x) = Some x
 if_ok (Err e) = None
 
--- the names of these texts, where they may name nodes
+-- the names of these texts, if they may name nodes
 abbrev pub names_at : Items → Option Texts
 names_at items = option_and_then (λ texts. if_ok (names_of texts)) (texts_of items)
 
@@ -58,7 +58,7 @@ is_end (member k d ms) = false
 abbrev pub are_keys : List ℕ → List ℕ → List ℕ → List ℕ → Bool
 are_keys k l m n = bytes_eq k (codes "acts") && bytes_eq l (codes "limits") && bytes_eq m (codes "nodes") && bytes_eq n (codes "version")
 
--- the values at acts, limits and nodes, where these and version are the keys
+-- the values at acts, limits and nodes, if these and version are the keys
 unfoldable pub values_at : Members → Option (Data × Data × Data)
 values_at ms = do
   a ← first_member ms
@@ -67,7 +67,7 @@ values_at ms = do
   d ← first_member c.2
   kept_if (is_end d.2 && are_keys a.0 b.0 c.0 d.0) (a.1, b.1, c.1)
 
--- the parts, where the acts are an array, whatever its items are
+-- the parts, if the acts are an array, whatever its items are
 unfoldable pub parts_at : Data → Option Parts
 parts_at d = do
   ms ← as_object d

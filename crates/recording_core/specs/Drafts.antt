@@ -1,4 +1,4 @@
--- A session's value without the items of its acts, and the events that these items are.
+-- A session's value without the items of its acts, and the events that these items stand for.
 use Rattle.std.specs.Prelude.{◌≡◌, ℕ, List, [], ◌∷◌, Bool, true, false, if◌then◌else◌, Some, None}
 use Rattle.serde_json.specs.Data.{Data, null, boolean, number, string, array, object, no_items, Members, no_members, member}
 use Rattle.bench_core.specs.Machine.{Event}
@@ -31,13 +31,13 @@ head (string s) = string s
 head (array ds) = array ds
 head (object ms) = object (head_members ms)
 
--- the values are these events, to their end or, where they are cut, to the first that is none
+-- the values stand for these events, all of them, or up to the first that is no event if they are cut
 abbrev pub AreRead : List Data → List Event → Bool → Type 0
 AreRead [] [] is_cut = is_cut ≡ false
 AreRead [] (e ∷ es) is_cut = ⊥
 AreRead (d ∷ ds) [] is_cut = (is_cut ≡ true) × (event_at d ≡ None)
 AreRead (d ∷ ds) (e ∷ es) is_cut = (event_at d ≡ Some e) × AreRead ds es is_cut
 
--- what was read of a value
+-- what was read from a value
 abbrev pub IsDraft : Data → Data → List Event → Bool → Type 0
 IsDraft d first events is_cut = (first ≡ head d) × AreRead (data_of (acts_of d)) events is_cut

@@ -19,16 +19,16 @@ use Rattle.recording_core.specs.Versions.{IsVersion, tells, event_in}
 abbrev pub with_event : Machine → Event → Machine
 with_event m e = with_state m (after (config_of m) m.state e.actor e.act e.reply)
 
--- the bench, asked the event's call, gives its reply and records it
+-- asked the event's call, the bench gives the event's reply and records it
 abbrev pub RecordsNext : Machine → Event → Type 0
 RecordsNext m e = Records (config_of m) m.state e
 
--- from `old` on, the bench records the events that these values are, in a text of this version, and comes to `new`
+-- from `old` on, the bench records the events that these values stand for, in a text of this version, and comes to `new`
 abbrev pub Reads : ℕ → Machine → List Data → Machine → Type 0
 Reads v old [] new = new ≡ old
 Reads v old (d ∷ ds) new = (e : Event) × (event_in v d ≡ Some e) × RecordsNext old e × Reads v (with_event old e) ds new
 
--- whether the bench, asked the event's call, gave its reply and recorded it
+-- whether the bench, asked the event's call, gave the event's reply and recorded it
 abbrev pub Asked : Event → Machine → Machine → Bool → Type 0
 Asked e old new true = RecordsNext old e × (new ≡ with_event old e)
 Asked e old new false = ¬ RecordsNext old e
@@ -42,7 +42,7 @@ Steps v n old d (Err OutOfMemory) new = Unit {0}
 Steps v n old d (Err NotJson) new = ⊥
 Steps v n old d (Err BadVersion) new = ⊥
 
--- the fault of the first value that is at fault, of values numbered from n
+-- the fault of the first bad value, of values numbered from n
 abbrev pub Faults : ℕ → ℕ → Machine → List Data → SessionFault → Type 0
 Faults v n m ds OutOfMemory = Unit {0}
 Faults v n m ds NotJson = ⊥
@@ -77,11 +77,11 @@ LeadsTo d m = (v : ℕ) × (p : Parts) × HasHead d v p × Reads v (first_bench 
 abbrev pub IsMisshapen : Data → Type 0
 IsMisshapen d = (version_of d ≡ None) ⊎ ((v : ℕ) × (version_of d ≡ Some v) × IsVersion v × (parts_at d ≡ None))
 
--- an act of the value is at fault
+-- an act of the value has this fault
 abbrev pub HasFault : Data → SessionFault → Type 0
 HasFault d fault = (v : ℕ) × (p : Parts) × HasHead d v p × Faults v 1 (first_bench p) (data_of (acts_of d)) fault
 
--- the case of each fault of a value
+-- when each fault of a value comes
 abbrev pub IsRefused : Data → SessionFault → Type 0
 IsRefused d NotJson = ⊥
 IsRefused d BadVersion = (v : ℕ) × (version_of d ≡ Some v) × ¬ IsVersion v
@@ -93,18 +93,18 @@ abbrev pub Answers : Data → Result Machine SessionFault → Type 0
 Answers d (Ok m) = LeadsTo d m
 Answers d (Err fault) = IsRefused d fault
 
--- the text is refused so: a fault comes only in its case, and no earlier one is met
+-- why the text is refused: each fault comes only in its own case, and only if no earlier one does
 abbrev pub Refuses : List ℕ → SessionFault → Type 0
 Refuses bytes NotJson = IsUtf8 bytes → read bytes ≡ None
 Refuses bytes OutOfMemory = Unit {0}
 Refuses bytes fault = (d : Data) × IsJson bytes d × IsRefused d fault
 
--- the text is the session of this bench, in the form of this version: its names, limits and history, which the machine,
--- opened so and asked these calls, records one by one and ends in its state
+-- the text is the session of this bench, in the form of this version: its names, limits and history. Opened with these names and
+-- limits and asked these calls, the machine records each of them and ends in the bench's state
 pub record IsSessionIn (version : ℕ) (bytes : List ℕ) (m : Machine) : Type 0 where
   pub utf8 : IsUtf8 bytes
   pub reads : read bytes ≡ Some (session version m.names m.limits m.state.history)
-  -- a text of this version can tell the history
+  -- a text of this version can have the history
   pub told : AllByRecursion (λ e. tells version e ≡ true) m.state.history
   pub replays : Replays (config_of m) opening_state m.state.history m.state
 
@@ -119,7 +119,7 @@ pub record IsSaved (bytes : List ℕ) (m : Machine) : Type 0 where
   pub limits : AreLimits m.limits
   pub events : AllByRecursion IsTold m.state.history
 
--- a saved bench comes back the same, unless memory was refused
+-- a saved bench comes back as it was, unless memory was refused
 abbrev pub ComesBack : Machine → Result Machine SessionFault → Type 0
 ComesBack m (Ok loaded) = loaded ≡ m
 ComesBack m (Err fault) = fault ≡ OutOfMemory

@@ -1,4 +1,5 @@
--- The versions of a session's text. The first has no requests and no answers, and neither of the refusals that come of these.
+-- The versions of a session's text. Version 1 has no requests and no answers, and neither of the two refusals that only these
+-- meet.
 use Rattle.std.specs.Prelude.{◌≡◌, ◌⊎◌, ◌==◌, ◌&&◌, ℕ, Bool, true, false, if◌then◌else◌, Option}
 use Rattle.serde_json.specs.Data.{Data}
 use Rattle.node_core.specs.Operations.{Operation, Request, Answer}
@@ -39,10 +40,10 @@ abbrev pub is_first_reply : Reply → Bool
 is_first_reply (Refused fault) = is_first_fault fault
 is_first_reply _ = true
 
--- whether a text of this version can tell the event
+-- whether a text of this version can have the event
 abbrev pub tells : ℕ → Event → Bool
 tells version e = if version == 1 then is_first_action e.act && is_first_reply e.reply else true
 
--- the event that an act of a text of this version is
+-- the event that an act of a text of this version stands for
 abbrev pub event_in : ℕ → Data → Option Event
 event_in version d = event_at d >>= λ e. kept_if (tells version e) e

@@ -1,4 +1,4 @@
-//! `Acts`: the events that the items of a JSON array are.
+//! `Acts`: the events that the items of a JSON array stand for.
 ghost use Rattle.std.specs.Prelude.{◌≡◌, ◌<◌, ◌∷◌, ◌++◌, [], List, length, Some, None, Err, IfOk, OnOk, false};
 ghost use Rattle.json.specs.Json.{value, items};
 ghost use Rattle.serde_json.specs.Data.{Data, Items};
@@ -18,7 +18,7 @@ use std::alloc::{AllocError, Allocator, Global};
 /// How deep an item may nest: one less than an array that is a member of the outermost object.
 const ITEM_DEPTH: usize = 125;
 
-/// The events of a list of JSON values, up to the first value that is none.
+/// The events of a list of JSON values, up to the first value that is no event.
 #[derive(Drop)]
 pub struct Acts<A: Allocator> {
     pub events: Vec<Event<A>>,
@@ -36,7 +36,7 @@ impl<'a, B: Allocator> Acts<&'a B> {
         }
     }
 
-    /// Adds the event that the next value is.
+    /// Adds the event that the next value stands for.
     fn add(&mut self, alloc: &'a B, value: &Value) -> Result<(), AllocError>
         ensures { OnOk result ((ds : List Data) → AreRead ds self.old.events.items self.old.is_cut
             → AreRead (ds ++ view value.now ∷ []) self.new.events.items self.new.is_cut) }

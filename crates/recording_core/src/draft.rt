@@ -26,7 +26,7 @@ const MEMBER_DEPTH: usize = 126;
 /// A JSON value whose acts, where it is an object, were taken out and read as events.
 #[derive(Drop)]
 pub(crate) struct Draft<A: Allocator> {
-    /// The value, with an empty array in place of that of the acts.
+    /// The value, with an empty array in place of the array of the acts.
     pub(crate) head: Value,
     pub(crate) acts: Acts<A>,
 }
@@ -54,7 +54,7 @@ fn acts_member<'a, B: Allocator>(
     }
 }
 
-/// The value of the member of this name. Where it is that of the acts, its events take the place of those before.
+/// The value of the member of this name. If it is that of the acts, its events replace those read before.
 fn member<'a, B: Allocator>(
     heap: Global,
     alloc: &'a B,
@@ -145,7 +145,7 @@ fn next_draft<'a, B: Allocator>(
     }
 }
 
-/// The JSON value that the text is.
+/// The JSON value of the text.
 pub(crate) fn draft_of<'a, B: Allocator>(
     heap: Global,
     alloc: &'a B,

@@ -61,7 +61,8 @@ fn are_keys(first: &str, second: &str, third: &str, fourth: &str) -> bool
     first == "acts" && second == "limits" && third == "nodes" && fourth == "version"
 }
 
-/// The values at `acts`, `limits` and `nodes`, where these and `version` are the keys. A map gives its keys in their order.
+/// The values at `acts`, `limits` and `nodes`, if these and `version` are the keys. A map gives its keys in their
+/// order.
 #[tactic(auto, unfolding(crate::specs::Decoding::values_at))]
 fn values_at(members: &Map<String, Value>) -> Result<(&Value, &Value, &Value), Unread>
     ensures { Gives (λ v. (view v.0.now, view v.1.now, view v.2.now)) result (values_at (members_view members.now.entries)) }

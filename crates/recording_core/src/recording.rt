@@ -27,7 +27,7 @@ pub struct Recording<A: Allocator> {
     pub acts: Acts<A>,
 }
 
-/// What a text that was read says, where its head is a session's.
+/// What a text that was read says, if its head is a session's.
 fn recording_of<'a, B: Allocator>(
     heap: Global,
     alloc: &'a B,
@@ -55,7 +55,7 @@ fn recording_of<'a, B: Allocator>(
     }
 }
 
-/// The text that the bytes are, read before its calls are asked.
+/// Reads the text in these bytes, before its calls are asked.
 fn read<'a, B: Allocator>(
     heap: Global,
     alloc: &'a B,
@@ -75,10 +75,10 @@ fn read<'a, B: Allocator>(
     }
 }
 
-/// What the text of a session says, of either version, before its calls are asked. It refuses what `load` refuses for the
-/// text or its head, in that order; whether its acts are events of its version, and get their replies, is left to who asks
-/// them. Each act's JSON is dropped once its event is known. JSON values and the list of events take their memory from the
-/// global heap.
+/// What the text of a session says, of either version, before its calls are asked. It refuses what `load` refuses for
+/// the text or its head, in that order. It doesn't look whether the acts are events of their version and get their
+/// replies: who asks them does. Each act's JSON is dropped once its event is known. JSON values and the list of events
+/// take their memory from the global heap.
 pub fn read_session<'a, B: Allocator>(
     heap: Global,
     alloc: &'a B,

@@ -10,7 +10,7 @@ pub enum SessionFault {
     /// The head or this act is not of a session's form.
     #[error("BadShape at act {act}")]
     BadShape { act: u64 },
-    /// The version is another.
+    /// There is no such version.
     #[error("BadVersion")]
     BadVersion,
     /// The bench, asked this act, gives another reply or doesn't record it.

@@ -7,7 +7,8 @@ use bench_core::{Act, Event, Fault, Reply};
 use node_core::Step;
 use std::alloc::Allocator;
 
-/// The form of a session's text. The first has no requests and no answers, and neither of the refusals that come of these.
+/// The version of a session's text. Version 1 has no requests and no answers, and neither of the two refusals that only
+/// these meet.
 #[derive(Clone, Copy)]
 pub enum Version {
     First,
@@ -38,7 +39,7 @@ impl Version {
         }
     }
 
-    /// Whether a text of this version can tell the event.
+    /// Whether a text of this version can have the event.
     pub fn tells<A: Allocator>(self, event: &Event<A>) -> bool
         ensures { result ≡ tells (number_of self) event.now }
     {

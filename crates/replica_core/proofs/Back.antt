@@ -7,10 +7,10 @@ use Rattle.dots_core.specs.declared.dot.Dot.{Dot}
 use Rattle.dots_core.specs.Dots.{dot, IsValid}
 use Rattle.dots_core.proofs.OwnClock.{count_more}
 use Rattle.payload_core.specs.Presences.{Presence, is_tracked_as}
-use Rattle.payload_core.proofs.EntryMaps.{get_removed}
-use Rattle.payload_core.specs.Stores.{without}
-use Rattle.payload_core.specs.LeftEntries.{Left, Stood}
-use Rattle.payload_core.proofs.StoreBack.{at_dot, delta_restored, has_place, none_beside, store_restored, unjoined, unticked}
+use Rattle.block_core.proofs.EntryMaps.{get_removed}
+use Rattle.store_core.specs.Stores.{without}
+use Rattle.store_core.specs.LeftEntries.{Left, Stood}
+use Rattle.store_core.proofs.StoreBack.{at_dot, delta_restored, has_place, none_beside, store_restored, unjoined, unticked}
 use Rattle.replica_core.specs.declared.status.Status.TheVariants.{Up, Down}
 use Rattle.replica_core.specs.Replicas.{Replica, own_clock, fresh, tracked_dots, joined, dropped, ticked, left}
 use Rattle.replica_core.specs.declared.status.Status.{Status}

@@ -13,7 +13,7 @@ use Rattle.replica_core.specs.declared.replica_fault.ReplicaFault.{ReplicaFault}
 use Rattle.replica_core.specs.declared.replica_fault.ReplicaFault.TheVariants.{OwnReplica, NotKnown, NotDown, AlreadyTracked}
 use Rattle.replica_core.specs.declared.replica_fault.ReplicaFault.TheVariants.{NotTracked, EntriesFull, ClockFull, OutOfMemory}
 use Rattle.replica_core.specs.declared.status.Status.{Status}
-use Rattle.payload_core.specs.Stores.{Store, nothing, with_entry}
+use Rattle.store_core.specs.Stores.{Store, nothing, with_entry}
 use Rattle.replica_core.specs.Views.{View}
 use Rattle.replica_core.specs.Replicas.{Replica, fresh, dots_of_process, tracked_dots, is_known, is_online, joined, with_status, without_delta}
 use Rattle.replica_core.specs.Refusals.{IsRefusedFor, first_of, is_some_dot, is_tracked, are_too_many, is_clock_full, join_refusal, leave_refusal}

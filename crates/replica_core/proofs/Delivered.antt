@@ -8,9 +8,9 @@ use Rattle.dots_core.specs.Dots.{Dots, AreValid}
 use Rattle.dots_core.specs.Names.{Names}
 use Rattle.dots_core.proofs.Names.{contains-remove_name}
 use Rattle.payload_core.specs.Messages.{Message, AreSeen}
-use Rattle.payload_core.specs.Delivered.{Delivered, Destroys}
-use Rattle.payload_core.specs.Stores as stores
-use Rattle.payload_core.specs.Stores.{Store, store_of}
+use Rattle.store_core.specs.Delivered.{Delivered, Destroys}
+use Rattle.store_core.specs.Stores as stores
+use Rattle.store_core.specs.Stores.{Store, store_of}
 use Rattle.replica_core.specs.declared.replica_fault.ReplicaFault.TheVariants.{EntriesFull}
 use Rattle.replica_core.specs.Views.{AreKnown}
 use Rattle.replica_core.specs.Replicas.{Replica}

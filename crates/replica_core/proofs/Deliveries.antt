@@ -1,8 +1,8 @@
 -- The laws of deliveries, from those of stores.
 use Rattle.std.proofs.Common.{[], ◌∷◌, ap, ◌∙◌}
 use Rattle.std.specs.FinMap as fin
-use Rattle.payload_core.specs.Stores.{Store, store_of}
-use Rattle.payload_core.proofs.StoreMerges as stores
+use Rattle.store_core.specs.Stores.{Store, store_of}
+use Rattle.store_core.proofs.StoreMerges as stores
 use Rattle.replica_core.specs.declared.replica_fault.ReplicaFault.TheVariants.{EntriesFull}
 use Rattle.replica_core.specs.Deliveries.{is_other_known}
 use Rattle.replica_core.specs.Refusals.{first_of, are_too_many}

@@ -13,15 +13,15 @@ use Rattle.dots_core.specs.Dots.{Dots, dot, of_names}
 use Rattle.dots_core.proofs.Clocks.{among_at, among_place, holds_high, holds_low, not_among, same_tests}
 use Rattle.dots_core.proofs.Parts.{contains-with_part}
 use Rattle.dots_core.proofs.Sets.{contains-retain, contains-union, same_dots}
-use Rattle.payload_core.specs.Delivered.{Delivered, Destroys, OldPart, is_old, undelivered, with_parts}
+use Rattle.store_core.specs.Delivered.{Delivered, Destroys, OldPart, is_old, undelivered, with_parts}
 use Rattle.payload_core.specs.EntryLists.{pairs}
-use Rattle.payload_core.specs.EntryMoves.{AreNew, picked, with_each, without_each}
-use Rattle.payload_core.specs.ForgottenNames.{Forgotten, Holds, remembered}
+use Rattle.store_core.specs.EntryMoves.{AreNew, picked, with_each, without_each}
+use Rattle.store_core.specs.ForgottenNames.{Forgotten, Holds, remembered}
 use Rattle.payload_core.specs.Messages.{AreSeen}
 use Rattle.payload_core.specs.Presences.{entries_of_names}
-use Rattle.payload_core.specs.Stores.{Store, arrivals, departures, is_other, leaves, merged, part, remaining, store_of}
-use Rattle.payload_core.proofs.PutBack.{all_picked_new, picked_retained, put_all_back, without_names}
-use Rattle.payload_core.proofs.Undelivered.{new_arrivals, put_and_taken, with_arrivals, without_departures}
+use Rattle.store_core.specs.Stores.{Store, arrivals, departures, is_other, leaves, merged, part, remaining, store_of}
+use Rattle.store_core.proofs.PutBack.{all_picked_new, picked_retained, put_all_back, without_names}
+use Rattle.store_core.proofs.Undelivered.{new_arrivals, put_and_taken, with_arrivals, without_departures}
 use Rattle.replica_core.specs.Changes.{IsPermdown}
 use Rattle.replica_core.specs.Delivered.{IsDelivery}
 use Rattle.replica_core.specs.Deliveries.{is_other_known}

@@ -8,10 +8,10 @@ use Rattle.dots_core.specs.declared.dot.Dot.{Dot}
 use Rattle.dots_core.proofs.OwnClock.{clocks_same, own_same}
 use Rattle.dots_core.proofs.Sets.{contains-retain, of_names_cases}
 use Rattle.payload_core.specs.Presences.{Presence}
-use Rattle.payload_core.proofs.EntryMaps.{get-names}
+use Rattle.block_core.proofs.EntryMaps.{get-names}
 use Rattle.payload_core.proofs.SeenEntries.{seen-names}
-use Rattle.payload_core.specs.Stores.{Store, is_other, part}
-use Rattle.payload_core.proofs.MergedCounts.{len-retain}
+use Rattle.store_core.specs.Stores.{Store, is_other, part}
+use Rattle.store_core.proofs.MergedCounts.{len-retain}
 use Rattle.replica_core.specs.Replicas.{Replica, own_clock, forgotten}
 use Rattle.replica_core.specs.Views.{View}
 use Rattle.replica_core.specs.Invariant.{IsReplica}

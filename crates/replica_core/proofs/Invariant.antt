@@ -14,10 +14,10 @@ use Rattle.dots_core.proofs.Sets.{same_dots, contains-retain, contains_inserted,
 use Rattle.dots_core.proofs.OwnClock.{not_fresh, count_more, clocks_more, clocks_same, own_same}
 use Rattle.payload_core.specs.Presences.{Presence, Entries, entries_of_names}
 use Rattle.payload_core.specs.Messages.{Message, AreSeen}
-use Rattle.payload_core.proofs.EntryMaps.{get_inserted, get_insert_other, get_remove_other}
+use Rattle.block_core.proofs.EntryMaps.{get_inserted, get_insert_other, get_remove_other}
 use Rattle.payload_core.proofs.SeenEntries.{seen_none, seen-insert, seen-remove, seen-names}
-use Rattle.payload_core.specs.Stores.{Store, nothing, store_of}
-use Rattle.payload_core.proofs.StoreMerges.{contains-merged, entry_after, get-merged}
+use Rattle.store_core.specs.Stores.{Store, nothing, store_of}
+use Rattle.store_core.proofs.StoreMerges.{contains-merged, entry_after, get-merged}
 use Rattle.replica_core.specs.declared.node_limits.NodeLimits.{NodeLimits}
 use Rattle.replica_core.specs.declared.status.Status.{Status}
 use Rattle.replica_core.specs.declared.status.Status.TheVariants.{Up}

@@ -13,7 +13,7 @@ use Rattle.dots_core.proofs.OwnClock.{count_more}
 use Rattle.dots_core.proofs.Sets.{contains_insert_more}
 use Rattle.payload_core.specs.Presences.{Presence, Entry, presence_of, is_tracked_as}
 use Rattle.payload_core.proofs.TrackedDots.{EachPasses, dots_of_pass}
-use Rattle.payload_core.specs.Stores.{Store, with_dot, with_entry, with_removal, without_entry}
+use Rattle.store_core.specs.Stores.{Store, with_dot, with_entry, with_removal, without_entry}
 use Rattle.replica_core.specs.Leaves.{AreOwnSeen}
 use Rattle.replica_core.specs.Replicas.{Replica, own_clock, fresh, own_dots, tracked_dots, dropped, left, left_each, joined, updated, dropped_each}
 use Rattle.replica_core.specs.Refusals.{is_clock_full, are_too_many}

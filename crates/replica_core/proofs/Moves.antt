@@ -12,17 +12,17 @@ use Rattle.std.specs.Ordering.{is_lt}
 use Rattle.dots_core.specs.declared.dot.Dot.{Dot}
 use Rattle.dots_core.specs.Dots.{dot_cmp}
 use Rattle.dots_core.proofs.Order.{is_dot, is_dot_below, is_dot_same}
-use Rattle.payload_core.specs.Delivered.{Delivered}
+use Rattle.store_core.specs.Delivered.{Delivered}
 use Rattle.payload_core.specs.EntryLists.{pairs}
-use Rattle.payload_core.specs.EntryMoves.{AreNew, picked}
-use Rattle.payload_core.specs.ForgottenNames.{Forgotten}
-use Rattle.payload_core.specs.LeavesTogether.{Differ}
-use Rattle.payload_core.specs.LeftEntries.{Left}
+use Rattle.store_core.specs.EntryMoves.{AreNew, picked}
+use Rattle.store_core.specs.ForgottenNames.{Forgotten}
+use Rattle.store_core.specs.LeavesTogether.{Differ}
+use Rattle.store_core.specs.LeftEntries.{Left}
 use Rattle.payload_core.specs.Presences.{Presence, over, presence_of}
-use Rattle.payload_core.specs.Stores.{Store, arrivals, departures, is_new, leaves, remaining, store_of}
-use Rattle.payload_core.proofs.EntryMaps.{get-over, get-retain}
-use Rattle.payload_core.proofs.PutBack.{picked_new, picked_retained}
-use Rattle.payload_core.proofs.StoreBack.{store_restored}
+use Rattle.store_core.specs.Stores.{Store, arrivals, departures, is_new, leaves, remaining, store_of}
+use Rattle.block_core.proofs.EntryMaps.{get-over, get-retain}
+use Rattle.store_core.proofs.PutBack.{picked_new, picked_retained}
+use Rattle.store_core.proofs.StoreBack.{store_restored}
 use Rattle.replica_core.specs.declared.status.Status.{Status}
 use Rattle.replica_core.specs.declared.status.Status.TheVariants.{Up, Down}
 use Rattle.replica_core.specs.Changes.{ChangeLeadsBack, OfJoin, OfLeave, OfLeaveAll, OfUpdate, OfUp, OfDown, OfPermdown, OfDeliver}

@@ -12,9 +12,9 @@ use Rattle.dots_core.specs.Dots.{dot_cmp}
 use Rattle.dots_core.proofs.Order.{dot_cases, is_dot, is_dot_same, is_dot_below}
 use Rattle.payload_core.specs.Presences.{Presence, Entries, is_tracked_as}
 use Rattle.payload_core.specs.Messages.{Message}
-use Rattle.payload_core.specs.Stores.{store_of}
-use Rattle.payload_core.proofs.EntryMaps.{get_inserted, get_insert_other, get_removed, get_remove_other}
-use Rattle.payload_core.proofs.StoreMerges.{entry_after, get-merged}
+use Rattle.store_core.specs.Stores.{store_of}
+use Rattle.block_core.proofs.EntryMaps.{get_inserted, get_insert_other, get_removed, get_remove_other}
+use Rattle.store_core.proofs.StoreMerges.{entry_after, get-merged}
 use Rattle.payload_core.proofs.TrackedDots.{EachPasses, as_tracked, tracked_as, dots_of_pass, none_passes}
 use Rattle.replica_core.specs.Replicas.{Replica, fresh, own_dots, tracked_dots, dropped, joined, is_known}
 use Rattle.replica_core.specs.Deliveries.{is_other_known, merged}

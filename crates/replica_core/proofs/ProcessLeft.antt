@@ -16,14 +16,14 @@ use Rattle.dots_core.proofs.OwnClock.{count_more, clocks_more}
 use Rattle.payload_core.specs.EntryLists.{pairs}
 use Rattle.payload_core.specs.Presences.{Presence, Entries, dots_of}
 use Rattle.payload_core.proofs.TrackedDots.{EachPasses, dots_of_pass}
-use Rattle.payload_core.specs.LeftEntries.{Left}
-use Rattle.payload_core.specs.EntryMoves.{AreNew, picked, with_each, without_each}
-use Rattle.payload_core.specs.Stores.{Store}
-use Rattle.payload_core.specs.LeavesTogether.{AreLive, Differ, dots_before_each, entries_left, left_delta, left_store, lefts_of}
-use Rattle.payload_core.specs.LeavesTogether.{restored_delta_each, restored_each, unsent_left, with_dots, with_next, without_next}
-use Rattle.payload_core.proofs.LeftTogether.{AreAmong, dots_back, entries_picked, lefts_length, lefts_valid, unsent_picked}
-use Rattle.payload_core.proofs.PutBack.{all_picked_new, put_all_back}
-use Rattle.payload_core.proofs.SeenTogether.{AreOther, EndsAt, counts_after, next_back, next_first, other_dots, with_one_more}
+use Rattle.store_core.specs.LeftEntries.{Left}
+use Rattle.store_core.specs.EntryMoves.{AreNew, picked, with_each, without_each}
+use Rattle.store_core.specs.Stores.{Store}
+use Rattle.store_core.specs.LeavesTogether.{AreLive, Differ, dots_before_each, entries_left, left_delta, left_store, lefts_of}
+use Rattle.store_core.specs.LeavesTogether.{restored_delta_each, restored_each, unsent_left, with_dots, with_next, without_next}
+use Rattle.store_core.proofs.LeftTogether.{AreAmong, dots_back, entries_picked, lefts_length, lefts_valid, unsent_picked}
+use Rattle.store_core.proofs.PutBack.{all_picked_new, put_all_back}
+use Rattle.store_core.proofs.SeenTogether.{AreOther, EndsAt, counts_after, next_back, next_first, other_dots, with_one_more}
 use Rattle.replica_core.specs.Invariant.{IsReplica}
 use Rattle.replica_core.specs.Leaves.{AreOwnSeen}
 use Rattle.replica_core.specs.ProcessLeaves.{AllRestorable, CanAllBeRestored, IsLeaveAll}

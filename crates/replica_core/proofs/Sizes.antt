@@ -6,7 +6,7 @@ use denote.RattleType.{RattleType}
 use denote.Param.{param}
 use Rattle.dots_core.specs.contracts.dot_set.DotSet as dots
 use Rattle.payload_core.specs.contracts.entry_set.EntrySet as entries
-use Rattle.payload_core.specs.contracts.store.Store as store
+use Rattle.store_core.specs.contracts.store.Store as store
 use Rattle.replica_core.specs.contracts.replica.Replica as replica
 
 -- a size is a sum: what stands before the last field, that field, and what fills up behind it

@@ -3,8 +3,8 @@ use Rattle.std.proofs.Common.{◌≡◌, ◌<◌, sym, ap, subst, ◌∙◌}
 use Rattle.dots_core.specs.declared.dot.Dot.{Dot}
 use Rattle.dots_core.specs.Contexts.{IsLast}
 use Rattle.dots_core.specs.Dots.{IsValid}
-use Rattle.payload_core.specs.Stores.{Store, without}
-use Rattle.payload_core.specs.LeftEntries.{HasPlace, Left, restored, restored_delta}
+use Rattle.store_core.specs.Stores.{Store, without}
+use Rattle.store_core.specs.LeftEntries.{HasPlace, Left, restored, restored_delta}
 use Rattle.replica_core.specs.Replicas.{Replica, last, own_clock}
 use Rattle.replica_core.specs.Invariant.{IsReplica}
 use Rattle.replica_core.specs.Changes.{with_left, without_last}

@@ -2,19 +2,19 @@
 use mathlib.Core.Logic.{inl, inr}
 use Rattle.std.specs.Prelude.{◌≡◌, ◌⊎◌, ℕ, Bool, true, false, List, Option, None, Some, refl}
 use Rattle.std.specs.Coded.{Coded, code_by, coded×, coded⊎, coded_list, coded_option, coded_bool, coded_ℕ}
-use Rattle.payload_core.specs.StoreCodes.{delivered_code, forgotten_code, left_code}
-use Rattle.payload_core.specs.Delivered.{Delivered}
-use Rattle.payload_core.specs.ForgottenNames.{Forgotten}
-use Rattle.payload_core.specs.LeftEntries.{Left}
+use Rattle.store_core.specs.StoreCodes.{delivered_code, forgotten_code, left_code}
+use Rattle.store_core.specs.Delivered.{Delivered}
+use Rattle.store_core.specs.ForgottenNames.{Forgotten}
+use Rattle.store_core.specs.LeftEntries.{Left}
 use Rattle.replica_core.specs.declared.status.Status.{Status}
 use Rattle.replica_core.specs.Views.{status_code}
 use Rattle.replica_core.specs.Changes.{Change, OfJoin, OfLeave, OfLeaveAll, OfUpdate, OfDeliver, OfUp, OfDown, OfPermdown}
 
--- what left with one entry, if that is what left, and whether by a leave; or with several
+-- what left: one entry, and whether by a leave; or several
 abbrev Lefts : Type 0
 Lefts = Option (Bool × Left) ⊎ List Left
 
--- a name with its status before, and whether it went up; or with what was held of it
+-- a name with its old status, and whether it went up; or a name with what was held of it
 abbrev Names : Type 0
 Names = (Bool × (ℕ × Option Status)) ⊎ (ℕ × Forgotten)
 

@@ -4,10 +4,10 @@ use Rattle.std.specs.FinMap as fin
 use Rattle.dots_core.specs.declared.dot.Dot.{Dot}
 use Rattle.dots_core.specs.Dots.{IsValid}
 use Rattle.payload_core.specs.Presences.{Presence}
-use Rattle.payload_core.specs.Stores.{without}
-use Rattle.payload_core.specs.Delivered.{Delivered}
-use Rattle.payload_core.specs.ForgottenNames.{Forgotten, Holds, remembered}
-use Rattle.payload_core.specs.LeftEntries.{HasPlace, Left, Stood, restored, restored_delta}
+use Rattle.store_core.specs.Stores.{without}
+use Rattle.store_core.specs.Delivered.{Delivered}
+use Rattle.store_core.specs.ForgottenNames.{Forgotten, Holds, remembered}
+use Rattle.store_core.specs.LeftEntries.{HasPlace, Left, Stood, restored, restored_delta}
 use Rattle.replica_core.specs.declared.change.Change as declared
 use Rattle.replica_core.specs.declared.change.Change.TheVariants as variants
 use Rattle.replica_core.specs.declared.status.Status.{Status}
@@ -46,7 +46,7 @@ plain_change (variants.Down name before) = OfDown name before
 plain_change (variants.Permdown name forgotten) = OfPermdown name forgotten
 plain_change (variants.Deliver delivered) = OfDeliver delivered
 
--- whether it is taken back without memory: that of a join, of an up and of a down
+-- whether the change is taken back without memory, as that of a join, an up and a down is
 abbrev pub needs_no_memory : Change → Bool
 needs_no_memory OfJoin = true
 needs_no_memory (OfLeave l) = false
@@ -61,15 +61,15 @@ needs_no_memory (OfDeliver d) = false
 abbrev pub without_last : Replica → Replica
 without_last r = record r { store = without (last r) r.store; delta = without (last r) r.delta }
 
--- without its last own dot, and with what left
+-- the replica without its last own dot, and with what left
 abbrev pub with_left : Left → Replica → Replica
 with_left l r = record r { store = restored l r.store; delta = restored_delta l r.delta }
 
--- the name has this status, or is not known
+-- the name has its old status, or is not known
 abbrev pub with_old_status : ℕ → Option Status → Replica → Replica
 with_old_status name before r = record r { view = with_old name before r.view }
 
--- what was held of the name is held again, and it is down
+-- what was held of the name is held again, and the name is down
 abbrev pub with_remembered : ℕ → Forgotten → Replica → Replica
 with_remembered name f r = record r { store = remembered name f r.store; view = fin.insert r.view name Down }
 

@@ -3,7 +3,7 @@ use Rattle.std.specs.Prelude.{ℕ, ◌≤◌, refl}
 use Rattle.std.specs.Coded.{Coded, code_by, coded×, coded_ℕ}
 use Rattle.replica_core.specs.declared.node_limits.NodeLimits.{NodeLimits}
 
--- each is in its range
+-- each limit is in its range
 pub record AreNodeLimits (limits : NodeLimits) : Type 0 where
   pub entries_some : 1 ≤ limits.entries
   pub entries_few : limits.entries ≤ 100000

@@ -1,10 +1,10 @@
--- What a call moved, by what is kept of it: the entries that left, the dots that joined, and the name that is up from then
--- on, or no more.
+-- What a call moved, by its change: the entries that left, the dots that joined, and the name that is up from then on, or no
+-- more.
 use Rattle.std.specs.Prelude.{◌≡◌, ◌⊎◌, ℕ, ◌==◌, ◌&&◌, not, Bool, true, false, List, [], ◌∷◌, Option, None, Some}
 use Rattle.dots_core.specs.declared.dot.Dot.{Dot}
 use Rattle.payload_core.specs.EntryLists.{pairs}
-use Rattle.payload_core.specs.EntryMoves.{AreNew, with_each, without_each}
-use Rattle.payload_core.specs.LeavesTogether.{Differ, entries_left}
+use Rattle.store_core.specs.EntryMoves.{AreNew, with_each, without_each}
+use Rattle.store_core.specs.LeavesTogether.{Differ, entries_left}
 use Rattle.payload_core.specs.Presences.{Entry}
 use Rattle.replica_core.specs.Changes.{Change, ChangeLeadsBack, OfJoin, OfLeave, OfLeaveAll, OfUpdate, OfUp, OfDown, OfPermdown, OfDeliver}
 use Rattle.replica_core.specs.Replicas.{Replica, is_online, last}
@@ -21,7 +21,7 @@ left_by (OfDown name before) = []
 left_by (OfPermdown name f) = f.entries
 left_by (OfDeliver d) = d.left
 
--- the dots whose entries joined, where the call left this replica
+-- the dots whose entries joined by a call that left this replica
 abbrev pub joined_by : Change → Replica → List Dot
 joined_by OfJoin r = last r ∷ []
 joined_by (OfLeave l) r = []
@@ -32,17 +32,17 @@ joined_by (OfDown name before) r = []
 joined_by (OfPermdown name f) r = []
 joined_by (OfDeliver d) r = d.joined
 
--- the name, where the test holds
+-- the name, if the test holds
 abbrev pub name_if : Bool → ℕ → Option ℕ
 name_if true name = Some name
 name_if false name = None
 
--- the name that is up from then on, and was not
+-- the name that is up since the call, and wasn't before
 abbrev pub shown_by : Change → Option ℕ
 shown_by (OfUp name before) = name_if (not (is_some_up before)) name
 shown_by _ = None
 
--- the name that was up, and is no more
+-- the name that was up before the call, and isn't any more
 abbrev pub hidden_by : Change → Option ℕ
 hidden_by (OfDown name before) = name_if (is_some_up before) name
 hidden_by _ = None
@@ -52,19 +52,19 @@ abbrev pub is_named : Option ℕ → ℕ → Bool
 is_named None n = false
 is_named (Some name) n = n == name
 
--- what the change of a call that took replica a to replica b tells of the two
+-- what the change of a call that took replica a to replica b says of the two
 pub record Moves (change : Change) (b a : Replica) : Type 0 where
   -- without what joined, and with what left, the entries are those from before
   pub entries : a.store.entries ≡ with_each (pairs (left_by change)) (without_each (joined_by change b) b.store.entries)
-  -- no entry that left is there, and no two dots that joined are alike
+  -- no entry that left is there, and no two dots that joined are the same
   pub gone : AreNew (pairs (left_by change)) b.store.entries
   pub differ : Differ (joined_by change b)
-  -- these names are up from then on, or no more, and no others
+  -- the name that went up, or that isn't up any more, is the one that the change has
   pub shown : (n : ℕ) → is_named (shown_by change) n ≡ (is_online b n && not (is_online a n))
   pub hidden : (n : ℕ) → is_named (hidden_by change) n ≡ (is_online a n && not (is_online b n))
-  -- no entry left or joined, or no name is up from then on or no more
+  -- if an entry left or joined, no name went up or down
   pub one : ((left_by change ≡ []) × (joined_by change b ≡ [])) ⊎ ((shown_by change ≡ None) × (hidden_by change ≡ None))
 
--- what is kept of a call tells what the call moved
+-- the change of a call tells what the call moved
 abbrev pub MovesLaw : Type 0
 MovesLaw = (change : Change) (b a : Replica) → ChangeLeadsBack change b a → Moves change b a

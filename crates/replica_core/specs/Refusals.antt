@@ -16,12 +16,12 @@ abbrev pub first_of : {F : Type 0} → List (Bool × F) → Option F
 first_of [] = None
 first_of (test ∷ tests) = if test.0 then Some test.1 else first_of tests
 
--- the call succeeds only where there is no cause against it, and a fault is the cause, unless it is that of memory
+-- the call succeeds only if it has no cause against it, and a fault is that cause, unless it is want of memory
 abbrev pub IsRefusedFor : {X : Type 0} → Option ReplicaFault → Result X ReplicaFault → Type 0
 IsRefusedFor cause (Ok _) = cause ≡ None
 IsRefusedFor cause (Err fault) = fault ≢ OutOfMemory → cause ≡ Some fault
 
--- whether there is one
+-- whether there is a dot in the list
 abbrev pub is_some_dot : List Dot → Bool
 is_some_dot [] = false
 is_some_dot (d ∷ ds) = true
@@ -38,13 +38,13 @@ are_too_many r entries = nat_lt r.limits.entries entries
 abbrev pub is_clock_full : Replica → ℕ → Bool
 is_clock_full r more = nat_lt r.limits.clock (own_clock r + more)
 
--- why a call is refused, if it is: the causes in the order in which they are looked for
+-- why a call is refused, if it is: the causes in the order in which it looks for them
 
 abbrev pub join_refusal : Replica → ℕ → List ℕ → List ℕ → Option ReplicaFault
 join_refusal r pid topic key =
     first_of ((is_tracked r pid topic key, AlreadyTracked) ∷ (are_too_many r (fin.len r.store.entries + 1), EntriesFull) ∷ (is_clock_full r 1, ClockFull) ∷ [])
 
--- an update is refused as a leave
+-- an update is refused as a leave is
 abbrev pub leave_refusal : Replica → ℕ → List ℕ → List ℕ → Option ReplicaFault
 leave_refusal r pid topic key = first_of ((not (is_tracked r pid topic key), NotTracked) ∷ (is_clock_full r 1, ClockFull) ∷ [])
 
@@ -64,6 +64,6 @@ down_refusal r name = first_of ((name == r.own, OwnReplica) ∷ (not (is_known r
 abbrev pub permdown_refusal : Replica → ℕ → Option ReplicaFault
 permdown_refusal r name = first_of ((name == r.own, OwnReplica) ∷ (not (is_known r name), NotKnown) ∷ (is_online r name, NotDown) ∷ [])
 
--- whether there is a dot
+-- whether there is a dot in the set
 abbrev pub has_dots : Dots → Bool
 has_dots s = not (set.len s == 0)

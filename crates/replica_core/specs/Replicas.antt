@@ -8,15 +8,15 @@ use Rattle.dots_core.specs.declared.dot.Dot.{Dot}
 use Rattle.dots_core.specs.Dots.{dot, count_of}
 use Rattle.payload_core.specs.Presences.{Presence, dots_of, is_tracked_as}
 use Rattle.payload_core.specs.Messages.{Message, request_message, store_message}
-use Rattle.payload_core.specs.Stores.{Store, store_code, is_other, nothing, part, store_of, with_dot, with_entry, with_removal, without_entry}
+use Rattle.store_core.specs.Stores.{Store, store_code, is_other, nothing, part, store_of, with_dot, with_entry, with_removal, without_entry}
 use Rattle.replica_core.specs.declared.node_limits.NodeLimits.{NodeLimits}
 use Rattle.replica_core.specs.declared.status.Status.{Status}
 use Rattle.replica_core.specs.declared.status.Status.TheVariants.{Up}
 use Rattle.replica_core.specs.Limits.{node_limits_code}
 use Rattle.replica_core.specs.Views.{View, view_code, is_some_up, known_of}
 
--- the own name, the limits, all that was seen with the live entries, the statuses of the known names; and the delta: the
--- own dots of which nothing was sent yet, with the entries among them
+-- the own name, the limits, all that was seen with the live entries, the statuses of the known names; and the delta: the own dots
+-- that weren't sent yet, with the entries among them
 pub record Replica : Type 0 where
   pub own : ℕ
   pub limits : NodeLimits
@@ -24,7 +24,7 @@ pub record Replica : Type 0 where
   pub view : View
   pub delta : Store
 
--- it has seen nothing, and knows itself, up
+-- the replica has seen nothing, and knows its own name alone, as up
 abbrev pub opening : ℕ → NodeLimits → Replica
 opening own limits =
     record { own = own; limits = limits; store = nothing; view = fin.insert fin.empty own Up; delta = nothing }
@@ -45,7 +45,7 @@ last r = dot r.own (own_clock r)
 abbrev pub own_dots : Replica → (Presence → Bool) → List Dot
 own_dots r test = dots_of r.own test r.store.entries
 
--- the own dots of this process, topic and key: one at most, by what each replica keeps
+-- the own dots of this process, topic and key; each replica keeps at most one
 abbrev pub tracked_dots : Replica → ℕ → List ℕ → List ℕ → List Dot
 tracked_dots r pid topic key = own_dots r (is_tracked_as pid topic key)
 
@@ -61,15 +61,15 @@ is_known r name = fin.contains_key r.view name
 abbrev pub is_online : Replica → ℕ → Bool
 is_online r name = is_some_up (fin.get r.view name)
 
--- a join: the fresh dot was seen, with its entry, and nothing of it was sent
+-- a join: the fresh dot was seen and has its entry, in the store and in the delta
 abbrev pub joined : Presence → Replica → Replica
 joined p r = record r { store = with_entry (fresh r) p r.store; delta = with_entry (fresh r) p r.delta }
 
--- the entry at the dot goes, and of it the delta has the dot alone
+-- the entry at the dot goes, and the delta keeps its dot alone
 abbrev pub dropped : Dot → Replica → Replica
 dropped d r = record r { store = without_entry d r.store; delta = with_removal d r.delta }
 
--- the fresh dot was seen, without an entry, and nothing of it was sent
+-- the fresh dot was seen and has no entry, in the store and in the delta
 abbrev pub ticked : Replica → Replica
 ticked r = record r { store = with_dot (fresh r) r.store; delta = with_dot (fresh r) r.delta }
 
@@ -77,12 +77,12 @@ ticked r = record r { store = with_dot (fresh r) r.store; delta = with_dot (fres
 abbrev pub left : Dot → Replica → Replica
 left d r = ticked (dropped d r)
 
--- a leave, once for each of these
+-- a leave for each of these dots, in turn
 abbrev pub left_each : List Dot → Replica → Replica
 left_each [] r = r
 left_each (d ∷ ds) r = left_each ds (left d r)
 
--- the entries at these dots go
+-- the entries at these dots go, in turn
 abbrev pub dropped_each : List Dot → Replica → Replica
 dropped_each [] r = r
 dropped_each (d ∷ ds) r = dropped_each ds (dropped d r)
@@ -103,7 +103,7 @@ forgotten name r = record r { store = part (is_other name) r.store; view = fin.r
 abbrev pub delta_message : Replica → Message
 delta_message r = store_message r.own r.delta.seen r.delta.entries
 
--- all was sent
+-- the replica without its delta
 abbrev pub without_delta : Replica → Replica
 without_delta r = record r { delta = nothing }
 
@@ -111,7 +111,7 @@ without_delta r = record r { delta = nothing }
 abbrev pub request_of : Replica → Message
 request_of r = request_message r.own (known_of r.view)
 
--- what the message has is the delta
+-- the replica with this message as its delta
 abbrev pub with_delta : Message → Replica → Replica
 with_delta m r = record r { delta = store_of m }
 
@@ -119,11 +119,11 @@ with_delta m r = record r { delta = store_of m }
 pub record CanBeDelta (m : Message) (r : Replica) : Type 0 where
   pub nothing : r.delta ≡ nothing
   pub sender : m.sender ≡ r.own
-  -- it is no request
+  -- the message is no request
   pub no_request : m.asked ≡ None
-  -- its dots are own dots that were seen
+  -- the dots of the message are own dots that were seen
   pub own : (d : Dot) → set.contains m.seen d ≡ true → (d.name ≡ r.own) × (set.contains r.store.seen d ≡ true)
-  -- its entries are live
+  -- the entries of the message are live
   pub live : (d : Dot) (p : Presence) → fin.get m.entries d ≡ Some p → fin.get r.store.entries d ≡ Some p
 
 -- a replica is stored as the tuple of its fields

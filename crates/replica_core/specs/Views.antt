@@ -8,7 +8,7 @@ use Rattle.dots_core.specs.Names.{Names}
 use Rattle.replica_core.specs.declared.status.Status.{Status}
 use Rattle.replica_core.specs.declared.status.Status.TheVariants.{Up, Down}
 
--- from names to statuses; a name in it is known
+-- a map from names to statuses; a name in it is known
 abbrev pub View : Type 0
 View = fin.FinMap nat_cmp Status
 
@@ -35,7 +35,7 @@ known_of view = set.from_list (fin.keys view)
 abbrev pub AreKnown : View → Names → Type 0
 AreKnown view names = (n : ℕ) → set.contains names n ≡ fin.contains_key view n
 
--- the view of a list of names, of which some are up
+-- the view of a list of names, some of which are up
 abbrev pub view_of : List ℕ → Names → View
 view_of [] up = fin.empty
 view_of (n ∷ ns) up = fin.insert (view_of ns up) n (status_by (set.contains up n))
@@ -44,7 +44,7 @@ view_of (n ∷ ns) up = fin.insert (view_of ns up) n (status_by (set.contains up
 abbrev pub AreUpKnown : Names → Names → Type 0
 AreUpKnown known up = (n : ℕ) → set.contains up n ≡ true → set.contains known n ≡ true
 
--- a status is got back from whether it is up
+-- a status comes back from whether it is up
 pub by_up : (s : Status) → status_by (is_up s) ≡ s
 by_up Up = refl
 by_up Down = refl

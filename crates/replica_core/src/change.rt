@@ -1,6 +1,6 @@
-//! `Change`: what a call destroyed, kept to take the call back; and what the call moved, told by it.
+//! `Change`: what a call destroyed, kept to take the call back; and what the call moved, as the change tells it.
 ghost use Rattle.std.specs.Prelude.{◌≡◌, [], ◌∷◌, length, option_copied, slice_get};
-ghost use Rattle.payload_core.specs.LeavesTogether.{entries_left};
+ghost use Rattle.store_core.specs.LeavesTogether.{entries_left};
 ghost use Rattle.replica_core.specs.Changes.{plain_change};
 ghost use Rattle.replica_core.specs.Moves.{hidden_by, joined_by, left_by, shown_by};
 ghost use Rattle.replica_core.specs.Replicas.{Replica as PlainReplica};
@@ -8,20 +8,20 @@ ghost use Rattle.replica_core.specs.Replicas.{Replica as PlainReplica};
 use crate::replica::Replica;
 use crate::status::Status;
 use dots_core::Dot;
-use payload_core::{Delivered, Entry, Forgotten, Left};
+use payload_core::{Entry, Handle};
 use std::alloc::Allocator;
+use store_core::{Delivered, Forgotten, Left};
 
-/// What one call of a replica destroyed: from it `Replica::undo` takes the call back (Danos
-/// and Krivine: causal undo).
+/// What one call of a replica destroyed: with it `Replica::undo` takes the call back (Danos and Krivine: causal undo).
 #[derive(Drop)]
 pub enum Change<A: Allocator> {
     /// Nothing: the dot of the join is the last own one.
     Join,
-    /// The entry that left, with the delta's.
+    /// The entry that left, with the delta's entry at its dot.
     Leave(Left<A>),
-    /// The entries of the process that left, with the delta's, by rising dot.
+    /// The entries of the process that left, each with the delta's entry at its dot, by rising dot.
     LeaveAll(Vec<Left<A>, A>),
-    /// The old entry, with the delta's.
+    /// The old entry, with the delta's entry at its dot.
     Update(Left<A>),
     /// The name, and its status before, if it was known.
     Up { name: u16, before: Option<Status> },
@@ -52,10 +52,10 @@ impl<A: Allocator> Change<A> {
         ensures { option_copied result ≡ slice_get (left_by (plain_change self.now)) place }
     {
         match self {
-            Change::Leave(left) | Change::Update(left) => first_of(&left.entry, place),
+            Change::Leave(left) | Change::Update(left) => first_of(left.entry.entry(), place),
             Change::LeaveAll(lefts) => entry_at(lefts, place),
-            Change::Permdown { forgotten, .. } => forgotten.entries.get(place),
-            Change::Deliver(delivered) => delivered.left.get(place),
+            Change::Permdown { forgotten, .. } => entry_of(forgotten.entries.get(place)),
+            Change::Deliver(delivered) => entry_of(delivered.left.get(place)),
             Change::Join | Change::Up { .. } | Change::Down { .. } => None,
         }
     }
@@ -71,7 +71,8 @@ impl<A: Allocator> Change<A> {
         }
     }
 
-    /// The dot at this place, from 0, of those that joined, where the call left this replica; by rising dot.
+    /// The dot at this place, from 0 and by rising dot, of those that joined by a call that left the replica as
+    /// `after`.
     pub fn joined_at(&self, place: usize, after: &Replica<A>) -> Option<Dot>
         ensures { result ≡ slice_get (joined_by (plain_change self.now) after.now) place }
     {
@@ -82,7 +83,7 @@ impl<A: Allocator> Change<A> {
         }
     }
 
-    /// The name that is up from then on, and was not.
+    /// The name that is up since the call, and wasn't before.
     pub fn shown(&self) -> Option<u16>
         ensures { result ≡ shown_by (plain_change self.now) }
     {
@@ -92,7 +93,7 @@ impl<A: Allocator> Change<A> {
         }
     }
 
-    /// The name that was up, and is no more.
+    /// The name that was up before the call, and isn't any more.
     pub fn hidden(&self) -> Option<u16>
         ensures { result ≡ hidden_by (plain_change self.now) }
     {
@@ -103,14 +104,24 @@ impl<A: Allocator> Change<A> {
     }
 }
 
-/// The dot at this place of these.
+/// The dot at this place of the list.
 fn dot_at(dots: &[Dot], place: usize) -> Option<Dot>
     ensures { result ≡ slice_get dots.now place }
 {
     dots.get(place).copied()
 }
 
-/// The entry, at place 0 alone.
+/// The entry of the handle, if there is one.
+fn entry_of<A: Allocator>(handle: Option<&Handle<A>>) -> Option<&Entry<A>>
+    ensures { option_copied result ≡ option_copied handle.entry }
+{
+    match handle {
+        Some(handle) => Some(handle.entry()),
+        None => None,
+    }
+}
+
+/// The entry, if the place is 0.
 fn first_of<A: Allocator>(entry: &Entry<A>, place: usize) -> Option<&Entry<A>>
     ensures { option_copied result ≡ slice_get (entry.now ∷ []) place }
 {
@@ -122,7 +133,7 @@ fn entry_at<A: Allocator>(lefts: &[Left<A>], place: usize) -> Option<&Entry<A>>
     ensures { option_copied result ≡ slice_get (entries_left lefts.now) place }
 {
     match lefts.get(place) {
-        Some(left) => Some(&left.entry),
+        Some(left) => Some(left.entry.entry()),
         None => None,
     }
 }

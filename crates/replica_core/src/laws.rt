@@ -5,13 +5,13 @@ ghost use Rattle.replica_core.specs.Changes.{BackLaw};
 ghost use Rattle.replica_core.specs.Laws.{AgainLaw, DeltaLaw, OrderLaw, StandingLaw};
 ghost use Rattle.replica_core.specs.Moves.{MovesLaw};
 
-/// A message merged again is accepted, and changes nothing.
+/// A second merge of the same message is accepted, and changes nothing.
 #[tactic(auto, using(crate::proofs::Deliveries::again_holds))]
 pub fn again_law()
     ensures { AgainLaw }
 {}
 
-/// Two messages that have no two entries at one dot give the same replica in either order.
+/// If two messages have no different entries at one dot, they give the same replica in either order.
 #[tactic(auto, using(crate::proofs::Deliveries::order_holds))]
 pub fn order_law()
     ensures { OrderLaw }
@@ -24,7 +24,7 @@ pub fn standing_law()
     ensures { StandingLaw }
 {}
 
-/// Taking the delta and giving it back are inverse to each other, and what was taken may be given back.
+/// Taking the delta and giving it back undo each other, and what was taken may be given back.
 pub fn delta_law()
     ensures { DeltaLaw }
 {}
@@ -35,7 +35,7 @@ pub fn back_law()
     ensures { BackLaw }
 {}
 
-/// What is kept of a call tells what the call moved: the entries that left, the dots that joined, and the name that is up
+/// The change of a call tells what the call moved: the entries that left, the dots that joined, and the name that is up
 /// from then on, or no more.
 #[tactic(auto, using(crate::proofs::Moves::moves_hold))]
 pub fn moves_law()

@@ -4,8 +4,8 @@
 //! what others sent, after Phoenix.Tracker.State, as sets. It can be used on its own. It stands on `payload_core` (words,
 //! entries, messages, stores) and `dots_core` (sets of dots); it knows nothing of outboxes, steps and clusters.
 //!
-//! In the order to read them: `node_limits` and `status`; `view`, what is known of the names; `replica_fault`; `change`,
-//! what a call destroyed; `replica`, and below it a kind of call a module, with what takes it back: `joins`, `leaves`,
+//! In the order to read them: `node_limits` and `status`; `view`, what is known of the names; `replica_fault`; `change`, what a
+//! call destroyed; `replica`, and below it a module for each kind of call, with what takes it back: `joins`, `leaves`,
 //! `process_leaves`, `updates`, `deliveries`, `statuses`, `deltas`, and `undone`, which takes back any of them; `laws`.
 #![tactic(auto)]
 

@@ -1,6 +1,6 @@
 //! `Replica`: what one node has seen, holds, knows of the others' names, and has not sent yet.
 //!
-//! Here are the type and what is read of it; below, a kind of call a module, each with what takes it back.
+//! Here are the type and what is read of it; below, a module for each kind of call, with what takes it back.
 ghost use Rattle.std.specs.Prelude.{◌≡◌, ◌↔◌, ◌<◌, ◌≤◌, ◌^◌, IfOk, IsTrue};
 ghost use Rattle.std.specs.FinMap as fin;
 ghost use Rattle.replica_core.specs.Delivered.{AreOtherKnown};
@@ -23,9 +23,10 @@ use crate::node_limits::NodeLimits;
 use crate::status::Status;
 use crate::view::View;
 use dots_core::{Dot, DotSet, NameSet, Oom};
-use payload_core::{EntrySet, Store};
+use payload_core::EntrySet;
 use std::alloc::Allocator;
 use std::marker::Model;
+use store_core::Store;
 
 /// The replica of one node (Phoenix.Tracker.State, as sets; its dots are those of RR-8083): the dots that it has seen
 /// and the live entries among them, the statuses of the names that it knows, and the delta, which is what it did since

@@ -29,7 +29,7 @@ impl Model for View {
 }
 
 impl View {
-    /// The own name alone is known, and it is up.
+    /// A view that knows the own name alone, as up.
     pub fn opening(own: u16) -> View
         requires { own < 32 }
         ensures { result ≡ fin.insert fin.empty own Up }
@@ -63,7 +63,7 @@ impl View {
         self.known
     }
 
-    /// The name is known from now on, and up.
+    /// Makes the name known and up.
     pub fn raise(&mut self, name: u16)
         requires { name < 32 }
         ensures { self.new ≡ fin.insert self.old name Up }
@@ -72,7 +72,7 @@ impl View {
         self.up = self.up.with(name);
     }
 
-    /// The known name is down.
+    /// Puts the known name down.
     pub fn lower(&mut self, name: u16)
         requires name { name < 32 }
         requires known { fin.contains_key self.old name ≡ true }
@@ -81,7 +81,7 @@ impl View {
         self.up = self.up.without(name);
     }
 
-    /// The name is not known from now on.
+    /// Forgets the name.
     pub fn forget(&mut self, name: u16)
         requires { name < 32 }
         ensures { self.new ≡ fin.remove self.old name }
@@ -90,7 +90,7 @@ impl View {
         self.up = self.up.without(name);
     }
 
-    /// The name has this status, or is not known from now on.
+    /// Gives the name this status, or forgets it if there is none.
     pub fn put(&mut self, name: u16, status: Option<Status>)
         requires { name < 32 }
         ensures { self.new ≡ with_old name status self.old }

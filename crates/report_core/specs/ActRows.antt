@@ -14,7 +14,7 @@ use Rattle.report_core.specs.Shown.{changed, rows_of}
 abbrev pub changed_by : Machine → ℕ → Action → Option ℕ
 changed_by m actor act = changed m.state.remaining actor (reply_of m actor act)
 
--- the rows that leave that list, and those that join it
+-- the rows that leave the node's list, and those that join it
 unfoldable pub left_by : Machine → ℕ → Action → List Row
 left_by m actor act = alone (rows_of m (changed_by m actor act)) (rows_of (after_act m actor act) (changed_by m actor act))
 

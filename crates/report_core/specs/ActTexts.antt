@@ -1,4 +1,4 @@
--- What is printed of an act, of an unwind and of a future, as the machine gives it on the state before.
+-- What an act, an unwind and a future print, by the machine before them.
 use Rattle.std.specs.Prelude.{◌≡◌, ℕ, ◌+◌, List, [], ◌∷◌, ◌++◌, length, Bool, true, false, Option, Some, None}
 use Rattle.bench_core.specs.declared.reply.Reply.{Reply}
 use Rattle.bench_core.specs.declared.fault.Fault.{Fault}
@@ -24,19 +24,19 @@ after_act m actor act = with_state m (call (config_of m) m.state actor act)
 unfoldable pub change_text : Machine → Machine → Option ℕ → List ℕ
 change_text old new node = diff_text old.names (rows_of old node) (rows_of new node)
 
--- the reply, and how the online list of the node changed whose step was taken, or taken back
+-- the reply, and how the act changed the online list of the node whose step it took or took back
 unfoldable pub act_text : Machine → ℕ → Action → List ℕ
 act_text m actor act =
     reply_line (reply_of m actor act) ++ change_text m (after_act m actor act) (changed m.state.remaining actor (reply_of m actor act))
 
--- an unwind, and why
+-- an unwind, and `why`
 
--- want of memory, which no report tells
+-- whether the fault is want of memory, which a report never has
 abbrev pub is_want : Fault → Bool
 is_want OutOfMemory = true
 is_want _ = false
 
--- the text of a step's future where the step remains, and otherwise the refusal of its undo
+-- the text of a step's future if the step remains, and else the refusal of its undo
 abbrev pub unless_gone : State → ℕ → Option Kept → List ℕ → List ℕ
 unless_gone s number None text = reply_line (undo_reply s number)
 unless_gone s number (Some step) text = text
@@ -56,7 +56,7 @@ unwound s number = unless_none (find_number s.remaining number) (gathered_number
 unfoldable pub after_unwind : Machine → ℕ → ℕ → Machine
 after_unwind m actor number = with_state m (calls (config_of m) m.state (undos actor (unwound m.state number)))
 
--- of the nodes from number n on, of which these were the lists before
+-- how the lists of the nodes from number n on changed, if these were the lists before
 unfoldable pub changes_from : Machine → ℕ → List (List Row) → List ℕ
 changes_from new n [] = []
 changes_from new n (before ∷ lists) = at_text new.names n before (rows_at new n) ++ changes_from new (n + 1) lists
@@ -69,7 +69,7 @@ unwind_text m actor number =
     unless_gone m.state number (find_number m.state.remaining number)
     (undone_lines (gathered_numbers m.state.remaining number) ++ changes_text m (after_unwind m actor number))
 
--- the step remains, and these are its number and those of all that follows from it
+-- the step remains, and these are the numbers of the step and of all that follows from it
 pub record IsItsFuture (m : Machine) (n : ℕ) (numbers : List ℕ) : Type 0 where
   pub step : Kept
   pub found : find_number m.state.remaining n ≡ Some step

@@ -7,7 +7,7 @@ use Rattle.diff_core.specs.Rows.{Row}
 use Rattle.diff_core.specs.NetChanges.{ComesTo}
 use Rattle.report_core.specs.Shown.{rows_at}
 
--- the rows that left a list at one or another of several undos, and those that joined it, each as often as it did
+-- the rows that left a list in several undos, and those that joined it, each as often as it did
 pub record Moves : Type 0 where
   pub left : List Row
   pub joined : List Row
@@ -15,7 +15,7 @@ pub record Moves : Type 0 where
 abbrev pub no_moves : Moves
 no_moves = record { left = []; joined = [] }
 
--- with the undo of a step at which these rows left and those joined
+-- the moves with the undo of one more step, by which these rows left and those joined
 abbrev pub with_undone : Moves → List Row → List Row → Moves
 with_undone moves left joined = record { left = moves.left ++ joined; joined = moves.joined ++ left }
 
@@ -23,21 +23,21 @@ abbrev pub put_undone : List Moves → ℕ → Option Moves → List Row → Lis
 put_undone all node None left joined = all
 put_undone all node (Some moves) left joined = slice_set all node (with_undone moves left joined)
 
--- with such an undo at a node, where there is one
+-- the moves of all nodes with the undo of one more step at this node, if there is one
 abbrev pub with_undone_at : List Moves → Option ℕ → List Row → List Row → List Moves
 with_undone_at all None left joined = all
 with_undone_at all (Some node) left joined = put_undone all node (slice_get all node) left joined
 
--- between two machines these rows left the online lists of the nodes and joined them, by number
+-- from one machine to the other these rows left the online lists of the nodes and joined them, by number
 pub record AreMoved (start now : Machine) (moved : List Moves) : Type 0 where
   pub names : now.names ≡ start.names
   pub count : length moved ≡ length start.names
   pub at : (node : ℕ) (moves : Moves) → slice_get moved node ≡ Some moves → ComesTo (rows_at start node) (rows_at now node) moves.left moves.joined
 
--- the undos of these steps in turn, as an actor asks for them, are each made
+-- the undos of these steps, which an actor asks for one after another, are all made
 abbrev pub AreMade : Machine → ℕ → List ℕ → Type 0
 AreMade m actor numbers = replies_of (config_of m) m.state (undos actor numbers) ≡ map Undone numbers
 
--- what they leave
+-- the machine after these undos
 abbrev pub after_undos : Machine → ℕ → List ℕ → Machine
 after_undos m actor numbers = with_state m (calls (config_of m) m.state (undos actor numbers))

@@ -1,4 +1,4 @@
--- How the online list of a node differs between a machine and what the undo of one of its steps would leave.
+-- How the online list of a node differs between a machine and the machine after the undo of one of its steps.
 use Rattle.std.specs.Prelude.{◌≡◌, ℕ, nat_lt, if◌then◌else◌, length, List, Option, Some, None}
 use Rattle.journal_core.specs.Journals.{Kept, find_number, first_consequence, last_of, without}
 use Rattle.node_core.specs.Nodes.{Node}
@@ -19,11 +19,11 @@ pub record Differ (before after left joined : List Row) : Type 0 where
 abbrev pub without_step : Machine → ℕ → Machine
 without_step m n = with_state m (record { history = m.state.history; remaining = without m.state.remaining n })
 
--- by what leads from node b back to another
+-- how the list differs between node b and the node to which the inverse leads back
 abbrev pub TellsInverse : Inverse → Node → List Row → List Row → Type 0
 TellsInverse inverse b left joined = (a : Node) → LeadsBack inverse b a → Differ (online_of a.replica) (online_of b.replica) left joined
 
--- by a step that nothing follows from: from what the others give to what it gave
+-- how the list differs between what the other steps give and what step n gives, if nothing follows from it
 abbrev pub TellsStep : Machine → ℕ → List Row → List Row → Type 0
 TellsStep m n left joined =
     (step : Kept) → find_number m.state.remaining n ≡ Some step → Differ (rows_at (without_step m n) step.node) (rows_at m step.node) left joined
@@ -34,6 +34,6 @@ asked_undo m (Do operation) = None
 asked_undo m (Undo n) = Some n
 asked_undo m (Back node) = if nat_lt node (length m.names) then last_of m.state.remaining node else None
 
--- by the step whose undo a call asks for, where nothing follows from it
+-- how the list differs by the step whose undo a call asks for, if nothing follows from that step
 abbrev pub TellsUndo : Machine → Action → List Row → List Row → Type 0
 TellsUndo m act left joined = (n : ℕ) → asked_undo m act ≡ Some n → first_consequence m.state.remaining n ≡ None → TellsStep m n left joined

@@ -13,11 +13,11 @@ use Rattle.report_core.specs.Rows.{name_at}
 unfoldable pub presence_text : Presence → List ℕ
 presence_text p = decimal p.pid ++ codes " " ++ p.topic ++ codes " " ++ p.key ++ codes " " ++ p.metadata
 
--- a name after a space, where its number is in the set
+-- a name after a space, if its number is in the set
 abbrev pub chosen_text : Names → ℕ → List ℕ → List ℕ
 chosen_text chosen n name = if set.contains chosen n then codes " " ++ name else []
 
--- of the names from number n on, each that is in the set, after a space
+-- the names from number n on that are in the set, each after a space
 unfoldable pub extract_from : Names → ℕ → Texts → List ℕ
 extract_from chosen n [] = []
 extract_from chosen n (name ∷ names) = chosen_text chosen n name ++ extract_from chosen (n + 1) names

@@ -17,7 +17,7 @@ use std::alloc::Allocator;
 #[derive(Drop)]
 pub struct Acted<A: Allocator> {
     pub reply: Reply,
-    /// How the online list changed of the node whose step was taken, or taken back.
+    /// How an act changed the online list of the node whose step it took or took back.
     pub change: Diff<A>,
 }
 
@@ -37,7 +37,7 @@ pub fn answer<'a, B: Allocator>(
     Ok(reply)
 }
 
-/// The way back of a change.
+/// The change the other way round: what left joins, and what joined leaves.
 fn turned<A: Allocator>(change: Diff<A>) -> Diff<A>
     ensures left { result.left.items ≡ change.joined.items }
     ensures joined { result.joined.items ≡ change.left.items }
@@ -48,7 +48,7 @@ fn turned<A: Allocator>(change: Diff<A>) -> Diff<A>
     }
 }
 
-/// What an act comes to, whose undo of a step will change the online list of its node so.
+/// What an act comes to. If it undoes a step, `undone` says how that will change the online list of its node.
 fn come_to<'a, B: Allocator>(
     bench: &mut Bench<'a, B>,
     actor: u16,
@@ -72,8 +72,8 @@ fn come_to<'a, B: Allocator>(
     Ok(Acted { reply, change })
 }
 
-/// Asks an act, and tells what it came to: the reply, and how the online list changed of the node whose step was taken, or taken
-/// back. An undo tells that before it is made.
+/// Asks an act, and gives the reply, with how the act changed the online list of the node whose step it took or took
+/// back. For an undo it finds that out before it makes the undo.
 pub fn ask<'a, B: Allocator>(
     alloc: &'a B,
     bench: &mut Bench<'a, B>,

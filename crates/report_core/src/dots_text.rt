@@ -53,7 +53,7 @@ fn put_more<A: Allocator>(text: &mut String<A>, clocks: &[u64]) -> Result<(), Oo
     Ok(())
 }
 
-/// The clocks divided by commas, or `-`.
+/// The clocks separated by commas, or `-`.
 #[tactic(auto, unfolding(crate::specs::Dots::cloud_text))]
 fn put_cloud<A: Allocator>(text: &mut String<A>, cloud: &[u64]) -> Result<(), Oom>
     ensures { OnOk result (string_bytes text.new ≡ string_bytes text.old ++ cloud_text cloud.now) }
@@ -65,7 +65,7 @@ fn put_cloud<A: Allocator>(text: &mut String<A>, cloud: &[u64]) -> Result<(), Oo
     put_more(text, rest)
 }
 
-/// `dots NAME STATUS CLOCK CLOUD`, of these.
+/// `dots NAME STATUS CLOCK CLOUD`, from these values.
 #[tactic(auto, unfolding(crate::specs::Dots::seen_line))]
 fn put_seen<A: Allocator>(
     text: &mut String<A>,
@@ -119,7 +119,7 @@ fn put_names<A: Allocator, N: Allocator, R: Allocator>(
     Ok(())
 }
 
-/// The statuses, clocks and clouds at a node; nothing where there is none.
+/// The statuses, clocks and clouds at a node; nothing if there is no such node.
 #[tactic(auto, unfolding(crate::specs::Dots::dots_text))]
 pub fn put_dots<'a, A: Allocator, N: Allocator, B: Allocator>(
     node: Option<&Node<'a, B>>,

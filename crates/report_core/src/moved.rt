@@ -1,4 +1,4 @@
-//! `Moved`: the rows that left the online list of a node over several undos, and those that joined it.
+//! `Moved`: the rows that left and joined the online list of a node over several undos.
 ghost use Rattle.std.specs.Prelude.{◌≡◌, ◌++◌, IfOk, List, OnOk};
 ghost use Rattle.bench_core.specs.declared.reply.Reply.TheVariants.{Undone};
 ghost use Rattle.bench_core.specs.Acts.{Undo};
@@ -21,8 +21,8 @@ use payload_core::Oom;
 use std::alloc::Allocator;
 use std::marker::Model;
 
-/// The rows that left the online list of a node at one or another of several undos, and those that joined it, each as often
-/// as it did. A contract sees both.
+/// The rows that left the online list of a node in several undos, and those that joined it, each as often as it did. A
+/// contract sees both.
 #[derive(Drop)]
 pub struct Moved<'a, B: Allocator> {
     left: Vec<OnlineRow<&'a B>, &'a B>,
@@ -48,7 +48,7 @@ impl<'a, B: Allocator> Moved<'a, B> {
         }
     }
 
-    /// Adds the undo of a step that changed the list so.
+    /// Adds the undo of a step, which changed the list like this.
     fn add(&mut self, mut step: Diff<&'a B>) -> Result<(), Oom>
         ensures { OnOk result (self.new ≡ with_undone self.old step.entry.left.items step.entry.joined.items) }
     {
@@ -82,7 +82,7 @@ fn none_moved<'a, B: Allocator>(
     Ok(moved)
 }
 
-/// Adds the undo of a step of this node, which changed its list so.
+/// Adds the undo of a step of this node, which changed its list like this.
 fn add_at<'a, B: Allocator>(
     moved: Vec<Moved<'a, B>, &'a B>,
     node: Option<u16>,
@@ -110,7 +110,7 @@ pub fn node_of_step<'a, B: Allocator>(bench: &Bench<'a, B>, number: u64) -> Opti
     }
 }
 
-/// Undoes a step, unless memory is wanting.
+/// Undoes a step; fails for want of memory alone.
 fn undo<'a, B: Allocator>(bench: &mut Bench<'a, B>, actor: u16, number: u64) -> Result<(), Oom>
     ensures { OnOk result (bench.new ≡ after_act bench.old actor (Undo number)) }
 {

@@ -85,7 +85,7 @@ fn is_none<R: Allocator>(change: &Diff<R>) -> bool
     change.left.is_empty() && change.joined.is_empty()
 }
 
-/// `at NODE` and how its list changed, if it did.
+/// `at NODE`, and how its list changed, if it did.
 #[tactic(auto, unfolding(crate::specs::Rows::changed_text))]
 pub fn put_change<A: Allocator, N: Allocator, R: Allocator>(
     text: &mut String<A>,
@@ -151,7 +151,7 @@ pub fn put_future<A: Allocator>(text: &mut String<A>, numbers: &[u64]) -> Result
     Ok(text.push_str("\n")?)
 }
 
-/// `undone N` for each.
+/// `undone N` for each number.
 #[tactic(auto, unfolding(crate::specs::Rows::undone_lines))]
 pub fn put_undone<A: Allocator>(text: &mut String<A>, numbers: &[u64]) -> Result<(), Oom>
     ensures { OnOk result (string_bytes text.new ≡ string_bytes text.old ++ undone_lines numbers.now) }

@@ -30,7 +30,7 @@ impl<'a, B: Allocator> Model for Listed<'a, B> {
 }
 
 impl<'a, B: Allocator> Listed<'a, B> {
-    /// That of these rows.
+    /// The online list with these rows.
     fn new(rows: Vec<OnlineRow<&'a B>, &'a B>) -> Self
         requires { AreInOrder rows.items }
         ensures { result ≡ rows.entry.items }
@@ -38,7 +38,7 @@ impl<'a, B: Allocator> Listed<'a, B> {
         Listed { rows }
     }
 
-    /// That of no node.
+    /// The online list of no node, which is empty.
     fn none(alloc: &'a B) -> Self
         ensures { result ≡ [] }
     {
@@ -47,7 +47,7 @@ impl<'a, B: Allocator> Listed<'a, B> {
         }
     }
 
-    /// Its rows.
+    /// The rows of the list.
     pub fn rows(&self) -> &[OnlineRow<&'a B>]
         ensures rows { result.now ≡ self.now }
         ensures in_order { AreInOrder self.now }

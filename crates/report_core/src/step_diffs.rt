@@ -24,7 +24,7 @@ pub(crate) fn none<'a, B: Allocator>(alloc: &'a B) -> Diff<&'a B>
     }
 }
 
-/// What the step of this inverse changed of the online list of its node, as it is now.
+/// What the step of this inverse changed in the online list of its node, which is as the step left it.
 fn inverse_diff<'a, B: Allocator>(
     inverse: &Inverse<&'a B>,
     node: &Node<'a, B>,
@@ -44,7 +44,7 @@ fn inverse_diff<'a, B: Allocator>(
     }
 }
 
-/// What a step changed of the online list of its node; nothing follows from the step.
+/// What a step changed in the online list of its node. Nothing follows from the step.
 pub fn step_diff<'a, B: Allocator>(
     bench: &Bench<'a, B>,
     number: u64,
@@ -65,7 +65,7 @@ pub fn step_diff<'a, B: Allocator>(
     inverse_diff(inverse, node, alloc)
 }
 
-/// The step whose undo an act asks for, where it is the last word on its node and message.
+/// The step whose undo an act asks for: the one that it names, or the last of the node that it names.
 #[tactic(auto, unfolding(crate::specs::StepDiffs::asked_undo))]
 pub fn asked_undo<'a, B: Allocator>(bench: &Bench<'a, B>, act: &Act<&'a B>) -> Option<u64>
     ensures { result ≡ asked_undo bench.now (plain_act act.now) }
@@ -82,7 +82,7 @@ pub fn asked_undo<'a, B: Allocator>(bench: &Bench<'a, B>, act: &Act<&'a B>) -> O
     }
 }
 
-/// What the step changed of the online list of its node whose undo an act asks for, if it will be made.
+/// What the step whose undo an act asks for changed in the online list of its node, if the undo will be made.
 pub fn undo_diff<'a, B: Allocator>(
     bench: &Bench<'a, B>,
     act: &Act<&'a B>,

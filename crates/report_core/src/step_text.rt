@@ -65,7 +65,7 @@ fn put_status<A: Allocator, N: Allocator>(
     Ok(text.push_str(name_at(names, name))?)
 }
 
-/// The name of this number after a space, where it is in the set.
+/// The name of this number after a space, if it is in the set.
 fn put_name<A: Allocator, N: Allocator>(
     text: &mut String<A>,
     names: &Names<N>,

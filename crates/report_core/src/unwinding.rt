@@ -18,7 +18,7 @@ use diff_core::laws::online_law;
 use payload_core::Oom;
 use std::alloc::Allocator;
 
-/// Want of memory, which no report tells.
+/// Whether the fault is want of memory, which a report never has.
 fn is_want(fault: Fault) -> bool
     ensures { result ≡ is_want fault }
 {
@@ -51,7 +51,7 @@ pub fn why<'a, B: Allocator>(
     }
 }
 
-/// `at NODE` and how its list changed, if it did.
+/// `at NODE`, and how its list changed, if it did.
 fn put_change_at<'a, B: Allocator>(
     text: &mut String<&'a B>,
     bench: &Bench<'a, B>,
@@ -67,7 +67,7 @@ fn put_change_at<'a, B: Allocator>(
     put_change(text, bench.names(), node, &change)
 }
 
-/// How the online lists of the nodes changed, where these rows left and joined them.
+/// How the online lists of the nodes changed, by the rows that left and joined each.
 fn put_changes<'a, B: Allocator>(
     text: &mut String<&'a B>,
     bench: &Bench<'a, B>,
@@ -86,7 +86,7 @@ fn put_changes<'a, B: Allocator>(
     Ok(())
 }
 
-/// The undo of a step and of all that follows from it, which are these.
+/// Undoes a step and all that follows from it, which are these steps, and prints them.
 fn unwind_all<'a, B: Allocator>(
     text: &mut String<&'a B>,
     bench: &mut Bench<'a, B>,
@@ -105,7 +105,7 @@ fn unwind_all<'a, B: Allocator>(
     put_changes(text, bench, &moved, alloc)
 }
 
-/// The undo of a step with all that follows from it, or why there is none.
+/// Undoes a step with all that follows from it, or prints why that is refused.
 fn put_unwind<'a, B: Allocator>(
     text: &mut String<&'a B>,
     bench: &mut Bench<'a, B>,
@@ -122,7 +122,7 @@ fn put_unwind<'a, B: Allocator>(
     }
 }
 
-/// The undo of a step with all that follows from it.
+/// Undoes a step with all that follows from it, and prints what that changed.
 pub fn unwind<'a, B: Allocator>(
     alloc: &'a B,
     text: &mut String<&'a B>,

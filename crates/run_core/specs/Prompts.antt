@@ -34,7 +34,7 @@ prompt_code reply_code =
     code_by (Limits × (Option Cast × Option Machine)) (coded× limits_code (coded× (coded_option cast_code) (coded_option (machine_code reply_code))))
     (λ p. (p.limits, (p.cast, p.machine))) (λ t. record { limits = t.0; cast = t.1.0; machine = t.1.1 }) (λ _. refl)
 
--- before the first line
+-- a prompt before its first line
 abbrev pub new_prompt : Limits → Prompt
 new_prompt limits = record { limits = limits; cast = None; machine = None }
 
@@ -44,23 +44,23 @@ opened limits cast (Some machine) = Some machine
 opened limits (Some cast) None = Some (opening_machine cast.nodes limits)
 opened limits None None = None
 
--- after these commands, and a text with what they print behind it
+-- the prompt after these commands, and the text with what they print after it
 abbrev pub asked : Limits → Option Cast → Option Machine → List ℕ → List Command → Prompt × List ℕ
 asked limits cast None text commands = (record { limits = limits; cast = cast; machine = None }, text)
 asked limits cast (Some machine) text commands =
     (record { limits = limits; cast = cast; machine = Some (after_commands machine commands) }, text ++ commands_text machine commands)
 
--- the same of what was read of a line, or the line's fault
+-- the prompt and the text after what was read of a line; or the line's fault
 abbrev pub answered : Prompt → List ℕ → Result Reading FaultKind → Result (Prompt × List ℕ) FaultKind
 answered prompt text read =
     read >>= λ reading.
     Ok (asked prompt.limits reading.cast (opened prompt.limits reading.cast prompt.machine) text (commands_of reading.lines))
 
--- a line is read as a line of a script is, with what was named before it
+-- a line is read as a script's line is, with what was named before it
 unfoldable pub taken : Prompt → List ℕ → List ℕ → Result (Prompt × List ℕ) FaultKind
 taken prompt text line = answered prompt text (with_line (record { cast = prompt.cast; lines = [] }) 0 line)
 
--- lines in order, of which none has a fault, or the first fault
+-- lines taken in order, if none has a fault; or the first fault
 unfoldable pub all_taken : Prompt → List ℕ → List (List ℕ) → Result (Prompt × List ℕ) FaultKind
 all_taken prompt text [] = Ok (prompt, text)
 all_taken prompt text (line ∷ lines) = do

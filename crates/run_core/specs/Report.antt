@@ -27,7 +27,7 @@ after_command m (Dots node) = m
 after_command m (Why number) = m
 after_command m Journal = m
 
--- commands in order, each on what those before it left
+-- what commands print, in order, each on the machine that those before it left
 unfoldable pub commands_text : Machine → List Command → List ℕ
 commands_text m [] = []
 commands_text m (command ∷ commands) = command_text m command ++ commands_text (after_command m command) commands
@@ -47,7 +47,7 @@ played limits script = after_commands (opening_machine script.cast.nodes limits)
 unfoldable pub report_of : Limits → Script → List ℕ
 report_of limits script = commands_text (opening_machine script.cast.nodes limits) (commands_of script.lines)
 
--- the report of a history: that of its acts, from the opening
+-- the report of a history: that of its calls, from the opening
 abbrev pub call_of : Event → Command
 call_of event = Call event.actor event.act
 

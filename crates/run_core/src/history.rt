@@ -7,7 +7,7 @@ use payload_core::Oom;
 use report_core::act;
 use std::alloc::Allocator;
 
-/// What a recorded act does again on another bench, and prints.
+/// Makes a recorded act again on another bench, and prints it.
 #[tactic(auto, unfolding(crate::specs::Report::command_text, crate::specs::Report::after_command))]
 fn event<'a, B: Allocator>(
     alloc: &'a B,
@@ -21,7 +21,7 @@ fn event<'a, B: Allocator>(
     act(alloc, text, bench, event.actor, &event.act)
 }
 
-/// What the recorded acts do again on another bench, and print.
+/// Makes the recorded acts again on another bench, and prints them.
 #[tactic(auto, unfolding(crate::specs::Report::commands_text))]
 fn events<'a, B: Allocator>(
     text: &mut String<&'a B>,
@@ -39,7 +39,7 @@ fn events<'a, B: Allocator>(
     Ok(())
 }
 
-/// What the recorded acts of a bench print on another, played from the opening.
+/// What the recorded acts of a bench print when another plays them from the opening.
 #[tactic(auto, unfolding(crate::specs::Report::history_text, crate::specs::Report::report_of))]
 fn told_again<'a, B: Allocator>(bench: &Bench<'a, B>, alloc: &'a B) -> Result<Vec<u8, &'a B>, Oom>
     ensures { IfOk result (λ report. report.items ≡ history_text bench.now) }
@@ -53,7 +53,7 @@ fn told_again<'a, B: Allocator>(bench: &Bench<'a, B>, alloc: &'a B) -> Result<Ve
     Ok(text.into_bytes())
 }
 
-/// What the recorded acts of a bench print in a script, played from the opening.
+/// What the recorded acts of a bench print in a script that is played from the opening.
 pub fn report_history<'a, B: Allocator>(
     alloc: &'a B,
     bench: &Bench<'a, B>,

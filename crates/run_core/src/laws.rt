@@ -2,8 +2,8 @@
 ghost use Rattle.run_core.specs.Prompts.{PromptLaw};
 ghost use Rattle.run_core.specs.ReadSteps.{StepLaw};
 
-/// The line that is printed of a kept step is read, wherever it stands in a script with the same nodes, as that step of that
-/// node: for each step that a script can hold.
+/// The line that is printed of a kept step is read as that step of that node, wherever it stands in a script with the
+/// same nodes. This is true of each step that a script can hold.
 pub fn step_law()
     ensures { StepLaw }
 {}

@@ -35,7 +35,7 @@ impl<'a, B: Allocator> Model for Prompt<'a, B> {
 }
 
 impl<'a, B: Allocator> Prompt<'a, B> {
-    /// A prompt whose first significant line is to name the nodes.
+    /// A prompt whose first significant line must name the nodes.
     pub fn new(alloc: &'a B, limits: Limits) -> Prompt<'a, B>
         ensures { result ≡ new_prompt limits }
     {
@@ -80,7 +80,7 @@ impl<'a, B: Allocator> Prompt<'a, B> {
         Ok(())
     }
 
-    /// What the bench does of these lines, if it is open, and prints.
+    /// Does these lines on the bench, if it is open, and prints what they print.
     fn ask(&mut self, text: &mut String<&'a B>, lines: &[Line<&'a B>]) -> Result<(), Oom>
         ensures { OnOk result ((self.new, string_bytes text.new) ≡
             asked self.old.limits self.old.cast self.old.machine (string_bytes text.old) (commands_of (plain_lines lines.now))) }
@@ -91,7 +91,7 @@ impl<'a, B: Allocator> Prompt<'a, B> {
         }
     }
 
-    /// What the bench does of these lines, opened before it if the nodes are named, and prints.
+    /// Opens the bench, if the nodes are named, does these lines on it, and prints what they print.
     fn obey(&mut self, text: &mut String<&'a B>, lines: &[Line<&'a B>]) -> Result<(), Oom>
         ensures { OnOk result ((self.new, string_bytes text.new) ≡
             asked self.old.limits self.old.cast (opened self.old.limits self.old.cast self.old.machine) (string_bytes text.old)
@@ -101,8 +101,8 @@ impl<'a, B: Allocator> Prompt<'a, B> {
         self.ask(text, lines)
     }
 
-    /// Reads a line, does what it asks, and puts what is printed of it behind the text; or answers its fault, which changes
-    /// nothing, want of memory apart.
+    /// Reads a line, does what it asks, and appends what that prints; or gives the line's fault. A fault other than
+    /// want of memory changes nothing.
     #[tactic(auto, unfolding(crate::specs::Prompts::taken))]
     pub fn take(&mut self, text: &mut String<&'a B>, line: &[u8]) -> Result<(), FaultKind>
         ensures answer { Gives (λ _. (self.new, string_bytes text.new)) result (taken self.old (string_bytes text.old) line.now) }

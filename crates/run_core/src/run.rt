@@ -9,7 +9,7 @@ use payload_core::Oom;
 use report_core::{act, node, put_dots, put_journal, show, unwind, why};
 use std::alloc::Allocator;
 
-/// What a command does, and prints.
+/// Does a command, and prints what it prints.
 #[tactic(auto, unfolding(crate::specs::Report::command_text, crate::specs::Report::after_command))]
 pub fn command<'a, B: Allocator>(
     text: &mut String<&'a B>,
@@ -30,7 +30,7 @@ pub fn command<'a, B: Allocator>(
     }
 }
 
-/// What the lines do, and print.
+/// Does what the lines ask, and prints what they print.
 #[tactic(auto, unfolding(crate::specs::Report::commands_text, crate::specs::Report::after_commands))]
 pub fn lines<'a, B: Allocator>(
     text: &mut String<&'a B>,

@@ -1,8 +1,8 @@
 //! Scripts: from their bytes to their reports, from a reader to a writer.
 //!
-//! What stands in the crates below can be named here: of `grammar_core` what a script is, of `run_core` how it is run on a bench, of
-//! `stream_core` how input is read and a report written, and a reader and a writer that fail, for tests. In the order to read
-//! them: `play_fault`, why a play ends early; `playing`, a script from a reader to a writer.
+//! The parts of the crates below that its users need can be named here: `grammar_core`'s scripts, `run_core`'s way to run one
+//! on a bench, `stream_core`'s way to read input and write a report, and a reader and a writer that fail, for tests. In the
+//! order to read them: `play_fault`, why a play ends early; `playing`, a script from a reader to a writer.
 #![tactic(auto)]
 
 mod play_fault;

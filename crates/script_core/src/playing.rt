@@ -13,8 +13,8 @@ use std::marker::Brand;
 use std::sync::ledger::{Blank, Ledger};
 use stream_core::{InputFault, Steps, read_all, write_out};
 
-/// Reads the whole input, plays it as a script on a bench with these limits, and then writes the report. Nothing
-/// is written before the whole report stands. `steps` counts the calls of `read`; who counts none calls `play`.
+/// Reads the whole input, plays it as a script on a bench with these limits, and then writes the report. It writes
+/// nothing before the whole report is ready. `steps` counts the calls of `read`; `play` is for callers that count none.
 pub fn play_counted<B: Allocator, R: Read, W: Write, L: Ledger>(
     alloc: &B,
     reader: &mut R,
@@ -61,7 +61,7 @@ pub fn play_counted<B: Allocator, R: Read, W: Write, L: Ledger>(
     }
 }
 
-/// `play_counted` with a count of its own, which is let go.
+/// `play_counted` with a count of its own, which it drops.
 fn play_from<B: Allocator, R: Read, W: Write, L: Ledger>(
     alloc: &B,
     reader: &mut R,
@@ -81,7 +81,7 @@ fn play_from<B: Allocator, R: Read, W: Write, L: Ledger>(
     play_counted(alloc, reader, writer, limits, &mut steps)
 }
 
-/// The same as `play_counted`, for whoever counts no calls of `read`.
+/// As `play_counted`, for callers that count no calls of `read`.
 pub fn play<B: Allocator, R: Read, W: Write>(
     alloc: &B,
     reader: &mut R,

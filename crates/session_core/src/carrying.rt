@@ -7,7 +7,7 @@ use crate::saving::save;
 use recording_core::SessionFault;
 use std::alloc::{Allocator, Global};
 
-/// The text of the bench that `load` gives with this allocator.
+/// The text, in the latest version, of the bench that `load` gives with this allocator.
 fn carry_over<'a, B: Allocator>(
     bytes: &[u8],
     alloc: &'a B,
@@ -25,9 +25,9 @@ fn carry_over<'a, B: Allocator>(
     }
 }
 
-/// The compact text, in the form of the second version, of the bench that the text is a session of: of the same names,
-/// limits and recorded calls, so with the same remaining steps and the same cluster. It refuses what `load` refuses, in its
-/// order. All memory is taken from the global heap.
+/// The compact text of the second version for the bench of a session's text. That bench has the same names, limits and
+/// recorded calls, so it has the same remaining steps and the same cluster. It refuses what `load` refuses, in its
+/// order. It takes all memory from the global heap.
 pub fn carry(heap: Global, bytes: &[u8]) -> Result<Vec<u8>, SessionFault>
     ensures carried { IfOk result (λ text. IsCarried bytes.now text.items) }
     ensures refused { IfErr result (Refuses bytes.now) }

@@ -30,7 +30,8 @@ fn records_next<'a, B: Allocator>(
     Ok(false)
 }
 
-/// Asks the call of act `number`, if the text of this version can tell it, and compares the reply.
+/// Asks the call of act `number`, and compares the reply. Refused as `BadShape` if a text of this version can't have
+/// the call.
 fn take_event<'a, B: Allocator>(
     bench: &mut Bench<'a, B>,
     event: &Event<&'a B>,
@@ -70,12 +71,13 @@ fn take_events<'a, B: Allocator>(
     Ok(())
 }
 
-/// The bench of a session, of either version: opened with the session's names and limits, and asked its calls in order. Each reply has to be
-/// the one in the text, and recorded. Of an object with two equal keys the last counts. The refusals come in this order:
-/// `NotJson`; `BadShape {act: 0}` where there is no whole number at `version`; `BadVersion` where it is neither 1 nor 2;
-/// `BadShape {act: 0}` for the rest of the head; then act by act `BadShape` before `Disagrees`. A request, an answer and the
-/// refusals that come of these are acts of the second version alone. Each act's JSON is dropped once its event is known.
-/// JSON values and the list of events take their memory from the global heap.
+/// The bench of a session, of either version: opened with the session's names and limits, and asked its calls in order.
+/// The bench has to give each reply that is in the text, and to record it. If an object has two equal keys, the last
+/// counts. The refusals come in this order: `NotJson`; `BadShape {act: 0}` where there is no whole number at `version`;
+/// `BadVersion` where it is neither 1 nor 2; `BadShape {act: 0}` for the rest of the head; then act by act `BadShape`
+/// before `Disagrees`. A request, an answer and the refusals that come of these are acts of the second version alone.
+/// Each act's JSON is dropped once its event is known. JSON values and the list of events take their memory from the
+/// global heap.
 pub fn load<'a, B: Allocator>(
     heap: Global,
     alloc: &'a B,

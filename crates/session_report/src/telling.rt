@@ -43,7 +43,8 @@ fn tell_next<'a, B: Allocator>(
     Ok(has_reply(bench.history(), place, event.reply))
 }
 
-/// Asks the call of act `number`, if the text of this version can tell it, prints it, and compares the reply.
+/// Asks the call of act `number`, prints it, and compares the reply. Refused as `BadShape` if a text of this version
+/// can't have the call.
 fn tell_event<'a, B: Allocator>(
     text: &mut String<&'a B>,
     bench: &mut Bench<'a, B>,
@@ -90,8 +91,9 @@ fn tell_events<'a, B: Allocator>(
     Ok(())
 }
 
-/// The bench of a session, and what its calls print, as `load` and `report_history` give them, but each call is asked once. It
-/// refuses what `load` refuses, in its order. JSON values and the list of events take their memory from the global heap.
+/// The bench of a session, and what its calls print, as `load` and `report_history` give them; but it asks each call
+/// once. It refuses what `load` refuses, in its order. JSON values and the list of events take their memory from the
+/// global heap.
 pub fn report_session<'a, B: Allocator>(
     heap: Global,
     alloc: &'a B,

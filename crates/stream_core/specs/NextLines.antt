@@ -1,21 +1,21 @@
--- What is read of an input line by line.
+-- What is read from an input, line by line.
 use Rattle.std.specs.Prelude.{◌≡◌, ◌≢◌, ℕ, ◌-◌, ◌^◌, ◌≤◌, List, [], length, take, ⊤, Option, None, Some}
 use Rattle.std.specs.Io.{StopsAt}
 use Rattle.std.specs.List.{All}
 use Rattle.std.specs.Io.BufRead.{drop_through, first_piece}
 use Rattle.std.specs.Io.KnownBytes.{Consumes}
 
--- what is kept of a line: of a longer one than that its beginning
+-- what is kept of a line: all of it, or the beginning of a longer one
 unfoldable pub kept : ℕ → List ℕ → List ℕ
 kept most line = take most line
 
--- the next line of what a reader has left, so far as it is kept, or nothing at its end
+-- the next line of what a reader has left, as far as it is kept; or nothing at its end
 abbrev pub IsNext : ℕ → Option (List ℕ) → Option (List ℕ) → Option (List ℕ) → Type 0
 IsNext most None new line = ⊤
 IsNext most (Some left) new None = (left ≡ []) × (new ≡ Some [])
 IsNext most (Some left) new (Some line) = (left ≢ []) × (line ≡ kept most (first_piece 10 left)) × (new ≡ Some (drop_through 10 left))
 
--- there are as many bytes as there are numbers for lines
+-- the input has more bytes than a number can count
 abbrev pub IsEndless : Option (List ℕ) → Type 0
 IsEndless None = ⊤
 IsEndless (Some input) = 2 ^ 64 - 2 ≤ length input

@@ -1,12 +1,12 @@
-//! A reader and a writer for tests, which fail in mid-stream. They tell their bytes, so what clauses say of known bytes
-//! is said of them.
+//! A reader and a writer for tests, which fail in mid-stream. Their contracts show their bytes, so what clauses say of known
+//! bytes holds of them.
 ghost use Rattle.std.specs.Prelude.{◌≡◌, false, true, []};
 
 use std::alloc::Global;
 use std::io;
 use std::io::{ErrorKind, Read, Write};
 
-/// Gives its bytes, as many a call as are asked for, and then the end or a fault.
+/// Gives its bytes, as many at each call as are asked for, and then the end or a fault.
 #[derive(Drop)]
 pub struct FakeReader<'a> {
     rest: &'a [u8],
@@ -16,7 +16,7 @@ pub struct FakeReader<'a> {
 }
 
 impl<'a> FakeReader<'a> {
-    /// It gives the bytes and then ends.
+    /// A reader that gives the bytes and then ends.
     pub fn ending(bytes: &'a [u8]) -> FakeReader<'a>
         ensures rest { result.rest.now ≡ bytes.now }
         ensures fails_first { result.fails_first ≡ false }
@@ -31,7 +31,7 @@ impl<'a> FakeReader<'a> {
         }
     }
 
-    /// It gives the bytes and then fails.
+    /// A reader that gives the bytes and then fails.
     pub fn failing(bytes: &'a [u8]) -> FakeReader<'a>
         ensures rest { result.rest.now ≡ bytes.now }
         ensures fails_first { result.fails_first ≡ false }
@@ -46,7 +46,7 @@ impl<'a> FakeReader<'a> {
         }
     }
 
-    /// It fails once, and then would give the bytes and end.
+    /// A reader that fails once, and would then give the bytes and end.
     pub fn failing_once(bytes: &'a [u8]) -> FakeReader<'a>
         ensures rest { result.rest.now ≡ bytes.now }
         ensures fails_first { result.fails_first ≡ true }
@@ -91,7 +91,7 @@ impl Read for FakeReader<'_> {
     }
 }
 
-/// Takes `room` bytes in all, and then fails; at most `most` of them a call.
+/// Takes `room` bytes in all, at most `most` at a call, and then fails.
 #[derive(Drop)]
 pub struct FakeWriter {
     taken: Vec<u8>,
@@ -101,7 +101,7 @@ pub struct FakeWriter {
 }
 
 impl FakeWriter {
-    /// It takes `room` bytes and then fails.
+    /// A writer that takes `room` bytes and then fails.
     pub fn new(alloc: Global, room: usize) -> FakeWriter
         ensures taken { result.taken.items ≡ [] }
         ensures room { result.room ≡ room }
@@ -114,7 +114,7 @@ impl FakeWriter {
         }
     }
 
-    /// It takes at most `most` bytes a call, and never fails.
+    /// A writer that takes at most `most` bytes at a call, and never fails.
     pub fn taking(alloc: Global, most: usize) -> FakeWriter
         ensures taken { result.taken.items ≡ [] }
         ensures most { result.most ≡ most }
@@ -127,7 +127,7 @@ impl FakeWriter {
         }
     }
 
-    /// It takes `room` bytes and fails once, and then would take all others.
+    /// A writer that takes `room` bytes, fails once, and would then take all others.
     pub fn failing_once(alloc: Global, room: usize) -> FakeWriter
         ensures taken { result.taken.items ≡ [] }
         ensures room { result.room ≡ room }

@@ -1,4 +1,5 @@
-//! What the crates above read with and write to: all bytes of a reader or the first, its next line, and all bytes to a writer.
+//! What the crates above read and write with: all bytes of a reader or its first ones, its next line, and all bytes to a
+//! writer.
 //!
 //! It uses std alone, and `thiserror` for the texts of faults. In the order to read them: `stream_fault`, why bytes could not
 //! be read or written; `steps`, how often a reader was read; `streams`, whole inputs and outputs; `lines`, one line after

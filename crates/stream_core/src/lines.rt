@@ -1,4 +1,4 @@
-//! The next line of a reader. Of a line that is longer than is asked for its beginning alone is kept.
+//! The next line of a reader. It keeps only the beginning of a line that is longer than is asked for.
 ghost use Rattle.std.specs.Prelude.{◌≡◌, ◌∷◌, [], ◌<◌, ◌≤◌, IfErr, IfOk, IfSome, OnErr, option_map, vec_items, vec_len};
 ghost use Rattle.std.specs.Io.KnownBytes.{Consumes, IsAtEnd, Keeps};
 ghost use Rattle.stream_core.specs.NextLines.{IsEndless, IsNext, TakesLine, TakesPart};
@@ -31,9 +31,9 @@ fn next_byte<R: Read, L: Ledger>(
     }
 }
 
-/// Takes in the next line, and gives it without its line feed; or nothing at the end of the input. Of a line that is longer
-/// than `most` bytes the first `most` are given. `TooLong` is for a line that has more bytes than there are numbers. `steps`
-/// counts the calls of `read`.
+/// Takes in the next line, and gives it without its line feed; `None` at the end of the input. It gives the first
+/// `most` bytes of a longer line. `TooLong` is for a line with more bytes than a number can count. `steps` counts the
+/// calls of `read`.
 pub fn next_line<A: Allocator, R: Read, L: Ledger>(
     alloc: A,
     reader: &mut R,

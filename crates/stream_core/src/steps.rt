@@ -30,7 +30,7 @@ impl<L: Ledger> Model for Steps<L> {
 }
 
 impl<L: Ledger> Steps<L> {
-    /// Before the first call. The ledger is of two parts, one for calls that fail.
+    /// A count before the first call. The ledger has two parts, one of them for calls that fail.
     pub fn new(blank: Blank) -> Steps<L>
         requires name { blank.name ≡ L.name }
         requires parts { blank.parts ≡ L.parts }
@@ -62,7 +62,7 @@ impl<L: Ledger> Steps<L> {
     }
 }
 
-/// One call of `read`, which is counted. All that is read here is read by it.
+/// Makes one call of `read`, and counts it. This crate reads by nothing else.
 pub fn read_once<R: Read, L: Ledger>(
     reader: &mut R,
     buffer: &mut [u8],

@@ -8,7 +8,7 @@ pub enum InputFault {
     /// A read failed. It isn't tried again.
     #[error("read fault")]
     ReadFault,
-    /// More bytes than the limit, or than there are numbers.
+    /// There are more bytes than the limit, or than a number can count.
     #[error("TooLong")]
     TooLong,
     /// A request for memory was refused.

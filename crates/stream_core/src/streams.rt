@@ -11,10 +11,10 @@ use std::io::{Read, Write};
 use std::marker::Brand;
 use std::sync::ledger::{Blank, Ledger};
 
-/// The most bytes that one read is asked for.
+/// How many bytes one read asks for, at most.
 const CHUNK: usize = 4096;
 
-/// The first `most` bytes of the input, or all where it has fewer. `steps` counts the calls of `read`.
+/// The first `most` bytes of the input, or all if it has fewer. `steps` counts the calls of `read`.
 pub fn read_front<A: Allocator, R: Read, L: Ledger>(
     alloc: A,
     reader: &mut R,
@@ -44,8 +44,8 @@ pub fn read_front<A: Allocator, R: Read, L: Ledger>(
     Ok(bytes)
 }
 
-/// The whole input, where it has at most `limit` bytes; so one byte past the limit is asked for. `steps` counts the calls of
-/// `read`; who counts none calls `read_input`.
+/// The whole input, if it has at most `limit` bytes; so it asks for one byte past the limit. `steps` counts the calls
+/// of `read`; `read_input` is for callers that count none.
 pub fn read_all<A: Allocator, R: Read, L: Ledger>(
     alloc: A,
     reader: &mut R,
@@ -68,7 +68,7 @@ pub fn read_all<A: Allocator, R: Read, L: Ledger>(
     Ok(bytes)
 }
 
-/// `read_all` with a count of its own, which is let go.
+/// `read_all` with a count of its own, which it drops.
 fn read_from<A: Allocator, R: Read, L: Ledger>(
     alloc: A,
     reader: &mut R,
@@ -89,7 +89,7 @@ fn read_from<A: Allocator, R: Read, L: Ledger>(
     read_all(alloc, reader, limit, &mut steps)
 }
 
-/// The whole input by `read_all`, for whoever counts no calls.
+/// As `read_all`, for callers that count no calls.
 pub fn read_input<A: Allocator, R: Read>(
     alloc: A,
     reader: &mut R,

@@ -6,15 +6,15 @@ use Rattle.std.specs.List.{flat_map}
 abbrev pub is_printed : ℕ → Bool
 is_printed c = nat_le 32 c && nat_le c 126
 
--- one with a meaning of its own: ", &, ', < or >
+-- a character with a meaning of its own: ", &, ', < or >
 abbrev pub is_special : ℕ → Bool
 is_special c = (c == 34) || (c == 38) || (c == 39) || (c == 60) || (c == 62)
 
--- one that stands for itself, line feeds among them
+-- a character that stands for itself, line feeds among them
 abbrev pub is_plain : ℕ → Bool
 is_plain c = ((c == 10) || is_printed c) && not (is_special c)
 
--- what stands for another: its name, or `?` where it has none
+-- what stands for another character: its name, or `?` if it has none
 abbrev pub stand_in : ℕ → List ℕ
 stand_in c =
     if c == 34 then codes "&quot;"

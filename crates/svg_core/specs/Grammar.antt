@@ -16,7 +16,7 @@ pub data AreCharacters : List ℕ → Type 0 where
   Reference : (name more : List ℕ) → is_entity name ≡ true → AreCharacters more →
       AreCharacters (codes "&" ++ name ++ codes ";" ++ more)
 
--- attributes as they are written: each name a name and there once, each value of characters and references
+-- attributes as they are written: each has a name, which no other has, and a value of characters and references
 pub record AreAttributes (attributes : List Attribute) : Type 0 where
   pub names : have_names attributes ≡ true
   pub values : AllByRecursion (λ (a : Attribute). AreCharacters a.value) attributes
@@ -38,7 +38,7 @@ pub record IsDocument (text : List ℕ) : Type 0 where
   pub held : IsContent content
   pub spells : text ≡ start_text tag attributes ++ content ++ end_text tag
 
--- the text of an element is a document, whatever the texts and values in it are
+-- the text of an element is a document, whatever its texts and values are
 abbrev pub DocumentLaw : Type 0
 DocumentLaw =
     (tag : List ℕ) (attributes : List Attribute) (children : Tree) → is_named (element tag attributes children) ≡ true →

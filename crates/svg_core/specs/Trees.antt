@@ -42,7 +42,7 @@ start_text tag attributes = codes "<" ++ tag ++ attributes_text attributes ++ co
 unfoldable pub end_text : List ℕ → List ℕ
 end_text tag = codes "</" ++ tag ++ codes ">"
 
--- with its value as it stands in XML
+-- the attribute, with its value as it stands in XML
 abbrev pub escaped_attribute : Attribute → Attribute
 escaped_attribute a = record { name = a.name; value = escaped a.value }
 
@@ -62,24 +62,24 @@ is_letter c = (nat_le 65 c && nat_le c 90) || (nat_le 97 c && nat_le c 122)
 abbrev pub is_name_byte : ℕ → Bool
 is_name_byte c = is_letter c || (nat_le 48 c && nat_le c 57) || (c == 45)
 
--- a letter, and then such bytes
+-- a letter, and then bytes of a name
 abbrev pub is_name : List ℕ → Bool
 is_name [] = false
 is_name (c ∷ cs) = is_letter c && list_all is_name_byte cs
 
--- no two of these are equal
+-- whether no two of these are equal
 abbrev pub are_different : List (List ℕ) → Bool
 are_different [] = true
 are_different (x ∷ xs) = not (list_any (bytes_eq x) xs) && are_different xs
 
--- these are names, each there once
+-- whether these are names, and no two of them are the same
 abbrev pub are_names : List (List ℕ) → Bool
 are_names names = list_all is_name names && are_different names
 
 abbrev pub have_names : List Attribute → Bool
 have_names attributes = are_names (map (λ a. a.name) attributes)
 
--- tags and attributes have names
+-- whether tags and attributes have names
 unfoldable pub is_named : Tree → Bool
 is_named Nothing = true
 is_named (Text text more) = is_named more

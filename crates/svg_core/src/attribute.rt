@@ -1,4 +1,4 @@
-//! What an element is given.
+//! The attributes of an element.
 ghost use Rattle.std.specs.Prelude.{◌≡◌, ◌++◌, OnOk, string_bytes, map};
 ghost use Rattle.svg_core.specs.Escapes.{escaped};
 ghost use Rattle.svg_core.specs.Trees.{attribute_text, attributes_text, escaped_attribute};
@@ -41,7 +41,7 @@ fn put_attribute<A: Allocator>(
     text.push_str("\"")
 }
 
-/// Each with a space before it.
+/// The attributes, each with a space before it.
 #[tactic(auto, unfolding(crate::specs::Trees::attributes_text))]
 pub fn put_attributes<A: Allocator>(
     text: &mut String<A>,

@@ -4,7 +4,7 @@ ghost use Rattle.svg_core.specs.Escapes.{escape, escaped, is_plain, stand_in};
 
 use std::alloc::{AllocError, Allocator};
 
-/// Whether it stands for itself.
+/// Whether the byte stands for itself.
 fn is_plain(byte: u8) -> bool
     ensures { result ≡ is_plain byte }
 {
@@ -35,7 +35,7 @@ fn put_byte<A: Allocator>(text: &mut String<A>, byte: u8) -> Result<(), AllocErr
     }
 }
 
-/// The words as they stand in XML. What is no ASCII, or a control, stands as `?`.
+/// The words as they stand in XML. A byte that is no ASCII, or a control, becomes `?`.
 #[tactic(auto, unfolding(crate::specs::Escapes::escaped))]
 pub fn put_escaped<A: Allocator>(text: &mut String<A>, words: &str) -> Result<(), AllocError>
     ensures { OnOk result (string_bytes text.new ≡ string_bytes text.old ++ escaped words.now) }

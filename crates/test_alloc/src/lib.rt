@@ -9,9 +9,9 @@ ghost use Rattle.std.specs.Prelude.{◌≡◌};
 use std::alloc::{AllocError, Allocator};
 use std::sync::atomic::{AtomicU64, Ordering};
 
-/// The number of requests made since the count last began at 0, the bytes that they asked for, and the numbers of the first
-/// and the last that are refused. Requests are numbered from 1, so a last of 0 refuses none. They are atomic, since threads
-/// share them.
+/// How many requests were made since the count last began at 0, how many bytes they asked for, and the numbers of the
+/// first and the last request to refuse. Requests are numbered from 1, so a last of 0 refuses none. The fields are
+/// atomic, since threads share them.
 #[derive(Drop)]
 struct Requests {
     made: AtomicU64,
@@ -21,7 +21,7 @@ struct Requests {
 }
 
 /// An allocator that a test lends as `&heap`, which is itself an allocator, and `Copy`. A request is one call of
-/// `allocate`, by a collection that grows too: an empty collection makes none.
+/// `allocate`, also by a collection that grows. An empty collection makes none.
 pub struct Refusing<B: Allocator> {
     inner: B,
     requests: Requests,
@@ -30,7 +30,7 @@ pub struct Refusing<B: Allocator> {
 impl<B: Allocator> Refusing<B> {
     ghost use Rattle.test_alloc.specs.Refusing.{inner_of};
 
-    /// It refuses nothing yet, and gets its memory from `inner`.
+    /// An allocator that refuses nothing yet, and takes its memory from `inner`.
     pub fn new(inner: B) -> Refusing<B>
         ensures { inner_of result ≡ inner }
     {
@@ -45,17 +45,17 @@ impl<B: Allocator> Refusing<B> {
         }
     }
 
-    /// Counts from 0 again, and refuses nothing.
+    /// Counts from 0 again, and refuses nothing from now on.
     pub fn refuse_none(&self) {
         self.refuse(0, 0);
     }
 
-    /// Counts from 0 again, and refuses the request of this number alone.
+    /// Counts from 0 again, and refuses the request with this number alone.
     pub fn refuse_only(&self, number: u64) {
         self.refuse(number, number);
     }
 
-    /// Counts from 0 again, and refuses the request of this number and each later one.
+    /// Counts from 0 again, and refuses the request with this number and each later one.
     pub fn refuse_from(&self, number: u64) {
         self.refuse(number, u64::MAX);
     }
@@ -67,7 +67,7 @@ impl<B: Allocator> Refusing<B> {
         self.requests.last.store(last, Ordering::SeqCst);
     }
 
-    /// How many requests were made, refused ones too, since the last call that counts from 0 again.
+    /// How many requests were made, refused ones too, since the count last began at 0.
     pub fn requests(&self) -> u64 {
         self.requests.made.load(Ordering::SeqCst)
     }

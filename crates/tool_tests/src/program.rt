@@ -16,7 +16,7 @@ const JOINED: &str = "nodes a b\na join 1 r alice phone\na undo 1\n";
 
 const REPORT: &str = "1 ok\n+ r alice a/1 phone\nundone 1\n- r alice a/1 phone\n";
 
-/// A play of it as it is saved.
+/// A saved play of one script.
 const SESSION: &str = "{\"acts\":[[0,[\"do\",\"join\",1,\"r\",\"alice\",\"phone\"],[\"ok\",1]],\
 [0,[\"undo\",1],[\"undone\",1]]],\"limits\":[100000,10000,1000000,10000],\"nodes\":[\"a\",\"b\"],\"version\":2}\n";
 
@@ -74,7 +74,8 @@ fn other_words_are_refused(rt: HostRuntime) {
     }
 }
 
-/// The status with which the program ends, and what it wrote to its output and to its errors, each a writer of so much room.
+/// The status with which the program ends, and what it wrote to its output and to its errors. Each of these is a writer
+/// with this much room.
 fn ended<T: Threads + Wait + Sync + Abort, B: Allocator + Sync>(
     heap: Global,
     alloc: &B,
@@ -109,7 +110,7 @@ const UNWRITTEN: &[(&[&str], &str, u8)] = &[
     (&["--help"], "", 3),
 ];
 
-/// Whether the program ends with this status and writes nothing where it can't.
+/// Whether the program ends with this status and has written nothing, where nothing can be written.
 fn ends_unwritten<T: Threads + Wait + Sync + Abort>(
     heap: Global,
     words: &[&str],
@@ -132,7 +133,7 @@ fn a_status_stands_where_its_line_cannot_be_written(rt: HostRuntime) {
     }
 }
 
-/// Words that are told of in the errors, and those that ask for help, each with the status.
+/// Words that the errors report, and words that ask for help, each with the status.
 const TOLD: &[(&[&str], u8)] = &[
     (&["jump"], 2),
     (&["play", "x"], 2),
@@ -140,8 +141,8 @@ const TOLD: &[(&[&str], u8)] = &[
     (&["play", "--help"], 0),
 ];
 
-/// Whether the program ends with this status without a look at its input, and writes to its errors alone, or where it helps to
-/// its output alone.
+/// Whether the program ends with this status without reading its input, and writes to its errors alone, or, if it
+/// prints help, to its output alone.
 fn tells_words<T: Threads + Wait + Sync + Abort>(
     heap: Global,
     words: &[&str],
@@ -216,7 +217,7 @@ const EVERY_ACT: &str = concat!(
     "\n"
 );
 
-/// A node of one join.
+/// A bench of one node, with one join.
 const ALONE: &str = "{\"acts\":[[0,[\"do\",\"join\",1,\"r\",\"alice\",\"phone\"],[\"ok\",1]]],\
 \"limits\":[10,10,10,10],\"nodes\":[\"a\"],\"version\":2}";
 
@@ -246,7 +247,7 @@ const ALONE_DRAWN: &str = concat!(
     r#"</svg></svg>"#
 );
 
-/// A delivery that the network could have made before its sender was known, and then brings nothing.
+/// A delivery that the network could have made before its sender was known; it would then have brought nothing.
 const ONE_DELIVERY: &str =
     "nodes a b\na join 1 r alice phone\na broadcast\nb up a\nb deliver a 1\n";
 
@@ -266,7 +267,7 @@ const LOGGED: &str = concat!(
 const LOGGED_SCRIPT: &str =
     "nodes a b\na join 0 r alice phone\na broadcast\nb deliver a 1\nshow b\n";
 
-/// Words, an input, and what is printed of it.
+/// Words, an input, and what the program prints for it.
 const ANSWERED: &[(&[&str], &str, &str)] = &[
     (&["play"], UNWOUND, UNWOUND_REPORT),
     (&["play", "--as", "session"], JOINED, SESSION),
@@ -285,8 +286,8 @@ const ANSWERED: &[(&[&str], &str, &str)] = &[
     ),
 ];
 
-/// Runs the program with this request for memory refused: it prints all, or nothing and says so. Gives whether the request was
-/// met, and whether the program ended early.
+/// Runs the program with this request for memory refused: it prints all, or prints nothing and says so. Gives whether
+/// the request was met, and whether the program ended early.
 fn refused<T: Threads + Wait + Sync + Abort>(
     rt: &T,
     global: Global,
@@ -312,7 +313,7 @@ fn refused<T: Threads + Wait + Sync + Abort>(
     (is_met, status == 4)
 }
 
-/// Runs the program with each request for memory refused in turn; how often it ended early.
+/// Runs the program with each request for memory refused in turn, and gives how often it ended early.
 fn early_ends<T: Threads + Wait + Sync + Abort>(
     rt: &T,
     global: Global,
@@ -353,8 +354,8 @@ b up a\n\
 b deliver a 1\n\
 b deliver a 2\n";
 
-/// By how many milliseconds the clock is later at each look, how much room the errors have, and what is told there. The clock is looked
-/// at once, and then at each sixteenth change.
+/// By how many milliseconds the clock is later at each look, how much room the errors have, and what is printed there.
+/// The program looks at the clock once, and then at each sixteenth change.
 const WORKED: &[(u64, usize, &str)] = &[
     (
         1000,
@@ -371,7 +372,7 @@ presence_bench: 48 of 79 changes tried\npresence_bench: 64 of 79 changes tried\n
     (1000, 20, "presence_bench: 16 o"),
 ];
 
-/// Whether long work tells this of how far it has come, and ends well.
+/// Whether long work prints this of how far it has come, and ends well.
 fn tells_work<T: Threads + Wait + Sync + Abort>(
     heap: Global,
     worked: (u64, usize, &str),
@@ -406,14 +407,14 @@ fn long_work_tells_how_far_it_has_come(rt: HostRuntime) {
     }
 }
 
-/// How many replies the report tells.
+/// How many replies the report has.
 fn replies_of(report: &[u8]) -> usize {
     let report = str::from_utf8(report).unwrap_or("");
     let is_reply = |line: &&str| line.ends_with(" ok") || line.starts_with("no ");
     report.lines().filter(is_reply).count()
 }
 
-/// What goes out, where the program ends well and tells nothing.
+/// What the program writes, if it ends well and writes nothing to its errors.
 fn printed<T: Threads + Wait + Sync + Abort>(
     heap: Global,
     words: &[&str],
@@ -429,7 +430,7 @@ fn printed<T: Threads + Wait + Sync + Abort>(
     writer
 }
 
-/// Lines of two nodes, in whatever order they are asked: a session with an event for each.
+/// A race asks lines of two nodes in whatever order: its session has an event for each line.
 #[test]
 fn a_race_is_saved_and_loads_again(rt: HostRuntime) {
     let script = b"nodes a b\na join 1 r alice phone\nb up a\na broadcast\nb deliver a 1\n";

@@ -1,4 +1,5 @@
-//! That a prompt answers each line before it reads the next, and where memory is refused. What it prints are cases of `example_tests`.
+//! A prompt answers each line before it reads the next, also where memory is refused. What it prints are cases of
+//! `example_tests`.
 use crate::rows::holds_at;
 use bench_core::Limits;
 use prompt_core::{PromptFault, step};
@@ -10,7 +11,8 @@ use test_alloc::Refusing;
 
 const HELP: &str = "the lines";
 
-/// Each line that was read is answered, and the answer flushed, before a read fails. Of a line without its end there is none.
+/// A prompt answers each line that was read, and flushes the answer, before a read fails. It doesn't answer a line
+/// without its end.
 #[test]
 fn lines_are_answered_before_a_read_fault(rt: HostRuntime) {
     let alloc = rt.alloc();
@@ -27,7 +29,7 @@ fn lines_are_answered_before_a_read_fault(rt: HostRuntime) {
 
 const ANSWERED: &str = "nodes a\na join 1 r alice phone\n:save\na undo x\nshow a\n";
 
-/// The answers to its lines.
+/// The answers to the lines.
 const ANSWERS: &[&str] = &[
     "",
     "1 ok\n+ r alice a/1 phone\n",
@@ -37,7 +39,7 @@ const ANSWERS: &[&str] = &[
     "online a 1\n= r alice a/1 phone\n",
 ];
 
-/// Whether the text is the answers to the first of its lines, and whether it is those to all.
+/// Whether the text has the answers to the first lines, and whether it has those to all.
 fn are_answers(heap: Global, text: &[u8], rt: &impl Abort) -> (bool, bool) {
     let mut printed = String::new(heap);
     let mut are_first = text.is_empty();
@@ -50,8 +52,8 @@ fn are_answers(heap: Global, text: &[u8], rt: &impl Abort) -> (bool, bool) {
     (are_first, are_all)
 }
 
-/// How a prompt ends that is refused this request for memory, whether it was met, and whether the lines before it have their
-/// answers, and no other went out.
+/// How a prompt ends with this request for memory refused, whether it met the refusal, and whether the lines before it
+/// have their answers and no others went out.
 fn answered_without(
     heap: Global,
     refusing: &Refusing<Global>,

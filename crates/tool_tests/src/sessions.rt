@@ -1,4 +1,4 @@
-//! That a session of either version, of many calls, is carried.
+//! Sessions of either version, of many calls, are carried to the latest one.
 use session_core::carry;
 use std::alloc::Global;
 use std::process::Abort;

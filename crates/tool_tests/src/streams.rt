@@ -9,12 +9,13 @@ use std::io;
 use std::io::{ErrorKind, Read, Write};
 use std::process::Abort;
 
-/// A join is taken back.
+/// A join, and its undo.
 const SCRIPT: &str = "nodes a b\nconsoles c1\na join 1 r alice phone\na undo 1\nshow a\n";
 
 const REPORT: &str = "1 ok\n+ r alice a/1 phone\nundone 1\n- r alice a/1 phone\nonline a 0\n";
 
-/// Whether so much of `abc` is read at most: it all is, or this is the fault; and no more calls than these are made.
+/// Reads `abc` with this limit. Whether it reads it all, or meets this fault; and whether it makes no more than `calls`
+/// calls.
 fn is_read(
     rt: &impl Abort,
     heap: Global,
@@ -47,7 +48,7 @@ fn input_is_read_whole_or_refused(rt: HostRuntime) {
     }
 }
 
-/// Whether a play of what this reader gives is told as a failed read, after `calls` calls, and nothing is written.
+/// Whether a play from this reader gives a failed read, after `calls` calls, and writes nothing.
 fn fails_to_read(heap: Global, mut reader: FakeReader, calls: Option<usize>) -> bool {
     let mut writer = FakeWriter::new(heap, 1000);
     let answer = play(&heap, &mut reader, &mut writer, Limits::usual());
@@ -68,7 +69,7 @@ fn a_failed_read_is_not_tried_again(rt: HostRuntime) {
     }
 }
 
-/// The script, of which a read beyond the first bytes fails.
+/// Has a read of the script fail after each number of its first bytes.
 #[test]
 fn a_read_that_fails_at_any_byte_is_told(rt: HostRuntime) {
     let script = SCRIPT.as_bytes();
@@ -78,7 +79,7 @@ fn a_read_that_fails_at_any_byte_is_told(rt: HostRuntime) {
     }
 }
 
-/// Whether the report goes out where the writer takes at most `most` bytes at once.
+/// Whether the report goes out if the writer takes at most `most` bytes at once.
 fn goes_out_in_parts(heap: Global, most: usize) -> bool {
     let mut reader = FakeReader::ending(SCRIPT.as_bytes());
     let mut writer = FakeWriter::taking(heap, most);
@@ -92,7 +93,7 @@ fn a_report_goes_out_in_parts(rt: HostRuntime) {
     assert!(rt; goes_out_in_parts(rt.alloc(), 3));
 }
 
-/// Whether a play whose writer fails after `most` bytes tells of these, and they are the beginning of the report.
+/// Whether a play whose writer fails after `most` bytes reports that number, and these bytes begin the report.
 fn is_written_up_to(heap: Global, mut writer: FakeWriter, most: usize) -> bool {
     let report = REPORT.as_bytes();
     let mut reader = FakeReader::ending(SCRIPT.as_bytes());
@@ -117,7 +118,7 @@ fn a_write_that_fails_at_any_byte_tells_what_went_out(rt: HostRuntime) {
     assert!(rt; is_written_up_to(rt.alloc(), writer, 7));
 }
 
-/// Whether of `abc`, where there is room for two bytes, these are told as written; and nothing is refused.
+/// Whether a write of `abc` with room for two bytes reports two as written, and a write of no bytes succeeds.
 fn is_written_in_part(heap: Global) -> bool {
     let mut writer = FakeWriter::new(heap, 2);
     write_out(&mut writer, b"abc") == Err(WriteFault { written: 2 })
@@ -157,7 +158,7 @@ impl Write for Stalling {
     }
 }
 
-/// Whether such a write is told as a failed one after one call.
+/// Whether a write that takes nothing, or is interrupted, is reported as failed after one call.
 fn fails_at_once(is_interrupted: bool) -> bool {
     let mut writer = Stalling {
         is_interrupted,
@@ -179,7 +180,7 @@ enum Answer {
     Interrupted,
 }
 
-/// A reader that gives one answer a call, and then ends. After an end it goes on.
+/// A reader that gives one answer at each call, and then ends. If it is read after an end, it goes on.
 #[derive(Drop)]
 struct Answering {
     answers: &'static [Answer],
@@ -209,7 +210,7 @@ const A: Answer = Answer::Byte(b'a');
 
 const B: Answer = Answer::Byte(b'b');
 
-/// What a reader answers, what is read of it, if no read fails, and in how many calls.
+/// What a reader answers, what is read of that, if no read fails, and in how many calls.
 const ANSWERED: &[(&[Answer], Option<&str>, usize)] = &[
     (&[A, B], Some("ab"), 3),
     (&[A, Answer::End, B], Some("a"), 2),
@@ -218,7 +219,7 @@ const ANSWERED: &[(&[Answer], Option<&str>, usize)] = &[
     (&[A, Answer::Interrupted, B], None, 2),
 ];
 
-/// Whether this is what is read of the answers, and in `calls` calls.
+/// Whether `expected` is read of the answers, in `calls` calls.
 fn reads_answers(
     heap: Global,
     answers: &'static [Answer],
@@ -234,7 +235,7 @@ fn reads_answers(
     is_so && reader.calls == calls
 }
 
-/// One byte a call; nothing is read after an end; an interrupted read is a failed one.
+/// A reader may give one byte at a call; it is not read after an end; an interrupted read counts as failed.
 #[test]
 fn a_reader_is_read_up_to_its_end(rt: HostRuntime) {
     for (place, (answers, expected, calls)) in ANSWERED.iter().enumerate() {

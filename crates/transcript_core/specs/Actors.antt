@@ -1,4 +1,4 @@
--- Who acts, by name: the nodes, and the consoles, of which a session has no names.
+-- Who acts, by name: the nodes, and the consoles, whose names a session doesn't have.
 use Rattle.std.specs.Prelude.{ℕ, ◌+◌, ◌-◌, ◌&&◌, not, nat_lt, if◌then◌else◌, List, [], ◌∷◌, ◌++◌, length, is_some}
 use Rattle.std.specs.List.{fold, list_any}
 use Rattle.std.specs.Str.{bytes_eq}
@@ -14,7 +14,7 @@ unfoldable pub actor_name : Cast → ℕ → List ℕ
 actor_name cast actor =
     if nat_lt actor (length cast.nodes) then name_at cast.nodes actor else name_at cast.consoles (actor - length cast.nodes)
 
--- how many consoles there are at least, where this many were needed so far and this actor asked something
+-- how many consoles there are at least, if `count` were needed so far and this actor asked something
 abbrev pub with_actor : ℕ → ℕ → ℕ → ℕ
 with_actor nodes count actor = if nat_lt count (actor + 1 - nodes) then actor + 1 - nodes else count
 
@@ -22,7 +22,7 @@ with_actor nodes count actor = if nat_lt count (actor + 1 - nodes) then actor + 
 abbrev pub console_count : ℕ → List Event → ℕ
 console_count nodes events = fold (λ count e. with_actor nodes count e.actor) 0 events
 
--- a console has this name, where one has none yet and nobody has it
+-- the next console has this name, if one has none yet and nobody has the name
 abbrev pub with_free : Texts → ℕ → Texts → List ℕ → Texts
 with_free nodes count consoles name =
     if nat_lt (length consoles) count && (not (is_some (number_in nodes name)) && not (list_any (bytes_eq name) consoles)) then consoles ++ name ∷ []
@@ -32,7 +32,7 @@ with_free nodes count consoles name =
 unfoldable pub console_words : Texts
 console_words = words_of CONSOLES.now
 
--- the first of these that no node has, for `count` consoles
+-- the first of these words that no node has, for `count` consoles
 unfoldable pub named_consoles : Texts → ℕ → Texts
 named_consoles nodes count = fold (with_free nodes count) [] console_words
 

@@ -14,19 +14,19 @@ pub record AreConsoles (nodes consoles : Texts) : Type 0 where
   pub taken : with_each nodes [] consoles ≡ Ok consoles
   pub few : length consoles ≤ 16
 
--- a line of a script can ask it
+-- a line of a script can ask this call
 abbrev pub CanBeAsked : Cast → ℕ → Action → Type 0
 CanBeAsked cast actor (Do operation) = (actor < length cast.nodes) × IsWritten cast.nodes operation
 CanBeAsked cast actor (Undo number) = (actor < length cast.nodes + length cast.consoles) × IsNumber number
 CanBeAsked cast actor (Back node) = (actor < length cast.nodes + length cast.consoles) × (node < length cast.nodes)
 
--- nodes and consoles have names of a script, a line of it can ask each call, and all of it isn't too long
+-- nodes and consoles have names that a script can have, a line of it can ask each call, and all of it isn't too long
 pub record CanBeTold (m : Machine) (consoles : Texts) : Type 0 where
   pub nodes : AreNodes m.names
   pub named : AreConsoles m.names consoles
   pub calls : AllByRecursion (λ e. CanBeAsked (cast_of m consoles) e.actor e.act) m.state.history
   pub short : length (script_text (cast_of m consoles) m.state.history) ≤ 1048576
 
--- the script of such calls is read back
+-- the script of the calls is read back, if it can be told
 abbrev pub ScriptLaw : Type 0
 ScriptLaw = (m : Machine) (consoles : Texts) → CanBeTold m consoles → IsReadBack m (script_text (cast_of m consoles) m.state.history)

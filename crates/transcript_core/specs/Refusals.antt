@@ -15,12 +15,12 @@ abbrev pub fault_in : Reply → Option Fault
 fault_in (Refused fault) = Some fault
 fault_in _ = None
 
--- an unwind is refused where its step doesn't remain, as the undo of that
+-- why an unwind is refused: if its step doesn't remain, as the step's undo is
 abbrev pub unwind_refusal : State → ℕ → Option Kept → Option Fault
 unwind_refusal s number None = fault_in (undo_reply s number)
 unwind_refusal s number (Some step) = None
 
--- what an act line, or an unwind, is refused for
+-- why an act line or an unwind is refused, if it is
 unfoldable pub refusal_of : Machine → Command → Option Fault
 refusal_of m (Call actor act) = fault_in (reply_of m actor act)
 refusal_of m (Unwind actor number) = unwind_refusal m.state number (find_number m.state.remaining number)
@@ -35,11 +35,11 @@ unfoldable pub first_from : Machine → List Line → Option Refusal
 first_from m [] = None
 first_from m (line ∷ lines) = first_of line.number (refusal_of m line.command) (first_from (after_command m line.command) lines)
 
--- that of a script which is played with these limits
+-- the first line of a script that is refused, if it is played with these limits
 unfoldable pub first_refused : Limits → Script → Option Refusal
 first_refused limits script = first_from (opening_machine script.cast.nodes limits) script.lines
 
--- what the call at this place was refused for
+-- why the call at this place was refused, if it was
 abbrev pub refusal_in : Option Event → Option Fault
 refusal_in None = None
 refusal_in (Some e) = fault_in e.reply
@@ -49,6 +49,6 @@ unfoldable pub first_recorded : ℕ → List Event → Option Refusal
 first_recorded n [] = None
 first_recorded n (e ∷ es) = first_of n (fault_in e.reply) (first_recorded (n + 1) es)
 
--- that of a bench
+-- the first refused call that a bench recorded
 abbrev pub first_in : Machine → Option Refusal
 first_in m = first_recorded 1 m.state.history

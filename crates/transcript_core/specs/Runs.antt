@@ -11,7 +11,7 @@ use Rattle.run_core.specs.ReadSteps.{AreNodes, IsWritten}
 use Rattle.run_core.specs.Report.{commands_of}
 use Rattle.transcript_core.specs.Scripts.{spaced_names}
 
--- `nodes NAME ..`, behind an indent
+-- `nodes NAME ..` after the indent
 unfoldable pub nodes_line : List ℕ → Texts → List ℕ
 nodes_line indent names = indent ++ codes "nodes" ++ spaced_names names ++ codes "\n"
 
@@ -31,19 +31,19 @@ run_text indent names ks = nodes_line indent names ++ step_lines indent names ks
 abbrev pub steps_asked : List Kept → List Command
 steps_asked ks = map (λ k. Call k.node (Do k.step)) ks
 
--- the text is read as a script that asks these steps, of these nodes
+-- the text is read as a script that asks these steps, with these nodes
 pub record IsReadAsRun (names : Texts) (ks : List Kept) (text : List ℕ) : Type 0 where
   pub script : Script
   pub read : script_of text ≡ Ok script
   pub nodes : script.cast.nodes ≡ names
   pub steps : commands_of script.lines ≡ steps_asked ks
 
--- the nodes have names of a script, a line of it can ask each step, and all of it isn't too long
+-- the nodes have names that a script can have, a line of it can ask each step, and all of it isn't too long
 pub record CanBePlayed (names : Texts) (ks : List Kept) : Type 0 where
   pub nodes : AreNodes names
   pub steps : AllByRecursion (λ k. (k.node < length names) × IsWritten names k.step) ks
   pub short : length (run_text [] names ks) ≤ 1048576
 
--- the script of such a run is read back
+-- the script of the run is read back, if it can be played
 abbrev pub RunLaw : Type 0
 RunLaw = (names : Texts) (ks : List Kept) → CanBePlayed names ks → IsReadAsRun names ks (run_text [] names ks)

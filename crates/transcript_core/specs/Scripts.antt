@@ -58,18 +58,18 @@ calls_asked m = map call_of m.state.history
 abbrev pub cast_of : Machine → Texts → Cast
 cast_of m consoles = record { nodes = m.names; consoles = consoles }
 
--- a script asks the calls of the bench, of its nodes
+-- a script asks the calls of the bench, and names its nodes
 pub record Asks (m : Machine) (script : Script) : Type 0 where
   pub nodes : script.cast.nodes ≡ m.names
   pub commands : commands_of script.lines ≡ calls_asked m
 
--- the text is read as a script that does
+-- the text is read as a script that asks the calls of the bench
 pub record IsReadBack (m : Machine) (text : List ℕ) : Type 0 where
   pub script : Script
   pub read : script_of text ≡ Ok script
   pub asks : Asks m script
 
--- the text is the script of the bench's calls, where its consoles have these names; it is read as these calls, and a play of it with
+-- the text is the script of the bench's calls, with these names of its consoles; it is read as these calls, and a play of it with
 -- the bench's limits leaves the bench
 pub record IsScriptOf (m : Machine) (consoles : Texts) (text : List ℕ) : Type 0 where
   pub is : text ≡ script_text (cast_of m consoles) m.state.history
@@ -83,12 +83,13 @@ fault_by _ fault = NoScript fault
 abbrev pub fault_of : ScriptFault → TranscriptFault
 fault_of fault = fault_by fault.kind fault
 
--- the text is no script, of which this is the first fault; or it is one that asks something else; or memory was refused
+-- why the text isn't read as these calls: it is no script, and this is its first fault; it is one that asks something else; or
+-- memory was refused
 abbrev pub IsUnread : Machine → List ℕ → TranscriptFault → Type 0
 IsUnread m text (NoScript fault) = script_of text ≡ Err fault
 IsUnread m text OtherCalls = (script : Script) × (script_of text ≡ Ok script) × ¬ Asks m script
 IsUnread m text OutOfMemory = ⊤
 
--- so of the text that tells the calls
+-- why the text of the bench's calls isn't read as these calls
 abbrev pub Refuses : Machine → Texts → TranscriptFault → Type 0
 Refuses m consoles fault = IsUnread m (script_text (cast_of m consoles) m.state.history) fault

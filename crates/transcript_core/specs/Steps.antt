@@ -15,7 +15,7 @@ use Rattle.run_core.specs.Report.{after_command, command_text, commands_of, play
 use Rattle.transcript_core.specs.Actors.{actor_name}
 use Rattle.transcript_core.specs.Scripts.{call_line, calls_asked, cast_of}
 
--- who took steps back: at the number of each the actor who did, if anybody
+-- who took steps back: at each step's number the actor who did, if anybody
 abbrev pub Takers : Type 0
 Takers = List (Option ℕ)
 
@@ -26,14 +26,14 @@ with_reply takers actor _ = takers
 abbrev pub with_taker : Takers → Event → Takers
 with_taker takers e = with_reply takers e.actor e.reply
 
--- no step has a greater number than there are calls
+-- who took steps back by these events; no step has a greater number than there are calls
 unfoldable pub takers_of : List Event → Takers
 takers_of events = fold with_taker (replicate (length events + 1) None) events
 
 abbrev pub taker_of : Takers → ℕ → Option ℕ
 taker_of takers number = unwrap_or (slice_get takers number) None
 
--- `undone by ACTOR` behind a step that was taken back
+-- `undone by ACTOR` after a step that was taken back
 abbrev pub undone_text : Cast → ℕ → List ℕ
 undone_text cast actor = codes "  undone by " ++ actor_name cast actor
 
@@ -41,7 +41,7 @@ abbrev pub taker_text : Cast → Option ℕ → List ℕ
 taker_text cast None = []
 taker_text cast (Some actor) = undone_text cast actor
 
--- the number of the step that was taken, or taken back, and of a call that was refused a dash
+-- the number of the step that was taken, or taken back; a dash for a call that was refused
 abbrev pub number_text : Option Reply → List ℕ
 number_text (Some (Taken number)) = decimal number ++ codes "  "
 number_text (Some (Undone number)) = decimal number ++ codes "  "
@@ -60,7 +60,7 @@ abbrev pub unwind_number : Bool → ℕ → List ℕ
 unwind_number false number = codes "-  "
 unwind_number true number = decimal number ++ codes "  "
 
--- what stands above what a line printed, by the reply that was recorded of it, and whether the step remained that it unwinds
+-- what stands above what a line printed, by the reply that was recorded for it, and by whether the step that it unwinds remained
 unfoldable pub command_head : Cast → Takers → Command → Option Reply → Bool → List ℕ
 command_head cast takers (Call actor act) reply remains = head_line cast takers actor act reply
 command_head cast takers (Unwind actor number) reply remains =
@@ -74,11 +74,11 @@ command_head cast takers Journal reply remains = codes "journal\n"
 abbrev pub reply_at : List Event → ℕ → Option Reply
 reply_at events place = option_map (λ e. e.reply) (slice_get events place)
 
--- that which comes next, of a line
+-- the reply that a line records next, if any
 abbrev pub recorded : Machine → Command → Option Reply
 recorded m command = reply_at (after_command m command).state.history (length m.state.history)
 
--- whether the step remains that the line unwinds
+-- whether the step that the line unwinds remains
 abbrev pub unwinds_one : Machine → Command → Bool
 unwinds_one m (Unwind actor number) = is_some (find_number m.state.remaining number)
 unwinds_one m _ = false
@@ -87,7 +87,7 @@ abbrev pub byte_text : Bool → ℕ → List ℕ
 byte_text true byte = 32 ∷ 32 ∷ byte ∷ []
 byte_text false byte = byte ∷ []
 
--- each line behind two spaces; `begins` where a line begins
+-- the text with two spaces before each line; `begins` says that a line begins here
 unfoldable pub indented : Bool → List ℕ → List ℕ
 indented begins [] = []
 indented begins (byte ∷ bytes) = byte_text begins byte ++ indented (byte == 10) bytes
@@ -100,11 +100,11 @@ unfoldable pub steps_text : Cast → Takers → Machine → List Command → Lis
 steps_text cast takers m [] = []
 steps_text cast takers m (command ∷ commands) = command_steps cast takers m command ++ steps_text cast takers (after_command m command) commands
 
--- of a script that is played with these limits
+-- the steps text of a script that is played with these limits
 unfoldable pub script_steps : Limits → Script → List ℕ
 script_steps limits script =
     steps_text script.cast (takers_of (played limits script).state.history) (opening_machine script.cast.nodes limits) (commands_of script.lines)
 
--- of the calls that a bench recorded, where its consoles have these names
+-- the steps text of the calls that a bench recorded, with these names of its consoles
 unfoldable pub bench_steps : Machine → Texts → List ℕ
 bench_steps m consoles = steps_text (cast_of m consoles) (takers_of m.state.history) (opening_machine m.names m.limits) (calls_asked m)

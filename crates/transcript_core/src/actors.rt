@@ -1,4 +1,4 @@
-//! Who acts, by name: the nodes, and the consoles, of which a session has no names.
+//! Who acts, by name: the nodes, and the consoles, whose names a session doesn't have.
 ghost use Rattle.std.specs.Prelude.{◌≡◌, IfOk, OnOk, map};
 ghost use Rattle.report_core.specs.Rows.{name_at};
 ghost use Rattle.transcript_core.specs.Actors.{actor_name, console_count, console_words, free_consoles, named_consoles, with_actor, with_free};
@@ -9,11 +9,11 @@ use payload_core::Oom;
 use report_core::name_at;
 use std::alloc::Allocator;
 
-/// Names for consoles that have none, more than nodes and consoles together may take of them.
+/// Names for consoles that have none: more of them than the names of nodes and consoles together can take up.
 pub const CONSOLES: &str =
     "c1 c2 c3 c4 c5 c6 c7 c8 c9 c10 c11 c12 c13 c14 c15 c16 c17 c18 c19 c20 c21 c22 c23 c24 c25 c26 c27 c28 c29 c30 c31 c32 c33 c34 c35 c36 c37 c38 c39 c40 c41 c42 c43 c44 c45 c46 c47 c48";
 
-/// The name of a console, and nothing where there is no such console.
+/// The name of a console, or an empty text if there is no such console.
 pub fn console_at<A: Allocator>(consoles: &TextSet<A>, number: usize) -> &str
     ensures { result.now ≡ name_at consoles.now number }
 {
@@ -38,7 +38,7 @@ pub(crate) fn actor_name<'t, N: Allocator, C: Allocator>(
     console_at(consoles, actor as usize - nodes.len())
 }
 
-/// How many consoles there are at least, where this many were needed so far and this actor asked something.
+/// How many consoles there are at least, if `count` were needed so far and this actor asked something.
 fn with_actor(nodes: usize, count: usize, actor: u16) -> usize
     ensures { result ≡ with_actor nodes count actor }
 {
@@ -59,7 +59,7 @@ fn console_count<'a, B: Allocator>(nodes: usize, history: &History<'a, B>) -> us
     count
 }
 
-/// Gives a console this name, where one has none yet and nobody has it.
+/// Gives the next console this name, if one has none yet and nobody has the name.
 fn put_free<A: Allocator + Copy, N: Allocator>(
     nodes: &Names<N>,
     count: usize,
@@ -99,7 +99,7 @@ fn named_consoles<A: Allocator + Copy, N: Allocator>(
     Ok(consoles)
 }
 
-/// Names for the consoles of a bench, which has none for them: `c1`, `c2` .., each that no node has.
+/// Names for the consoles of a bench, which has none for them: `c1`, `c2` .., without those that a node has.
 #[tactic(auto, unfolding(crate::specs::Actors::free_consoles))]
 pub fn free_consoles<'a, B: Allocator>(
     alloc: &'a B,

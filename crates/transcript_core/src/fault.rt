@@ -8,10 +8,10 @@ use thiserror::Error;
 /// Why the calls of a bench are no script.
 #[derive(Clone, Copy, Debug, PartialEq, Eq, Error)]
 pub enum TranscriptFault {
-    /// Their lines are none, of which this is the first fault: a node's name that a script can't have, say.
+    /// The lines of the calls are no script, and this is its first fault: a node's name that a script can't have, say.
     #[error("{fault}")]
     NoScript { fault: ScriptFault },
-    /// Their lines ask something else: a call named a node that there is not.
+    /// The lines of the calls ask something else, since a call named a node that isn't there.
     #[error("OtherCalls")]
     OtherCalls,
     /// A request for memory was refused.

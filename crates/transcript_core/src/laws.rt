@@ -2,12 +2,13 @@
 ghost use Rattle.transcript_core.specs.Laws.{ScriptLaw};
 ghost use Rattle.transcript_core.specs.Runs.{RunLaw};
 
-/// The script of a bench's calls is read as these calls, where nodes and consoles have names of a script and a line can ask each.
+/// The script of a bench's calls is read as these calls, if nodes and consoles have names that a script can have and a
+/// line can ask each call.
 pub fn script_law()
     ensures { ScriptLaw }
 {}
 
-/// The script of a run is read as its steps, where nodes have names of a script and a line can ask each.
+/// The script of a run is read as its steps, if nodes have names that a script can have and a line can ask each step.
 pub fn run_law()
     ensures { RunLaw }
 {}

@@ -43,7 +43,7 @@ fn ask_calls<'a, B: Allocator>(history: &History<'a, B>, lines: &[Line<&'a B>]) 
     lines.len() == history.len()
 }
 
-/// Whether the script asks the calls of the bench, of its nodes.
+/// Whether the script asks the calls of the bench, and names its nodes.
 fn asks<'a, B: Allocator>(bench: &Bench<'a, B>, script: &Script<&'a B>) -> bool
     ensures { IsTrue result ↔ Asks bench.now (plain_script script.now) }
 {
@@ -53,7 +53,7 @@ fn asks<'a, B: Allocator>(bench: &Bench<'a, B>, script: &Script<&'a B>) -> bool
     ask_calls(bench.history(), lines(script))
 }
 
-/// The fault of the text as that of the script which it was to be.
+/// A fault of the text, as the fault of the script that it should have been.
 fn fault_of(fault: ScriptFault) -> TranscriptFault
     ensures { result ≡ fault_of fault }
 {

@@ -13,7 +13,7 @@ use payload_core::Oom;
 use report_core::{answer, unwind};
 use std::alloc::Allocator;
 
-/// A call that was refused, by the number of its line in a script, or its own among those that were recorded.
+/// A call that was refused, by the number of its line in a script, or by its own number among those that were recorded.
 #[derive(Clone, Copy, Debug, PartialEq, Eq)]
 pub struct Refusal {
     pub number: u64,
@@ -29,14 +29,14 @@ fn fault_in(reply: Reply) -> Option<Fault>
     }
 }
 
-/// Want of memory, for which nothing is refused.
+/// Whether the fault is want of memory, which counts as no refusal.
 fn is_want(fault: Fault) -> bool
     ensures { result ≡ is_want fault }
 {
     matches!(fault, Fault::OutOfMemory)
 }
 
-/// What an act is refused for, unless memory is refused.
+/// Makes an act, and gives why it is refused, if it is. Fails for want of memory alone.
 fn ask<'a, B: Allocator>(
     bench: &mut Bench<'a, B>,
     actor: u16,
@@ -48,7 +48,7 @@ fn ask<'a, B: Allocator>(
     Ok(fault_in(answer(bench, actor, act)?))
 }
 
-/// What the unwind of a step is refused for.
+/// Why the unwind of a step is refused, if it is.
 fn unwind_refusal<'a, B: Allocator>(bench: &Bench<'a, B>, number: u64) -> Result<Option<Fault>, Oom>
     ensures { IfOk result (λ refusal. refusal ≡ unwind_refusal bench.now.state number (find_number bench.now.state.remaining number)) }
 {
@@ -66,7 +66,7 @@ fn unwind_refusal<'a, B: Allocator>(bench: &Bench<'a, B>, number: u64) -> Result
     }
 }
 
-/// Unwinds a step, and says what that is refused for.
+/// Unwinds a step, and gives why that is refused, if it is.
 fn ask_unwind<'a, B: Allocator>(
     bench: &mut Bench<'a, B>,
     actor: u16,
@@ -82,7 +82,7 @@ fn ask_unwind<'a, B: Allocator>(
     Ok(refusal)
 }
 
-/// What a line is refused for, which the bench does.
+/// Does what a line asks, and gives why that is refused, if it is.
 #[tactic(auto, unfolding(crate::specs::Refusals::refusal_of, run_core::specs::Report::after_command))]
 fn obey<'a, B: Allocator>(
     bench: &mut Bench<'a, B>,
@@ -99,7 +99,7 @@ fn obey<'a, B: Allocator>(
     }
 }
 
-/// The first of the lines that is refused.
+/// The first of these lines that is refused.
 #[tactic(auto, unfolding(crate::specs::Refusals::first_from))]
 fn first_from<'a, B: Allocator>(
     bench: &mut Bench<'a, B>,
@@ -117,7 +117,7 @@ fn first_from<'a, B: Allocator>(
     Ok(None)
 }
 
-/// The first line of a script that is refused, where it is played with these limits.
+/// The first line of a script that is refused, if the script is played with these limits.
 #[tactic(auto, unfolding(crate::specs::Refusals::first_refused))]
 pub fn first_refused<'a, B: Allocator>(
     alloc: &'a B,
@@ -133,7 +133,7 @@ pub fn first_refused<'a, B: Allocator>(
     refusal
 }
 
-/// What the call at this place was refused for.
+/// Why the call at this place was refused, if it was.
 fn refusal_at<'a, B: Allocator>(history: &History<'a, B>, place: usize) -> Option<Fault>
     ensures { result ≡ refusal_in (slice_get history.now place) }
 {

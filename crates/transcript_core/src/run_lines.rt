@@ -8,7 +8,7 @@ use payload_core::Oom;
 use report_core::put_act;
 use std::alloc::Allocator;
 
-/// `nodes NAME ..`, behind an indent.
+/// `nodes NAME ..` after the indent.
 #[tactic(auto, unfolding(crate::specs::Runs::nodes_line))]
 pub fn put_nodes_line<A: Allocator, N: Allocator>(
     text: &mut String<A>,
@@ -23,7 +23,7 @@ pub fn put_nodes_line<A: Allocator, N: Allocator>(
     Ok(text.push_str("\n")?)
 }
 
-/// The step as a line, behind an indent.
+/// The step as a line, after the indent.
 #[tactic(auto, unfolding(crate::specs::Runs::step_line))]
 pub fn put_step_line<A: Allocator, N: Allocator, W: Allocator>(
     text: &mut String<A>,

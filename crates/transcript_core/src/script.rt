@@ -102,7 +102,7 @@ fn put_events<'a, A: Allocator, B: Allocator, N: Allocator, C: Allocator>(
     Ok(())
 }
 
-/// The script of the calls, which isn't read back.
+/// The script of the calls, without reading it back.
 #[tactic(auto, unfolding(crate::specs::Scripts::script_text))]
 pub fn calls_text<'a, A: Allocator, B: Allocator>(
     bench: &Bench<'a, B>,
@@ -117,8 +117,8 @@ pub fn calls_text<'a, A: Allocator, B: Allocator>(
     Ok(text)
 }
 
-/// The recorded calls of a bench as a script, where the consoles have these names. Before it goes out it is read, and compared
-/// with the calls; where it isn't read as these calls, there is none.
+/// The recorded calls of a bench as a script, with these names of the consoles. Before it goes out it is read again and
+/// compared with the calls; if it isn't read as these calls, there is none.
 pub fn script_of_calls<'a, B: Allocator>(
     alloc: &'a B,
     bench: &Bench<'a, B>,

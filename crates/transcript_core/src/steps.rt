@@ -16,7 +16,7 @@ use report_core::{act, name_at};
 use run_core::command as obey;
 use std::alloc::Allocator;
 
-/// After an actor had this reply.
+/// Notes who took a step back, if an actor had this reply.
 fn note_reply<A: Allocator>(takers: &mut Vec<Option<u16>, A>, actor: u16, reply: Reply)
     ensures { takers.new.items ≡ with_reply takers.old.items actor reply }
 {
@@ -27,14 +27,14 @@ fn note_reply<A: Allocator>(takers: &mut Vec<Option<u16>, A>, actor: u16, reply:
     }
 }
 
-/// After this call.
+/// Notes who took a step back, if this call did.
 fn note_event<A: Allocator, W: Allocator>(takers: &mut Vec<Option<u16>, A>, event: &Event<W>)
     ensures { takers.new.items ≡ with_taker takers.old.items event.now }
 {
     note_reply(takers, event.actor, event.reply);
 }
 
-/// Who took steps back: at the number of each the actor who did, if anybody.
+/// Who took steps back: at each step's number the actor who did, if anybody.
 #[tactic(auto, unfolding(crate::specs::Steps::takers_of))]
 fn takers_of<'a, B: Allocator>(
     bench: &Bench<'a, B>,
@@ -113,7 +113,7 @@ fn put_taker<A: Allocator, N: Allocator, C: Allocator>(
     }
 }
 
-/// Who took the step back that was taken, if anybody.
+/// Who took the step of this reply back, if anybody.
 fn put_note<A: Allocator, N: Allocator, C: Allocator>(
     text: &mut String<A>,
     nodes: &Names<N>,
@@ -150,7 +150,7 @@ fn put_head<A: Allocator, N: Allocator, C: Allocator, W: Allocator>(
     Ok(text.push_str("\n")?)
 }
 
-/// The number of the step that is unwound, or a dash.
+/// The number of the step that the line unwinds, or a dash.
 fn put_unwind_number<A: Allocator>(
     text: &mut String<A>,
     remains: bool,
@@ -198,7 +198,7 @@ fn put_command_head<A: Allocator, N: Allocator, C: Allocator, W: Allocator>(
     }
 }
 
-/// A byte, behind two spaces where a line begins.
+/// A byte, with two spaces before it at the beginning of a line.
 fn put_byte<A: Allocator>(out: &mut Vec<u8, A>, begins: bool, byte: u8) -> Result<(), Oom>
     ensures { OnOk result (out.new.items ≡ out.old.items ++ byte_text begins byte) }
 {
@@ -210,7 +210,7 @@ fn put_byte<A: Allocator>(out: &mut Vec<u8, A>, begins: bool, byte: u8) -> Resul
     Ok(())
 }
 
-/// Each line behind two spaces.
+/// Appends the text with two spaces before each line.
 #[tactic(auto, unfolding(crate::specs::Steps::indented))]
 fn put_indented<A: Allocator>(out: &mut Vec<u8, A>, text: &[u8]) -> Result<(), Oom>
     ensures { OnOk result (out.new.items ≡ out.old.items ++ indented true text.now) }
@@ -235,7 +235,7 @@ fn put_below<A: Allocator, H: Allocator>(
     put_indented(out, printed.as_bytes())
 }
 
-/// Whether the step remains that the line unwinds.
+/// Whether the step that the line unwinds remains.
 fn unwinds_one<'a, B: Allocator>(bench: &Bench<'a, B>, command: &Command<&'a B>) -> bool
     ensures { result ≡ unwinds_one bench.now (plain_command command.now) }
 {
@@ -347,7 +347,7 @@ fn put_events<'a, B: Allocator>(
     Ok(())
 }
 
-/// The lines of a script, asked of a bench, and below each what it printed.
+/// Asks the lines of a script of a bench, and gives each with what it printed below.
 fn lines_steps<'a, B: Allocator>(
     bench: &mut Bench<'a, B>,
     consoles: &TextSet<&'a B>,
@@ -362,7 +362,7 @@ fn lines_steps<'a, B: Allocator>(
     Ok(out)
 }
 
-/// Recorded calls, asked of a bench again, and below each what it printed.
+/// Asks recorded calls of a bench again, and gives each with what it printed below.
 fn events_steps<'a, B: Allocator>(
     bench: &mut Bench<'a, B>,
     consoles: &TextSet<&'a B>,
@@ -388,7 +388,24 @@ fn opened<'a, B: Allocator>(
     Bench::new(alloc, names.try_copy()?, limits)
 }
 
-/// The lines of a script, below each what it printed, where the script was played with these limits and left this bench.
+/// Recorded calls, asked of a fresh bench of these names and limits, and below each what it printed.
+fn events_anew<'a, B: Allocator>(
+    names: &Names<&'a B>,
+    limits: Limits,
+    consoles: &TextSet<&'a B>,
+    takers: &[Option<u16>],
+    history: &History<'a, B>,
+    alloc: &'a B,
+) -> Result<Vec<u8, &'a B>, Oom>
+    ensures { IfOk result (λ text. text.items ≡ steps_text (cast_of (opening_machine names.now limits) consoles.now) takers.now (opening_machine names.now limits) (map call_of history.now)) }
+{
+    let mut again = opened(names, limits, alloc)?;
+    let steps = events_steps(&mut again, consoles, takers, history, alloc);
+    drop(again);
+    steps
+}
+
+/// The lines of a script, and below each what it printed. The script was played with these limits, and left this bench.
 pub fn script_steps<'a, B: Allocator>(
     alloc: &'a B,
     script: &Script<&'a B>,
@@ -411,7 +428,7 @@ pub fn script_steps<'a, B: Allocator>(
     steps
 }
 
-/// The recorded calls of a bench with what they printed: below the line of each, where the consoles have these names.
+/// The recorded calls of a bench, and below each what it printed, with these names of the consoles.
 #[tactic(auto, unfolding(crate::specs::Steps::bench_steps))]
 pub fn bench_steps<'a, B: Allocator>(
     alloc: &'a B,
@@ -421,8 +438,12 @@ pub fn bench_steps<'a, B: Allocator>(
     ensures { IfOk result (λ text. text.items ≡ bench_steps bench.now consoles.now) }
 {
     let takers = takers_of(bench, alloc)?;
-    let mut again = opened(bench.names(), bench.limits(), alloc)?;
-    let steps = events_steps(&mut again, consoles, &takers, bench.history(), alloc);
-    drop(again);
-    steps
+    events_anew(
+        bench.names(),
+        bench.limits(),
+        consoles,
+        &takers,
+        bench.history(),
+        alloc,
+    )
 }

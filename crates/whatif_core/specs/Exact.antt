@@ -1,4 +1,4 @@
--- That the changes which are told are exactly those that make a difference.
+-- The differences are exactly the changes that make a difference.
 use Rattle.std.specs.Prelude.{◌≡◌, ◌≢◌, ◌↔◌, ℕ, ◌<◌, true, List, Ok, length, Some}
 use Rattle.std.specs.List.{Contains}
 use Rattle.journal_core.specs.Journals.{Kept}
@@ -12,14 +12,15 @@ use Rattle.change_core.specs.Questions.{Question, rows_at}
 use Rattle.change_core.specs.Ends.{rows_before, run_of}
 use Rattle.whatif_core.specs.Differences.{Difference, nearest, nearest_change}
 
--- the run has this change, and with it there is a run in which each node does what it did, in its order, but for the change; its end is this
+-- the run has this change; and there is a run, in which each node does what it did, in its order, apart from the change, that
+-- leads to this cluster
 pub record LeadsTo (m : Machine) (c : Change) (end : Cluster) : Type 0 where
   pub is_one : is_change m.state.remaining c ≡ true
   pub run : List Kept
   pub same : SameOwn (changed m.state.remaining c) run
   pub accepted : run_of m run ≡ Ok end
 
--- with this change the rows are these, which are others than those at the end of the recorded run
+-- with this change the rows are these, and they aren't those at the end of the recorded run
 pub record MakesDifference (m : Machine) (q : Question) (c : Change) (rows : List Row) : Type 0 where
   pub end : Cluster
   pub possible : LeadsTo m c end
@@ -29,7 +30,7 @@ pub record MakesDifference (m : Machine) (q : Question) (c : Change) (rows : Lis
 abbrev pub change_of : Difference → ℕ → Change
 change_of d j = record { kind = d.kind; place = d.place; beside = j }
 
--- the change is told, with these rows
+-- a difference has the change, with these rows
 pub record IsTold (told : List Difference) (c : Change) (rows : List Row) : Type 0 where
   pub by : Difference
   pub among : Contains told by
@@ -38,7 +39,7 @@ pub record IsTold (told : List Difference) (c : Change) (rows : List Row) : Type
   pub beside : Contains by.besides c.beside
   pub shown : by.rows ≡ rows
 
--- nothing is invented, and nothing is missed
+-- the list has each change that makes a difference, and no other change
 pub record AreExactly (m : Machine) (q : Question) (told : List Difference) : Type 0 where
   pub invents_nothing : (d : Difference) (j : ℕ) → Contains told d → Contains d.besides j → MakesDifference m q (change_of d j) d.rows
   pub misses_nothing : (c : Change) (rows : List Row) → MakesDifference m q c rows → IsTold told c rows
@@ -51,7 +52,7 @@ pub record HasOrder (ks : List Kept) (c : Change) : Type 0 where
   pub run : List Kept
   pub ordered : order_of (changed ks c) ≡ Some run
 
--- with each change that is told the run has an order
+-- with each change of a difference the run has an order
 abbrev pub ToldRunsLaw : Type 0
 ToldRunsLaw = (m : Machine) (q : Question) (told : List Difference) → AreExactly m q told → (d : Difference) → Contains told d → HasOrder m.state.remaining (nearest_change d)
 

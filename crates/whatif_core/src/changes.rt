@@ -9,7 +9,7 @@ use std::alloc::Allocator;
 
 type Changes<A> = Vec<Change, A>;
 
-/// How far off from a place a change of this kind can be, in a run of `count` steps.
+/// How far from a place a change of this kind can reach, in a run of `count` steps.
 fn reach(count: usize, kind: Kind, place: usize) -> usize
     requires { place < count }
     ensures { result ≡ reach count kind place }
@@ -20,7 +20,7 @@ fn reach(count: usize, kind: Kind, place: usize) -> usize
     }
 }
 
-/// The change so far off.
+/// The change at this distance.
 fn change_at(count: usize, kind: Kind, place: usize, distance: usize) -> Change
     requires place { place < count }
     requires distance { distance < reach count kind place }
@@ -37,7 +37,7 @@ fn change_at(count: usize, kind: Kind, place: usize, distance: usize) -> Change
     }
 }
 
-/// Puts the change behind those before it, if the run has it.
+/// Appends the change, if the run has it.
 fn put_if<W: Allocator, A: Allocator>(
     found: &mut Changes<A>,
     steps: &[Kept<W>],
@@ -51,7 +51,7 @@ fn put_if<W: Allocator, A: Allocator>(
     Ok(())
 }
 
-/// Puts the changes of one kind of the step at this place behind those before them, nearest first.
+/// Appends the changes of one kind of the step at this place, nearest first.
 fn put_by<W: Allocator, A: Allocator>(
     found: &mut Changes<A>,
     steps: &[Kept<W>],
@@ -67,7 +67,7 @@ fn put_by<W: Allocator, A: Allocator>(
     Ok(())
 }
 
-/// Puts the changes of the step at this place behind those before them.
+/// Appends the changes of the step at this place.
 #[tactic(auto, unfolding(change_core::specs::Changes::changes_of))]
 fn put_of<W: Allocator, A: Allocator>(
     found: &mut Changes<A>,

@@ -1,4 +1,4 @@
-//! `Difference`: changes of one step and kind that lead to the same rows; and `Tally`, those of the changes so far.
+//! `Difference`: changes of one step and kind that lead to the same rows; and `Tally`, the count of the changes so far.
 ghost use Rattle.std.specs.Prelude.{◌≡◌, ◌<◌, ◌+◌, ◌==◌, ◌&&◌, OnOk, option_map};
 ghost use Rattle.whatif_core.specs.Differences.{are_same, counted, is_with, nearest_change, nothing, place_with, told_too};
 
@@ -14,7 +14,7 @@ pub struct Difference<A: Allocator> {
     pub kind: Kind,
     /// The place of the step among those that remain, from 0.
     pub place: usize,
-    /// The places beside which the step comes, nearest first; its own where it is left out.
+    /// The places beside which the step comes, nearest first; its own place where it is left out.
     pub besides: Vec<usize, A>,
     pub rows: Vec<OnlineRow<A>, A>,
 }
@@ -44,7 +44,7 @@ impl<A: Allocator> Difference<A> {
     }
 }
 
-/// Of the changes so far: how many are possible, how many make a difference, and these together.
+/// Of the changes so far: how many are possible, how many make a difference, and the differences that they make.
 #[derive(Drop)]
 pub(crate) struct Tally<A: Allocator> {
     pub(crate) possible: usize,
@@ -67,7 +67,7 @@ fn are_same<A: Allocator>(rows: &[OnlineRow<A>], others: &[OnlineRow<A>]) -> boo
     rows == others
 }
 
-/// Whether the change is of the same step and kind, and leads to the same rows.
+/// Whether the change is of the same step and kind as this difference, and leads to the same rows.
 fn is_with<A: Allocator>(told: &Difference<A>, change: Change, rows: &[OnlineRow<A>]) -> bool
     ensures { result ≡ is_with told.now change rows.now }
 {
@@ -76,7 +76,7 @@ fn is_with<A: Allocator>(told: &Difference<A>, change: Change, rows: &[OnlineRow
         && are_same(told.rows.as_slice(), rows)
 }
 
-/// The place of the first that the change is with.
+/// The place of the first difference to which the change belongs.
 fn place_with<A: Allocator>(
     told: &[Difference<A>],
     change: Change,
@@ -92,7 +92,7 @@ fn place_with<A: Allocator>(
     None
 }
 
-/// Puts a change to those that it is with, or behind all.
+/// Adds a change to the difference to which it belongs, or appends a new one.
 fn put_with<A: Allocator + Copy>(
     told: &mut Vec<Difference<A>, A>,
     change: Change,
@@ -117,7 +117,7 @@ fn put_with<A: Allocator + Copy>(
 }
 
 impl<A: Allocator + Copy> Tally<A> {
-    /// Of no change.
+    /// The tally before any change.
     pub(crate) fn new(alloc: A) -> Self
         ensures { result ≡ nothing }
     {

@@ -28,11 +28,11 @@ pub struct Differences<A: Allocator> {
     pub possible: usize,
     /// How many of these make a difference.
     pub differ: usize,
-    /// These, by step, by kind, nearest first.
+    /// The changes that make a difference, by step, by kind, nearest first.
     pub told: Vec<Difference<A>, A>,
 }
 
-/// Counts these changes of the bench's steps by where they lead. The watcher is told of each that was tried.
+/// Counts these changes of the bench's steps by where they lead. It tells the watcher of each change that it has tried.
 fn count_all<'a, B: Allocator, W: Watch<Tried>>(
     tally: &mut Tally<&'a B>,
     search: &mut Search<'a, B>,
@@ -66,7 +66,7 @@ fn count_all<'a, B: Allocator, W: Watch<Tried>>(
     Ok(())
 }
 
-/// The changes that make a difference, of all these.
+/// The changes among these that make a difference.
 fn tally_of<'a, B: Allocator, W: Watch<Tried>>(
     bench: &Bench<'a, B>,
     steps: &[Kept<&'a B>],
@@ -107,9 +107,9 @@ fn tally_of<'a, B: Allocator, W: Watch<Tried>>(
     Ok(tally)
 }
 
-/// The changes of the remaining steps that make a difference to the rows of this topic and key at the node, each with the rows
-/// that it leads to. (Each single change of what a node did is played in an order in which no message comes before it is sent.)
-/// The watcher is told how many were tried.
+/// The changes of the remaining steps that make a difference to the rows of this topic and key at the node, each with
+/// the rows that it leads to. (It plays each single change of what a node did in an order in which no message comes
+/// before it is sent.) It tells the watcher how many changes it has tried.
 pub fn whatif<'a, B: Allocator, W: Watch<Tried>>(
     bench: &Bench<'a, B>,
     node: u16,

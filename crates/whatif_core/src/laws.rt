@@ -7,8 +7,8 @@ ghost use Rattle.whatif_core.specs.Differences.{tally_of};
 ghost use Rattle.whatif_core.specs.Exact.{AreAllChanges, AreExactly, ToldRunsLaw};
 ghost use Rattle.change_core.specs.Questions.{Question};
 
-/// The changes of a run are those that it has; and those that are told are exactly those that make a difference; and
-/// with each of them the run has an order.
+/// `changes` gives all changes of a run, and `whatif` exactly those that make a difference; with each of these the run
+/// has an order.
 pub fn exact_law()
     ensures changes { (ks : List Kept) → AreAllChanges ks (changes ks) }
     ensures exactly { (m : Machine) (q : Question) → AreExactly m q (tally_of m q).told }

@@ -2,8 +2,8 @@
 use Rattle.std.specs.Prelude.{◌≡◌, ◌⊎◌, ℕ, false, true, List, [], Option, None, Some, IsSome, length}
 use Rattle.payload_core.specs.Messages.{numbered}
 use Rattle.payload_core.specs.Words.{is_word}
-use Rattle.payload_core.specs.declared.word.WordFault.{WordFault}
-use Rattle.payload_core.specs.declared.word.WordFault.TheVariants as words
+use Rattle.entry_core.specs.declared.word.WordFault.{WordFault}
+use Rattle.entry_core.specs.declared.word.WordFault.TheVariants as words
 use Rattle.journal_core.specs.Journals.{Kept}
 use Rattle.bench_core.specs.Machine.{Machine}
 use Rattle.bench_core.specs.NameList.{number_in}
@@ -42,7 +42,7 @@ pub record IsScriptWith (m : Machine) (c : Change) (text : List ℕ) : Type 0 wh
   pub ordered : order_of (changed m.state.remaining c) ≡ Some run
   pub script : text ≡ run_text [] m.names run
 
--- it is that with the change that is told under this number, beside the nearest place
+-- the text is the run with the change of this number, beside its nearest place
 pub record IsRun (m : Machine) (question : Question) (number : ℕ) (text : List ℕ) : Type 0 where
   pub q : Plain
   pub asks : Asks m question q
@@ -57,7 +57,7 @@ pub record HasNoChange (m : Machine) (question : Question) (number there_are : �
   pub count : length (tally_of m q).told ≡ there_are
   pub none : numbered (tally_of m q).told number ≡ None
 
--- nothing is told: there is no such node; there is, and the topic or the key is no word; or memory was refused
+-- why there is no text: there is no such node; there is, and the topic or the key is no word; or memory was refused
 abbrev pub Refuses : Machine → Question → WhatifFault → Type 0
 Refuses m question faults.NoSuchNode = number_in m.names question.node.now ≡ None
 Refuses m question faults.NoWord =
@@ -65,7 +65,7 @@ Refuses m question faults.NoWord =
 Refuses m question (faults.NoSuchChange there_are) = ⊥
 Refuses m question faults.OutOfMemory = Unit {0}
 
--- or there is no change of this number
+-- why there is no run: there is no text for the question; or there is no change with this number
 abbrev pub RefusesRun : Machine → Question → ℕ → WhatifFault → Type 0
 RefusesRun m question number (faults.NoSuchChange there_are) = HasNoChange m question number there_are
 RefusesRun m question number fault = Refuses m question fault

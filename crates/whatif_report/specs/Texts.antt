@@ -36,7 +36,7 @@ side_words Before beside = codes " before " ++ beside
 side_words Behind beside = codes " behind " ++ beside
 side_words Again beside = codes " behind " ++ beside
 
--- ` places K`, where there are several
+-- ` places K`, if there are several
 abbrev pub places_words : ℕ → List ℕ
 places_words count = if nat_lt 1 count then codes " places " ++ decimal count else []
 
@@ -49,11 +49,11 @@ unfoldable pub change_line : Texts → List Kept → ℕ → Difference → List
 change_line names ks n d =
     changed_words names ks n d ++ side_words d.kind (step_words names ks (nearest d)) ++ places_words (length d.besides) ++ codes "\n"
 
--- and the rows that it takes away, and that it brings
+-- the line of a change, and the rows that it takes away and brings
 unfoldable pub difference_text : Texts → List Kept → List Row → ℕ → Difference → List ℕ
 difference_text names ks before n d = change_line names ks n d ++ change_lines names (alone before d.rows) (alone d.rows before)
 
--- each, numbered from n on
+-- the texts of the differences, numbered from n on
 unfoldable pub differences_text : Texts → List Kept → List Row → ℕ → List Difference → List ℕ
 differences_text names ks before n [] = []
 differences_text names ks before n (d ∷ ds) = difference_text names ks before n d ++ differences_text names ks before (suc n) ds
@@ -71,7 +71,7 @@ counts_words tried possible differ =
 unfoldable pub head_line : Texts → Question → ℕ → Tally → List ℕ
 head_line names q tried t = asked_words names q ++ counts_words tried t.possible t.differ
 
--- the whole: how many changes there are, the rows of the recorded run, and each change that is told
+-- the whole text: how many changes there are, the rows of the recorded run, and each difference
 unfoldable pub whatif_text : Machine → Question → List ℕ
 whatif_text m q =
     head_line m.names q (length (changes m.state.remaining)) (tally_of m q) ++ row_lines (codes "= ") m.names (rows_before m q) ++

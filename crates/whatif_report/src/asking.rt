@@ -16,7 +16,7 @@ use std::alloc::Allocator;
 use whatif_core::laws::exact_law;
 use whatif_core::{Change, Difference, run_with, whatif};
 
-/// What would have made a difference to the presences of this topic and key at the node of this name.
+/// The question what would have made a difference to the presences of this topic and key at the node of this name.
 #[derive(Clone, Copy, Debug, PartialEq, Eq)]
 pub struct Question<'q> {
     pub node: &'q str,
@@ -43,7 +43,7 @@ pub fn whatif_asked<'a, B: Allocator, W: Watch<Tried>>(
     Ok(tell(bench, node, &topic, &key, alloc, watch)?)
 }
 
-/// The change that is told under this number, from 1.
+/// The change with this number in the text, from 1.
 fn change_at<A: Allocator>(told: &[Difference<A>], number: u64) -> Option<Change>
     ensures { result ≡ option_map nearest_change (numbered told.now number) }
 {
@@ -75,7 +75,7 @@ fn script_with<'a, B: Allocator>(
     }
 }
 
-/// The run with the change that is told under this number, as a script that plays it.
+/// The run with the change that has this number in the text, as a script that plays it.
 pub fn run_with_change<'a, B: Allocator, W: Watch<Tried>>(
     alloc: &'a B,
     bench: &Bench<'a, B>,

@@ -53,7 +53,7 @@ fn kind_word(kind: Kind) -> &'static str
     }
 }
 
-/// On which side of which step it comes, if anywhere.
+/// Before or behind which step it comes, if it comes beside one.
 fn put_side<'a, A: Allocator, N: Allocator, B: Allocator>(
     journal: &Journal<'a, B>,
     text: &mut String<A>,
@@ -76,7 +76,7 @@ fn put_side<'a, A: Allocator, N: Allocator, B: Allocator>(
     }
 }
 
-/// How many places give these rows, where there are several.
+/// ` places K`, if there are several places.
 fn put_places<A: Allocator>(text: &mut String<A>, count: usize) -> Result<(), Oom>
     ensures { OnOk result (string_bytes text.new ≡ string_bytes text.old ++ places_words count) }
 {
@@ -137,7 +137,7 @@ fn is_among<A: Allocator>(rows: &[OnlineRow<A>], row: &OnlineRow<A>) -> bool
     false
 }
 
-/// Copies of the rows that are none of the others.
+/// Copies of the rows that aren't among the others.
 fn rows_alone<A: Allocator + Copy>(
     alloc: A,
     rows: &[OnlineRow<A>],

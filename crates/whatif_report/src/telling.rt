@@ -64,7 +64,7 @@ fn put_head<A: Allocator, N: Allocator, W: Allocator>(
     put_counts(text, found.tried, found.possible, found.differ)
 }
 
-/// Each change that is told, numbered from 1.
+/// Each change that makes a difference, numbered from 1.
 fn put_differences<'a, A: Allocator, N: Allocator, B: Allocator>(
     journal: &Journal<'a, B>,
     text: &mut String<A>,

@@ -1,10 +1,10 @@
-//! `WhatifFault`: why nothing is told.
+//! `WhatifFault`: why there is no text.
 ghost use Rattle.std.specs.Prelude.{◌≡◌};
 
 use payload_core::{Oom, WordFault};
 use thiserror::Error;
 
-/// Why nothing is told.
+/// Why there is no text.
 #[derive(Clone, Copy, Debug, PartialEq, Eq, Error)]
 pub enum WhatifFault {
     /// No node has this name.

@@ -9,7 +9,7 @@ use std::sync::{Mutex, Wait};
 use std::thread;
 use std::thread::{JoinHandle, Scope, Threads};
 
-/// What workers share under its lock: it is asked one act of an actor's line, and gives a receipt.
+/// What workers share under its lock. It asks one act of an actor's line, and gives a receipt.
 pub(crate) trait Shared<L, T> {
     fn ask_line(&mut self, actor: u16, number: u64, act: L) -> T;
 }
@@ -27,7 +27,7 @@ struct Line<L> {
     act: L,
 }
 
-/// What a worker is given: its actor, the lines that come, and room for a receipt of each.
+/// What a worker gets: its actor, the lines that come, and room for a receipt of each.
 #[derive(Drop)]
 struct Station<L, T, A: Allocator + Clone> {
     actor: u16,
@@ -63,7 +63,7 @@ fn ask_alone<L, T, S: Shared<L, T>, R: Wait>(
     bench.ask_line(actor, number, act)
 }
 
-/// Asks each line that comes, until no more can come. A receipt for which there were no room would be missed by `agree`.
+/// Asks each line that comes, until no more can come. If there were no room for a receipt, `agree` would miss it.
 fn work<L: Drop, T: Drop, A: Allocator + Clone, S: Shared<L, T>, G: Gate, R: Wait>(
     rt: &R,
     shared: &Mutex<S>,
@@ -109,7 +109,7 @@ fn start<
         .map_err(|_| CrewFault::WorkerRefused)
 }
 
-/// Starts a worker at each station. The first that can't be started ends it.
+/// Starts a worker at each station, up to the first that can't be started.
 fn start_all<
     's,
     E,
@@ -139,7 +139,7 @@ fn start_all<
     Ok(workers)
 }
 
-/// Takes the workers in. An actor without a worker has no receipts.
+/// Waits for the workers and takes their receipts. An actor without a worker has none.
 fn join_all<T: Drop, A: Allocator + Copy, R: Threads>(
     rt: &R,
     alloc: A,
@@ -179,7 +179,7 @@ fn station_of<L: Drop, T: Drop, A: Allocator + Copy>(
     Ok((station, way))
 }
 
-/// The station of an actor with `count` lines, and the way to it; none where there is no line.
+/// The station of an actor with `count` lines, and the way to it; `None` where there is no line.
 fn place_of<L: Drop, T: Drop, A: Allocator + Copy>(
     alloc: A,
     actor: u16,
@@ -248,7 +248,7 @@ fn quarters_of<L: Drop, T: Drop, A: Allocator + Copy>(
     Ok(quarters)
 }
 
-/// Sends each line to its worker. A line that were lost would be missed by `agree`.
+/// Sends each line to its worker. If a line were lost, `agree` would miss it.
 fn send_all<L: Drop, A: Allocator + Clone, R: Wait>(
     rt: &R,
     ways: Ways<L, A>,
@@ -263,8 +263,8 @@ fn send_all<L: Drop, A: Allocator + Clone, R: Wait>(
     }
 }
 
-/// Has each line asked by its actor's worker, and gives the receipts by actor. All memory for it is asked for before the first
-/// worker is started, and no line is sent before each has been: where one can't be, none is asked.
+/// Has each actor's worker ask its lines, and gives the receipts by actor. It asks for all memory before it starts the
+/// first worker, and sends no line before it has started each. Where one can't be started, none asks a line.
 pub(crate) fn ask_all<
     L: Drop + Send,
     T: Drop + Send,

@@ -1,11 +1,11 @@
 //! `Gate`: what a worker calls around its lines.
 
-/// What workers call around each of their lines, without the lock. Threads share it, and its calls may wait: a race ends only
-/// if they return.
+/// What workers call around each of their lines, without holding the lock. Threads share it, and its calls may wait: a
+/// race ends only if they return.
 pub trait Gate {
-    /// A worker is about to take the lock for this line of its actor's.
+    /// A worker calls this before it takes the lock for this line of its actor.
     fn before(&self, actor: u16, line: u64);
 
-    /// It has released the lock.
+    /// A worker calls this once it has released the lock.
     fn after(&self, actor: u16, line: u64);
 }

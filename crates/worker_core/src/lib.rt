@@ -4,8 +4,9 @@
 //! It stands on `receipt_core`, which says whether a race can be vouched for, and on `bench_core` (the machine). In the order to
 //! read them: `gate`, what a worker calls around its lines; `crew`, the workers; `racing`, a race.
 //!
-//! No proof says anything of threads: not that a worker runs, or on a thread of its own, that a line is ever asked, that the
-//! lock is free while a gate waits, or that a race ends. What is proved of a race holds if it returns, and rests on `agree`.
+//! No proof says anything of threads: neither that a worker runs, nor that it has a thread of its own, nor that a line is ever
+//! asked, nor that the lock is free while a gate waits, nor that a race ends. What is proved of a race holds if it returns, and
+//! rests on `agree`.
 #![tactic(auto)]
 
 mod crew;

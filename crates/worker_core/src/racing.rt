@@ -1,4 +1,4 @@
-//! `race`: each actor's lines are asked by a worker of the actor's own.
+//! `race`: each actor has a worker of its own, which asks its lines.
 ghost use Rattle.std.specs.Prelude.{◌≡◌, IfOk, IfErr, Err, MatchOption, drop, length, map, vec_len};
 ghost use Rattle.bench_core.specs.Acts.{calls_of};
 ghost use Rattle.bench_core.specs.Benches.{IsMachine};
@@ -45,9 +45,10 @@ fn asked<'a, B: Allocator + Sync, G: Gate + Sync, R: Threads + Wait + Sync>(
     (shared.into_inner(), told)
 }
 
-/// Has each line asked on the one bench by a thread of its actor's own, in the actor's order, and compares what the workers
-/// tell with the history. Lines are numbered from 1. The faults, in their order: `UnknownActor` and `NoRoom`, before anything
-/// is done; `WorkerRefused`, and then no line was asked; `OutOfMemory`; `LogsDisagree`. All that is promised holds if it returns.
+/// Has a thread for each actor ask that actor's lines on the one bench, in their order, and compares what the workers
+/// tell with the history. Lines are numbered from 1. The faults, in their order: `UnknownActor` and `NoRoom`, before
+/// anything is done; `WorkerRefused`, and then no line was asked; `OutOfMemory`; `LogsDisagree`. All that is promised
+/// holds if it returns.
 pub fn race<'a, B: Allocator + Sync, G: Gate + Sync, R: Threads + Wait + Sync>(
     rt: &R,
     alloc: &'a B,

@@ -2,11 +2,11 @@
 ghost use Rattle.std.specs.Prelude.{◌≡◌, IfErr, IfOk, None, OnErr, OnOk};
 ghost use Rattle.std.specs.FinMap as fin;
 ghost use Rattle.std.specs.FinSet as set;
-ghost use Rattle.payload_core.specs.Delivered.{Destroys};
+ghost use Rattle.store_core.specs.Delivered.{Destroys};
 ghost use Rattle.payload_core.specs.EntryLists.{pairs};
-ghost use Rattle.payload_core.specs.EntryMoves.{AreNew, without_each};
+ghost use Rattle.store_core.specs.EntryMoves.{AreNew, without_each};
 ghost use Rattle.payload_core.specs.Messages.{AreSeen};
-ghost use Rattle.payload_core.specs.Stores.{arrivals, departures, store_of};
+ghost use Rattle.store_core.specs.Stores.{arrivals, departures, store_of};
 ghost use Rattle.replica_core.specs.Changes.{ChangeLeadsBack, plain_change};
 ghost use Rattle.replica_core.specs.Delivered.{AreOtherKnown, with_undelivered};
 ghost use Rattle.replica_core.specs.Deliveries.{TakesGreaterStandings, is_other_known, merged};
@@ -17,11 +17,12 @@ use crate::change::Change;
 use crate::replica::Replica;
 use crate::replica_fault::ReplicaFault;
 use dots_core::{Dot, NameSet, Oom};
-use payload_core::{Delivered, Entry, Payload, joining, leaving, merge, undeliver};
+use payload_core::{Handle, Payload};
 use std::alloc::Allocator;
+use store_core::{Delivered, joining, leaving, merge, undeliver};
 
 impl<A: Allocator> Replica<A> {
-    /// Takes out what joined by a delivery, and puts back what left.
+    /// Takes a delivery back: takes out what joined, and puts back what left.
     pub(super) fn undeliver(&mut self, delivered: Delivered<A>) -> Result<(), (Delivered<A>, Oom)>
     where
         A: Copy,
@@ -39,9 +40,9 @@ impl<A: Allocator> Replica<A> {
 }
 
 impl<A: Allocator + Copy> Replica<A> {
-    /// The message, which is no request, is merged: its entries of other known names join where their dots are new, entries of such names leave
-    /// where the message has seen their dots and has no entry there, and its dots were seen. Refused with `EntriesFull`
-    /// where there would be too many entries.
+    /// Merges a message that is no request: its entries of other known names join where their dots are new, entries of
+    /// such names leave where the message has seen their dots and has no entry there, and its dots are seen. Refused
+    /// with `EntriesFull` where there would be too many entries.
     pub fn merge(&mut self, message: &Payload<A>) -> Result<Change<A>, ReplicaFault>
         requires { message.now.asked ≡ None }
         ensures merged { OnOk result (self.new ≡ merged message.now self.old) }
@@ -52,8 +53,8 @@ impl<A: Allocator + Copy> Replica<A> {
     {
         let _ = message.entries(); // the proof reads that their dots are seen
         let names = self.others();
-        let joining = joining(&self.store, message, names, self.alloc)?;
-        let leaving = leaving(&self.store, message, names, self.alloc)?;
+        let joining = joining(&self.store, message, names)?;
+        let leaving = leaving(&self.store, message, names)?;
         if self.are_too_many(self.store.entries().len() - leaving.len() + joining.len()) {
             return Err(ReplicaFault::EntriesFull);
         }
@@ -61,12 +62,12 @@ impl<A: Allocator + Copy> Replica<A> {
         Ok(Change::Deliver(delivered))
     }
 
-    /// Lets these join and those leave, and takes the message's dots of these names as seen.
+    /// Puts in the entries that join, takes out those that leave, and takes the message's dots of these names as seen.
     fn exchange(
         &mut self,
         message: &Payload<A>,
         names: NameSet,
-        joining: Vec<Entry<A>, A>,
+        joining: Vec<Handle<A>, A>,
         leaving: &[Dot],
     ) -> Result<Delivered<A>, Oom>
         requires live { AreSeen message.now.seen message.now.entries }

@@ -9,13 +9,14 @@ ghost use Rattle.replica_core.specs.Replicas.{CanBeDelta, delta_message, request
 use crate::replica::Replica;
 use crate::replica_fault::ReplicaFault;
 use dots_core::{NameSet, Oom};
-use payload_core::{Payload, Store};
+use payload_core::Payload;
 use std::alloc::Allocator;
 use std::mem;
+use store_core::Store;
 
 impl<A: Allocator> Replica<A> {
-    /// Makes a message of the replica its delta, as when a send is taken back. It takes no memory. With what
-    /// `take_delta` gave, `laws::delta_law` says that the replica is what it was before.
+    /// Puts a message of the replica back as its delta, as when a send is taken back. It takes no memory. If
+    /// `take_delta` gave the message, `laws::delta_law` says that the replica is what it was before.
     pub fn give_delta(&mut self, payload: Payload<A>)
         requires { CanBeDelta payload self.old }
         ensures { self.new ≡ with_delta payload self.old }
@@ -26,7 +27,7 @@ impl<A: Allocator> Replica<A> {
 }
 
 impl<A: Allocator + Copy> Replica<A> {
-    /// Takes the delta out as a message. It takes no memory. Without a dot in the delta it is refused with
+    /// Takes out the delta as a message. It takes no memory. Without a dot in the delta it is refused with
     /// `NothingToSend`.
     pub fn take_delta(&mut self) -> Result<Payload<A>, ReplicaFault>
         ensures message { IfOk result (λ payload. payload ≡ delta_message self.old) }

@@ -10,11 +10,12 @@ use crate::change::Change;
 use crate::replica::Replica;
 use crate::replica_fault::ReplicaFault;
 use dots_core::{Dot, Oom};
-use payload_core::{Entry, Word, join, unjoin};
+use payload_core::{Entry, Word};
 use std::alloc::Allocator;
+use store_core::{join, unjoin};
 
 impl<A: Allocator> Replica<A> {
-    /// Why it refuses to track this process under the topic and key, if it does.
+    /// Why a join of this process under the topic and key is refused, if it is.
     fn join_refusal(&self, pid: u64, topic: &Word<A>, key: &Word<A>) -> Option<ReplicaFault>
         ensures { result ≡ join_refusal self.now pid topic.now key.now }
     {
@@ -63,7 +64,7 @@ impl<A: Allocator + Copy> Replica<A> {
         Ok(Change::Join)
     }
 
-    /// An entry of these at the fresh dot.
+    /// An entry of this process, topic, key and metadata at the fresh dot.
     pub(super) fn fresh_entry(
         &self,
         pid: u64,
@@ -86,6 +87,7 @@ impl<A: Allocator + Copy> Replica<A> {
         })
     }
 
+    /// Puts an entry at the fresh dot into the entries and into the delta.
     fn track(&mut self, entry: Entry<A>) -> Result<(), Oom>
         requires fresh { entry.dot ≡ fresh self.old }
         requires free { join_refusal self.old entry.pid entry.topic entry.key ≡ None }
@@ -97,7 +99,7 @@ impl<A: Allocator + Copy> Replica<A> {
         Ok(())
     }
 
-    /// Takes the last own dot out, with its entry.
+    /// Takes out the last own dot, with its entry.
     pub(super) fn unjoin(&mut self)
         requires { ChangeLeadsSomewhere OfJoin self.old }
         ensures { self.new ≡ without_last self.old }

@@ -1,7 +1,7 @@
 //! A leave of a replica's entry; and a leave or an update taken back.
 ghost use Rattle.std.specs.Prelude.{◌≡◌, ◌≢◌, [], ◌∷◌, false, true, IfErr, IfOk, OnErr, OnOk};
 ghost use Rattle.std.specs.FinMap as fin;
-ghost use Rattle.payload_core.specs.LeftEntries.{Stood};
+ghost use Rattle.store_core.specs.LeftEntries.{Stood};
 ghost use Rattle.replica_core.specs.declared.replica_fault.ReplicaFault.TheVariants.{OutOfMemory};
 ghost use Rattle.replica_core.specs.Changes.{CanBeRestored, ChangeLeadsBack, plain_change, with_left, without_last};
 ghost use Rattle.replica_core.specs.Invariant.{IsReplica};
@@ -13,8 +13,9 @@ use crate::change::Change;
 use crate::replica::Replica;
 use crate::replica_fault::ReplicaFault;
 use dots_core::{Dot, Oom};
-use payload_core::{Left, Word, leave, restore};
+use payload_core::Word;
 use std::alloc::Allocator;
+use store_core::{Left, leave, restore};
 
 impl<A: Allocator> Replica<A> {
     /// The dot of the own entry of this process, topic and key, or why a leave or an update of it is refused.
@@ -39,7 +40,7 @@ impl<A: Allocator> Replica<A> {
         Ok(dot)
     }
 
-    /// Takes the last own dot out, with its entry, and puts back what left.
+    /// Takes out the last own dot, with its entry, and puts back what left.
     pub(super) fn restore(&mut self, left: Left<A>) -> Result<(), (Left<A>, Oom)>
     where
         A: Copy,
@@ -57,8 +58,8 @@ impl<A: Allocator> Replica<A> {
 }
 
 impl<A: Allocator + Copy> Replica<A> {
-    /// The own entry of this process, topic and key leaves: its dot and a fresh one go into the delta, the fresh one into
-    /// the seen dots. The refusals come in this order: `NotTracked`, `ClockFull`.
+    /// Lets the own entry of this process, topic and key leave: its dot and a fresh one go into the delta, the fresh
+    /// one into the seen dots. The refusals come in this order: `NotTracked`, `ClockFull`.
     pub fn leave(
         &mut self,
         pid: u64,
@@ -75,7 +76,7 @@ impl<A: Allocator + Copy> Replica<A> {
         Ok(Change::Leave(left))
     }
 
-    /// The own entry at the dot leaves.
+    /// Lets the own entry at the dot leave.
     fn let_go(&mut self, dot: Dot) -> Result<Left<A>, Oom>
         requires own { AreOwnSeen (dot ∷ []) self.old }
         requires live { fin.contains_key self.old.store.entries dot ≡ true }

@@ -1,6 +1,6 @@
-//! A leave of all entries of a process, and the leave taken back.
+//! A leave of every entry of a process, and the leave taken back.
 ghost use Rattle.std.specs.Prelude.{◌≡◌, false, IfErr, IfOk, OnErr, OnOk, length};
-ghost use Rattle.payload_core.specs.LeavesTogether.{lefts_of};
+ghost use Rattle.store_core.specs.LeavesTogether.{lefts_of};
 ghost use Rattle.replica_core.specs.Changes.{ChangeLeadsBack, plain_change};
 ghost use Rattle.replica_core.specs.Invariant.{IsReplica};
 ghost use Rattle.replica_core.specs.Leaves.{AreOwnSeen};
@@ -12,11 +12,11 @@ use crate::change::Change;
 use crate::replica::Replica;
 use crate::replica_fault::ReplicaFault;
 use dots_core::{Dot, Oom};
-use payload_core::{Left, leave_each, restore_each};
 use std::alloc::Allocator;
+use store_core::{Left, leave_each, restore_each};
 
 impl<A: Allocator> Replica<A> {
-    /// Takes the last own dots out, one for each that left, and puts back what left.
+    /// Takes out the last own dots, one for each that left, and puts back what left.
     pub(super) fn restore_each(
         &mut self,
         lefts: Vec<Left<A>, A>,
@@ -43,9 +43,9 @@ impl<A: Allocator> Replica<A> {
 }
 
 impl<A: Allocator + Copy> Replica<A> {
-    /// All own entries of the process leave: as many fresh dots go into the seen dots and into the delta, and their dots
-    /// into the delta. The refusals come in this order: `NotTracked`, `ClockFull`. It goes once over the entries, and copies
-    /// the delta's dots.
+    /// Lets every own entry of the process leave: one fresh dot for each goes into the seen dots and into the delta,
+    /// and the entries' dots into the delta. The refusals come in this order: `NotTracked`, `ClockFull`. It goes once
+    /// over the entries, and copies the delta's dots.
     pub fn leave_all(&mut self, pid: u64) -> Result<Change<A>, ReplicaFault>
         ensures left { OnOk result (self.new ≡ left_each (dots_of_process self.old pid) self.old) }
         ensures refused { IsRefusedFor (leave_all_refusal self.old pid) result }
@@ -63,7 +63,7 @@ impl<A: Allocator + Copy> Replica<A> {
         Ok(Change::LeaveAll(lefts))
     }
 
-    /// The own entries at these dots leave.
+    /// Lets the own entries at these dots leave.
     fn let_all_go(&mut self, dots: &[Dot]) -> Result<Vec<Left<A>, A>, Oom>
         requires own { AreOwnSeen dots.now self.old }
         requires free { is_clock_full self.old (length dots.now) ≡ false }
@@ -85,7 +85,7 @@ impl<A: Allocator + Copy> Replica<A> {
     }
 }
 
-/// The own dots of the process, by rising clock.
+/// The dots of the process's own entries, by rising clock.
 fn dots_of_process<A: Allocator + Copy>(replica: &Replica<A>, pid: u64) -> Result<Vec<Dot, A>, Oom>
     ensures dots { IfOk result (λ leaving. leaving.items ≡ dots_of_process replica.now pid) }
     ensures own { IfOk result (λ leaving. AreOwnSeen leaving.items replica.now) }

@@ -1,7 +1,7 @@
 //! The statuses of the other names: up, down and permanently down; and each taken back.
 ghost use Rattle.std.specs.Prelude.{◌≡◌, ◌<◌, IfErr, IfOk, OnErr, OnOk};
 ghost use Rattle.payload_core.specs.EntryLists.{pairs};
-ghost use Rattle.payload_core.specs.EntryMoves.{AreNew};
+ghost use Rattle.store_core.specs.EntryMoves.{AreNew};
 ghost use Rattle.replica_core.specs.declared.status.Status.TheVariants.{Down, Up};
 ghost use Rattle.replica_core.specs.Changes.{ChangeLeadsBack, plain_change, with_old_status, with_remembered};
 ghost use Rattle.replica_core.specs.Invariant.{IsReplica};
@@ -13,11 +13,11 @@ use crate::replica::Replica;
 use crate::replica_fault::ReplicaFault;
 use crate::status::Status;
 use dots_core::Oom;
-use payload_core::{Forgotten, forget, remember};
 use std::alloc::Allocator;
+use store_core::{Forgotten, forget, remember};
 
 impl<A: Allocator> Replica<A> {
-    /// Why a status of this other name is refused, if it is.
+    /// Why a down of this name is refused, if it is.
     fn down_refusal(&self, name: u16) -> Option<ReplicaFault>
         ensures { result ≡ down_refusal self.now name }
     {
@@ -42,7 +42,7 @@ impl<A: Allocator> Replica<A> {
         None
     }
 
-    /// Puts a status back.
+    /// Puts a name's old status back.
     pub(super) fn put_status(&mut self, name: u16, before: Option<Status>)
         requires name { name < 32 }
         requires earlier { IsReplica (with_old_status name before self.old) }
@@ -51,7 +51,7 @@ impl<A: Allocator> Replica<A> {
         self.view.put(name, before);
     }
 
-    /// Holds what it held of the name, which is down again.
+    /// Holds again what it held of the name, which is then down.
     pub(super) fn remember(
         &mut self,
         name: u16,
@@ -107,8 +107,8 @@ impl<A: Allocator + Copy> Replica<A> {
         Ok(Change::Down { name, before })
     }
 
-    /// All that is held of the name goes: its dots, its entries, its status. The delta stays, as it has own dots alone.
-    /// The refusals come in this order: `OwnReplica`, `NotKnown`, `NotDown`. It goes once over the entries.
+    /// Forgets all that it holds of the name: its dots, its entries, its status. The delta stays, as it has own dots
+    /// alone. The refusals come in this order: `OwnReplica`, `NotKnown`, `NotDown`. It goes once over the entries.
     pub fn permdown(&mut self, name: u16) -> Result<Change<A>, ReplicaFault>
         requires { name < 32 }
         ensures forgotten { OnOk result (self.new ≡ forgotten name self.old) }

@@ -8,8 +8,8 @@ use dots_core::Oom;
 use std::alloc::Allocator;
 
 impl<A: Allocator> Replica<A> {
-    /// The replica that the change leads back to. The change is that of the last call: the replica is as that call left
-    /// it. Where memory is refused, the change comes back; a join, an up and a down are taken back without memory.
+    /// Takes the last call back by its change. The replica must be as that call left it. Where memory is refused, the
+    /// change comes back. A join, an up and a down need no memory.
     pub fn undo(&mut self, change: Change<A>) -> Result<(), (Change<A>, Oom)>
     where
         A: Copy,

@@ -1,6 +1,6 @@
 //! An update of a replica's entry. It is taken back as a leave is.
 ghost use Rattle.std.specs.Prelude.{◌≡◌, [], ◌∷◌, false, IfOk, OnErr, OnOk};
-ghost use Rattle.payload_core.specs.LeftEntries.{Stood};
+ghost use Rattle.store_core.specs.LeftEntries.{Stood};
 ghost use Rattle.payload_core.specs.Presences.{presence_of};
 ghost use Rattle.replica_core.specs.Changes.{ChangeLeadsBack, plain_change};
 ghost use Rattle.replica_core.specs.Invariant.{IsReplica};
@@ -11,12 +11,13 @@ use crate::change::Change;
 use crate::replica::Replica;
 use crate::replica_fault::ReplicaFault;
 use dots_core::{Dot, Oom};
-use payload_core::{Entry, Left, Word, update};
+use payload_core::{Entry, Word};
 use std::alloc::Allocator;
+use store_core::{Left, update};
 
 impl<A: Allocator + Copy> Replica<A> {
-    /// The own entry of this process, topic and key gets this metadata: the old one leaves, as its dot in the delta says,
-    /// and the new one joins at a fresh dot. The refusals come in this order: `NotTracked`, `ClockFull`.
+    /// Gives the own entry of this process, topic and key this metadata: the old entry leaves, as its dot in the delta
+    /// says, and the new one joins at a fresh dot. The refusals come in this order: `NotTracked`, `ClockFull`.
     pub fn update(
         &mut self,
         pid: u64,
@@ -35,7 +36,7 @@ impl<A: Allocator + Copy> Replica<A> {
         Ok(Change::Update(left))
     }
 
-    /// The entry takes the place of the one at the dot.
+    /// Replaces the entry at the dot by this one.
     fn track_again(&mut self, old: Dot, entry: Entry<A>) -> Result<Left<A>, Oom>
         requires old { tracked_dots self.old entry.pid entry.topic entry.key ≡ old ∷ [] }
         requires fresh { entry.dot ≡ fresh self.old }

@@ -27,7 +27,8 @@ pub struct InOrder<R> {
     order: &'static [u64],
     /// The actor of each line.
     actors: &'static [u16],
-    /// A line behind which it waits, until the next line in the order has passed, too: so the bench can't be locked there.
+    /// After this line, too, the gate waits until the next line in the order has passed. So the bench can't be locked
+    /// there.
     stays: u64,
     passed: AtomicU64,
     strangers: AtomicU64,
@@ -50,6 +51,7 @@ fn zeros() -> [AtomicU64; LINES] {
 }
 
 impl<R: Clock> InOrder<R> {
+    /// A gate that has let no line pass.
     pub fn new(rt: R, order: &'static [u64], actors: &'static [u16], stays: u64) -> InOrder<R> {
         InOrder {
             rt,
@@ -96,7 +98,7 @@ impl<R: Clock> InOrder<R> {
         self.given_up.store(1, Ordering::SeqCst);
     }
 
-    /// Counts the call where it names another actor than the line's.
+    /// Counts the call if it names another actor than the line's.
     fn note(&self, actor: u16, line: u64) {
         if self.actors.get(line.saturating_sub(1) as usize) != Some(&actor) {
             self.strangers.fetch_add(1, Ordering::SeqCst);
@@ -116,7 +118,7 @@ fn are_once(counts: &[AtomicU64; LINES], lines: usize) -> bool {
     are_so
 }
 
-/// One more call for this line, from 1.
+/// Counts one more call for this line, from 1.
 fn count(counts: &[AtomicU64; LINES], line: u64) {
     let mut number = 0u64;
     for count in counts.as_slice() {

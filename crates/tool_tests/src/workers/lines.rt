@@ -15,7 +15,7 @@ pub fn lines_of<'a, B: Allocator>(alloc: &'a B, script: &str, rt: &impl Abort) -
     lines.expect(rt, "act lines")
 }
 
-/// Lets go of lines: a call takes them whole.
+/// Drops lines: a call takes them whole.
 pub fn let_go_of_lines<'a, B: Allocator>(lines: Lines<'a, B>) {
     drop(lines);
 }

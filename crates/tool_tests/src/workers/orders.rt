@@ -1,4 +1,4 @@
-//! Consoles that undo against running nodes in orders that a gate fixes, and receipts of such a race that were altered.
+//! Consoles that undo against running nodes in orders that a gate fixes, and altered receipts of such a race.
 use crate::workers::gates::{Idle, InOrder};
 use crate::workers::lines::{let_go_of_lines, lines_of, open};
 use crate::workers::races::{Left, agree_with_none, agrees, raced, raced_on};
@@ -10,7 +10,7 @@ use std::thread::Threads;
 use std::time::Clock;
 use worker_core::{Receipt, Receipts, ask};
 
-/// A console undoes what a node did, beside the nodes.
+/// A console undoes what a node did, while the nodes run.
 pub const UNDONE_BESIDE: &str = "\
 nodes a b
 consoles c1
@@ -112,7 +112,7 @@ fn entries_of<'a, B: Allocator>(bench: &Bench<'a, B>, number: u16, rt: &impl Abo
     node.replica().entries().len()
 }
 
-/// Whether the bench has the order's replies, and as many entries as it says.
+/// Whether the bench gave the order's replies, and has as many entries as the order says.
 fn is_left_so<'a>(
     bench: &Bench<'a, Global>,
     order: &Order,
@@ -125,7 +125,7 @@ fn is_left_so<'a>(
     is_so && entries_of(bench, 1, rt) == order.entries
 }
 
-/// Whether a race in this order has its replies, and leaves as many entries as it says.
+/// Whether a race in this order gives its replies, and leaves as many entries as it says.
 fn is_raced_so<R: Threads + Wait + Clock + Abort + Sync + Copy>(
     rt: &R,
     heap: &Global,
@@ -205,7 +205,7 @@ fn last_again<'a, B: Allocator>(receipts: &[Receipt<&'a B>], rt: &impl Abort) ->
     }
 }
 
-/// Alters a list of receipts by what it has alone.
+/// Makes an alteration in an actor's list of receipts: of the whole list, or else of its first receipt.
 fn alter_list<'a, B: Allocator>(
     alteration: Alteration,
     list: &mut Vec<Receipt<&'a B>, &'a B>,
@@ -228,7 +228,7 @@ fn alter_list<'a, B: Allocator>(
     }
 }
 
-/// Alters a receipt, of a line at place 1.
+/// Alters a receipt of a line, at place 1.
 fn alter_receipt<A: Allocator>(alteration: Alteration, receipt: &mut Receipt<A>) {
     match alteration {
         Alteration::Line => receipt.line = 2,
@@ -261,7 +261,8 @@ fn raced_in_turn<'a, R: Threads + Wait + Clock + Abort + Sync + Copy>(
     raced(heap, UNDONE_BESIDE, 3, &gate, rt)
 }
 
-/// Whether the receipts of such a race agree with its history once they are altered; and so with one that does not go on.
+/// Whether altered receipts of a race in the order of its lines agree with its history, and whether they do with the
+/// two histories exchanged.
 fn agree_altered<R: Threads + Wait + Clock + Abort + Sync + Copy>(
     rt: &R,
     heap: &Global,
@@ -283,14 +284,14 @@ fn altered_receipts_disagree(rt: HostRuntime) {
     }
 }
 
-/// A bench just opened, of which the console asked an undo of this number.
+/// A bench just opened, from which the console has asked an undo of this number.
 fn asked_to_undo<'a>(heap: &'a Global, number: u64, rt: &impl Abort) -> Bench<'a, Global> {
     let mut bench = open(heap, 100, rt);
     drop(ask(&mut bench, 2, 1, Act::Undo(number)));
     bench
 }
 
-/// Whether the receipts account for the history after that of a bench that was asked this undo.
+/// Whether the receipts account for what the history has beyond that of a bench from which a console asked this undo.
 fn agrees_after_undo<'a>(
     left: &Left<'a, Global>,
     number: u64,
@@ -303,7 +304,7 @@ fn agrees_after_undo<'a>(
     agrees
 }
 
-/// Whether a race on a bench that was asked one undo before agrees with the history of one that was asked another.
+/// Whether a race on a bench that has recorded one undo agrees with the history of a bench that has recorded another.
 fn agrees_after<R: Threads + Wait + Abort + Sync>(
     rt: &R,
     heap: &Global,

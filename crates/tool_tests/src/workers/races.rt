@@ -9,7 +9,7 @@ use std::thread::Threads;
 use std::time::Clock;
 use worker_core::{Gate, RaceFault, Receipt, Receipts, agree, ask, race};
 
-/// A node joins, sends, and another takes the delivery.
+/// A node joins and sends, and another takes the delivery.
 const DELIVERED: &str = "\
 nodes a b
 consoles c1
@@ -71,7 +71,7 @@ pub fn raced_on<'a, B: Allocator + Sync, G: Gate + Sync, R: Threads + Wait + Syn
     raced.expect(rt, "a race")
 }
 
-/// The same over a bench just opened.
+/// What a race over a bench just opened leaves, which is vouched for.
 pub fn raced<'a, B: Allocator + Sync, G: Gate + Sync, R: Threads + Wait + Sync + Abort>(
     heap: &'a B,
     script: &str,
@@ -98,7 +98,8 @@ pub fn agrees<'a, B: Allocator>(
     agrees.expect(rt, "memory")
 }
 
-/// Whether the receipts account for the history after that of a bench just opened; and for this after that.
+/// Whether the receipts account for what the history has beyond that of a bench just opened; and whether they do with
+/// the two histories exchanged.
 pub fn agree_with_none<'a, B: Allocator>(
     left: &Left<'a, B>,
     script: &str,
@@ -112,7 +113,7 @@ pub fn agree_with_none<'a, B: Allocator>(
     (agree, agree_backwards)
 }
 
-/// Whether each recorded call of the bench has the same reply of this one.
+/// Whether this bench gives the reply of each recorded call of the other.
 fn replies_so<'a, B: Allocator>(again: &mut Bench<'a, B>, bench: &Bench<'a, B>) -> bool {
     for place in 0..bench.history().len() {
         let Some(event) = bench.history().at(place) else {
@@ -125,7 +126,7 @@ fn replies_so<'a, B: Allocator>(again: &mut Bench<'a, B>, bench: &Bench<'a, B>) 
     true
 }
 
-/// Whether both benches of two nodes have the same.
+/// Whether two benches of two nodes have the same nodes.
 fn same_nodes<'a, B: Allocator>(one: &Bench<'a, B>, other: &Bench<'a, B>) -> bool {
     for number in 0..2u16 {
         let (Some(node), Some(again)) = (one.node(number), other.node(number)) else {
@@ -138,7 +139,7 @@ fn same_nodes<'a, B: Allocator>(one: &Bench<'a, B>, other: &Bench<'a, B>) -> boo
     true
 }
 
-/// Whether the nodes are what the recorded calls give, asked of a bench just opened.
+/// Whether the nodes are what the recorded calls give on a bench just opened.
 fn is_what_its_history_gives<'a, B: Allocator>(
     bench: &Bench<'a, B>,
     alloc: &'a B,
@@ -159,7 +160,8 @@ fn have_lengths<A: Allocator>(lists: &[Vec<Receipt<A>, A>], lengths: &[usize]) -
     are_so
 }
 
-/// Whether what a race left has a receipt for each line, which agree with its history, and the nodes that this history gives.
+/// Whether what a race left has a receipt for each line, the receipts agree with its history, and the nodes are those
+/// that this history gives.
 fn are_vouched_for<'a, B: Allocator>(left: &Left<'a, B>, heap: &'a B, rt: &impl Abort) -> bool {
     agree_with_none(left, DELIVERED, heap, rt) == (true, false)
         && have_lengths(&left.1, &[2, 2, 0])
@@ -178,7 +180,7 @@ fn a_race_is_vouched_for(rt: HostRuntime) {
 /// Each of the two lines in turn waits at the gate until the other was asked.
 const TURNS: &[(&[u64], u16)] = &[(&[2, 1], 0), (&[1, 2], 1)];
 
-/// Whether the second call that the history has is the join of this node.
+/// Whether the second call of the history is the join of this node.
 fn is_last<'a, B: Allocator>(bench: &Bench<'a, B>, node: u16) -> bool {
     match bench.history().at(1) {
         Some(last) => last.actor == node && last.reply == Reply::Taken(2),
@@ -186,7 +188,7 @@ fn is_last<'a, B: Allocator>(bench: &Bench<'a, B>, node: u16) -> bool {
     }
 }
 
-/// Whether the join of this node comes last where the gate lets the lines pass in this order.
+/// Whether the join of this node comes last if the gate lets the lines pass in this order.
 fn turns<R: Threads + Wait + Clock + Abort + Sync + Copy>(
     rt: &R,
     heap: &Global,
@@ -214,7 +216,7 @@ const REFUSED: &[(&str, u64, u16, RaceFault)] = &[
     (UNKNOWN_ACTOR, 1, 2, RaceFault::UnknownActor),
 ];
 
-/// The bench of such a race comes back as a fresh one.
+/// A race that is refused gives its bench back as it was opened.
 #[test]
 fn a_race_is_refused_before_it_begins(rt: HostRuntime) {
     let heap = rt.alloc();
@@ -239,7 +241,7 @@ fn told<'a, B: Allocator>(
     told
 }
 
-/// What is told of two joins, of which there is room for one, and of two undos behind them, of which there is room for one.
+/// The replies and places of two joins, with room for one, and then of two undos, with room for one.
 const TOLD: [(Reply, Option<u64>); 4] = [
     (Reply::Taken(1), Some(1)),
     (Reply::Refused(Fault::HistoryFull), None),

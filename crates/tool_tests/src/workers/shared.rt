@@ -23,7 +23,8 @@ fn is_want<'a>(refused: (RaceFault, Bench<'a, Heap>)) -> bool {
     wants && answer == Reply::Refused(Fault::NoSuchStep)
 }
 
-/// Whether a race meets this request for memory, which is refused. Then it says so, and the bench comes back; else it is vouched for.
+/// Whether a race meets this request for memory, which is refused. If so, it says so and the bench comes back; if not,
+/// it is vouched for.
 fn refused<R: Threads + Wait + Abort + Sync>(rt: &R, heap: &Heap, number: u64) -> bool {
     let lines = lines_of(heap, UNDONE_BESIDE, rt);
     let bench = open(heap, 100, rt);
@@ -49,7 +50,7 @@ fn a_race_that_is_refused_memory_gives_its_bench_back(rt: HostRuntime) {
     assert!(rt; 10 <= count && count < 999);
 }
 
-/// What two threads share: it is asked a line, and gives a receipt.
+/// What two threads share. It asks a line, and gives a receipt.
 trait Shared<L, T> {
     fn ask_line(&mut self, number: u64, line: L) -> T;
 }
@@ -61,7 +62,7 @@ impl<'a, B: Allocator> Shared<(u16, Act<&'a B>), Receipt<&'a B>> for Bench<'a, B
     }
 }
 
-/// Asks the lines, which are numbered on from this number, each under a hold of the lock of its own.
+/// Asks the lines, which are numbered on from this number, each under its own hold of the lock.
 fn ask_many<L: Drop, T: Drop, A: Allocator + Copy, S: Shared<L, T>, R: Wait + Abort>(
     rt: &R,
     shared: &Mutex<S>,
@@ -141,7 +142,7 @@ fn clock_of<'a>(bench: &Bench<'a, Global>, node: u16, rt: &impl Abort) -> u64 {
     replica.seen().clock_of(node)
 }
 
-/// A bench that two threads have asked a thousand joins each, and their receipts.
+/// A bench that two threads have asked for a thousand joins each, and their receipts.
 fn shared_by_two<'a, R: Threads + Wait + Abort + Sync>(
     heap: &'a Global,
     rt: &R,
@@ -156,7 +157,7 @@ fn shared_by_two<'a, R: Threads + Wait + Abort + Sync>(
     (shared.into_inner(), receipts)
 }
 
-/// Whether the bench has taken a thousand joins of this node, and the receipts tell of each.
+/// Whether the bench has taken a thousand joins of this node, and there is a receipt for each.
 fn are_all_taken<'a>(left: &Left<'a, Global>, node: u16, rt: &impl Abort) -> bool {
     let list = left.1.get(usize::from(node)).expect(rt, "a list");
     taken_of(list) == 1_000 && clock_of(&left.0, node, rt) == 1_000

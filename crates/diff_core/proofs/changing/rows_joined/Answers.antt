@@ -1,7 +1,7 @@
 use Rattle.std.proofs.Common.{List, ◌≤◌, length, refl, arith}
 use Rattle.std.specs.FinMap as fin
 use Rattle.dots_core.specs.declared.dot.Dot.{Dot}
-use Rattle.payload_core.specs.EntryMoves.{found_at}
+use Rattle.store_core.specs.EntryMoves.{found_at}
 use Rattle.replica_core.specs.Changes.{plain_change}
 use Rattle.replica_core.specs.Moves.{joined_by}
 use Rattle.diff_core.specs.ChangedRows.{found_each}

@@ -1,9 +1,12 @@
-use Rattle.std.proofs.Common.{◌≡◌, filter, map, take}
-use Rattle.std.specs.FinMap as fin
+use Rattle.std.proofs.Common.{◌≡◌, ◌++◌, length, map}
+use Rattle.payload_core.specs.EntryLists.{pair_of}
 use Rattle.diff_core.specs.Rows.{row_of}
-use Rattle.diff_core.specs.ChangedRows.{is_of_name}
+use Rattle.diff_core.specs.ChangedRows.{rows_of_name}
 use Rattle.diff_core.proofs.changing.rows_of_name.Given as goal
 
--- the rows of those of the entries so far that are of the name
-abbrev pub invariant-loop-place : goal.invariant-loop-place
-invariant-loop-place g l = l.rows.items ≡ map row_of (filter (is_of_name l.name) (take l.place (fin.entries l.entries.map)))
+-- the rest is among the entries that are left
+abbrev pub invariant-loop-entry : goal.invariant-loop-entry
+invariant-loop-entry g l = l.rows.items ++ map (λ e. row_of (pair_of e)) l.walk ≡ rows_of_name l.name l.replica
+
+abbrev pub decreases-loop-entry : goal.decreases-loop-entry
+decreases-loop-entry g l = length l.walk

@@ -1,9 +1,12 @@
-use Rattle.std.proofs.Common.{◌≡◌, filter, map, take}
-use Rattle.std.specs.FinMap as fin
-use Rattle.diff_core.specs.Rows.{row_of}
-use Rattle.diff_core.specs.Online.{is_shown}
+use Rattle.std.proofs.Common.{◌≡◌, ◌++◌, length}
+use Rattle.replica_core.specs.Replicas.{is_online}
+use Rattle.diff_core.specs.Online.{shown}
+use Rattle.diff_core.proofs.Listed.{rows_ahead}
 use Rattle.diff_core.proofs.listing.online_list.Given as goal
 
--- the rows of those of the entries so far that are shown
-abbrev pub invariant-loop-place : goal.invariant-loop-place
-invariant-loop-place g l = l.rows.items ≡ map row_of (filter (is_shown l.replica) (take l.place (fin.entries l.entries.map)))
+-- the rest is among the entries that are left
+abbrev pub invariant-loop-entry : goal.invariant-loop-entry
+invariant-loop-entry g l = l.rows.items ++ rows_ahead (λ e. is_online l.replica e.dot.name) l.walk ≡ shown l.replica
+
+abbrev pub decreases-loop-entry : goal.decreases-loop-entry
+decreases-loop-entry g l = length l.walk

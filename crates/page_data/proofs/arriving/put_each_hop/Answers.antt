@@ -1,5 +1,5 @@
 use Rattle.std.proofs.Common.{get_or, flat_map, refl, arith}
-use Rattle.payload_core.specs.Stores.{store_of}
+use Rattle.store_core.specs.Stores.{store_of}
 use Rattle.report_core.proofs.Pieces.{piece_more, pieces_all}
 use Rattle.page_data.specs.Carried.{hop}
 use Rattle.page_data.proofs.arriving.put_each_hop.Goals as goal

@@ -1,5 +1,5 @@
 use Rattle.std.proofs.Common.{◌≡◌, ◌++◌, flat_map, drop}
-use Rattle.payload_core.specs.Stores.{store_of}
+use Rattle.store_core.specs.Stores.{store_of}
 use Rattle.page_data.specs.Carried.{hop}
 use Rattle.page_data.proofs.arriving.put_each_hop.Given as goal
 

@@ -1,5 +1,5 @@
 use Rattle.std.proofs.Common.{get_or, filter, ◌++◌, refl, ap, ◌∙◌, arith}
-use Rattle.payload_core.specs.Stores.{store_of}
+use Rattle.store_core.specs.Stores.{store_of}
 use Rattle.report_core.proofs.Pieces.{piece_more, pieces_all}
 use Rattle.page_data.specs.Carried.{clock_if, stands_so}
 use Rattle.page_data.proofs.Pieces.{filter_more}

@@ -1,5 +1,5 @@
 use Rattle.std.proofs.Common.{◌≡◌, ◌++◌, drop, filter}
-use Rattle.payload_core.specs.Stores.{store_of}
+use Rattle.store_core.specs.Stores.{store_of}
 use Rattle.page_data.specs.Carried.{stands_so}
 use Rattle.page_data.proofs.sent.put_standing.Given as goal
 

@@ -1,6 +1,6 @@
 use Rattle.std.proofs.Common.{Some, sym, ap, ◌∙◌, slice_get}
-use Rattle.payload_core.specs.EntrySets.{EntrySet}
-use Rattle.payload_core.specs.Presences.{dots_of, is_tracked_as}
+use Rattle.block_core.specs.EntrySets.{EntrySet}
+use Rattle.entry_core.specs.Presences.{dots_of, is_tracked_as}
 use Rattle.payload_core.specs.TrackIndices.{holder_of, tracked_at}
 use Rattle.payload_core.proofs.Marked.{none_held, one_held}
 use Rattle.payload_core.proofs.entry_set.EntrySet.find.Goals as goal

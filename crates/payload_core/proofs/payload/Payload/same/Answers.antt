@@ -1,7 +1,7 @@
 use Rattle.std.proofs.Common.{◌∙◌, ap, sym, true≢false}
 use Rattle.std.proofs.lemmas.Bool.{eqb-true}
 use Rattle.payload_core.specs.Messages.{Message}
-use Rattle.payload_core.proofs.Told.{messages_same, not_same}
+use Rattle.payload_core.proofs.SameMessages.{messages_same, not_same}
 use Rattle.payload_core.proofs.payload.Payload.same.Goals.{then-other-self, else-other-self, then-same, else-same}
 use Rattle.payload_core.proofs.payload.Payload.same.Goals as goal
 

@@ -1,7 +1,7 @@
 use Rattle.std.proofs.Common.{subst, sym, ap, ◌∙◌}
 use Rattle.std.specs.FinMap as fin
 use Rattle.std.specs.FinSet as set
-use Rattle.payload_core.specs.Stores.{Store, arrivals, departures, store_of}
+use Rattle.store_core.specs.Stores.{Store, arrivals, departures, store_of}
 use Rattle.replica_core.specs.Invariant.{IsReplica}
 use Rattle.replica_core.specs.Replicas.{Replica}
 use Rattle.replica_core.proofs.Delivered.{destroyed_is, kept_merge, merged_is}

@@ -1,7 +1,7 @@
 use Rattle.std.proofs.Common.{rules, ap, ◌∙◌}
 use Rattle.std.specs.FinSet as set
 use Rattle.payload_core.specs.Messages.{message_of_names, store_message}
-use Rattle.payload_core.specs.Stores.{Store}
+use Rattle.store_core.specs.Stores.{Store}
 use Rattle.replica_core.specs.Replicas.{Replica}
 use Rattle.replica_core.proofs.Sizes.{seen_fits, store_fits}
 use Rattle.replica_core.proofs.Invariant.{parts_seen}

@@ -1,7 +1,7 @@
 use Rattle.std.proofs.Common.{rules, ◌≡◌, ℕ, ◌==◌, not, true, false, List, [], ◌∷◌, length, Some, refl, ap, sym, subst, ◌∙◌, true≢false, arith}
 use Rattle.std.proofs.lemmas.Bool.{eq-eqb, eqb-true}
 use Rattle.dots_core.specs.declared.dot.Dot.{Dot}
-use Rattle.payload_core.specs.LeavesTogether.{lefts_of}
+use Rattle.store_core.specs.LeavesTogether.{lefts_of}
 use Rattle.replica_core.specs.declared.replica_fault.ReplicaFault.TheVariants.{NotTracked, ClockFull}
 use Rattle.replica_core.specs.Leaves.{AreOwnSeen}
 use Rattle.replica_core.specs.Replicas.{Replica, dots_of_process, left_each}

@@ -2,9 +2,9 @@ use Rattle.std.proofs.Common.{true, false, refl, ap, subst, ◌∙◌}
 use Rattle.std.specs.FinMap as fin
 use Rattle.std.specs.FinSet as set
 use Rattle.payload_core.specs.Presences.{Entries}
-use Rattle.payload_core.specs.Stores.{Store, arrivals, departures, store_of}
-use Rattle.payload_core.specs.Laws.{IsStore}
-use Rattle.payload_core.proofs.MergedCounts.{len-merged}
+use Rattle.store_core.specs.Stores.{Store, arrivals, departures, store_of}
+use Rattle.store_core.specs.Laws.{IsStore}
+use Rattle.store_core.proofs.MergedCounts.{len-merged}
 use Rattle.replica_core.specs.Replicas.{Replica}
 use Rattle.replica_core.proofs.Calls.{on_err, refused_memory}
 use Rattle.replica_core.proofs.Deliveries.{standing_holds}

@@ -1,5 +1,5 @@
 use Rattle.std.proofs.Common.{rules, sym, subst, ◌∙◌}
-use Rattle.payload_core.specs.ForgottenNames.{Holds}
+use Rattle.store_core.specs.ForgottenNames.{Holds}
 use Rattle.replica_core.specs.Replicas.{Replica}
 use Rattle.replica_core.specs.Invariant.{IsReplica}
 use Rattle.replica_core.proofs.Sizes.{store_fits}

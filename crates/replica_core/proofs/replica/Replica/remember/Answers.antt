@@ -1,6 +1,6 @@
 use Rattle.std.proofs.Common.{ap, subst, sym, rules}
 use Rattle.payload_core.specs.EntryLists.{pairs}
-use Rattle.payload_core.specs.EntryMoves.{AreNew}
+use Rattle.store_core.specs.EntryMoves.{AreNew}
 use Rattle.replica_core.specs.Changes.{with_remembered}
 use Rattle.replica_core.specs.Invariant.{IsReplica}
 use Rattle.replica_core.specs.Replicas.{Replica}

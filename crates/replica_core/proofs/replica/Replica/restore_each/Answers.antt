@@ -1,7 +1,7 @@
 use Rattle.std.proofs.Common.{◌≡◌, ℕ, ◌-◌, List, length, ap, subst, sym, ◌∙◌}
-use Rattle.payload_core.specs.LeavesTogether.{restored_delta_each, restored_each}
-use Rattle.payload_core.specs.LeftEntries.{Left}
-use Rattle.payload_core.specs.Stores.{Store}
+use Rattle.store_core.specs.LeavesTogether.{restored_delta_each, restored_each}
+use Rattle.store_core.specs.LeftEntries.{Left}
+use Rattle.store_core.specs.Stores.{Store}
 use Rattle.replica_core.specs.Invariant.{IsReplica}
 use Rattle.replica_core.specs.ProcessLeaves.{with_lefts}
 use Rattle.replica_core.specs.Replicas.{Replica, own_clock}

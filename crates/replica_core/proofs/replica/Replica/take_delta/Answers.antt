@@ -1,6 +1,6 @@
 use Rattle.std.proofs.Common.{rules, sym, ap, ◌∙◌, subst₂, arith}
 use Rattle.payload_core.specs.Messages.{store_message, AreSeen}
-use Rattle.payload_core.specs.Stores.{Store}
+use Rattle.store_core.specs.Stores.{Store}
 use Rattle.replica_core.specs.Replicas.{delta_message}
 use Rattle.replica_core.proofs.Sizes.{seen_fits, store_fits}
 use Rattle.replica_core.proofs.Calls.{sent_is}

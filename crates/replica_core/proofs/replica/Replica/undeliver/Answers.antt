@@ -1,6 +1,6 @@
 use Rattle.std.proofs.Common.{ap, subst, sym}
 use Rattle.payload_core.specs.EntryLists.{pairs}
-use Rattle.payload_core.specs.EntryMoves.{AreNew, without_each}
+use Rattle.store_core.specs.EntryMoves.{AreNew, without_each}
 use Rattle.replica_core.specs.Delivered.{with_undelivered}
 use Rattle.replica_core.specs.Invariant.{IsReplica}
 use Rattle.replica_core.specs.Replicas.{Replica}

@@ -1,0 +1,9 @@
+pub mod Collected
+pub mod EntryMaps
+pub mod LiveMaps
+pub mod MaskedEntries
+pub mod Passes
+pub mod PlacesFrom
+pub mod SetEdits
+pub mod SetMaps
+pub mod Walks

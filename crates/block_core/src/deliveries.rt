@@ -1,0 +1,238 @@
+//! What a message changes, by masks: which of its entries join, and which of ours leave.
+ghost use Rattle.std.specs.Prelude.{◌≡◌, ◌+◌, ◌++◌, ◌<◌, ◌≤◌, IfOk, OnOk, filter, length, map, true};
+ghost use Rattle.std.specs.FinMap as fin;
+ghost use Rattle.std.specs.FinSet as set;
+ghost use Rattle.dots_core.specs.Dots.{dot};
+ghost use Rattle.block_core.specs.Deliveries.{AreAlike, AreBefore, HasNone, is_gone, is_new};
+ghost use Rattle.entry_core.specs.EntryLists.{pairs};
+ghost use Rattle.entry_core.specs.Presences.{Entries};
+ghost use Rattle.block_core.specs.Sets.{AreBlocks, RisingBlocks, set_map};
+
+use crate::block::Block;
+use crate::blocks::{block_at, live_bits, place};
+use dots_core::{Dot, DotSet, NameSet, Oom};
+use entry_core::{Handle, mask};
+use std::alloc::Allocator;
+
+/// Appends to a list handles of the entries of a block that join.
+fn push_joining<A: Allocator + Copy>(
+    list: &mut Vec<Handle<A>, A>,
+    block: &Block<A>,
+    seen: &DotSet<A>,
+    names: NameSet,
+    alloc: A,
+) -> Result<(), Oom>
+    ensures { OnOk result (pairs list.new.items ≡ pairs list.old.items ++ filter (λ p. is_new (set.contains names) seen.now p.0) (fin.entries block.now.map)) }
+{
+    block.told();
+    if !names.has(block.name()) {
+        return Ok(());
+    }
+    let old = seen.bits_of(block.name(), block.base());
+    block.push_copies(list, mask::others(old), alloc)
+}
+
+/// The message's entries of these names that weren't seen, by rising dot.
+pub fn joining<A: Allocator + Copy>(
+    message: &[Block<A>],
+    seen: &DotSet<A>,
+    names: NameSet,
+    alloc: A,
+) -> Result<Vec<Handle<A>, A>, Oom>
+    requires { AreBlocks message.now }
+    ensures { IfOk result (λ joining. pairs joining.items ≡ fin.entries (fin.retain_keys (set_map message.now) (is_new (set.contains names) seen.now))) }
+{
+    let mut joining = Vec::new(alloc);
+    let mut at = next_new(message, 0, seen, names);
+    while at < message.len() {
+        push_joining(&mut joining, &message[at], seen, names, alloc)?;
+        at = next_new(message, at + 1, seen, names);
+    }
+    Ok(joining)
+}
+
+/// The place of the next block that may have an entry which wasn't seen. It passes over blocks up to the context clock.
+fn next_new<A: Allocator>(
+    message: &[Block<A>],
+    at: usize,
+    seen: &DotSet<A>,
+    names: NameSet,
+) -> usize
+    requires are { AreBlocks message.now }
+    requires within { at ≤ length message.now }
+    ensures from { at ≤ result }
+    ensures within { result ≤ length message.now }
+    ensures passed { HasNone (is_new (set.contains names) seen.now) message.now at result }
+{
+    match block_at(message, at) {
+        Some(block) => {
+            let name = block.name();
+            if name >= 32 {
+                return at;
+            }
+            if block.base() == 0 {
+                return at;
+            }
+            place_behind(message, at, name, seen.clock_of(name) / 64)
+        }
+        None => at,
+    }
+}
+
+/// Appends to a list the dots of the entries of a block that leave. It looks first at the message's block at a hint;
+/// the answer is a hint for the next block.
+fn push_leaving<A: Allocator>(
+    dots: &mut Vec<Dot, A>,
+    block: &Block<A>,
+    message: &[Block<A>],
+    hint: usize,
+    seen: &DotSet<A>,
+    names: NameSet,
+) -> Result<usize, Oom>
+    requires { AreBlocks message.now }
+    ensures dots { OnOk result (dots.new.items ≡ dots.old.items ++ map (λ p. p.0) (filter (λ p. is_gone (set.contains names) seen.now (set_map message.now) p.0) (fin.entries block.now.map))) }
+    ensures hint { IfOk result (λ next. next ≤ length message.now) }
+{
+    block.told();
+    let name = block.name();
+    let base = block.base();
+    let (there, next) = live_bits(message, hint, name, base);
+    if !names.has(name) {
+        return Ok(next);
+    }
+    let old = seen.bits_of(name, base);
+    block.push_dots(dots, mask::both(old, mask::others(there)))?;
+    Ok(next)
+}
+
+/// The dots of our entries of these names that the message has seen and doesn't have, rising.
+pub fn leaving<A: Allocator + Copy>(
+    blocks: &[Block<A>],
+    message: &[Block<A>],
+    seen: &DotSet<A>,
+    names: NameSet,
+    alloc: A,
+) -> Result<Vec<Dot, A>, Oom>
+    requires ours { AreBlocks blocks.now }
+    requires theirs { AreBlocks message.now }
+    ensures { IfOk result (λ leaving. leaving.items ≡ fin.keys (fin.retain_keys (set_map blocks.now) (is_gone (set.contains names) seen.now (set_map message.now)))) }
+{
+    let mut leaving = Vec::new(alloc);
+    let mut hint = 0;
+    let mut at = next_gone(blocks, 0, message, 0, seen, names);
+    while at < blocks.len() {
+        hint = push_leaving(&mut leaving, &blocks[at], message, hint, seen, names)?;
+        at = next_gone(blocks, at + 1, message, hint, seen, names);
+    }
+    Ok(leaving)
+}
+
+/// The place of our next block that may have an entry which leaves. It passes over blocks that are alike on both sides,
+/// and blocks without a dot that the message has seen.
+fn next_gone<A: Allocator>(
+    blocks: &[Block<A>],
+    at: usize,
+    message: &[Block<A>],
+    hint: usize,
+    seen: &DotSet<A>,
+    names: NameSet,
+) -> usize
+    requires ours { AreBlocks blocks.now }
+    requires theirs { AreBlocks message.now }
+    requires within { at ≤ length blocks.now }
+    requires hint { hint ≤ length message.now }
+    ensures from { at ≤ result }
+    ensures within { result ≤ length blocks.now }
+    ensures passed { HasNone (is_gone (set.contains names) seen.now (set_map message.now)) blocks.now at result }
+{
+    let unlike = at + count_alike(blocks, at, message, hint);
+    next_seen(blocks, unlike, seen, names)
+}
+
+/// How many blocks from a place on are like those of the message from another on.
+fn count_alike<A: Allocator>(
+    blocks: &[Block<A>],
+    at: usize,
+    message: &[Block<A>],
+    hint: usize,
+) -> usize
+    requires are { AreBlocks message.now }
+    requires within { at ≤ length blocks.now }
+    requires hint { hint ≤ length message.now }
+    ensures within { at + result ≤ length blocks.now }
+    ensures alike { AreAlike message.now blocks.now at (at + result) }
+{
+    let mut count = 0;
+    while is_alike(blocks, at + count, message, hint + count) {
+        count += 1;
+    }
+    count
+}
+
+/// Whether our block at a place and the message's block at another have entries at the same clocks.
+fn is_alike<A: Allocator>(
+    blocks: &[Block<A>],
+    at: usize,
+    message: &[Block<A>],
+    there: usize,
+) -> bool
+    requires { AreBlocks message.now }
+    ensures inside { result ≡ true → (at < length blocks.now) × (there < length message.now) }
+    ensures alike { result ≡ true → AreAlike message.now blocks.now at (at + 1) }
+{
+    match block_at(blocks, at) {
+        Some(ours) => match block_at(message, there) {
+            Some(theirs) => theirs.is(ours.name(), ours.base()) && ours.live() == theirs.live(),
+            None => false,
+        },
+        None => false,
+    }
+}
+
+/// The place of our next block with a dot that the message has seen.
+fn next_seen<A: Allocator>(
+    blocks: &[Block<A>],
+    at: usize,
+    seen: &DotSet<A>,
+    names: NameSet,
+) -> usize
+    requires are { AreBlocks blocks.now }
+    requires within { at ≤ length blocks.now }
+    ensures from { at ≤ result }
+    ensures within { result ≤ length blocks.now }
+    ensures passed { (there : Entries) → HasNone (is_gone (set.contains names) seen.now there) blocks.now at result }
+{
+    match block_at(blocks, at) {
+        Some(block) => {
+            let first = Dot {
+                name: block.name(),
+                clock: block.base() * 64,
+            };
+            match seen.first_from(names, first) {
+                Some(dot) => place_behind(blocks, at, dot.name, dot.clock / 64),
+                None => blocks.len(),
+            }
+        }
+        None => at,
+    }
+}
+
+/// The place of the first block from a place on that isn't before the one of this name and base.
+fn place_behind<A: Allocator>(blocks: &[Block<A>], at: usize, name: u16, base: u64) -> usize
+    requires rises { RisingBlocks blocks.now }
+    requires within { at ≤ length blocks.now }
+    ensures from { at ≤ result }
+    ensures within { result ≤ length blocks.now }
+    ensures before { AreBefore (dot name base) blocks.now at result }
+{
+    match block_at(blocks, at) {
+        Some(block) => {
+            if block.is_before(name, base) {
+                place(blocks, name, base).max(at)
+            } else {
+                at
+            }
+        }
+        None => at,
+    }
+}

@@ -1,0 +1,10 @@
+pub mod Answers
+pub mod EntryLists
+pub mod Holders
+pub mod ListParts
+pub mod Lists
+pub mod Masks
+pub mod Presences
+pub mod Short
+pub mod Texts
+pub mod Words

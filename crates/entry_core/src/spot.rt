@@ -1,0 +1,107 @@
+//! Where the entry of a dot stands in a list that rises by dot.
+ghost use Rattle.std.specs.Prelude.{◌≡◌, ◌<◌, ◌≤◌, Err, IfErr, IfOk, Ok, length, slice_get, true};
+ghost use Rattle.std.specs.Option.{option_copied};
+ghost use Rattle.entry_core.specs.EntryLists.{IsBefore, IsBehind, Rises, spot};
+
+use crate::entry::Entry;
+use crate::handle::Handle;
+use crate::mask;
+use crate::masked::is_below;
+use dots_core::Dot;
+use std::alloc::Allocator;
+
+/// The place of the dot's entry, or else the place where it would stand. If the mask has the clocks of these entries
+/// and no others, the number of its lower bits is that place, so it is tried first.
+pub fn spot_in<A: Allocator>(entries: &[Handle<A>], mask: u64, dot: Dot) -> Result<usize, usize>
+    requires { Rises entries.now }
+    ensures place { result ≡ spot dot entries.now }
+    ensures found { IfOk result (λ place. place < length entries.now) }
+    ensures missing { IfErr result (λ place. place ≤ length entries.now) }
+{
+    let rank = mask::rank(mask, dot.clock);
+    if is_place(entries, rank, dot) {
+        return Ok(rank);
+    }
+    if is_gap(entries, rank, dot) {
+        return Err(rank);
+    }
+    search(entries, dot)
+}
+
+/// Whether the dot's entry stands at a place.
+fn is_place<A: Allocator>(entries: &[Handle<A>], place: usize, dot: Dot) -> bool
+    requires { Rises entries.now }
+    ensures { result ≡ true → (place < length entries.now) × (spot dot entries.now ≡ Ok place) }
+{
+    match entry_at(entries, place) {
+        Some(entry) => entry.dot == dot,
+        None => false,
+    }
+}
+
+/// Whether the list has no entry of the dot, and one would stand at this place.
+fn is_gap<A: Allocator>(entries: &[Handle<A>], place: usize, dot: Dot) -> bool
+    requires { Rises entries.now }
+    ensures { result ≡ true → (place ≤ length entries.now) × (spot dot entries.now ≡ Err place) }
+{
+    if place > entries.len() {
+        return false;
+    }
+    if !is_behind(entries, place, dot) {
+        return false;
+    }
+    is_before(entries, place, dot)
+}
+
+/// Whether the dot is above what stands before a place.
+fn is_behind<A: Allocator>(entries: &[Handle<A>], place: usize, dot: Dot) -> bool
+    ensures { result ≡ true → IsBehind dot entries.now place }
+{
+    if place == 0 {
+        return true;
+    }
+    match entry_at(entries, place - 1) {
+        Some(entry) => is_below(entry.dot, dot),
+        None => false,
+    }
+}
+
+/// Whether the dot is below what stands at a place.
+fn is_before<A: Allocator>(entries: &[Handle<A>], place: usize, dot: Dot) -> bool
+    ensures { result ≡ true → IsBefore dot entries.now place }
+{
+    match entry_at(entries, place) {
+        Some(entry) => is_below(dot, entry.dot),
+        None => true,
+    }
+}
+
+/// As `spot_in`, by a search.
+fn search<A: Allocator>(entries: &[Handle<A>], dot: Dot) -> Result<usize, usize>
+    requires { Rises entries.now }
+    ensures place { result ≡ spot dot entries.now }
+    ensures found { IfOk result (λ place. place < length entries.now) }
+    ensures missing { IfErr result (λ place. place ≤ length entries.now) }
+{
+    entries.binary_search_by_key(&(dot.name, dot.clock), |entry| {
+        let at = entry.dot();
+        (at.name, at.clock)
+    })
+}
+
+/// The entry at a place, counted from 0.
+pub fn handle_at<A: Allocator>(entries: &[Handle<A>], place: usize) -> Option<&Handle<A>>
+    ensures { option_copied result ≡ slice_get entries.now place }
+{
+    entries.get(place)
+}
+
+/// The entry at a place, to look at.
+fn entry_at<A: Allocator>(entries: &[Handle<A>], place: usize) -> Option<&Entry<A>>
+    ensures { option_copied result ≡ slice_get entries.now place }
+{
+    match entries.get(place) {
+        Some(entry) => Some(entry.entry()),
+        None => None,
+    }
+}

@@ -1,0 +1,13 @@
+pub mod ApartEntries
+pub mod LeftTogether
+pub mod MergedCounts
+pub mod MovedEntries
+pub mod PutBack
+pub mod PutSome
+pub mod Refused
+pub mod SeenTogether
+pub mod StoreBack
+pub mod StoreEdits
+pub mod StoreMerges
+pub mod Told
+pub mod Undelivered
