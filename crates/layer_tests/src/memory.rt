@@ -299,18 +299,22 @@ fn run_unknown<'a>(bench: &mut Bench<'a, Heap>, calls: &[(u16, Act<&'a Heap>)]) 
 }
 
 /// A run has all its replies, or does nothing where their list is refused.
+fn unknown_is_refused<'a>(heap: &'a Heap, rt: &impl Abort) {
+    let calls = unknown();
+    let mut bench = opened("nodes a b", limits_of([6, 1, 1, 1], rt), heap, rt);
+    heap.refuse_only(1);
+    holds!(rt, bench.run(&calls).err().is_some());
+    holds!(rt, bench.history().len() == 0);
+    heap.refuse_none();
+    holds!(rt, run_unknown(&mut bench, &calls));
+    holds!(rt, bench.history().len() == 6);
+    are_free(&mut bench, &calls, Fault::UnknownNode, heap, rt);
+    drop(calls);
+    drop(bench);
+}
+
 #[test]
 fn a_number_that_is_no_nodes_is_refused(rt: HostRuntime) {
     let heap = Refusing::new(rt.alloc());
-    let calls = unknown();
-    let mut bench = opened("nodes a b", limits_of([6, 1, 1, 1], &rt), &heap, &rt);
-    heap.refuse_only(1);
-    holds!(&rt, bench.run(&calls).err().is_some());
-    holds!(&rt, bench.history().len() == 0);
-    heap.refuse_none();
-    holds!(&rt, run_unknown(&mut bench, &calls));
-    holds!(&rt, bench.history().len() == 6);
-    are_free(&mut bench, &calls, Fault::UnknownNode, &heap, &rt);
-    drop(calls);
-    drop(bench);
+    unknown_is_refused(&heap, &rt);
 }

@@ -262,35 +262,42 @@ fn replicas_come_out_by_what_the_network_does(rt: HostRuntime) {
     }
 }
 
+/// Three states are too few, and four enough.
+fn few_states_are_kept<'a>(heap: &'a Heap, rt: &impl Abort) {
+    let bench = played(UP_LATE, Limits::usual(), heap, rt);
+    let asked = presence(1, "x", heap, rt);
+    let few = explored(&bench, &asked, (0, 0), 3, heap, rt).err();
+    let enough = explored(&bench, &asked, (0, 0), 4, heap, rt);
+    drop(asked);
+    drop(bench);
+    holds!(rt, few == Some(ExploreFault::TooManyStates { outcomes: 2 }));
+    holds!(rt, enough.is_ok_and(|enough| enough.states == 4));
+}
+
 #[test]
 fn states_are_no_more_than_may_be(rt: HostRuntime) {
     let heap = Refusing::new(rt.alloc());
-    let bench = played(UP_LATE, Limits::usual(), &heap, &rt);
-    let asked = presence(1, "x", &heap, &rt);
-    let few = explored(&bench, &asked, (0, 0), 3, &heap, &rt).err();
-    let enough = explored(&bench, &asked, (0, 0), 4, &heap, &rt);
-    drop(asked);
-    drop(bench);
-    holds!(
-        &rt,
-        few == Some(ExploreFault::TooManyStates { outcomes: 2 })
+    few_states_are_kept(&heap, &rt);
+}
+
+/// Two joins may fill a node of one entry, though one of them leaves.
+fn a_node_may_fill<'a>(heap: &'a Heap, rt: &impl Abort) {
+    let limits = limits_of([100, 1, 100, 100], rt);
+    let bench = played(
+        "nodes a\na join 1 r x phone\na leave 1 r x\na join 1 r x phone",
+        limits,
+        heap,
+        rt,
     );
-    holds!(&rt, enough.is_ok_and(|enough| enough.states == 4));
+    let fault = explored(&bench, &Question::Cluster, (0, 0), 1000, heap, rt).err();
+    drop(bench);
+    holds!(rt, fault == Some(ExploreFault::MayFill));
 }
 
 #[test]
 fn joins_that_may_fill_a_node_are_refused(rt: HostRuntime) {
     let heap = Refusing::new(rt.alloc());
-    let limits = limits_of([100, 1, 100, 100], &rt);
-    let bench = played(
-        "nodes a\na join 1 r x phone\na leave 1 r x\na join 1 r x phone",
-        limits,
-        &heap,
-        &rt,
-    );
-    let fault = explored(&bench, &Question::Cluster, (0, 0), 1000, &heap, &rt).err();
-    drop(bench);
-    holds!(&rt, fault == Some(ExploreFault::MayFill));
+    a_node_may_fill(&heap, &rt);
 }
 
 /// Of 65 deliveries one brings what is asked for, before its name is up or afterwards.
@@ -326,16 +333,31 @@ fn explore_refused<'a>(
     holds!(rt, false);
 }
 
+/// The same of the rows of x in r at the second node.
+fn rows_refused<'a>(bench: &Bench<'a, Heap>, heap: &'a Heap, rt: &impl Abort) {
+    let asked = presence(1, "x", heap, rt);
+    explore_refused(bench, &asked, heap, rt);
+    drop(asked);
+}
+
+/// The same of each kind of question.
+fn each_refused<'a>(bench: &Bench<'a, Heap>, heap: &'a Heap, rt: &impl Abort) {
+    rows_refused(bench, heap, rt);
+    explore_refused(bench, &Question::Node(1), heap, rt);
+    explore_refused(bench, &Question::Cluster, heap, rt);
+}
+
+/// Each kind of question, with each request for memory refused in turn.
+fn each_question_is_refused<'a>(heap: &'a Heap, rt: &impl Abort) {
+    let bench = played(GONE, Limits::usual(), heap, rt);
+    each_refused(&bench, heap, rt);
+    drop(bench);
+}
+
 #[test]
 fn each_request_for_memory_is_refused(rt: HostRuntime) {
     let heap = Refusing::new(rt.alloc());
-    let bench = played(GONE, Limits::usual(), &heap, &rt);
-    let asked = presence(1, "x", &heap, &rt);
-    explore_refused(&bench, &asked, &heap, &rt);
-    drop(asked);
-    explore_refused(&bench, &Question::Node(1), &heap, &rt);
-    explore_refused(&bench, &Question::Cluster, &heap, &rt);
-    drop(bench);
+    each_question_is_refused(&heap, &rt);
 }
 
 /// How often the watcher was called, with how many states at last, and whether ever with fewer than before.
@@ -360,20 +382,24 @@ impl Watch<Walked> for Counting {
 
 /// The walk takes a join, a broadcast, an up and a delivery, and then the delivery before the up. It calls the watcher
 /// at seven states, and at the last two it has kept the state after the first up.
-#[test]
-fn a_watcher_is_told_how_far_the_walk_is(rt: HostRuntime) {
-    let heap = Refusing::new(rt.alloc());
-    let bench = played(UP_LATE, Limits::usual(), &heap, &rt);
-    let asked = presence(1, "x", &heap, &rt);
+fn walk_is_watched<'a>(heap: &'a Heap, rt: &impl Abort) {
+    let bench = played(UP_LATE, Limits::usual(), heap, rt);
+    let asked = presence(1, "x", heap, rt);
     let mut watch = Counting {
         calls: 0,
         states: 0,
         falls: false,
     };
     assert!(rt; asked.is_there(bench.names().len()), "a node");
-    let told = explore(&bench, &asked, 0, 0, 1000, &heap, &mut watch);
+    let told = explore(&bench, &asked, 0, 0, 1000, heap, &mut watch);
     drop(asked);
     drop(bench);
-    holds!(&rt, told.is_ok_and(|told| told.outcomes.len() == 2));
-    holds!(&rt, watch.calls == 7 && watch.states == 2 && !watch.falls);
+    holds!(rt, told.is_ok_and(|told| told.outcomes.len() == 2));
+    holds!(rt, watch.calls == 7 && watch.states == 2 && !watch.falls);
+}
+
+#[test]
+fn a_watcher_is_told_how_far_the_walk_is(rt: HostRuntime) {
+    let heap = Refusing::new(rt.alloc());
+    walk_is_watched(&heap, &rt);
 }
