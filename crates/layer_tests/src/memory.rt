@@ -248,14 +248,25 @@ fn are_free<'a>(
     heap.refuse_none();
 }
 
+/// Asks the calls so of one bench of the pair, which stays the same as the other.
+fn ask_for_free<'a>(
+    pair: &mut Pair<'a>,
+    calls: &[(u16, Act<&'a Heap>)],
+    full: &Full,
+    heap: &'a Heap,
+    rt: &impl Abort,
+) {
+    are_free(&mut pair.bench, calls, full.fault, heap, rt);
+    holds(rt, are_same(&pair.bench, &pair.other), full.refused);
+}
+
 /// Plays the acts, and makes the calls with all memory refused: each is refused with its fault, asks for no memory and
 /// isn't recorded.
 fn refuse_for_free<'a>(full: &Full, heap: &'a Heap, rt: &impl Abort) {
     let limits = limits_of(full.limits, rt);
     let calls = calls_of(full.refused, heap, rt);
     let mut pair = played_twice(full.script, limits, heap, rt);
-    are_free(&mut pair.bench, &calls, full.fault, heap, rt);
-    holds(rt, are_same(&pair.bench, &pair.other), full.refused);
+    ask_for_free(&mut pair, &calls, full, heap, rt);
     drop(pair);
     drop(calls);
 }
