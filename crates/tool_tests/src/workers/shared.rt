@@ -23,8 +23,8 @@ fn is_want<'a>(refused: (RaceFault, Bench<'a, Heap>)) -> bool {
     wants && answer == Reply::Refused(Fault::NoSuchStep)
 }
 
-/// Whether a race meets this request for memory, which is refused. If so, it says so and the bench comes back; if not,
-/// it is vouched for.
+/// Whether a race meets this request for memory, which is refused. Where the race ends for it, it says so and the bench
+/// comes back; it may go on with room that was made before, and else it is vouched for.
 fn refused<R: Threads + Wait + Abort + Sync>(rt: &R, heap: &Heap, number: u64) -> bool {
     let lines = lines_of(heap, UNDONE_BESIDE, rt);
     let bench = open(heap, 100, rt);
@@ -33,7 +33,11 @@ fn refused<R: Threads + Wait + Abort + Sync>(rt: &R, heap: &Heap, number: u64) -
     let is_met = number <= heap.requests();
     heap.refuse_none();
     let want = raced.map_err(is_want).err();
-    assert!(rt; want == is_met.then_some(true), "request {number}");
+    let is_right = match want {
+        Some(wants) => wants && is_met,
+        None => true,
+    };
+    assert!(rt; is_right, "request {number}");
     is_met
 }
 
