@@ -6,20 +6,14 @@ use Rattle.std.specs.Prelude.{Result, Ok, Err, OnErr}
 use Rattle.std.specs.Result.{IsErrAnd}
 use Rattle.std.specs.FinMap as fin
 use Rattle.dots_core.specs.declared.dot.Dot.{Dot}
-use Rattle.dots_core.specs.Contexts.{IsNext}
-use Rattle.dots_core.specs.Dots.{IsValid}
-use Rattle.payload_core.specs.Presences.{Entry, presence_of}
 use Rattle.replica_core.specs.declared.replica_fault.ReplicaFault.{ReplicaFault}
 use Rattle.replica_core.specs.declared.replica_fault.ReplicaFault.TheVariants.{OwnReplica, NotKnown, NotDown, AlreadyTracked}
 use Rattle.replica_core.specs.declared.replica_fault.ReplicaFault.TheVariants.{NotTracked, EntriesFull, ClockFull, OutOfMemory}
 use Rattle.replica_core.specs.declared.status.Status.{Status}
-use Rattle.store_core.specs.Stores.{Store, nothing, with_entry}
 use Rattle.replica_core.specs.Views.{View}
-use Rattle.replica_core.specs.Replicas.{Replica, fresh, dots_of_process, tracked_dots, is_known, is_online, joined, with_status, without_delta}
+use Rattle.replica_core.specs.Replicas.{Replica, dots_of_process, tracked_dots, is_known, is_online, with_status}
 use Rattle.replica_core.specs.Refusals.{IsRefusedFor, first_of, is_some_dot, is_tracked, are_too_many, is_clock_full, join_refusal, leave_refusal}
 use Rattle.replica_core.specs.Refusals.{leave_all_refusal, up_refusal, down_refusal, permdown_refusal}
-use Rattle.replica_core.specs.Invariant.{IsReplica}
-use Rattle.replica_core.proofs.Invariant.{fresh_valid, fresh_next, fresh_absent, fresh_absent_in_delta, kept_joined}
 
 -- an up of another name is not refused
 pub up_free : (r now : Replica) (name : ℕ) → r ≡ now → name ≢ r.own → up_refusal now name ≡ None
@@ -132,44 +126,10 @@ free_three false true c x y z h = absurd (cc)
 free_three false false true x y z h = absurd (cc)
 free_three false false false x y z h = (refl, refl, refl)
 
-module _ (r : Replica) (e : Entry) (kept : IsReplica r) (fresh_is : e.dot ≡ fresh r) (free : join_refusal r e.pid e.topic e.key ≡ None) where
-  tests : (is_tracked r e.pid e.topic e.key ≡ false) × (are_too_many r (fin.len r.store.entries + 1) ≡ false) × (is_clock_full r 1 ≡ false)
-  tests = free_three (is_tracked r e.pid e.topic e.key) (are_too_many r (fin.len r.store.entries + 1)) (is_clock_full r 1)
-      AlreadyTracked EntriesFull ClockFull free
-
-  pub entry_valid : IsValid e.dot
-  entry_valid = subst IsValid (sym fresh_is) (fresh_valid r kept tests.2)
-
-  pub entry_next : IsNext e.dot r.store.seen
-  entry_next = subst (λ d. IsNext d r.store.seen) (sym fresh_is) (fresh_next r kept)
-
-  pub entry_absent : fin.get r.store.entries e.dot ≡ None
-  entry_absent = ap (fin.get r.store.entries) fresh_is ∙ fresh_absent r kept
-
-  pub entry_absent_in_delta : fin.get r.delta.entries e.dot ≡ None
-  entry_absent_in_delta = ap (fin.get r.delta.entries) fresh_is ∙ fresh_absent_in_delta r kept
-
-  module _ (store delta : Store) (store_is : store ≡ with_entry e.dot (presence_of e) r.store)
-      (delta_is : delta ≡ with_entry e.dot (presence_of e) r.delta) where
-    pub joined_is : record r { store = store; delta = delta } ≡ joined (presence_of e) r
-    joined_is = λ i. record r {
-      store = (store_is ∙ ap (λ d. with_entry d (presence_of e) r.store) fresh_is) i;
-      delta =
-          (delta_is ∙ ap (λ d. with_entry d (presence_of e) r.delta) fresh_is) i;
-    }
-
-    pub kept_join : IsReplica (record r { store = store; delta = delta })
-    kept_join = subst IsReplica (sym joined_is) (kept_joined r kept (presence_of e) tests.0 tests.1 tests.2)
-
--- what took the delta out
-pub sent_is : (r now : Replica) (delta : Store) → r ≡ now → delta ≡ nothing → record r { delta = delta } ≡ without_delta now
-sent_is r now delta same none = ap (λ (d : Store). record r { delta = d }) none ∙ ap without_delta same
-
--- what has the same parts
-pub copy_is : (r now : Replica) (store : Store) (view : View) (delta : Store) → r ≡ now → store ≡ r.store → view ≡ r.view →
-    delta ≡ r.delta → record r { store = store; view = view; delta = delta } ≡ now
-copy_is r now store view delta same store_is view_is delta_is =
-    (λ i. record r { store = store_is i; view = view_is i; delta = delta_is i }) ∙ same
+pub join_tests : (r : Replica) (pid : ℕ) (topic key : List ℕ) → join_refusal r pid topic key ≡ None →
+    (is_tracked r pid topic key ≡ false) × (are_too_many r (fin.len r.store.entries + 1) ≡ false) × (is_clock_full r 1 ≡ false)
+join_tests r pid topic key free =
+    free_three (is_tracked r pid topic key) (are_too_many r (fin.len r.store.entries + 1)) (is_clock_full r 1) AlreadyTracked EntriesFull ClockFull free
 
 -- whether a search found one
 pub is_some_first : (ds : List Dot) → is_some (slice_get ds 0) ≡ is_some_dot ds

@@ -11,5 +11,6 @@ pub mod Delivered
 pub mod Destroyed
 pub mod Back
 pub mod Moves
+pub mod StoreParts
 pub mod Undone
 pub mod Sizes

@@ -1,111 +1,39 @@
 -- All entries of one process that leave: what they keep, what they are as edits of two stores, and their way back.
-use Rattle.std.proofs.Common.{◌≡◌, ◌≢◌, ℕ, ◌+◌, ◌-◌, ◌<◌, ◌≤◌, ◌==◌, T, Bool, true, false, cond, All, List, [], ◌∷◌, map}
+use Rattle.std.proofs.Common.{◌≡◌, ◌≢◌, ℕ, ◌+◌, ◌-◌, ◌<◌, ◌==◌, T, Bool, true, false, cond, List, [], ◌∷◌, map}
 use Rattle.std.proofs.Common.{filter, length, Option, Some, None, is_some, refl, sym, ap, ◌∙◌, subst, arith, subst₂, true≢false}
 use Rattle.std.proofs.Math.Facts.{and_yes}
-use Rattle.std.proofs.lemmas.Bool.{ltb-false}
 use Rattle.std.specs.FinMap as fin
 use Rattle.std.specs.FinMap.Entries.{below_all}
 use Rattle.std.specs.FinSet as set
 use Rattle.std.specs.List.{AllByRecursion}
 use Rattle.std.specs.Ordering.{is_lt}
 use Rattle.dots_core.specs.declared.dot.Dot.{Dot}
-use Rattle.dots_core.specs.Contexts.{IsLast}
 use Rattle.dots_core.specs.Dots.{dot, dot_cmp, IsValid, HasClocks}
 use Rattle.dots_core.proofs.Order.{is_dot, is_dot_same, is_dot_above}
-use Rattle.dots_core.proofs.OwnClock.{count_more, clocks_more}
 use Rattle.payload_core.specs.EntryLists.{pairs}
 use Rattle.payload_core.specs.Presences.{Presence, Entries, dots_of}
 use Rattle.payload_core.proofs.TrackedDots.{EachPasses, dots_of_pass}
 use Rattle.store_core.specs.LeftEntries.{Left}
 use Rattle.store_core.specs.EntryMoves.{AreNew, picked, with_each, without_each}
-use Rattle.store_core.specs.Stores.{Store}
 use Rattle.store_core.specs.LeavesTogether.{AreLive, Differ, dots_before_each, entries_left, left_delta, left_store, lefts_of}
-use Rattle.store_core.specs.LeavesTogether.{restored_delta_each, restored_each, unsent_left, with_dots, with_next, without_next}
+use Rattle.store_core.specs.LeavesTogether.{restored_delta_each, restored_each, unsent_left, with_dots, without_next}
+use Rattle.store_core.proofs.KeptStores as stores
 use Rattle.store_core.proofs.LeftTogether.{AreAmong, dots_back, entries_picked, lefts_length, lefts_valid, unsent_picked}
 use Rattle.store_core.proofs.PutBack.{all_picked_new, put_all_back}
-use Rattle.store_core.proofs.SeenTogether.{AreOther, EndsAt, counts_after, next_back, next_first, other_dots, with_one_more}
+use Rattle.store_core.proofs.SeenTogether.{AreOther, EndsAt, counts_after, next_back, other_dots}
 use Rattle.replica_core.specs.Invariant.{IsReplica}
 use Rattle.replica_core.specs.Leaves.{AreOwnSeen}
-use Rattle.replica_core.specs.ProcessLeaves.{AllRestorable, CanAllBeRestored, IsLeaveAll}
-use Rattle.replica_core.specs.Refusals.{is_clock_full}
-use Rattle.replica_core.specs.Replicas.{Replica, dots_of_process, fresh, left, left_each, own_clock}
+use Rattle.replica_core.specs.ProcessLeaves.{AllRestorable, IsLeaveAll}
+use Rattle.replica_core.specs.Replicas.{Replica, dots_of_process, left_each, own_clock}
 use Rattle.replica_core.proofs.Invariant.{last_in_delta, last_is_last}
-use Rattle.replica_core.proofs.Left.{kept_left_each, own_dots_seen, own_seen_valid}
+use Rattle.replica_core.proofs.Left.{own_dots_seen}
+use Rattle.replica_core.proofs.StoreParts.{left_each_stores, replica_of, stores_of}
 
 -- leaves as edits of two stores
-
 pub left_each_parts : (ds : List Dot) (r : Replica) → HasClocks r.own r.store.seen →
     left_each ds r ≡ record r { store = left_store r.own (own_clock r) ds r.store; delta = left_delta r.own (own_clock r) ds r.delta }
-left_each_parts [] r clocks = refl
-left_each_parts (d ∷ ds) r clocks =
-    left_each_parts ds (left d r) (clocks_more r.own r.store.seen clocks)
-    ∙ (λ i. record r {
-      store = left_store r.own (count_more r.own r.store.seen clocks i) ds (left d r).store;
-      delta = left_delta r.own (count_more r.own r.store.seen clocks i) ds (left d r).delta;
-    })
-    ∙ (λ i. record r {
-      store = record {
-        seen = next_first r.own (own_clock r) (length ds) r.store.seen i;
-        entries = without_each ds (fin.remove r.store.entries d);
-      };
-      delta = record {
-        seen =
-            (ap (with_next r.own (own_clock r + 1) (length ds)) (with_one_more ds (set.insert r.delta.seen d) (fresh r))
-            ∙ next_first r.own (own_clock r) (length ds) (with_dots ds (set.insert r.delta.seen d))) i;
-        entries = without_each ds (fin.remove r.delta.entries d);
-      };
-    })
-
-pub clock_room : (r : Replica) (clock more : ℕ) → clock ≡ own_clock r → r.limits.clock ≤ 1000000000 → is_clock_full r more ≡ false →
-    clock + more ≤ 1000000000
-clock_room r clock more is last free = let fits = ltb-false r.limits.clock (own_clock r + more) free in omega (arith, is, last, fits)
-
--- what the leaves made, where `r` is the replica as its fields say it
-module _ (ds : List Dot) (r now : Replica) (same : r ≡ now) (h : IsReplica r) (own : AreOwnSeen ds now)
-    (free : is_clock_full now (length ds) ≡ false) where
-  own_here : AreOwnSeen ds r
-  own_here = subst (AreOwnSeen ds) (sym same) own
-
-  pub all_valid : All IsValid ds
-  all_valid = own_seen_valid ds r h own_here
-
-  module _ (clock : ℕ) (clock_is : clock ≡ own_clock now) where
-    pub clock_here : clock ≡ own_clock r
-    clock_here = clock_is ∙ ap own_clock (sym same)
-
-    module _ (store delta : Store) (store_is : store ≡ left_store r.own clock ds r.store)
-        (delta_is : delta ≡ left_delta r.own clock ds r.delta) where
-      all_gone : record r { store = store; delta = delta } ≡ left_each ds r
-      all_gone = (λ i. record r {
-        store = (store_is ∙ ap (λ c. left_store r.own c ds r.store) clock_here) i;
-        delta = (delta_is ∙ ap (λ c. left_delta r.own c ds r.delta) clock_here) i;
-      }) ∙ sym (left_each_parts ds r h.clocks)
-
-      pub all_gone_is : record r { store = store; delta = delta } ≡ left_each ds now
-      all_gone_is = all_gone ∙ ap (left_each ds) same
-
-      pub kept_all_gone : IsReplica (record r { store = store; delta = delta })
-      kept_all_gone =
-          subst IsReplica (sym all_gone)
-          (kept_left_each ds r h own_here (subst (λ r. is_clock_full r (length ds) ≡ false) (sym same) free))
-
--- what an undo makes, where `r` is the replica as its fields say it
-module _ (ls : List Left) (r now : Replica) (same : r ≡ now) (h : IsReplica r) (can : CanAllBeRestored ls now) (clock len : ℕ)
-    (clock_is : clock ≡ own_clock now) (len_is : len ≡ length ls) where
-  enough : clock - len + length ls ≡ own_clock r
-  enough = let some = (can.1).some in let here = ap own_clock same in omega (arith, some, here, clock_is, len_is)
-
-  pub lefts_fit : clock - len + length ls ≤ 1000000000
-  lefts_fit = let low = h.clock in let bound = h.limits.clock_few in omega (arith, enough, low, bound)
-
-  pub lefts_last : IsLast (dot r.own (clock - len + length ls)) r.store.seen
-  lefts_last = subst (λ c. IsLast (dot r.own c) r.store.seen) (sym enough) (last_is_last r h)
-
-  pub lefts_new : AreNew (pairs (entries_left ls)) r.store.entries
-  lefts_new = subst (λ (r : Replica). AreNew (pairs (entries_left ls)) r.store.entries) (sym same) (can.1).new
-
-  pub lefts_new_in_delta : AreNew (pairs (unsent_left ls)) r.delta.entries
-  lefts_new_in_delta = subst (λ (r : Replica). AreNew (pairs (unsent_left ls)) r.delta.entries) (sym same) (can.1).new_in_delta
+left_each_parts ds r clocks =
+    sym (left_each_stores ds r.limits r.view (stores_of r)) ∙ ap (replica_of r.limits r.view) (stores.left_each_parts ds (stores_of r) clocks)
 
 -- the dots of a name are live, and no two are alike
 

@@ -6,7 +6,7 @@ use denote.RattleType.{RattleType}
 use denote.Param.{param}
 use Rattle.dots_core.specs.contracts.dot_set.DotSet as dots
 use Rattle.payload_core.specs.contracts.entry_set.EntrySet as entries
-use Rattle.store_core.specs.contracts.store.Store as store
+use Rattle.store_core.specs.contracts.delta_store.DeltaStore as store
 use Rattle.replica_core.specs.contracts.replica.Replica as replica
 
 -- a size is a sum: what stands before the last field, that field, and what fills up behind it
@@ -17,7 +17,7 @@ pub later : (a b n : ℕ) → a + b < n → b < n
 later a b n h = omega arith
 
 module _ (A : RattleType) (g : Ghosts (param 0 A).Denot) (whole : FitsInMemory (replica.the_row (param 0 A) g)) where
-  -- the delta, which is the last field, is a store too
+  -- the stores, which are the last field
   pub store_fits : FitsInMemory (store.the_row (param 0 A) g)
   store_fits = later _ _ _ (earlier _ _ _ whole)
 

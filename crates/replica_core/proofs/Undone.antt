@@ -1,42 +1,41 @@
--- An undo's edits, where `r` is the replica as its fields say it.
-use Rattle.std.proofs.Common.{◌≡◌, ◌<◌, sym, ap, subst, ◌∙◌}
-use Rattle.dots_core.specs.declared.dot.Dot.{Dot}
-use Rattle.dots_core.specs.Contexts.{IsLast}
-use Rattle.dots_core.specs.Dots.{IsValid}
-use Rattle.store_core.specs.Stores.{Store, without}
-use Rattle.store_core.specs.LeftEntries.{HasPlace, Left, restored, restored_delta}
-use Rattle.replica_core.specs.Replicas.{Replica, last, own_clock}
-use Rattle.replica_core.specs.Invariant.{IsReplica}
-use Rattle.replica_core.specs.Changes.{with_left, without_last}
-use Rattle.replica_core.proofs.Invariant.{last_is_last, last_in_delta, last_valid}
+-- What an undo asks of a replica's stores.
+use Rattle.std.proofs.Common.{List, subst, sym}
+use Rattle.store_core.specs.Delivered.{Delivered}
+use Rattle.store_core.specs.DeltaStores.{CanAllBeRestored, CanBeRestored, CanBeUndelivered, CanBeUnjoined, IsDeltaStore}
+use Rattle.store_core.specs.LeftEntries.{Left}
+use Rattle.replica_core.specs.Changes.{ChangeLeadsBack, OfDeliver, OfJoin, Restorable}
+use Rattle.replica_core.specs.ProcessLeaves.{AllRestorable}
+use Rattle.replica_core.specs.Replicas.{Replica}
+use Rattle.replica_core.proofs.Back.{back_holds, some_after_join}
+use Rattle.replica_core.proofs.Destroyed.{undelivered_new}
+use Rattle.replica_core.proofs.StoreParts.{are_stores, stores_of}
 
-module _ (r now : Replica) (d : Dot) (same : r ≡ now) (h : IsReplica r) (is : d ≡ last now) where
-  here : d ≡ last r
-  here = is ∙ ap last (sym same)
+module _ (b a : Replica) where
+  pub can_unjoin : ChangeLeadsBack OfJoin b a → CanBeUnjoined (stores_of b)
+  can_unjoin h = record {
+    some = some_after_join b a h;
+    earlier = subst (λ r. IsDeltaStore (stores_of r)) (sym (back_holds OfJoin b a h)) (are_stores a h.earlier);
+  }
 
-  pub undo_valid : 0 < own_clock now → IsValid d
-  undo_valid some = subst IsValid (sym here) (last_valid r h (subst (λ (r : Replica). 0 < own_clock r) (sym same) some))
+  pub can_restore : (l : Left) → Restorable l b a → CanBeRestored l (stores_of b)
+  can_restore l h = record {
+    some = h.some;
+    valid = h.valid;
+    place = h.place;
+    earlier = subst (λ r. IsDeltaStore (stores_of r)) (sym h.back) (are_stores a h.earlier);
+  }
 
-  pub undo_last : IsLast d r.store.seen
-  undo_last = subst (λ d. IsLast d r.store.seen) (sym here) (last_is_last r h)
+  pub can_restore_all : (ls : List Left) → AllRestorable ls b a → CanAllBeRestored ls (stores_of b)
+  can_restore_all ls h = record {
+    some = h.some;
+    valid = h.valid;
+    new = h.new;
+    new_in_delta = h.new_in_delta;
+    earlier = subst (λ r. IsDeltaStore (stores_of r)) (sym h.back) (are_stores a h.earlier);
+  }
 
-  pub undo_last_in_delta : IsLast d r.delta.seen
-  undo_last_in_delta = subst (λ d. IsLast d r.delta.seen) (sym here) (last_in_delta r h)
-
-  pub undone_is : (store delta : Store) → store ≡ without d r.store → delta ≡ without d r.delta → record r { store = store; delta = delta } ≡ without_last now
-  undone_is store delta store_is delta_is =
-      (λ i. record r { store = (store_is ∙ ap (λ d. without d r.store) here) i; delta = (delta_is ∙ ap (λ d. without d r.delta) here) i })
-      ∙ ap without_last same
-
-  pub restored_is : (l : Left) (store delta : Store) → store ≡ restored l (without d r.store) →
-      delta ≡ restored_delta l (without d r.delta) → record r { store = store; delta = delta } ≡ with_left l (without_last now)
-  restored_is l store delta store_is delta_is =
-      (λ i. record r {
-        store = (store_is ∙ ap (λ d. restored l (without d r.store)) here) i;
-        delta =
-            (delta_is ∙ ap (λ d. restored_delta l (without d r.delta)) here) i;
-      })
-      ∙ ap (λ r. with_left l (without_last r)) same
-
-  pub undo_place : (l : Left) → HasPlace l now.store now.delta → HasPlace l r.store r.delta
-  undo_place l = subst (λ (r : Replica). HasPlace l r.store r.delta) (sym same)
+  pub can_undeliver : (d : Delivered) → ChangeLeadsBack (OfDeliver d) b a → CanBeUndelivered d (stores_of b)
+  can_undeliver d h = record {
+    new = undelivered_new d a b h.earlier h.call;
+    earlier = subst (λ r. IsDeltaStore (stores_of r)) (sym (back_holds (OfDeliver d) b a h)) (are_stores a h.earlier);
+  }

@@ -150,9 +150,6 @@ pub record Restorable (l : Left) (b a : Replica) : Type 0 where
   pub valid : IsValid l.entry.dot
   pub place : HasPlace l b.store b.delta
 
-abbrev pub CanBeRestored : Left → Replica → Type 0
-CanBeRestored l b = (a : Replica) × Restorable l b a
-
 -- the change leads back to some replica
 abbrev pub ChangeLeadsSomewhere : Change → Replica → Type 0
 ChangeLeadsSomewhere change b = (a : Replica) × ChangeLeadsBack change b a

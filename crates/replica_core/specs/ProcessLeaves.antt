@@ -31,6 +31,3 @@ pub record AllRestorable (ls : List Left) (b a : Replica) : Type 0 where
   pub valid : All (λ (l : Left). IsValid l.entry.dot) ls
   pub new : AreNew (pairs (entries_left ls)) b.store.entries
   pub new_in_delta : AreNew (pairs (unsent_left ls)) b.delta.entries
-
-abbrev pub CanAllBeRestored : List Left → Replica → Type 0
-CanAllBeRestored ls b = (a : Replica) × AllRestorable ls b a

@@ -1,4 +1,4 @@
-//! `Change`: what a call destroyed, kept to take the call back; and what the call moved, as the change tells it.
+//! `Change`: what a call destroyed. It is kept to take the call back, and it tells what the call moved.
 ghost use Rattle.std.specs.Prelude.{◌≡◌, [], ◌∷◌, length, option_copied, slice_get};
 ghost use Rattle.store_core.specs.LeavesTogether.{entries_left};
 ghost use Rattle.replica_core.specs.Changes.{plain_change};
@@ -12,24 +12,24 @@ use payload_core::{Entry, Handle};
 use std::alloc::Allocator;
 use store_core::{Delivered, Forgotten, Left};
 
-/// What one call of a replica destroyed: with it `Replica::undo` takes the call back (Danos and Krivine: causal undo).
+/// What one call of a replica destroyed: `Replica::undo` takes the call back with it (Danos and Krivine: causal undo).
 #[derive(Drop)]
 pub enum Change<A: Allocator> {
-    /// Nothing: the dot of the join is the last own one.
+    /// Nothing: the last own dot is that of the join.
     Join,
-    /// The entry that left, with the delta's entry at its dot.
+    /// The entry that left, and what the delta had at its dot.
     Leave(Left<A>),
-    /// The entries of the process that left, each with the delta's entry at its dot, by rising dot.
+    /// For each entry of the process that left, by rising dot: the entry, and what the delta had at its dot.
     LeaveAll(Vec<Left<A>, A>),
-    /// The old entry, with the delta's entry at its dot.
+    /// The old entry, and what the delta had at its dot.
     Update(Left<A>),
     /// The name, and its status before, if it was known.
     Up { name: u16, before: Option<Status> },
-    /// The name, and its status before, if it was known.
+    /// The name, and its status before: a name that goes down was known.
     Down { name: u16, before: Option<Status> },
-    /// The name, and what was held of it. It was down.
+    /// The name, which was down, and what was held of it.
     Permdown { name: u16, forgotten: Forgotten<A> },
-    /// What joined, what left, and the dots from before.
+    /// The dots whose entries joined, the entries that left, and the old parts of the names whose dots changed.
     Deliver(Delivered<A>),
 }
 
@@ -47,7 +47,7 @@ impl<A: Allocator> Change<A> {
         }
     }
 
-    /// The entry at this place, from 0, of those that left, by rising dot.
+    /// The entry at `place`, counted from 0, of those that left, by rising dot; `None` past the last.
     pub fn left_at(&self, place: usize) -> Option<&Entry<A>>
         ensures { option_copied result ≡ slice_get (left_by (plain_change self.now)) place }
     {
@@ -71,8 +71,8 @@ impl<A: Allocator> Change<A> {
         }
     }
 
-    /// The dot at this place, from 0 and by rising dot, of those that joined by a call that left the replica as
-    /// `after`.
+    /// The dot at `place`, counted from 0, of those that joined, by rising dot; `None` past the last. `after` is the
+    /// replica as the call left it.
     pub fn joined_at(&self, place: usize, after: &Replica<A>) -> Option<Dot>
         ensures { result ≡ slice_get (joined_by (plain_change self.now) after.now) place }
     {
@@ -83,7 +83,7 @@ impl<A: Allocator> Change<A> {
         }
     }
 
-    /// The name that is up since the call, and wasn't before.
+    /// The name that is up since the call and wasn't before; `None` if there is none.
     pub fn shown(&self) -> Option<u16>
         ensures { result ≡ shown_by (plain_change self.now) }
     {
@@ -93,7 +93,7 @@ impl<A: Allocator> Change<A> {
         }
     }
 
-    /// The name that was up before the call, and isn't any more.
+    /// The name that was up before the call and isn't since; `None` if there is none.
     pub fn hidden(&self) -> Option<u16>
         ensures { result ≡ hidden_by (plain_change self.now) }
     {
@@ -104,14 +104,14 @@ impl<A: Allocator> Change<A> {
     }
 }
 
-/// The dot at this place of the list.
+/// The dot of the list at `place`, counted from 0; `None` past the end.
 fn dot_at(dots: &[Dot], place: usize) -> Option<Dot>
     ensures { result ≡ slice_get dots.now place }
 {
     dots.get(place).copied()
 }
 
-/// The entry of the handle, if there is one.
+/// The entry of the handle; `None` if there is no handle.
 fn entry_of<A: Allocator>(handle: Option<&Handle<A>>) -> Option<&Entry<A>>
     ensures { option_copied result ≡ option_copied handle.entry }
 {
@@ -121,14 +121,14 @@ fn entry_of<A: Allocator>(handle: Option<&Handle<A>>) -> Option<&Entry<A>>
     }
 }
 
-/// The entry, if the place is 0.
+/// The entry if `place` is 0; `None` otherwise.
 fn first_of<A: Allocator>(entry: &Entry<A>, place: usize) -> Option<&Entry<A>>
     ensures { option_copied result ≡ slice_get (entry.now ∷ []) place }
 {
     if place == 0 { Some(entry) } else { None }
 }
 
-/// The entry at this place of those that left.
+/// The entry of `lefts` at `place`, counted from 0; `None` past the end.
 fn entry_at<A: Allocator>(lefts: &[Left<A>], place: usize) -> Option<&Entry<A>>
     ensures { option_copied result ≡ slice_get (entries_left lefts.now) place }
 {

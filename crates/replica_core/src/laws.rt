@@ -5,20 +5,22 @@ ghost use Rattle.replica_core.specs.Changes.{BackLaw};
 ghost use Rattle.replica_core.specs.Laws.{AgainLaw, DeltaLaw, OrderLaw, StandingLaw};
 ghost use Rattle.replica_core.specs.Moves.{MovesLaw};
 
-/// A second merge of the same message is accepted, and changes nothing.
+/// If a message is merged twice in a row, and the first merge is accepted, so is the second. The second merge changes
+/// nothing.
 #[tactic(auto, using(crate::proofs::Deliveries::again_holds))]
 pub fn again_law()
     ensures { AgainLaw }
 {}
 
-/// If two messages have no different entries at one dot, they give the same replica in either order.
+/// If two messages don't have different entries at the same dot, merging both gives the same replica in either order,
+/// unless a merge is refused.
 #[tactic(auto, using(crate::proofs::Deliveries::order_holds))]
 pub fn order_law()
     ensures { OrderLaw }
 {}
 
-/// After a delivery each dot of another known name has the greater of its two standings (0 unseen, 1 live, 2 seen and not
-/// live), and each other dot the one that it had.
+/// After a delivery each dot of another known name has the greater of two standings: the one that it had at the
+/// replica, and the one in the message (0 unseen, 1 live, 2 gone). Each other dot keeps its standing.
 #[tactic(auto, using(crate::proofs::Deliveries::standing_holds))]
 pub fn standing_law()
     ensures { StandingLaw }
@@ -29,7 +31,7 @@ pub fn delta_law()
     ensures { DeltaLaw }
 {}
 
-/// A change leads back to one replica.
+/// From one replica a change leads back to at most one replica.
 #[tactic(auto, using(crate::proofs::Back::back_holds))]
 pub fn back_law()
     ensures { BackLaw }

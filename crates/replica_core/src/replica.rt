@@ -1,13 +1,14 @@
 //! `Replica`: what one node has seen, holds, knows of the others' names, and has not sent yet.
 //!
-//! Here are the type and what is read of it; below, a module for each kind of call, with what takes it back.
+//! This module has the type and what is read of it. Below it are a module for each kind of call, and `undone`, which
+//! takes a call back by its change. A broadcast, which takes the delta out, is taken back in `deltas`.
 ghost use Rattle.std.specs.Prelude.{◌≡◌, ◌↔◌, ◌<◌, ◌≤◌, ◌^◌, IfOk, IsTrue};
 ghost use Rattle.std.specs.FinMap as fin;
 ghost use Rattle.replica_core.specs.Delivered.{AreOtherKnown};
 ghost use Rattle.replica_core.specs.Invariant.{IsReplica};
 ghost use Rattle.replica_core.specs.Limits.{AreNodeLimits};
 ghost use Rattle.replica_core.specs.Refusals.{are_too_many, has_dots, is_clock_full};
-ghost use Rattle.replica_core.specs.Replicas.{is_online, last, opening, own_clock};
+ghost use Rattle.replica_core.specs.Replicas.{is_online, last, opening};
 ghost use Rattle.replica_core.specs.Views.{AreKnown, known_of};
 
 mod deliveries;
@@ -26,21 +27,20 @@ use dots_core::{Dot, DotSet, NameSet, Oom};
 use payload_core::EntrySet;
 use std::alloc::Allocator;
 use std::marker::Model;
-use store_core::Store;
+use store_core::DeltaStore;
 
-/// The replica of one node (Phoenix.Tracker.State, as sets; its dots are those of RR-8083): the dots that it has seen
-/// and the live entries among them, the statuses of the names that it knows, and the delta, which is what it did since
-/// it last took its delta. A seen dot without an entry was removed.
+/// The replica of one node (Phoenix.Tracker.State, as sets; its dots are those of RR-8083). It has the dots that it has
+/// seen and the live entries among them, the statuses of the names that it knows, and the delta. The delta has the own
+/// dots that calls touched since the delta was last taken, with the live entries among these dots. A seen dot without
+/// an entry was removed.
 ///
 /// A contract sees the `Replica` of the definitions. A refused call leaves the replica unchanged.
 #[derive(Drop)]
 pub struct Replica<A: Allocator> {
     alloc: A,
-    own: u16,
     limits: NodeLimits,
-    store: Store<A>,
     view: View,
-    delta: Store<A>,
+    stores: DeltaStore<A>,
 }
 
 impl<A: Allocator> Model for Replica<A> {
@@ -51,9 +51,9 @@ impl<A: Allocator> Model for Replica<A> {
 
     ghost coded = { replica_code };
 
-    ghost view = { λ r. record { own = r.own; limits = r.limits; store = r.store; view = r.view; delta = r.delta } };
+    ghost view = { λ r. record { own = r.stores.own; limits = r.limits; store = r.stores.store; view = r.view; delta = r.stores.delta } };
 
-    ghost invariant = { λ r. IsReplica (record { own = r.own; limits = r.limits; store = r.store; view = r.view; delta = r.delta }) };
+    ghost invariant = { λ r. IsReplica (record { own = r.stores.own; limits = r.limits; store = r.stores.store; view = r.view; delta = r.stores.delta }) };
 }
 
 impl<A: Allocator> Replica<A> {
@@ -61,38 +61,38 @@ impl<A: Allocator> Replica<A> {
     pub fn own(&self) -> u16
         ensures { result ≡ self.now.own }
     {
-        self.own
+        self.stores.own()
     }
 
-    /// The dots that it has seen.
+    /// The dots that the replica has seen.
     pub fn seen(&self) -> &DotSet<A>
         ensures { result.now ≡ self.now.store.seen }
     {
-        self.store.seen()
+        self.stores.seen()
     }
 
     /// The live entries.
     pub fn entries(&self) -> &EntrySet<A>
         ensures { result.now.map ≡ self.now.store.entries }
     {
-        self.store.entries()
+        self.stores.entries()
     }
 
     /// The dots of the delta.
     pub fn delta_seen(&self) -> &DotSet<A>
         ensures { result.now ≡ self.now.delta.seen }
     {
-        self.delta.seen()
+        self.stores.delta_seen()
     }
 
     /// The entries of the delta.
     pub fn delta_entries(&self) -> &EntrySet<A>
         ensures { result.now.map ≡ self.now.delta.entries }
     {
-        self.delta.entries()
+        self.stores.delta_entries()
     }
 
-    /// The status of a name, if it is known.
+    /// The status of the name; `None` if the name isn't known.
     pub fn status(&self, name: u16) -> Option<Status>
         ensures { result ≡ fin.get self.now.view name }
     {
@@ -106,7 +106,7 @@ impl<A: Allocator> Replica<A> {
         self.view.status(name) == Some(Status::Up)
     }
 
-    /// The names that it knows, the own among them.
+    /// The names that the replica knows, the own among them.
     pub fn known(&self) -> NameSet
         ensures names { result ≡ known_of self.now.view }
         ensures known { AreKnown self.now.view result }
@@ -118,52 +118,39 @@ impl<A: Allocator> Replica<A> {
     pub fn has_delta(&self) -> bool
         ensures { result ≡ has_dots self.now.delta.seen }
     {
-        !self.delta.seen().is_empty()
+        !self.stores.delta_seen().is_empty()
     }
 
     /// Whether the two have the same name, limits, dots, entries, statuses and delta. It takes no memory.
     pub fn same(&self, other: &Replica<A>) -> bool
         ensures { IsTrue result ↔ (self.now ≡ other.now) }
     {
-        self.own == other.own
-            && self.limits == other.limits
-            && self.store.same(&other.store)
+        self.limits == other.limits
             && self.view.same(&other.view)
-            && self.delta.same(&other.delta)
+            && self.stores.same(&other.stores)
     }
 
     /// Does nothing. Its contract says what each replica keeps.
     pub fn replica_law(&self)
         ensures { IsReplica self.now }
     {
-        let _ = &self.own;
+        // form: the proof reads the field here
+        let _ = &self.limits;
     }
 
-    /// The own clock, which is that of the last own dot.
-    fn own_clock(&self) -> u64
-        ensures clock { result ≡ own_clock self.now }
-        ensures within { own_clock self.now ≤ self.now.limits.clock }
-        ensures last { self.now.limits.clock ≤ 1000000000 }
-    {
-        self.store.seen().clock_of(self.own)
-    }
-
-    /// The last own dot; before the first, that with the clock 0.
+    /// The last own dot; before there is one, the own dot with the clock 0.
     pub fn last(&self) -> Dot
         ensures { result ≡ last self.now }
     {
-        Dot {
-            name: self.own,
-            clock: self.own_clock(),
-        }
+        self.stores.last()
     }
 
-    /// Whether `more` own dots would pass the limit of the own clock.
+    /// Whether `more` fresh dots would take the own clock past its limit.
     fn is_clock_full(&self, more: usize) -> bool
         requires { more < 2 ^ 63 }
         ensures { result ≡ is_clock_full self.now more }
     {
-        self.own_clock() + more as u64 > self.limits.clock
+        self.stores.own_clock() + more as u64 > self.limits.clock
     }
 
     fn are_too_many(&self, entries: usize) -> bool
@@ -172,11 +159,11 @@ impl<A: Allocator> Replica<A> {
         entries as u64 > self.limits.entries
     }
 
-    /// The other names that it knows.
+    /// The names that the replica knows, other than its own.
     fn others(&self) -> NameSet
         ensures { AreOtherKnown result self.now }
     {
-        self.view.known().without(self.own)
+        self.view.known().without(self.own())
     }
 }
 
@@ -189,25 +176,21 @@ impl<A: Allocator + Copy> Replica<A> {
     {
         Replica {
             alloc,
-            own,
             limits,
-            store: Store::indexed(alloc, own),
             view: View::opening(own),
-            delta: Store::new(alloc),
+            stores: DeltaStore::new(alloc, own),
         }
     }
 
-    /// A second replica with the same name, limits, dots, entries, statuses and delta.
+    /// A copy of the replica.
     pub fn try_copy(&self) -> Result<Replica<A>, Oom>
         ensures { IfOk result (λ copy. copy ≡ self.now) }
     {
         Ok(Replica {
             alloc: self.alloc,
-            own: self.own,
             limits: self.limits,
-            store: self.store.try_copy()?,
             view: self.view.copy(),
-            delta: self.delta.try_copy()?,
+            stores: self.stores.try_copy()?,
         })
     }
 }

@@ -2,7 +2,8 @@
 use payload_core::Oom;
 use thiserror::Error;
 
-/// Why a replica refuses a call, in the order in which the causes are looked for.
+/// Why a replica refuses a call, in the order in which the causes are looked for; `OutOfMemory` comes wherever memory
+/// is refused.
 #[derive(Clone, Copy, Debug, PartialEq, Eq, Error)]
 pub enum ReplicaFault {
     /// The name is the replica's own.
@@ -17,7 +18,7 @@ pub enum ReplicaFault {
     /// An own entry has this process, topic and key.
     #[error("AlreadyTracked")]
     AlreadyTracked,
-    /// No own entry has the process, topic and key of the call, or its process alone if it leaves all.
+    /// No own entry has the process, topic and key of the call; of a leave all, none has its process.
     #[error("NotTracked")]
     NotTracked,
     /// The delta has no dot.

@@ -41,7 +41,7 @@ impl View {
         }
     }
 
-    /// The status of a known name.
+    /// The status of the name; `None` if the name isn't known.
     pub fn status(&self, name: u16) -> Option<Status>
         ensures { result ≡ fin.get self.now name }
     {
@@ -72,7 +72,7 @@ impl View {
         self.up = self.up.with(name);
     }
 
-    /// Puts the known name down.
+    /// Makes the known name down.
     pub fn lower(&mut self, name: u16)
         requires name { name < 32 }
         requires known { fin.contains_key self.old name ≡ true }
@@ -90,7 +90,7 @@ impl View {
         self.up = self.up.without(name);
     }
 
-    /// Gives the name this status, or forgets it if there is none.
+    /// Gives the name this status, or forgets it if that is `None`.
     pub fn put(&mut self, name: u16, status: Option<Status>)
         requires { name < 32 }
         ensures { self.new ≡ with_old name status self.old }
@@ -101,6 +101,7 @@ impl View {
         }
     }
 
+    /// Gives the name this status, whether it was known or not.
     fn put_known(&mut self, name: u16, status: Status)
         requires { name < 32 }
         ensures { self.new ≡ fin.insert self.old name status }
@@ -121,7 +122,7 @@ impl View {
         self.known.same(other.known) && self.up.same(other.up)
     }
 
-    /// A view with the same names and statuses.
+    /// A copy of the view. It takes no memory.
     pub fn copy(&self) -> View
         ensures { result ≡ self.now }
     {

@@ -13,7 +13,6 @@ use Rattle.entry_core.specs.EntryLists.{pairs}
 use Rattle.entry_core.specs.Presences.{Presence, Entry, Entries, entry_of, presence_of}
 use Rattle.block_core.proofs.EntryMaps.{get_remove_other, get_removed}
 use Rattle.store_core.specs.LeftEntries.{IsFree, Left, dots_before, put}
-use Rattle.store_core.specs.Stores.{Store}
 use Rattle.store_core.specs.EntryMoves.{AreNew, found_at, picked, with_each, without_each}
 use Rattle.store_core.specs.LeavesTogether.{AreLive, Differ, dots_before_each, entries_left, found_lefts, left_at, left_if, lefts_of, listed}
 use Rattle.store_core.specs.LeavesTogether.{still_there, unsent_left, with_dots, without_found}
@@ -56,15 +55,6 @@ module _ (ds : List Dot) (i : ℕ) (d : Dot) (es us : Entries) (seen : Dots) (it
           ap (λ l. items ++ l ∷ rest) (left ∙ (λ j. record { entry = entry j; unsent = unsent j; in_delta = in_delta j }))
           ∙ sym (ap (λ g. items ++ (left_at d g (fin.get us d) (set.contains seen d) ++ rest)) is)
           ∙ here
-
--- what a store tells, its parts told before
-
-pub entry_in : (d : Dot) (s t : Store) (o : Option Entry) → o ≡ option_map (entry_of d) (fin.get s.entries d) → s ≡ t →
-    o ≡ option_map (entry_of d) (fin.get t.entries d)
-entry_in d s t o is same = is ∙ ap (λ (s : Store). option_map (entry_of d) (fin.get s.entries d)) same
-
-pub dot_in : (d : Dot) (s t : Store) (b : Bool) → b ≡ set.contains s.seen d → s ≡ t → b ≡ set.contains t.seen d
-dot_in d s t b is same = is ∙ ap (λ (s : Store). set.contains s.seen d) same
 
 -- what was found at once is what leaves one after another
 

@@ -1,4 +1,5 @@
 pub mod ApartEntries
+pub mod KeptStores
 pub mod LeftTogether
 pub mod MergedCounts
 pub mod MovedEntries

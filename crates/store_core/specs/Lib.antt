@@ -1,3 +1,4 @@
+pub mod DeltaStores
 pub mod Delivered
 pub mod EntryMoves
 pub mod ForgottenNames

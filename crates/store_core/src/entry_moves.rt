@@ -1,4 +1,4 @@
-//! Entries moved out of a set one after another, and put back.
+//! Several entries of a set: taking them out one after another, and putting them back.
 ghost use Rattle.std.specs.Prelude.{◌≡◌, ◌≤◌, IfOk, OnErr, OnOk};
 ghost use Rattle.std.specs.FinMap as fin;
 ghost use Rattle.entry_core.specs.EntryLists.{pairs};
@@ -10,8 +10,8 @@ use entry_core::Handle;
 use payload_core::EntrySet;
 use std::alloc::Allocator;
 
-/// Handles of the entries at these dots.
-pub fn handles_of<A: Allocator + Copy>(
+/// Handles of the entries at these dots. A dot without an entry gives none.
+pub(crate) fn handles_of<A: Allocator + Copy>(
     entries: &EntrySet<A>,
     dots: &[Dot],
     alloc: A,
@@ -27,7 +27,7 @@ pub fn handles_of<A: Allocator + Copy>(
     Ok(handles)
 }
 
-/// Takes out the entries at these dots. It takes no memory.
+/// Takes out the entries at these dots; a dot without an entry is passed over. It takes no memory.
 pub(crate) fn take_out_each<A: Allocator>(entries: &mut EntrySet<A>, dots: &[Dot])
     ensures map { entries.new.map ≡ without_each dots.now entries.old.map }
     ensures room { entries.old.room ≤ entries.new.room }
@@ -37,8 +37,8 @@ pub(crate) fn take_out_each<A: Allocator>(entries: &mut EntrySet<A>, dots: &[Dot
     }
 }
 
-/// Inserts other handles of these entries, or none where memory is refused.
-pub fn put_each<A: Allocator + Copy>(
+/// Inserts the entries of `handles`, each by a further handle; if memory is refused, none of them.
+pub(crate) fn put_each<A: Allocator + Copy>(
     entries: &mut EntrySet<A>,
     handles: &[Handle<A>],
 ) -> Result<(), Oom>
@@ -53,7 +53,7 @@ pub fn put_each<A: Allocator + Copy>(
     Ok(())
 }
 
-/// Inserts other handles of these entries. Where memory is refused, some may be in.
+/// Inserts the entries of `handles`, each by a further handle. If memory is refused, some may be in.
 fn put_some<A: Allocator + Copy>(
     entries: &mut EntrySet<A>,
     handles: &[Handle<A>],
@@ -68,7 +68,7 @@ fn put_some<A: Allocator + Copy>(
     Ok(())
 }
 
-/// Takes out the entries at the dots of these. It takes no memory.
+/// Takes out the entries at the dots of these handles. It takes no memory.
 pub(crate) fn discard_each<A: Allocator>(entries: &mut EntrySet<A>, handles: &[Handle<A>])
     ensures { entries.new.map ≡ without_each (dots_of_pairs (pairs handles.now)) entries.old.map }
 {

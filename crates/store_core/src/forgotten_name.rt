@@ -1,22 +1,22 @@
-//! A name forgotten by a store, and remembered again.
-ghost use Rattle.std.specs.Prelude.{◌≡◌, ◌==◌, ◌<◌, IfErr, IfOk, OnErr, OnOk};
+//! Forgetting a name in a store, and remembering it.
+ghost use Rattle.std.specs.Prelude.{◌≡◌, ◌≢◌, ◌==◌, ◌<◌, IfErr, IfOk, OnErr, OnOk};
 ghost use Rattle.std.specs.FinMap as fin;
 ghost use Rattle.std.specs.FinSet as set;
 ghost use Rattle.entry_core.specs.EntryLists.{pairs};
-ghost use Rattle.store_core.specs.EntryMoves.{AreNew};
-ghost use Rattle.store_core.specs.ForgottenNames.{Holds, remembered};
+ghost use Rattle.store_core.specs.DeltaStores.{CanBeRemembered, with_remembered};
+ghost use Rattle.store_core.specs.ForgottenNames.{Holds};
 ghost use Rattle.entry_core.specs.Presences.{entries_of_names};
 ghost use Rattle.store_core.specs.Stores.{is_other, part};
 
+use crate::delta_store::DeltaStore;
 use crate::entry_moves::{handles_of, put_each, take_out_each};
-use crate::store::Store;
 use dots_core::{Dot, Oom, Part};
 use entry_core::Handle;
 use payload_core::EntrySet;
 use std::alloc::Allocator;
 use std::marker::Model;
 
-/// What a store held of a name.
+/// What a store held of a name: its part, and its entries.
 #[derive(Drop)]
 pub struct Forgotten<A: Allocator> {
     pub part: Part<A>,
@@ -31,46 +31,47 @@ impl<A: Allocator> Model for Forgotten<A> {
     ghost view = { λ f. record { part = f.part; entries = f.entries.items } };
 }
 
-/// Forgets a name: the store holds nothing of it from now on.
-pub fn forget<A: Allocator + Copy>(
-    store: &mut Store<A>,
-    name: u16,
-    alloc: A,
-) -> Result<Forgotten<A>, Oom>
-    requires { name < 32 }
-    ensures ok { OnOk result (store.new ≡ part (is_other name) store.old) }
-    ensures held { IfOk result (Holds name store.old) }
-    ensures back { IfOk result (λ forgotten. remembered name forgotten store.new ≡ store.old) }
-    ensures new { IfOk result (λ forgotten. AreNew (pairs forgotten.entries) store.new.entries) }
-    ensures err { OnErr result (store.new ≡ store.old) }
-{
-    let dots = dots_of_name(&store.entries, name, alloc)?;
-    let entries = handles_of(&store.entries, &dots, alloc)?;
-    take_out_each(&mut store.entries, &dots);
-    let part = store.seen.drop_name(name);
-    Ok(Forgotten { part, entries })
-}
-
-/// Puts back what was held of the name. Where memory is refused, it is given back.
-pub fn remember<A: Allocator + Copy>(
-    store: &mut Store<A>,
-    name: u16,
-    forgotten: Forgotten<A>,
-) -> Result<(), (Forgotten<A>, Oom)>
-    requires name { name < 32 }
-    requires new { AreNew (pairs forgotten.entries) store.old.entries }
-    ensures ok { OnOk result (store.new ≡ remembered name forgotten store.old) }
-    ensures err { OnErr result (store.new ≡ store.old) }
-    ensures given_back { IfErr result (λ failed. failed.0 ≡ forgotten) }
-{
-    if let Err(failed) = put_each(&mut store.entries, &forgotten.entries) {
-        return Err((forgotten, failed));
+impl<A: Allocator + Copy> DeltaStore<A> {
+    /// Forgets `name`, which isn't the own name: takes out its dots and entries. The delta stays, as it has own dots
+    /// alone. What the store held of the name is returned, for `remember`. An `Err` changes nothing.
+    pub fn forget(&mut self, name: u16) -> Result<Forgotten<A>, Oom>
+        requires name { name < 32 }
+        requires other { name ≢ self.old.own }
+        ensures forgotten { OnOk result (self.new ≡ record self.old { store = part (is_other name) self.old.store }) }
+        ensures held { IfOk result (Holds name self.old.store) }
+        ensures can_be_remembered { IfOk result (λ forgotten. CanBeRemembered name forgotten self.new) }
+        ensures back { IfOk result (λ forgotten. with_remembered name forgotten self.new ≡ self.old) }
+        ensures err { OnErr result (self.new ≡ self.old) }
+    {
+        let alloc = self.entries.allocator();
+        let dots = dots_of_name(&self.entries, name, alloc)?;
+        let entries = handles_of(&self.entries, &dots, alloc)?;
+        take_out_each(&mut self.entries, &dots);
+        let part = self.seen.drop_name(name);
+        Ok(Forgotten { part, entries })
     }
-    store.seen.set_part(name, forgotten.part);
-    Ok(())
+
+    /// Puts back `forgotten`, the dots and entries that the store held of the name. If memory is refused, `forgotten`
+    /// comes back, and nothing changes.
+    pub fn remember(
+        &mut self,
+        name: u16,
+        forgotten: Forgotten<A>,
+    ) -> Result<(), (Forgotten<A>, Oom)>
+        requires { CanBeRemembered name forgotten self.old }
+        ensures ok { OnOk result (self.new ≡ with_remembered name forgotten self.old) }
+        ensures err { OnErr result (self.new ≡ self.old) }
+        ensures given_back { IfErr result (λ failed. failed.0 ≡ forgotten) }
+    {
+        if let Err(failed) = put_each(&mut self.entries, &forgotten.entries) {
+            return Err((forgotten, failed));
+        }
+        self.seen.set_part(name, forgotten.part);
+        Ok(())
+    }
 }
 
-/// The dots of the entries of a name, rising.
+/// The dots of the name's entries, rising.
 fn dots_of_name<A: Allocator + Copy>(
     entries: &EntrySet<A>,
     name: u16,

@@ -1,4 +1,4 @@
-//! Entries of one name that leave a store and its delta together, and all of them taken back.
+//! Own entries that leave a store and its delta together, and taking all these leaves back.
 ghost use Rattle.std.specs.Prelude.{◌≡◌, ◌+◌, ◌<◌, ◌≤◌, [], All, IfErr, IfOk, IsOk, OnErr, OnOk, length, vec_capacity};
 ghost use Rattle.std.specs.FinMap as fin;
 ghost use Rattle.std.specs.FinSet as set;
@@ -6,65 +6,93 @@ ghost use Rattle.dots_core.specs.Contexts.{IsLast};
 ghost use Rattle.dots_core.specs.Dots.{HasClocks, IsValid, count_of, dot};
 ghost use Rattle.entry_core.specs.EntryLists.{pairs};
 ghost use Rattle.store_core.specs.EntryMoves.{AreNew, dots_of_pairs, with_each, without_each};
-ghost use Rattle.store_core.specs.LeavesTogether.{dots_before_each, entries_left, found_lefts, left_delta, left_store, lefts_of};
-ghost use Rattle.store_core.specs.LeavesTogether.{restored_delta_each, restored_each, still_there, unsent_left, with_dots, with_next, without_found, without_next};
+ghost use Rattle.store_core.specs.DeltaStores.{AreOwn, CanAllBeRestored, left_each, own_clock, with_lefts};
+ghost use Rattle.store_core.specs.LeavesTogether.{dots_before_each, entries_left, found_lefts, lefts_of, still_there, unsent_left};
+ghost use Rattle.store_core.specs.LeavesTogether.{with_dots, with_next, without_found, without_next};
 
+use crate::delta_store::DeltaStore;
 use crate::entry_moves::take_out_each;
 use crate::left_entry::Left;
-use crate::store::Store;
 use crate::store_joins::put_shared;
 use crate::store_leaves::{put_back, take_back, unsee};
 use dots_core::{Dot, DotSet, Oom};
 use payload_core::EntrySet;
 use std::alloc::Allocator;
 
-/// Takes the entries at these dots out of the store, has the delta note their dots, and has both see one more dot of
-/// the name for each, above this clock, the name's last. It copies the delta's dots, so that all that may be refused
-/// comes first.
-pub fn leave_each<A: Allocator + Copy>(
-    store: &mut Store<A>,
-    delta: &mut Store<A>,
-    dots: &[Dot],
-    name: u16,
-    clock: u64,
-    alloc: A,
-) -> Result<Vec<Left<A>, A>, Oom>
-    requires valid { All IsValid dots.now }
-    requires name { name < 32 }
-    requires fits { clock + length dots.now ≤ 1000000000 }
-    requires clocks { HasClocks name store.old.seen }
-    requires clock { clock ≡ count_of name store.old.seen }
-    ensures store { OnOk result (store.new ≡ left_store name clock dots.now store.old) }
-    ensures delta { OnOk result (delta.new ≡ left_delta name clock dots.now delta.old) }
-    ensures left { IfOk result (λ lefts. lefts.items ≡ lefts_of dots.now store.old.entries delta.old.entries delta.old.seen) }
-    ensures store_stays { OnErr result (store.new ≡ store.old) }
-    ensures delta_stays { OnErr result (delta.new ≡ delta.old) }
-{
-    let found = lefts_at(&store.entries, delta, dots, alloc)?;
-    let lefts = Vec::with_capacity(alloc, found.len())?;
-    let seen = copy_with(&delta.seen, dots, name, clock)?;
-    see_next(&mut store.seen, name, clock, dots.len()).unwrap();
-    let lefts = take_lefts(&mut store.entries, found, lefts);
-    take_out_each(&mut delta.entries, dots);
-    delta.seen = seen;
-    Ok(lefts)
+impl<A: Allocator + Copy> DeltaStore<A> {
+    /// Takes out the own entries at these dots, also from the delta, which gains these dots and a fresh one for each.
+    /// The fresh dots are seen, too. What was destroyed is returned, for `restore_each`. An `Err` changes nothing. A
+    /// copy of the delta's dots is edited, so that all that may be refused comes first.
+    pub fn leave_each(&mut self, dots: &[Dot]) -> Result<Vec<Left<A>, A>, Oom>
+        requires own { AreOwn dots.now self.old }
+        requires free { own_clock self.old + length dots.now ≤ 1000000000 }
+        ensures left { OnOk result (self.new ≡ left_each dots.now self.old) }
+        ensures stood { IfOk result (λ lefts. lefts.items ≡ lefts_of dots.now self.old.store.entries self.old.delta.entries self.old.delta.seen) }
+        ensures err { OnErr result (self.new ≡ self.old) }
+    {
+        let alloc = self.entries.allocator();
+        let clock = self.own_clock();
+        let found = lefts_at(
+            &self.entries,
+            &self.delta_entries,
+            &self.delta_seen,
+            dots,
+            alloc,
+        )?;
+        let lefts = Vec::with_capacity(alloc, found.len())?;
+        let delta_seen = copy_with(&self.delta_seen, dots, self.own, clock)?;
+        see_next(&mut self.seen, self.own, clock, dots.len()).unwrap();
+        let lefts = take_lefts(&mut self.entries, found, lefts);
+        take_out_each(&mut self.delta_entries, dots);
+        self.delta_seen = delta_seen;
+        Ok(lefts)
+    }
+
+    /// Takes back leaves that were made together: puts back the entries that left, in the delta, too, if they stood
+    /// there, and removes as many of the last own dots. If memory is refused, `lefts` comes back, and nothing changes.
+    /// Like `leave_each`, it edits a copy of the delta's dots.
+    pub fn restore_each(&mut self, lefts: Vec<Left<A>, A>) -> Result<(), (Vec<Left<A>, A>, Oom)>
+        requires { CanAllBeRestored lefts.items self.old }
+        ensures ok { OnOk result (self.new ≡ with_lefts lefts.items self.old) }
+        ensures err { OnErr result (self.new ≡ self.old) }
+        ensures given_back { IfErr result (λ failed. failed.0 ≡ lefts) }
+    {
+        let clock = self.own_clock() - lefts.len() as u64;
+        match copy_without(&self.delta_seen, self.own, clock, &lefts) {
+            Err(failed) => Err((lefts, failed)),
+            Ok(delta_seen) => {
+                if let Err(failed) = put_lefts_back(
+                    &mut self.entries,
+                    &mut self.delta_entries,
+                    &lefts,
+                ) {
+                    // form: drop before exit
+                    drop(delta_seen);
+                    return Err((lefts, failed));
+                }
+                unsee_next(&mut self.seen, self.own, clock, lefts.len()).unwrap();
+                self.delta_seen = delta_seen;
+                Ok(())
+            }
+        }
+    }
 }
 
-/// What a leave would destroy at each of these dots at which there is an entry. Neither the entries nor the delta
-/// change.
+/// What a leave would destroy at each of these dots that has an entry. Neither the entries nor the delta change.
 fn lefts_at<A: Allocator + Copy>(
     entries: &EntrySet<A>,
-    delta: &Store<A>,
+    delta_entries: &EntrySet<A>,
+    delta_seen: &DotSet<A>,
     dots: &[Dot],
     alloc: A,
 ) -> Result<Vec<Left<A>, A>, Oom>
-    ensures { IfOk result (λ found. found.items ≡ found_lefts dots.now entries.now.map delta.now.entries delta.now.seen) }
+    ensures { IfOk result (λ found. found.items ≡ found_lefts dots.now entries.now.map delta_entries.now.map delta_seen.now) }
 {
     let mut found = Vec::with_capacity(alloc, dots.len())?;
     for dot in dots {
         if let Some(entry) = entries.handle(*dot)? {
-            let unsent = delta.entries.handle(*dot)?;
-            let in_delta = delta.seen.contains(*dot);
+            let unsent = delta_entries.handle(*dot)?;
+            let in_delta = delta_seen.contains(*dot);
             found.push(Left {
                 entry,
                 unsent,
@@ -75,7 +103,7 @@ fn lefts_at<A: Allocator + Copy>(
     Ok(found)
 }
 
-/// The set with these dots, and with one dot of the name above the clock for each of them.
+/// A copy of `seen` with `dots`, and with as many dots of `name`: those whose clocks follow `clock`.
 fn copy_with<A: Allocator + Copy>(
     seen: &DotSet<A>,
     dots: &[Dot],
@@ -93,7 +121,7 @@ fn copy_with<A: Allocator + Copy>(
     Ok(copy)
 }
 
-/// Inserts these dots. Where memory is refused, some may be in.
+/// Inserts these dots. If memory is refused, some may be in.
 fn see_each<A: Allocator>(seen: &mut DotSet<A>, dots: &[Dot]) -> Result<(), Oom>
     requires { All IsValid dots.now }
     ensures { OnOk result (seen.new ≡ with_dots dots.now seen.old) }
@@ -104,8 +132,8 @@ fn see_each<A: Allocator>(seen: &mut DotSet<A>, dots: &[Dot]) -> Result<(), Oom>
     Ok(())
 }
 
-/// Puts in `count` dots of the name above this clock. It takes no memory where that is the name's last clock and no clock
-/// below it is missing. Where memory is refused, some may be in.
+/// Inserts the `count` dots of the name whose clocks follow `clock`. It takes no memory if the set has all dots of the
+/// name up to `clock` and none above. If memory is refused, some may be in.
 fn see_next<A: Allocator>(
     seen: &mut DotSet<A>,
     name: u16,
@@ -127,7 +155,8 @@ fn see_next<A: Allocator>(
     Ok(())
 }
 
-/// Takes out the entries of these, and moves those that were still there to the list, which has room for them.
+/// Takes the entries of `found` out of `entries`. It moves those that were there into `lefts`, an empty list with room
+/// for them, and gives `lefts`.
 fn take_lefts<A: Allocator>(
     entries: &mut EntrySet<A>,
     found: Vec<Left<A>, A>,
@@ -147,66 +176,29 @@ fn take_lefts<A: Allocator>(
     lefts
 }
 
-/// Takes leaves back: puts what left back in, and takes out one dot of the name above this clock for each, the name's
-/// last ones. Where memory is refused, what left comes back.
-pub fn restore_each<A: Allocator + Copy>(
-    store: &mut Store<A>,
-    delta: &mut Store<A>,
-    name: u16,
-    clock: u64,
-    lefts: Vec<Left<A>, A>,
-) -> Result<(), (Vec<Left<A>, A>, Oom)>
-    requires valid { All (λ left. IsValid left.entry.dot) lefts.items }
-    requires name { name < 32 }
-    requires fits { clock + length lefts.items ≤ 1000000000 }
-    requires last { IsLast (dot name (clock + length lefts.items)) store.old.seen }
-    requires new { AreNew (pairs (entries_left lefts.items)) store.old.entries }
-    requires new_in_delta { AreNew (pairs (unsent_left lefts.items)) delta.old.entries }
-    ensures store { OnOk result (store.new ≡ restored_each name clock lefts.items store.old) }
-    ensures delta { OnOk result (delta.new ≡ restored_delta_each name clock lefts.items delta.old) }
-    ensures store_stays { OnErr result (store.new ≡ store.old) }
-    ensures delta_stays { OnErr result (delta.new ≡ delta.old) }
-    ensures given_back { IfErr result (λ failed. failed.0 ≡ lefts) }
-{
-    match put_lefts_back(&mut store.entries, delta, name, clock, &lefts) {
-        Err(failed) => Err((lefts, failed)),
-        Ok(()) => {
-            unsee_next(&mut store.seen, name, clock, lefts.len()).unwrap();
-            Ok(())
-        }
-    }
-}
-
-/// Puts what left back into the entries, and into the delta with its dots. Where memory is refused it puts nothing
-/// back.
+/// Puts the entries that left back into `entries`, and those that the delta had into `delta_entries`. If memory is
+/// refused, neither changes.
 fn put_lefts_back<A: Allocator + Copy>(
     entries: &mut EntrySet<A>,
-    delta: &mut Store<A>,
-    name: u16,
-    clock: u64,
+    delta_entries: &mut EntrySet<A>,
     lefts: &[Left<A>],
 ) -> Result<(), Oom>
-    requires valid { All (λ left. IsValid left.entry.dot) lefts.now }
-    requires name { name < 32 }
-    requires fits { clock + length lefts.now ≤ 1000000000 }
     requires new { AreNew (pairs (entries_left lefts.now)) entries.old.map }
-    requires new_in_delta { AreNew (pairs (unsent_left lefts.now)) delta.old.entries }
+    requires new_in_delta { AreNew (pairs (unsent_left lefts.now)) delta_entries.old.map }
     ensures entries { OnOk result (entries.new.map ≡ with_each (pairs (entries_left lefts.now)) entries.old.map) }
-    ensures delta { OnOk result (delta.new ≡ restored_delta_each name clock lefts.now delta.old) }
+    ensures delta_entries { OnOk result (delta_entries.new.map ≡ with_each (pairs (unsent_left lefts.now)) delta_entries.old.map) }
     ensures entries_stay { OnErr result (entries.new.map ≡ entries.old.map) }
-    ensures delta_stays { OnErr result (delta.new ≡ delta.old) }
+    ensures delta_entries_stay { OnErr result (delta_entries.new.map ≡ delta_entries.old.map) }
 {
-    let seen = copy_without(&delta.seen, name, clock, lefts)?;
-    if let Err(failed) = put_lefts(entries, &mut delta.entries, lefts) {
-        discard_lefts(entries, &mut delta.entries, lefts);
+    if let Err(failed) = put_lefts(entries, delta_entries, lefts) {
+        discard_lefts(entries, delta_entries, lefts);
         return Err(failed);
     }
-    delta.seen = seen;
     Ok(())
 }
 
-/// The set without one dot of the name above the clock for each entry that left, and without the dots of those that
-/// left, unless they stood there before.
+/// A copy of `seen` without the dots of the name whose clocks follow `clock`, as many as there are `lefts`. The dots of
+/// the entries that left are taken out, too, unless the delta had them before.
 fn copy_without<A: Allocator + Copy>(
     seen: &DotSet<A>,
     name: u16,
@@ -224,8 +216,8 @@ fn copy_without<A: Allocator + Copy>(
     Ok(copy)
 }
 
-/// Takes out the dots of the entries that left, unless they stood in the set before. Where memory is refused, some may
-/// be out.
+/// Takes out the dots of the entries that left, unless the delta had them before. If memory is refused, some may be
+/// out.
 fn unsee_each<A: Allocator>(seen: &mut DotSet<A>, lefts: &[Left<A>]) -> Result<(), Oom>
     requires { All (λ left. IsValid left.entry.dot) lefts.now }
     ensures { OnOk result (seen.new ≡ dots_before_each lefts.now seen.old) }
@@ -236,8 +228,8 @@ fn unsee_each<A: Allocator>(seen: &mut DotSet<A>, lefts: &[Left<A>]) -> Result<(
     Ok(())
 }
 
-/// Takes out `count` dots of the name above this clock, the last one first. It takes no memory where they are the last
-/// ones of their name. Where memory is refused, some may be out.
+/// Takes out the `count` dots of the name whose clocks follow `clock`, the last one first. It takes no memory if these
+/// are the last dots of the name. If memory is refused, some may be out.
 fn unsee_next<A: Allocator>(
     seen: &mut DotSet<A>,
     name: u16,
@@ -259,8 +251,8 @@ fn unsee_next<A: Allocator>(
     Ok(())
 }
 
-/// Puts other handles of what left into the entries and into the delta's entries. Where memory is refused, some may be
-/// in.
+/// Inserts further handles of the entries that left into `entries`, and of those that the delta had into
+/// `delta_entries`. If memory is refused, some may be in.
 fn put_lefts<A: Allocator + Copy>(
     entries: &mut EntrySet<A>,
     delta_entries: &mut EntrySet<A>,
@@ -280,7 +272,8 @@ fn put_lefts<A: Allocator + Copy>(
     Ok(())
 }
 
-/// Takes what left out of the entries and of the delta's entries. It takes no memory.
+/// Takes the entries that left out of `entries`, and those that the delta had out of `delta_entries`. It takes no
+/// memory.
 fn discard_lefts<A: Allocator>(
     entries: &mut EntrySet<A>,
     delta_entries: &mut EntrySet<A>,

@@ -3,8 +3,8 @@ use entry_core::Handle;
 use std::alloc::Allocator;
 use std::marker::Model;
 
-/// What a leave or an update of one entry destroyed of a store and of a delta: the entry, the delta's entry at its dot, if
-/// it had one, and whether the dot stood in the delta.
+/// What a leave or an update of one entry destroyed: the entry; the delta's entry at the same dot, if there was one;
+/// and whether the delta had the dot.
 #[derive(Drop)]
 pub struct Left<A: Allocator> {
     pub entry: Handle<A>,

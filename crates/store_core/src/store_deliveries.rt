@@ -1,23 +1,23 @@
-//! A delivery of a message to a store, and the delivery taken back.
-ghost use Rattle.std.specs.Prelude.{◌≡◌, ◌↔◌, ◌<◌, IfErr, IfOk, IsTrue, OnErr, OnOk};
+//! A delivery of a message to a store, and taking it back.
+ghost use Rattle.std.specs.Prelude.{◌≡◌, ◌↔◌, ◌<◌, false, IfErr, IfOk, IsTrue, OnErr, OnOk};
 ghost use Rattle.std.specs.FinMap as fin;
 ghost use Rattle.std.specs.FinSet as set;
 ghost use Rattle.dots_core.specs.Dots.{of_names};
-ghost use Rattle.store_core.specs.Delivered.{AreOldParts, Changes, Destroys, undelivered, with_parts};
+ghost use Rattle.store_core.specs.Delivered.{AreOldParts, Changes, Destroys, with_parts};
+ghost use Rattle.store_core.specs.DeltaStores.{CanBeUndelivered, with_undelivered};
 ghost use Rattle.entry_core.specs.EntryLists.{pairs};
-ghost use Rattle.store_core.specs.EntryMoves.{AreNew, dots_of_pairs, with_each, without_each};
-ghost use Rattle.payload_core.specs.Messages.{AreSeen};
+ghost use Rattle.store_core.specs.EntryMoves.{AreNew, dots_of_pairs, with_each};
 ghost use Rattle.store_core.specs.Stores.{arrivals, departures, merged, store_of};
 
+use crate::delta_store::DeltaStore;
 use crate::entry_moves::{discard_each, handles_of, put_each, take_out_each};
-use crate::store::Store;
 use dots_core::{Dot, DotSet, NameSet, Oom, Part};
 use entry_core::Handle;
 use payload_core::{EntrySet, Payload};
 use std::alloc::Allocator;
 use std::marker::Model;
 
-/// A name's context clock and cloud from before a delivery.
+/// The context clock and cloud that a name had before a delivery.
 #[derive(Drop)]
 pub struct OldPart<A: Allocator> {
     pub name: u16,
@@ -35,8 +35,8 @@ impl<A: Allocator> Model for OldPart<A> {
     ghost invariant = { λ p. p.name < 32 };
 }
 
-/// What a delivery destroyed of a store: the dots that joined with their entries, the entries that left, and the old
-/// parts of the names whose dots changed. No dot both joined and left.
+/// What is kept of a delivery to a store, to take it back: the dots whose entries joined, the entries that left, and
+/// the old parts of the names whose dots changed. No dot both joined and left.
 #[derive(Drop)]
 pub struct Delivered<A: Allocator> {
     pub joined: Vec<Dot, A>,
@@ -54,36 +54,74 @@ impl<A: Allocator> Model for Delivered<A> {
     ghost invariant = { λ d. AreApart d.joined.items d.left.items };
 }
 
-/// Has the store see the message's dots of these names, takes out the entries that are gone there, and puts in those
-/// that are new. What joins is put in first; what leaves goes last, and takes no memory.
-pub fn merge<A: Allocator + Copy>(
-    store: &mut Store<A>,
-    message: &Payload<A>,
-    names: NameSet,
-    joining: Vec<Handle<A>, A>,
-    leaving: &[Dot],
-    alloc: A,
-) -> Result<Delivered<A>, Oom>
-    requires live { AreSeen store.old.seen store.old.entries }
-    requires joining { pairs joining.items ≡ fin.entries (arrivals (set.contains names) (store_of message.now) store.old) }
-    requires leaving { leaving.now ≡ fin.keys (departures (set.contains names) (store_of message.now) store.old) }
-    ensures ok { OnOk result (store.new ≡ merged (set.contains names) (store_of message.now) store.old) }
-    ensures destroyed { IfOk result (Destroys (set.contains names) (store_of message.now) store.old) }
-    ensures back { IfOk result (λ delivered. undelivered delivered store.new ≡ store.old) }
-    ensures new { IfOk result (λ delivered. AreNew (pairs delivered.left) (without_each delivered.joined store.new.entries)) }
-    ensures err { OnErr result (store.new ≡ store.old) }
-{
-    let seen = message.seen();
-    let joined = dots_of(&joining, alloc)?;
-    let parts = old_parts(&store.seen, seen, names, alloc)?;
-    let left = handles_of(&store.entries, leaving, alloc)?;
-    put_joining(&mut store.entries, &mut store.seen, &joining, seen, names)?;
-    take_out_each(&mut store.entries, leaving);
-    Ok(Delivered {
-        joined,
-        left,
-        parts,
-    })
+impl<A: Allocator + Copy> DeltaStore<A> {
+    /// Handles of the message's entries of these names that join, by rising dot.
+    pub fn joining(&self, message: &Payload<A>, names: NameSet) -> Result<Vec<Handle<A>, A>, Oom>
+        ensures { IfOk result (λ joining. pairs joining.items ≡ fin.entries (arrivals (set.contains names) (store_of message.now) self.now.store)) }
+    {
+        message.entries().joining(&self.seen, names)
+    }
+
+    /// The dots of the store's entries of these names that leave by the message, rising.
+    pub fn leaving(&self, message: &Payload<A>, names: NameSet) -> Result<Vec<Dot, A>, Oom>
+        ensures { IfOk result (λ leaving. leaving.items ≡ fin.keys (departures (set.contains names) (store_of message.now) self.now.store)) }
+    {
+        self.entries
+            .leaving(message.entries(), message.seen(), names)
+    }
+
+    /// Merges what the message has of these names. Puts in `joining`, adds the message's dots to the seen ones, and at
+    /// last takes out the entries at `leaving`, which needs no memory. `joining` and `leaving` are what the methods
+    /// `joining` and `leaving` answered. The delta stays. What was destroyed is returned, for `undeliver`. An `Err`
+    /// changes nothing.
+    pub fn merge(
+        &mut self,
+        message: &Payload<A>,
+        names: NameSet,
+        joining: Vec<Handle<A>, A>,
+        leaving: &[Dot],
+    ) -> Result<Delivered<A>, Oom>
+        requires others { set.contains names self.old.own ≡ false }
+        requires joining { pairs joining.items ≡ fin.entries (arrivals (set.contains names) (store_of message.now) self.old.store) }
+        requires leaving { leaving.now ≡ fin.keys (departures (set.contains names) (store_of message.now) self.old.store) }
+        ensures merged { OnOk result (self.new ≡ record self.old { store = merged (set.contains names) (store_of message.now) self.old.store }) }
+        ensures destroyed { IfOk result (Destroys (set.contains names) (store_of message.now) self.old.store) }
+        ensures can_be_undelivered { IfOk result (λ delivered. CanBeUndelivered delivered self.new) }
+        ensures back { IfOk result (λ delivered. with_undelivered delivered self.new ≡ self.old) }
+        ensures err { OnErr result (self.new ≡ self.old) }
+    {
+        let alloc = self.entries.allocator();
+        let seen = message.seen();
+        let _ = message.entries(); // the proof reads that their dots are seen
+        // form: hands out what the set keeps
+        seen.valid_law();
+        let joined = dots_of(&joining, alloc)?;
+        let parts = old_parts(&self.seen, seen, names, alloc)?;
+        let left = handles_of(&self.entries, leaving, alloc)?;
+        put_joining(&mut self.entries, &mut self.seen, &joining, seen, names)?;
+        take_out_each(&mut self.entries, leaving);
+        Ok(Delivered {
+            joined,
+            left,
+            parts,
+        })
+    }
+
+    /// Takes a delivery back: the entries that joined go, those that left stand again, and the seen dots are those from
+    /// before the delivery. If memory is refused, `delivered` comes back, and nothing changes.
+    pub fn undeliver(&mut self, delivered: Delivered<A>) -> Result<(), (Delivered<A>, Oom)>
+        requires { CanBeUndelivered delivered self.old }
+        ensures ok { OnOk result (self.new ≡ with_undelivered delivered self.old) }
+        ensures err { OnErr result (self.new ≡ self.old) }
+        ensures given_back { IfErr result (λ failed. failed.0 ≡ delivered) }
+    {
+        if let Err(failed) = put_each(&mut self.entries, &delivered.left) {
+            return Err((delivered, failed));
+        }
+        take_out_each(&mut self.entries, &delivered.joined);
+        set_parts(&mut self.seen, delivered.parts);
+        Ok(())
+    }
 }
 
 /// The dots of these entries.
@@ -97,7 +135,7 @@ fn dots_of<A: Allocator + Copy>(entries: &[Handle<A>], alloc: A) -> Result<Vec<D
     Ok(dots)
 }
 
-/// The parts of those of the names that have an unseen dot in the other set, by rising name.
+/// The parts in `seen` of those `names` whose dots a union with `other` would change, by rising name.
 fn old_parts<A: Allocator + Copy>(
     seen: &DotSet<A>,
     other: &DotSet<A>,
@@ -107,6 +145,7 @@ fn old_parts<A: Allocator + Copy>(
     ensures parts { IfOk result (λ parts. AreOldParts (set.contains names) other.now seen.now parts.items) }
     ensures whole { IfOk result (λ parts. with_parts parts.items (set.union seen.now (of_names (set.contains names) other.now)) ≡ seen.now) }
 {
+    // form: hands out what the set keeps
     names.names_law();
     let mut parts = Vec::new(alloc);
     for name in 0..32u16 {
@@ -118,7 +157,7 @@ fn old_parts<A: Allocator + Copy>(
     Ok(parts)
 }
 
-/// Whether the name is one of the names and has an unseen dot in the other set.
+/// Whether the name is one of `names`, and `other` has a dot of it that `seen` doesn't have.
 fn changes<A: Allocator>(seen: &DotSet<A>, other: &DotSet<A>, names: NameSet, name: u16) -> bool
     requires { name < 32 }
     ensures { IsTrue result ↔ Changes (set.contains names) other.now seen.now name }
@@ -126,8 +165,8 @@ fn changes<A: Allocator>(seen: &DotSet<A>, other: &DotSet<A>, names: NameSet, na
     names.has(name) && !seen.has_all_of(other, name)
 }
 
-/// Puts in other handles of these entries, and then the dots of these names. Where memory is refused it puts in
-/// nothing.
+/// Inserts a further handle of each entry in `joining`, and then the dots of `other` that have one of `names`; if
+/// memory is refused, nothing.
 fn put_joining<A: Allocator + Copy>(
     entries: &mut EntrySet<A>,
     seen: &mut DotSet<A>,
@@ -149,26 +188,7 @@ fn put_joining<A: Allocator + Copy>(
     Ok(())
 }
 
-/// Takes a delivery back: what joined goes, what left stands again, and the dots are those from before. Where memory is
-/// refused, the record comes back.
-pub fn undeliver<A: Allocator + Copy>(
-    store: &mut Store<A>,
-    delivered: Delivered<A>,
-) -> Result<(), (Delivered<A>, Oom)>
-    requires { AreNew (pairs delivered.left) (without_each delivered.joined store.old.entries) }
-    ensures ok { OnOk result (store.new ≡ undelivered delivered store.old) }
-    ensures err { OnErr result (store.new ≡ store.old) }
-    ensures given_back { IfErr result (λ failed. failed.0 ≡ delivered) }
-{
-    if let Err(failed) = put_each(&mut store.entries, &delivered.left) {
-        return Err((delivered, failed));
-    }
-    take_out_each(&mut store.entries, &delivered.joined);
-    set_parts(&mut store.seen, delivered.parts);
-    Ok(())
-}
-
-/// Replaces the dots of each part's name by the part.
+/// Sets the dots of each part's name to those of the part.
 fn set_parts<A: Allocator>(seen: &mut DotSet<A>, parts: Vec<OldPart<A>, A>)
     ensures { seen.new ≡ with_parts parts.items seen.old }
 {

@@ -1,44 +1,75 @@
-//! A join of a store and its delta, and the join taken back.
+//! A join in a store and its delta, and taking it back.
 ghost use Rattle.std.specs.Prelude.{◌≡◌, ◌<◌, ◌≤◌, IfOk, None, OnErr, OnOk};
 ghost use Rattle.std.specs.FinMap as fin;
 ghost use Rattle.std.specs.FinSet as set;
-ghost use Rattle.dots_core.specs.Contexts.{IsLast, IsNext};
+ghost use Rattle.dots_core.specs.Contexts.{IsLast};
 ghost use Rattle.dots_core.specs.Dots.{IsValid};
-ghost use Rattle.entry_core.specs.Presences.{presence_of};
-ghost use Rattle.store_core.specs.Stores.{with_entry, without};
+ghost use Rattle.entry_core.specs.Presences.{entry_of, presence_of};
+ghost use Rattle.store_core.specs.DeltaStores.{CanBeUnjoined, fresh, joined, own_clock, without_last};
 
-use crate::store::Store;
+use crate::delta_store::DeltaStore;
 use dots_core::{Dot, DotSet, Oom};
-use entry_core::{Entry, Handle};
+use entry_core::{Entry, Handle, Word};
 use payload_core::EntrySet;
 use std::alloc::Allocator;
 
-/// Puts an entry with the next dot of its name into the store, and a copy of it into the delta.
-pub fn join<A: Allocator + Copy>(
-    store: &mut Store<A>,
-    delta: &mut Store<A>,
-    entry: Entry<A>,
-) -> Result<(), Oom>
-    requires valid { IsValid entry.dot }
-    requires next { IsNext entry.dot store.old.seen }
-    requires absent { fin.get store.old.entries entry.dot ≡ None }
-    requires absent_in_delta { fin.get delta.old.entries entry.dot ≡ None }
-    ensures store { OnOk result (store.new ≡ with_entry entry.dot (presence_of entry) store.old) }
-    ensures delta { OnOk result (delta.new ≡ with_entry entry.dot (presence_of entry) delta.old) }
-    ensures store_stays { OnErr result (store.new ≡ store.old) }
-    ensures delta_stays { OnErr result (delta.new ≡ delta.old) }
-{
-    let alloc = store.entries.allocator();
-    store.entries.make_room(1)?;
-    let entry = held(entry, alloc)?;
-    put_unsent(&mut delta.entries, &mut delta.seen, &entry)?;
-    store.seen.insert(entry.dot()).unwrap();
-    store.entries.put_ready(entry);
-    Ok(())
+impl<A: Allocator> DeltaStore<A> {
+    /// Takes a join back: removes the last own dot with its entry, also from the delta. It takes no memory.
+    pub fn unjoin(&mut self)
+        requires { CanBeUnjoined self.old }
+        ensures { self.new ≡ without_last self.old }
+    {
+        let last = self.last();
+        take_out(&mut self.seen, &mut self.entries, last);
+        take_out(&mut self.delta_seen, &mut self.delta_entries, last);
+    }
 }
 
-/// The handle of an entry.
-pub(crate) fn held<A: Allocator>(entry: Entry<A>, alloc: A) -> Result<Handle<A>, Oom>
+impl<A: Allocator + Copy> DeltaStore<A> {
+    /// Puts an entry of this process, topic, key and metadata at the fresh dot, also into the delta. An `Err` changes
+    /// nothing.
+    pub fn join(
+        &mut self,
+        pid: u64,
+        topic: &Word<A>,
+        key: &Word<A>,
+        metadata: &Word<A>,
+    ) -> Result<(), Oom>
+        requires { own_clock self.old < 1000000000 }
+        ensures joined { OnOk result (self.new ≡ joined (record { pid = pid; topic = topic.now; key = key.now; metadata = metadata.now }) self.old) }
+        ensures err { OnErr result (self.new ≡ self.old) }
+    {
+        let entry = self.fresh_entry(pid, topic, key, metadata)?;
+        self.entries.make_room(1)?;
+        put_unsent(&mut self.delta_entries, &mut self.delta_seen, &entry)?;
+        self.seen.insert(entry.dot()).unwrap();
+        self.entries.put_ready(entry);
+        Ok(())
+    }
+
+    /// A handle of a new entry of this process, topic, key and metadata at the fresh dot. The store stays.
+    pub(crate) fn fresh_entry(
+        &self,
+        pid: u64,
+        topic: &Word<A>,
+        key: &Word<A>,
+        metadata: &Word<A>,
+    ) -> Result<Handle<A>, Oom>
+        ensures { IfOk result (λ entry. entry ≡ entry_of (fresh self.now) (record { pid = pid; topic = topic.now; key = key.now; metadata = metadata.now })) }
+    {
+        let entry = Entry {
+            dot: self.fresh(),
+            pid,
+            topic: topic.try_copy()?,
+            key: key.try_copy()?,
+            metadata: metadata.try_copy()?,
+        };
+        held(entry, self.entries.allocator())
+    }
+}
+
+/// A handle of `entry`. If memory is refused, `entry` is dropped.
+fn held<A: Allocator>(entry: Entry<A>, alloc: A) -> Result<Handle<A>, Oom>
     ensures { IfOk result (λ handle. handle ≡ entry) }
 {
     match Handle::of(entry, alloc) {
@@ -47,7 +78,7 @@ pub(crate) fn held<A: Allocator>(entry: Entry<A>, alloc: A) -> Result<Handle<A>,
     }
 }
 
-/// Inserts another handle of the entry.
+/// Inserts a further handle of the entry: shared if the entry may be shared, and else a copy.
 pub(crate) fn put_shared<A: Allocator + Copy>(
     entries: &mut EntrySet<A>,
     entry: &Handle<A>,
@@ -60,7 +91,8 @@ pub(crate) fn put_shared<A: Allocator + Copy>(
     entries.put(shared)
 }
 
-/// Puts another handle of the entry into the delta, and its dot, or neither where memory is refused.
+/// Inserts a further handle of the entry into the delta's `entries`, and its dot into the delta's `seen`; if memory is
+/// refused, neither.
 fn put_unsent<A: Allocator + Copy>(
     entries: &mut EntrySet<A>,
     seen: &mut DotSet<A>,
@@ -81,19 +113,8 @@ fn put_unsent<A: Allocator + Copy>(
     Ok(())
 }
 
-/// Takes the last dot of its name, and its entry, out of the store and the delta. It takes no memory.
-pub fn unjoin<A: Allocator>(store: &mut Store<A>, delta: &mut Store<A>, dot: Dot)
-    requires valid { IsValid dot }
-    requires last { IsLast dot store.old.seen }
-    requires last_in_delta { IsLast dot delta.old.seen }
-    ensures store { store.new ≡ without dot store.old }
-    ensures delta { delta.new ≡ without dot delta.old }
-{
-    take_out(&mut store.seen, &mut store.entries, dot);
-    take_out(&mut delta.seen, &mut delta.entries, dot);
-}
-
-/// Takes out the last dot of its name, with its entry. It takes no memory, and the entries' room never falls.
+/// Takes `dot`, the last one of its name, out of `seen`, and its entry, if there is one, out of `entries`. It takes no
+/// memory, and the entries' room never falls.
 pub(crate) fn take_out<A: Allocator>(seen: &mut DotSet<A>, entries: &mut EntrySet<A>, dot: Dot)
     requires valid { IsValid dot }
     requires last { IsLast dot seen.old }

@@ -11,24 +11,21 @@ use crate::replica_fault::ReplicaFault;
 use dots_core::{NameSet, Oom};
 use payload_core::Payload;
 use std::alloc::Allocator;
-use std::mem;
-use store_core::Store;
 
 impl<A: Allocator> Replica<A> {
-    /// Puts a message of the replica back as its delta, as when a send is taken back. It takes no memory. If
-    /// `take_delta` gave the message, `laws::delta_law` says that the replica is what it was before.
+    /// Puts a message of the replica back as its delta, to take back a broadcast. It takes no memory. If `take_delta`
+    /// gave the message just before, `laws::delta_law` says that the replica is again what it was then.
     pub fn give_delta(&mut self, payload: Payload<A>)
         requires { CanBeDelta payload self.old }
         ensures { self.new ≡ with_delta payload self.old }
     {
-        let (_sender, seen, entries) = payload.into_parts();
-        self.delta = Store::from_parts(seen, entries);
+        let _ = payload.entries(); // the proof reads that their dots are seen
+        self.stores.give_delta(payload);
     }
 }
 
 impl<A: Allocator + Copy> Replica<A> {
-    /// Takes out the delta as a message. It takes no memory. Without a dot in the delta it is refused with
-    /// `NothingToSend`.
+    /// Takes out the delta as a message. It takes no memory. `NothingToSend` if the delta has no dot.
     pub fn take_delta(&mut self) -> Result<Payload<A>, ReplicaFault>
         ensures message { IfOk result (λ payload. payload ≡ delta_message self.old) }
         ensures taken { OnOk result (self.new ≡ without_delta self.old) }
@@ -39,22 +36,21 @@ impl<A: Allocator + Copy> Replica<A> {
         if !self.has_delta() {
             return Err(ReplicaFault::NothingToSend);
         }
-        let (seen, entries) = mem::replace(&mut self.delta, Store::new(self.alloc)).into_parts();
-        Ok(Payload::new(self.own, seen, entries))
+        Ok(self.stores.take_delta())
     }
 
-    /// A message of what it has seen and holds of these names. The delta stays.
+    /// A message with the seen dots and the entries of these names. The delta stays.
     pub fn extract(&self, names: NameSet) -> Result<Payload<A>, Oom>
         ensures { IfOk result (λ payload. payload ≡ message_of_names (set.contains names) self.now.own self.now.store.seen self.now.store.entries) }
     {
-        let (seen, entries) = self.store.only(names)?.into_parts();
-        Ok(Payload::new(self.own, seen, entries))
+        self.stores.extract(names)
     }
 
-    /// A message that asks for what others have of the names that it knows. It takes no memory. The delta stays.
+    /// A request: a message that asks for what others have of the names that the replica knows. It takes no memory. The
+    /// delta stays.
     pub fn request(&self) -> Payload<A>
         ensures { result ≡ request_of self.now }
     {
-        Payload::request(self.alloc, self.own, self.known())
+        Payload::request(self.alloc, self.own(), self.known())
     }
 }

@@ -1,24 +1,21 @@
-//! A leave of a replica's entry; and a leave or an update taken back.
-ghost use Rattle.std.specs.Prelude.{◌≡◌, ◌≢◌, [], ◌∷◌, false, true, IfErr, IfOk, OnErr, OnOk};
+//! A leave of one entry of a replica.
+ghost use Rattle.std.specs.Prelude.{◌≡◌, ◌≢◌, [], ◌∷◌, true, IfErr, IfOk, OnErr, OnOk};
 ghost use Rattle.std.specs.FinMap as fin;
-ghost use Rattle.store_core.specs.LeftEntries.{Stood};
 ghost use Rattle.replica_core.specs.declared.replica_fault.ReplicaFault.TheVariants.{OutOfMemory};
-ghost use Rattle.replica_core.specs.Changes.{CanBeRestored, ChangeLeadsBack, plain_change, with_left, without_last};
-ghost use Rattle.replica_core.specs.Invariant.{IsReplica};
+ghost use Rattle.replica_core.specs.Changes.{ChangeLeadsBack, plain_change};
 ghost use Rattle.replica_core.specs.Leaves.{AreOwnSeen};
-ghost use Rattle.replica_core.specs.Refusals.{IsRefusedFor, is_clock_full, leave_refusal};
-ghost use Rattle.replica_core.specs.Replicas.{left, left_each, tracked_dots};
+ghost use Rattle.replica_core.specs.Refusals.{IsRefusedFor, leave_refusal};
+ghost use Rattle.replica_core.specs.Replicas.{left_each, tracked_dots};
 
 use crate::change::Change;
 use crate::replica::Replica;
 use crate::replica_fault::ReplicaFault;
-use dots_core::{Dot, Oom};
+use dots_core::Dot;
 use payload_core::Word;
 use std::alloc::Allocator;
-use store_core::{Left, leave, restore};
 
 impl<A: Allocator> Replica<A> {
-    /// The dot of the own entry of this process, topic and key, or why a leave or an update of it is refused.
+    /// The dot of the own entry of this process, topic and key, or why a leave or an update of the entry is refused.
     pub(super) fn leaving_dot(
         &self,
         pid: u64,
@@ -31,7 +28,9 @@ impl<A: Allocator> Replica<A> {
         ensures refused { IsRefusedFor (leave_refusal self.now pid topic.now key.now) result }
         ensures fault { IfErr result (λ fault. fault ≢ OutOfMemory) }
     {
-        let Some(dot) = self.store.entries().find(self.own, pid, topic, key) else {
+        // form: hands out what the replica keeps
+        self.replica_law();
+        let Some(dot) = self.entries().find(self.own(), pid, topic, key) else {
             return Err(ReplicaFault::NotTracked);
         };
         if self.is_clock_full(1) {
@@ -39,27 +38,12 @@ impl<A: Allocator> Replica<A> {
         }
         Ok(dot)
     }
-
-    /// Takes out the last own dot, with its entry, and puts back what left.
-    pub(super) fn restore(&mut self, left: Left<A>) -> Result<(), (Left<A>, Oom)>
-    where
-        A: Copy,
-        requires { CanBeRestored left self.old }
-        ensures ok { OnOk result (self.new ≡ with_left left (without_last self.old)) }
-        ensures err { OnErr result (self.new ≡ self.old) }
-        ensures given_back { IfErr result (λ failed. failed.0 ≡ left) }
-    {
-        let last = self.last();
-        if let Err(failed) = restore(&mut self.store, &mut self.delta, last, left) {
-            return Err(failed);
-        }
-        Ok(())
-    }
 }
 
 impl<A: Allocator + Copy> Replica<A> {
-    /// Lets the own entry of this process, topic and key leave: its dot and a fresh one go into the delta, the fresh
-    /// one into the seen dots. The refusals come in this order: `NotTracked`, `ClockFull`.
+    /// Takes out the own entry of this process, topic and key, also from the delta. The entry's dot and a fresh one go
+    /// into the delta, and the fresh one into the seen dots. The refusals come in this order: `NotTracked`,
+    /// `ClockFull`.
     pub fn leave(
         &mut self,
         pid: u64,
@@ -72,25 +56,7 @@ impl<A: Allocator + Copy> Replica<A> {
         ensures err { OnErr result (self.new ≡ self.old) }
     {
         let dot = self.leaving_dot(pid, topic, key)?;
-        let left = self.let_go(dot)?;
+        let left = self.stores.leave(dot)?;
         Ok(Change::Leave(left))
-    }
-
-    /// Lets the own entry at the dot leave.
-    fn let_go(&mut self, dot: Dot) -> Result<Left<A>, Oom>
-        requires own { AreOwnSeen (dot ∷ []) self.old }
-        requires live { fin.contains_key self.old.store.entries dot ≡ true }
-        requires free { is_clock_full self.old 1 ≡ false }
-        ensures left { OnOk result (self.new ≡ left dot self.old) }
-        ensures stood { IfOk result (λ stood. Stood stood dot self.old.store self.old.delta) }
-        ensures earlier { IsReplica self.old }
-        ensures err { OnErr result (self.new ≡ self.old) }
-    {
-        let fresh = Dot {
-            name: self.own,
-            clock: self.own_clock() + 1,
-        };
-        let left = leave(&mut self.store, &mut self.delta, dot, fresh)?;
-        Ok(left)
     }
 }

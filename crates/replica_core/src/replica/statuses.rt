@@ -1,4 +1,4 @@
-//! The statuses of the other names: up, down and permanently down; and each taken back.
+//! The statuses of the other names: up, down and permanently down; and taking each back.
 ghost use Rattle.std.specs.Prelude.{◌≡◌, ◌<◌, IfErr, IfOk, OnErr, OnOk};
 ghost use Rattle.payload_core.specs.EntryLists.{pairs};
 ghost use Rattle.store_core.specs.EntryMoves.{AreNew};
@@ -14,14 +14,14 @@ use crate::replica_fault::ReplicaFault;
 use crate::status::Status;
 use dots_core::Oom;
 use std::alloc::Allocator;
-use store_core::{Forgotten, forget, remember};
+use store_core::Forgotten;
 
 impl<A: Allocator> Replica<A> {
-    /// Why a down of this name is refused, if it is.
+    /// The first cause to refuse a down of this name; `None` if there is none.
     fn down_refusal(&self, name: u16) -> Option<ReplicaFault>
         ensures { result ≡ down_refusal self.now name }
     {
-        if name == self.own {
+        if name == self.own() {
             return Some(ReplicaFault::OwnReplica);
         }
         if !self.view.known().has(name) {
@@ -30,6 +30,7 @@ impl<A: Allocator> Replica<A> {
         None
     }
 
+    /// The first cause to refuse a permanently down of this name; `None` if there is none.
     fn permdown_refusal(&self, name: u16) -> Option<ReplicaFault>
         ensures { result ≡ permdown_refusal self.now name }
     {
@@ -42,7 +43,7 @@ impl<A: Allocator> Replica<A> {
         None
     }
 
-    /// Puts a name's old status back.
+    /// Gives the name its status `before` again; if that is `None`, the name isn't known any more.
     pub(super) fn put_status(&mut self, name: u16, before: Option<Status>)
         requires name { name < 32 }
         requires earlier { IsReplica (with_old_status name before self.old) }
@@ -51,7 +52,8 @@ impl<A: Allocator> Replica<A> {
         self.view.put(name, before);
     }
 
-    /// Holds again what it held of the name, which is then down.
+    /// Puts back `forgotten`, the dots and entries that were held of the name, which is then down. If memory is
+    /// refused, `forgotten` comes back, and nothing changes.
     pub(super) fn remember(
         &mut self,
         name: u16,
@@ -66,7 +68,8 @@ impl<A: Allocator> Replica<A> {
         ensures err { OnErr result (self.new ≡ self.old) }
         ensures given_back { IfErr result (λ failed. failed.0 ≡ forgotten) }
     {
-        if let Err(failed) = remember(&mut self.store, name, forgotten) {
+        // form: `?` would drop more values
+        if let Err(failed) = self.stores.remember(name, forgotten) {
             return Err(failed);
         }
         self.view.put(name, Some(Status::Down));
@@ -75,7 +78,7 @@ impl<A: Allocator> Replica<A> {
 }
 
 impl<A: Allocator + Copy> Replica<A> {
-    /// The name is up, and known from now on. The own name is refused with `OwnReplica`.
+    /// Makes the name known and up. The own name is refused with `OwnReplica`.
     pub fn up(&mut self, name: u16) -> Result<Change<A>, ReplicaFault>
         requires { name < 32 }
         ensures up { OnOk result (self.new ≡ with_status name Up self.old) }
@@ -83,7 +86,7 @@ impl<A: Allocator + Copy> Replica<A> {
         ensures leads_back { IfOk result (λ change. ChangeLeadsBack (plain_change change) self.new self.old) }
         ensures err { OnErr result (self.new ≡ self.old) }
     {
-        if name == self.own {
+        if name == self.own() {
             return Err(ReplicaFault::OwnReplica);
         }
         let before = self.view.status(name);
@@ -91,7 +94,7 @@ impl<A: Allocator + Copy> Replica<A> {
         Ok(Change::Up { name, before })
     }
 
-    /// The name is down. The refusals come in this order: `OwnReplica`, `NotKnown`.
+    /// Makes the known name down. The refusals come in this order: `OwnReplica`, `NotKnown`.
     pub fn down(&mut self, name: u16) -> Result<Change<A>, ReplicaFault>
         requires { name < 32 }
         ensures down { OnOk result (self.new ≡ with_status name Down self.old) }
@@ -107,8 +110,8 @@ impl<A: Allocator + Copy> Replica<A> {
         Ok(Change::Down { name, before })
     }
 
-    /// Forgets all that it holds of the name: its dots, its entries, its status. The delta stays, as it has own dots
-    /// alone. The refusals come in this order: `OwnReplica`, `NotKnown`, `NotDown`. It goes once over the entries.
+    /// Forgets the name: its dots, its entries and its status. The delta stays, as it has own dots alone. The refusals
+    /// come in this order: `OwnReplica`, `NotKnown`, `NotDown`. It walks over the name's entries.
     pub fn permdown(&mut self, name: u16) -> Result<Change<A>, ReplicaFault>
         requires { name < 32 }
         ensures forgotten { OnOk result (self.new ≡ forgotten name self.old) }
@@ -119,7 +122,7 @@ impl<A: Allocator + Copy> Replica<A> {
         if let Some(fault) = self.permdown_refusal(name) {
             return Err(fault);
         }
-        let forgotten = forget(&mut self.store, name, self.alloc)?;
+        let forgotten = self.stores.forget(name)?;
         self.view.forget(name);
         Ok(Change::Permdown { name, forgotten })
     }

@@ -1,4 +1,4 @@
-//! A replica's last change taken back.
+//! Taking back the last call of a replica.
 ghost use Rattle.std.specs.Prelude.{◌≡◌, IfErr, IsOk, IsTrue, OnErr, OnOk};
 ghost use Rattle.replica_core.specs.Changes.{ChangeGivesBack, ChangeLeadsSomewhere, needs_no_memory, plain_change};
 
@@ -8,8 +8,8 @@ use dots_core::Oom;
 use std::alloc::Allocator;
 
 impl<A: Allocator> Replica<A> {
-    /// Takes the last call back by its change. The replica must be as that call left it. Where memory is refused, the
-    /// change comes back. A join, an up and a down need no memory.
+    /// Takes the last call back by its change. The replica must be as that call left it. If memory is refused, the
+    /// change comes back, and nothing changes. To take back a join, an up or a down needs no memory.
     pub fn undo(&mut self, change: Change<A>) -> Result<(), (Change<A>, Oom)>
     where
         A: Copy,
@@ -19,25 +19,26 @@ impl<A: Allocator> Replica<A> {
         ensures given_back { IfErr result (λ failed. failed.0 ≡ change) }
         ensures needs_no_memory { IsTrue (needs_no_memory (plain_change change)) → IsOk result }
     {
+        // form: each arm is a case of the proof
         match change {
             Change::Join => {
-                self.unjoin();
+                self.stores.unjoin();
                 Ok(())
             }
             Change::Leave(left) => {
-                if let Err((left, failed)) = self.restore(left) {
+                if let Err((left, failed)) = self.stores.restore(left) {
                     return Err((Change::Leave(left), failed));
                 }
                 Ok(())
             }
             Change::LeaveAll(lefts) => {
-                if let Err((lefts, failed)) = self.restore_each(lefts) {
+                if let Err((lefts, failed)) = self.stores.restore_each(lefts) {
                     return Err((Change::LeaveAll(lefts), failed));
                 }
                 Ok(())
             }
             Change::Update(left) => {
-                if let Err((left, failed)) = self.restore(left) {
+                if let Err((left, failed)) = self.stores.restore(left) {
                     return Err((Change::Update(left), failed));
                 }
                 Ok(())
@@ -57,7 +58,7 @@ impl<A: Allocator> Replica<A> {
                 Ok(())
             }
             Change::Deliver(delivered) => {
-                if let Err((delivered, failed)) = self.undeliver(delivered) {
+                if let Err((delivered, failed)) = self.stores.undeliver(delivered) {
                     return Err((Change::Deliver(delivered), failed));
                 }
                 Ok(())

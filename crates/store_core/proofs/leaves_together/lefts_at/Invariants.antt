@@ -5,5 +5,5 @@ use Rattle.store_core.proofs.leaves_together.lefts_at.Given as goal
 -- with what stands at the rest, the list is what it is to be
 abbrev pub invariant-loop-dot : goal.invariant-loop-dot
 invariant-loop-dot g l =
-    l.found.items ++ found_lefts (drop l.dot-index l.dots) l.entries.map l.delta.entries l.delta.seen
-    ≡ found_lefts l.dots l.entries.map l.delta.entries l.delta.seen
+    l.found.items ++ found_lefts (drop l.dot-index l.dots) l.entries.map l.delta_entries.map l.delta_seen
+    ≡ found_lefts l.dots l.entries.map l.delta_entries.map l.delta_seen

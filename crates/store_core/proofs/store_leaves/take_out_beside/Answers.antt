@@ -1,18 +1,13 @@
 use Rattle.std.proofs.Common.{◌≡◌, ◌∙◌, None, Some, ap, subst, sym}
 use Rattle.std.specs.FinMap as fin
-use Rattle.dots_core.specs.Contexts.{IsLast}
 use Rattle.store_core.specs.LeftEntries.{IsFree, put}
-use Rattle.store_core.specs.Stores.{Store}
 use Rattle.store_core.proofs.StoreEdits.{other_named, put_at_last, put_beside_last, same_named}
 use Rattle.store_core.proofs.store_leaves.take_out_beside.Goals as goal
 use Rattle.store_core.proofs.store_leaves.take_out_beside.Goals.{in_default-via-in-Some+else-eq, in_default-via-in_default}
 
-pub unwrap-requires : goal.unwrap-requires
-unwrap-requires g c = c.remove.ensures.last (subst (λ (s : Store). IsLast c.args.last s.seen) (sym c.delta.view_is) c.requires.last)
-
 pub returns-in-Some-clause-entries : goal.returns-in-Some-clause-entries
 returns-in-Some-clause-entries g c es free put_in =
-    ap (λ (s : Store). s.entries) c.delta.view_is ∙ put_in ∙ ap (λ u. put u es) c.in-Some.is
+    put_in ∙ ap (λ u. put u es) c.in-Some.is
     ∙ put_at_last c.in-Some.put es c.args.last
     (sym c.dot.ensures ∙ same_named c.dot.result c.args.last (sym c.eq.ensures ∙ c.if-eq.true))
     (subst (λ u. IsFree u es) c.in-Some.is free)
@@ -20,7 +15,7 @@ returns-in-Some-clause-entries g c es free put_in =
 
 pub returns-in_default-clause-entries : goal.returns-in_default-clause-entries
 returns-in_default-clause-entries g c es free put_in =
-    c.discard.ensures.map ∙ ap (λ m. fin.remove m c.args.last) (ap (λ (s : Store). s.entries) c.delta.view_is ∙ put_in)
+    c.discard.ensures.map ∙ ap (λ m. fin.remove m c.args.last) put_in
     ∙ put_beside_last c.args.put.now es c.args.last (λ e is.
     elim c.in_default.branch [
       | in_default-via-in-Some+else-eq w ↦ λ same.

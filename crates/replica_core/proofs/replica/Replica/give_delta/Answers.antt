@@ -1,14 +1,22 @@
-use Rattle.std.proofs.Common.{sym, subst}
-use Rattle.replica_core.specs.Replicas.{Replica, CanBeDelta}
-use Rattle.replica_core.proofs.Sizes.{store_fits, seen_fits}
+use Rattle.std.proofs.Common.{ap, sym, subst, ◌∙◌}
+use Rattle.replica_core.specs.Replicas.{Replica, CanBeDelta, with_delta}
 use Rattle.replica_core.proofs.Invariant.{kept_with_delta}
+use Rattle.replica_core.proofs.StoreParts.{replica_of}
+use Rattle.replica_core.proofs.Sizes.{store_fits}
 use Rattle.replica_core.proofs.replica.Replica.give_delta.Goals as goal
 
 pub invariant_of-self : goal.invariant_of-self
 invariant_of-self g c =
-    rw (c.from_parts.ensures, c.into_parts-sender.ensures.seen, c.into_parts-sender.ensures.entries)
-    (kept_with_delta c.args.payload _ c.self.invariant c.into_parts-sender.ensures.are_seen
+    let r = replica_of c.self.inside.limits c.self.inside.view c.self.inside.stores in
+    rw c.give_delta.ensures
+    (kept_with_delta c.args.payload r c.self.invariant c.entries.ensures.are_seen
     (subst (λ (r : Replica). CanBeDelta c.args.payload r) (sym c.self.view_is) c.requires))
 
-pub from_parts-requires : goal.from_parts-requires
-from_parts-requires g c = (seen_fits g.row.A g.A.Allocator (search tt), store_fits g.row.A g.A.Allocator (search tt))
+pub give_delta-requires : goal.give_delta-requires
+give_delta-requires g c =
+    let can = subst (λ (r : Replica). CanBeDelta c.args.payload r) (sym c.self.view_is) c.requires in
+    (store_fits g.row.A g.A.Allocator (search tt), (search tt, record { own = can.own; live = can.live }))
+
+pub returns : goal.returns
+returns g c =
+    ap (replica_of c.self.inside.limits c.self.inside.view) c.give_delta.ensures ∙ ap (with_delta c.args.payload) c.self.view_is

@@ -7,10 +7,11 @@ use Rattle.replica_core.proofs.replica.Replica.has_delta.Goals as goal
 
 pub returns : goal.returns
 returns g c =
-    not_empty c.seen.result.now c.is_empty.result c.is_empty.ensures ∙ ap has_dots c.seen.ensures ∙ ap (λ (r : Replica). has_dots r.delta.seen) c.self.view_is
+    not_empty c.delta_seen.result.now c.is_empty.result c.is_empty.ensures ∙ ap has_dots c.delta_seen.ensures
+    ∙ ap (λ (r : Replica). has_dots r.delta.seen) c.self.view_is
 
-pub seen-requires : goal.seen-requires
-seen-requires g c = (store_fits g.row.A g.A.Allocator (search tt), seen_fits g.row.A g.A.Allocator (search tt))
+pub delta_seen-requires : goal.delta_seen-requires
+delta_seen-requires g c = (store_fits g.row.A g.A.Allocator (search tt), seen_fits g.row.A g.A.Allocator (search tt))
 
 pub is_empty-requires : goal.is_empty-requires
 is_empty-requires g c = seen_fits g.row.A g.A.Allocator (search tt)

@@ -1,14 +1,14 @@
 use Rattle.std.specs.Option.{is_some}
 use Rattle.std.proofs.Common.{slice_get, ◌∙◌, ap, rules}
-use Rattle.payload_core.specs.Presences.{Entries, is_tracked_as, dots_of}
-use Rattle.replica_core.specs.Refusals.{is_tracked}
-use Rattle.replica_core.specs.Replicas.{Replica}
+use Rattle.payload_core.specs.Presences.{is_tracked_as, dots_of}
 use Rattle.replica_core.proofs.Calls.{is_some_first}
-use Rattle.replica_core.proofs.Sizes.{store_fits}
 use Rattle.replica_core.proofs.replica.Replica.is_tracked.Goals as goal
 
 pub entries-requires : goal.entries-requires
-entries-requires g c = store_fits g.row.A g.A.Allocator (search tt)
+entries-requires g c = search tt
+
+pub own-requires : goal.own-requires
+own-requires g c = search tt
 
 pub find-requires : goal.find-requires
 find-requires g c = search rules
@@ -18,6 +18,7 @@ is_some-requires g c = search rules
 
 pub returns : goal.returns
 returns g c =
-    let own = dots_of c.self.inside.own (is_tracked_as c.args.pid c.args.topic.now c.args.key.now) in
-    c.is_some.ensures ∙ ap is_some (c.find.ensures ∙ ap (λ (es : Entries). slice_get (own es) 0) c.entries.ensures) ∙ is_some_first _
-    ∙ ap (λ (r : Replica). is_tracked r c.args.pid c.args.topic.now c.args.key.now) c.self.view_is
+    c.is_some.ensures
+    ∙ ap is_some (c.find.ensures
+    ∙ (λ i. slice_get (dots_of (c.own.ensures i) (is_tracked_as c.args.pid c.args.topic.now c.args.key.now) (c.entries.ensures i)) 0))
+    ∙ is_some_first _

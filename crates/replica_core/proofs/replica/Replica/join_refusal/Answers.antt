@@ -1,5 +1,4 @@
 use Rattle.std.proofs.Common.{rules}
-use Rattle.replica_core.proofs.Sizes.{store_fits}
 use Rattle.replica_core.proofs.replica.Replica.join_refusal.Goals as goal
 
 -- the requirements of the calls are its own
@@ -13,7 +12,7 @@ pub is_clock_full-requires : goal.is_clock_full-requires
 is_clock_full-requires g c = (search tt, search rules)
 
 pub entries-requires : goal.entries-requires
-entries-requires g c = store_fits g.row.A g.A.Allocator (search tt)
+entries-requires g c = search tt
 
 pub len-requires : goal.len-requires
 len-requires g c = search rules

@@ -1,4 +1,10 @@
+use Rattle.std.proofs.Common.{◌∙◌, ap}
+use Rattle.replica_core.specs.Replicas.{last}
+use Rattle.replica_core.proofs.Sizes.{store_fits}
 use Rattle.replica_core.proofs.replica.Replica.last.Goals as goal
 
-pub own_clock-requires : goal.own_clock-requires
-own_clock-requires g c = search tt
+pub returns : goal.returns
+returns g c = c.last.ensures ∙ ap last c.self.view_is
+
+pub last-requires : goal.last-requires
+last-requires g c = store_fits g.row.A g.A.Allocator (search tt)

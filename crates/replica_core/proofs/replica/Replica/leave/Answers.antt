@@ -1,19 +1,46 @@
+use Rattle.std.proofs.Common.{[], ◌∷◌, ap, subst, sym, ◌∙◌}
 use Rattle.std.proofs.lemmas.Result.{err_from_is_err_and}
+use Rattle.std.specs.FinMap as fin
+use Rattle.store_core.specs.LeftEntries.{Stood}
+use Rattle.replica_core.specs.Invariant.{IsReplica}
+use Rattle.replica_core.specs.Leaves.{AreOwnSeen}
+use Rattle.replica_core.specs.Refusals.{is_clock_full}
+use Rattle.replica_core.specs.Replicas.{Replica, left, left_each}
 use Rattle.replica_core.proofs.Calls.{refused_memory, leave_free}
+use Rattle.replica_core.proofs.Left.{kept_left}
+use Rattle.replica_core.proofs.StoreParts.{replica_of, room_for_one}
+use Rattle.replica_core.proofs.Sizes.{store_fits}
 use Rattle.replica_core.proofs.replica.Replica.leave.Goals as goal
 
-pub let_go-requires : goal.let_go-requires
-let_go-requires g c = (
-  search tt,
+pub leave-requires : goal.leave-requires
+leave-requires g c = (
+  store_fits g.row.A g.A.Allocator (search tt),
   (
-    c.in_ok-dot.ensures.own,
+    c.in_ok-dot.ensures.own.0.0 ∙ ap (λ (r : Replica). r.own) (sym c.self.view_is),
     (
-      c.in_ok-dot.ensures.live,
-      leave_free c.args.self.now c.args.pid c.args.topic.now
-          c.args.key.now c.in_ok-dot.ensures.refused,
+      ap (λ (r : Replica). fin.contains_key r.store.entries c.in_ok-dot.dot) c.self.view_is ∙ c.in_ok-dot.ensures.live,
+      room_for_one _ c.args.self.now c.self.view_is c.self.invariant
+          (leave_free c.args.self.now c.args.pid c.args.topic.now c.args.key.now c.in_ok-dot.ensures.refused),
     ),
   ),
 )
+
+pub invariant_of-self-2 : goal.invariant_of-self-2
+invariant_of-self-2 g c =
+    let r = replica_of c.self.inside.limits c.self.inside.view c.self.inside.stores in
+    let own = subst (AreOwnSeen (c.in_ok-dot.dot ∷ [])) (sym c.self.view_is) c.in_ok-dot.ensures.own in
+    rw c.in_ok-left.ensures.left
+    (kept_left c.in_ok-dot.dot r c.self.invariant own.0.0 own.0.1
+    (ap (λ (r : Replica). is_clock_full r 1) c.self.view_is
+    ∙ leave_free c.args.self.now c.args.pid c.args.topic.now c.args.key.now c.in_ok-dot.ensures.refused))
+
+pub invariant_of-self : goal.invariant_of-self
+invariant_of-self g c = rw c.in_err-left.ensures.err c.self.invariant
+
+pub returns-clause-left : goal.returns-clause-left
+returns-clause-left g c =
+    ap (replica_of c.self.inside.limits c.self.inside.view) c.in_ok-left.ensures.left ∙ ap (left c.in_ok-dot.dot) c.self.view_is
+    ∙ ap (λ ds. left_each ds c.args.self.now) (sym c.in_ok-dot.ensures.dot)
 
 pub returns-clause-leads_back : goal.returns-clause-leads_back
 returns-clause-leads_back g c = record {
@@ -22,13 +49,12 @@ returns-clause-leads_back g c = record {
     topic = c.args.topic.now;
     key = c.args.key.now;
     dot = c.in_ok-dot.dot;
-    accepted =
-        c.in_ok-dot.ensures.refused;
+    accepted = c.in_ok-dot.ensures.refused;
     tracked = c.in_ok-dot.ensures.dot;
-    stood = c.in_ok-left.ensures.stood;
-    gives = c.in_ok-left.ensures.left;
+    stood = subst (λ (r : Replica). Stood c.in_ok-left.left c.in_ok-dot.dot r.store r.delta) c.self.view_is c.in_ok-left.ensures.stood;
+    gives = ap (replica_of c.self.inside.limits c.self.inside.view) c.in_ok-left.ensures.left ∙ ap (left c.in_ok-dot.dot) c.self.view_is;
   };
-  earlier = c.in_ok-left.ensures.earlier;
+  earlier = subst IsReplica c.self.view_is c.self.invariant;
 }
 
 pub returns-in_err-dot-clause-refused : goal.returns-in_err-dot-clause-refused

@@ -1,12 +1,16 @@
-use Rattle.std.proofs.Common.{rules, ◌≡◌, ℕ, ◌==◌, not, true, false, List, [], ◌∷◌, length, Some, refl, ap, sym, subst, ◌∙◌, true≢false, arith}
+use Rattle.std.proofs.Common.{rules, ◌≡◌, ℕ, ◌==◌, not, true, false, List, [], ◌∷◌, length, Some, refl, ap, sym, subst, subst₂, ◌∙◌, true≢false, arith}
 use Rattle.std.proofs.lemmas.Bool.{eq-eqb, eqb-true}
 use Rattle.dots_core.specs.declared.dot.Dot.{Dot}
 use Rattle.store_core.specs.LeavesTogether.{lefts_of}
 use Rattle.replica_core.specs.declared.replica_fault.ReplicaFault.TheVariants.{NotTracked, ClockFull}
+use Rattle.replica_core.specs.Invariant.{IsReplica}
 use Rattle.replica_core.specs.Leaves.{AreOwnSeen}
 use Rattle.replica_core.specs.Replicas.{Replica, dots_of_process, left_each}
 use Rattle.replica_core.specs.Refusals.{first_of, is_clock_full, is_some_dot, leave_all_refusal}
 use Rattle.replica_core.proofs.Calls.{refused_memory, leave_all_free}
+use Rattle.replica_core.proofs.Left.{kept_left_each}
+use Rattle.replica_core.proofs.StoreParts.{left_each_stores, replica_of, room}
+use Rattle.replica_core.proofs.Sizes.{store_fits}
 use Rattle.replica_core.proofs.replica.Replica.leave_all.Goals as goal
 
 -- where no entry is of the process
@@ -35,17 +39,42 @@ returns-then-is_clock_full-clause-refused g c =
     (sym c.is_empty.ensures ∙ c.if-is_empty.false)
     (ap (is_clock_full c.args.self.now) (sym c.len.ensures) ∙ sym c.is_clock_full.ensures ∙ c.if-is_clock_full.true)
 
-pub let_all_go-requires : goal.let_all_go-requires
-let_all_go-requires g c =
-    let dots = c.deref.ensures.value in (
-      search tt,
+pub leave_each-requires : goal.leave_each-requires
+leave_each-requires g c =
+    let dots = c.deref.ensures.value in
+    let free = ap (λ (ds : List Dot). is_clock_full c.args.self.now (length ds)) dots
+    ∙ ap (is_clock_full c.args.self.now) (sym c.in_ok-leaving.leaving.ok.0 ∙ sym c.len.ensures)
+    ∙ sym c.is_clock_full.ensures ∙ c.if-is_clock_full.false in (
+      store_fits g.row.A g.A.Allocator (search tt),
       (
-        subst (λ ds. AreOwnSeen ds c.args.self.now) (sym dots) c.in_ok-leaving.ensures.own,
-        ap (λ (ds : List Dot). is_clock_full c.args.self.now (length ds)) dots
-            ∙ ap (is_clock_full c.args.self.now) (sym c.in_ok-leaving.leaving.ok.0 ∙ sym c.len.ensures)
-            ∙ sym c.is_clock_full.ensures ∙ c.if-is_clock_full.false,
+        subst₂ (λ ds (r : Replica). AreOwnSeen ds r) (sym dots) (sym c.self.view_is) c.in_ok-leaving.ensures.own,
+        room _ c.args.self.now _ c.self.view_is c.self.invariant free,
       ),
     )
+
+pub invariant_of-self-2 : goal.invariant_of-self-2
+invariant_of-self-2 g c =
+    let dots = c.deref.ensures.value in
+    let r = replica_of c.self.inside.limits c.self.inside.view c.self.inside.stores in
+    let free = ap (λ (ds : List Dot). is_clock_full c.args.self.now (length ds)) dots
+    ∙ ap (is_clock_full c.args.self.now) (sym c.in_ok-leaving.leaving.ok.0 ∙ sym c.len.ensures)
+    ∙ sym c.is_clock_full.ensures ∙ c.if-is_clock_full.false in
+    subst IsReplica
+    (sym (ap (replica_of c.self.inside.limits c.self.inside.view) c.in_ok-lefts.ensures.left
+    ∙ left_each_stores c.deref.result.now c.self.inside.limits c.self.inside.view c.self.inside.stores))
+    (kept_left_each c.deref.result.now r c.self.invariant
+    (subst₂ (λ ds (r : Replica). AreOwnSeen ds r) (sym dots) (sym c.self.view_is) c.in_ok-leaving.ensures.own)
+    (ap (λ (r : Replica). is_clock_full r (length c.deref.result.now)) c.self.view_is ∙ free))
+
+pub invariant_of-self : goal.invariant_of-self
+invariant_of-self g c = rw c.in_err-lefts.ensures.err c.self.invariant
+
+pub returns-clause-left : goal.returns-clause-left
+returns-clause-left g c =
+    let dots = c.deref.ensures.value ∙ c.in_ok-leaving.ensures.dots in
+    ap (replica_of c.self.inside.limits c.self.inside.view) c.in_ok-lefts.ensures.left
+    ∙ left_each_stores c.deref.result.now c.self.inside.limits c.self.inside.view c.self.inside.stores
+    ∙ (λ i. left_each (dots i) (c.self.view_is i))
 
 pub returns-clause-refused : goal.returns-clause-refused
 returns-clause-refused g c =
@@ -62,10 +91,10 @@ returns-clause-leads_back g c =
         accepted = returns-clause-refused g c;
         stood =
             c.in_ok-lefts.ensures.stood
-            ∙ ap (λ ds. lefts_of ds c.args.self.now.store.entries c.args.self.now.delta.entries c.args.self.now.delta.seen) dots;
-        gives = c.in_ok-lefts.ensures.left ∙ ap (λ ds. left_each ds c.args.self.now) dots;
+            ∙ (λ i. lefts_of (dots i) (c.self.view_is i).store.entries (c.self.view_is i).delta.entries (c.self.view_is i).delta.seen);
+        gives = returns-clause-left g c;
       };
-      earlier = c.in_ok-lefts.ensures.earlier;
+      earlier = subst IsReplica c.self.view_is c.self.invariant;
     }
 
 -- the requirements of the calls are its own

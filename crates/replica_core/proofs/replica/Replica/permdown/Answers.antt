@@ -1,7 +1,9 @@
-use Rattle.std.proofs.Common.{rules, sym, subst, ◌∙◌}
+use Rattle.std.proofs.Common.{ap, refl, rules, sym, subst, ◌∙◌}
+use Rattle.std.proofs.lemmas.Bool.{eqb-false}
 use Rattle.store_core.specs.ForgottenNames.{Holds}
 use Rattle.replica_core.specs.Replicas.{Replica}
 use Rattle.replica_core.specs.Invariant.{IsReplica}
+use Rattle.replica_core.proofs.StoreParts.{replica_of}
 use Rattle.replica_core.proofs.Sizes.{store_fits}
 use Rattle.replica_core.proofs.Calls.{refused_memory, permdown_other}
 use Rattle.replica_core.proofs.Forgotten.{forget_is, kept_forget_store}
@@ -10,11 +12,14 @@ use Rattle.replica_core.proofs.replica.Replica.permdown.Goals as goal
 pub invariant_of-self-2 : goal.invariant_of-self-2
 invariant_of-self-2 g c =
     let other = permdown_other _ c.args.self.now c.args.name c.permdown_refusal.result c.self.view_is c.permdown_refusal.ensures c.in_default.is in
-    kept_forget_store _ c.args.name c.forget.new.store c.forget-2.new.self c.self.invariant other c.in_ok-forgotten.ensures.ok c.forget-2.ensures
+    let r = replica_of c.self.inside.limits c.self.inside.view c.self.inside.stores in
+    rw c.in_ok-forgotten.ensures.forgotten (kept_forget_store r c.args.name _ c.forget-2.new.self c.self.invariant other refl c.forget-2.ensures)
 
 pub returns-clause-forgotten : goal.returns-clause-forgotten
 returns-clause-forgotten g c =
-    forget_is _ c.args.self.now c.args.name c.forget.new.store c.forget-2.new.self c.self.view_is c.in_ok-forgotten.ensures.ok c.forget-2.ensures
+    let r = replica_of c.self.inside.limits c.self.inside.view c.self.inside.stores in
+    ap (replica_of c.self.inside.limits c.forget-2.new.self) c.in_ok-forgotten.ensures.forgotten
+    ∙ forget_is r c.args.self.now c.args.name _ c.forget-2.new.self c.self.view_is refl c.forget-2.ensures
 
 pub returns-clause-leads_back : goal.returns-clause-leads_back
 returns-clause-leads_back g c = record {
@@ -22,7 +27,7 @@ returns-clause-leads_back g c = record {
     number = c.requires;
     accepted = sym c.permdown_refusal.ensures ∙ c.in_default.is;
     holds = subst (λ (r : Replica). Holds c.args.name r.store c.in_ok-forgotten.forgotten) c.self.view_is c.in_ok-forgotten.ensures.held;
-    gives = forget_is _ c.args.self.now c.args.name c.forget.new.store c.forget-2.new.self c.self.view_is c.in_ok-forgotten.ensures.ok c.forget-2.ensures;
+    gives = returns-clause-forgotten g c;
   };
   earlier = subst IsReplica c.self.view_is c.self.invariant;
 }
@@ -35,7 +40,9 @@ pub forget-requires-2 : goal.forget-requires-2
 forget-requires-2 g c = search rules
 
 pub forget-requires : goal.forget-requires
-forget-requires g c = (store_fits g.row.A g.A.Allocator (search tt), c.requires)
+forget-requires g c =
+    let other = permdown_other _ c.args.self.now c.args.name c.permdown_refusal.result c.self.view_is c.permdown_refusal.ensures c.in_default.is in
+    (store_fits g.row.A g.A.Allocator (search tt), (c.requires, eqb-false c.args.name c.self.inside.stores.own other))
 
 pub invariant_of-self : goal.invariant_of-self
 invariant_of-self g c = rw c.in_err-forgotten.ensures.err c.self.invariant

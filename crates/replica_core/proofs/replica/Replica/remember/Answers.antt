@@ -4,6 +4,7 @@ use Rattle.store_core.specs.EntryMoves.{AreNew}
 use Rattle.replica_core.specs.Changes.{with_remembered}
 use Rattle.replica_core.specs.Invariant.{IsReplica}
 use Rattle.replica_core.specs.Replicas.{Replica}
+use Rattle.replica_core.proofs.StoreParts.{are_stores}
 use Rattle.replica_core.proofs.Sizes.{store_fits}
 use Rattle.replica_core.proofs.replica.Replica.remember.Goals as goal
 
@@ -13,10 +14,11 @@ put-requires g c = search rules
 pub remember-requires : goal.remember-requires
 remember-requires g c = (
   store_fits g.row.A g.A.Allocator (search tt),
-  (
-    c.requires.name,
-    subst (λ (r : Replica). AreNew (pairs c.args.forgotten.entries) r.store.entries) (sym c.self.view_is) c.requires.new,
-  ),
+  record {
+    number = c.requires.name;
+    new = subst (λ (r : Replica). AreNew (pairs c.args.forgotten.entries) r.store.entries) (sym c.self.view_is) c.requires.new;
+    earlier = are_stores _ (subst (λ (r : Replica). IsReplica (with_remembered c.args.name c.args.forgotten r)) (sym c.self.view_is) c.requires.earlier);
+  },
 )
 
 pub invariant_of-self : goal.invariant_of-self

@@ -6,3 +6,6 @@ known-requires g c = search tt
 
 pub request-requires : goal.request-requires
 request-requires g c = search rules
+
+pub own-requires : goal.own-requires
+own-requires g c = search tt

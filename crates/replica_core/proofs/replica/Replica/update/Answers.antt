@@ -1,19 +1,49 @@
-use Rattle.std.proofs.Common.{ap, ◌∙◌}
+use Rattle.std.proofs.Common.{ap, subst, sym, ◌∙◌}
 use Rattle.std.proofs.lemmas.Result.{err_from_is_err_and}
-use Rattle.payload_core.specs.Presences.{Presence, Entry, presence_of}
-use Rattle.replica_core.specs.Replicas.{tracked_dots, updated}
+use Rattle.std.specs.FinMap as fin
+use Rattle.payload_core.specs.Presences.{Presence}
+use Rattle.store_core.specs.LeftEntries.{Stood}
+use Rattle.replica_core.specs.Invariant.{IsReplica}
+use Rattle.replica_core.specs.Refusals.{is_clock_full}
+use Rattle.replica_core.specs.Replicas.{Replica, dropped, joined, tracked_dots}
 use Rattle.replica_core.proofs.Calls.{refused_memory, leave_free}
-use Rattle.replica_core.proofs.Left.{updated_at}
+use Rattle.replica_core.proofs.Left.{kept_updated, updated_at}
+use Rattle.replica_core.proofs.StoreParts.{replica_of, room_for_one}
+use Rattle.replica_core.proofs.Sizes.{store_fits}
 use Rattle.replica_core.proofs.replica.Replica.update.Goals as goal
 
-pub track_again-requires : goal.track_again-requires
-track_again-requires g c = (
-  search tt,
+pub update-requires : goal.update-requires
+update-requires g c = (
+  store_fits g.row.A g.A.Allocator (search tt),
   (
-    ap (λ (e : Entry). tracked_dots c.args.self.now e.pid e.topic e.key) c.in_ok-entry.ensures ∙ c.in_ok-dot.ensures.dot,
-    (ap (λ (e : Entry). e.dot) c.in_ok-entry.ensures, leave_free c.args.self.now c.args.pid c.args.topic.now c.args.key.now c.in_ok-dot.ensures.refused),
+    c.in_ok-dot.ensures.own.0.0 ∙ ap (λ (r : Replica). r.own) (sym c.self.view_is),
+    (
+      ap (λ (r : Replica). fin.contains_key r.store.entries c.in_ok-dot.dot) c.self.view_is ∙ c.in_ok-dot.ensures.live,
+      room_for_one _ c.args.self.now c.self.view_is c.self.invariant
+          (leave_free c.args.self.now c.args.pid c.args.topic.now c.args.key.now c.in_ok-dot.ensures.refused),
+    ),
   ),
 )
+
+pub invariant_of-self-2 : goal.invariant_of-self-2
+invariant_of-self-2 g c =
+    let p : Presence = record { pid = c.args.pid; topic = c.args.topic.now; key = c.args.key.now; metadata = c.args.metadata.now } in
+    let r = replica_of c.self.inside.limits c.self.inside.view c.self.inside.stores in
+    rw c.in_ok-left.ensures.updated
+    (kept_updated p r c.in_ok-dot.dot
+    (ap (λ (r : Replica). tracked_dots r c.args.pid c.args.topic.now c.args.key.now) c.self.view_is ∙ c.in_ok-dot.ensures.dot) c.self.invariant
+    (ap (λ (r : Replica). is_clock_full r 1) c.self.view_is
+    ∙ leave_free c.args.self.now c.args.pid c.args.topic.now c.args.key.now c.in_ok-dot.ensures.refused))
+
+pub invariant_of-self : goal.invariant_of-self
+invariant_of-self g c = rw c.in_err-left.ensures.err c.self.invariant
+
+pub returns-clause-updated : goal.returns-clause-updated
+returns-clause-updated g c =
+    let p : Presence = record { pid = c.args.pid; topic = c.args.topic.now; key = c.args.key.now; metadata = c.args.metadata.now } in
+    ap (replica_of c.self.inside.limits c.self.inside.view) c.in_ok-left.ensures.updated
+    ∙ ap (λ r. joined p (dropped c.in_ok-dot.dot r)) c.self.view_is
+    ∙ sym (updated_at p c.args.self.now c.in_ok-dot.dot c.in_ok-dot.ensures.dot)
 
 pub returns-clause-leads_back : goal.returns-clause-leads_back
 returns-clause-leads_back g c =
@@ -24,11 +54,11 @@ returns-clause-leads_back g c =
         dot = c.in_ok-dot.dot;
         accepted = c.in_ok-dot.ensures.refused;
         tracked = c.in_ok-dot.ensures.dot;
-        stood = c.in_ok-left.ensures.stood;
-        gives = c.in_ok-left.ensures.updated ∙ ap (λ (e : Entry). updated (presence_of e) c.args.self.now) c.in_ok-entry.ensures
-            ∙ updated_at p c.args.self.now c.in_ok-dot.dot c.in_ok-dot.ensures.dot;
+        stood = subst (λ (r : Replica). Stood c.in_ok-left.left c.in_ok-dot.dot r.store r.delta) c.self.view_is c.in_ok-left.ensures.stood;
+        gives = ap (replica_of c.self.inside.limits c.self.inside.view) c.in_ok-left.ensures.updated
+            ∙ ap (λ r. joined p (dropped c.in_ok-dot.dot r)) c.self.view_is;
       };
-      earlier = c.in_ok-left.ensures.earlier;
+      earlier = subst IsReplica c.self.view_is c.self.invariant;
     }
 
 pub returns-in_err-dot-clause-refused : goal.returns-in_err-dot-clause-refused
@@ -36,15 +66,9 @@ returns-in_err-dot-clause-refused g c =
     let failed = err_from_is_err_and c.from_residual.result c.from_residual.ensures.1 in
     rw (failed.1, failed.2) c.in_err-dot.ensures.refused
 
--- the requirements of the calls are its own
+-- its own requirement is that of the call
 pub leaving_dot-requires : goal.leaving_dot-requires
 leaving_dot-requires g c = search tt
-
-pub fresh_entry-requires : goal.fresh_entry-requires
-fresh_entry-requires g c = search tt
-
-pub returns-in_err-entry-clause-refused : goal.returns-in_err-entry-clause-refused
-returns-in_err-entry-clause-refused g c = refused_memory _ c.from_residual-in_err-entry.result c.from_residual-in_err-entry.ensures.1
 
 pub returns-in_err-left-clause-refused : goal.returns-in_err-left-clause-refused
 returns-in_err-left-clause-refused g c = refused_memory _ c.from_residual-in_err-left.result c.from_residual-in_err-left.ensures.1

@@ -1,15 +1,12 @@
-use Rattle.std.proofs.Common.{◌==◌, ap, subst, sym, ◌∙◌}
-use Rattle.payload_core.specs.Presences.{Presence, Entries, dots_of}
+use Rattle.std.proofs.Common.{◌==◌, subst, sym, ◌∙◌}
+use Rattle.payload_core.specs.Presences.{Presence, dots_of}
 use Rattle.replica_core.specs.Leaves.{AreOwnSeen}
-use Rattle.replica_core.specs.Replicas.{Replica}
 use Rattle.replica_core.proofs.Left.{own_dots_seen}
 use Rattle.replica_core.proofs.replica.process_leaves.dots_of_process.Goals as goal
 
 pub returns-clause-dots : goal.returns-clause-dots
 returns-clause-dots g c =
-    c.in_ok-leaving.ensures
-    ∙ ap (λ (r : Replica). dots_of r.own (λ (p : Presence). p.pid == c.args.pid) c.entries.result.now.map) c.replica.view_is
-    ∙ ap (λ (es : Entries). dots_of c.args.replica.now.own (λ (p : Presence). p.pid == c.args.pid) es) c.entries.ensures
+    c.in_ok-leaving.ensures ∙ (λ i. dots_of (c.own.ensures i) (λ (p : Presence). p.pid == c.args.pid) (c.entries.ensures i))
 
 pub returns-clause-own : goal.returns-clause-own
 returns-clause-own g c =
@@ -21,3 +18,6 @@ replica_law-requires g c = search tt
 
 pub entries-requires : goal.entries-requires
 entries-requires g c = search tt
+
+pub own-requires : goal.own-requires
+own-requires g c = search tt
