@@ -1,3 +1,4 @@
 pub mod LineText
 pub mod LineByLine
+pub mod WordByWord
 pub mod Calls

@@ -1,39 +1,27 @@
--- A line with a fault among the lines.
-use Rattle.std.proofs.Common.{◌≡◌, ℕ, ◌<◌, List, length, get_or, drop, map, Bor, Err, refl, sym, ◌∙◌, ◌≤◌, [], Ok, None, arith}
-use Rattle.std.proofs.Math.Seq.{drop-cons}
-use Rattle.grammar_core.specs.declared.fault.FaultKind.{FaultKind}
-use Rattle.grammar_core.specs.declared.fault.ScriptFault.{ScriptFault}
-use Rattle.grammar_core.specs.Grammar.{Reading, with_line, with_lines, script_of, finished}
+-- The lines of a script, one by one.
+use Rattle.std.proofs.Common.{◌≡◌, ℕ, zero, suc, ◌+◌, ◌<◌, true, false, ◌==◌, List, [], ◌∷◌, length, get_or, take, drop}
+use Rattle.std.proofs.Common.{Option, Some, None, refl, arith}
 use Rattle.grammar_core.specs.Words.{lines_of}
-use Rattle.std.proofs.lemmas.Bool.Decides.{nat_tests}
-use Rattle.std.proofs.lemmas.Grind.{common_steps}
 
--- the first of the lines that are left has a fault
-pub with_lines_fault : (reading : Reading) (number : ℕ) (lines : List (Bor (List ℕ))) (index : ℕ) (d : Bor (List ℕ)) (kind : FaultKind) →
-    index < length lines → with_line reading number (get_or lines index d).now ≡ Err kind
-    → with_lines reading number (map (λ line. line.now) (drop index lines)) ≡ Err (record { line = number; kind = kind })
-unfolding with_lines
-with_lines_fault reading number lines index d kind within fault = rw (drop-cons lines index d, fault) refl
+-- the first line feed ends the first line
+pub lines_of-ended : (bytes : List ℕ) (end : ℕ) → end < length bytes → ((i : ℕ) → i < end → (get_or bytes i 0 == 10) ≡ false)
+    → (get_or bytes end 0 == 10) ≡ true → lines_of bytes ≡ take end bytes ∷ lines_of (drop (suc end) bytes)
+lines_of-ended [] end within none feed = absurd (omega arith)
+lines_of-ended (x ∷ xs) zero within none feed = rw feed refl
+lines_of-ended (x ∷ xs) (suc end) within none feed =
+    let first : (x == 10) ≡ false = none 0 (omega arith) in
+    let rest = lines_of-ended xs end (omega arith) (λ i before. none (suc i) (omega arith)) feed in
+    rw (first, rest) refl
 
--- no line is left
-pub all_read : (reading : Reading) (number index : ℕ) (lines : List (Bor (List ℕ))) (bytes : List ℕ) → length lines ≤ index
-    → with_lines reading number (map (λ line. line.now) (drop index lines)) ≡
-    with_lines (record { cast = None; lines = [] }) 1 (lines_of bytes)
-    → with_lines (record { cast = None; lines = [] }) 1 (lines_of bytes) ≡ Ok reading
-unfolding with_lines
-all_read reading number index lines bytes none same =
-    let left : drop index lines ≡ [] = grind (arith, common_steps) in
-    sym same ∙ rw left refl
+-- a text without line feeds is one line
+pub lines_of-open : (bytes : List ℕ) → ((i : ℕ) → i < length bytes → (get_or bytes i 0 == 10) ≡ false) → lines_of bytes ≡ bytes ∷ []
+lines_of-open [] none = refl
+lines_of-open (x ∷ xs) none =
+    let first : (x == 10) ≡ false = none 0 (omega arith) in
+    let rest = lines_of-open xs (λ i within. none (suc i) (omega arith)) in
+    rw (first, rest) refl
 
--- what was read is the script, if the nodes were named
-pub script_of-read : (bytes : List ℕ) (reading : Reading) → length bytes ≤ 1048576 →
-    with_lines (record { cast = None; lines = [] }) 1 (lines_of bytes) ≡ Ok reading
-    → script_of bytes ≡ finished reading.cast reading.lines
-unfolding script_of
-script_of-read bytes reading few all = rw all (grind (arith, nat_tests))
-
--- the fault of a line is the script's
-pub script_of-fault : (bytes : List ℕ) (fault : ScriptFault) → length bytes ≤ 1048576 →
-    with_lines (record { cast = None; lines = [] }) 1 (lines_of bytes) ≡ Err fault → script_of bytes ≡ Err fault
-unfolding script_of
-script_of-fault bytes fault few failed = rw failed (grind (arith, nat_tests))
+-- how many lines there may be, at most
+abbrev pub most_lines : Option (List ℕ) → ℕ
+most_lines None = 0
+most_lines (Some bytes) = length bytes + 1

@@ -290,6 +290,10 @@ with_words reading number [] = Ok reading
 with_words reading number (first ∷ rest) =
     if slice_index first 0 == 35 then Ok reading else with_words_by reading.cast reading.lines number first rest
 
+-- the words of a line, where it is text
+abbrev pub text_words : List ℕ → Result Texts FaultKind
+text_words line = if not (is_text line) then Err NotText else Ok (words_of line)
+
 unfoldable pub with_line : Reading → ℕ → List ℕ → Result Reading FaultKind
 with_line reading number line =
     if nat_lt 4096 (length line) then Err TooLong

@@ -12,7 +12,7 @@ use std::alloc::Allocator;
 use std::marker::Model;
 use std::mem;
 
-/// The names of the nodes and of the consoles. Consoles are numbered after the nodes.
+/// The names of the nodes and of the consoles. Actors are numbered from 0, the nodes first.
 #[derive(Drop)]
 pub struct Cast<A: Allocator> {
     nodes: Names<A>,
@@ -51,7 +51,7 @@ impl<A: Allocator> Cast<A> {
         (self.nodes.len() + self.consoles.len()) as u16
     }
 
-    /// The number of an actor.
+    /// The number of the node or console that is called `name`; `None` if nobody is called so.
     pub fn number_of(&self, name: &str) -> Option<u16>
         ensures { result ≡ actor_in self.now name.now }
     {
@@ -63,7 +63,7 @@ impl<A: Allocator> Cast<A> {
     }
 }
 
-/// The word, or, where it is reserved, a text that is no name.
+/// `word`, or the empty text if `word` is a keyword. Keywords are reserved, and the empty text isn't a name.
 #[tactic(auto, unfolding(crate::specs::Grammar::unreserved))]
 fn unreserved(word: &str) -> &str
     ensures { result.now ≡ unreserved word.now }
@@ -71,6 +71,7 @@ fn unreserved(word: &str) -> &str
     if keyword_of(word).is_some() { "" } else { word }
 }
 
+/// The words, with the empty text in place of each keyword among them.
 fn all_unreserved<'w, A: Allocator>(alloc: A, words: &[&'w str]) -> Result<Vec<&'w str, A>, Oom>
     ensures { IfOk result (λ plain. map (λ word. word.now) plain.items ≡ map unreserved (map (λ word. word.now) words.now)) }
 {
@@ -81,7 +82,8 @@ fn all_unreserved<'w, A: Allocator>(alloc: A, words: &[&'w str]) -> Result<Vec<&
     Ok(plain)
 }
 
-/// The names of a `nodes` line. A reserved word is no name.
+/// Makes the names of the nodes from `words`, the words behind `nodes`. A keyword counts as a word that isn't a name
+/// (`BadName`).
 #[tactic(auto, unfolding(crate::specs::Grammar::node_names))]
 fn node_names<A: Allocator + Copy>(alloc: A, words: &[&str]) -> Result<Names<A>, FaultKind>
     ensures { Gives (λ names. names) result (node_names (map (λ word. word.now) words.now)) }
@@ -90,7 +92,7 @@ fn node_names<A: Allocator + Copy>(alloc: A, words: &[&str]) -> Result<Names<A>,
     Ok(Names::new(alloc, &words)?)
 }
 
-/// The first significant line: `nodes NAME ..`.
+/// Reads the first significant line, `nodes NAME ..`. `NoNodes` if its first word isn't `nodes`.
 #[tactic(auto, unfolding(crate::specs::Grammar::opening))]
 pub fn opening<A: Allocator + Copy>(
     alloc: A,
@@ -109,6 +111,8 @@ pub fn opening<A: Allocator + Copy>(
     })
 }
 
+/// Adds the console `name` to `consoles`. `BadName` if `name` isn't a name or is a keyword; `Twice` if a node or a
+/// console has the name already.
 #[tactic(auto, unfolding(crate::specs::Grammar::with_console))]
 fn add_console<A: Allocator + Copy>(
     nodes: &Names<A>,
@@ -130,6 +134,8 @@ fn add_console<A: Allocator + Copy>(
     Ok(())
 }
 
+/// Adds a console for each of `names` to `consoles`, up to the first name that is refused. The names before the refused
+/// one stay in `consoles`.
 #[tactic(auto, unfolding(crate::specs::Grammar::with_each))]
 fn add_each<A: Allocator + Copy>(
     nodes: &Names<A>,
@@ -145,7 +151,8 @@ fn add_each<A: Allocator + Copy>(
     Ok(())
 }
 
-/// `consoles NAME ..`. Where there is a fault it adds none of them.
+/// Reads a line `consoles NAME ..` into `cast`; `names` are the words behind `consoles`. `Twice` if `cast` has consoles
+/// already, `WrongCount` unless there are 1 to 16 names. A fault leaves `cast` unchanged.
 #[tactic(auto, unfolding(crate::specs::Grammar::with_consoles))]
 pub fn add_consoles<A: Allocator + Copy>(
     alloc: A,
@@ -163,6 +170,7 @@ pub fn add_consoles<A: Allocator + Copy>(
     }
     let mut consoles = TextSet::new(alloc);
     add_each(&cast.nodes, &mut consoles, names)?;
+    // form: an assignment would drop the old list field by field
     drop(mem::replace(&mut cast.consoles, consoles));
     Ok(())
 }

@@ -16,12 +16,12 @@ use crate::steps::{
 use bench_core::{Act, Names};
 use std::alloc::Allocator;
 
-/// What a line of a script asks. It has nodes and actors by their numbers.
+/// What a line of a script asks. Nodes and actors are numbers.
 #[derive(Drop)]
 pub enum Command<A: Allocator> {
     /// An act of this actor.
     Call(u16, Act<A>),
-    /// The undo of a step with all that follows from it, asked by this actor.
+    /// The undo, by this actor, of the step with this number and of all that follows from it.
     Unwind(u16, u64),
     /// The online list of a node.
     Show(u16),
@@ -33,6 +33,7 @@ pub enum Command<A: Allocator> {
     Journal,
 }
 
+/// The command of an actor's line, whose words after the verb are `args`.
 #[tactic(auto, unfolding(crate::specs::Grammar::verb_line))]
 fn verb_line<A: Allocator + Copy>(
     alloc: A,
@@ -63,6 +64,8 @@ fn verb_line<A: Allocator + Copy>(
     }
 }
 
+/// The command of an actor's line, whose words after the actor's name are `words`. `WrongCount` if there are none,
+/// `UnknownWord` if the first isn't a verb, `NotAllowed` if a console uses a node's verb.
 #[tactic(auto, unfolding(crate::specs::Grammar::actor_line))]
 fn actor_line<A: Allocator + Copy>(
     alloc: A,
@@ -93,7 +96,8 @@ fn journal_of<A: Allocator>(words: &[&str]) -> Result<Command<A>, FaultKind>
     Ok(Command::Journal)
 }
 
-/// The command of a line after the opening that isn't `consoles`.
+/// Reads a line behind the `nodes` line, from its first word, `first`, and the words `rest` behind that one. `Twice` if
+/// `first` is `nodes` again; a `consoles` line doesn't come here.
 #[tactic(auto, unfolding(crate::specs::Grammar::command_by))]
 pub fn command_of<A: Allocator + Copy>(
     alloc: A,

@@ -7,34 +7,35 @@ use payload_core::Oom;
 use std::alloc::AllocFailed;
 use thiserror::Error;
 
-/// What is wrong with a line or with a whole script. `docs/FORMATS.md` has the order in which it is looked for.
+/// What is wrong with a line or with a whole script. `docs/FORMATS.md` has the order in which faults are looked for.
 #[derive(Clone, Copy, Debug, PartialEq, Eq, Error)]
 pub enum FaultKind {
-    /// A byte outside 0x20 to 0x7E.
+    /// A line has a byte outside 0x20 to 0x7E.
     #[error("NotText")]
     NotText,
-    /// More bytes than a script, a line, or a topic, key or metadata may have.
+    /// A script, a line, a topic, a key or metadata has more bytes than it may have.
     #[error("TooLong")]
     TooLong,
-    /// The first significant line isn't `nodes`, or there is no such line.
+    /// The first significant line doesn't begin with `nodes`, or no line is significant.
     #[error("NoNodes")]
     NoNodes,
-    /// A second `nodes` or `consoles` line, or a name that was given before.
+    /// A second `nodes` or `consoles` line, a name that was given before, or a node that an extract names twice.
     #[error("Twice")]
     Twice,
-    /// A first word that is no actor's name, or a second word that is no verb.
+    /// The first word is neither a keyword nor an actor's name, or the second word of an actor's line isn't a verb.
     #[error("UnknownWord")]
     UnknownWord,
     /// Too few or too many words.
     #[error("WrongCount")]
     WrongCount,
-    /// A console's line whose verb is for nodes, or a line that is no act where acts alone are asked for.
+    /// A console's line has a verb that is for nodes alone, or a line isn't an act where only acts are allowed.
     #[error("NotAllowed")]
     NotAllowed,
-    /// A word that should be a number and isn't one.
+    /// A word should be a number and isn't one.
     #[error("BadNumber")]
     BadNumber,
-    /// A word that should be a name and isn't one.
+    /// A word should name a new node or console, and isn't a name or is a keyword; or a word should be the name of a
+    /// node, and no node has that name.
     #[error("BadName")]
     BadName,
     /// A request for memory was refused.
@@ -74,7 +75,7 @@ impl From<NamesFault> for FaultKind {
     }
 }
 
-/// The first fault of a script. Lines count from 1; line 0 stands for the whole script.
+/// The first fault of a script. Lines are counted from 1; line 0 stands for the whole script.
 #[derive(Clone, Copy, Debug, PartialEq, Eq, Error)]
 #[error("line {line}: {kind}")]
 pub struct ScriptFault {
@@ -85,7 +86,7 @@ pub struct ScriptFault {
 impl ScriptFault {
     ghost use Rattle.grammar_core.specs.declared.fault.FaultKind.TheVariants.{OutOfMemory};
 
-    /// A line's fault. Want of memory is of no line.
+    /// The fault of the line with the number `line`. `OutOfMemory` belongs to no line, and stands at line 0.
     pub fn at(line: u64, kind: FaultKind) -> ScriptFault
         ensures memory { kind ≡ OutOfMemory → result ≡ record { line = 0; kind = OutOfMemory } }
         ensures other { kind ≢ OutOfMemory → result ≡ record { line = line; kind = kind } }

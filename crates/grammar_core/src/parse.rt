@@ -1,4 +1,4 @@
-//! A script from its bytes, or its first fault.
+//! Reads a script from its bytes, or finds its first fault.
 ghost use Rattle.std.specs.Prelude.{◌≡◌, ◌<◌, Err, length, map, IfErr, IsTrue};
 ghost use Rattle.std.specs.List.{list_all};
 ghost use Rattle.grammar_core.specs.Answers.{Gives, GivesScript};
@@ -12,23 +12,26 @@ use crate::cast::{Cast, add_consoles, opening};
 use crate::command::command_of;
 use crate::fault::{FaultKind, ScriptFault};
 use crate::script::{Line, Script};
-use crate::words::{lines_of, text_of, words_of};
+use crate::words::{first_line, put_words};
+use smallvec::SmallVec;
 use std::alloc::Allocator;
 
 /// The most bytes of a script.
 pub const LONGEST_SCRIPT: usize = 1_048_576;
 
 /// The most bytes of a line, without its line feed.
-const LONGEST_LINE: usize = 4096;
+pub const LONGEST_LINE: usize = 4096;
 
-/// What has been read so far.
+/// What a script has given up to the line that was read last: in `cast` who may act, `None` until the `nodes` line was
+/// read; in `lines` the commands.
 #[derive(Drop)]
 pub struct Reading<A: Allocator> {
     pub cast: Option<Cast<A>>,
     pub lines: Vec<Line<A>, A>,
 }
 
-/// Reads a significant line: its first word, and those after it.
+/// Reads a significant line, which has words and isn't a comment, into `reading`, from its first word, `first`, and the
+/// words `rest` behind that one. A fault leaves `reading` unchanged.
 #[tactic(auto, unfolding(crate::specs::Grammar::with_words_by))]
 fn read_significant<A: Allocator + Copy>(
     alloc: A,
@@ -43,6 +46,7 @@ fn read_significant<A: Allocator + Copy>(
     ensures kept { IfErr result (λ _. reading_view reading.new ≡ reading_view reading.old) }
 {
     let Some(cast) = &mut reading.cast else {
+        // form: an assignment would drop the old value field by field
         drop(reading.cast.replace(opening(alloc, first, rest)?));
         return Ok(());
     };
@@ -54,6 +58,8 @@ fn read_significant<A: Allocator + Copy>(
     Ok(())
 }
 
+/// Reads a line into `reading`, from its words. Skips a comment, and a line without words. A fault leaves `reading`
+/// unchanged.
 #[tactic(auto, unfolding(crate::specs::Grammar::with_words))]
 fn read_words<A: Allocator + Copy>(
     alloc: A,
@@ -74,7 +80,7 @@ fn read_words<A: Allocator + Copy>(
     read_significant(alloc, reading, number, first, rest)
 }
 
-/// Reads a line. A fault changes nothing.
+/// Reads `line`, the line with this number, into `reading`. A fault leaves `reading` unchanged.
 #[tactic(auto, unfolding(crate::specs::Grammar::with_line))]
 pub fn read_line<A: Allocator + Copy>(
     alloc: A,
@@ -88,15 +94,13 @@ pub fn read_line<A: Allocator + Copy>(
     if line.len() > LONGEST_LINE {
         return Err(FaultKind::TooLong);
     }
-    let Some(text) = text_of(line) else {
-        return Err(FaultKind::NotText);
-    };
-    let words = words_of(alloc, text)?;
+    let mut words = SmallVec::new(&alloc);
+    put_words(&mut words, line)?;
     read_words(alloc, reading, number, &words)
 }
 
-/// The script that the bytes spell, or its first fault. Want of memory, at line 0, may come at any line in
-/// place of what would follow.
+/// The script that the bytes spell, or its first fault. If memory is refused while a line is read, the fault is
+/// `OutOfMemory` at line 0.
 #[tactic(auto, unfolding(crate::specs::Grammar::script_of, crate::specs::Grammar::with_lines))]
 pub fn parse_script<A: Allocator + Copy>(alloc: A, bytes: &[u8]) -> Result<Script<A>, ScriptFault>
     ensures gives { GivesScript plain_script result (script_of bytes.now) }
@@ -108,17 +112,21 @@ pub fn parse_script<A: Allocator + Copy>(alloc: A, bytes: &[u8]) -> Result<Scrip
             kind: FaultKind::TooLong,
         });
     }
-    let lines = lines_of(alloc, bytes)?;
     let mut reading = Reading {
         cast: None,
         lines: Vec::new(alloc),
     };
-    for (index, line) in lines.iter().enumerate() {
-        let number = index as u64 + 1;
+    let mut number = 1;
+    let mut left = Some(bytes);
+    while let Some(rest) = left {
+        let (line, behind) = first_line(rest);
         if let Err(kind) = read_line(alloc, &mut reading, number, line) {
+            // form: drop before exit
             drop(reading);
             return Err(ScriptFault::at(number, kind));
         }
+        number += 1;
+        left = behind;
     }
     let Reading { cast, lines } = reading;
     match cast {

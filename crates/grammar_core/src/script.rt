@@ -11,14 +11,14 @@ use crate::fault::{FaultKind, ScriptFault};
 use bench_core::{Act, Names, TextSet};
 use std::alloc::Allocator;
 
-/// A command with the number of its line.
+/// A command, and the number of its line.
 #[derive(Drop)]
 pub struct Line<A: Allocator> {
     pub number: u64,
     pub command: Command<A>,
 }
 
-/// Who may act, and what the lines ask, in order.
+/// Who may act, and the commands of the lines, in order.
 #[derive(Drop)]
 pub struct Script<A: Allocator> {
     pub(crate) cast: Cast<A>,
@@ -39,28 +39,29 @@ pub fn console_names<A: Allocator>(script: &Script<A>) -> &TextSet<A>
     script.cast.consoles()
 }
 
-/// The commands, in order.
+/// The commands with their line numbers, in order.
 pub fn lines<A: Allocator>(script: &Script<A>) -> &[Line<A>]
     ensures { plain_lines result.now ≡ (plain_script script.now).lines }
 {
     &script.lines
 }
 
-/// The number of the line at a place, from 0, among the lines that ask something.
+/// The number of the line whose command stands at `place`, counted from 0 among the commands; `None` if there is no
+/// such command.
 pub fn line_number<A: Allocator>(script: &Script<A>, place: usize) -> Option<u64>
     ensures { result ≡ option_map (λ line. line.number) (slice_get (plain_script script.now).lines place) }
 {
     Some(script.lines.get(place)?.number)
 }
 
-/// How many nodes and consoles there are.
+/// How many actors there are: nodes and consoles.
 pub fn actors<A: Allocator>(script: &Script<A>) -> u16
     ensures { result ≡ length (plain_script script.now).cast.nodes + length (plain_script script.now).cast.consoles }
 {
     script.cast.len()
 }
 
-/// The act of a line, if the line asks one.
+/// The actor and the act of a line; `NotAllowed` if its command isn't an act.
 fn call_of<A: Allocator + Copy>(line: &Line<A>) -> Result<(u16, Act<A>), ScriptFault>
     ensures { GivesScript (λ call. (call.0, plain_act call.1)) result (call_of (plain_line line.now)) }
 {
@@ -73,8 +74,8 @@ fn call_of<A: Allocator + Copy>(line: &Line<A>) -> Result<(u16, Act<A>), ScriptF
     }
 }
 
-/// The acts of the lines in order, each with its actor; or the first line that is no act, as `NotAllowed`. An `unwind`
-/// is no act.
+/// The acts of the lines in order, each with its actor. `NotAllowed` for the first line that isn't an act; an `unwind`
+/// isn't an act.
 #[tactic(auto, unfolding(crate::specs::Grammar::with_calls))]
 pub fn acts<A: Allocator + Copy>(
     alloc: A,

@@ -1,4 +1,4 @@
-//! One node's step, from the words after its verb.
+//! Reads a node's step from the words after its verb.
 ghost use Rattle.std.specs.Prelude.{◌≡◌, ◌<◌, map, IsTrue, IfOk};
 ghost use Rattle.std.specs.List.{list_all};
 ghost use Rattle.node_core.specs.Operations.{plain};
@@ -32,7 +32,8 @@ fn number_at(digits: &str) -> Result<u64, FaultKind>
     number_of(digits).ok_or(FaultKind::BadNumber)
 }
 
-/// Reads a word of a line as a topic, key or metadata. The word is visible, so it can only be too long.
+/// Reads a word as a topic, key or metadata. The word isn't empty and its bytes are visible, so its only fault is
+/// `TooLong`.
 #[tactic(auto, unfolding(crate::specs::Grammar::word_at))]
 fn word_at<A: Allocator + Clone>(alloc: A, word: &str) -> Result<Word<A>, FaultKind>
     requires { IsTrue (is_visible word.now) }
@@ -45,7 +46,7 @@ fn word_at<A: Allocator + Clone>(alloc: A, word: &str) -> Result<Word<A>, FaultK
     }
 }
 
-/// What a join and an update name.
+/// What a join or an update says: process, topic, key and metadata.
 #[derive(Drop)]
 pub struct Presence<A: Allocator> {
     pid: u64,
@@ -54,6 +55,7 @@ pub struct Presence<A: Allocator> {
     metadata: Word<A>,
 }
 
+/// The presence that these four words spell, or the fault of the first word that is wrong.
 #[tactic(auto, unfolding(crate::specs::Grammar::presence_with))]
 fn presence_with<A: Allocator + Copy>(
     alloc: A,
@@ -79,7 +81,7 @@ fn presence_with<A: Allocator + Copy>(
     })
 }
 
-/// `PID TOPIC KEY META`
+/// Reads `PID TOPIC KEY META`.
 #[tactic(auto, unfolding(crate::specs::Grammar::presence_of))]
 fn presence_of<A: Allocator + Copy>(alloc: A, args: &[&str]) -> Result<Presence<A>, FaultKind>
     requires { IsTrue (list_all is_visible (map (λ word. word.now) args.now)) }
@@ -91,7 +93,7 @@ fn presence_of<A: Allocator + Copy>(alloc: A, args: &[&str]) -> Result<Presence<
     presence_with(alloc, pid, topic, key, metadata)
 }
 
-/// A join: `PID TOPIC KEY META`.
+/// Reads a join: `PID TOPIC KEY META`.
 #[tactic(auto, unfolding(crate::specs::Grammar::join_of))]
 pub fn join_of<A: Allocator + Copy>(alloc: A, args: &[&str]) -> Result<Step<A>, FaultKind>
     requires { IsTrue (list_all is_visible (map (λ word. word.now) args.now)) }
@@ -106,7 +108,7 @@ pub fn join_of<A: Allocator + Copy>(alloc: A, args: &[&str]) -> Result<Step<A>, 
     })
 }
 
-/// An update: `PID TOPIC KEY META`.
+/// Reads an update: `PID TOPIC KEY META`.
 #[tactic(auto, unfolding(crate::specs::Grammar::update_of))]
 pub fn update_of<A: Allocator + Copy>(alloc: A, args: &[&str]) -> Result<Step<A>, FaultKind>
     requires { IsTrue (list_all is_visible (map (λ word. word.now) args.now)) }
@@ -121,6 +123,7 @@ pub fn update_of<A: Allocator + Copy>(alloc: A, args: &[&str]) -> Result<Step<A>
     })
 }
 
+/// The leave that these three words spell, or the fault of the first word that is wrong.
 #[tactic(auto, unfolding(crate::specs::Grammar::leave_with))]
 fn leave_with<A: Allocator + Copy>(
     alloc: A,
@@ -138,7 +141,7 @@ fn leave_with<A: Allocator + Copy>(
     Ok(Step::Leave { pid, topic, key })
 }
 
-/// `PID TOPIC KEY`
+/// Reads a leave: `PID TOPIC KEY`.
 #[tactic(auto, unfolding(crate::specs::Grammar::leave_of))]
 pub fn leave_of<A: Allocator + Copy>(alloc: A, args: &[&str]) -> Result<Step<A>, FaultKind>
     requires { IsTrue (list_all is_visible (map (λ word. word.now) args.now)) }
@@ -150,7 +153,8 @@ pub fn leave_of<A: Allocator + Copy>(alloc: A, args: &[&str]) -> Result<Step<A>,
     leave_with(alloc, pid, topic, key)
 }
 
-/// The number that is the only word.
+/// The number that the only word of `args` spells. `WrongCount` unless there is one word, `BadNumber` if it spells
+/// none.
 #[tactic(auto, unfolding(crate::specs::Grammar::one_number))]
 pub fn one_number(args: &[&str]) -> Result<u64, FaultKind>
     ensures { Meets (λ number. number) result (one_number (map (λ word. word.now) args.now)) }
@@ -161,7 +165,8 @@ pub fn one_number(args: &[&str]) -> Result<u64, FaultKind>
     number_at(number)
 }
 
-/// The node whose name is the only word.
+/// The node that the only word of `args` names. `WrongCount` unless there is one word, `BadName` if no node has the
+/// name.
 #[tactic(auto, unfolding(crate::specs::Grammar::one_node))]
 pub fn one_node<A: Allocator>(nodes: &Names<A>, args: &[&str]) -> Result<u16, FaultKind>
     ensures { Meets (λ node. node) result (one_node nodes.now (map (λ word. word.now) args.now)) }
@@ -172,7 +177,7 @@ pub fn one_node<A: Allocator>(nodes: &Names<A>, args: &[&str]) -> Result<u16, Fa
     node_at(nodes, name)
 }
 
-/// A leave of every entry of a process: `PID`.
+/// Reads a leave all, of every entry of a process: `PID`.
 #[tactic(auto, unfolding(crate::specs::Grammar::leave_all_of))]
 pub fn leave_all_of<A: Allocator>(args: &[&str]) -> Result<Step<A>, FaultKind>
     ensures { Meets plain result (leave_all_of (map (λ word. word.now) args.now)) }
@@ -181,7 +186,7 @@ pub fn leave_all_of<A: Allocator>(args: &[&str]) -> Result<Step<A>, FaultKind>
     Ok(Step::LeaveAll { pid })
 }
 
-/// An up: `NAME`.
+/// Reads an up: `NAME`.
 #[tactic(auto, unfolding(crate::specs::Grammar::up_of))]
 pub fn up_of<A: Allocator>(nodes: &Names<A>, args: &[&str]) -> Result<Step<A>, FaultKind>
     ensures { Meets plain result (up_of nodes.now (map (λ word. word.now) args.now)) }
@@ -190,7 +195,7 @@ pub fn up_of<A: Allocator>(nodes: &Names<A>, args: &[&str]) -> Result<Step<A>, F
     Ok(Step::Up { name })
 }
 
-/// A down: `NAME`.
+/// Reads a down: `NAME`.
 #[tactic(auto, unfolding(crate::specs::Grammar::down_of))]
 pub fn down_of<A: Allocator>(nodes: &Names<A>, args: &[&str]) -> Result<Step<A>, FaultKind>
     ensures { Meets plain result (down_of nodes.now (map (λ word. word.now) args.now)) }
@@ -199,7 +204,7 @@ pub fn down_of<A: Allocator>(nodes: &Names<A>, args: &[&str]) -> Result<Step<A>,
     Ok(Step::Down { name })
 }
 
-/// A permanently down: `NAME`.
+/// Reads a permanently down: `NAME`.
 #[tactic(auto, unfolding(crate::specs::Grammar::permdown_of))]
 pub fn permdown_of<A: Allocator>(nodes: &Names<A>, args: &[&str]) -> Result<Step<A>, FaultKind>
     ensures { Meets plain result (permdown_of nodes.now (map (λ word. word.now) args.now)) }
@@ -208,7 +213,7 @@ pub fn permdown_of<A: Allocator>(nodes: &Names<A>, args: &[&str]) -> Result<Step
     Ok(Step::Permdown { name })
 }
 
-/// A broadcast, which has no words.
+/// Reads a broadcast, which takes no words; `WrongCount` if there are any.
 #[tactic(auto, unfolding(crate::specs::Grammar::broadcast_of))]
 pub fn broadcast_of<A: Allocator>(args: &[&str]) -> Result<Step<A>, FaultKind>
     ensures { Meets plain result (broadcast_of (map (λ word. word.now) args.now)) }
@@ -219,7 +224,7 @@ pub fn broadcast_of<A: Allocator>(args: &[&str]) -> Result<Step<A>, FaultKind>
     Ok(Step::Broadcast)
 }
 
-/// A request, which has no words.
+/// Reads a request, which takes no words; `WrongCount` if there are any.
 #[tactic(auto, unfolding(crate::specs::Grammar::request_of))]
 pub fn request_of<A: Allocator>(args: &[&str]) -> Result<Step<A>, FaultKind>
     ensures { Meets plain result (request_of (map (λ word. word.now) args.now)) }
@@ -230,7 +235,8 @@ pub fn request_of<A: Allocator>(args: &[&str]) -> Result<Step<A>, FaultKind>
     Ok(Step::Request)
 }
 
-/// The chosen nodes with one more.
+/// The nodes in `chosen` and the node called `name`. `BadName` if no node is called so, `Twice` if that node is in
+/// `chosen` already.
 #[tactic(auto, unfolding(crate::specs::Grammar::with_node))]
 fn with_node<A: Allocator>(
     nodes: &Names<A>,
@@ -246,7 +252,7 @@ fn with_node<A: Allocator>(
     Ok(chosen.with(node))
 }
 
-/// `NAME ..`, 1 to 32 names.
+/// Reads an extract: `NAME ..`, 1 to 32 names.
 #[tactic(auto, unfolding(crate::specs::Grammar::extract_of, crate::specs::Grammar::with_nodes))]
 pub fn extract_of<A: Allocator>(nodes: &Names<A>, names: &[&str]) -> Result<Step<A>, FaultKind>
     ensures { Meets plain result (extract_of nodes.now (map (λ word. word.now) names.now)) }
@@ -274,7 +280,7 @@ fn message_with<A: Allocator>(
     Ok((sender, number))
 }
 
-/// `NAME NUMBER`
+/// Reads the sender and the number of a message: `NAME NUMBER`.
 #[tactic(auto, unfolding(crate::specs::Grammar::one_message))]
 fn one_message<A: Allocator>(nodes: &Names<A>, args: &[&str]) -> Result<(u16, u64), FaultKind>
     ensures { Meets (λ message. message) result (one_message nodes.now (map (λ word. word.now) args.now)) }
@@ -285,7 +291,7 @@ fn one_message<A: Allocator>(nodes: &Names<A>, args: &[&str]) -> Result<(u16, u6
     message_with(nodes, name, number)
 }
 
-/// A delivery: `NAME NUMBER`.
+/// Reads a delivery: `NAME NUMBER`.
 #[tactic(auto, unfolding(crate::specs::Grammar::deliver_of))]
 pub fn deliver_of<A: Allocator>(nodes: &Names<A>, args: &[&str]) -> Result<Step<A>, FaultKind>
     ensures { Meets plain result (deliver_of nodes.now (map (λ word. word.now) args.now)) }
@@ -294,7 +300,7 @@ pub fn deliver_of<A: Allocator>(nodes: &Names<A>, args: &[&str]) -> Result<Step<
     Ok(Step::Deliver { sender, number })
 }
 
-/// An answer: `NAME NUMBER`.
+/// Reads an answer: `NAME NUMBER`.
 #[tactic(auto, unfolding(crate::specs::Grammar::answer_of))]
 pub fn answer_of<A: Allocator>(nodes: &Names<A>, args: &[&str]) -> Result<Step<A>, FaultKind>
     ensures { Meets plain result (answer_of nodes.now (map (λ word. word.now) args.now)) }

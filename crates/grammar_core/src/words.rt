@@ -1,20 +1,32 @@
-//! The lines of a script, the words of a line, and the numbers.
-ghost use Rattle.std.specs.Prelude.{◌≡◌, map, IfOk, if◌then◌else◌, option_copied, Some, None};
-ghost use Rattle.std.specs.List.{list_all};
+//! Splits a script into lines and a line into words, and reads numbers.
+ghost use Rattle.std.specs.Prelude.{◌≡◌, ◌<◌, [], ◌∷◌, ◌++◌, false, length, map, option_copied, IfOk, IfSome, IsTrue};
+ghost use Rattle.std.specs.List.{list_all, prefix_len};
 ghost use Rattle.std.specs.Char.{is_ascii_digit};
-ghost use Rattle.grammar_core.specs.Words.{lines_of, words_of, is_text, is_numeral, number_of};
+ghost use Rattle.payload_core.specs.Words.{is_word_byte};
+ghost use Rattle.grammar_core.specs.Answers.{Gives};
+ghost use Rattle.grammar_core.specs.Grammar.{text_words};
+ghost use Rattle.grammar_core.specs.Words.{begins_word, is_numeral, lines_behind, lines_of, number_of, words_of};
 
+use crate::fault::FaultKind;
+use memchr::memchr;
 use payload_core::Oom;
+use smallvec::SmallVec;
 use std::alloc::Allocator;
+use std::str;
 
-/// The lines, separated by line feeds. If the bytes end with a line feed, one more line comes after it, which is empty.
-pub fn lines_of<A: Allocator>(alloc: A, bytes: &[u8]) -> Result<Vec<&[u8], A>, Oom>
-    ensures { IfOk result (λ lines. map (λ line. line.now) lines.items ≡ lines_of bytes.now) }
+/// The first line without its line feed, and the bytes behind that line feed. If no line feed ends the line, `None`
+/// stands in place of the bytes.
+pub fn first_line(bytes: &[u8]) -> (&[u8], Option<&[u8]>)
+    ensures lines { lines_of bytes.now ≡ result.0.now ∷ lines_behind (option_copied result.1) }
+    ensures shorter { IfSome result.1 (λ behind. length behind.now < length bytes.now) }
 {
-    bytes.split(|byte| *byte == b'\n').collect(alloc)
+    match memchr(b'\n', bytes) {
+        Some(end) => (&bytes[..end], Some(&bytes[end + 1..])),
+        None => (bytes, None),
+    }
 }
 
-/// The runs of bytes other than space.
+/// The words of a line, in order: what stands between its spaces, without the empty pieces.
 pub fn words_of<A: Allocator>(alloc: A, line: &str) -> Result<Vec<&str, A>, Oom>
     ensures { IfOk result (λ words. map (λ word. word.now) words.items ≡ words_of line.now) }
 {
@@ -23,23 +35,50 @@ pub fn words_of<A: Allocator>(alloc: A, line: &str) -> Result<Vec<&str, A>, Oom>
         .collect(alloc)
 }
 
-fn has_text_bytes(line: &[u8]) -> bool
-    ensures { result ≡ is_text line.now }
+/// How many bytes at the front may stand in a word (0x21 to 0x7E).
+fn word_len(bytes: &[u8]) -> usize
+    ensures { result ≡ prefix_len is_word_byte bytes.now }
 {
-    line.iter().all(|byte| (0x20..=0x7e).contains(byte))
+    bytes
+        .iter()
+        .position(|byte| !(0x21..=0x7e).contains(byte))
+        .unwrap_or(bytes.len())
 }
 
-/// The line as text, where each byte is 0x20 to 0x7E.
-pub fn text_of(line: &[u8]) -> Option<&str>
-    ensures { option_copied result ≡ (if is_text line.now then Some line.now else None) }
+/// The word at the front, empty if there is none, and the bytes behind it.
+fn first_word(bytes: &[u8]) -> (&str, &[u8])
+    ensures whole { bytes.now ≡ result.0.now ++ result.1.now }
+    ensures visible { IsTrue (list_all is_word_byte result.0.now) }
+    ensures longest { begins_word result.1.now ≡ false }
 {
-    if !has_text_bytes(line) {
-        return None;
+    let (word, behind) = bytes.split_at(word_len(bytes));
+    // the bytes are ASCII, and so UTF-8
+    (unsafe { str::from_utf8_unchecked(word) }, behind)
+}
+
+/// Puts the words of `line` into `words`, which must be empty; up to eight words take no memory. `NotText` if a byte is
+/// below 0x20 or above 0x7E.
+pub fn put_words<'l, A: Allocator>(
+    words: &mut SmallVec<&'l str, 8, &A>,
+    line: &'l [u8],
+) -> Result<(), FaultKind>
+    requires { words.old.items ≡ [] }
+    ensures { Gives (λ _. map (λ word. word.now) words.new.items) result (text_words line.now) }
+{
+    let mut rest = line;
+    while let [first, after @ ..] = rest {
+        if *first == b' ' {
+            rest = after;
+            continue;
+        }
+        let (word, behind) = first_word(rest);
+        if word.is_empty() {
+            return Err(FaultKind::NotText);
+        }
+        words.push(word)?;
+        rest = behind;
     }
-    match str::from_utf8(line) {
-        Ok(text) => Some(text),
-        Err(_) => None,
-    }
+    Ok(())
 }
 
 fn has_digits(bytes: &[u8]) -> bool
@@ -48,6 +87,7 @@ fn has_digits(bytes: &[u8]) -> bool
     bytes.iter().all(|byte| byte.is_ascii_digit())
 }
 
+/// Whether `digits` are 1 to 20 decimal digits, with no zero in front of another digit.
 fn is_numeral(digits: &[u8]) -> bool
     ensures { result ≡ is_numeral digits.now }
 {
@@ -60,7 +100,8 @@ fn is_numeral(digits: &[u8]) -> bool
     has_digits(digits)
 }
 
-/// The number that the digits spell, if they spell one: with no sign and no zero in front, as numbers are printed.
+/// The number that `digits` spell. `None` if they aren't 1 to 20 decimal digits, if a zero stands in front of another
+/// digit, or if the number doesn't fit into 64 bits.
 pub fn number_of(digits: &str) -> Option<u64>
     ensures { result ≡ number_of digits.now }
 {
