@@ -5,4 +5,5 @@ pub mod Sorting
 pub mod Counted
 pub mod Told
 pub mod Gathered
+pub mod FewTold
 pub mod NetChanges

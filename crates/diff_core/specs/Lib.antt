@@ -6,3 +6,4 @@ pub mod NetChanges
 pub mod Sorting
 pub mod Laws
 pub mod ChangedRows
+pub mod FewRows

@@ -1,4 +1,4 @@
-//! What the last call of a replica changed in its online list, by the call's change.
+//! How the last call of a replica changed its online list, read from the call's change.
 ghost use Rattle.std.specs.Prelude.{◌≡◌, ◌++◌, ◌∷◌, [], IfOk, OnOk};
 ghost use Rattle.std.specs.FinMap as fin;
 ghost use Rattle.payload_core.specs.EntryLists.{pair_of, pairs};
@@ -9,6 +9,8 @@ ghost use Rattle.diff_core.specs.ChangedRows.{found_each, given_rows, rows_of_na
 ghost use Rattle.diff_core.specs.Diffs.{alone};
 ghost use Rattle.diff_core.specs.Sorting.{online_of};
 
+use crate::entry_row::EntryRow;
+use crate::few_rows::{FewRows, few_given, few_taken};
 use crate::online_row::OnlineRow;
 use crate::row_diff::Diff;
 use dots_core::Dot;
@@ -16,24 +18,25 @@ use payload_core::{Entry, Oom};
 use replica_core::{Change, Replica};
 use std::alloc::Allocator;
 
-/// Appends the row of an entry, if its name is known and up.
-fn put_row<A: Allocator + Copy>(
-    rows: &mut Vec<OnlineRow<A>, A>,
+/// Appends the row of an entry if its name is known and up.
+fn put_row<'x, A: Allocator + Copy>(
+    rows: &mut Vec<EntryRow<'x, A>, A>,
     replica: &Replica<A>,
-    entry: &Entry<A>,
+    entry: &'x Entry<A>,
 ) -> Result<(), Oom>
     ensures { OnOk result (rows.new.items ≡ rows.old.items ++ rows_shown replica.now (pair_of entry.now ∷ [])) }
 {
     if replica.online(entry.dot.name) {
-        OnlineRow::put(rows, entry)?;
+        EntryRow::put(rows, entry)?;
     }
     Ok(())
 }
 
-/// Appends the row of the entry at the dot, if there is one and its name is known and up.
-fn put_found<A: Allocator + Copy>(
-    rows: &mut Vec<OnlineRow<A>, A>,
-    replica: &Replica<A>,
+/// Appends the row of the entry that the replica has at `dot`; nothing if it has none there, or the dot's name isn't
+/// known and up.
+fn put_found<'x, A: Allocator + Copy>(
+    rows: &mut Vec<EntryRow<'x, A>, A>,
+    replica: &'x Replica<A>,
     dot: Dot,
 ) -> Result<(), Oom>
     ensures { OnOk result (rows.new.items ≡ rows.old.items ++ rows_shown replica.now (found_at dot (fin.get replica.now.store.entries dot))) }
@@ -44,12 +47,12 @@ fn put_found<A: Allocator + Copy>(
     }
 }
 
-/// The rows of the entries that left, as far as their names are known and up.
-fn rows_left<A: Allocator + Copy>(
+/// The rows of the entries that left in the call of `change`, those whose name is known and up.
+fn rows_left<'x, A: Allocator + Copy>(
     alloc: A,
-    change: &Change<A>,
+    change: &'x Change<A>,
     after: &Replica<A>,
-) -> Result<Vec<OnlineRow<A>, A>, Oom>
+) -> Result<Vec<EntryRow<'x, A>, A>, Oom>
     ensures { IfOk result (λ rows. rows.items ≡ rows_shown after.now (pairs (left_by (plain_change change.now)))) }
 {
     let mut rows = Vec::new(alloc);
@@ -61,12 +64,12 @@ fn rows_left<A: Allocator + Copy>(
     Ok(rows)
 }
 
-/// The rows of the entries that joined, as far as their names are known and up.
-fn rows_joined<A: Allocator + Copy>(
+/// The rows of the entries that joined in the call of `change`, those whose name is known and up.
+fn rows_joined<'x, A: Allocator + Copy>(
     alloc: A,
     change: &Change<A>,
-    after: &Replica<A>,
-) -> Result<Vec<OnlineRow<A>, A>, Oom>
+    after: &'x Replica<A>,
+) -> Result<Vec<EntryRow<'x, A>, A>, Oom>
     ensures { IfOk result (λ rows. rows.items ≡ rows_shown after.now (found_each (joined_by (plain_change change.now) after.now) after.now.store.entries)) }
 {
     let mut rows = Vec::new(alloc);
@@ -78,28 +81,28 @@ fn rows_joined<A: Allocator + Copy>(
     Ok(rows)
 }
 
-/// The rows of a name's entries.
-fn rows_of_name<A: Allocator + Copy>(
+/// The rows of all entries whose dots have this name, whatever the name's status is.
+fn rows_of_name<'x, A: Allocator + Copy>(
     alloc: A,
-    replica: &Replica<A>,
+    replica: &'x Replica<A>,
     name: u16,
-) -> Result<Vec<OnlineRow<A>, A>, Oom>
+) -> Result<Vec<EntryRow<'x, A>, A>, Oom>
     ensures { IfOk result (λ rows. rows.items ≡ rows_of_name name replica.now) }
 {
     let mut rows = Vec::new(alloc);
     let mut walk = replica.entries().walk_of(name);
     while let Some(entry) = walk.next() {
-        OnlineRow::put(&mut rows, entry)?;
+        EntryRow::put(&mut rows, entry)?;
     }
     Ok(rows)
 }
 
-/// The rows that the call took out of the list, in any order.
-fn taken<A: Allocator + Copy>(
+/// The rows that the call of `change` took out of the online list of `after`, in any order.
+fn taken<'x, A: Allocator + Copy>(
     alloc: A,
-    change: &Change<A>,
-    after: &Replica<A>,
-) -> Result<Vec<OnlineRow<A>, A>, Oom>
+    change: &'x Change<A>,
+    after: &'x Replica<A>,
+) -> Result<Vec<EntryRow<'x, A>, A>, Oom>
     ensures { IfOk result (λ rows. rows.items ≡ taken_rows (plain_change change.now) after.now) }
 {
     match change.hidden() {
@@ -108,12 +111,12 @@ fn taken<A: Allocator + Copy>(
     }
 }
 
-/// The rows that the call put into the list, in any order.
-fn given<A: Allocator + Copy>(
+/// The rows that the call of `change` put into the online list of `after`, in any order.
+fn given<'x, A: Allocator + Copy>(
     alloc: A,
     change: &Change<A>,
-    after: &Replica<A>,
-) -> Result<Vec<OnlineRow<A>, A>, Oom>
+    after: &'x Replica<A>,
+) -> Result<Vec<EntryRow<'x, A>, A>, Oom>
     ensures { IfOk result (λ rows. rows.items ≡ given_rows (plain_change change.now) after.now) }
 {
     match change.shown() {
@@ -122,9 +125,97 @@ fn given<A: Allocator + Copy>(
     }
 }
 
-/// How the last call of a replica changed its online list, by the call's change: the rows that left and those that
-/// joined, each side in order. It looks at what the call touched, and at all entries of a name that the call put up or
-/// down.
+/// The rows that the last call of the replica `after` took out of its online list, in order. `change` is the change of
+/// that call. It reads what the call touched, or all entries of the name if a name went down.
+pub fn rows_taken<'x, A: Allocator + Copy>(
+    alloc: A,
+    change: &'x Change<A>,
+    after: &'x Replica<A>,
+) -> Result<Vec<EntryRow<'x, A>, A>, Oom>
+    requires { ChangeLeadsSomewhere (plain_change change.now) after.now }
+    ensures { IfOk result (λ rows. rows.items ≡ alone (online_of (back (plain_change change.now) after.now)) (online_of after.now)) }
+{
+    let mut rows = taken(alloc, change, after)?;
+    rows.sort_unstable();
+    Ok(rows)
+}
+
+/// The rows that the last call of the replica `after` put into its online list, in order. `change` is the change of
+/// that call. It reads what the call touched, or all entries of the name if a name came up.
+pub fn rows_given<'x, A: Allocator + Copy>(
+    alloc: A,
+    change: &Change<A>,
+    after: &'x Replica<A>,
+) -> Result<Vec<EntryRow<'x, A>, A>, Oom>
+    requires { ChangeLeadsSomewhere (plain_change change.now) after.now }
+    ensures { IfOk result (λ rows. rows.items ≡ alone (online_of after.now) (online_of (back (plain_change change.now) after.now))) }
+{
+    let mut rows = given(alloc, change, after)?;
+    rows.sort_unstable();
+    Ok(rows)
+}
+
+/// Copies of the rows and of their words, which borrow from no entry.
+fn copies<'x, A: Allocator + Copy>(
+    alloc: A,
+    rows: &[EntryRow<'x, A>],
+) -> Result<Vec<OnlineRow<A>, A>, Oom>
+    ensures { IfOk result (λ found. found.items ≡ rows.now) }
+{
+    let mut found = Vec::with_capacity(alloc, rows.len())?;
+    for row in rows {
+        OnlineRow::put(&mut found, row.entry())?;
+    }
+    Ok(found)
+}
+
+/// A list of one row, the copy of this row, which borrows from no entry.
+fn one_copy<'x, A: Allocator + Copy>(
+    alloc: A,
+    row: &EntryRow<'x, A>,
+) -> Result<Vec<OnlineRow<A>, A>, Oom>
+    ensures { IfOk result (λ found. found.items ≡ row.now ∷ []) }
+{
+    let mut found = Vec::with_capacity(alloc, 1)?;
+    OnlineRow::put(&mut found, row.entry())?;
+    Ok(found)
+}
+
+/// Like `rows_taken`, but the rows and their words are copied, and borrow from no entry.
+fn left_rows<A: Allocator + Copy>(
+    alloc: A,
+    change: &Change<A>,
+    after: &Replica<A>,
+) -> Result<Vec<OnlineRow<A>, A>, Oom>
+    requires { ChangeLeadsSomewhere (plain_change change.now) after.now }
+    ensures { IfOk result (λ rows. rows.items ≡ alone (online_of (back (plain_change change.now) after.now)) (online_of after.now)) }
+{
+    match few_taken(change, after) {
+        FewRows::Nothing => Ok(Vec::new(alloc)),
+        FewRows::One(row) => one_copy(alloc, &row),
+        FewRows::More => copies(alloc, &rows_taken(alloc, change, after)?),
+    }
+}
+
+/// Like `rows_given`, but the rows and their words are copied, and borrow from no entry.
+fn joined_rows<A: Allocator + Copy>(
+    alloc: A,
+    change: &Change<A>,
+    after: &Replica<A>,
+) -> Result<Vec<OnlineRow<A>, A>, Oom>
+    requires { ChangeLeadsSomewhere (plain_change change.now) after.now }
+    ensures { IfOk result (λ rows. rows.items ≡ alone (online_of after.now) (online_of (back (plain_change change.now) after.now))) }
+{
+    match few_given(change, after) {
+        FewRows::Nothing => Ok(Vec::new(alloc)),
+        FewRows::One(row) => one_copy(alloc, &row),
+        FewRows::More => copies(alloc, &rows_given(alloc, change, after)?),
+    }
+}
+
+/// How the last call of the replica `after` changed its online list: the rows that left and those that joined, each
+/// side in order. `change` is the change of that call. Reads what the call touched, or all entries of a name that the
+/// call put up or down.
 pub fn changed<A: Allocator + Copy>(
     alloc: A,
     change: &Change<A>,
@@ -134,9 +225,7 @@ pub fn changed<A: Allocator + Copy>(
     ensures left { IfOk result (λ diff. diff.left.items ≡ alone (online_of (back (plain_change change.now) after.now)) (online_of after.now)) }
     ensures joined { IfOk result (λ diff. diff.joined.items ≡ alone (online_of after.now) (online_of (back (plain_change change.now) after.now))) }
 {
-    let mut left = taken(alloc, change, after)?;
-    let mut joined = given(alloc, change, after)?;
-    left.sort_unstable();
-    joined.sort_unstable();
+    let left = left_rows(alloc, change, after)?;
+    let joined = joined_rows(alloc, change, after)?;
     Ok(Diff { left, joined })
 }

@@ -1,4 +1,4 @@
-//! What a step changed: how two online lists differ.
+//! How two online lists differ.
 ghost use Rattle.std.specs.Prelude.{◌≡◌, IfOk};
 ghost use Rattle.diff_core.specs.Diffs.{alone, begins_with, not_below};
 ghost use Rattle.diff_core.specs.Online.{AreInOrder};
@@ -8,7 +8,7 @@ use crate::row_diff::Diff;
 use payload_core::Oom;
 use std::alloc::Allocator;
 
-/// How two online lists differ. It goes over both lists side by side.
+/// How two online lists differ. Each side of the difference takes a pass over both lists.
 pub fn diff<A: Allocator + Copy>(
     alloc: A,
     before: &[OnlineRow<A>],
@@ -25,7 +25,7 @@ pub fn diff<A: Allocator + Copy>(
     })
 }
 
-/// Copies of the rows that aren't among the others, in one pass over both.
+/// Copies of the rows that aren't among `others`. Both lists must be in order; one pass goes over them.
 fn rows_alone<A: Allocator + Copy>(
     alloc: A,
     rows: &[OnlineRow<A>],
@@ -46,7 +46,7 @@ fn rows_alone<A: Allocator + Copy>(
     Ok(found)
 }
 
-/// The rows from the first that is not below this one.
+/// The rest of the rows, from the first that is not less than `row`; empty if each is less.
 pub(crate) fn not_below<'x, A: Allocator>(
     rows: &'x [OnlineRow<A>],
     row: &OnlineRow<A>,
@@ -63,7 +63,7 @@ pub(crate) fn not_below<'x, A: Allocator>(
     rest
 }
 
-/// Whether the first of the rows is this one.
+/// Whether the first of `rows` equals `row`; no if `rows` is empty.
 pub(crate) fn begins_with<A: Allocator>(rows: &[OnlineRow<A>], row: &OnlineRow<A>) -> bool
     ensures { result ≡ begins_with row.now rows.now }
 {

@@ -18,7 +18,7 @@ pub fn online_law()
     ensures { OnlineLaw }
 {}
 
-/// The change of a call tells how the online list after it differs from the list before it.
+/// The change of a call tells how the online list after the call differs from the one before.
 #[tactic(auto, using(crate::proofs::Told::changed_holds))]
 pub fn changed_law()
     ensures { ChangedLaw }

@@ -8,8 +8,8 @@ use payload_core::Oom;
 use replica_core::Replica;
 use std::alloc::Allocator;
 
-/// The rows of the live entries whose name is known and up, in order. It sorts them. (As in Phoenix.Tracker's lists,
-/// which have no entry of a replica that is down.)
+/// The rows of the live entries whose name is known and up, sorted. (Phoenix.Tracker's lists leave out entries of
+/// replicas that are down, too.)
 pub fn online_list<A: Allocator + Copy>(
     alloc: A,
     replica: &Replica<A>,

@@ -25,7 +25,7 @@ fn sorted<A: Allocator + Copy>(alloc: A, rows: &[OnlineRow<A>]) -> Result<Vec<On
     Ok(copies)
 }
 
-/// The rows after the first.
+/// The rows after the first; none if there is no first.
 fn behind_first<'x, A: Allocator>(rows: &'x [OnlineRow<A>]) -> &'x [OnlineRow<A>]
     ensures { result.now ≡ drop 1 rows.now }
 {
@@ -35,7 +35,8 @@ fn behind_first<'x, A: Allocator>(rows: &'x [OnlineRow<A>]) -> &'x [OnlineRow<A>
     }
 }
 
-/// Copies of the rows that are left once each of the others has taken out one row equal to it, in one pass over both.
+/// Copies of the rows that are left over when each of `others` has taken one row equal to it away from `rows`, if there
+/// is an equal row. Both lists must be sorted; one pass goes over them.
 fn rows_beyond<A: Allocator + Copy>(
     alloc: A,
     rows: &[OnlineRow<A>],
@@ -56,8 +57,9 @@ fn rows_beyond<A: Allocator + Copy>(
     Ok(found)
 }
 
-/// How an online list differs from what it was before several changes, by the rows that left and those that joined in
-/// these changes, each as often as it did, in any order. It sorts these rows, and looks at no list.
+/// How an online list differs from what it was before several changes. `left` and `joined` are the rows that left and
+/// joined in these changes, each as often as it did, in any order. Sorts copies of these rows, and reads neither online
+/// list.
 pub fn net<A: Allocator + Copy>(
     alloc: A,
     left: &[OnlineRow<A>],

@@ -1,4 +1,4 @@
-//! `OnlineRow`, what is shown of a live entry.
+//! `OnlineRow`: what is shown of a live entry.
 ghost use Rattle.std.specs.Prelude.{◌≡◌, ◌↔◌, ◌++◌, ◌∷◌, [], refl, IfOk, IsTrue, OnOk, Some};
 ghost use Rattle.std.specs.Cmp.{partial_equiv_from_equiv};
 ghost use Rattle.std.specs.Ordering.{eq_by_cmp};
@@ -12,8 +12,8 @@ use std::alloc::Allocator;
 use std::cmp::Ordering;
 use std::marker::Model;
 
-/// A live entry as an online list shows it: the name and clock are those of its dot, so no two entries of a replica have
-/// the same row. Rows are ordered by topic, key, name, process, clock and metadata, words by their bytes.
+/// A live entry as an online list shows it. The name and clock are those of its dot, so no two entries of a replica
+/// have the same row. Rows are ordered by topic, key, name, process, clock and metadata, words by their bytes.
 #[derive(Debug, Drop)]
 pub struct OnlineRow<A: Allocator> {
     pub topic: Word<A>,
@@ -49,7 +49,7 @@ impl<A: Allocator> OnlineRow<A> {
         })
     }
 
-    /// The row of an entry with short words. It takes no memory.
+    /// The row of an entry whose words are all stored inline. It asks for no memory.
     fn of_short(entry: &Entry<A>) -> OnlineRow<A>
         requires { IsShort entry.now }
         ensures { result ≡ row_of (entry.now.dot, presence_of entry.now) }
@@ -78,7 +78,8 @@ impl<A: Allocator> OnlineRow<A> {
         Ok(rows.push(row)?)
     }
 
-    /// Whether the two have the same fields. It takes no memory.
+    /// Whether both rows have the same fields. It asks for no memory. Its contract says that the values are equal; that
+    /// of `==` says only that neither comes before the other.
     pub fn same(&self, other: &OnlineRow<A>) -> bool
         ensures { IsTrue result ↔ (self.now ≡ other.now) }
     {
@@ -90,7 +91,7 @@ impl<A: Allocator> OnlineRow<A> {
             && self.metadata.same(&other.metadata)
     }
 
-    /// A row with the same fields.
+    /// A copy of the row and of its words.
     pub fn try_copy(&self) -> Result<OnlineRow<A>, Oom>
     where
         A: Copy,

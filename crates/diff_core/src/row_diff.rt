@@ -5,8 +5,8 @@ use std::alloc::Allocator;
 /// How two online lists differ, each side in order.
 #[derive(Debug, Drop)]
 pub struct Diff<A: Allocator> {
-    /// The rows of the first list alone.
+    /// The rows that only the first list has.
     pub left: Vec<OnlineRow<A>, A>,
-    /// The rows of the second list alone.
+    /// The rows that only the second list has.
     pub joined: Vec<OnlineRow<A>, A>,
 }

@@ -7,3 +7,4 @@ pub mod Unwound
 pub mod OnePart
 pub mod Pieces
 pub mod Answered
+pub mod Lines

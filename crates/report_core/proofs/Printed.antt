@@ -10,11 +10,11 @@ use Rattle.bench_core.specs.Unwinds.{Unexplained, Gone, Unmade, undos}
 use Rattle.diff_core.specs.Rows.{Row}
 use Rattle.report_core.specs.Rows.{reply_line, undone_lines}
 use Rattle.report_core.specs.Shown.{rows_to}
-use Rattle.report_core.specs.ActTexts.{unless_gone, unless_none, is_want, unwound, after_unwind, unwind_text}
+use Rattle.report_core.specs.ActTexts.{unless_gone, unless_none, is_out_of_memory, unwound, after_unwind, unwind_text}
 use Rattle.report_core.specs.ActTexts.{changes_from, changes_text}
 
 -- the refusal of `why` is that of the undo
-pub gone_text : (s : State) (n : ℕ) (fault : Fault) (text : List ℕ) → Unexplained s n fault → is_want fault ≡ false →
+pub gone_text : (s : State) (n : ℕ) (fault : Fault) (text : List ℕ) → Unexplained s n fault → is_out_of_memory fault ≡ false →
     reply_line (Refused fault) ≡ unless_gone s n (find_number s.remaining n) text
 gone_text s n _ text (Gone fault none refused) other = ap reply_line (sym refused) ∙ ap (λ o. unless_gone s n o text) (sym none)
 gone_text s n _ text (Unmade k found) other = absurd (true≢false other)
@@ -44,18 +44,18 @@ unwound_text m new actor n numbers lists start middle end found whole now were f
     (undone_lines (gathered_numbers m.state.remaining n) ++ changes_from (after_unwind m actor n) 0 (rows_to m (length m.names))))
     (sym found.1))
 
-gone_none : (s : State) (n : ℕ) (fault : Fault) → Unexplained s n fault → is_want fault ≡ false → find_number s.remaining n ≡ None
+gone_none : (s : State) (n : ℕ) (fault : Fault) → Unexplained s n fault → is_out_of_memory fault ≡ false → find_number s.remaining n ≡ None
 gone_none s n _ (Gone fault none refused) other = none
 gone_none s n _ (Unmade k found) other = absurd (true≢false other)
 
-pub gone_bench : (m new : Machine) (actor n : ℕ) (fault : Fault) → Unexplained m.state n fault → is_want fault ≡ false →
+pub gone_bench : (m new : Machine) (actor n : ℕ) (fault : Fault) → Unexplained m.state n fault → is_out_of_memory fault ≡ false →
     new ≡ with_state m (calls (config_of m) m.state (undos actor [])) → new ≡ after_unwind m actor n
 unfolding after_unwind unwound
 gone_bench m new actor n fault gone told now =
     now ∙ ap (λ o. with_state m (calls (config_of m) m.state (undos actor (unless_none o (gathered_numbers m.state.remaining n)))))
     (sym (gone_none m.state n fault gone told))
 
-pub gone_unwind : (m : Machine) (actor n : ℕ) (fault : Fault) → Unexplained m.state n fault → is_want fault ≡ false →
+pub gone_unwind : (m : Machine) (actor n : ℕ) (fault : Fault) → Unexplained m.state n fault → is_out_of_memory fault ≡ false →
     reply_line (Refused fault) ≡ unwind_text m actor n
 unfolding unwind_text
 gone_unwind m actor n fault gone told = gone_text m.state n fault _ gone told

@@ -1,5 +1,5 @@
 -- The rows that an act changes of its node's online list.
-use Rattle.std.specs.Prelude.{ℕ, List, ◌++◌, Option}
+use Rattle.std.specs.Prelude.{◌≡◌, ℕ, List, ◌++◌, Option}
 use Rattle.bench_core.specs.declared.reply.Reply.{Reply}
 use Rattle.bench_core.specs.Acts.{Action}
 use Rattle.bench_core.specs.Machine.{Machine}
@@ -24,3 +24,10 @@ joined_by m actor act = alone (rows_of (after_act m actor act) (changed_by m act
 -- a reply, and the rows that left and joined
 unfoldable pub acted_text : Texts → Reply → List Row → List Row → List ℕ
 acted_text names reply left joined = reply_line reply ++ change_lines names left joined
+
+-- what is put behind a text is a reply, and the rows that left and joined, which a test passes
+pub record PutsActed (names : Texts) (reply : Reply) (old new : List ℕ) (tells : List Row → List Row → Type 0) : Type 0 where
+  pub left : List Row
+  pub joined : List Row
+  pub told : tells left joined
+  pub text : new ≡ old ++ acted_text names reply left joined

@@ -32,9 +32,9 @@ act_text m actor act =
 -- an unwind, and `why`
 
 -- whether the fault is want of memory, which a report never has
-abbrev pub is_want : Fault → Bool
-is_want OutOfMemory = true
-is_want _ = false
+abbrev pub is_out_of_memory : Fault → Bool
+is_out_of_memory OutOfMemory = true
+is_out_of_memory _ = false
 
 -- the text of a step's future if the step remains, and else the refusal of its undo
 abbrev pub unless_gone : State → ℕ → Option Kept → List ℕ → List ℕ

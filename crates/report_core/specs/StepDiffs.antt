@@ -1,13 +1,15 @@
 -- How the online list of a node differs between a machine and the machine after the undo of one of its steps.
-use Rattle.std.specs.Prelude.{◌≡◌, ℕ, nat_lt, if◌then◌else◌, length, List, Option, Some, None}
+use Rattle.std.specs.Prelude.{◌≡◌, ℕ, ◌++◌, nat_lt, if◌then◌else◌, length, List, Option, Some, None}
 use Rattle.journal_core.specs.Journals.{Kept, find_number, first_consequence, last_of, without}
 use Rattle.node_core.specs.Nodes.{Node}
 use Rattle.node_core.specs.Inverses.{Inverse, LeadsBack}
 use Rattle.bench_core.specs.Acts.{Action, Do, Undo, Back}
 use Rattle.bench_core.specs.Machine.{Machine, with_state}
+use Rattle.bench_core.specs.NameList.{Texts}
 use Rattle.diff_core.specs.Rows.{Row}
 use Rattle.diff_core.specs.Diffs.{alone}
 use Rattle.diff_core.specs.Sorting.{online_of}
+use Rattle.report_core.specs.Rows.{change_lines}
 use Rattle.report_core.specs.Shown.{rows_at}
 
 -- the rows that left and those that joined, from the first of two lists to the second
@@ -27,6 +29,13 @@ TellsInverse inverse b left joined = (a : Node) → LeadsBack inverse b a → Di
 abbrev pub TellsStep : Machine → ℕ → List Row → List Row → Type 0
 TellsStep m n left joined =
     (step : Kept) → find_number m.state.remaining n ≡ Some step → Differ (rows_at (without_step m n) step.node) (rows_at m step.node) left joined
+
+-- the lines that are put behind a text are those of rows that a test passes
+pub record PutsRows (names : Texts) (old new : List ℕ) (tells : List Row → List Row → Type 0) : Type 0 where
+  pub left : List Row
+  pub joined : List Row
+  pub told : tells left joined
+  pub text : new ≡ old ++ change_lines names left joined
 
 -- the step whose undo a call asks for
 unfoldable pub asked_undo : Machine → Action → Option ℕ

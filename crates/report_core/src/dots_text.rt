@@ -1,4 +1,4 @@
-//! The statuses, clocks and clouds at a node.
+//! Prints the statuses, clocks and clouds at a node.
 ghost use Rattle.std.specs.Prelude.{◌≡◌, ◌++◌, ◌<◌, OnOk, string_bytes, option_map};
 ghost use Rattle.dots_core.specs.Dots.{AreValid};
 ghost use Rattle.report_core.specs.Dots.{clock_of, cloud_of, status_text, cloud_text, more_clocks, name_line, name_lines, seen_line, dots_text};
@@ -16,16 +16,18 @@ pub fn clock_of<A: Allocator>(dots: &DotSet<A>, name: u16) -> u64
     requires valid { AreValid dots.now }
     ensures { result ≡ clock_of dots.now name }
 {
+    // form: the proof reads the cloud beside the clock
     let _cloud = dots.cloud_of(name);
     dots.clock_of(name)
 }
 
-/// The cloud of a name.
+/// The cloud of a name, by rising clock.
 pub fn cloud_of<A: Allocator>(dots: &DotSet<A>, name: u16) -> &[u64]
     requires name { name < 32 }
     requires valid { AreValid dots.now }
     ensures { result.now ≡ cloud_of dots.now name }
 {
+    // form: the proof reads the clock beside the cloud
     let _clock = dots.clock_of(name);
     dots.cloud_of(name)
 }
@@ -42,7 +44,7 @@ fn status_text(status: Option<Status>) -> &'static str
     }
 }
 
-/// Each clock after a comma.
+/// Appends each clock after a comma.
 #[tactic(auto, unfolding(crate::specs::Dots::more_clocks))]
 fn put_more<A: Allocator>(text: &mut String<A>, clocks: &[u64]) -> Result<(), Oom>
     ensures { OnOk result (string_bytes text.new ≡ string_bytes text.old ++ more_clocks clocks.now) }
@@ -53,7 +55,7 @@ fn put_more<A: Allocator>(text: &mut String<A>, clocks: &[u64]) -> Result<(), Oo
     Ok(())
 }
 
-/// The clocks separated by commas, or `-`.
+/// Appends the clocks separated by commas, or `-` if there are none.
 #[tactic(auto, unfolding(crate::specs::Dots::cloud_text))]
 fn put_cloud<A: Allocator>(text: &mut String<A>, cloud: &[u64]) -> Result<(), Oom>
     ensures { OnOk result (string_bytes text.new ≡ string_bytes text.old ++ cloud_text cloud.now) }
@@ -65,7 +67,7 @@ fn put_cloud<A: Allocator>(text: &mut String<A>, cloud: &[u64]) -> Result<(), Oo
     put_more(text, rest)
 }
 
-/// `dots NAME STATUS CLOCK CLOUD`, from these values.
+/// Appends `dots NAME STATUS CLOCK CLOUD` from these values, with a line feed.
 #[tactic(auto, unfolding(crate::specs::Dots::seen_line))]
 fn put_seen<A: Allocator>(
     text: &mut String<A>,
@@ -81,7 +83,7 @@ fn put_seen<A: Allocator>(
     Ok(text.push_str("\n")?)
 }
 
-/// `dots NAME STATUS CLOCK CLOUD`.
+/// Appends `dots NAME STATUS CLOCK CLOUD` for `name`, by what the replica has of the name with this number.
 #[tactic(auto, unfolding(crate::specs::Dots::name_line))]
 fn put_name<A: Allocator, R: Allocator>(
     text: &mut String<A>,
@@ -104,7 +106,7 @@ fn put_name<A: Allocator, R: Allocator>(
     )
 }
 
-/// `dots NAME STATUS CLOCK CLOUD` for each name by number.
+/// Appends `dots NAME STATUS CLOCK CLOUD` for each name, by rising number.
 fn put_names<A: Allocator, N: Allocator, R: Allocator>(
     text: &mut String<A>,
     names: &Names<N>,
@@ -119,7 +121,7 @@ fn put_names<A: Allocator, N: Allocator, R: Allocator>(
     Ok(())
 }
 
-/// The statuses, clocks and clouds at a node; nothing if there is no such node.
+/// Appends the statuses, clocks and clouds at a node; nothing if `node` is `None`.
 #[tactic(auto, unfolding(crate::specs::Dots::dots_text))]
 pub fn put_dots<'a, A: Allocator, N: Allocator, B: Allocator>(
     node: Option<&Node<'a, B>>,
@@ -130,6 +132,7 @@ pub fn put_dots<'a, A: Allocator, N: Allocator, B: Allocator>(
 {
     match node {
         Some(node) => {
+            // form: hands out what the node keeps
             node.node_law();
             put_names(text, names, node.replica())
         }

@@ -1,18 +1,24 @@
-//! What is printed of a bench: acts and what they changed of online lists, unwinds, steps, lists and sets of dots.
+//! What is printed of a bench: acts and what they changed of online lists, unwinds, steps, lists and sets of dots. What
+//! is printed is appended to a text.
 //!
-//! It stands on `bench_core` (the machine) and `diff_core` (online lists); it names the plain types of the crates below.
+//! It stands on `bench_core` (the machine) and `diff_core` (online lists), and on the kit's `arrayvec` and `itoa`:
+//! short texts and digits that take no memory. It names the plain types of the crates below, and cites laws of
+//! `node_core` and `replica_core`.
 //!
-//! `rows`, `step_text` and `dots_text` print what they are given. `step_diffs` tells what a step changed, and `moved` what undos
-//! in turn changed, of the online lists; `shown` tells what a bench shows; and `acting` and `unwinding` change a bench and print
-//! what it answered, with what that changed. `laws` says what the numbers of the `dots` lines are.
+//! The modules: `rows`, `step_text` and `dots_text` print what they are given, rows by way of `line`. `step_diffs`
+//! tells or prints what a step changed of its node's online list, and `moved` tells what several undos, made in turn,
+//! changed; `shown` tells and prints what a bench shows. `acting` makes acts on a bench, and tells or prints what the
+//! bench answered and what that changed; `unwinding` prints futures and unwinds. `laws` says what the numbers of the
+//! `dots` lines are.
 //!
-//! Inside, the allocator is the last parameter. Where it comes before a bench, the analysis of each call that looks at the bench
-//! takes seconds: the lifetime in the bench's type then has another number than in the callee.
+//! Inside, the allocator is the last parameter. Where it comes before a bench, the analysis of each call that looks at
+//! the bench takes seconds: the lifetime in the bench's type then has another number than in the callee.
 #![tactic(auto)]
 
 mod acting;
 mod dots_text;
 pub mod laws;
+mod line;
 mod moved;
 mod rows;
 mod shown;
@@ -27,4 +33,4 @@ pub use rows::{name_at, put_lines, put_rows};
 pub use shown::{node, show};
 pub use step_diffs::{asked_undo, step_diff, undo_diff};
 pub use step_text::{put_act, put_journal};
-pub use unwinding::{unwind, why};
+pub use unwinding::{is_out_of_memory, unwind, why};

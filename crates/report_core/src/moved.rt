@@ -38,7 +38,7 @@ impl<'a, B: Allocator> Model for Moved<'a, B> {
 }
 
 impl<'a, B: Allocator> Moved<'a, B> {
-    /// No row.
+    /// A `Moved` in which no row left and none joined.
     fn none(alloc: &'a B) -> Self
         ensures { result ≡ no_moves }
     {
@@ -48,7 +48,8 @@ impl<'a, B: Allocator> Moved<'a, B> {
         }
     }
 
-    /// Adds the undo of a step, which changed the list like this.
+    /// Adds the undo of a step, which had changed the list by `step`: the rows in `step.joined` leave, and those in
+    /// `step.left` join.
     fn add(&mut self, mut step: Diff<&'a B>) -> Result<(), Oom>
         ensures { OnOk result (self.new ≡ with_undone self.old step.entry.left.items step.entry.joined.items) }
     {
@@ -57,7 +58,7 @@ impl<'a, B: Allocator> Moved<'a, B> {
         Ok(())
     }
 
-    /// How the list differs from what it was.
+    /// How the list differs from what it was before the undos that were added.
     pub fn net(&self, alloc: &'a B) -> Result<Diff<&'a B>, Oom>
         ensures left { IfOk result (λ net. (before after : List Row) → AreInOrder before → AreInOrder after →
             ComesTo before after self.now.left self.now.joined → net.left.items ≡ alone before after) }
@@ -68,7 +69,7 @@ impl<'a, B: Allocator> Moved<'a, B> {
     }
 }
 
-/// No row at any node.
+/// A `Moved` for each node of the bench, in which no row left and none joined.
 fn none_moved<'a, B: Allocator>(
     bench: &Bench<'a, B>,
     alloc: &'a B,
@@ -82,7 +83,8 @@ fn none_moved<'a, B: Allocator>(
     Ok(moved)
 }
 
-/// Adds the undo of a step of this node, which changed its list like this.
+/// Adds to `moved`, at the place of `node`, the undo of a step that had changed the node's list by `step`, and gives
+/// `moved` back. Adds nothing if `node` is `None`.
 fn add_at<'a, B: Allocator>(
     moved: Vec<Moved<'a, B>, &'a B>,
     node: Option<u16>,
@@ -90,6 +92,7 @@ fn add_at<'a, B: Allocator>(
 ) -> Result<Vec<Moved<'a, B>, &'a B>, Oom>
     ensures { IfOk result (λ more. more.items ≡ with_undone_at moved.entry.items node step.entry.left.items step.entry.joined.items) }
 {
+    // form: `moved` is handed on by value, since edits of a list of lists in place cost the checker more
     let mut moved = moved;
     if let Some(node) = node {
         if let Some(moves) = moved.get_mut(node as usize) {
@@ -99,7 +102,7 @@ fn add_at<'a, B: Allocator>(
     Ok(moved)
 }
 
-/// The node of a step, where it remains.
+/// The node of the step with this number; `None` if the step doesn't remain.
 #[tactic(auto, unfolding(crate::specs::Shown::node_of_step))]
 pub fn node_of_step<'a, B: Allocator>(bench: &Bench<'a, B>, number: u64) -> Option<u16>
     ensures { result ≡ node_of_step bench.now.state.remaining number }
@@ -110,17 +113,19 @@ pub fn node_of_step<'a, B: Allocator>(bench: &Bench<'a, B>, number: u64) -> Opti
     }
 }
 
-/// Undoes a step; fails for want of memory alone.
+/// Asks for the undo of a step, and drops the reply. Only refused memory is an error.
 fn undo<'a, B: Allocator>(bench: &mut Bench<'a, B>, actor: u16, number: u64) -> Result<(), Oom>
     ensures { OnOk result (bench.new ≡ after_act bench.old actor (Undo number)) }
 {
     let act = Act::Undo(number);
     let answered = answer(bench, actor, &act);
+    // form: drop before exit
     drop(act);
     answered.map(drop)
 }
 
-/// Undoes a step, and notes how that changes the online list of its node.
+/// Undoes a step, which must be possible, and gives `moved` back, with what the undo changed in the online list of the
+/// step's node added to it.
 fn undo_one<'a, B: Allocator>(
     bench: &mut Bench<'a, B>,
     actor: u16,
@@ -132,6 +137,7 @@ fn undo_one<'a, B: Allocator>(
     ensures bench { OnOk result (bench.new ≡ after_act bench.old actor (Undo number)) }
     ensures moved { IfOk result (λ more. (start : Machine) → AreMoved start bench.old moved.entry.items → AreMoved start bench.new more.items) }
 {
+    // form: each hands out what the proof cites
     bench.bench_law();
     unwind_law();
     online_law();
@@ -141,7 +147,8 @@ fn undo_one<'a, B: Allocator>(
     add_at(moved, node, step)
 }
 
-/// Undoes these steps in turn, and notes how that changes the online list of each node.
+/// Undoes the steps with these numbers in turn, which must be possible, and gives for each node how that changed its
+/// online list.
 pub fn undo_each<'a, B: Allocator>(
     bench: &mut Bench<'a, B>,
     actor: u16,

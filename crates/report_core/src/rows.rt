@@ -1,14 +1,15 @@
-//! The text of rows, of how two lists differ, and of replies.
+//! Appends rows, how two lists differ, replies and numbers of steps to a text.
 ghost use Rattle.std.specs.Prelude.{◌≡◌, ◌++◌, OnOk, string_bytes};
-ghost use Rattle.report_core.specs.Rows.{name_at, tracked_text, row_text, row_lines, change_lines, is_no_change, changed_text, online_text};
+ghost use Rattle.report_core.specs.Rows.{name_at, row_text, row_line, row_lines, change_lines, is_no_change, changed_text, online_text};
 ghost use Rattle.report_core.specs.Rows.{reply_line, spaced_numbers, future_line, undone_lines};
 
+use crate::line::{Line, Parts, end, put_part, put_parts};
 use bench_core::{Names, Reply};
-use diff_core::{Diff, OnlineRow};
+use diff_core::{Diff, EntryRow, OnlineRow};
 use payload_core::Oom;
 use std::alloc::Allocator;
 
-/// The text of a node's name, and nothing where there is no such node.
+/// The name of the node with this number; empty if there is no such node.
 pub fn name_at<A: Allocator>(names: &Names<A>, number: u16) -> &str
     ensures { result.now ≡ name_at names.now number }
 {
@@ -18,37 +19,102 @@ pub fn name_at<A: Allocator>(names: &Names<A>, number: u16) -> &str
     }
 }
 
-/// `NODE/PID META`.
-fn put_tracked<A: Allocator>(
-    text: &mut String<A>,
-    node: &str,
-    pid: u64,
-    metadata: &str,
-) -> Result<(), Oom>
-    ensures { OnOk result (string_bytes text.new ≡ string_bytes text.old ++ tracked_text node.now pid metadata.now) }
-{
-    Ok(writeln!(text, "{node}/{pid} {metadata}")?)
-}
-
-/// `TOPIC KEY NODE/PID META`.
+/// Appends `mark`, the row and a line feed to the text, whose end is still in `line`.
 #[tactic(auto, unfolding(crate::specs::Rows::row_text))]
 fn put_row<A: Allocator, N: Allocator, R: Allocator>(
     text: &mut String<A>,
+    line: &mut Line,
+    mark: &str,
     names: &Names<N>,
     row: &OnlineRow<R>,
 ) -> Result<(), Oom>
-    ensures { OnOk result (string_bytes text.new ≡ string_bytes text.old ++ row_text names.now row.now) }
+    ensures { OnOk result (string_bytes text.new ++ line.new.bytes ≡ (string_bytes text.old ++ line.old.bytes) ++ row_line mark.now names.now row.now) }
 {
-    let topic = row.topic.as_str();
-    let key = row.key.as_str();
-    let node = name_at(names, row.name);
-    let metadata = row.metadata.as_str();
-    write!(text, "{topic} {key} ")?;
-    put_tracked(text, node, row.pid, metadata)
+    put_part(text, line, mark)?;
+    let parts = Parts {
+        topic: row.topic.as_str(),
+        key: row.key.as_str(),
+        node: name_at(names, row.name),
+        pid: row.pid,
+        metadata: row.metadata.as_str(),
+    };
+    put_parts(text, line, &parts)
 }
 
-/// Each row on a line of its own, after a mark.
+/// Appends `mark`, the row of an entry and a line feed to the text, whose end is still in `line`.
+#[tactic(auto, unfolding(crate::specs::Rows::row_text))]
+pub(crate) fn put_entry<'x, A: Allocator, N: Allocator, R: Allocator>(
+    text: &mut String<A>,
+    line: &mut Line,
+    mark: &str,
+    names: &Names<N>,
+    row: &EntryRow<'x, R>,
+) -> Result<(), Oom>
+    ensures { OnOk result (string_bytes text.new ++ line.new.bytes ≡ (string_bytes text.old ++ line.old.bytes) ++ row_line mark.now names.now row.now) }
+{
+    put_part(text, line, mark)?;
+    let entry = row.entry();
+    let parts = Parts {
+        topic: entry.topic.as_str(),
+        key: entry.key.as_str(),
+        node: name_at(names, entry.dot.name),
+        pid: entry.pid,
+        metadata: entry.metadata.as_str(),
+    };
+    put_parts(text, line, &parts)
+}
+
+/// Appends `mark`, the row and a line feed, for each of `rows`, to the text, whose end is still in `line`.
 #[tactic(auto, unfolding(crate::specs::Rows::row_lines))]
+fn put_each<A: Allocator, N: Allocator, R: Allocator>(
+    text: &mut String<A>,
+    line: &mut Line,
+    mark: &str,
+    names: &Names<N>,
+    rows: &[OnlineRow<R>],
+) -> Result<(), Oom>
+    ensures { OnOk result (string_bytes text.new ++ line.new.bytes ≡ (string_bytes text.old ++ line.old.bytes) ++ row_lines mark.now names.now rows.now) }
+{
+    for row in rows {
+        put_row(text, line, mark, names, row)?;
+    }
+    Ok(())
+}
+
+/// Appends `mark`, the row of the entry and a line feed, for each of `rows`, to the text, whose end is still in `line`.
+#[tactic(auto, unfolding(crate::specs::Rows::row_lines))]
+pub(crate) fn put_entries<'x, A: Allocator, N: Allocator, R: Allocator>(
+    text: &mut String<A>,
+    line: &mut Line,
+    mark: &str,
+    names: &Names<N>,
+    rows: &[EntryRow<'x, R>],
+) -> Result<(), Oom>
+    ensures { OnOk result (string_bytes text.new ++ line.new.bytes ≡ (string_bytes text.old ++ line.old.bytes) ++ row_lines mark.now names.now rows.now) }
+{
+    for row in rows {
+        put_entry(text, line, mark, names, row)?;
+    }
+    Ok(())
+}
+
+/// Appends the rows that left, each after `- `, and then those that joined, each after `+ `, to the text, whose end is
+/// still in `line`.
+#[tactic(auto, unfolding(crate::specs::Rows::change_lines))]
+pub(crate) fn put_both<A: Allocator, N: Allocator, R: Allocator>(
+    text: &mut String<A>,
+    line: &mut Line,
+    names: &Names<N>,
+    left: &[OnlineRow<R>],
+    joined: &[OnlineRow<R>],
+) -> Result<(), Oom>
+    ensures { OnOk result (string_bytes text.new ++ line.new.bytes ≡ (string_bytes text.old ++ line.old.bytes) ++ change_lines names.now left.now joined.now) }
+{
+    put_each(text, line, "- ", names, left)?;
+    put_each(text, line, "+ ", names, joined)
+}
+
+/// Appends `mark`, the row and a line feed, for each of `rows`.
 pub fn put_rows<A: Allocator, N: Allocator, R: Allocator>(
     text: &mut String<A>,
     mark: &str,
@@ -57,15 +123,12 @@ pub fn put_rows<A: Allocator, N: Allocator, R: Allocator>(
 ) -> Result<(), Oom>
     ensures { OnOk result (string_bytes text.new ≡ string_bytes text.old ++ row_lines mark.now names.now rows.now) }
 {
-    for row in rows {
-        text.push_str(mark)?;
-        put_row(text, names, row)?;
-    }
-    Ok(())
+    let mut line = Line::new();
+    put_each(text, &mut line, mark, names, rows)?;
+    end(text, &line)
 }
 
-/// The rows that left, and then those that joined.
-#[tactic(auto, unfolding(crate::specs::Rows::change_lines))]
+/// Appends the rows that left, each after `- `, and then those that joined, each after `+ `.
 pub fn put_lines<A: Allocator, N: Allocator, R: Allocator>(
     text: &mut String<A>,
     names: &Names<N>,
@@ -74,8 +137,9 @@ pub fn put_lines<A: Allocator, N: Allocator, R: Allocator>(
 ) -> Result<(), Oom>
     ensures { OnOk result (string_bytes text.new ≡ string_bytes text.old ++ change_lines names.now left.now joined.now) }
 {
-    put_rows(text, "- ", names, left)?;
-    put_rows(text, "+ ", names, joined)
+    let mut line = Line::new();
+    put_both(text, &mut line, names, left, joined)?;
+    end(text, &line)
 }
 
 /// Whether no row left and none joined.
@@ -85,7 +149,7 @@ fn is_none<R: Allocator>(change: &Diff<R>) -> bool
     change.left.is_empty() && change.joined.is_empty()
 }
 
-/// `at NODE`, and how its list changed, if it did.
+/// Appends `at NODE` and how the node's online list changed; nothing if it didn't change.
 #[tactic(auto, unfolding(crate::specs::Rows::changed_text))]
 pub fn put_change<A: Allocator, N: Allocator, R: Allocator>(
     text: &mut String<A>,
@@ -103,7 +167,7 @@ pub fn put_change<A: Allocator, N: Allocator, R: Allocator>(
     put_lines(text, names, &change.left, &change.joined)
 }
 
-/// `online NODE COUNT`, and the rows.
+/// Appends `online NODE COUNT` and the rows, each after `= `.
 #[tactic(auto, unfolding(crate::specs::Rows::online_text))]
 pub fn put_online<A: Allocator, N: Allocator, R: Allocator>(
     text: &mut String<A>,
@@ -119,7 +183,7 @@ pub fn put_online<A: Allocator, N: Allocator, R: Allocator>(
     put_rows(text, "= ", names, rows)
 }
 
-/// `N ok`, `undone N` or `no NAME`.
+/// Appends the line of a reply: `N ok` or `undone N`, with the number of the step, or `no` and the fault.
 #[tactic(auto, unfolding(crate::specs::Rows::reply_line))]
 pub fn put_reply<A: Allocator>(text: &mut String<A>, reply: Reply) -> Result<(), Oom>
     ensures { OnOk result (string_bytes text.new ≡ string_bytes text.old ++ reply_line reply) }
@@ -141,7 +205,7 @@ fn put_numbers<A: Allocator>(text: &mut String<A>, numbers: &[u64]) -> Result<()
     Ok(())
 }
 
-/// `future N ..`.
+/// Appends `future N ..`, with these numbers, and a line feed.
 #[tactic(auto, unfolding(crate::specs::Rows::future_line))]
 pub fn put_future<A: Allocator>(text: &mut String<A>, numbers: &[u64]) -> Result<(), Oom>
     ensures { OnOk result (string_bytes text.new ≡ string_bytes text.old ++ future_line numbers.now) }
@@ -151,7 +215,7 @@ pub fn put_future<A: Allocator>(text: &mut String<A>, numbers: &[u64]) -> Result
     Ok(text.push_str("\n")?)
 }
 
-/// `undone N` for each number.
+/// Appends a line `undone N` for each number.
 #[tactic(auto, unfolding(crate::specs::Rows::undone_lines))]
 pub fn put_undone<A: Allocator>(text: &mut String<A>, numbers: &[u64]) -> Result<(), Oom>
     ensures { OnOk result (string_bytes text.new ≡ string_bytes text.old ++ undone_lines numbers.now) }

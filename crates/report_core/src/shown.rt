@@ -38,7 +38,7 @@ impl<'a, B: Allocator> Listed<'a, B> {
         Listed { rows }
     }
 
-    /// The online list of no node, which is empty.
+    /// An empty online list, for a number that no node has.
     fn none(alloc: &'a B) -> Self
         ensures { result ≡ [] }
     {
@@ -56,7 +56,7 @@ impl<'a, B: Allocator> Listed<'a, B> {
     }
 }
 
-/// The node of this number.
+/// The node with this number; `None` if no node has it.
 #[tactic(auto, unfolding(crate::specs::Shown::node_of))]
 pub fn node<'x, 'a, B: Allocator>(bench: &'x Bench<'a, B>, number: u16) -> Option<&'x Node<'a, B>>
     ensures { option_map (λ n. n.now) result ≡ node_of bench.now number }
@@ -64,7 +64,7 @@ pub fn node<'x, 'a, B: Allocator>(bench: &'x Bench<'a, B>, number: u16) -> Optio
     bench.node(number)
 }
 
-/// The online list of a node.
+/// The online list of the node with this number; empty if there is no such node.
 #[tactic(auto, unfolding(crate::specs::Shown::rows_at))]
 pub fn rows_at<'a, B: Allocator>(
     bench: &Bench<'a, B>,
@@ -79,7 +79,7 @@ pub fn rows_at<'a, B: Allocator>(
     }
 }
 
-/// Prints the online list of a node.
+/// Appends the online list of a node: `online NODE COUNT` and its rows.
 pub fn show<'a, B: Allocator>(
     text: &mut String<&'a B>,
     bench: &Bench<'a, B>,
@@ -90,6 +90,7 @@ pub fn show<'a, B: Allocator>(
 {
     let rows = rows_at(bench, node, alloc)?;
     let answer = put_online(text, bench.names(), node, rows.rows());
+    // form: drop before exit
     drop(rows);
     answer
 }

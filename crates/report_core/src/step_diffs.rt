@@ -1,19 +1,26 @@
-//! How the online list of a node was changed by its last step, and how the undo of a step will change it.
-ghost use Rattle.std.specs.Prelude.{◌≡◌, IfOk, None, []};
+//! How a step changed the online list of its node, found by the inverse of the step.
+ghost use Rattle.std.specs.Prelude.{◌≡◌, ◌++◌, IfOk, None, OnOk, [], codes, string_bytes};
 ghost use Rattle.node_core.specs.Inverses.{plain_inverse, LeadsSomewhere};
 ghost use Rattle.journal_core.specs.Journals.{first_consequence};
 ghost use Rattle.bench_core.specs.Acts.{plain_act};
-ghost use Rattle.report_core.specs.StepDiffs.{asked_undo, TellsInverse, TellsStep, TellsUndo};
+ghost use Rattle.replica_core.specs.Changes.{back, plain_change, ChangeLeadsSomewhere};
+ghost use Rattle.diff_core.specs.Diffs.{alone};
+ghost use Rattle.diff_core.specs.Sorting.{online_of};
+ghost use Rattle.report_core.specs.Rows.{change_lines, row_lines};
+ghost use Rattle.report_core.specs.StepDiffs.{asked_undo, PutsRows, TellsInverse, TellsStep, TellsUndo};
 
-use bench_core::{Act, Bench, Inverse, Node};
+use crate::line::Line;
+use crate::rows::{put_entries, put_entry};
+use bench_core::{Act, Bench, Inverse, Names, Node};
 use diff_core::laws::{diff_law, one_list_law, online_law};
-use diff_core::{Diff, changed};
+use diff_core::{Diff, FewRows, changed, few_given, few_taken, rows_given, rows_taken};
 use node_core::laws::change_law;
 use payload_core::Oom;
 use replica_core::laws::back_law;
+use replica_core::{Change, Replica};
 use std::alloc::Allocator;
 
-/// No difference.
+/// A difference without rows.
 pub(crate) fn none<'a, B: Allocator>(alloc: &'a B) -> Diff<&'a B>
     ensures left { result.left.items ≡ [] }
     ensures joined { result.joined.items ≡ [] }
@@ -24,7 +31,7 @@ pub(crate) fn none<'a, B: Allocator>(alloc: &'a B) -> Diff<&'a B>
     }
 }
 
-/// What the step of this inverse changed in the online list of its node, which is as the step left it.
+/// How the step of this inverse changed the online list of `node`, which must be as that step left it.
 fn inverse_diff<'a, B: Allocator>(
     inverse: &Inverse<&'a B>,
     node: &Node<'a, B>,
@@ -33,6 +40,7 @@ fn inverse_diff<'a, B: Allocator>(
     requires { LeadsSomewhere (plain_inverse inverse.now) node.now }
     ensures { IfOk result (λ diff. TellsInverse (plain_inverse inverse.now) node.now diff.left.items diff.joined.items) }
 {
+    // form: each hands out what the proof cites
     back_law();
     diff_law();
     one_list_law();
@@ -44,7 +52,8 @@ fn inverse_diff<'a, B: Allocator>(
     }
 }
 
-/// What a step changed in the online list of its node. Nothing follows from the step.
+/// How a step changed the online list of its node; no rows if the step doesn't remain. The step must have no
+/// consequence.
 pub fn step_diff<'a, B: Allocator>(
     bench: &Bench<'a, B>,
     number: u64,
@@ -65,7 +74,121 @@ pub fn step_diff<'a, B: Allocator>(
     inverse_diff(inverse, node, alloc)
 }
 
-/// The step whose undo an act asks for: the one that it names, or the last of the node that it names.
+/// Appends to the text, whose end is still in `line`, the rows that the call of `change` took out of the online list of
+/// its replica, each after `- `. `after` is the replica after that call.
+fn put_taken_rows<'a, B: Allocator>(
+    text: &mut String<&'a B>,
+    line: &mut Line,
+    names: &Names<&'a B>,
+    change: &Change<&'a B>,
+    after: &Replica<&'a B>,
+    alloc: &'a B,
+) -> Result<(), Oom>
+    requires { ChangeLeadsSomewhere (plain_change change.now) after.now }
+    ensures { OnOk result (string_bytes text.new ++ line.new.bytes ≡ (string_bytes text.old ++ line.old.bytes) ++
+        row_lines (codes "- ") names.now (alone (online_of (back (plain_change change.now) after.now)) (online_of after.now))) }
+{
+    match few_taken(change, after) {
+        FewRows::Nothing => Ok(()),
+        FewRows::One(row) => put_entry(text, line, "- ", names, &row),
+        FewRows::More => put_entries(text, line, "- ", names, &rows_taken(alloc, change, after)?),
+    }
+}
+
+/// Appends to the text, whose end is still in `line`, the rows that the call of `change` put into the online list of
+/// its replica, each after `+ `. `after` is the replica after that call.
+fn put_given_rows<'a, B: Allocator>(
+    text: &mut String<&'a B>,
+    line: &mut Line,
+    names: &Names<&'a B>,
+    change: &Change<&'a B>,
+    after: &Replica<&'a B>,
+    alloc: &'a B,
+) -> Result<(), Oom>
+    requires { ChangeLeadsSomewhere (plain_change change.now) after.now }
+    ensures { OnOk result (string_bytes text.new ++ line.new.bytes ≡ (string_bytes text.old ++ line.old.bytes) ++
+        row_lines (codes "+ ") names.now (alone (online_of after.now) (online_of (back (plain_change change.now) after.now)))) }
+{
+    match few_given(change, after) {
+        FewRows::Nothing => Ok(()),
+        FewRows::One(row) => put_entry(text, line, "+ ", names, &row),
+        FewRows::More => put_entries(text, line, "+ ", names, &rows_given(alloc, change, after)?),
+    }
+}
+
+/// Appends what `put_taken_rows` does, and then what `put_given_rows` does: the rows that the call of `change` took out
+/// of the online list, and those that it put in.
+#[tactic(auto, unfolding(crate::specs::Rows::change_lines))]
+fn put_change_rows<'a, B: Allocator>(
+    text: &mut String<&'a B>,
+    line: &mut Line,
+    names: &Names<&'a B>,
+    change: &Change<&'a B>,
+    after: &Replica<&'a B>,
+    alloc: &'a B,
+) -> Result<(), Oom>
+    requires { ChangeLeadsSomewhere (plain_change change.now) after.now }
+    ensures { OnOk result (string_bytes text.new ++ line.new.bytes ≡ (string_bytes text.old ++ line.old.bytes) ++
+        change_lines names.now (alone (online_of (back (plain_change change.now) after.now)) (online_of after.now))
+        (alone (online_of after.now) (online_of (back (plain_change change.now) after.now)))) }
+{
+    put_taken_rows(text, line, names, change, after, alloc)?;
+    put_given_rows(text, line, names, change, after, alloc)
+}
+
+/// Appends to the text, whose end is still in `line`, how the step of this inverse changed the online list of `node`.
+/// The node must be as that step left it.
+fn put_inverse<'a, B: Allocator>(
+    text: &mut String<&'a B>,
+    line: &mut Line,
+    names: &Names<&'a B>,
+    inverse: &Inverse<&'a B>,
+    node: &Node<'a, B>,
+    alloc: &'a B,
+) -> Result<(), Oom>
+    requires { LeadsSomewhere (plain_inverse inverse.now) node.now }
+    ensures { OnOk result (PutsRows names.now (string_bytes text.old ++ line.old.bytes) (string_bytes text.new ++ line.new.bytes)
+        (TellsInverse (plain_inverse inverse.now) node.now)) }
+{
+    // form: each hands out what the proof cites
+    back_law();
+    diff_law();
+    one_list_law();
+    online_law();
+    change_law();
+    match inverse.change() {
+        Some(change) => put_change_rows(text, line, names, change, node.replica(), alloc),
+        None => Ok(()),
+    }
+}
+
+/// Appends to the text, whose end is still in `line`, how a step changed the online list of its node; nothing if the
+/// step doesn't remain. The step must have no consequence.
+pub(crate) fn put_step<'a, B: Allocator>(
+    bench: &Bench<'a, B>,
+    text: &mut String<&'a B>,
+    line: &mut Line,
+    number: u64,
+    alloc: &'a B,
+) -> Result<(), Oom>
+    requires { first_consequence bench.now.state.remaining number ≡ None }
+    ensures { OnOk result (PutsRows bench.now.names (string_bytes text.old ++ line.old.bytes) (string_bytes text.new ++ line.new.bytes)
+        (TellsStep bench.now number)) }
+{
+    let Some(inverse) = bench.way_back(number) else {
+        return Ok(());
+    };
+    let Some(kept) = bench.remaining().find(number) else {
+        return Ok(());
+    };
+    let Some(node) = bench.node(kept.node) else {
+        return Ok(());
+    };
+    put_inverse(text, line, bench.names(), inverse, node, alloc)
+}
+
+/// The number of the step whose undo an act asks for. An undo names that number; a back asks for the last remaining
+/// step of the node that it names. `None` for a step, and for a back whose node has no remaining step or doesn't exist.
 #[tactic(auto, unfolding(crate::specs::StepDiffs::asked_undo))]
 pub fn asked_undo<'a, B: Allocator>(bench: &Bench<'a, B>, act: &Act<&'a B>) -> Option<u64>
     ensures { result ≡ asked_undo bench.now (plain_act act.now) }
@@ -82,7 +205,8 @@ pub fn asked_undo<'a, B: Allocator>(bench: &Bench<'a, B>, act: &Act<&'a B>) -> O
     }
 }
 
-/// What the step whose undo an act asks for changed in the online list of its node, if the undo will be made.
+/// How the step whose undo an act asks for had changed the online list of its node. No rows if the act is a step, or
+/// the undo will be refused.
 pub fn undo_diff<'a, B: Allocator>(
     bench: &Bench<'a, B>,
     act: &Act<&'a B>,

@@ -1,4 +1,4 @@
-//! A kept step as a line of a script, and the list of kept steps.
+//! Prints a kept step as a line of a script, and the list of kept steps.
 ghost use Rattle.std.specs.Prelude.{◌≡◌, ◌++◌, OnOk, codes, decimal, string_bytes};
 ghost use Rattle.node_core.specs.Operations.{plain};
 ghost use Rattle.journal_core.specs.Holdings.{kepts};
@@ -11,7 +11,7 @@ use dots_core::NameSet;
 use payload_core::{Oom, Word};
 use std::alloc::Allocator;
 
-/// A verb, and `PID TOPIC KEY META`.
+/// Appends `verb`, which ends in a space, and `PID TOPIC KEY META`.
 #[tactic(auto, unfolding(crate::specs::StepText::presence_text))]
 fn put_presence<A: Allocator, W: Allocator>(
     text: &mut String<A>,
@@ -27,11 +27,12 @@ fn put_presence<A: Allocator, W: Allocator>(
     let topic = topic.as_str();
     let key = key.as_str();
     let metadata = metadata.as_str();
+    // form: split in two for the proof
     write!(text, "{verb}{pid} {topic}")?;
     Ok(write!(text, " {key} {metadata}")?)
 }
 
-/// A verb, and `SENDER NUMBER`.
+/// Appends `verb`, which ends in a space, and `SENDER NUMBER`.
 fn put_message<A: Allocator, N: Allocator>(
     text: &mut String<A>,
     verb: &str,
@@ -45,14 +46,14 @@ fn put_message<A: Allocator, N: Allocator>(
     Ok(write!(text, "{verb}{sender} {number}")?)
 }
 
-/// A verb, and a number.
+/// Appends `verb`, which ends in a space, and a number.
 fn put_number<A: Allocator>(text: &mut String<A>, verb: &str, number: u64) -> Result<(), Oom>
     ensures { OnOk result (string_bytes text.new ≡ string_bytes text.old ++ verb.now ++ decimal number) }
 {
     Ok(write!(text, "{verb}{number}")?)
 }
 
-/// A verb, and the name of this number.
+/// Appends `verb`, which ends in a space, and the name with the number `name`.
 fn put_status<A: Allocator, N: Allocator>(
     text: &mut String<A>,
     verb: &str,
@@ -65,7 +66,7 @@ fn put_status<A: Allocator, N: Allocator>(
     Ok(text.push_str(name_at(names, name))?)
 }
 
-/// The name of this number after a space, if it is in the set.
+/// Appends a space and the name with this number, if the number is in the set `chosen`.
 fn put_name<A: Allocator, N: Allocator>(
     text: &mut String<A>,
     names: &Names<N>,
@@ -81,7 +82,7 @@ fn put_name<A: Allocator, N: Allocator>(
     Ok(())
 }
 
-/// The names of the set by rising number, each after a space.
+/// Appends the names of the set `chosen` by rising number, each after a space.
 fn put_names<A: Allocator, N: Allocator>(
     text: &mut String<A>,
     names: &Names<N>,
@@ -95,7 +96,7 @@ fn put_names<A: Allocator, N: Allocator>(
     Ok(())
 }
 
-/// `leave PID TOPIC KEY`.
+/// Appends `leave PID TOPIC KEY`.
 fn put_leave<A: Allocator, W: Allocator>(
     text: &mut String<A>,
     pid: u64,
@@ -110,7 +111,7 @@ fn put_leave<A: Allocator, W: Allocator>(
     Ok(write!(text, "leave {pid} {topic} {key}")?)
 }
 
-/// `extract NAME ..`.
+/// Appends `extract NAME ..`.
 fn put_extract<A: Allocator, N: Allocator>(
     text: &mut String<A>,
     names: &Names<N>,
@@ -122,14 +123,14 @@ fn put_extract<A: Allocator, N: Allocator>(
     put_names(text, names, chosen)
 }
 
-/// A verb alone.
+/// Appends `more`, a verb that no words follow.
 fn put<A: Allocator>(text: &mut String<A>, more: &str) -> Result<(), Oom>
     ensures { OnOk result (string_bytes text.new ≡ string_bytes text.old ++ more.now) }
 {
     Ok(text.push_str(more)?)
 }
 
-/// The step as a script has it, after its node.
+/// Appends the step as it stands in a script after the name of its node.
 #[tactic(auto, unfolding(crate::specs::StepText::step_text))]
 fn put_step<A: Allocator, N: Allocator, W: Allocator>(
     text: &mut String<A>,
@@ -166,7 +167,7 @@ fn put_step<A: Allocator, N: Allocator, W: Allocator>(
     }
 }
 
-/// `NODE VERB ..`, a line of a script.
+/// Appends `NODE VERB ..`, as in a script, without a line feed.
 #[tactic(auto, unfolding(crate::specs::StepText::act_line))]
 pub fn put_act<A: Allocator, N: Allocator, W: Allocator>(
     text: &mut String<A>,
@@ -181,7 +182,7 @@ pub fn put_act<A: Allocator, N: Allocator, W: Allocator>(
     put_step(text, names, step)
 }
 
-/// `NUMBER`, and the step as a line of a script.
+/// Appends `NUMBER NODE VERB ..` and a line feed: the number of a kept step, and the step as a line of a script.
 #[tactic(auto, unfolding(crate::specs::StepText::kept_line))]
 fn put_kept<A: Allocator, N: Allocator, W: Allocator>(
     text: &mut String<A>,
@@ -196,7 +197,7 @@ fn put_kept<A: Allocator, N: Allocator, W: Allocator>(
     Ok(text.push_str("\n")?)
 }
 
-/// Each kept step on a line.
+/// Appends a line for each kept step, by rising number.
 #[tactic(auto, unfolding(crate::specs::StepText::kept_lines))]
 fn put_kepts<'a, A: Allocator, N: Allocator, B: Allocator>(
     journal: &Journal<'a, B>,
@@ -212,7 +213,7 @@ fn put_kepts<'a, A: Allocator, N: Allocator, B: Allocator>(
     Ok(())
 }
 
-/// `journal COUNT`, and each kept step on a line.
+/// Appends `journal COUNT`, and then a line for each kept step, by rising number.
 #[tactic(auto, unfolding(crate::specs::StepText::journal_text))]
 pub fn put_journal<'a, A: Allocator, N: Allocator, B: Allocator>(
     journal: &Journal<'a, B>,

@@ -1,0 +1,97 @@
+//! `EntryRow`: a borrowed live entry, seen as its row.
+ghost use Rattle.std.specs.Prelude.{◌≡◌, ◌++◌, ◌∷◌, [], refl, OnOk, Some};
+ghost use Rattle.std.specs.Cmp.{partial_equiv_from_equiv};
+ghost use Rattle.std.specs.Ordering.{eq_by_cmp};
+ghost use Rattle.payload_core.specs.EntryLists.{pair_of};
+ghost use Rattle.diff_core.specs.Rows.{row_cmp, row_of};
+ghost use Rattle.diff_core.specs.RowOrder.{row_equiv, row_po, row_ties, row_total};
+
+use payload_core::{Entry, Oom};
+use std::alloc::Allocator;
+use std::cmp::Ordering;
+use std::marker::Model;
+
+/// A live entry that stands for its row. It is borrowed, so its words aren't copied. A contract sees the row, and the
+/// order is that of `OnlineRow`.
+#[derive(Drop)]
+pub struct EntryRow<'x, A: Allocator> {
+    entry: &'x Entry<A>,
+}
+
+impl<'x, A: Allocator> Model for EntryRow<'x, A> {
+    ghost use Rattle.payload_core.specs.EntryLists.{pair_of};
+    ghost use Rattle.diff_core.specs.Rows.{Row, row_of};
+
+    ghost Value = { Row };
+
+    ghost view = { λ r. row_of (pair_of r.entry.now) };
+}
+
+impl<'x, A: Allocator> EntryRow<'x, A> {
+    /// The row of an entry.
+    pub(crate) fn of(entry: &'x Entry<A>) -> EntryRow<'x, A>
+        ensures { result ≡ row_of (pair_of entry.now) }
+    {
+        EntryRow { entry }
+    }
+
+    /// Appends the row of an entry.
+    pub(crate) fn put(rows: &mut Vec<EntryRow<'x, A>, A>, entry: &'x Entry<A>) -> Result<(), Oom>
+        ensures { OnOk result (rows.new.items ≡ rows.old.items ++ row_of (pair_of entry.now) ∷ []) }
+    {
+        Ok(rows.push(EntryRow::of(entry))?)
+    }
+
+    /// The entry whose row this is.
+    pub fn entry(&self) -> &'x Entry<A>
+        ensures { row_of (pair_of result.now) ≡ self.now }
+    {
+        self.entry
+    }
+}
+
+impl<'x, A: Allocator> PartialEq for EntryRow<'x, A> {
+    ghost eq = { eq_by_cmp row_cmp };
+
+    ghost laws = { partial_equiv_from_equiv row_equiv };
+
+    fn eq(&self, other: &Self) -> bool {
+        self.cmp(other) == Ordering::Equal
+    }
+}
+
+impl<'x, A: Allocator> Eq for EntryRow<'x, A> {
+    ghost laws = { row_equiv };
+}
+
+impl<'x, A: Allocator> PartialOrd for EntryRow<'x, A> {
+    ghost partial_cmp = { λ one other. Some (row_cmp one other) };
+
+    ghost laws = { row_po };
+
+    fn partial_cmp(&self, other: &Self) -> Option<Ordering> {
+        Some(self.cmp(other))
+    }
+}
+
+/// Ordered by topic, key, name, process, clock and metadata, words by their bytes.
+impl<'x, A: Allocator> Ord for EntryRow<'x, A> {
+    ghost cmp = { row_cmp };
+
+    ghost total = { row_total };
+
+    ghost matches_partial_cmp = { λ one other. refl };
+
+    ghost matches_eq = { row_ties };
+
+    fn cmp(&self, other: &Self) -> Ordering {
+        let (one, other) = (self.entry, other.entry);
+        one.topic
+            .cmp(&other.topic)
+            .then_with(|| one.key.cmp(&other.key))
+            .then_with(|| one.dot.name.cmp(&other.dot.name))
+            .then_with(|| one.pid.cmp(&other.pid))
+            .then_with(|| one.dot.clock.cmp(&other.dot.clock))
+            .then_with(|| one.metadata.cmp(&other.metadata))
+    }
+}

@@ -1,7 +1,0 @@
-use Rattle.std.proofs.Common.{◌≡◌, ◌++◌, take, string_bytes}
-use Rattle.report_core.specs.Rows.{row_lines}
-use Rattle.report_core.proofs.rows.put_rows.Given as goal
-
--- the rows so far
-abbrev pub invariant-loop-row : goal.invariant-loop-row
-invariant-loop-row g l = string_bytes l.text ≡ string_bytes l.fn.text ++ row_lines l.mark l.names (take l.row-index l.rows)
