@@ -1,7 +1,10 @@
 -- What the command line takes, and what words choose.
 use Rattle.std.specs.Prelude.{◌≡◌, ◌≢◌, ◌⊎◌, ◌<◌, ◌^◌, ℕ, Bool, List, [], ◌∷◌, ◌++◌, codes, false, true, not, ⊤, Option, Some, None, IfSome, unwrap_or}
 use Rattle.std.specs.Str.Parse.{IsNumeral, digits_value, without_leading_plus}
-use Rattle.clap.specs.Words.{App, IsAmong, Row, Rule, fault_of, first_of, new_app, new_rule, with_rule, with_subcommand, subcommand_of}
+use Rattle.clap.specs.declared.builder.arg.Arg.{Arg}
+use Rattle.clap.specs.declared.builder.command.Command.{Command}
+use Rattle.clap.specs.declared.Command.TheViews.{out-Command as fields_of}
+use Rattle.clap.specs.Words.{app_of, rule_of, App, IsAmong, Row, Rule, fault_of, first_of, new_app, new_rule, with_rule, with_subcommand, subcommand_of}
 use Rattle.command_line.specs.declared.chosen.Form.{Form}
 use Rattle.command_line.specs.declared.chosen.Form.TheVariants.{Report, Steps, Script, Session, Page as PageForm}
 use Rattle.command_line.specs.declared.chosen.Subcommand.{Subcommand}
@@ -14,6 +17,14 @@ use Rattle.command_line.specs.declared.chosen.About.TheVariants.{Cluster, Node, 
 use Rattle.clap.specs.declared.builder.action.ArgAction.TheVariants.{SetTrue}
 use Rattle.clap.specs.declared.error.kind.ErrorKind.{ErrorKind}
 use Rattle.clap.specs.declared.error.kind.ErrorKind.TheVariants.{InvalidValue, MissingSubcommand, OutOfMemory}
+
+-- the option or word has this rule, and is of its own subcommand alone
+abbrev pub HasRule : Rule → Arg → Type 0
+HasRule rule arg = (rule_of arg ≡ rule) × (arg.global ≡ false)
+
+-- the command has this shape, and all its options and words are its own
+abbrev pub HasShape : App → Command → Type 0
+HasShape app command = (app_of command ≡ app) × ((fields_of command).has_globals ≡ false)
 
 -- the option that names a form
 abbrev pub as_rule : Rule
@@ -65,17 +76,13 @@ abbrev pub about_app : List ℕ → App
 about_app name =
     with_rule (with_rule (with_rule (new_app name) (optional_rule (codes "NODE"))) (optional_rule (codes "TOPIC"))) (optional_rule (codes "KEY"))
 
-abbrev pub network_app : App
-network_app = with_rule (with_rule (about_app (codes "explore")) (number_rule (codes "lost"))) (number_rule (codes "again"))
-
 abbrev pub explore_app : App
-explore_app = with_rule (with_rule network_app (number_rule (codes "states"))) (number_rule (codes "script"))
-
-abbrev pub lanes_app : App
-lanes_app = with_rule (about_app (codes "draw")) (number_rule (codes "why"))
+explore_app =
+    with_rule (with_rule (with_rule (with_rule (about_app (codes "explore")) (number_rule (codes "lost"))) (number_rule (codes "again")))
+    (number_rule (codes "states"))) (number_rule (codes "script"))
 
 abbrev pub draw_app : App
-draw_app = with_rule (with_rule lanes_app (number_rule (codes "from"))) (number_rule (codes "to"))
+draw_app = with_rule (with_rule (with_rule (about_app (codes "draw")) (number_rule (codes "why"))) (number_rule (codes "from"))) (number_rule (codes "to"))
 
 abbrev pub page_app : App
 page_app = new_app (codes "page")

@@ -1,6 +1,6 @@
 //! What a command line chooses.
 
-/// The question why the presences of this topic and key are online at the node of this name, or why not.
+/// What a subcommand is asked about: the presences under `topic` and `key` at the node named `node`.
 #[derive(Clone, Copy, Debug, PartialEq, Eq)]
 pub struct Question<'w> {
     pub node: &'w str,
@@ -13,29 +13,30 @@ pub struct Question<'w> {
 pub enum About<'w> {
     /// How the whole cluster ends.
     Cluster,
-    /// How the node of this name ends.
+    /// How the node with this name ends.
     Node(&'w str),
-    /// Which presences of a topic and a key a node lists at the end.
+    /// Which presences under a topic and a key a node lists at the end.
     Presence(Question<'w>),
 }
 
 /// What a picture of a run shows.
 #[derive(Clone, Copy, Debug, PartialEq, Eq)]
 pub struct Drawing<'w> {
-    /// Lanes are thick where their nodes list these presences: at the node that is named, or at each where its name is `-`.
+    /// Lanes are thick where their nodes list presences under this topic and key: the lane of the node that is named,
+    /// or each lane if the name is `-`.
     pub online: Option<Question<'w>>,
     /// The step whose future is painted.
     pub why: Option<u64>,
-    /// The first step that is drawn.
+    /// The number of the first step that is drawn.
     pub from: Option<u64>,
-    /// The last step that is drawn.
+    /// The number of the last step that is drawn.
     pub to: Option<u64>,
 }
 
 /// What the program does.
 #[derive(Clone, Copy, Debug, PartialEq, Eq)]
 pub enum Subcommand<'w> {
-    /// Plays a script. If `strict`, a refused act is a fault.
+    /// Plays a script. If `strict`, a refused act or unwind is a fault.
     Play {
         strict: bool,
     },
@@ -45,17 +46,17 @@ pub enum Subcommand<'w> {
     Load {
         strict: bool,
     },
-    /// Makes a script of the events of logs. With `check` it tells instead where the bench and the real nodes part;
-    /// with `lines` it puts the number of its event's line before each line; `lenient` leaves out events that take a
-    /// message which no line sends.
+    /// Makes a script from the events of logs. With `check` it tells instead where the bench and the real nodes part.
+    /// With `lines` a comment with the event's line number in the logs stands before the line of each event. With
+    /// `lenient` it leaves out, round by round, each event that takes a message which none of the rest sends.
     Import {
         check: bool,
         lines: bool,
         lenient: bool,
     },
     /// Tells what the network could have made of a run, with up to `lost` deliveries missing and up to `again` that
-    /// come twice; it keeps at most `states` different states. Given the number of an outcome, it prints the run of
-    /// that outcome instead.
+    /// come twice. It keeps at most `states` different states. Given the number of an `outcome`, it prints a run that
+    /// leads to that outcome instead.
     Explore {
         about: About<'w>,
         lost: usize,
@@ -67,63 +68,64 @@ pub enum Subcommand<'w> {
     Step,
     /// Draws a run.
     Draw(Drawing<'w>),
-    /// Prints a page of HTML on which a run is looked at.
+    /// Prints a page of HTML that shows a run.
     Page,
-    /// Explains why presences of a saved session are online at a node, and why not.
+    /// Explains why presences are online at a node, or why not.
     Explain(Question<'w>),
-    /// Tells which single changes would have made a difference to these presences. Given the number of a change, it
-    /// prints the run with that change instead.
+    /// Tells which single changes would have made a difference to the presences that the question is about. Given the
+    /// number of a `change`, it prints the run with that change instead.
     Whatif {
         question: Question<'w>,
         change: Option<u64>,
     },
 }
 
-/// What it prints of the bench once the play is over.
+/// What the program prints of the bench once the run is over.
 #[derive(Clone, Copy, Debug, PartialEq, Eq)]
 pub enum Form {
     /// The report.
     Report,
-    /// The report, with each line above what it printed.
+    /// The report, with each call above what it printed.
     Steps,
     /// The calls as a script.
     Script,
     /// The session, which can be loaded again.
     Session,
-    /// A page of HTML, which also has what logs tell.
+    /// A page of HTML, which shows the run that logs give, and what else the logs tell.
     Page,
 }
 
-/// What the words of a command line ask.
+/// What the words of a command line ask for.
 #[derive(Clone, Copy, Debug, PartialEq, Eq)]
 pub struct Choice<'w> {
     pub command: Subcommand<'w>,
     pub form: Form,
 }
 
-/// What the options give, apart from the form.
+/// What the options say, apart from the form.
 #[derive(Clone, Copy, Debug, PartialEq, Eq)]
 pub struct Options {
-    /// Whether a refused act is a fault, by `--strict`.
+    /// Whether `--strict` is given; then a refused act or unwind is a fault.
     pub strict: bool,
     /// The step of `--why`.
     pub why: Option<u64>,
-    /// The first step, of `--from`.
+    /// The step of `--from`, the first that is drawn.
     pub from: Option<u64>,
-    /// The last step, of `--to`.
+    /// The step of `--to`, the last that is drawn.
     pub to: Option<u64>,
     /// How many deliveries `--lost` allows to be missing.
     pub lost: Option<u64>,
     /// How many deliveries `--again` allows to come a second time.
     pub again: Option<u64>,
-    /// How many states `--states` allows.
+    /// How many different states `--states` allows to be kept.
     pub states: Option<u64>,
-    /// The outcome or the change of `--script`.
+    /// The number of the outcome or of the change that `--script` names.
     pub script: Option<u64>,
-    /// Whether there is `--check`.
+    /// Whether `--check` asks where the bench and the real nodes part, in place of a script.
     pub check: bool,
-    /// Whether there is `--lines`.
+    /// Whether `--lines` asks for a comment before the line of each event, with the event's line number in the logs.
     pub lines: bool,
-    /// Whether there is `--lenient`.
+    /// Whether `--lenient` asks to leave out, round by round, each event that takes a message which none of the rest
+    /// sends.
     pub lenient: bool,
 }

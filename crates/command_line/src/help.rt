@@ -15,23 +15,21 @@ pub const LOAD: &str = "Plays the session on standard input again, and compares 
 pub const IMPORT: &str =
     "Makes a script of the events of logs on standard input, a JSON object a line";
 
-pub const EXPLORE: &str =
-    "Tells what the network could have made of what happened, each outcome with a run that leads there";
+pub const EXPLORE: &str = "Tells all that the network could have made of the run on standard input";
 
 pub const STEP: &str =
     "Takes a script line by line from standard input, and answers each line at once";
 
-pub const DRAW: &str =
-    "Draws the run on standard input, time down: what each node did, what was sent, and what was undone";
+pub const DRAW: &str = "Draws the run on standard input, time down: what was done, sent and undone";
 
 pub const PAGE: &str =
     "Prints a page of HTML on which the run on standard input is looked at in a browser";
 
 pub const EXPLAIN: &str =
-    "Tells why presences of the session on standard input are online at a node, and why not";
+    "Tells why presences of the run on standard input are online at a node, and why not";
 
 pub const WHATIF: &str =
-    "Tells which single changes of what happened would have made a difference to these presences";
+    "Tells which single changes of the run on standard input would have made a difference";
 
 pub const NODE: &str = "The node that is asked about";
 
@@ -50,21 +48,18 @@ pub const LOST: &str = "How many deliveries may be missing, 0 as without it";
 pub const AGAIN: &str = "How many deliveries may come a second time, 0 as without it";
 
 pub const CHECK: &str =
-    "Print where the bench and the real nodes part instead; the status is 6 where they do";
+    "Print where the bench and the real nodes part instead; status 6 where they do";
 
 pub const LINES: &str = "Put a comment with the number of its event's line before each line";
 
 pub const LENIENT: &str =
-    "Leave out what takes a message that no line sends, as where logs begin in the middle";
+    "Leave out what takes a message that no line sends, for logs that lack a part";
 
-pub const STATES: &str =
-    "The most different states to keep, 100000 as without it; where there are more, that is told";
+pub const STATES: &str = "The most different states to keep, 100000 as without it";
 
-pub const OUTCOME: &str =
-    "The number of an outcome, to print its run alone, as a script that play takes";
+pub const OUTCOME: &str = "The number of an outcome, to print its run alone, as a script";
 
-pub const CHANGE: &str =
-    "The number of a change, to print the run with it alone, as a script that play takes";
+pub const CHANGE: &str = "The number of a change, to print the run with it alone, as a script";
 
 pub const STRICT: &str = "End with status 6 where an act was refused, and tell the first";
 
@@ -104,6 +99,30 @@ Example:
 pub const LOAD_EXAMPLE: &str = "\
 Example:
   (presence_bench load --as script < run.json; cat) | presence_bench step";
+
+/// What an event of a log is, and what the faults of events mean.
+pub const EVENTS: &str = "\
+Each event is a JSON object on a line, with `node`, a string, `event`, and by it:
+  join, update        pid, topic, key, meta
+  leave               pid, topic, key
+  leave_all           pid
+  broadcast, request  message
+  extract             names, a list of nodes, and message
+  deliver             from, a node, and message
+  answer              from, message, which is the request, and sends, what it sent
+  up, down, permdown  name, a node
+  online              rows, what the node listed: node, pid, topic, key, meta of each
+A message is any value by which it is known again among those of its sender, and
+pid, topic, key and meta are any values. Each node's events stand in their order.
+What a fault of events says (line L: KIND):
+  NotJson       the line isn't one whole JSON object
+  BadEvent      a key is missing or of another kind, or no event is called so
+  TooManyNodes  the lines up to this one name more than 32 nodes
+  NoNodes       no line has an event
+  Twice         the node sent a message of that value before
+  NeverSent     no line sends that message; with --lenient the line is left out
+  Circle        no order of the lines is possible; this one can't come
+  TooLong       a line and a script have at most 1048576 bytes, a session more";
 
 /// The whole script language, and what its faults mean.
 pub const LANGUAGE: &str = "\

@@ -1,12 +1,13 @@
 //! The command line of the program: what its words choose, and the help that teaches it.
 //!
-//! Stands on `clap`, which reads the words. In the order to read them: `chosen`, what there is to choose; `help`, the text that
-//! teaches it; `line`, from words to a choice.
+//! Stands on `clap`, which reads the words. The modules in reading order: `chosen`, what there is to choose; `help`,
+//! the texts that teach it; `subcommands`, what `clap` is to read; `line`, from words to a choice.
 #![tactic(auto)]
 
 mod chosen;
 mod help;
 mod line;
+mod subcommands;
 
 pub use chosen::{About, Choice, Drawing, Form, Question, Subcommand};
 pub use help::LANGUAGE;

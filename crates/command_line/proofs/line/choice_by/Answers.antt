@@ -40,8 +40,8 @@ returns-in-Ok-clause-ok g c =
       chosen = chosen_alike _ _ _ _ (λ option. first_value-rows found option) c.in-Ok.ensures.ok;
     }
 
-pub returns-in_ok-error-in-Err-clause-err : goal.returns-in_ok-error-in-Err-clause-err
-returns-in_ok-error-in-Err-clause-err g c =
+pub returns-in_ok-misspelled-in-Err-clause-err : goal.returns-in_ok-misspelled-in-Err-clause-err
+returns-in_ok-misspelled-in-Err-clause-err g c =
     let m = c.in_ok-matches.matches in
     let words = map g.S.AsStr.text c.args.words.now in
     let matched : HasMatchesOf app words m =
@@ -51,4 +51,4 @@ returns-in_ok-error-in-Err-clause-err g c =
     let nothing : (choice : Choice) → ¬ Spells words choice =
     chooses_nothing words c.in-Some.name.now (rows_of found) (sym (matched simple).1 ∙ met)
     (λ choice is. c.in-Err.ensures.err choice (chosen_alike _ _ _ _ (λ option. sym (first_value-rows found option)) is)) in
-    inr (inr (inl c.in_ok-error-in-Err.ensures.kind, nothing))
+    inr (inr (inl c.in_ok-misspelled-in-Err.ensures, nothing))
