@@ -3,3 +3,5 @@ pub mod LineWords
 pub mod Forms
 pub mod Choices
 pub mod Sessions
+pub mod EventForms
+pub mod EventHints

@@ -1,5 +1,5 @@
--- What the first bytes of an input tell, and the hint of one that is no JSON.
-use Rattle.std.specs.Prelude.{ℕ, ◌==◌, ◌&&◌, ◌||◌, Bool, true, false, List, [], ◌∷◌, Option, None, Some, codes, if◌then◌else◌}
+-- What the first bytes of an input tell, and the hint of a session that is no JSON.
+use Rattle.std.specs.Prelude.{ℕ, ◌==◌, ◌&&◌, ◌||◌, Bool, true, false, List, [], ◌∷◌, codes, if◌then◌else◌}
 use Rattle.hint_core.specs.Hints.{Hint, Plain}
 
 -- a space, a tab, a line feed or a carriage return
@@ -21,10 +21,10 @@ abbrev pub is_marked : List ℕ → Bool
 is_marked (a ∷ b ∷ c ∷ rest) = (a == 239) && (b == 187) && (c == 191)
 is_marked _ = false
 
--- the hint of an input that is no JSON, by how it begins
-unfoldable pub json_hint : List ℕ → Option Hint
-json_hint bytes =
-    if is_blank bytes then Some (Plain (codes "the input is empty; `play --as session` prints a session"))
-    else (if is_marked bytes then Some (Plain (codes "the input begins with a byte order mark; save it without one"))
-    else (if begins_object bytes then None
-    else Some (Plain (codes "a session begins with `{`, and this input doesn't; `play` takes scripts"))))
+-- the hint of a session that is no JSON, by how it begins
+unfoldable pub session_hint : List ℕ → Hint
+session_hint bytes =
+    if is_blank bytes then Plain (codes "the input is empty; `play --as session` prints a session")
+    else (if is_marked bytes then Plain (codes "the input begins with a byte order mark; save it without one")
+    else (if begins_object bytes then Plain (codes "a session is one object, as `play --as session` prints it; `import` takes events")
+    else Plain (codes "a session begins with `{`, and this input doesn't; `play` takes scripts")))

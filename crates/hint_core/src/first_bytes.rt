@@ -2,7 +2,7 @@
 ghost use Rattle.std.specs.Prelude.{◌≡◌};
 ghost use Rattle.hint_core.specs.Sessions.{is_space, is_blank, begins_object, is_marked};
 
-/// Whether JSON takes the byte as white space.
+/// Whether the byte is white space in JSON.
 fn is_space(byte: u8) -> bool
     ensures { result ≡ is_space byte }
 {
@@ -13,6 +13,7 @@ fn is_space(byte: u8) -> bool
 pub(crate) fn is_blank(bytes: &[u8]) -> bool
     ensures { result ≡ is_blank bytes.now }
 {
+    // form: the proof goes along the loop
     for byte in bytes {
         if !is_space(*byte) {
             return false;
@@ -21,8 +22,8 @@ pub(crate) fn is_blank(bytes: &[u8]) -> bool
     true
 }
 
-/// Whether the first byte that is no white space is `{`.
-pub(crate) fn begins_object(bytes: &[u8]) -> bool
+/// Whether the first byte that isn't white space is `{`.
+pub fn begins_object(bytes: &[u8]) -> bool
     ensures { result ≡ begins_object bytes.now }
 {
     for byte in bytes {
@@ -33,7 +34,7 @@ pub(crate) fn begins_object(bytes: &[u8]) -> bool
     false
 }
 
-/// Whether a byte order mark stands first.
+/// Whether the bytes begin with a byte order mark.
 pub(crate) fn is_marked(bytes: &[u8]) -> bool
     ensures { result ≡ is_marked bytes.now }
 {

@@ -2,7 +2,7 @@
 ghost use Rattle.std.specs.Prelude.{◌≡◌};
 ghost use Rattle.hint_core.specs.Forms.{actor_form, form};
 
-/// The form of an actor's line, by its verb.
+/// Says which form an actor's line with the verb `verb` has; if `verb` isn't a verb, that the verb is missing.
 #[tactic(auto, unfolding(crate::specs::Forms::actor_form))]
 fn actor_form(verb: &str) -> &'static str
     ensures { result.now ≡ actor_form verb.now }
@@ -27,7 +27,8 @@ fn actor_form(verb: &str) -> &'static str
     }
 }
 
-/// The form of a line, by its first word and its second.
+/// Says which form a line with the first word `first` and the second word `verb` has; if `first` isn't a keyword, the
+/// line counts as an actor's.
 #[tactic(auto, unfolding(crate::specs::Forms::form))]
 pub(crate) fn form(first: &str, verb: &str) -> &'static str
     ensures { result.now ≡ form first.now verb.now }

@@ -1,4 +1,5 @@
-//! `Hint`: what to say about a fault, and its text.
+//! `Hint`: what to say about a fault, and its text. In the functions that append, `line` is the hint, and not the line
+//! with the fault.
 ghost use Rattle.std.specs.Prelude.{◌≡◌, ◌++◌, ◌<◌, OnOk, IfOk, length, take, decimal, option_map};
 ghost use Rattle.hint_core.specs.Hints.{shown, byte_body, letter_tail, body, line_of, plain_hint};
 ghost use Rattle.hint_core.specs.Choices.{about};
@@ -14,26 +15,26 @@ const SHOWN: usize = 32;
 pub enum Hint<'l> {
     /// A text alone.
     Plain(&'static str),
-    /// A word of the line, between two texts.
+    /// A word of the line with the fault, between two texts.
     About {
         before: &'static str,
         word: &'l str,
         after: &'static str,
     },
-    /// A byte of the line, by its place from 1.
+    /// The byte at `place` of the line with the fault, counted from 1, with a text behind it.
     Byte {
         place: usize,
         byte: u8,
         after: &'static str,
     },
-    /// A word whose byte at a place, from 1, can't be in a name.
+    /// A word that isn't a name, because of its byte at `place`, counted from 1.
     Letter {
         word: &'l str,
         place: usize,
     },
 }
 
-/// A hint about a word, where there is one.
+/// A hint about a word, between two texts; `None` if the word is empty.
 pub(crate) fn about<'l>(
     before: &'static str,
     word: &'l str,
@@ -57,7 +58,7 @@ fn put_text<A: Allocator>(line: &mut Vec<u8, A>, text: &str) -> Result<(), Oom>
     line.extend_from_slice(text.as_bytes())
 }
 
-/// The first bytes of a long word.
+/// The first 32 bytes of a word, which must have more.
 fn beginning(word: &str) -> &[u8]
     requires { 32 < length word.now }
     ensures { result.now ≡ take 32 word.now }
@@ -65,7 +66,7 @@ fn beginning(word: &str) -> &[u8]
     &word.as_bytes()[..SHOWN]
 }
 
-/// A word in quotes; only the beginning of a long one.
+/// Appends a word in backquotes. Of a word with more than 32 bytes it appends the first 32 and two dots.
 fn put_word<A: Allocator>(line: &mut Vec<u8, A>, word: &str) -> Result<(), Oom>
     ensures { OnOk result (line.new.items ≡ line.old.items ++ shown word.now) }
 {
@@ -102,7 +103,7 @@ fn put_number<A: Allocator + Copy>(
     put_text(line, &text)
 }
 
-/// A number between two texts.
+/// Appends a number between two texts.
 fn put_numbered<A: Allocator + Copy>(
     alloc: A,
     line: &mut Vec<u8, A>,
@@ -117,6 +118,8 @@ fn put_numbered<A: Allocator + Copy>(
     put_text(line, after)
 }
 
+/// Appends `byte PLACE of the line is BYTE`, with `place` and `byte` as numbers, and the text `after`. `place` is
+/// counted from 1 in the line with the fault.
 fn put_byte<A: Allocator + Copy>(
     alloc: A,
     line: &mut Vec<u8, A>,
@@ -130,6 +133,7 @@ fn put_byte<A: Allocator + Copy>(
     put_numbered(alloc, line, "", byte as usize, after)
 }
 
+/// Appends that `word` isn't a name, because of its byte at `place`, counted from 1.
 fn put_letter<A: Allocator + Copy>(
     alloc: A,
     line: &mut Vec<u8, A>,
@@ -148,6 +152,7 @@ fn put_letter<A: Allocator + Copy>(
     )
 }
 
+/// Appends the text of a hint.
 fn put_body<A: Allocator + Copy>(alloc: A, line: &mut Vec<u8, A>, hint: Hint<'_>) -> Result<(), Oom>
     ensures { OnOk result (line.new.items ≡ line.old.items ++ body (plain_hint hint.entry)) }
 {
@@ -163,7 +168,7 @@ fn put_body<A: Allocator + Copy>(alloc: A, line: &mut Vec<u8, A>, hint: Hint<'_>
     }
 }
 
-/// The line of a hint, with its line feed.
+/// The line of a hint: `hint: `, its text and a line feed.
 #[tactic(auto, unfolding(crate::specs::Hints::line_of))]
 pub(crate) fn line_of<A: Allocator + Copy>(alloc: A, hint: Hint<'_>) -> Result<Vec<u8, A>, Oom>
     ensures { IfOk result (λ line. line.items ≡ line_of (plain_hint hint.entry)) }

@@ -1,9 +1,9 @@
-//! The hint of an input that was refused.
+//! The hint for a script or a session that was refused.
 ghost use Rattle.std.specs.Prelude.{◌≡◌, IfOk, option_map, take, slice_get, ◌-◌};
 ghost use Rattle.grammar_core.specs.Words.{lines_of};
 ghost use Rattle.hint_core.specs.Hints.{plain_hint, line_of};
 ghost use Rattle.hint_core.specs.Choices.{hint_of_line, hint_of_whole, hint_at, hint_of, hint_line, wants_memory};
-ghost use Rattle.hint_core.specs.Sessions.{json_hint};
+ghost use Rattle.hint_core.specs.Sessions.{session_hint};
 
 use crate::Oom;
 use crate::first_bytes::{begins_object, is_blank, is_marked};
@@ -15,7 +15,8 @@ use crate::words_hint::{bad_number, no_nodes, not_allowed, unknown_word, wrong_c
 use grammar_core::{FaultKind, ScriptFault};
 use std::alloc::Allocator;
 
-/// The hint for a line after the first `count` lines.
+/// The hint for the line `line` with the fault `kind`; `None` if there is none. `number` is the number of the line,
+/// which stands behind the first `count` lines of `bytes`.
 #[tactic(auto, unfolding(crate::specs::Choices::hint_of_line))]
 fn hint_of_line<'l>(
     number: u64,
@@ -42,7 +43,7 @@ fn hint_of_line<'l>(
     }
 }
 
-/// The hint for the whole input.
+/// The hint for a fault of the whole input; `None` if there is none.
 #[tactic(auto, unfolding(crate::specs::Choices::hint_of_whole))]
 fn hint_of_whole(bytes: &[u8], kind: FaultKind) -> Option<Hint<'static>>
     ensures { option_map plain_hint result ≡ hint_of_whole bytes.now kind }
@@ -61,16 +62,19 @@ fn hint_of_whole(bytes: &[u8], kind: FaultKind) -> Option<Hint<'static>>
     }
 }
 
-fn line_at(bytes: &[u8], place: usize) -> Option<&[u8]>
+/// The line at `place`, counted from 0; `None` if there are fewer lines.
+pub(crate) fn line_at(bytes: &[u8], place: usize) -> Option<&[u8]>
     ensures { option_map (λ line. line.now) result ≡ slice_get (lines_of bytes.now) place }
 {
     bytes.split(|byte| *byte == b'\n').nth(place)
 }
 
-/// The hint for a line of the input.
+/// The hint for the line with this number, which has the fault `kind`; `None` if there is no such line or no hint for
+/// it.
 fn hint_at(bytes: &[u8], number: u64, kind: FaultKind) -> Option<Hint<'_>>
     ensures { option_map plain_hint result ≡ hint_at bytes.now number (slice_get (lines_of bytes.now) (number - 1)) kind }
 {
+    // form: numbers are from 1; saturating spares a requirement that says so
     let count = number.saturating_sub(1) as usize;
     let line = line_at(bytes, count)?;
     hint_of_line(number, bytes, count, line, kind)
@@ -82,7 +86,7 @@ fn wants_memory(kind: FaultKind) -> bool
     matches!(kind, FaultKind::OutOfMemory)
 }
 
-/// The hint of the first fault of a script.
+/// The hint for the first fault of a script; `None` if there is none.
 #[tactic(auto, unfolding(crate::specs::Choices::hint_of))]
 fn hint_of(bytes: &[u8], fault: ScriptFault) -> Option<Hint<'_>>
     ensures { option_map plain_hint result ≡ hint_of bytes.now fault }
@@ -101,7 +105,7 @@ fn hint_of(bytes: &[u8], fault: ScriptFault) -> Option<Hint<'_>>
     hint_at(bytes, fault.line, fault.kind)
 }
 
-/// The hint of a script that was refused, as a line with its line feed, where there is one.
+/// The hint for a script that was refused with this fault, as a line with its line feed; `None` if there is none.
 pub fn script_hint<A: Allocator + Copy>(
     alloc: A,
     bytes: &[u8],
@@ -115,29 +119,28 @@ pub fn script_hint<A: Allocator + Copy>(
     }
 }
 
-/// The hint of an input that is no JSON.
-#[tactic(auto, unfolding(crate::specs::Sessions::json_hint))]
-fn json_hint(bytes: &[u8]) -> Option<Hint<'static>>
-    ensures { option_map plain_hint result ≡ json_hint bytes.now }
+/// The hint for a session that isn't JSON, by how it begins.
+#[tactic(auto, unfolding(crate::specs::Sessions::session_hint))]
+fn hint_of_session(bytes: &[u8]) -> Hint<'static>
+    ensures { plain_hint result ≡ session_hint bytes.now }
 {
     if is_blank(bytes) {
-        return Some(Hint::Plain("the input is empty; `play --as session` prints a session"));
+        return Hint::Plain("the input is empty; `play --as session` prints a session");
     }
     if is_marked(bytes) {
-        return Some(Hint::Plain("the input begins with a byte order mark; save it without one"));
+        return Hint::Plain("the input begins with a byte order mark; save it without one");
     }
     if begins_object(bytes) {
-        return None;
+        return Hint::Plain(
+            "a session is one object, as `play --as session` prints it; `import` takes events",
+        );
     }
-    Some(Hint::Plain("a session begins with `{`, and this input doesn't; `play` takes scripts"))
+    Hint::Plain("a session begins with `{`, and this input doesn't; `play` takes scripts")
 }
 
-/// The hint of a session that was refused as no JSON, as a line with its line feed, where there is one.
-pub fn session_hint<A: Allocator + Copy>(alloc: A, bytes: &[u8]) -> Result<Option<Vec<u8, A>>, Oom>
-    ensures { IfOk result (λ hint. option_map (λ line. line.items) hint ≡ option_map line_of (json_hint bytes.now)) }
+/// The hint for a session that was refused since it isn't JSON, as a line with its line feed.
+pub fn session_hint<A: Allocator + Copy>(alloc: A, bytes: &[u8]) -> Result<Vec<u8, A>, Oom>
+    ensures { IfOk result (λ hint. hint.items ≡ line_of (session_hint bytes.now)) }
 {
-    match json_hint(bytes) {
-        Some(hint) => Ok(Some(line_of(alloc, hint)?)),
-        None => Ok(None),
-    }
+    line_of(alloc, hint_of_session(bytes))
 }

@@ -1,4 +1,5 @@
-//! The words of the line that was refused, and what the lines before it name.
+//! The words of the refused line, and the names that the lines before it give. The lines before it are the first
+//! `count` lines of `bytes`.
 ghost use Rattle.std.specs.Prelude.{◌≡◌, ◌||◌, [], map, drop, take, option_copied, None, Some, slice_get, if◌then◌else◌};
 ghost use Rattle.std.specs.List.{list_any};
 ghost use Rattle.std.specs.Str.{bytes_eq};
@@ -10,15 +11,15 @@ use arrayvec::ArrayVec;
 /// The most words of a line of a script: those of an extract of 32 names.
 const MOST: usize = 34;
 
-/// Whether each byte is 0x20 to 0x7E.
+/// Whether each byte is from 0x20 to 0x7E.
 fn is_text(line: &[u8]) -> bool
     ensures { result ≡ is_text line.now }
 {
     line.iter().all(|byte| (0x20..=0x7e).contains(byte))
 }
 
-/// The line as text, if it is text.
-fn text_of(line: &[u8]) -> Option<&str>
+/// The line as text; `None` if it isn't text.
+pub(crate) fn text_of(line: &[u8]) -> Option<&str>
     ensures { option_copied result ≡ (if is_text line.now then Some line.now else None) }
 {
     if !is_text(line) {
@@ -30,7 +31,7 @@ fn text_of(line: &[u8]) -> Option<&str>
     }
 }
 
-/// The words of a line of text, at most as many as a line of a script may have.
+/// The words of a line, up to the 34th; none if the line isn't text.
 pub(crate) fn few_words(line: &[u8]) -> ArrayVec<&str, MOST>
     ensures { map (λ word. word.now) result.items ≡ few_words line.now }
 {
@@ -44,7 +45,7 @@ pub(crate) fn few_words(line: &[u8]) -> ArrayVec<&str, MOST>
     words
 }
 
-/// The word at a place, or an empty one.
+/// The word at `place`, counted from 0; empty if there is none.
 pub(crate) fn word_at<'l>(words: &[&'l str], place: usize) -> &'l str
     ensures { result.now ≡ word_at (map (λ word. word.now) words.now) place }
 {
@@ -54,7 +55,7 @@ pub(crate) fn word_at<'l>(words: &[&'l str], place: usize) -> &'l str
     }
 }
 
-/// The words after the first `count`.
+/// The words behind the first `count`; none if there are no more.
 pub(crate) fn behind<'w, 'l>(words: &'w [&'l str], count: usize) -> &'w [&'l str]
     ensures { map (λ word. word.now) result.now ≡ drop count (map (λ word. word.now) words.now) }
 {
@@ -68,6 +69,7 @@ pub(crate) fn behind<'w, 'l>(words: &'w [&'l str], count: usize) -> &'w [&'l str
 fn has_word(words: &[&str], word: &str) -> bool
     ensures { result ≡ list_any (bytes_eq word.now) (map (λ word. word.now) words.now) }
 {
+    // form: the proof goes along the loop
     for other in words {
         if word == *other {
             return true;
@@ -76,7 +78,7 @@ fn has_word(words: &[&str], word: &str) -> bool
     false
 }
 
-/// Whether the line begins with the keyword, and then has the word.
+/// Whether the line begins with `keyword`, and has `word` among the words behind that.
 #[tactic(auto, unfolding(crate::specs::LineWords::names))]
 fn names(line: &[u8], keyword: &str, word: &str) -> bool
     ensures { result ≡ names keyword.now word.now line.now }
@@ -96,7 +98,7 @@ fn begins(line: &[u8], keyword: &str) -> bool
     word_at(words.as_slice(), 0) == keyword
 }
 
-/// Whether one of the first lines begins with the keyword.
+/// Whether one of the first `count` lines begins with the keyword.
 pub(crate) fn is_begun(bytes: &[u8], count: usize, keyword: &str) -> bool
     ensures { result ≡ is_begun keyword.now (take count (lines_of bytes.now)) }
 {
@@ -106,7 +108,7 @@ pub(crate) fn is_begun(bytes: &[u8], count: usize, keyword: &str) -> bool
         .any(|line| begins(line, keyword))
 }
 
-/// Whether one of the first lines begins with the keyword, and then has the word.
+/// Whether one of the first `count` lines begins with `keyword`, and has `word` among the words behind that.
 fn is_named(bytes: &[u8], count: usize, keyword: &str, word: &str) -> bool
     ensures { result ≡ list_any (names keyword.now word.now) (take count (lines_of bytes.now)) }
 {
@@ -116,21 +118,22 @@ fn is_named(bytes: &[u8], count: usize, keyword: &str, word: &str) -> bool
         .any(|line| names(line, keyword, word))
 }
 
-/// Whether one of the first lines names a node by this word.
+/// Whether one of the first `count` lines gives the name `word` to a node.
 pub(crate) fn is_node(bytes: &[u8], count: usize, word: &str) -> bool
     ensures { result ≡ is_node (take count (lines_of bytes.now)) word.now }
 {
     is_named(bytes, count, "nodes", word)
 }
 
-/// Whether one of the first lines names a console by this word.
+/// Whether one of the first `count` lines gives the name `word` to a console.
 pub(crate) fn is_console(bytes: &[u8], count: usize, word: &str) -> bool
     ensures { result ≡ is_console (take count (lines_of bytes.now)) word.now }
 {
     is_named(bytes, count, "consoles", word)
 }
 
-/// The first word that already names a node in the first lines, or that repeats a word before it; else an empty one.
+/// The first of `words` that the first `count` lines give to a node as its name, or that stands earlier among `words`;
+/// empty if there is none.
 #[tactic(auto, unfolding(crate::specs::LineWords::first_again))]
 pub(crate) fn first_again<'l>(bytes: &[u8], count: usize, words: &[&'l str]) -> &'l str
     ensures { result.now ≡ first_again (take count (lines_of bytes.now)) [] (map (λ word. word.now) words.now) }

@@ -1,4 +1,4 @@
-//! The hints about names.
+//! The hints about names. Where there is no word to show there is no hint (`None`).
 ghost use Rattle.std.specs.Prelude.{◌≡◌, option_map, not, map, find, drop, take, [], unwrap_or};
 ghost use Rattle.bench_core.specs.NameText.{is_name_byte};
 ghost use Rattle.grammar_core.specs.Words.{lines_of};
@@ -11,7 +11,7 @@ use crate::line_words::{behind, first_again, is_begun, is_node, word_at};
 use crate::words_hint::is_reserved;
 use bench_core::is_name;
 
-/// Whether the line names nodes or consoles.
+/// Whether a line with this first word names nodes or consoles.
 fn names_actors(first: &str) -> bool
     ensures { result ≡ names_actors first.now }
 {
@@ -24,7 +24,8 @@ fn again<'l>(word: &'l str) -> Option<Hint<'l>>
     about("", word, " was named before; each name stands once")
 }
 
-/// The hint for a second line `nodes` or `consoles`, or for a name that was given before.
+/// The hint for a second line `nodes` or `consoles`, for a name that was given before, or for a name that an extract
+/// has twice. `words` are those of the line, which stands behind the first `count` lines.
 #[tactic(auto, unfolding(crate::specs::Choices::twice))]
 pub(crate) fn twice<'l>(bytes: &[u8], count: usize, words: &[&'l str]) -> Option<Hint<'l>>
     ensures { option_map plain_hint result ≡ twice (take count (lines_of bytes.now)) (map (λ word. word.now) words.now) }
@@ -49,7 +50,7 @@ fn is_name_byte(byte: u8) -> bool
     matches!(byte, b'a'..=b'z' | b'0'..=b'9' | b'_')
 }
 
-/// The hint for the first byte of a word that can't be in a name.
+/// The hint for the first byte of `word` that a name can't have; `None` if there is no such byte.
 fn letter_hint<'l>(word: &'l str) -> Option<Hint<'l>>
     ensures { option_map plain_hint result ≡ letter_from word.now 1 word.now }
 {
@@ -65,7 +66,7 @@ fn letter_hint<'l>(word: &'l str) -> Option<Hint<'l>>
     None
 }
 
-/// Why a word is no name.
+/// Why a word can't be a name; `None` if it can, or is empty.
 #[tactic(auto, unfolding(crate::specs::Choices::no_name_hint))]
 fn no_name_hint<'l>(word: &'l str) -> Option<Hint<'l>>
     ensures { option_map plain_hint result ≡ no_name_hint word.now }
@@ -83,10 +84,11 @@ fn no_name_hint<'l>(word: &'l str) -> Option<Hint<'l>>
     letter_hint(word)
 }
 
-/// The first word that can't be given as a name, or an empty one.
+/// The first of the words that can't be given as a name; empty if each can.
 fn no_name<'l>(words: &[&'l str]) -> &'l str
     ensures { result.now ≡ unwrap_or (find (λ word. not (is_given_name word)) (map (λ word. word.now) words.now)) [] }
 {
+    // form: the proof goes along the loop
     for word in words {
         if !is_name(word) || is_reserved(word) {
             return word;
@@ -95,10 +97,11 @@ fn no_name<'l>(words: &[&'l str]) -> &'l str
     ""
 }
 
-/// The first word that is no node's name, or an empty one.
+/// The first of the words that isn't the name of a node in the first `count` lines; empty if each is.
 fn no_node<'l>(bytes: &[u8], count: usize, words: &[&'l str]) -> &'l str
     ensures { result.now ≡ unwrap_or (find (λ word. not (is_node (take count (lines_of bytes.now)) word)) (map (λ word. word.now) words.now)) [] }
 {
+    // form: the proof goes along the loop
     for word in words {
         if !is_node(bytes, count, word) {
             return word;
@@ -107,14 +110,16 @@ fn no_node<'l>(bytes: &[u8], count: usize, words: &[&'l str]) -> &'l str
     ""
 }
 
-/// The place of a line's first name of a node.
+/// At which place of a line, counted from 0, the words begin that should name nodes: 1 if the line's first word,
+/// `first`, is a reserved one, and else 2, behind an actor's verb.
 fn name_place(first: &str) -> usize
     ensures { result ≡ name_place first.now }
 {
     if is_reserved(first) { 1 } else { 2 }
 }
 
-/// The hint for a name that can't be one, or that no node has.
+/// The hint for a word that should be a name and isn't one, or that isn't the name of a node. `words` are those of the
+/// line, which stands behind the first `count` lines.
 #[tactic(auto, unfolding(crate::specs::Choices::bad_name))]
 pub(crate) fn bad_name<'l>(bytes: &[u8], count: usize, words: &[&'l str]) -> Option<Hint<'l>>
     ensures { option_map plain_hint result ≡ bad_name (take count (lines_of bytes.now)) (map (λ word. word.now) words.now) }

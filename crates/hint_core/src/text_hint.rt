@@ -1,4 +1,4 @@
-//! The hints of lines that are no text, or too long.
+//! The hints for lines that aren't text, or are too long.
 ghost use Rattle.std.specs.Prelude.{◌≡◌, option_map, map, find, drop, [], nat_lt, length, unwrap_or};
 ghost use Rattle.hint_core.specs.Hints.{plain_hint};
 ghost use Rattle.hint_core.specs.Choices.{is_text_byte, byte_text, byte_from, not_text, too_long};
@@ -7,7 +7,7 @@ use crate::first_bytes::is_marked;
 use crate::hint::{Hint, about};
 use crate::line_words::behind;
 
-/// What a byte is that can't be in a text, and what to do.
+/// For a byte that a text can't have: words that say what it is, and what to do about it.
 #[tactic(auto, unfolding(crate::specs::Choices::byte_text))]
 fn byte_text(byte: u8) -> &'static str
     ensures { result.now ≡ byte_text byte }
@@ -26,7 +26,7 @@ fn is_text_byte(byte: u8) -> bool
     (0x20..=0x7e).contains(&byte)
 }
 
-/// The hint for the first byte that can't be in a text.
+/// The hint for the first byte of `line` that a text can't have; `None` if there is no such byte.
 fn byte_hint(line: &[u8]) -> Option<Hint<'static>>
     ensures { option_map plain_hint result ≡ byte_from 1 line.now }
 {
@@ -42,7 +42,7 @@ fn byte_hint(line: &[u8]) -> Option<Hint<'static>>
     None
 }
 
-/// The hint for a line that is no text.
+/// The hint for `line`, the line with this number, if it isn't text; `None` if it is text.
 #[tactic(auto, unfolding(crate::specs::Choices::not_text))]
 pub(crate) fn not_text(number: u64, line: &[u8]) -> Option<Hint<'static>>
     ensures { option_map plain_hint result ≡ not_text number line.now }
@@ -53,10 +53,11 @@ pub(crate) fn not_text(number: u64, line: &[u8]) -> Option<Hint<'static>>
     byte_hint(line)
 }
 
-/// The first word that is too long, or an empty one.
+/// The first of the words that has more than 200 bytes; empty if none has.
 fn long_word<'l>(words: &[&'l str]) -> &'l str
     ensures { result.now ≡ unwrap_or (find (λ word. nat_lt 200 (length word)) (map (λ word. word.now) words.now)) [] }
 {
+    // form: the proof goes along the loop
     for word in words {
         if word.len() > 200 {
             return word;
@@ -65,7 +66,7 @@ fn long_word<'l>(words: &[&'l str]) -> &'l str
     ""
 }
 
-/// The hint for a line that is too long, or has a word that is too long.
+/// The hint for a line that is too long, or has a topic, key or metadata that is too long; else `None`.
 #[tactic(auto, unfolding(crate::specs::Choices::too_long))]
 pub(crate) fn too_long<'l>(line: &[u8], words: &[&'l str]) -> Option<Hint<'l>>
     ensures { option_map plain_hint result ≡ too_long line.now (map (λ word. word.now) words.now) }

@@ -1,4 +1,5 @@
-//! The hints about the words of a line: their kind and their count.
+//! The hints about the words of a line: what they should be, and how many. Where there is no word to show there is no
+//! hint (`None`).
 ghost use Rattle.std.specs.Prelude.{◌≡◌, option_map, map, take, is_some};
 ghost use Rattle.grammar_core.specs.Words.{lines_of};
 ghost use Rattle.hint_core.specs.Hints.{plain_hint};
@@ -8,7 +9,7 @@ use crate::forms::form;
 use crate::hint::{Hint, about};
 use crate::line_words::{is_begun, is_console, is_node, word_at};
 
-/// Whether the word is one of the six that can't be names.
+/// Whether the word is one of the six reserved ones, which can't be names.
 #[tactic(auto, unfolding(grammar_core::specs::Grammar::keyword_of))]
 pub(crate) fn is_reserved(word: &str) -> bool
     ensures { result ≡ is_reserved word.now }
@@ -19,7 +20,7 @@ pub(crate) fn is_reserved(word: &str) -> bool
     )
 }
 
-/// The hint for a first line that isn't `nodes`.
+/// The hint for a first significant line that doesn't begin with `nodes`.
 #[tactic(auto, unfolding(crate::specs::Choices::no_nodes))]
 pub(crate) fn no_nodes<'l>(words: &[&'l str]) -> Option<Hint<'l>>
     ensures { option_map plain_hint result ≡ no_nodes (map (λ word. word.now) words.now) }
@@ -38,7 +39,8 @@ fn is_console_verb(verb: &str) -> bool
     verb == "undo" || verb == "back" || verb == "unwind"
 }
 
-/// The hint for a line whose first word names nobody, or whose second word is no verb.
+/// The hint for a line whose first word names nobody, or whose second word isn't a verb. `words` are those of the line,
+/// which stands behind the first `count` lines.
 #[tactic(auto, unfolding(crate::specs::Choices::unknown_word))]
 pub(crate) fn unknown_word<'l>(bytes: &[u8], count: usize, words: &[&'l str]) -> Option<Hint<'l>>
     ensures { option_map plain_hint result ≡ unknown_word (take count (lines_of bytes.now)) (map (λ word. word.now) words.now) }
@@ -66,7 +68,7 @@ pub(crate) fn unknown_word<'l>(bytes: &[u8], count: usize, words: &[&'l str]) ->
     )
 }
 
-/// The hint for a line with too few words, or too many.
+/// The hint for a line with too few words, or too many: the form of the line.
 #[tactic(auto, unfolding(crate::specs::Choices::wrong_count))]
 pub(crate) fn wrong_count(words: &[&str]) -> Option<Hint<'static>>
     ensures { option_map plain_hint result ≡ wrong_count (map (λ word. word.now) words.now) }
@@ -74,7 +76,7 @@ pub(crate) fn wrong_count(words: &[&str]) -> Option<Hint<'static>>
     Some(Hint::Plain(form(word_at(words, 0), word_at(words, 1))))
 }
 
-/// The hint for a line that is no act where only acts are taken, and for a console's line whose verb is for nodes.
+/// The hint for a line that isn't an act where only acts are allowed, or for a console's line whose verb is for nodes.
 #[tactic(auto, unfolding(crate::specs::Choices::not_allowed))]
 pub(crate) fn not_allowed<'l>(words: &[&'l str]) -> Option<Hint<'l>>
     ensures { option_map plain_hint result ≡ not_allowed (map (λ word. word.now) words.now) }
@@ -94,7 +96,7 @@ pub(crate) fn not_allowed<'l>(words: &[&'l str]) -> Option<Hint<'l>>
     )
 }
 
-/// The place of a line's number.
+/// The place, counted from 0, at which a line has its number, by the line's first two words.
 fn number_place(first: &str, verb: &str) -> usize
     ensures { result ≡ number_place first.now verb.now }
 {

@@ -1,8 +1,9 @@
 //! A line of a log as an event of a node.
 //!
-//! It stands on the kit's `serde_json` alone, and takes no memory besides the value of the line: an event shows parts of that.
-//! In the order to read them: `line_fault`, why a line has no value; `value`, the value of a line; `event`, what an event says;
-//! `members`, what stands under a key; `reading`, from a value to an event.
+//! The crate stands on the kit's `serde_json` and on `thiserror` alone. It takes no memory besides the value of the
+//! line: an event borrows parts of that value. The modules in reading order: `line_fault`, why a line has no value;
+//! `value`, the value of a line; `event`, what an event says; `members`, what stands under a key; `reading`, from a
+//! value to an event.
 #![tactic(auto)]
 
 mod event;
@@ -13,5 +14,6 @@ mod value;
 
 pub use event::{LogEvent, LogLine, Row, Tracked};
 pub use line_fault::LineFault;
+pub use members::text_in;
 pub use reading::{line_at, row_at};
 pub use value::value_of_line;

@@ -4,10 +4,10 @@ use thiserror::Error;
 /// Why a line has no value.
 #[derive(Clone, Copy, Debug, PartialEq, Eq, Error)]
 pub enum LineFault {
-    /// It has more than 1,048,576 bytes.
+    /// The line has more than 1,048,576 bytes.
     #[error("TooLong")]
     TooLong,
-    /// It is no JSON, or nests too deep.
+    /// The line isn't JSON, or nests too deep.
     #[error("NotJson")]
     NotJson,
     #[error("OutOfMemory")]

@@ -17,14 +17,14 @@ fn is_space(byte: u8) -> bool
     matches!(byte, b' ' | b'\t' | b'\r')
 }
 
-/// Whether the line has white space alone, a carriage return among it.
+/// Whether the line has nothing but white space: spaces, tabs and carriage returns.
 fn is_blank(line: &[u8]) -> bool
     ensures { result ≡ is_blank line.now }
 {
     line.iter().all(|byte| is_space(*byte))
 }
 
-/// The value of a text, if it is JSON.
+/// The JSON value of a line that isn't blank.
 fn value_of(heap: Global, line: &[u8]) -> Result<Value, LineFault>
     requires short { length line.now ≤ 1048576 }
     requires told { is_blank line.now ≡ false }
@@ -41,7 +41,7 @@ fn value_of(heap: Global, line: &[u8]) -> Result<Value, LineFault>
     }
 }
 
-/// The value of a line; `None` for one that has white space alone.
+/// The JSON value of a line; `None` if the line has nothing but white space.
 pub fn value_of_line(heap: Global, line: &[u8]) -> Result<Option<Value>, LineFault>
     ensures ok { IfOk result (λ v. IsValueOf line.now (option_map view v)) }
     ensures err { IfErr result (HasNoValue line.now) }

@@ -1,10 +1,8 @@
 -- Which node a call will change, by the machine before the call.
-use Rattle.std.specs.Prelude.{ℕ, ◌==◌, ◌&&◌, Bool, Option, Some, None}
+use Rattle.std.specs.Prelude.{ℕ, Option, Some, None}
 use Rattle.bench_core.specs.Acts.{Action, Do, Undo, Back}
 use Rattle.bench_core.specs.Machine.{Machine}
-use Rattle.journal_core.specs.Journals.{Kept}
 use Rattle.node_core.specs.Nodes.{Node}
-use Rattle.node_core.specs.Operations.{sends}
 use Rattle.report_core.specs.Shown.{node_of, node_of_step}
 use Rattle.report_core.specs.StepDiffs.{asked_undo}
 
@@ -21,7 +19,3 @@ asked_node m actor (Back node) = node_undone m (asked_undo m (Back node))
 abbrev pub node_if : Machine → Option ℕ → Option Node
 node_if m None = None
 node_if m (Some number) = node_of m number
-
--- whether a step is a sending step of the node
-abbrev pub is_sent : Kept → ℕ → Bool
-is_sent k node = (k.node == node) && sends k.step

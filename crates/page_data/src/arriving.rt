@@ -1,4 +1,7 @@
-//! What a delivery of a message changes at a node, and what it misses.
+//! What the delivery of a message changes at a node: `NAME,CLOCK,STANDING` of each dot that stands otherwise after it.
+//! And what the node misses: `NAME,CLOCK,MORE` of each name that the message has dots of and the node doesn't know.
+//! NAME is the number of a name; STANDING is 0 unseen, 1 live, 2 gone. In the second form CLOCK is the name's context
+//! clock in the message, and MORE is how many clocks the name's cloud has there.
 ghost use Rattle.std.specs.Prelude.{◌≡◌, ◌++◌, ◌<◌, ◌≤◌, IfOk, OnOk, option_map};
 ghost use Rattle.std.specs.List.{flat_map};
 ghost use Rattle.store_core.specs.Stores.{store_of};
@@ -14,7 +17,8 @@ use payload_core::{Oom, Payload};
 use replica_core::Replica;
 use std::alloc::Allocator;
 
-/// `NAME,CLOCK,STANDING` for a dot, if it stands higher in the message than at the node.
+/// Appends `NAME,CLOCK,STANDING` of the dot as numbers, if its standing in the message (`coming`) is greater than that
+/// at the node (`here`).
 fn put_hop_by<A: Allocator>(
     numbers: &mut Vec<u64, A>,
     dot: Dot,
@@ -31,7 +35,7 @@ fn put_hop_by<A: Allocator>(
     Ok(())
 }
 
-/// As `put_hop_by`, for a dot by the replica and the message.
+/// Like `put_hop_by`, but looks up how the dot stands at the replica and in the message.
 fn put_hop<A: Allocator, R: Allocator>(
     numbers: &mut Vec<u64, A>,
     replica: &Replica<R>,
@@ -45,7 +49,7 @@ fn put_hop<A: Allocator, R: Allocator>(
     put_hop_by(numbers, dot, here, coming)
 }
 
-/// As `put_hop`, for each of these clocks of the name.
+/// Like `put_hop`, but for each dot of `name` with one of these clocks.
 fn put_each_hop<A: Allocator, R: Allocator>(
     numbers: &mut Vec<u64, A>,
     replica: &Replica<R>,
@@ -66,7 +70,7 @@ fn put_each_hop<A: Allocator, R: Allocator>(
     Ok(())
 }
 
-/// As `put_hop`, for each dot that the message has of the name.
+/// Like `put_hop`, but for each dot of `name` that the message has.
 #[tactic(auto, unfolding(crate::specs::Carried::hops_of))]
 fn put_hops_of<A: Allocator + Copy, R: Allocator>(
     numbers: &mut Vec<u64, A>,
@@ -82,14 +86,14 @@ fn put_hops_of<A: Allocator + Copy, R: Allocator>(
     put_each_hop(numbers, replica, message, name, &clocks)
 }
 
-/// Whether the name is another one that the replica knows.
+/// Whether the replica knows the name, and it isn't the replica's own.
 fn is_other_known<R: Allocator>(replica: &Replica<R>, name: u16) -> bool
     ensures { result ≡ is_other_known replica.now name }
 {
     replica.status(name).is_some() && name != replica.own()
 }
 
-/// As `put_hops_of`, if the name is another one that the replica knows.
+/// Like `put_hops_of`, but appends nothing if the replica doesn't know the name, or it is the replica's own.
 fn put_hops_if<A: Allocator + Copy, R: Allocator>(
     numbers: &mut Vec<u64, A>,
     replica: &Replica<R>,
@@ -107,8 +111,8 @@ fn put_hops_if<A: Allocator + Copy, R: Allocator>(
     Ok(())
 }
 
-/// `NAME,CLOCK,STANDING` for each dot of the first `count` names that stands higher in the message, if the replica
-/// knows its name as another one.
+/// `NAME,CLOCK,STANDING` of each dot of the first `count` names whose standing in the message is greater than that at
+/// the replica, as a list of numbers. The replica's own name and unknown names are left out.
 fn hops_to<A: Allocator + Copy, R: Allocator>(
     replica: &Replica<R>,
     message: &Payload<R>,
@@ -125,8 +129,8 @@ fn hops_to<A: Allocator + Copy, R: Allocator>(
     Ok(numbers)
 }
 
-/// What a delivery of a message changes at a node, if both are there: how the message's dots stand at the node from
-/// then on.
+/// What the delivery of a message changes at a node: `NAME,CLOCK,STANDING` of each dot that comes to stand otherwise,
+/// among those of the first `count` names, as a list of numbers. Empty without a node or a message.
 pub fn hops_at<'a, A: Allocator + Copy, B: Allocator>(
     node: Option<&Node<'a, B>>,
     message: Option<&Payload<&'a B>>,
@@ -143,7 +147,8 @@ pub fn hops_at<'a, A: Allocator + Copy, B: Allocator>(
     }
 }
 
-/// `NAME,CLOCK,MORE`, if the name isn't known and there are dots of it.
+/// Appends `NAME,CLOCK,MORE` as numbers, unless the name is known, or `clock` and `more` are both 0, which says that
+/// the name has no dots.
 fn put_missed_if<A: Allocator>(
     numbers: &mut Vec<u64, A>,
     is_known: bool,
@@ -162,7 +167,7 @@ fn put_missed_if<A: Allocator>(
     Ok(())
 }
 
-/// As `put_missed_if`, for a name by the replica and the message.
+/// Like `put_missed_if`, but looks up the name at the replica and its dots in the message.
 fn put_missed<A: Allocator, R: Allocator>(
     numbers: &mut Vec<u64, A>,
     replica: &Replica<R>,
@@ -184,7 +189,8 @@ fn put_missed<A: Allocator, R: Allocator>(
     )
 }
 
-/// `NAME,CLOCK,MORE` for each of the first `count` names that the replica doesn't know and the message has dots of.
+/// `NAME,CLOCK,MORE` of each of the first `count` names that the replica doesn't know and the message has dots of, as a
+/// list of numbers.
 fn missed_by<A: Allocator, R: Allocator>(
     replica: &Replica<R>,
     message: &Payload<R>,
@@ -201,8 +207,8 @@ fn missed_by<A: Allocator, R: Allocator>(
     Ok(numbers)
 }
 
-/// What a node misses in a delivery of a message, if both are there: for each name that it doesn't know, how many dots
-/// the message has.
+/// What a node misses of a delivered message, as a list of numbers: `NAME,CLOCK,MORE` of each name that the message has
+/// dots of and the node doesn't know, among the first `count`. Empty without a node or a message.
 pub fn missed_at<'a, A: Allocator, B: Allocator>(
     node: Option<&Node<'a, B>>,
     message: Option<&Payload<&'a B>>,

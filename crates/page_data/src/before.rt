@@ -1,4 +1,4 @@
-//! `Before`: what is kept of a bench before a call, to tell what the call changes.
+//! `Before`: what must be known of a bench before a call, to tell afterwards what the call changed.
 ghost use Rattle.std.specs.Prelude.{◌≡◌, ◌<◌, IfOk, length, option_map, string_bytes};
 ghost use Rattle.bench_core.specs.Acts.{plain_act};
 ghost use Rattle.report_core.specs.StepDiffs.{TellsUndo};
@@ -14,20 +14,23 @@ use payload_core::Oom;
 use report_core::{asked_undo, node, node_of_step, undo_diff};
 use std::alloc::Allocator;
 
-/// What is kept of a bench before a call.
+/// What must be known of a bench before a call.
 #[derive(Drop)]
 pub struct Before<'a, B: Allocator> {
-    /// What the step that the call asks for reads, as its keys.
+    /// What the call's step reads, as keys of the call's JSON object; empty if the call is an undo or a back, or its
+    /// actor isn't a node.
     pub reads: String<&'a B>,
-    /// The node that the call is to change.
+    /// The node that the call asks to change: of a step the actor, even an actor that isn't a node. `None` if the call
+    /// is an undo or a back, and there is no step to take back.
     pub node: Option<u16>,
-    /// How the step that the call is to take back changed the list of that node.
+    /// How the step that the call asks to take back had changed the online list of its node. No rows if the call is a
+    /// step, or if it will be refused.
     pub undone: Diff<&'a B>,
-    /// What that node has seen of each name.
+    /// What `node` had seen of each name; empty if there is no such node.
     pub seen: Vec<Seen, &'a B>,
 }
 
-/// The node of a step, if there is one and it remains.
+/// The node of the step with this number; `None` if there is no number, or the step doesn't remain.
 fn node_undone<'a, B: Allocator>(bench: &Bench<'a, B>, number: Option<u64>) -> Option<u16>
     ensures { result ≡ node_undone bench.now number }
 {
@@ -37,11 +40,13 @@ fn node_undone<'a, B: Allocator>(bench: &Bench<'a, B>, number: Option<u64>) -> O
     }
 }
 
-/// The node that a call is to change.
+/// The node that a call asks to change: the actor, if the act is a step, and else the node of the step to be taken
+/// back. `None` if there is no step to take back.
 #[tactic(auto, unfolding(crate::specs::Asked::asked_node))]
 fn asked_node<'a, B: Allocator>(bench: &Bench<'a, B>, actor: u16, act: &Act<&'a B>) -> Option<u16>
     ensures { result ≡ asked_node bench.now actor (plain_act act.now) }
 {
+    // form: each arm is a case of the proof
     match act {
         Act::Do(_) => Some(actor),
         Act::Undo(_) => node_undone(bench, asked_undo(bench, act)),
@@ -49,7 +54,7 @@ fn asked_node<'a, B: Allocator>(bench: &Bench<'a, B>, actor: u16, act: &Act<&'a 
     }
 }
 
-/// The node of this number, if there is one.
+/// The node with this number; `None` if there is no number, or no such node.
 fn node_if<'x, 'a, B: Allocator>(
     bench: &'x Bench<'a, B>,
     number: Option<u16>,
@@ -62,7 +67,8 @@ fn node_if<'x, 'a, B: Allocator>(
     }
 }
 
-/// What the step that a call asks for reads.
+/// What the call's step reads, as keys of the call's JSON object; empty if the call is an undo or a back, or the actor
+/// isn't a node.
 fn reads<'a, B: Allocator>(
     bench: &Bench<'a, B>,
     actor: u16,
@@ -82,7 +88,7 @@ fn reads<'a, B: Allocator>(
 }
 
 impl<'a, B: Allocator> Before<'a, B> {
-    /// What is kept of a bench before this call.
+    /// What must be known of the bench before this call.
     pub fn of(
         bench: &Bench<'a, B>,
         actor: u16,

@@ -1,4 +1,4 @@
-//! A call asked again of a bench, and what the page tells of it.
+//! Makes a recorded call again on a bench, and writes what the page tells of it.
 ghost use Rattle.std.specs.Prelude.{◌≡◌, ◌++◌, ◌<◌, ◌≤◌, None, OnOk, length, option_map, string_bytes};
 ghost use Rattle.bench_core.specs.Acts.{plain_act};
 ghost use Rattle.journal_core.specs.Journals.{first_consequence};
@@ -22,7 +22,8 @@ use report_core::{answer, node, step_diff};
 use std::alloc::Allocator;
 use transcript_core::put_call;
 
-/// The rows that left and joined the online list of a node, and what it has seen since.
+/// Appends the dots of the rows that left and joined the online list of a node, and what changed in what the node has
+/// seen. `before` is what the node had seen before the call.
 #[tactic(auto, unfolding(crate::specs::PageData::changed_text))]
 fn put_changed<'a, B: Allocator>(
     text: &mut String<&'a B>,
@@ -42,7 +43,7 @@ fn put_changed<'a, B: Allocator>(
     put_numbers_key(text, "dots", &changes)
 }
 
-/// What the step that an act asked for sent and made.
+/// Like `put_gives`, but for the step of `act`; appends nothing if `act` is an undo or a back.
 fn put_act_gives<'a, B: Allocator>(
     text: &mut String<&'a B>,
     bench: &Bench<'a, B>,
@@ -61,7 +62,7 @@ fn put_act_gives<'a, B: Allocator>(
     }
 }
 
-/// The head of a step of the node that was taken, with what the step read.
+/// Appends the number of a step that was taken, its node, and what the step read, as keys.
 #[tactic(auto, unfolding(crate::specs::PageData::taken_head))]
 fn put_taken_head<A: Allocator>(
     text: &mut String<A>,
@@ -76,7 +77,8 @@ fn put_taken_head<A: Allocator>(
     Ok(text.push_str(reads)?)
 }
 
-/// A step of the node that was taken, and what it changed, on the bench after it.
+/// Appends what the page tells of a step that was taken. `bench` is the bench after the step; `diff` says how the step
+/// changed the online list of its node.
 #[tactic(auto, unfolding(crate::specs::PageData::taken_text))]
 fn put_taken<'a, B: Allocator>(
     text: &mut String<&'a B>,
@@ -106,7 +108,7 @@ fn put_taken<'a, B: Allocator>(
     )
 }
 
-/// The last step that was taken, and what it changed.
+/// Like `put_taken`, but finds out how the step changed the online list. The step must have no consequence.
 fn put_step<'a, B: Allocator>(
     text: &mut String<&'a B>,
     bench: &Bench<'a, B>,
@@ -118,15 +120,17 @@ fn put_step<'a, B: Allocator>(
 ) -> Result<(), Oom>
     requires actor { actor < length bench.now.names }
     requires free { first_consequence bench.now.state.remaining number ≡ None }
-    ensures { OnOk result (Tells bench.now actor (plain_act act.now) number (string_bytes before.now.reads) before.now.seen.items (string_bytes text.old) (string_bytes text.new)) }
+    ensures { OnOk result (Tells bench.now actor (plain_act act.now) number (string_bytes before.now.reads) before.now.seen.items
+        (string_bytes text.old) (string_bytes text.new)) }
 {
     let diff = step_diff(bench, number, alloc)?;
     let put = put_taken(text, bench, actor, act, number, before, &diff, alloc);
+    // form: drop before exit
     drop(diff);
     put
 }
 
-/// What a step that was taken back changed at its node.
+/// Appends the node of the step that was taken back, and what the undo changed there; nothing if `before` has no node.
 fn put_undone_at<'a, B: Allocator>(
     text: &mut String<&'a B>,
     bench: &Bench<'a, B>,
@@ -153,7 +157,7 @@ fn put_undone_at<'a, B: Allocator>(
     )
 }
 
-/// A step that was taken back, and what that changed, on the bench after it.
+/// Appends what the page tells of a step that was taken back. `bench` is the bench after the undo.
 #[tactic(auto, unfolding(crate::specs::PageData::undone_text))]
 fn put_undone<'a, B: Allocator>(
     text: &mut String<&'a B>,
@@ -169,7 +173,8 @@ fn put_undone<'a, B: Allocator>(
     put_undone_at(text, bench, before, alloc)
 }
 
-/// The step whose undo is refused, and what holds it.
+/// Appends, for `HasConsequence`, the step whose undo was refused and the step by which it is held; nothing for another
+/// fault.
 fn put_held<A: Allocator>(text: &mut String<A>, fault: Fault) -> Result<(), Oom>
     ensures { OnOk result (string_bytes text.new ≡ string_bytes text.old ++ held_keys fault) }
 {
@@ -179,7 +184,7 @@ fn put_held<A: Allocator>(text: &mut String<A>, fault: Fault) -> Result<(), Oom>
     }
 }
 
-/// Why a call is refused.
+/// Appends the fault for which a call was refused, and what `put_held` appends for it.
 #[tactic(auto, unfolding(crate::specs::PageData::refused_keys, crate::specs::Json::text_key, crate::specs::Json::string_text))]
 fn put_refused<'a, B: Allocator>(
     text: &mut String<&'a B>,
@@ -194,7 +199,8 @@ fn put_refused<'a, B: Allocator>(
     put_held(text, fault)
 }
 
-/// Asks the act, and tells what it changed, compared with what was kept before it.
+/// Makes an act on the bench, and appends the reply and what the act changed. `before` was made of the bench just
+/// before the act.
 fn put_outcome<'a, B: Allocator>(
     text: &mut String<&'a B>,
     bench: &mut Bench<'a, B>,
@@ -212,6 +218,7 @@ fn put_outcome<'a, B: Allocator>(
     ensures text { OnOk result (string_bytes text.new ≡ string_bytes text.old ++
         outcome_keys bench.old (after_act bench.old actor (plain_act act.now)) actor (plain_act act.now) (reply_of bench.old actor (plain_act act.now))) }
 {
+    // form: hands out what the bench keeps
     bench.bench_law();
     let reply = answer(bench, actor, act)?;
     match reply {
@@ -221,7 +228,7 @@ fn put_outcome<'a, B: Allocator>(
     }
 }
 
-/// Who asks, and the call as a line of a script.
+/// Appends the beginning of a call's JSON object: who asks, and the call as a line of a script.
 #[tactic(auto, unfolding(crate::specs::PageData::asked_text))]
 fn put_asked<'a, B: Allocator>(
     text: &mut String<&'a B>,
@@ -240,7 +247,7 @@ fn put_asked<'a, B: Allocator>(
     put_text_key(text, "line", line.as_str())
 }
 
-/// Asks an act, and tells of it.
+/// Makes an act on the bench, and appends the JSON object that tells of it.
 #[tactic(auto, unfolding(crate::specs::PageData::call_text))]
 fn put_act<'a, B: Allocator>(
     text: &mut String<&'a B>,
@@ -251,17 +258,20 @@ fn put_act<'a, B: Allocator>(
     alloc: &'a B,
 ) -> Result<(), Oom>
     ensures bench { OnOk result (bench.new ≡ after_act bench.old actor (plain_act act.now)) }
-    ensures text { OnOk result (string_bytes text.new ≡ string_bytes text.old ++ call_text (cast_of bench.old consoles.now) bench.old actor (plain_act act.now)) }
+    ensures text { OnOk result (string_bytes text.new ≡ string_bytes text.old ++ call_text (cast_of bench.old consoles.now) bench.old actor
+        (plain_act act.now)) }
 {
     put_asked(text, bench.names(), consoles, actor, act, alloc)?;
     let before = Before::of(bench, actor, act, alloc)?;
     let put = put_outcome(text, bench, actor, act, &before, alloc);
+    // form: drop before exit
     drop(before);
     put?;
     Ok(text.push_str("}")?)
 }
 
-/// Asks the recorded call at this place again, and tells of it.
+/// Makes the recorded call at `place`, counted from 0, on the bench, and appends its JSON object, after a comma unless
+/// it is the first.
 pub fn put_event<'a, B: Allocator>(
     text: &mut String<&'a B>,
     bench: &mut Bench<'a, B>,

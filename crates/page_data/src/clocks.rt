@@ -1,4 +1,4 @@
-//! The dots of a name, and how they stand.
+//! The dots of a name, and how a dot stands.
 ghost use Rattle.std.specs.Prelude.{◌≡◌, ◌++◌, ◌<◌, IfOk, OnOk};
 ghost use Rattle.dots_core.specs.Absorbed.{numbers};
 ghost use Rattle.store_core.specs.Stores.{standing, store_of};
@@ -11,7 +11,7 @@ use replica_core::Replica;
 use report_core::{clock_of, cloud_of};
 use std::alloc::Allocator;
 
-/// How a dot stands among these dots and entries: 0 where it was not seen, 1 where it has an entry, 2 where its entry went.
+/// How a dot stands among the dots `seen` and their entries: 0 unseen, 1 live, 2 gone.
 fn standing<A: Allocator>(seen: &DotSet<A>, entries: &EntrySet<A>, dot: Dot) -> u64
     ensures { result ≡ standing (record { seen = seen.now; entries = entries.now.map }) dot }
 {
@@ -21,31 +21,32 @@ fn standing<A: Allocator>(seen: &DotSet<A>, entries: &EntrySet<A>, dot: Dot) -> 
     }
 }
 
-/// How a dot stands at a replica.
+/// How a dot stands at a replica: 0 unseen, 1 live, 2 gone.
 pub fn standing_at<A: Allocator>(replica: &Replica<A>, dot: Dot) -> u64
     ensures { result ≡ standing replica.now.store dot }
 {
     standing(replica.seen(), replica.entries(), dot)
 }
 
-/// How a dot stands in a message.
+/// How a dot stands in a message: 0 unseen, 1 live, 2 gone.
 pub fn standing_told<A: Allocator>(message: &Payload<A>, dot: Dot) -> u64
     ensures { result ≡ standing (store_of message.now) dot }
 {
     standing(message.seen(), message.entries(), dot)
 }
 
-/// The clocks from 1 to this one.
+/// Appends the clocks from 1 to `last`.
 fn put_clocks<A: Allocator>(clocks: &mut Vec<u64, A>, last: u64) -> Result<(), Oom>
     ensures { OnOk result (clocks.new.items ≡ clocks.old.items ++ numbers 1 last) }
 {
+    // form: counted from 0, for the proof
     for before in 0..last {
         clocks.push(before + 1)?;
     }
     Ok(())
 }
 
-/// The clocks of a name's dots: those up to its context clock, and its cloud.
+/// The clocks of a name's dots: those from 1 to its context clock, and its cloud.
 #[tactic(auto, unfolding(crate::specs::Carried::clocks_of))]
 pub fn clocks_of<A: Allocator, R: Allocator>(
     seen: &DotSet<R>,
@@ -55,6 +56,7 @@ pub fn clocks_of<A: Allocator, R: Allocator>(
     requires { name < 32 }
     ensures { IfOk result (λ clocks. clocks.items ≡ clocks_of seen.now name) }
 {
+    // form: hands out what the set keeps
     seen.valid_law();
     let mut clocks = Vec::new(alloc);
     put_clocks(&mut clocks, clock_of(seen, name))?;
@@ -68,6 +70,7 @@ pub fn more_of<R: Allocator>(seen: &DotSet<R>, name: u16) -> u64
     requires { name < 32 }
     ensures { result ≡ more_of seen.now name }
 {
+    // form: hands out what the set keeps
     seen.valid_law();
     cloud_of(seen, name).len() as u64
 }
@@ -77,6 +80,7 @@ pub fn last_of<R: Allocator>(seen: &DotSet<R>, name: u16) -> u64
     requires { name < 32 }
     ensures { result ≡ clock_of seen.now name }
 {
+    // form: hands out what the set keeps
     seen.valid_law();
     clock_of(seen, name)
 }

@@ -1,4 +1,4 @@
-//! The data of a page.
+//! Writes the data of a page.
 ghost use Rattle.std.specs.Prelude.{◌≡◌, ◌++◌, IfOk, OnOk, string_bytes};
 ghost use Rattle.transcript_core.specs.Scripts.{cast_of};
 ghost use Rattle.page_data.specs.PageData.{calls_text, consoles_text, data_with, nodes_text, page_data, run_text, texts_text};
@@ -11,7 +11,7 @@ use report_core::name_at;
 use std::alloc::Allocator;
 use transcript_core::console_at;
 
-/// The names of the nodes, separated by commas.
+/// Appends the names of the nodes as strings, separated by commas.
 fn put_names<A: Allocator, N: Allocator>(text: &mut String<A>, names: &Names<N>) -> Result<(), Oom>
     ensures { OnOk result (string_bytes text.new ≡ string_bytes text.old ++ texts_text 0 names.now) }
 {
@@ -22,7 +22,7 @@ fn put_names<A: Allocator, N: Allocator>(text: &mut String<A>, names: &Names<N>)
     Ok(())
 }
 
-/// The texts as strings, separated by commas.
+/// Appends the texts as strings, separated by commas.
 pub fn put_texts<A: Allocator, C: Allocator>(
     text: &mut String<A>,
     texts: &TextSet<C>,
@@ -36,7 +36,7 @@ pub fn put_texts<A: Allocator, C: Allocator>(
     Ok(())
 }
 
-/// Asks the calls again, and tells of each.
+/// Makes the recorded calls in turn on the bench, and appends what the page tells of each.
 fn put_events<'a, B: Allocator>(
     text: &mut String<&'a B>,
     bench: &mut Bench<'a, B>,
@@ -54,7 +54,7 @@ fn put_events<'a, B: Allocator>(
     Ok(())
 }
 
-/// The names of the nodes, after the version.
+/// Appends the beginning of the data: the version and the names of the nodes.
 #[tactic(auto, unfolding(crate::specs::PageData::nodes_text))]
 fn put_nodes<A: Allocator, N: Allocator>(text: &mut String<A>, names: &Names<N>) -> Result<(), Oom>
     ensures { OnOk result (string_bytes text.new ≡ string_bytes text.old ++ nodes_text names.now) }
@@ -64,7 +64,7 @@ fn put_nodes<A: Allocator, N: Allocator>(text: &mut String<A>, names: &Names<N>)
     Ok(text.push_str("]")?)
 }
 
-/// The names of the consoles, before the calls.
+/// Appends the names of the consoles and the beginning of the calls.
 #[tactic(auto, unfolding(crate::specs::PageData::consoles_text))]
 fn put_cast<A: Allocator, C: Allocator>(
     text: &mut String<A>,
@@ -92,13 +92,14 @@ fn run_text<'a, B: Allocator>(
     let names = bench.names().try_copy()?;
     let mut again = Bench::new(alloc, names, bench.limits())?;
     let put = put_events(&mut text, &mut again, consoles, bench.history(), alloc);
+    // form: drop before exit
     drop(again);
     put?;
     Ok(text)
 }
 
-/// The data of the page of a bench: its recorded calls as JSON, asked again of a bench of the same names, with these
-/// names of the consoles. No `<` stands in it.
+/// The data of the page of a bench: its recorded calls as JSON, made again on a new bench with the same names and
+/// limits. `consoles` has the names of the consoles. No `<` stands in the data.
 #[tactic(auto, unfolding(crate::specs::PageData::page_data))]
 pub fn page_data<'a, B: Allocator>(
     alloc: &'a B,
@@ -112,7 +113,8 @@ pub fn page_data<'a, B: Allocator>(
     Ok(text)
 }
 
-/// As `page_data`, with further keys after the calls, each with a comma before it.
+/// Like `page_data`, but with further `keys` after the calls, each with a comma before it. No `<` stands in the data if
+/// none stands in `keys`.
 #[tactic(auto, unfolding(crate::specs::PageData::data_with))]
 pub fn page_data_with<'a, B: Allocator>(
     alloc: &'a B,

@@ -1,4 +1,4 @@
-//! JSON text in which no `<` stands.
+//! Writes JSON in which no `<` stands.
 ghost use Rattle.std.specs.Prelude.{◌≡◌, ◌++◌, ◌∷◌, ◌<◌, [], OnOk, string_bytes};
 ghost use Rattle.page_data.specs.Json.{comma_at, escaped_byte, hex_digit, more_numbers, number_key, number_key_if, numbers_key, numbers_text, string_char, string_chars, string_text, text_key};
 
@@ -12,11 +12,12 @@ fn hex_digit(value: u32) -> char
     if value < 10 {
         (b'0' + value as u8) as char
     } else {
+        // `W` is ten places before `a`
         (b'W' + value as u8) as char
     }
 }
 
-/// One of the digits of a byte.
+/// Appends `value` as a hexadecimal digit.
 fn put_digit<A: Allocator>(text: &mut String<A>, value: u32) -> Result<(), Oom>
     requires { value < 16 }
     ensures { OnOk result (string_bytes text.new ≡ string_bytes text.old ++ hex_digit value ∷ []) }
@@ -24,7 +25,7 @@ fn put_digit<A: Allocator>(text: &mut String<A>, value: u32) -> Result<(), Oom>
     Ok(text.push(hex_digit(value))?)
 }
 
-/// A byte by its number, as in `\u003c`.
+/// Appends the escape of a byte by its number, such as `\u003c`.
 #[tactic(auto, unfolding(crate::specs::Json::escaped_byte))]
 fn put_escaped<A: Allocator>(text: &mut String<A>, byte: u32) -> Result<(), Oom>
     ensures { OnOk result (string_bytes text.new ≡ string_bytes text.old ++ escaped_byte byte) }
@@ -34,7 +35,7 @@ fn put_escaped<A: Allocator>(text: &mut String<A>, byte: u32) -> Result<(), Oom>
     put_digit(text, byte % 16)
 }
 
-/// A character of a string.
+/// Appends a character of a string. A quotation mark, a backslash, a `<` and each character below 0x20 get an escape.
 #[tactic(auto, unfolding(crate::specs::Json::string_char))]
 fn put_char<A: Allocator>(text: &mut String<A>, c: char) -> Result<(), Oom>
     ensures { OnOk result (string_bytes text.new ≡ string_bytes text.old ++ string_char c) }
@@ -51,7 +52,7 @@ fn put_char<A: Allocator>(text: &mut String<A>, c: char) -> Result<(), Oom>
     Ok(text.push(c)?)
 }
 
-/// What stands between the quotation marks of a string.
+/// Appends what stands between the quotation marks of a string.
 #[tactic(auto, unfolding(crate::specs::Json::string_chars))]
 fn put_chars<A: Allocator>(text: &mut String<A>, string: &str) -> Result<(), Oom>
     ensures { OnOk result (string_bytes text.new ≡ string_bytes text.old ++ string_chars string.now) }
@@ -62,7 +63,7 @@ fn put_chars<A: Allocator>(text: &mut String<A>, string: &str) -> Result<(), Oom
     Ok(())
 }
 
-/// A string.
+/// Appends a string with its quotation marks.
 #[tactic(auto, unfolding(crate::specs::Json::string_text))]
 pub fn put_string<A: Allocator>(text: &mut String<A>, string: &str) -> Result<(), Oom>
     ensures { OnOk result (string_bytes text.new ≡ string_bytes text.old ++ string_text string.now) }
@@ -72,7 +73,7 @@ pub fn put_string<A: Allocator>(text: &mut String<A>, string: &str) -> Result<()
     Ok(text.push_str("\"")?)
 }
 
-/// A comma, except before the first.
+/// Appends a comma, except at place 0.
 pub fn put_comma<A: Allocator>(text: &mut String<A>, place: usize) -> Result<(), Oom>
     ensures { OnOk result (string_bytes text.new ≡ string_bytes text.old ++ comma_at place) }
 {
@@ -82,7 +83,7 @@ pub fn put_comma<A: Allocator>(text: &mut String<A>, place: usize) -> Result<(),
     Ok(text.push_str(",")?)
 }
 
-/// Each number after a comma.
+/// Appends each number after a comma.
 #[tactic(auto, unfolding(crate::specs::Json::more_numbers))]
 fn put_more<A: Allocator>(text: &mut String<A>, numbers: &[u64]) -> Result<(), Oom>
     ensures { OnOk result (string_bytes text.new ≡ string_bytes text.old ++ more_numbers numbers.now) }
@@ -93,7 +94,7 @@ fn put_more<A: Allocator>(text: &mut String<A>, numbers: &[u64]) -> Result<(), O
     Ok(())
 }
 
-/// The numbers, separated by commas.
+/// Appends the numbers, separated by commas.
 #[tactic(auto, unfolding(crate::specs::Json::numbers_text))]
 fn put_numbers<A: Allocator>(text: &mut String<A>, numbers: &[u64]) -> Result<(), Oom>
     ensures { OnOk result (string_bytes text.new ≡ string_bytes text.old ++ numbers_text numbers.now) }
@@ -105,7 +106,7 @@ fn put_numbers<A: Allocator>(text: &mut String<A>, numbers: &[u64]) -> Result<()
     put_more(text, rest)
 }
 
-/// `,"KEY":NUMBER`.
+/// Appends `,"KEY":NUMBER`.
 #[tactic(auto, unfolding(crate::specs::Json::number_key))]
 pub fn put_number_key<A: Allocator>(text: &mut String<A>, key: &str, number: u64) -> Result<(), Oom>
     ensures { OnOk result (string_bytes text.new ≡ string_bytes text.old ++ number_key key.now number) }
@@ -113,7 +114,7 @@ pub fn put_number_key<A: Allocator>(text: &mut String<A>, key: &str, number: u64
     Ok(write!(text, ",\"{key}\":{number}")?)
 }
 
-/// `,"KEY":NUMBER`, if there is a number.
+/// Appends `,"KEY":NUMBER`, if there is a number.
 pub fn put_number_if<A: Allocator>(
     text: &mut String<A>,
     key: &str,
@@ -127,7 +128,7 @@ pub fn put_number_if<A: Allocator>(
     }
 }
 
-/// `,"KEY":[NUMBER,..]`, if there are any numbers.
+/// Appends `,"KEY":[NUMBER,..]`, if there are any numbers.
 #[tactic(auto, unfolding(crate::specs::Json::numbers_key))]
 pub fn put_numbers_key<A: Allocator>(
     text: &mut String<A>,
@@ -144,7 +145,7 @@ pub fn put_numbers_key<A: Allocator>(
     Ok(text.push_str("]")?)
 }
 
-/// `,"KEY":"TEXT"`.
+/// Appends `,"KEY":"TEXT"`.
 #[tactic(auto, unfolding(crate::specs::Json::text_key))]
 pub fn put_text_key<A: Allocator>(text: &mut String<A>, key: &str, string: &str) -> Result<(), Oom>
     ensures { OnOk result (string_bytes text.new ≡ string_bytes text.old ++ text_key key.now string.now) }

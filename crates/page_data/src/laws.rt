@@ -3,7 +3,7 @@
 //! A crate above uses a law by calling its function.
 ghost use Rattle.page_data.specs.Laws.{ChangeLaw, DotsLaw, HopsLaw, PastLaw, PlainLaw, PlainWithLaw, RowsLaw};
 
-/// No `<` stands in the data of a page, so nothing in it ends the element that it stands in.
+/// No `<` stands in the data of a page, so nothing in the data ends the HTML element around it.
 pub fn plain_law()
     ensures { PlainLaw }
 {}
@@ -13,30 +13,31 @@ pub fn plain_with_law()
     ensures { PlainWithLaw }
 {}
 
-/// The text of a call ends with the rows that it took from the online list of its node and gave to it, and with what
-/// the node has seen since. The next two laws are about these.
+/// If a call changed a node, the call's text ends with the rows that left and joined the node's online list, and with
+/// the changes of what the node has seen. `rows_law` and `dots_law` are about these.
 pub fn change_law()
     ensures { ChangeLaw }
 {}
 
-/// Applied in order, the rows that calls took from a node's online list and gave to it lead to its list after these
-/// calls.
+/// The rows that left and joined a node's online list at some calls lead from its list before these calls to its list
+/// after them.
 pub fn rows_law()
     ensures { RowsLaw }
 {}
 
-/// Applied in order, what calls tell of what a node has seen leads to what it has seen after these calls.
+/// Applied in order to what a node had seen before some calls, the `dots` of these calls lead to what it has seen after
+/// them.
 pub fn dots_law()
     ensures { DotsLaw }
 {}
 
 /// Among the steps that remain, `prev` and `from` lead from a later step back to an earlier one exactly if the later
-/// follows from it. (Danos and Krivine: causal undo.)
+/// step follows from the earlier. (Danos and Krivine: causal undo.)
 pub fn past_law()
     ensures { PastLaw }
 {}
 
-/// Applied to how a dot stood before, the hops of a delivery give how it stands after it.
+/// Applied to how a dot stood before a delivery, the hops of the delivery give how the dot stands after it.
 pub fn hops_law()
     ensures { HopsLaw }
 {}

@@ -1,13 +1,16 @@
-//! The data of a page to look at a run: its calls as JSON.
+//! The data of a page that shows a run: its calls as JSON.
 //!
-//! For each recorded call it tells what was asked and answered, which steps it follows from, which rows left and joined the
-//! online list of its node, what that node has seen, and what a message carried. It stands on `report_core` (what a call
-//! changed of online lists) and `transcript_core` (a call as a line of a script).
+//! For each recorded call it tells what was asked and answered, and which steps the call follows from. It tells which
+//! rows left and joined the online list of the call's node, what that node has seen, and what a message carried.
 //!
-//! In the order to read them: `json`, strings and lists of numbers; `seen`, what a node has seen of each name; `clocks`, the
-//! dots of a name; `arriving`, what a delivery changes; `sent`, what a message carries; `rows`; `sender`, the step that sent a
-//! message; `steps`, what a step reads, sends and makes; `before`, what is kept of a bench before a call; `calls`; `data`;
-//! `laws`, which says that no `<` stands in it.
+//! It stands on `report_core` (what a call changed of online lists), `transcript_core` (a call as a line of a script)
+//! and `bench_core` (the machine), and names the plain types of the crates below.
+//!
+//! The modules in reading order: `json`, strings and lists of numbers; `seen`, what a node has seen of each name;
+//! `clocks`, the dots of a name, and how a dot stands; `arriving`, what a delivery changes, and what its node misses;
+//! `sent`, what a message carries; `rows`, rows by their dots; `steps`, what a step reads, sends and makes; `before`,
+//! what must be known of a bench before a call; `calls`, what the page tells of a call; `data`, the whole data; `laws`,
+//! among them that no `<` stands in the data.
 #![tactic(auto)]
 
 mod arriving;
@@ -19,7 +22,6 @@ mod json;
 pub mod laws;
 mod rows;
 mod seen;
-mod sender;
 mod sent;
 mod steps;
 

@@ -1,4 +1,4 @@
-//! Rows of online lists by their dots.
+//! Tells rows of online lists by their dots.
 ghost use Rattle.std.specs.Prelude.{◌≡◌, ◌++◌, IfOk, OnOk, string_bytes};
 ghost use Rattle.node_core.specs.Operations.{plain};
 ghost use Rattle.page_data.specs.PageData.{is_own, own_keys, row_dots, row_hops, rows_keys};
@@ -9,7 +9,7 @@ use diff_core::OnlineRow;
 use payload_core::Oom;
 use std::alloc::Allocator;
 
-/// `NAME,CLOCK` for each row.
+/// `NAME,CLOCK` of each row, as a list of numbers.
 #[tactic(auto, unfolding(crate::specs::PageData::row_dots))]
 fn row_dots<A: Allocator, R: Allocator>(rows: &[OnlineRow<R>], alloc: A) -> Result<Vec<u64, A>, Oom>
     ensures { IfOk result (λ numbers. numbers.items ≡ row_dots rows.now) }
@@ -22,7 +22,7 @@ fn row_dots<A: Allocator, R: Allocator>(rows: &[OnlineRow<R>], alloc: A) -> Resu
     Ok(numbers)
 }
 
-/// `NAME,CLOCK,STANDING` for each row.
+/// Appends `NAME,CLOCK,STANDING` of each row as numbers, with the same `standing` for all.
 #[tactic(auto, unfolding(crate::specs::PageData::row_hops))]
 fn put_hops<A: Allocator, R: Allocator>(
     numbers: &mut Vec<u64, A>,
@@ -39,7 +39,8 @@ fn put_hops<A: Allocator, R: Allocator>(
     Ok(())
 }
 
-/// The rows that left an online list, and those that joined it.
+/// Appends the keys `minus`, with the dots of the rows that left an online list, and `plus`, with those of the rows
+/// that joined it. A key without dots is left out.
 #[tactic(auto, unfolding(crate::specs::PageData::rows_keys))]
 pub fn put_rows_keys<A: Allocator, M: Allocator + Copy, R: Allocator>(
     text: &mut String<A>,
@@ -65,8 +66,8 @@ fn is_own<W: Allocator>(step: &Step<W>) -> bool
     )
 }
 
-/// Appends the hops of a step that changes the node's own presences: the rows that left as gone, and those that joined
-/// as live. Appends nothing for other steps.
+/// Appends the key `hops` of a step that changes the node's own presences: the dots of the rows that left (2, gone),
+/// and of those that joined (1, live). Appends nothing for other steps, or if no row left or joined.
 #[tactic(auto, unfolding(crate::specs::PageData::own_keys))]
 pub fn put_own_keys<A: Allocator, M: Allocator + Copy, R: Allocator, W: Allocator>(
     text: &mut String<A>,

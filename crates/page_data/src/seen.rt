@@ -1,4 +1,5 @@
-//! `Seen`: what a node has seen of a name, as numbers; and what changed in it.
+//! `Seen`: what a node has seen of a name, as numbers. How that changed is told as `NAME,STATUS,CLOCK,MORE`: the number
+//! of the name, and the fields of the `Seen` after the change.
 ghost use Rattle.std.specs.Prelude.{◌≡◌, ◌++◌, ◌<◌, ◌≤◌, IfOk, OnOk, option_map};
 ghost use Rattle.page_data.specs.Seen.{all_seen, change_of, changes_in, changes_of, is_same, seen_at, seen_in, seen_of, status_number};
 
@@ -11,11 +12,11 @@ use std::alloc::Allocator;
 /// What a node has seen of a name.
 #[derive(Clone, Copy, Debug, PartialEq, Eq)]
 pub struct Seen {
-    /// 0 where the name isn't known, 1 where it is up, 2 where it is down.
+    /// 0 if the name isn't known, 1 if it is up, 2 if it is down.
     pub status: u64,
-    /// Its context clock.
+    /// The context clock of the name.
     pub clock: u64,
-    /// How many clocks its cloud has.
+    /// How many clocks the cloud of the name has.
     pub more: u64,
 }
 
@@ -23,6 +24,7 @@ impl Seen {
     fn is_same(self, other: Seen) -> bool
         ensures { result ≡ is_same self other }
     {
+        // form: `==`, spelled out for the contract
         self.status == other.status && self.clock == other.clock && self.more == other.more
     }
 }
@@ -44,6 +46,7 @@ fn seen_of<R: Allocator>(replica: &Replica<R>, name: u16) -> Seen
     ensures { result ≡ seen_of replica.now name }
 {
     let seen = replica.seen();
+    // form: hands out what the set keeps
     seen.valid_law();
     let status = status_number(replica.status(name));
     let clock = clock_of(seen, name);
@@ -71,7 +74,7 @@ fn all_seen<A: Allocator, R: Allocator>(
     Ok(seen)
 }
 
-/// What a node has seen of each of the first `count` names.
+/// What a node has seen of each of the first `count` names; empty without a node.
 pub fn seen_in<'a, A: Allocator, B: Allocator>(
     node: Option<&Node<'a, B>>,
     count: u16,
@@ -86,7 +89,7 @@ pub fn seen_in<'a, A: Allocator, B: Allocator>(
     }
 }
 
-/// What was seen of a name.
+/// What was seen of a name: what `before` has at its place, or else that the name is unknown and without dots.
 fn seen_at(before: &[Seen], name: u16) -> Seen
     ensures { result ≡ seen_at before.now name }
 {
@@ -97,7 +100,7 @@ fn seen_at(before: &[Seen], name: u16) -> Seen
     })
 }
 
-/// `NAME,STATUS,CLOCK,MORE`, if it differs from before.
+/// Appends `NAME,STATUS,CLOCK,MORE` of `now` as numbers, if `now` differs from `before`.
 fn put_change<A: Allocator>(
     numbers: &mut Vec<u64, A>,
     name: u16,
@@ -116,7 +119,8 @@ fn put_change<A: Allocator>(
     Ok(())
 }
 
-/// `NAME,STATUS,CLOCK,MORE` for each of the first `count` names for which it changed.
+/// `NAME,STATUS,CLOCK,MORE` of each of the first `count` names of which the replica has seen anything else than
+/// `before` says, as a list of numbers.
 fn changes_of<A: Allocator, R: Allocator>(
     replica: &Replica<R>,
     before: &[Seen],
@@ -134,7 +138,8 @@ fn changes_of<A: Allocator, R: Allocator>(
     Ok(numbers)
 }
 
-/// What changed in what a node has seen, for each of the first `count` names.
+/// `NAME,STATUS,CLOCK,MORE` of each of the first `count` names of which a node has seen anything else than `before`
+/// says, as a list of numbers; empty without a node.
 pub fn changes_in<'a, A: Allocator, B: Allocator>(
     node: Option<&Node<'a, B>>,
     before: &[Seen],

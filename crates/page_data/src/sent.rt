@@ -9,14 +9,14 @@ use dots_core::Dot;
 use payload_core::{Oom, Payload};
 use std::alloc::Allocator;
 
-/// Whether the name's dot of this clock stands as `wanted` in the message.
+/// Whether the dot of `name` with this clock stands as `wanted` in the message.
 fn stands_so<R: Allocator>(message: &Payload<R>, name: u16, wanted: u64, clock: u64) -> bool
     ensures { result ≡ stands_so (store_of message.now) name wanted clock }
 {
     standing_told(message, Dot { name, clock }) == wanted
 }
 
-/// The clock, if it is wanted.
+/// Appends the clock, if it is wanted.
 fn put_clock_if<A: Allocator>(
     numbers: &mut Vec<u64, A>,
     clock: u64,
@@ -30,7 +30,7 @@ fn put_clock_if<A: Allocator>(
     Ok(())
 }
 
-/// The clocks among these whose dots stand as `wanted`.
+/// Appends those of `clocks` whose dots of `name` stand as `wanted` in the message.
 fn put_standing<A: Allocator, R: Allocator>(
     numbers: &mut Vec<u64, A>,
     message: &Payload<R>,
@@ -46,7 +46,7 @@ fn put_standing<A: Allocator, R: Allocator>(
     Ok(())
 }
 
-/// The clocks of the name's dots in a message that stand as `wanted`: 1 with their entries, 2 without.
+/// The clocks of the dots of `name` that stand as `wanted` in the message: 1 with their entries, 2 without.
 #[tactic(auto, unfolding(crate::specs::Carried::clocks_standing))]
 pub fn clocks_standing<A: Allocator + Copy, R: Allocator>(
     message: &Payload<R>,
@@ -63,7 +63,7 @@ pub fn clocks_standing<A: Allocator + Copy, R: Allocator>(
     Ok(numbers)
 }
 
-/// The name, if there are any dots of it.
+/// Appends the name as a number, unless `clock` and `more` are both 0, which says that the name has no dots.
 fn put_name_if<A: Allocator>(
     numbers: &mut Vec<u64, A>,
     name: u16,
@@ -79,7 +79,7 @@ fn put_name_if<A: Allocator>(
     Ok(())
 }
 
-/// The name, if the message has dots of it.
+/// Appends the name as a number, if the message has dots of it.
 fn put_name_of<A: Allocator, R: Allocator>(
     numbers: &mut Vec<u64, A>,
     message: &Payload<R>,
@@ -93,7 +93,7 @@ fn put_name_of<A: Allocator, R: Allocator>(
     put_name_if(numbers, name, last_of(seen, name), more_of(seen, name))
 }
 
-/// The names below `count` of the dots that the message has.
+/// The names below `count` of which the message has dots.
 pub fn names_in<A: Allocator, R: Allocator>(
     message: &Payload<R>,
     count: u16,

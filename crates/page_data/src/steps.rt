@@ -1,4 +1,4 @@
-//! What a step reads before it is taken, and what it sends and makes.
+//! Writes what a step reads before it is taken, and what it sends and makes.
 ghost use Rattle.std.specs.Prelude.{◌≡◌, ◌++◌, ◌<◌, ◌≤◌, OnOk, Some, length, option_map, string_bytes};
 ghost use Rattle.bench_core.specs.Laws.{presence_made};
 ghost use Rattle.node_core.specs.Operations.{Broadcast, plain};
@@ -8,15 +8,15 @@ ghost use Rattle.page_data.specs.PageData.{arrival_keys, carried_keys, delivery_
 use crate::arriving::{hops_at, missed_at};
 use crate::json::{put_number_if, put_number_key, put_numbers_key, put_string};
 use crate::rows::put_own_keys;
-use crate::sender::source_of;
 use crate::sent::{clocks_standing, names_in};
 use bench_core::{Bench, Node, Step};
 use diff_core::Diff;
 use payload_core::{Oom, Payload, Word};
 use report_core::node;
 use std::alloc::Allocator;
+use transcript_core::source_of;
 
-/// The message of this number that a node sent.
+/// The message with this number that a node sent; `None` if there is no node or no such message.
 fn message_in<'x, 'a, B: Allocator>(
     node: Option<&'x Node<'a, B>>,
     number: u64,
@@ -29,7 +29,7 @@ fn message_in<'x, 'a, B: Allocator>(
     }
 }
 
-/// What a delivery of a message changes, and what it misses.
+/// Appends what the delivery of a message changes at a node, and what the node misses.
 #[tactic(auto, unfolding(crate::specs::PageData::delivery_keys))]
 fn put_delivery<'a, B: Allocator>(
     text: &mut String<&'a B>,
@@ -48,7 +48,7 @@ fn put_delivery<'a, B: Allocator>(
     put_numbers_key(text, "hops", &hops)
 }
 
-/// What the step changes and misses, if it is a delivery.
+/// Appends, if the step is a delivery, what it changes at its node and what the node misses.
 fn put_arrival<'a, B: Allocator>(
     text: &mut String<&'a B>,
     bench: &Bench<'a, B>,
@@ -68,8 +68,9 @@ fn put_arrival<'a, B: Allocator>(
     }
 }
 
-/// For a step of the node, before it is taken: the step before it, the one that sent what it delivers, and what the
-/// delivery changes.
+/// Appends what a step reads before it is taken: as `prev` the number of its node's last remaining step, if there is
+/// one, and as `from`, if it delivers a message, the number of the step that sent this. For a delivery it also appends
+/// what the delivery changes and what the node misses.
 #[tactic(auto, unfolding(crate::specs::PageData::reads_keys))]
 pub fn put_reads<'a, B: Allocator>(
     text: &mut String<&'a B>,
@@ -88,7 +89,7 @@ pub fn put_reads<'a, B: Allocator>(
     put_arrival(text, bench, actor, step, alloc)
 }
 
-/// For a broadcast: the clocks of the dots that it carries, with their entries and without.
+/// Appends, of a broadcast, the clocks of the dots of `name` in its message: `live` with their entries, `gone` without.
 fn put_broadcast<'a, B: Allocator>(
     text: &mut String<&'a B>,
     message: &Payload<&'a B>,
@@ -104,7 +105,8 @@ fn put_broadcast<'a, B: Allocator>(
     put_numbers_key(text, "gone", &gone)
 }
 
-/// What the message that a step sent carries.
+/// Appends what `message`, which `step` sent, carries: for a broadcast the clocks of the message's dots, and else the
+/// names of these dots.
 fn put_carried<'a, B: Allocator>(
     text: &mut String<&'a B>,
     step: &Step<&'a B>,
@@ -126,7 +128,7 @@ fn put_carried<'a, B: Allocator>(
     }
 }
 
-/// The number of the last message of a node, and what it carries.
+/// Appends the number of the last message of a node, and what the message carries.
 fn put_outbox<'a, B: Allocator>(
     text: &mut String<&'a B>,
     step: &Step<&'a B>,
@@ -148,7 +150,8 @@ fn put_outbox<'a, B: Allocator>(
     }
 }
 
-/// What the step sent, if it sends, on the bench after it.
+/// Appends the message that the step sent, by its number and what it carries; nothing if the step doesn't send. `bench`
+/// is the bench after the step.
 fn put_sent<'a, B: Allocator>(
     text: &mut String<&'a B>,
     bench: &Bench<'a, B>,
@@ -169,7 +172,7 @@ fn put_sent<'a, B: Allocator>(
     }
 }
 
-/// `,"made":[CLOCK,"PID"`.
+/// Appends `,"made":[CLOCK,"PID"`.
 #[tactic(auto, unfolding(crate::specs::PageData::made_head))]
 fn put_made_head<A: Allocator>(text: &mut String<A>, clock: u64, pid: u64) -> Result<(), Oom>
     ensures { OnOk result (string_bytes text.new ≡ string_bytes text.old ++ made_head clock pid) }
@@ -177,7 +180,7 @@ fn put_made_head<A: Allocator>(text: &mut String<A>, clock: u64, pid: u64) -> Re
     Ok(write!(text, ",\"made\":[{clock},\"{pid}\"")?)
 }
 
-/// `,"WORD"`.
+/// Appends `,"WORD"`.
 #[tactic(auto, unfolding(crate::specs::PageData::word_text))]
 pub fn put_word<A: Allocator, W: Allocator>(text: &mut String<A>, word: &Word<W>) -> Result<(), Oom>
     ensures { OnOk result (string_bytes text.new ≡ string_bytes text.old ++ word_text word.now) }
@@ -186,7 +189,7 @@ pub fn put_word<A: Allocator, W: Allocator>(text: &mut String<A>, word: &Word<W>
     put_string(text, word.as_str())
 }
 
-/// `,"made":[CLOCK,"PID","TOPIC","KEY","META"]`.
+/// Appends `,"made":[CLOCK,"PID","TOPIC","KEY","META"]`.
 #[tactic(auto, unfolding(crate::specs::PageData::made_text))]
 fn put_made_text<A: Allocator, W: Allocator>(
     text: &mut String<A>,
@@ -206,7 +209,7 @@ fn put_made_text<A: Allocator, W: Allocator>(
     Ok(text.push_str("]")?)
 }
 
-/// The presence that a step made, if it made one, on the bench after it.
+/// Appends the presence that a step made, if it made one. `bench` is the bench after the step.
 fn put_made<'a, B: Allocator>(
     text: &mut String<&'a B>,
     bench: &Bench<'a, B>,
@@ -238,8 +241,8 @@ fn put_made<'a, B: Allocator>(
     }
 }
 
-/// For a step of the node, after it was taken: what it sent and made, and how the node's own presences stand from then
-/// on.
+/// Appends what a step gave, after it was taken: what it sent and made, and how the node's own presences stand from
+/// then on. `bench` is the bench after the step; `diff` says how the step changed the node's online list.
 #[tactic(auto, unfolding(crate::specs::PageData::gives_keys))]
 pub fn put_gives<'a, B: Allocator>(
     text: &mut String<&'a B>,

@@ -1,6 +1,5 @@
 pub mod Plans
 pub mod Standings
-pub mod Senders
 pub mod Shapes
 pub mod Words
 pub mod Online

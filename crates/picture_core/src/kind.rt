@@ -4,13 +4,18 @@ ghost use Rattle.picture_core.specs.Shapes.{class_of, kind_of};
 
 use crate::standing::Standing;
 
-/// How a call looks: a step by its standing, a call that takes a step back, or a refused one.
+/// How a call looks.
 #[derive(Clone, Copy, Debug, PartialEq, Eq)]
 pub enum Kind {
+    /// A step that remains.
     Step,
+    /// A step that remains and is painted, as a part of the future that is asked about.
     Future,
+    /// A step that was taken back.
     Undone,
+    /// A call that took a step back.
     Back,
+    /// A call that was refused.
     Refused,
 }
 
@@ -26,7 +31,7 @@ impl Kind {
         }
     }
 
-    /// The class of its shapes.
+    /// The class of SVG that shapes of this kind have.
     pub fn class(self) -> &'static str
         ensures { result.now ≡ class_of self }
     {

@@ -1,4 +1,4 @@
-//! What is drawn of all recorded calls.
+//! Draws all recorded calls.
 ghost use Rattle.std.specs.Prelude.{◌≡◌, ◌≤◌, ◌++◌, List, IfOk, OnOk, length, option_copied, string_bytes};
 ghost use Rattle.diff_core.specs.Diffs.{alone};
 ghost use Rattle.diff_core.specs.Rows.{Row};
@@ -21,8 +21,9 @@ use payload_core::Oom;
 use report_core::{Acted, ask};
 use std::alloc::Allocator;
 
-/// What lies over the lanes: the messages; the rows, with the most bytes that the words of one have; and where nodes
-/// begin or end to list what is asked about.
+/// What is drawn of the recorded calls: the messages and the rows, which lie over the lanes; how many bytes the longest
+/// words of a row have; and the changes of the lanes. At such a change a node begins or stops listing what is asked
+/// about.
 #[derive(Drop)]
 pub struct Layers<'a, B: Allocator> {
     pub messages: String<&'a B>,
@@ -31,16 +32,18 @@ pub struct Layers<'a, B: Allocator> {
     pub turns: Vec<Turn, &'a B>,
 }
 
-/// The greater of the longest so far and `bytes`, which counts at most as a line of a script may have.
+/// The greater of `longest` and `bytes`. More than 4096 bytes, the most that a line of a script has, count as 4096.
 #[tactic(auto, unfolding(crate::specs::Rows::with_length))]
 pub fn with_length(longest: u32, bytes: usize) -> u32
     ensures { result ≡ with_length longest bytes }
 {
+    // form: `min` and `max`, spelled out for the proof
     let bytes = if bytes > 4_096 { 4_096 } else { bytes as u32 };
     if longest < bytes { bytes } else { longest }
 }
 
-/// The row of a call that changed this node.
+/// Appends a call's row to the rows of `layers`, and notes there how long its words are. `changed` is the node that the
+/// call changed.
 #[tactic(auto, unfolding(crate::specs::Rows::row_told))]
 fn put_drawn<'a, N: Allocator, B: Allocator>(
     names: &Names<N>,
@@ -81,7 +84,9 @@ fn put_drawn<'a, N: Allocator, B: Allocator>(
     Ok(())
 }
 
-/// Draws a call and notes its changes, on the bench after it. It changed this node, and came to this.
+/// Notes in `layers` if the node `changed` begins or stops listing what `of` asks about, and draws the call if its row
+/// is in the range. `asked` is the bench after the call, `changed` the node that the call changed, and `acted` what the
+/// call came to.
 #[tactic(auto, unfolding(crate::specs::Rows::row_if, crate::specs::Rows::with_words))]
 fn put_told<'a, B: Allocator>(
     asked: &Bench<'a, B>,
@@ -133,7 +138,8 @@ fn put_told<'a, B: Allocator>(
     )
 }
 
-/// Asks a recorded call again of another bench, draws it and notes its changes.
+/// Makes a recorded call on the bench `asked`, and draws in `layers` what `range` shows of it. Notes there, too, if the
+/// node that the call changed begins or stops listing what `of` asks about.
 fn put_event<'a, B: Allocator>(
     asked: &mut Bench<'a, B>,
     layers: &mut Layers<'a, B>,
@@ -170,11 +176,12 @@ fn put_event<'a, B: Allocator>(
     let told = put_told(
         asked, layers, consoles, steps, range, of, changed, row, event, &acted, alloc,
     );
+    // form: drop before exit
     drop(acted);
     told
 }
 
-/// Asks recorded calls again of another bench, and draws them.
+/// Does for each call of `history`, in turn, what `put_event` does; the row of a call is its place, counted from 0.
 fn put_events<'a, B: Allocator>(
     asked: &mut Bench<'a, B>,
     history: &History<'a, B>,
@@ -210,7 +217,8 @@ fn put_events<'a, B: Allocator>(
     Ok(())
 }
 
-/// What lies over the lanes of a bench.
+/// What is drawn of the calls that a bench recorded: the rows in `range`, the messages that it shows, and every change
+/// of the lanes. To draw the calls it makes them again on a new bench.
 #[tactic(auto, unfolding(crate::specs::Pictures::messages, crate::specs::Pictures::rows, crate::specs::Pictures::longest, crate::specs::Pictures::turns))]
 pub fn layers_of<'a, B: Allocator>(
     bench: &Bench<'a, B>,
@@ -225,6 +233,7 @@ pub fn layers_of<'a, B: Allocator>(
     ensures longest { IfOk result (λ layers. layers.longest ≡ longest bench.now range consoles.now) }
     ensures turns { IfOk result (λ layers. layers.turns.items ≡ turns bench.now (option_copied of.entry)) }
 {
+    // form: hands out what the bench keeps
     bench.bench_law();
     let names = bench.names().try_copy()?;
     let mut asked = Bench::new(alloc, names, bench.limits())?;
@@ -244,6 +253,7 @@ pub fn layers_of<'a, B: Allocator>(
         of,
         alloc,
     );
+    // form: drop before exit
     drop(asked);
     drawn?;
     Ok(layers)

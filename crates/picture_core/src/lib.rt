@@ -1,9 +1,12 @@
-//! A bench as a picture, in SVG: time goes down.
+//! Draws a bench as a picture, in SVG, in which time goes down.
 //!
-//! Stands on `report_core` (what calls changed), `transcript_core` (calls as lines) and `svg_core` (elements). In the order to
-//! read them: `plan`, where things stand; `standing`, how a step stands, and `kind`, how a call looks; `shapes`, a lane, a message,
-//! a mark, words; `sender`, where a message comes from; `range`, which rows are drawn; `words`, of a row; `online`, where lanes are
-//! thick; `rows`, what is drawn of each recorded call, and `layers` of all; `picture`, the whole; `view`, what is asked for.
+//! It stands on `bench_core` (the machine), `diff_core` (online lists), `report_core` (what calls changed),
+//! `transcript_core` (calls as lines) and `svg_core` (elements), and names the plain types of the crates below.
+//!
+//! The modules in reading order: `plan`, where things stand; `standing`, whether a step remains, and `kind`, how a call
+//! looks; `shapes`, a lane, a message, a mark, words; `range`, which rows are drawn; `words`, the words of a row;
+//! `online`, where lanes are thick; `rows`, what is drawn of one recorded call, and `layers`, what is drawn of all;
+//! `picture`, the whole picture; `view`, what is asked for; `draw_fault`, why nothing is drawn.
 #![tactic(auto)]
 
 mod draw_fault;
@@ -14,7 +17,6 @@ mod picture;
 mod plan;
 mod range;
 mod rows;
-mod sender;
 mod shapes;
 mod standing;
 mod view;

@@ -1,4 +1,5 @@
-//! Where nodes list a topic and key, from row to row.
+//! At which rows of the picture a node begins and stops listing a topic and key. Between them the lane of the node is
+//! thick.
 ghost use Rattle.std.specs.Prelude.{◌≡◌, ◌++◌, ◌&&◌, not, List, IfOk, OnOk, option_copied, string_bytes};
 ghost use Rattle.std.specs.List.{list_any};
 ghost use Rattle.diff_core.specs.Diffs.{alone};
@@ -15,7 +16,7 @@ use report_core::node;
 use std::alloc::Allocator;
 use std::marker::Model;
 
-/// What is asked about: a topic and key, at a node or at each.
+/// What is asked about: a topic and a key, at the node `node`, or at each node if `node` is `None`.
 #[derive(Drop)]
 pub struct Asked<A: Allocator> {
     pub node: Option<u32>,
@@ -31,7 +32,8 @@ impl<A: Allocator> Model for Asked<A> {
     ghost view = { λ a. record { node = a.node; topic = a.topic; key = a.key } };
 }
 
-/// A row at which a node begins to list what is asked about, or ends.
+/// A change of a node's lane: the row at which the node begins or stops listing what is asked about. It has nothing to
+/// do with the turns of a run.
 #[derive(Clone, Copy, Debug, PartialEq, Eq)]
 pub struct Turn {
     pub row: u32,
@@ -57,7 +59,7 @@ fn is_asked<A: Allocator, R: Allocator>(asked: &Asked<A>, row: &OnlineRow<R>) ->
     row.topic.as_str() == asked.topic.as_str() && row.key.as_str() == asked.key.as_str()
 }
 
-/// Whether one of the rows has the topic and key.
+/// Whether one of the rows has the topic and key that are asked about.
 #[tactic(auto, unfolding(crate::specs::Online::lists))]
 fn lists<A: Allocator, R: Allocator>(asked: &Asked<A>, rows: &[OnlineRow<R>]) -> bool
     ensures { result ≡ lists asked.now rows.now }
@@ -71,7 +73,7 @@ fn is_among<A: Allocator>(rows: &[OnlineRow<A>], row: &OnlineRow<A>) -> bool
     rows.iter().any(|other| row == other)
 }
 
-/// Whether one of the rows has the topic and key, and is not among those that joined.
+/// Whether one of `rows` has the topic and key that are asked about, and isn't among `joined`.
 fn lists_beside<A: Allocator, R: Allocator>(
     asked: &Asked<A>,
     rows: &[OnlineRow<R>],
@@ -83,7 +85,7 @@ fn lists_beside<A: Allocator, R: Allocator>(
         .any(|row| is_asked(asked, row) && !is_among(joined, row))
 }
 
-/// The online list of a node.
+/// The online list of the node with this number; empty if there is no such node.
 #[tactic(auto, unfolding(report_core::specs::Shown::rows_at))]
 fn rows_at<'a, B: Allocator>(
     bench: &Bench<'a, B>,
@@ -98,6 +100,8 @@ fn rows_at<'a, B: Allocator>(
     }
 }
 
+/// Appends a change of the node's lane, unless the node listed what is asked about both before (`was`) and `now`, or
+/// neither time.
 fn push_turn<A: Allocator>(
     turns: &mut Vec<Turn, A>,
     row: u32,
@@ -114,8 +118,9 @@ fn push_turn<A: Allocator>(
     Ok(turns.push(Turn { row, node, begins })?)
 }
 
-/// Notes how the call at this row changed what the node lists. It looks through the list only where what is asked about
-/// left or joined.
+/// Appends a change of the node's lane, if the call in this row made the node begin or stop listing what is asked
+/// about. It looks through the online list only if a row of that topic and key left or joined. `bench` is the bench
+/// after the call.
 fn note_change<'a, B: Allocator, W: Allocator>(
     bench: &Bench<'a, B>,
     turns: &mut Vec<Turn, &'a B>,
@@ -136,12 +141,14 @@ fn note_change<'a, B: Allocator, W: Allocator>(
     let rows = rows_at(bench, node, alloc)?;
     let now = lists(asked, &rows);
     let was = left || lists_beside(asked, &rows, &change.joined);
+    // form: drop before exit
     drop(rows);
     push_turn(turns, row, u32::from(node), was, now)
 }
 
-/// Notes whether the node begins or ends to list what is asked about, at this row, whose call changed its list like
-/// this.
+/// Appends a change of the lane of the node `changed`, if the call in this row made the node begin or stop listing what
+/// is asked about. Appends nothing if nothing is asked about, or no node changed. `bench` is the bench after the call,
+/// and `change` how the call changed the node's online list.
 #[tactic(auto, unfolding(crate::specs::Online::turn_at, report_core::specs::Shown::rows_of))]
 pub fn note_turn<'a, B: Allocator, W: Allocator>(
     bench: &Bench<'a, B>,
@@ -165,6 +172,8 @@ pub fn note_turn<'a, B: Allocator, W: Allocator>(
     note_change(bench, turns, asked, row, node, change, alloc)
 }
 
+/// Appends a change of the lane to the path. If the node begins listing, the pen moves to the row of the change, and
+/// else it draws a line to that row.
 fn put_turn<A: Allocator>(path: &mut String<A>, nodes: u32, turn: Turn) -> Result<(), Oom>
     ensures { OnOk result (string_bytes path.new ≡ string_bytes path.old ++ turn_path nodes turn) }
 {
@@ -176,7 +185,7 @@ fn put_turn<A: Allocator>(path: &mut String<A>, nodes: u32, turn: Turn) -> Resul
     Ok(write!(path, "V{down}")?)
 }
 
-/// Draws to the last row, if the node still lists some.
+/// Appends a line to where row `last` begins, if `listing`: the node still lists what is asked about.
 fn put_end<A: Allocator>(path: &mut String<A>, listing: bool, last: u32) -> Result<(), Oom>
     ensures { OnOk result (string_bytes path.new ≡ string_bytes path.old ++ end_path listing last) }
 {
@@ -187,8 +196,9 @@ fn put_end<A: Allocator>(path: &mut String<A>, listing: bool, last: u32) -> Resu
     Ok(write!(path, "V{end}")?)
 }
 
-/// The thick part of a node's lane: the pen goes to where the node begins to list some, and draws to where it ends, at
-/// the latest to the last row.
+/// The thick parts of a node's lane, as a path. The pen goes to where the node begins listing what is asked about, and
+/// draws to where it stops or, if it doesn't stop, to where row `last` begins. Parts outside the drawn rows are cut off
+/// by the `viewBox`.
 pub fn bar_path<'a, B: Allocator>(
     turns: &[Turn],
     nodes: u32,

@@ -1,4 +1,4 @@
-//! The picture of a bench.
+//! Draws the picture of a bench.
 ghost use Rattle.std.specs.Prelude.{◌≡◌, ◌≤◌, ◌+◌, ◌*◌, ◌++◌, IfOk, OnOk, option_copied, string_bytes, codes, length};
 ghost use Rattle.report_core.specs.ActTexts.{unwound};
 ghost use Rattle.report_core.specs.Rows.{name_at};
@@ -20,7 +20,8 @@ use report_core::name_at;
 use std::alloc::Allocator;
 use svg_core::{Attribute, Value, put_end, put_leaf, put_start};
 
-/// How the classes look: what was taken back pale and struck, what is painted bold.
+/// The style of the elements and classes of a picture. What was taken back is pale and struck, and what is painted is
+/// bold.
 const STYLE: &str = "text{font:12px monospace;fill:black;white-space:pre}\
 path{fill:none;stroke:black;stroke-width:1.2px}\
 circle{fill:black;stroke:black}\
@@ -37,6 +38,7 @@ text.back{fill:#555;stroke:none}\
 circle.refused{fill:white;stroke:#c01818}\
 text.refused{fill:#c01818}";
 
+/// Appends the style of the picture.
 #[tactic(auto, unfolding(crate::specs::Pictures::style, crate::specs::Pictures::style_text))]
 fn put_style<A: Allocator>(text: &mut String<A>) -> Result<(), Oom>
     ensures { OnOk result (string_bytes text.new ≡ string_bytes text.old ++ text_of style) }
@@ -44,6 +46,7 @@ fn put_style<A: Allocator>(text: &mut String<A>) -> Result<(), Oom>
     put_leaf(text, "style", &[], STYLE)
 }
 
+/// Appends the white ground of the picture.
 #[tactic(auto, unfolding(crate::specs::Pictures::ground))]
 fn put_ground<A: Allocator>(text: &mut String<A>) -> Result<(), Oom>
     ensures { OnOk result (string_bytes text.new ≡ string_bytes text.old ++ text_of ground) }
@@ -60,7 +63,7 @@ fn put_ground<A: Allocator>(text: &mut String<A>) -> Result<(), Oom>
     )
 }
 
-/// What stands before the lines.
+/// Appends what comes before the names and the lanes: the style, and the white ground on which they stand.
 fn put_front<A: Allocator>(text: &mut String<A>) -> Result<(), Oom>
     ensures { OnOk result (string_bytes text.new ≡ string_bytes text.old ++ text_of front) }
 {
@@ -68,7 +71,7 @@ fn put_front<A: Allocator>(text: &mut String<A>) -> Result<(), Oom>
     put_ground(text)
 }
 
-/// How many bytes the longest name has.
+/// How many bytes the longest name has, at most 4096.
 fn longest_name<N: Allocator>(names: &Names<N>) -> u32
     ensures { result ≡ longest_name names.now }
 {
@@ -79,7 +82,7 @@ fn longest_name<N: Allocator>(names: &Names<N>) -> u32
     longest
 }
 
-/// How much room the names take above the lanes.
+/// How high the names above the lanes are.
 #[tactic(auto, unfolding(crate::specs::Pictures::head_height))]
 fn head_height<N: Allocator>(names: &Names<N>) -> u64
     ensures is { result ≡ head_height names.now }
@@ -88,7 +91,7 @@ fn head_height<N: Allocator>(names: &Names<N>) -> u64
     20 + wide(longest_name(names))
 }
 
-/// The names of the nodes, above their lanes.
+/// Appends the names of the nodes, each above its lane.
 fn put_names<'a, A: Allocator, N: Allocator, B: Allocator>(
     text: &mut String<A>,
     names: &Names<N>,
@@ -105,7 +108,7 @@ fn put_names<'a, A: Allocator, N: Allocator, B: Allocator>(
     Ok(())
 }
 
-/// The lanes of the nodes.
+/// Appends the lanes of the nodes.
 fn put_lanes<'a, A: Allocator, N: Allocator, B: Allocator>(
     text: &mut String<A>,
     names: &Names<N>,
@@ -121,7 +124,7 @@ fn put_lanes<'a, A: Allocator, N: Allocator, B: Allocator>(
     Ok(())
 }
 
-/// The thick part of a node's lane, if the node is asked about.
+/// Appends the thick parts of a node's lane, if the node is asked about.
 #[tactic(auto, using(crate::proofs::Texts::nothing_end))]
 fn put_bar_at<'a, A: Allocator, B: Allocator>(
     text: &mut String<A>,
@@ -144,7 +147,7 @@ fn put_bar_at<'a, A: Allocator, B: Allocator>(
     put_bar(text, &path)
 }
 
-/// The thick parts of the lanes of the nodes that are asked about.
+/// Appends the thick parts of the lanes of the nodes that are asked about.
 fn put_bars<'a, A: Allocator, N: Allocator, B: Allocator>(
     text: &mut String<A>,
     names: &Names<N>,
@@ -163,7 +166,7 @@ fn put_bars<'a, A: Allocator, N: Allocator, B: Allocator>(
     Ok(())
 }
 
-/// The part of a plane that is seen: from how far down, how wide and how high.
+/// The value of a `viewBox` that shows the plane from `top` down, in this width and height.
 #[tactic(auto)]
 fn view_box<'a, B: Allocator>(
     top: u64,
@@ -178,7 +181,7 @@ fn view_box<'a, B: Allocator>(
     Ok(seen)
 }
 
-/// The beginning of a picture of this size that shows this part of the plane.
+/// Appends the beginning of a picture of this size; `seen` is its `viewBox`.
 fn put_opening_of<A: Allocator>(
     text: &mut String<A>,
     width: u64,
@@ -199,7 +202,7 @@ fn put_opening_of<A: Allocator>(
     )?)
 }
 
-/// The beginning of a picture of this size.
+/// Appends the beginning of a picture of this size, which shows the plane from its top.
 fn put_opening<'a, A: Allocator, B: Allocator>(
     text: &mut String<A>,
     width: u64,
@@ -212,7 +215,8 @@ fn put_opening<'a, A: Allocator, B: Allocator>(
     put_opening_of(text, width, height, seen.as_str())
 }
 
-/// The beginning of a part of the picture that shows this part of the plane.
+/// Appends the beginning of a part of the picture that stands `top` units below the picture's top; `seen` is the part's
+/// `viewBox`.
 fn put_part_of<A: Allocator>(
     text: &mut String<A>,
     top: u64,
@@ -234,7 +238,7 @@ fn put_part_of<A: Allocator>(
     )?)
 }
 
-/// The beginning of the part below the names, which shows the rows from the first on.
+/// Appends the beginning of the part below the names, which shows the rows from `first` on.
 fn put_part<'a, A: Allocator, B: Allocator>(
     text: &mut String<A>,
     top: u64,
@@ -255,6 +259,7 @@ fn put_layer<A: Allocator, B: Allocator>(text: &mut String<A>, layer: &String<B>
     Ok(text.push_str(layer.as_str())?)
 }
 
+/// How wide the picture is, if the longest words of a row have `longest` bytes together.
 #[tactic(auto, unfolding(crate::specs::Pictures::width))]
 fn width(nodes: u32, longest: u32) -> u64
     ensures { result ≡ width nodes longest }
@@ -262,6 +267,7 @@ fn width(nodes: u32, longest: u32) -> u64
     across(nodes, nodes) + wide(longest) + 8
 }
 
+/// How high the drawn rows are together; 0 if the range ends before it begins.
 #[tactic(auto, unfolding(crate::specs::Pictures::height))]
 fn height(range: Range) -> u64
     ensures is { result ≡ height range }
@@ -270,7 +276,7 @@ fn height(range: Range) -> u64
     20 * u64::from(range.last.saturating_sub(range.first))
 }
 
-/// The picture with these layers.
+/// Appends the picture with these layers.
 fn put_drawing<'a, A: Allocator, N: Allocator, B: Allocator>(
     text: &mut String<A>,
     names: &Names<N>,
@@ -280,7 +286,8 @@ fn put_drawing<'a, A: Allocator, N: Allocator, B: Allocator>(
     alloc: &'a B,
 ) -> Result<(), Oom>
     ensures { OnOk result (string_bytes text.new ≡ string_bytes text.old ++
-        text_around names.now range (option_copied asked.entry) layers.now.turns.items layers.now.longest (string_bytes layers.now.messages) (string_bytes layers.now.rows)) }
+        text_around names.now range (option_copied asked.entry) layers.now.turns.items layers.now.longest
+        (string_bytes layers.now.messages) (string_bytes layers.now.rows)) }
 {
     let top = head_height(names);
     let width = width(names.len() as u32, layers.longest);
@@ -297,11 +304,14 @@ fn put_drawing<'a, A: Allocator, N: Allocator, B: Allocator>(
     Ok(put_end(text, "svg")?)
 }
 
-/// The rows from the one of step `from` to the one before the first step after `to`.
+/// The rows that are drawn. They begin with the row of step `from`, or of the first step after it; without `from`, with
+/// the first row. They end before the row of the first step after `to`; without `to`, behind the last row. If there is
+/// no such step, the end of the history stands in place of its row.
 #[tactic(auto, unfolding(crate::specs::Pictures::range_of))]
 pub fn range_of<'a, B: Allocator>(bench: &Bench<'a, B>, from: Option<u64>, to: Option<u64>) -> Range
     ensures { result ≡ range_of bench.now.state.history from to }
 {
+    // form: hands out what the bench keeps
     bench.bench_law();
     let history = bench.history();
     Range {
@@ -310,7 +320,7 @@ pub fn range_of<'a, B: Allocator>(bench: &Bench<'a, B>, from: Option<u64>, to: O
     }
 }
 
-/// The steps that the undo of a step would take back with it, if it remains.
+/// The numbers of the future of a step; none if the step doesn't remain.
 #[tactic(auto, using(crate::proofs::Futures::whole_future, crate::proofs::Futures::no_future), unfolding(report_core::specs::ActTexts::unwound))]
 fn future_of<'a, B: Allocator>(
     bench: &Bench<'a, B>,
@@ -322,13 +332,15 @@ fn future_of<'a, B: Allocator>(
     let Some(_kept) = bench.remaining().find(number) else {
         return Ok(Vec::new(alloc));
     };
+    // the step remains, so only memory can be refused
     let Ok(numbers) = bench.why(number) else {
         return Err(Oom);
     };
     Ok(numbers)
 }
 
-/// The steps that are painted.
+/// The numbers of the steps that are painted: the future of step `why`; none if `why` is `None`, or step `why` doesn't
+/// remain.
 pub fn painted_of<'a, B: Allocator>(
     bench: &Bench<'a, B>,
     why: Option<u64>,
@@ -342,7 +354,7 @@ pub fn painted_of<'a, B: Allocator>(
     }
 }
 
-/// The picture of these rows of a bench, with these steps painted.
+/// The picture of the rows in the range, with the steps in `painted` painted.
 pub fn picture<'a, B: Allocator>(
     bench: &Bench<'a, B>,
     consoles: &TextSet<&'a B>,

@@ -1,8 +1,9 @@
-//! Where things stand: a row for each call, 20 units high, and a lane for each node.
+//! Where things stand: a row for each call, 20 units high, and a lane for each node. Lengths are in units of the
+//! picture.
 ghost use Rattle.std.specs.Prelude.{◌≡◌, ◌≤◌};
 ghost use Rattle.picture_core.specs.Plans.{across, aside, down, pitch, slots, waits_at, wide};
 
-/// The distance from one lane to the next, by how many nodes there are.
+/// The distance from one lane to the next. It is smaller where there are more nodes.
 #[tactic(auto, unfolding(crate::specs::Plans::pitch))]
 fn pitch(nodes: u32) -> u64
     ensures is { result ≡ pitch nodes }
@@ -19,7 +20,7 @@ fn pitch(nodes: u32) -> u64
     }
 }
 
-/// At how many places beside a lane a message can wait.
+/// How many places there are on each side of a lane at which messages come down.
 #[tactic(auto, unfolding(crate::specs::Plans::slots))]
 fn slots(nodes: u32) -> u64
     ensures is { result ≡ slots nodes }
@@ -37,7 +38,7 @@ fn slots(nodes: u32) -> u64
     }
 }
 
-/// Where the lane of a node is. The words begin where one more lane would be.
+/// How far to the right the lane of a node is. The words of rows begin where one more lane would be.
 #[tactic(auto, unfolding(crate::specs::Plans::across))]
 pub fn across(nodes: u32, node: u32) -> u64
     ensures is { result ≡ across nodes node }
@@ -46,14 +47,14 @@ pub fn across(nodes: u32, node: u32) -> u64
     64 + pitch(nodes) * u64::from(node)
 }
 
-/// The middle of a row.
+/// How far down the middle of a row is.
 pub fn down(row: u32) -> u64
     ensures { result ≡ down row }
 {
     20 * u64::from(row) + 10
 }
 
-/// How far beside a lane the message of a step waits.
+/// How far from a lane the message that step `step` sent comes down.
 #[tactic(auto, unfolding(crate::specs::Plans::aside))]
 fn aside(nodes: u32, step: u64) -> u64
     ensures is { result ≡ aside nodes step }
@@ -62,7 +63,8 @@ fn aside(nodes: u32, step: u64) -> u64
     6 + 3 * (step % slots(nodes))
 }
 
-/// Where that message waits for a node, on the side from which it comes.
+/// How far to the right the message that step `step` sent comes down to `node`. It comes down left of the lane of
+/// `node` if the lane of `sender` is left of that lane, and else right of it.
 #[tactic(auto, unfolding(crate::specs::Plans::waits_at))]
 pub fn waits_at(nodes: u32, sender: u32, node: u32, step: u64) -> u64
     ensures { result ≡ waits_at nodes sender node step }
@@ -70,6 +72,7 @@ pub fn waits_at(nodes: u32, sender: u32, node: u32, step: u64) -> u64
     let at = across(nodes, node);
     let beside = aside(nodes, step);
     if sender < node {
+        // form: saturating spares a requirement
         at.saturating_sub(beside)
     } else {
         at + beside

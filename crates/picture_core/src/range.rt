@@ -6,7 +6,7 @@ ghost use Rattle.picture_core.specs.Rows.{is_drawn, is_seen};
 use bench_core::{History, Reply};
 use std::alloc::Allocator;
 
-/// The rows from the first on, up to the one before the last.
+/// The rows from `first` to the one before `last`, counted from 0.
 #[derive(Clone, Copy, Debug, PartialEq, Eq)]
 pub struct Range {
     pub first: u32,
@@ -14,14 +14,14 @@ pub struct Range {
 }
 
 impl Range {
-    /// Whether the row is drawn.
+    /// Whether the row is in the range.
     pub fn draws(self, row: u32) -> bool
         ensures { result ≡ is_drawn self row }
     {
         self.first <= row && row < self.last
     }
 
-    /// Whether a message is seen that goes from one row to another.
+    /// Whether a message from row `from` to row `to` is drawn, at least in part.
     pub fn shows(self, from: u32, to: u32) -> bool
         ensures { result ≡ is_seen self from to }
     {
@@ -29,7 +29,8 @@ impl Range {
     }
 }
 
-/// Whether the call took a step of this number or a greater one; of a greater one, if `beyond`.
+/// Whether a call with this reply took a step whose number is at least `number`, or, if `beyond`, greater than
+/// `number`.
 fn is_from(beyond: bool, number: u64, reply: Reply) -> bool
     ensures { result ≡ is_from beyond number reply }
 {
@@ -45,8 +46,8 @@ fn is_from(beyond: bool, number: u64, reply: Reply) -> bool
     }
 }
 
-/// How many calls come before the first one that took a step with this number or a greater one; if `beyond`, with a
-/// greater one.
+/// How many calls come before the first that took a step whose number is at least `number` or, if `beyond`, greater
+/// than `number`. If there is no such call, it is the number of all calls.
 fn calls_before<'a, B: Allocator>(history: &History<'a, B>, beyond: bool, number: u64) -> usize
     ensures is { result ≡ calls_before beyond number history.now }
     ensures few { result ≤ length history.now }
@@ -60,7 +61,8 @@ fn calls_before<'a, B: Allocator>(history: &History<'a, B>, beyond: bool, number
     history.len()
 }
 
-/// The first row that is drawn: that of step `from`, or of the first step after it; the first of all without `from`.
+/// The first row that is drawn: that of step `from`, or of the first step after it; the end of the history if there is
+/// no such step. Without `from` it is 0.
 pub fn first_row<'a, B: Allocator>(history: &History<'a, B>, from: Option<u64>) -> usize
     ensures is { result ≡ first_row history.now from }
     ensures few { result ≤ length history.now }
@@ -71,7 +73,8 @@ pub fn first_row<'a, B: Allocator>(history: &History<'a, B>, from: Option<u64>) 
     }
 }
 
-/// The row after the last that is drawn: that of the first step after `to`, or the end of the history.
+/// The row behind the last one that is drawn: that of the first step after `to`. Without `to`, or if there is no such
+/// step, it is the end of the history.
 pub fn last_row<'a, B: Allocator>(history: &History<'a, B>, to: Option<u64>) -> usize
     ensures is { result ≡ last_row history.now to }
     ensures few { result ≤ length history.now }

@@ -1,4 +1,4 @@
-//! What is drawn of each recorded call.
+//! Draws the message, the mark and the words of each recorded call.
 ghost use Rattle.std.specs.Prelude.{◌≡◌, ◌++◌, OnOk, string_bytes};
 ghost use Rattle.node_core.specs.Operations.{plain};
 ghost use Rattle.journal_core.specs.Holdings.{kepts};
@@ -9,15 +9,16 @@ ghost use Rattle.picture_core.specs.Rows.{lane_of, looks, mark_at, message_betwe
 
 use crate::kind::Kind;
 use crate::range::Range;
-use crate::sender::sender_of;
 use crate::shapes::{put_mark, put_message, put_number_label, put_words_label};
 use crate::standing::{Drawn, step_at};
 use bench_core::{Act, Bench, Event, Journal, Reply, Step};
 use payload_core::Oom;
 use report_core::{asked_undo, node_of_step};
 use std::alloc::Allocator;
+use transcript_core::sender_of;
 
-/// A message from the step that sent it to the one that delivers it.
+/// Appends the message from step `source` of the node `sender` to step `number`, whose row and node are `to`. Appends
+/// nothing if the range doesn't show the message.
 #[tactic(auto, using(crate::proofs::Texts::nothing_end))]
 fn put_between<'a, A: Allocator, B: Allocator>(
     text: &mut String<A>,
@@ -53,7 +54,8 @@ fn put_between<'a, A: Allocator, B: Allocator>(
     )
 }
 
-/// The message that a step delivers, while these steps remained before it.
+/// Appends the message that a step delivers, if it delivers one. `to` is the row and the node of the step, and
+/// `remaining` are the steps that remained before that step.
 #[tactic(auto, using(crate::proofs::Texts::nothing_end), unfolding(crate::specs::Rows::message_to))]
 fn put_message_to<'a, A: Allocator, B: Allocator>(
     remaining: &Journal<'a, B>,
@@ -78,7 +80,8 @@ fn put_message_to<'a, A: Allocator, B: Allocator>(
     put_between(text, nodes, steps, range, to, number, sender, source, alloc)
 }
 
-/// The message that a recorded call delivered.
+/// Appends the message that the step of a recorded call delivers; nothing if the call took no step, or its step
+/// delivers nothing. `remaining` are the steps that remained before the call.
 #[tactic(auto, using(crate::proofs::Texts::nothing_end), unfolding(crate::specs::Rows::message_of))]
 pub fn put_message_of<'a, A: Allocator, B: Allocator>(
     remaining: &Journal<'a, B>,
@@ -107,7 +110,7 @@ pub fn put_message_of<'a, A: Allocator, B: Allocator>(
     }
 }
 
-/// How a call looks.
+/// How a call looks: by how its step stands, if the call took one, and else by its reply.
 #[tactic(auto, unfolding(crate::specs::Rows::looks))]
 fn looks(steps: &[Drawn], reply: Reply) -> Kind
     ensures { result ≡ looks steps.now reply }
@@ -119,7 +122,7 @@ fn looks(steps: &[Drawn], reply: Reply) -> Kind
     }
 }
 
-/// The node of the step whose undo an act asks for.
+/// The node of the step whose undo an act asks for; `None` if the act asks for no undo, or its step doesn't remain.
 pub fn node_undone<'a, B: Allocator>(bench: &Bench<'a, B>, act: &Act<&'a B>) -> Option<u16>
     ensures { result ≡ node_undone bench.now (asked_undo bench.now (plain_act act.now)) }
 {
@@ -129,7 +132,8 @@ pub fn node_undone<'a, B: Allocator>(bench: &Bench<'a, B>, act: &Act<&'a B>) -> 
     }
 }
 
-/// The node that a call changed, by its reply: the actor's, or that of the step whose undo it asked for.
+/// The node that a call changed: the actor, if the call took a step, or `undone`, the node of the step that the call
+/// took back. `None` if the call was refused.
 pub fn node_changed(actor: u16, reply: Reply, undone: Option<u16>) -> Option<u16>
     ensures { result ≡ node_changed actor reply undone }
 {
@@ -140,8 +144,8 @@ pub fn node_changed(actor: u16, reply: Reply, undone: Option<u16>) -> Option<u16
     }
 }
 
-/// The lane of a call's mark: that of the node which it changed; or, if it was refused, that of its actor, if the actor
-/// is a node.
+/// The node on whose lane the mark of a call stands: the one that the call changed, or, if it was refused, its actor.
+/// `None` if that actor isn't a node.
 pub fn lane_of(nodes: u32, actor: u16, reply: Reply, changed: Option<u16>) -> Option<u16>
     ensures { result ≡ lane_of nodes actor reply changed }
 {
@@ -157,6 +161,7 @@ pub fn lane_of(nodes: u32, actor: u16, reply: Reply, changed: Option<u16>) -> Op
     }
 }
 
+/// Appends the mark of a call on the lane of `node`; nothing without a node.
 #[tactic(auto, using(crate::proofs::Texts::nothing_end))]
 fn put_mark_at<'a, A: Allocator, B: Allocator>(
     text: &mut String<A>,
@@ -175,6 +180,7 @@ fn put_mark_at<'a, A: Allocator, B: Allocator>(
     }
 }
 
+/// Appends the number of the step that a call took, if it took one.
 #[tactic(auto, using(crate::proofs::Texts::nothing_end))]
 fn put_number_by<A: Allocator>(text: &mut String<A>, row: u32, reply: Reply) -> Result<(), Oom>
     ensures { OnOk result (string_bytes text.new ≡ string_bytes text.old ++ text_of (number_by row reply)) }
@@ -185,7 +191,8 @@ fn put_number_by<A: Allocator>(text: &mut String<A>, row: u32, reply: Reply) -> 
     }
 }
 
-/// The number of the step of a call, its mark and its words. The mark stands at this lane.
+/// Appends what stands in a call's row: the number of the step, if the call took one; the mark on the lane of the node
+/// `lane`, unless that is `None`; and the words.
 pub fn put_row<'a, A: Allocator, B: Allocator>(
     text: &mut String<A>,
     nodes: u32,

@@ -1,4 +1,4 @@
-//! The shapes that a picture is put together from.
+//! The shapes that a picture is put together from. Each is appended to the text.
 ghost use Rattle.std.specs.Prelude.{◌≡◌, ◌++◌, IfOk, OnOk, string_bytes};
 ghost use Rattle.svg_core.specs.Trees.{text_of};
 ghost use Rattle.svg_core.specs.Values.{plain_attributes};
@@ -10,7 +10,7 @@ use payload_core::Oom;
 use std::alloc::Allocator;
 use svg_core::{Attribute, Value, put_end, put_leaf, put_number, put_start};
 
-/// The title of an element.
+/// Appends a `title` element with the text `title`.
 #[tactic(auto, unfolding(crate::specs::Shapes::heading))]
 fn put_heading<A: Allocator>(text: &mut String<A>, title: &str) -> Result<(), Oom>
     ensures { OnOk result (string_bytes text.new ≡ string_bytes text.old ++ text_of (heading title.now)) }
@@ -18,7 +18,7 @@ fn put_heading<A: Allocator>(text: &mut String<A>, title: &str) -> Result<(), Oo
     put_leaf(text, "title", &[], title)
 }
 
-/// An element with a title.
+/// Appends an element with a title.
 fn put_titled<A: Allocator>(
     text: &mut String<A>,
     tag: &str,
@@ -33,7 +33,7 @@ fn put_titled<A: Allocator>(
     put_end(text, tag)
 }
 
-/// A path of this class.
+/// Appends a path of this class.
 fn put_path<A: Allocator>(text: &mut String<A>, class: &str, path: &str) -> Result<(), Oom>
     ensures { OnOk result (string_bytes text.new ≡ string_bytes text.old ++ text_of (path_of class.now path.now)) }
 {
@@ -48,7 +48,7 @@ fn put_path<A: Allocator>(text: &mut String<A>, class: &str, path: &str) -> Resu
     )
 }
 
-/// A path of this class with a title.
+/// Appends a path of this class with a title.
 fn put_titled_path<A: Allocator>(
     text: &mut String<A>,
     class: &str,
@@ -68,7 +68,7 @@ fn put_titled_path<A: Allocator>(
     )
 }
 
-/// A place, turned so that what stands there is written upwards.
+/// The value of a `transform` that moves a text to this place and turns it to be read upwards.
 #[tactic(auto, unfolding(crate::specs::Shapes::upwards))]
 fn upwards<'a, B: Allocator>(right: u64, down: u64, alloc: &'a B) -> Result<String<&'a B>, Oom>
     ensures { IfOk result (λ place. string_bytes place ≡ upwards right down) }
@@ -78,7 +78,7 @@ fn upwards<'a, B: Allocator>(right: u64, down: u64, alloc: &'a B) -> Result<Stri
     Ok(place)
 }
 
-/// Where the name of a node stands, written upwards.
+/// The value of a `transform` that puts the name of a node above its lane, to be read upwards.
 fn name_place<'a, B: Allocator>(
     nodes: u32,
     node: u32,
@@ -88,10 +88,11 @@ fn name_place<'a, B: Allocator>(
     ensures { IfOk result (λ place. string_bytes place ≡ name_place nodes node height) }
 {
     let right = across(nodes, node) + 4;
+    // form: saturating spares a requirement
     upwards(right, height.saturating_sub(8), alloc)
 }
 
-/// A name at this place.
+/// Appends a name; `place` is the value of its `transform`.
 fn put_name_at<A: Allocator>(text: &mut String<A>, place: &str, name: &str) -> Result<(), Oom>
     ensures { OnOk result (string_bytes text.new ≡ string_bytes text.old ++ text_of (name_at place.now name.now)) }
 {
@@ -106,7 +107,7 @@ fn put_name_at<A: Allocator>(text: &mut String<A>, place: &str, name: &str) -> R
     )
 }
 
-/// The name of a node above its lane.
+/// Appends the name of a node above its lane.
 #[tactic(auto, unfolding(crate::specs::Shapes::lane_name))]
 pub fn put_lane_name<'a, A: Allocator, B: Allocator>(
     text: &mut String<A>,
@@ -122,7 +123,7 @@ pub fn put_lane_name<'a, A: Allocator, B: Allocator>(
     put_name_at(text, place.as_str(), name)
 }
 
-/// From one row to another along a lane.
+/// The path along a lane from the beginning of row `first` to that of row `last`.
 #[tactic(auto, unfolding(crate::specs::Shapes::lane_path))]
 fn lane_path<'a, B: Allocator>(
     nodes: u32,
@@ -141,7 +142,7 @@ fn lane_path<'a, B: Allocator>(
     Ok(path)
 }
 
-/// The lane of a node.
+/// Appends the lane of a node, from the beginning of row `first` to that of row `last`.
 #[tactic(auto, unfolding(crate::specs::Shapes::lane))]
 pub fn put_lane<'a, A: Allocator, B: Allocator>(
     text: &mut String<A>,
@@ -157,7 +158,7 @@ pub fn put_lane<'a, A: Allocator, B: Allocator>(
     put_path(text, "lane", path.as_str())
 }
 
-/// From a point across to a line, down along it, and to another point.
+/// The path from the point `from` across to `beside`, down to `above`, and to the point `to`.
 #[tactic(auto, unfolding(crate::specs::Shapes::path_between))]
 fn path_between<'a, B: Allocator>(
     from: (u64, u64),
@@ -171,14 +172,15 @@ fn path_between<'a, B: Allocator>(
     let (start, sent) = from;
     let (end, taken) = to;
     let mut path = String::new(alloc);
+    // form: split for the proof
     write!(path, "M{start} {sent}")?;
     write!(path, "H{beside}V{above}")?;
     write!(path, "L{end} {taken}")?;
     Ok(path)
 }
 
-/// The way of a message: along the row of its send, down beside the lane of the node that takes it, and to the mark of the
-/// delivery.
+/// The path of a message: along the row of its send, down beside the lane of the node that takes it, and to the mark of
+/// the delivery. `from` and `to` are each a row and a node.
 fn message_path<'a, B: Allocator>(
     nodes: u32,
     from: (u32, u32),
@@ -195,6 +197,7 @@ fn message_path<'a, B: Allocator>(
     let beside = waits_at(nodes, sender, node, source);
     let end = across(nodes, node);
     let taken = down(to_row);
+    // form: saturating spares a requirement
     let above = taken.saturating_sub(4);
     path_between((start, sent), beside, above, (end, taken), alloc)
 }
@@ -224,7 +227,7 @@ fn message_class(kind: Kind) -> &'static str
     }
 }
 
-/// A message from the row and the node of the step `source` to those of the step `number`.
+/// Appends a message from the step `source` to the step `number`. `from` and `to` are the row and the node of each.
 #[tactic(auto, unfolding(crate::specs::Shapes::message))]
 pub fn put_message<'a, A: Allocator, B: Allocator>(
     text: &mut String<A>,
@@ -243,7 +246,7 @@ pub fn put_message<'a, A: Allocator, B: Allocator>(
     put_titled_path(text, message_class(kind), path.as_str(), title.as_str())
 }
 
-/// A dot on a lane.
+/// Appends a circle on a lane, as the mark of a call.
 #[tactic(auto, unfolding(crate::specs::Shapes::dot_sign))]
 fn put_dot<A: Allocator>(
     text: &mut String<A>,
@@ -268,6 +271,7 @@ fn put_dot<A: Allocator>(
     )
 }
 
+/// The path of a cross on the lane of `node`, in the middle of a row.
 #[tactic(auto, unfolding(crate::specs::Shapes::cross_path))]
 fn cross_path<'a, B: Allocator>(
     nodes: u32,
@@ -277,6 +281,7 @@ fn cross_path<'a, B: Allocator>(
 ) -> Result<String<&'a B>, Oom>
     ensures { IfOk result (λ path. string_bytes path ≡ cross_path nodes node row) }
 {
+    // form: saturating spares a requirement
     let left = across(nodes, node).saturating_sub(4);
     let above = down(row).saturating_sub(4);
     let mut path = String::new(alloc);
@@ -284,7 +289,7 @@ fn cross_path<'a, B: Allocator>(
     Ok(path)
 }
 
-/// A cross on a lane, where a step was taken back.
+/// Appends a cross on a lane, as the mark of a call that took a step back.
 #[tactic(auto, unfolding(crate::specs::Shapes::cross_sign))]
 fn put_cross<'a, A: Allocator, B: Allocator>(
     text: &mut String<A>,
@@ -300,7 +305,7 @@ fn put_cross<'a, A: Allocator, B: Allocator>(
     put_titled_path(text, "back", path.as_str(), title)
 }
 
-/// The mark of a call.
+/// Appends the mark of a call: a cross if the call took a step back, and else a circle.
 pub fn put_mark<'a, A: Allocator, B: Allocator>(
     text: &mut String<A>,
     nodes: u32,
@@ -312,6 +317,7 @@ pub fn put_mark<'a, A: Allocator, B: Allocator>(
 ) -> Result<(), Oom>
     ensures { OnOk result (string_bytes text.new ≡ string_bytes text.old ++ text_of (mark nodes node row kind title.now)) }
 {
+    // form: each arm is a case of the proof
     match kind {
         Kind::Back => put_cross(text, nodes, node, row, title, alloc),
         Kind::Step => put_dot(text, nodes, node, row, kind, title),
@@ -321,7 +327,7 @@ pub fn put_mark<'a, A: Allocator, B: Allocator>(
     }
 }
 
-/// The number of a step before its row.
+/// Appends the number of a step, in its row in front of the lanes.
 #[tactic(auto, unfolding(crate::specs::Shapes::number_label, svg_core::specs::Trees::text_of))]
 pub fn put_number_label<A: Allocator>(
     text: &mut String<A>,
@@ -343,7 +349,7 @@ pub fn put_number_label<A: Allocator>(
     put_end(text, "text")
 }
 
-/// The words of a call after its row.
+/// Appends the words of a call, in its row behind the lanes.
 #[tactic(auto, unfolding(crate::specs::Shapes::words_label))]
 pub fn put_words_label<A: Allocator>(
     text: &mut String<A>,
@@ -366,7 +372,7 @@ pub fn put_words_label<A: Allocator>(
     )
 }
 
-/// Where a lane is thick.
+/// Appends the thick parts of a lane.
 #[tactic(auto, unfolding(crate::specs::Shapes::bar))]
 pub fn put_bar<A: Allocator>(text: &mut String<A>, path: &str) -> Result<(), Oom>
     ensures { OnOk result (string_bytes text.new ≡ string_bytes text.old ++ text_of (bar path.now)) }

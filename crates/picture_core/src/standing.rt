@@ -1,4 +1,4 @@
-//! Whether a step that was taken remains, and at which row it stands.
+//! Whether a step that was taken remains, and in which row the step stands.
 ghost use Rattle.std.specs.Prelude.{◌≡◌, ◌==◌, IfOk};
 ghost use Rattle.std.specs.List.{list_any};
 ghost use Rattle.journal_core.specs.Holdings.{kepts};
@@ -11,18 +11,18 @@ use std::alloc::Allocator;
 /// How a step that was taken stands.
 #[derive(Clone, Copy, Debug, PartialEq, Eq)]
 pub enum Standing {
-    /// It remains.
+    /// The step remains.
     Remains,
-    /// It remains, and is painted.
+    /// The step remains, and is painted as a part of the future that is asked about.
     Painted,
-    /// It was taken back.
+    /// The step was taken back.
     Undone,
 }
 
 /// What a picture knows of a step.
 #[derive(Clone, Copy, Debug, PartialEq, Eq)]
 pub struct Drawn {
-    /// The row of the call that took it.
+    /// The row of the call that took the step.
     pub row: u32,
     pub standing: Standing,
 }
@@ -35,7 +35,8 @@ impl Drawn {
 }
 
 impl Standing {
-    /// The standing of a message: painted if its send and its delivery are, and taken back if its delivery is.
+    /// The standing of a message whose send is `sent` and whose delivery is `self`: taken back if the delivery is,
+    /// painted if both are, and else remaining.
     pub fn of_message(self, sent: Standing) -> Standing
         ensures { result ≡ of_message self sent }
     {
@@ -56,7 +57,7 @@ fn is_painted(painted: &[u64], number: u64) -> bool
     painted.iter().any(|n| *n == number)
 }
 
-/// The standing of a step, by its number.
+/// The standing of the step with this number, which was taken.
 #[tactic(auto, unfolding(crate::specs::Standings::standing_of))]
 fn standing_of<'a, B: Allocator>(
     remaining: &Journal<'a, B>,
@@ -75,7 +76,7 @@ fn standing_of<'a, B: Allocator>(
     }
 }
 
-/// Notes the reply that a call in this row had.
+/// Notes in `steps` the step that the call in this row took, if the reply says that the call took one.
 fn note_reply<'a, B: Allocator>(
     remaining: &Journal<'a, B>,
     steps: &mut Vec<Drawn, &'a B>,
@@ -93,7 +94,7 @@ fn note_reply<'a, B: Allocator>(
     }
 }
 
-/// What is known of each step, at its number.
+/// What a picture knows of each step, at the place of the step's number. No step has the number 0.
 #[tactic(auto, unfolding(crate::specs::Standings::drawn_steps))]
 pub fn drawn_steps<'a, B: Allocator>(
     bench: &Bench<'a, B>,
@@ -102,6 +103,7 @@ pub fn drawn_steps<'a, B: Allocator>(
 ) -> Result<Vec<Drawn, &'a B>, Oom>
     ensures { IfOk result (λ steps. steps.items ≡ drawn_steps bench.now painted.now) }
 {
+    // form: hands out what the bench keeps
     bench.bench_law();
     let history = bench.history();
     let mut steps = vec![in alloc; Drawn::NOTHING; history.len() + 1]?;
@@ -119,7 +121,7 @@ pub fn drawn_steps<'a, B: Allocator>(
     Ok(steps)
 }
 
-/// What is known of the step of this number.
+/// What a picture knows of the step with this number; `Drawn::NOTHING` if no step has it.
 pub fn step_at(steps: &[Drawn], number: u64) -> Drawn
     ensures { result ≡ step_at steps.now number }
 {

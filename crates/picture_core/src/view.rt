@@ -1,4 +1,4 @@
-//! A picture that is asked for by words.
+//! Draws a picture that is asked for by words.
 ghost use Rattle.std.specs.Prelude.{◌≡◌, Some, IfErr, IfOk, option_copied};
 ghost use Rattle.svg_core.specs.Grammar.{IsDocument};
 ghost use Rattle.picture_core.specs.Views.{Asks, AsksOf, IsNoNode, IsNode, IsPicture, Refuses, whole_picture};
@@ -11,7 +11,7 @@ use payload_core::{Oom, Word};
 use std::alloc::Allocator;
 use svg_core::laws::document_law;
 
-/// A topic and key, at the node of this name or at each.
+/// A topic and a key, at the node named `node`, or at each node if `node` is `None`.
 #[derive(Clone, Copy, Debug, PartialEq, Eq)]
 pub struct Presence<'q> {
     pub node: Option<&'q str>,
@@ -22,17 +22,20 @@ pub struct Presence<'q> {
 /// What a picture shows.
 #[derive(Clone, Copy, Debug, PartialEq, Eq)]
 pub struct View<'q> {
-    /// The step whose future is painted, if it remains.
+    /// The step whose future is painted. Nothing is painted if this is `None`, or the step doesn't remain.
     pub why: Option<u64>,
-    /// The first step whose row is drawn.
+    /// The picture begins with the row of this step, or of the first step after it; if this is `None`, with the first
+    /// row.
     pub from: Option<u64>,
-    /// The last step whose row is drawn.
+    /// The picture ends before the row of the first step after this one; if this is `None`, or there is no such step,
+    /// with the last row.
     pub to: Option<u64>,
-    /// The lanes are thick where their nodes list these presences.
+    /// Lanes are thick where their nodes list a row of this topic and key: the lane of the node that is named, or each
+    /// lane if none is. If this is `None`, no lane is thick.
     pub of: Option<Presence<'q>>,
 }
 
-/// The number of the node of this name, if one is named.
+/// The number of the node named `name`; `None` if `name` is `None`. `NoSuchNode` if no node has the name.
 fn named_node<'a, B: Allocator>(
     bench: &Bench<'a, B>,
     name: Option<&str>,
@@ -49,7 +52,8 @@ fn named_node<'a, B: Allocator>(
     }
 }
 
-/// A topic and key, at the node of this name or at each.
+/// What is asked about, with its node by number. `NoSuchNode` if no node has the name, `NoWord` if topic or key isn't a
+/// word.
 fn presence_asked<'a, B: Allocator>(
     bench: &Bench<'a, B>,
     presence: Presence<'_>,
@@ -64,7 +68,7 @@ fn presence_asked<'a, B: Allocator>(
     Ok(Asked { node, topic, key })
 }
 
-/// What is asked about, if anything is.
+/// What is asked about, with its node by number; `None` if nothing is asked about.
 fn asked<'a, B: Allocator>(
     bench: &Bench<'a, B>,
     of: Option<Presence<'_>>,
@@ -79,10 +83,14 @@ fn asked<'a, B: Allocator>(
     }
 }
 
-/// The picture of a bench, whose consoles have these names. Time goes down: each recorded call has a row, with the number of its
-/// step, a mark on the lane of the node that it changed, and its words. A message goes along the row of the step that sent it, and
-/// then down beside the lane of the node that delivers it. What was taken back is pale and struck; the step `why` and all that
-/// follows from it, if it remains, is bold. Beside each mark its call and what it printed stand as a title.
+/// The picture of a bench whose consoles have the names `consoles`. `NoSuchNode` if no node has the name that is asked
+/// about, `NoWord` if topic or key isn't a word.
+///
+/// Time goes down: each recorded call in the range has a row, with the number of its step, if it took one, its mark,
+/// and its words. The mark stands on the lane of the node that the call changed or, of a refused call, of its actor; a
+/// refused call of a console has no mark. The title of a mark is the call, and what the call printed. A message goes
+/// along the row of the step that sent it, and then down beside the lane of the node that delivers it. What was taken
+/// back is pale and struck; the step `why`, if it remains, and all that follows from it are bold.
 pub fn draw<'a, B: Allocator>(
     alloc: &'a B,
     bench: &Bench<'a, B>,
@@ -93,6 +101,7 @@ pub fn draw<'a, B: Allocator>(
     ensures document { IfOk result (λ text. IsDocument text.items) }
     ensures refused { IfErr result (Refuses bench.now view.entry.of) }
 {
+    // form: hands out what the proof cites
     document_law();
     let asked = asked(bench, view.of, alloc)?;
     let painted = painted_of(bench, view.why, alloc)?;
@@ -101,7 +110,7 @@ pub fn draw<'a, B: Allocator>(
     Ok(text.into_bytes())
 }
 
-/// The picture of a whole run, without a question.
+/// The picture of a whole run, with no step painted and no lane thick.
 #[tactic(auto, unfolding(crate::specs::Views::whole_picture))]
 pub fn draw_whole<'a, B: Allocator>(
     alloc: &'a B,

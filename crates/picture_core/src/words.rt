@@ -10,7 +10,8 @@ use report_core::{Acted, put_acted};
 use std::alloc::Allocator;
 use transcript_core::put_call;
 
-/// The words for a reply. A step that was taken has none, as its number stands elsewhere.
+/// Appends the words for a reply after two spaces: `undone N` with the number of the step, or `no` and the fault. For a
+/// step that was taken it appends nothing, as the step's number stands in front of the row.
 fn put_reply_words<A: Allocator>(text: &mut String<A>, reply: Reply) -> Result<(), Oom>
     ensures { OnOk result (string_bytes text.new ≡ string_bytes text.old ++ reply_words reply) }
 {
@@ -21,7 +22,8 @@ fn put_reply_words<A: Allocator>(text: &mut String<A>, reply: Reply) -> Result<(
     }
 }
 
-/// The words for rows: one row by its topic and key, and more by how many they are.
+/// Appends the words for rows: for no row nothing; else two spaces, `sign`, and the topic and key if there is one row,
+/// or how many rows there are if there are several.
 fn put_row_words<A: Allocator, R: Allocator>(
     text: &mut String<A>,
     sign: &str,
@@ -43,7 +45,8 @@ fn put_row_words<A: Allocator, R: Allocator>(
     }
 }
 
-/// The call as a line of a script, its reply, and the rows that left and joined the online list of its node.
+/// The words beside a call in the picture: the call as a line of a script, the words for its reply, and those for what
+/// left and joined the online list of its node.
 #[tactic(auto, unfolding(crate::specs::Words::words_told))]
 pub fn words_of<'a, B: Allocator, N: Allocator, C: Allocator>(
     names: &Names<N>,

@@ -2,7 +2,7 @@
 use Rattle.std.proofs.Common.{◌≡◌, ℕ, ◌<◌, ◌≤◌, ◌==◌, nat_lt, Bool, true, false, if◌then◌else◌, List, [], ◌∷◌, length, take, Option, Some, None, Result, Ok, Err, IfErr, IfOk, IsOkAnd, OnOk, ap, refl, sym, subst, ◌∙◌, arith}
 use Rattle.std.proofs.lemmas.Bool.Decides.{nat_tests}
 use Rattle.std.proofs.lemmas.List.{length-take, take_all}
-use Rattle.json.specs.Word.{is_space}
+use Rattle.hint_core.specs.Sessions.{begins_object}
 use Rattle.bench_core.specs.Limits.{Limits}
 use Rattle.bench_core.specs.Machine.{Machine}
 use Rattle.bench_core.specs.NameList.{Texts}
@@ -17,26 +17,12 @@ use Rattle.stream_core.specs.Inputs.{IsFront}
 use Rattle.program_core.specs.declared.fault.Fault.{Fault}
 use Rattle.program_core.specs.declared.fault.Fault.TheVariants as faults
 use Rattle.program_core.specs.declared.inputs.Run.{Run}
-use Rattle.program_core.specs.Program.{IsBenchAt, IsBenchBy, IsRunAt, IsRunBy, RefusesBenchAt, RefusesScript, RefusesSession, begins_session, is_for_session}
-
--- whether bytes are to be a session, by the first
-
-pub begins_here : (byte : ℕ) (bytes : List ℕ) → is_space byte ≡ false → begins_session (byte ∷ bytes) ≡ (byte == 123)
-unfolding begins_session
-begins_here byte bytes other = ap (λ (space : Bool). if space then begins_session bytes else byte == 123) other
-
-pub begins_later : (byte : ℕ) (bytes : List ℕ) → is_space byte ≡ true → begins_session (byte ∷ bytes) ≡ begins_session bytes
-unfolding begins_session
-begins_later byte bytes space = ap (λ (space : Bool). if space then begins_session bytes else byte == 123) space
-
-pub begins_never : begins_session [] ≡ false
-unfolding begins_session
-begins_never = refl
+use Rattle.program_core.specs.Program.{IsBenchAt, IsBenchBy, IsRunAt, IsRunBy, RefusesBenchAt, RefusesScript, RefusesSession, is_for_session}
 
 -- what a front is to be, the whole is to be
-for_whole : (input bytes : List ℕ) (b : Bool) → bytes ≡ take 67108865 input → begins_session bytes ≡ b → is_for_session input ≡ b
+for_whole : (input bytes : List ℕ) (b : Bool) → bytes ≡ take 67108865 input → begins_object bytes ≡ b → is_for_session input ≡ b
 unfolding is_for_session
-for_whole input bytes b front begins = ap begins_session (sym front) ∙ begins
+for_whole input bytes b front begins = ap begins_object (sym front) ∙ begins
 
 -- a front that a session may have is the whole
 whole : (input bytes : List ℕ) → bytes ≡ take 67108865 input → length bytes ≤ 67108864 → bytes ≡ input
@@ -75,14 +61,14 @@ short_script bytes P spelt = go (nat_lt 1048576 (length bytes)) refl
 
 -- what is told of a front that is to be a session, or a script
 module _ (limits : Limits) (bytes : List ℕ) where
-  pub gives_session : (known : Option (List ℕ)) (m : Machine) (consoles : Texts) → IsFront known 67108865 bytes → begins_session bytes ≡ true →
+  pub gives_session : (known : Option (List ℕ)) (m : Machine) (consoles : Texts) → IsFront known 67108865 bytes → begins_object bytes ≡ true →
       length bytes ≤ 67108864 → IsSession bytes m → consoles ≡ free_consoles m → IsRunAt limits known m consoles
   gives_session None m consoles front begins few is free = tt
   gives_session (Some input) m consoles front begins few is free =
       let for_session : is_for_session input ≡ true = for_whole input bytes true front begins in
       subst (λ b. IsRunBy b limits input m consoles) (sym for_session) (subst (λ (xs : List ℕ). IsSession xs m) (whole input bytes front few) is, free)
 
-  pub gives_played : (known : Option (List ℕ)) (m : Machine) (consoles : Texts) → IsFront known 67108865 bytes → begins_session bytes ≡ false →
+  pub gives_played : (known : Option (List ℕ)) (m : Machine) (consoles : Texts) → IsFront known 67108865 bytes → begins_object bytes ≡ false →
       IsOkAnd (script_of bytes) (λ s. (m ≡ played limits s) × (consoles ≡ s.cast.consoles)) → IsRunAt limits known m consoles
   gives_played None m consoles front begins is = tt
   gives_played (Some input) m consoles front begins is =
@@ -135,14 +121,14 @@ refuses_same input bytes (faults.Refused act) same refuses = elim refuses [ ]
 refuses_same input bytes (faults.WriteFault written) same refuses = elim refuses [ ]
 
 module _ (bytes : List ℕ) (fault : Fault) where
-  pub refuses_session : (known : Option (List ℕ)) → IsFront known 67108865 bytes → begins_session bytes ≡ true →
+  pub refuses_session : (known : Option (List ℕ)) → IsFront known 67108865 bytes → begins_object bytes ≡ true →
       (67108864 < length bytes → fault ≡ faults.LongSession) → RefusesSession bytes fault → RefusesBenchAt known fault
   refuses_session None front begins long refuses = tt
   refuses_session (Some input) front begins long refuses =
       let for_session : is_for_session input ≡ true = for_whole input bytes true front begins in
       (λ _. refuses_whole input bytes fault front long refuses, λ no. absurd (cc (for_session, no)))
 
-  pub refuses_script : (known : Option (List ℕ)) → IsFront known 67108865 bytes → begins_session bytes ≡ false → RefusesScript bytes fault →
+  pub refuses_script : (known : Option (List ℕ)) → IsFront known 67108865 bytes → begins_object bytes ≡ false → RefusesScript bytes fault →
       RefusesBenchAt known fault
   refuses_script None front begins refuses = tt
   refuses_script (Some input) front begins refuses =
@@ -152,7 +138,7 @@ module _ (bytes : List ℕ) (fault : Fault) where
 -- the same of what is answered
 
 pub session_gives : {B : Type 0} (limits : Limits) (bytes : List ℕ) (known : Option (List ℕ)) (r : Result (Run B) Fault) → IsFront known 67108865 bytes →
-    begins_session bytes ≡ true → (67108864 < length bytes → r ≡ Err faults.LongSession) →
+    begins_object bytes ≡ true → (67108864 < length bytes → r ≡ Err faults.LongSession) →
     IfOk r (λ run. IsSession bytes run.bench × (run.consoles ≡ free_consoles run.bench)) → IfOk r (λ run. IsRunAt limits known run.bench run.consoles)
 session_gives limits bytes known (Err fault) front begins long is = tt
 session_gives limits bytes known (Ok run) front begins long is =
@@ -165,7 +151,7 @@ session_gives limits bytes known (Ok run) front begins long is =
     go false few = grind (arith, nat_tests)
 
 pub session_refuses : {B : Type 0} (bytes : List ℕ) (known : Option (List ℕ)) (r : Result (Run B) Fault) → IsFront known 67108865 bytes →
-    begins_session bytes ≡ true → (67108864 < length bytes → r ≡ Err faults.LongSession) → IfErr r (RefusesSession bytes) → IfErr r (RefusesBenchAt known)
+    begins_object bytes ≡ true → (67108864 < length bytes → r ≡ Err faults.LongSession) → IfErr r (RefusesSession bytes) → IfErr r (RefusesBenchAt known)
 session_refuses bytes known (Ok m) front begins long refuses = tt
 session_refuses bytes known (Err fault) front begins long refuses =
     refuses_session bytes fault known front begins (λ past. cc (long past)) refuses
@@ -174,12 +160,12 @@ abbrev IsPlayed : {B : Type 0} → Limits → List ℕ → Run B → Type 0
 IsPlayed limits bytes run = IsOkAnd (script_of bytes) (λ s. (run.bench ≡ played limits s) × (run.consoles ≡ s.cast.consoles))
 
 pub script_gives : {B : Type 0} (limits : Limits) (bytes : List ℕ) (known : Option (List ℕ)) (r : Result (Run B) Fault) → IsFront known 67108865 bytes →
-    begins_session bytes ≡ false → IfOk r (IsPlayed limits bytes) → IfOk r (λ run. IsRunAt limits known run.bench run.consoles)
+    begins_object bytes ≡ false → IfOk r (IsPlayed limits bytes) → IfOk r (λ run. IsRunAt limits known run.bench run.consoles)
 script_gives limits bytes known (Err fault) front begins is = tt
 script_gives limits bytes known (Ok run) front begins is = gives_played limits bytes known run.bench run.consoles front begins is
 
 pub script_refuses : {B : Type 0} (bytes : List ℕ) (known : Option (List ℕ)) (r : Result (Run B) Fault) → IsFront known 67108865 bytes →
-    begins_session bytes ≡ false → IfErr r (RefusesScript bytes) → IfErr r (RefusesBenchAt known)
+    begins_object bytes ≡ false → IfErr r (RefusesScript bytes) → IfErr r (RefusesBenchAt known)
 script_refuses bytes known (Ok m) front begins refuses = tt
 script_refuses bytes known (Err fault) front begins refuses = refuses_script bytes fault known front begins refuses
 

@@ -11,7 +11,7 @@ use Rattle.import_core.specs.declared.fault.FaultKind.TheVariants as kinds
 use Rattle.import_core.specs.declared.fault.ImportFault.{ImportFault}
 use Rattle.program_core.specs.declared.fault.Fault.{Fault}
 use Rattle.program_core.specs.declared.fault.Fault.TheVariants as faults
-use Rattle.program_core.specs.Imported.{EndsAsMade, IsLeftOut, IsMade, IsUnmade, RefusesEvents, RefusesEventsAt, RefusesImport, RefusesImportAt, TellsLeft, TellsLines}
+use Rattle.program_core.specs.Imported.{EndsAsMade, IsMade, IsUnmade, RefusesEvents, RefusesEventsAt, RefusesImport, RefusesImportAt, TellsLines, TellsMissing}
 use Rattle.program_core.specs.Program.{EndsAt, Ends, FailsAs, IsUnwritten, KeepsBefore, TellsMemory, fault_of_import}
 use Rattle.program_core.proofs.Printed.{cause_ends}
 
@@ -78,13 +78,13 @@ import_unread fault e = read_by fault.line fault.kind e
 
 -- what was printed
 
-module _ (check lines lenient : Bool) (form : Form) (limits : Limits) (text left_out : List ℕ) (old new : Option (List ℕ)) where
-  ends_made : (input : List ℕ) (differs : Bool) (r : Result (Unit {0}) Fault) → IsMade check lines lenient form limits input text differs left_out →
+module _ (check lines lenient : Bool) (form : Form) (limits : Limits) (text left_out : List ℕ) (full : Bool) (old new : Option (List ℕ)) where
+  ends_made : (input : List ℕ) (differs : Bool) (r : Result (Unit {0}) Fault) → IsMade check lines lenient form limits input text differs left_out full →
       EndsAsMade text differs r old new → Ends (Import check lines lenient) form limits input r old new
-  ends_made input differs (Ok u) is e = (text, (left_out, subst (λ b. IsMade check lines lenient form limits input text b left_out) e.0 is), e.1, refl)
-  ends_made input differs (Err faults.Differs) is e = (text, (left_out, subst (λ b. IsMade check lines lenient form limits input text b left_out) e.0 is), e.1)
-  ends_made input true (Err (faults.WriteFault written)) is e = (text, inr (left_out, is), e.0, e.1)
-  ends_made input false (Err (faults.WriteFault written)) is e = (text, inl (left_out, is), e.0, e.1)
+  ends_made input differs (Ok u) is e = (text, (left_out, full, subst (λ b. IsMade check lines lenient form limits input text b left_out full) e.0 is), e.1, refl)
+  ends_made input differs (Err faults.Differs) is e = (text, (left_out, full, subst (λ b. IsMade check lines lenient form limits input text b left_out full) e.0 is), e.1)
+  ends_made input true (Err (faults.WriteFault written)) is e = (text, inr (left_out, full, is), e.0, e.1)
+  ends_made input false (Err (faults.WriteFault written)) is e = (text, inl (left_out, full, is), e.0, e.1)
   ends_made input differs (Err (faults.Script fault)) is e = elim e [ ]
   ends_made input differs (Err (faults.Session fault)) is e = elim e [ ]
   ends_made input differs (Err faults.LongSession) is e = elim e [ ]
@@ -102,11 +102,11 @@ module _ (check lines lenient : Bool) (form : Form) (limits : Limits) (text left
   ends_made input differs (Err faults.OutOfMemory) is e = elim e [ ]
 
   pub ends_import : (known : Option (List ℕ)) (bytes : List ℕ) (differs : Bool) (r : Result (Unit {0}) Fault) → IsWhole known bytes →
-      IsMade check lines lenient form limits bytes text differs left_out → EndsAsMade text differs r old new →
+      IsMade check lines lenient form limits bytes text differs left_out full → EndsAsMade text differs r old new →
       EndsAt (Import check lines lenient) form limits known r old new
   ends_import None bytes differs r whole is e = tt
   ends_import (Some input) bytes differs r whole is e =
-      ends_made input differs r (subst (λ (b : List ℕ). IsMade check lines lenient form limits b text differs left_out) whole is) e
+      ends_made input differs r (subst (λ (b : List ℕ). IsMade check lines lenient form limits b text differs left_out full) whole is) e
 
 module _ (text : List ℕ) (differs : Bool) (old new : Option (List ℕ)) where
   pub made_before : (r : Result (Unit {0}) Fault) → EndsAsMade text differs r old new → IfErr r (λ fault. KeepsBefore fault old new)
@@ -207,25 +207,18 @@ module _ (check lines lenient : Bool) (form : Form) (limits : Limits) where
 
 -- what is told beside it
 
-pub told_left : (check lines lenient : Bool) (form : Form) (limits : Limits) (known : Option (List ℕ)) (bytes text : List ℕ) (differs : Bool) (left_out : List ℕ)
-    (old new : Option (List ℕ)) → IsWhole known bytes → IsMade check lines lenient form limits bytes text differs left_out → TellsLines left_out old new →
-    TellsLeft lenient known old new
-told_left check lines lenient form limits None bytes text differs left_out old new whole is told = tt
-told_left check lines lenient form limits (Some input) bytes text differs left_out old new whole is told =
-    inr (left_out, subst (λ (b : List ℕ). IsLeftOut lenient b left_out) whole (by check form is), told)
-  where
-    by : (check : Bool) (form : Form) → IsMade check lines lenient form limits bytes text differs left_out → IsLeftOut lenient bytes left_out
-    by true form is = (is.tables, is.notes, is.order, is.import)
-    by false forms.Session (same, m, is, text) = (is.tables, is.notes, is.order, is.import)
-    by false forms.Page (same, m, keys, is, text) = (is.tables, is.notes, is.order, is.import)
-    by false forms.Script (same, m, is) = (is.tables, is.notes, is.order, is.import)
-    by false forms.Report (same, m, is) = (is.tables, is.notes, is.order, is.import)
-    by false forms.Steps (same, m, is) = (is.tables, is.notes, is.order, is.import)
+pub told_missing : (check lines lenient : Bool) (form : Form) (limits : Limits) (known : Option (List ℕ)) (bytes text : List ℕ) (differs : Bool) (left_out : List ℕ)
+    (full : Bool) (old new : Option (List ℕ)) → IsWhole known bytes → IsMade check lines lenient form limits bytes text differs left_out full →
+    TellsLines left_out full old new → TellsMissing check lines lenient form limits known old new
+told_missing check lines lenient form limits None bytes text differs left_out full old new whole is told = tt
+told_missing check lines lenient form limits (Some input) bytes text differs left_out full old new whole is told =
+    inr (text, differs, left_out, full, subst (λ (b : List ℕ). IsMade check lines lenient form limits b text differs left_out full) whole is, told)
 
-pub told_nothing : (lenient : Bool) (known old : Option (List ℕ)) → TellsLeft lenient known old old
-told_nothing lenient None old = tt
-told_nothing lenient (Some input) None = inl tt
-told_nothing lenient (Some input) (Some bytes) = inl refl
+pub told_nothing : (check lines lenient : Bool) (form : Form) (limits : Limits) (known old : Option (List ℕ)) →
+    TellsMissing check lines lenient form limits known old old
+told_nothing check lines lenient form limits None old = tt
+told_nothing check lines lenient form limits (Some input) None = inl tt
+told_nothing check lines lenient form limits (Some input) (Some bytes) = inl refl
 
 pub take_whole : (xs : List ℕ) → take (length xs) xs ≡ xs
 take_whole [] = refl

@@ -1,15 +1,12 @@
 -- What is printed of the events of logs, what goes to the errors, and why there is nothing.
-use Rattle.std.specs.Prelude.{◌≡◌, ◌⊎◌, ℕ, ◌<◌, Bool, true, false, List, ◌++◌, length, take, codes, decimal, ⊤, Option, None, Some, Result, Ok, Err}
+use Rattle.std.specs.Prelude.{◌≡◌, ◌⊎◌, ℕ, ◌<◌, nat_lt, Bool, true, false, List, [], ◌++◌, length, take, codes, decimal, ⊤, Option, None, Some, Result, Ok, Err}
 use Rattle.std.specs.Io.KnownBytes.{Appends, Keeps}
 use Rattle.std.specs.List.{flat_map}
 use Rattle.bench_core.specs.Limits.{Limits}
-use Rattle.bench_core.specs.Machine.{Machine}
+use Rattle.bench_core.specs.Machine.{Machine, config_of, free_places}
 use Rattle.command_line.specs.declared.chosen.Form.{Form}
 use Rattle.command_line.specs.declared.chosen.Form.TheVariants.{Session, Page}
 use Rattle.import_core.specs.Faults.{IsImportFault}
-use Rattle.import_core.specs.Imports.{IsImportOf}
-use Rattle.import_core.specs.Notes.{Note}
-use Rattle.import_core.specs.Tables.{AllTables}
 use Rattle.import_core.specs.declared.fault.ImportFault.{ImportFault}
 use Rattle.import_page.specs.Keys.{IsShownOf}
 use Rattle.import_report.specs.Checks.{IsCheckOf}
@@ -19,18 +16,26 @@ use Rattle.program_core.specs.Views.{page_with}
 use Rattle.program_core.specs.declared.fault.Fault.{Fault}
 use Rattle.program_core.specs.declared.fault.Fault.TheVariants as faults
 
+-- whether the history of a bench has no place for one more step and its undo
+abbrev pub is_full : Machine → Bool
+is_full m = nat_lt (free_places (config_of m) m.state) 2
+
 -- what is made of the events: where the bench and the real nodes part, if they do; the session of the bench that they leave; its
--- page, with what the logs tell besides its calls; or else their script. And the lines that are left out
-abbrev pub IsMade : Bool → Bool → Bool → Form → Limits → List ℕ → List ℕ → Bool → List ℕ → Type 0
-IsMade true lines lenient form limits input text differs left_out = IsCheckOf lenient limits input text differs left_out
-IsMade false lines lenient Session limits input text differs left_out = (differs ≡ false) × (m : Machine) × IsBenchOf lenient limits input m left_out × (text ≡ session_text m)
-IsMade false lines lenient Page limits input text differs left_out =
-    (differs ≡ false) × (m : Machine) × (keys : List ℕ) × IsShownOf lenient limits input m keys left_out × (text ≡ page_with m keys)
-IsMade false lines lenient _ limits input text differs left_out = (differs ≡ false) × (m : Machine) × IsImported lenient lines limits input text m left_out
+-- page, with what the logs tell besides its calls; or else their script. And the lines that are left out, and whether a bench that
+-- the text holds is full, so that later steps may be missing in it
+abbrev pub IsMade : Bool → Bool → Bool → Form → Limits → List ℕ → List ℕ → Bool → List ℕ → Bool → Type 0
+IsMade true lines lenient form limits input text differs left_out full = IsCheckOf lenient limits input text differs left_out × (full ≡ false)
+IsMade false lines lenient Session limits input text differs left_out full =
+    (differs ≡ false) × (m : Machine) × IsBenchOf lenient limits input m left_out × (text ≡ session_text m) × (full ≡ is_full m)
+IsMade false lines lenient Page limits input text differs left_out full =
+    (differs ≡ false) × (m : Machine) × (keys : List ℕ) × IsShownOf lenient limits input m keys left_out × (text ≡ page_with m keys) × (full ≡ is_full m)
+IsMade false lines lenient _ limits input text differs left_out full =
+    (differs ≡ false) × (m : Machine) × IsImported lenient lines limits input text m left_out × (full ≡ false)
 
 -- the text is what is printed, and the bench and the real nodes part or not
 abbrev pub PrintsImport : Bool → Bool → Bool → Form → Limits → List ℕ → Bool → List ℕ → Type 0
-PrintsImport check lines lenient form limits input differs text = (left_out : List ℕ) × IsMade check lines lenient form limits input text differs left_out
+PrintsImport check lines lenient form limits input differs text =
+    (left_out : List ℕ) × (full : Bool) × IsMade check lines lenient form limits input text differs left_out full
 
 -- all of the text went out, and the result says whether the bench and the real nodes part; or, if the writing failed, its first
 -- `written` bytes went out
@@ -77,15 +82,18 @@ left_line line = codes "presence_bench: line " ++ decimal line ++ codes ": left 
 unfoldable pub left_lines : List ℕ → List ℕ
 left_lines left_out = flat_map (λ line. left_line line) left_out
 
+-- `presence_bench: the history is full: later steps are not in it`, if it is
+unfoldable pub full_line : Bool → List ℕ
+full_line true = codes "presence_bench: the history is full: later steps are not in it\n"
+full_line false = []
+
 -- a beginning of these lines went out
-abbrev pub TellsLines : List ℕ → Option (List ℕ) → Option (List ℕ) → Type 0
-TellsLines left_out old new = (count : ℕ) × Appends old new (take count (left_lines left_out))
+abbrev pub TellsLines : List ℕ → Bool → Option (List ℕ) → Option (List ℕ) → Type 0
+TellsLines left_out full old new = (count : ℕ) × Appends old new (take count (left_lines left_out ++ full_line full))
 
--- the lines that are left out of the input
-abbrev pub IsLeftOut : Bool → List ℕ → List ℕ → Type 0
-IsLeftOut lenient input left_out = (t : AllTables) × (notes : List Note) × (order : List ℕ) × IsImportOf lenient input t notes order left_out
-
--- to the errors went nothing, or a beginning of the lines that were left out
-abbrev pub TellsLeft : Bool → Option (List ℕ) → Option (List ℕ) → Option (List ℕ) → Type 0
-TellsLeft lenient None old new = ⊤
-TellsLeft lenient (Some input) old new = Keeps old new ⊎ ((left_out : List ℕ) × IsLeftOut lenient input left_out × TellsLines left_out old new)
+-- to the errors went nothing, or a beginning of the lines that tell what is left out of what is made, and whether it is full
+abbrev pub TellsMissing : Bool → Bool → Bool → Form → Limits → Option (List ℕ) → Option (List ℕ) → Option (List ℕ) → Type 0
+TellsMissing check lines lenient form limits None old new = ⊤
+TellsMissing check lines lenient form limits (Some input) old new =
+    Keeps old new ⊎ ((text : List ℕ) × (differs : Bool) × (left_out : List ℕ) × (full : Bool)
+    × IsMade check lines lenient form limits input text differs left_out full × TellsLines left_out full old new)

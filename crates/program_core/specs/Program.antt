@@ -1,7 +1,6 @@
 -- What the program prints, and how it ends.
 use Rattle.std.specs.Prelude.{◌≡◌, ◌≢◌, ◌⊎◌, ℕ, ◌+◌, ◌<◌, ◌==◌, Bool, true, false, if◌then◌else◌, List, [], ◌∷◌, ◌++◌, length, take, codes, ⊤, Option, None, Some, Result, Ok, Err, OnOk, IfErr, IfOk, IsOkAnd}
 use Rattle.std.specs.Io.KnownBytes.{Appends, IsAtEnd, Keeps}
-use Rattle.json.specs.Word.{is_space}
 use Rattle.bench_core.specs.Limits.{Limits}
 use Rattle.bench_core.specs.Machine.{Machine}
 use Rattle.bench_core.specs.NameList.{Texts}
@@ -14,6 +13,7 @@ use Rattle.picture_core.specs.Views.{IsPicture, Refuses as RefusesPicture}
 use Rattle.picture_core.specs.declared.draw_fault.DrawFault.TheVariants as draws
 use Rattle.picture_core.specs.declared.view.View.{View}
 use Rattle.grammar_core.specs.Grammar.{script_of}
+use Rattle.hint_core.specs.Sessions.{begins_object}
 use Rattle.run_core.specs.Report.{history_text, played, report_of}
 use Rattle.transcript_core.specs.Actors.{free_consoles}
 use Rattle.transcript_core.specs.Scripts.{Refuses as RefusesScriptOf}
@@ -42,7 +42,7 @@ use Rattle.prompt_core.specs.declared.prompt_fault.PromptFault.TheVariants as pr
 use Rattle.command_line.specs.Help.{language}
 use Rattle.program_core.specs.Races.{IsRaceOf, RefusesRaceOf}
 use Rattle.program_core.specs.Views.{page_of, view_of}
-use Rattle.program_core.specs.Imported.{PrintsImport, RefusesImport, TellsLeft}
+use Rattle.program_core.specs.Imported.{PrintsImport, RefusesImport, TellsMissing}
 use Rattle.program_core.specs.Texts.{session_text}
 use Rattle.program_core.specs.Shown.{PrintsBench, PrintsPlay, refused_act, refused_line}
 use Rattle.program_core.specs.Whatifs.{RefusesWhatif, TellsWhatif}
@@ -152,14 +152,9 @@ RefusesSession input fault = ⊥
 
 -- a script or a session
 
--- whether the bytes should be a session: the first that isn't JSON's space is `{`
-unfoldable pub begins_session : List ℕ → Bool
-begins_session [] = false
-begins_session (byte ∷ bytes) = if is_space byte then begins_session bytes else byte == 123
-
--- whether the input should be a session; this looks at no more of it than a session may have, and one byte more
+-- whether the input should be a session: whether its first byte that isn't JSON's space is `{`; this looks at no more of it than a session may have, and one byte more
 unfoldable pub is_for_session : List ℕ → Bool
-is_for_session input = begins_session (take 67108865 input)
+is_for_session input = begins_object (take 67108865 input)
 
 -- the input gives this bench: that of the session, or that on which the script was played
 abbrev pub IsBenchBy : Bool → Limits → List ℕ → Machine → Type 0
@@ -386,18 +381,18 @@ FailsAs (Err faults.ReadFault) old new = new.failed ≡ old.failed + 1
 FailsAs (Err (faults.Prompt prompts.ReadFault)) old new = new.failed ≡ old.failed + 1
 FailsAs _ old new = new.failed ≡ old.failed
 
--- to the errors went nothing; or, for the events of logs, what was left out, and for long work, how far it has come
-abbrev pub TellsAside : Subcommand → Option (List ℕ) → Option (List ℕ) → Option (List ℕ) → Type 0
-TellsAside (Import check lines lenient) input old new = TellsLeft lenient input old new
-TellsAside (Play strict) input old new = Keeps old new
-TellsAside Race input old new = Keeps old new
-TellsAside (Load strict) input old new = Keeps old new
-TellsAside (Explore about lost again states outcome) input old new = TellsWalked old new
-TellsAside Step input old new = Keeps old new
-TellsAside (Draw drawing) input old new = Keeps old new
-TellsAside Page input old new = Keeps old new
-TellsAside (Explain question) input old new = Keeps old new
-TellsAside (Whatif question change) input old new = TellsTried old new
+-- to the errors went nothing; or, for the events of logs, what isn't in the text, and for long work, how far it has come
+abbrev pub TellsAside : Subcommand → Form → Limits → Option (List ℕ) → Option (List ℕ) → Option (List ℕ) → Type 0
+TellsAside (Import check lines lenient) form limits input old new = TellsMissing check lines lenient form limits input old new
+TellsAside (Play strict) form limits input old new = Keeps old new
+TellsAside Race form limits input old new = Keeps old new
+TellsAside (Load strict) form limits input old new = Keeps old new
+TellsAside (Explore about lost again states outcome) form limits input old new = TellsWalked old new
+TellsAside Step form limits input old new = Keeps old new
+TellsAside (Draw drawing) form limits input old new = Keeps old new
+TellsAside Page form limits input old new = Keeps old new
+TellsAside (Explain question) form limits input old new = Keeps old new
+TellsAside (Whatif question change) form limits input old new = TellsTried old new
 
 -- the word that chooses a command
 abbrev pub word_of : Subcommand → List ℕ
@@ -427,15 +422,16 @@ Announces true Step old new = new ≡ old
 Announces true command old new = TellsInput command old new
 
 -- what goes to the errors after `input_line`: the signs of a prompt on a terminal
-abbrev pub TellsOn : Bool → Limits → Subcommand → Option (List ℕ) → Option (List ℕ) → Option (List ℕ) → Type 0
-TellsOn terminal limits Step input old new = Shows terminal language limits input old new
-TellsOn terminal limits command input old new = TellsAside command input old new
+abbrev pub TellsOn : Bool → Limits → Subcommand → Form → Option (List ℕ) → Option (List ℕ) → Option (List ℕ) → Type 0
+TellsOn terminal limits Step form input old new = Shows terminal language limits input old new
+TellsOn terminal limits command form input old new = TellsAside command form limits input old new
 
 -- all that goes to the errors of the program
-abbrev pub TellsBeside : Bool → Limits → Subcommand → Option (List ℕ) → Option (List ℕ) → Option (List ℕ) → Type 0
-TellsBeside false limits command input old new = TellsAside command input old new
-TellsBeside true limits Step input old new = Shows true language limits input old new
-TellsBeside true limits command input old new = (middle : Option (List ℕ)) × TellsInput command old middle × TellsAside command input middle new
+abbrev pub TellsBeside : Bool → Limits → Subcommand → Form → Option (List ℕ) → Option (List ℕ) → Option (List ℕ) → Type 0
+TellsBeside false limits command form input old new = TellsAside command form limits input old new
+TellsBeside true limits Step form input old new = Shows true language limits input old new
+TellsBeside true limits command form input old new =
+    (middle : Option (List ℕ)) × TellsInput command old middle × TellsAside command form limits input middle new
 
 -- the input was read to its end; by a prompt perhaps only up to a line that ends it
 abbrev pub IsReadBy : Subcommand → Option (List ℕ) → Option (List ℕ) → Type 0
@@ -478,9 +474,9 @@ EndsProgram words input left limits status old new before after =
 
 -- a program that ends well wrote nothing to the errors, unless its words choose what may go there
 abbrev pub IsQuiet : List (List ℕ) → Option (List ℕ) → Option (List ℕ) → Option (List ℕ) → Type 0
-IsQuiet words input old new = Keeps old new ⊎ ((choice : Choice) × Chooses words choice × TellsAside choice.command input old new)
+IsQuiet words input old new = Keeps old new ⊎ ((choice : Choice) × Chooses words choice × TellsAside choice.command choice.form usual input old new)
 
 -- a program on a terminal, or not, that ends well wrote nothing to the errors, unless its words choose what may go there
 abbrev pub IsQuietOn : Bool → Limits → List (List ℕ) → Option (List ℕ) → Option (List ℕ) → Option (List ℕ) → Type 0
 IsQuietOn terminal limits words input old new =
-    Keeps old new ⊎ ((choice : Choice) × Chooses words choice × TellsBeside terminal limits choice.command input old new)
+    Keeps old new ⊎ ((choice : Choice) × Chooses words choice × TellsBeside terminal limits choice.command choice.form input old new)

@@ -1,4 +1,4 @@
-//! What the network could have made of the steps of a bench.
+//! Tells what the network could have made of the steps of a bench.
 ghost use Rattle.std.specs.Prelude.{◌≡◌, IfErr, IfOk, string_bytes};
 ghost use Rattle.program_core.specs.Explored.{RefusesExplored, TellsExplored, about_of, asked_of};
 ghost use Rattle.progress_core.specs.Watches.{Watched};
@@ -8,7 +8,7 @@ use explore_report::{About, Question, ReportFault, explore_asked, run_of_outcome
 use progress_core::{Walked, Watch};
 use std::alloc::Allocator;
 
-/// What the chosen exploration is about.
+/// What the chosen exploration is about, as `explore_report` takes it.
 fn about_of<'w>(chosen: command_line::About<'w>) -> About<'w>
     ensures { result ≡ about_of chosen.entry }
 {
@@ -21,7 +21,7 @@ fn about_of<'w>(chosen: command_line::About<'w>) -> About<'w>
     }
 }
 
-/// The whole question.
+/// The question that was chosen, as `explore_report` takes it.
 pub fn asked_of<'w>(
     chosen: command_line::About<'w>,
     lost: usize,
@@ -38,7 +38,8 @@ pub fn asked_of<'w>(
     }
 }
 
-/// The outcomes of what the network could have done; or, given the number of one, a run that leads there, as a script.
+/// The outcomes of what the network could have done; or, given the number of an `outcome`, a run that leads to it, as a
+/// script.
 pub fn tell_explored<'a, B: Allocator, W: Watch<Walked>>(
     alloc: &'a B,
     bench: &Bench<'a, B>,

@@ -14,7 +14,8 @@ use transcript_core::TranscriptFault;
 use whatif_report::WhatifFault;
 use worker_core::RaceFault;
 
-/// An act that was refused in a strict run: by the number of its line in a script, or by its own in a session.
+/// An act or an unwind that was refused in a strict run. `number` is the number of its line in a script (`Line`), or of
+/// the act in a session, counted from 1 (`Act`).
 #[derive(Clone, Copy, Debug, PartialEq, Eq, Error)]
 pub enum Refused {
     #[error("line {number}: {fault}")]
@@ -29,55 +30,56 @@ pub enum Refused {
     },
 }
 
-/// Why the program ends early. Its text is the line on standard error.
+/// Why the program ends early. The fault's text stands on standard error behind `presence_bench: `; for `Differs`
+/// nothing is printed there.
 #[derive(Clone, Copy, Debug, PartialEq, Eq, Error)]
 pub enum Fault {
-    /// The first fault of a script.
+    /// The first fault of a script. It is never `OutOfMemory`.
     #[error("{0}")]
     Script(ScriptFault),
-    /// Why a text is no session.
+    /// Why a text isn't a session. It is never `OutOfMemory`.
     #[error("session: {0}")]
     Session(SessionFault),
-    /// A text is longer than a session may be.
+    /// An input has more bytes than a session may have.
     #[error("session: TooLong")]
     LongSession,
-    /// Why the events of logs give no script. Want of memory is never in it.
+    /// Why the events of logs are refused. It is never `OutOfMemory`.
     #[error("{0}")]
     Import(ImportFault),
-    /// The events of logs have more bytes than they may.
+    /// The events of logs have more bytes than is allowed.
     #[error("line 0: TooLong")]
     LongImport,
-    /// A check found that the bench and the real nodes part. All that is printed went out.
+    /// A check found that the bench and the real nodes part. The whole text went out.
     #[error("the bench and the real nodes part")]
     Differs,
-    /// Why a race can't be vouched for. Want of memory is never in it.
+    /// Why a race may not begin, or why it can't be vouched for afterwards. It is never `OutOfMemory`.
     #[error("race: {0}")]
     Race(RaceFault),
-    /// Why there is no exploration. Want of memory is never in it.
+    /// Why there is no exploration. It is never `OutOfMemory`.
     #[error("explore: {0}")]
     Explore(ReportFault),
-    /// Why there is no explanation. Want of memory is never in it.
+    /// Why there is no explanation. It is never `OutOfMemory`.
     #[error("explain: {0}")]
     Explain(AskFault),
-    /// Why there is no picture. Want of memory is never in it.
+    /// Why there is no picture. It is never `OutOfMemory`.
     #[error("draw: {0}")]
     Draw(DrawFault),
-    /// Why there is no answer to what would have made a difference. Want of memory is never in it.
+    /// Why there is no answer to what would have made a difference. It is never `OutOfMemory`.
     #[error("whatif: {0}")]
     Whatif(WhatifFault),
-    /// Why there is no script of a bench's calls. Want of memory is never in it.
+    /// Why the calls of a bench can't be written as a script. It is never `OutOfMemory`.
     #[error("script: {0}")]
     Transcript(TranscriptFault),
-    /// An act was refused in a strict run. All that is printed went out.
+    /// An act or an unwind was refused in a strict run. The whole text went out.
     #[error("{0}")]
     Refused(Refused),
-    /// A prompt ended early, after what it had answered.
+    /// A prompt ended early. What it had answered before went out.
     #[error("{0}")]
     Prompt(PromptFault),
     /// A read failed.
     #[error("read fault")]
     ReadFault,
-    /// Exactly the first `written` bytes went out.
+    /// A write failed or took nothing. Exactly the first `written` bytes went out.
     #[error("write fault")]
     WriteFault { written: usize },
     /// A request for memory was refused.
@@ -86,10 +88,13 @@ pub enum Fault {
 }
 
 impl Fault {
-    /// The status with which it ends the program.
+    /// The status with which this fault ends the program. It is 1 if the input or what was asked is refused, 3 if a
+    /// stream failed, 4 if memory was refused, and 5 if a race can't be vouched for. It is 6 if a check found a
+    /// difference, or an act or an unwind was refused in a strict run.
     pub fn status(self) -> u8
         ensures { result ≡ fault_status self }
     {
+        // form: each arm is a case of the proof
         match self {
             Fault::Script(_) | Fault::Session(_) | Fault::LongSession => 1,
             Fault::Import(_) | Fault::LongImport => 1,

@@ -2,7 +2,7 @@
 ghost use Rattle.std.specs.Prelude.{◌≡◌, ℕ};
 ghost use Rattle.std.specs.Process.{exit_status};
 
-use crate::status::{program_within, want_of_memory};
+use crate::status::{program_within, tell_out_of_memory};
 use bench_core::Limits;
 use std::io::{IsTerminal, Write};
 use std::marker::Model;
@@ -11,8 +11,8 @@ use std::sync::Wait;
 use std::thread::Threads;
 use std::{env, io};
 
-/// How the program ended. Only `run` makes one, so that a `main` which gives one back ran the program and keeps its status.
-/// A contract sees the status.
+/// How the program ended; a contract sees the status. Only `run` makes an `Ended`, so a `main` that returns one has run
+/// the program, and exits with its status.
 #[derive(Drop, Debug)]
 pub struct Ended {
     status: u8,
@@ -32,20 +32,21 @@ impl Termination for Ended {
     }
 }
 
-/// Does what the words after the program's name ask. A race takes its threads from `threads`.
+/// Does what the words after the program's name ask for. A race takes its threads from `threads`.
 pub fn run<T: Threads + Wait + Sync>(rt: &HostRuntime, threads: &T) -> Ended {
     Ended {
         status: status(rt, threads),
     }
 }
 
-/// The status of the program. Words that can't be read choose nothing, and the program prints why.
+/// Runs the program on the runtime's words and streams, and gives its status. If the words can't be read, it prints why
+/// instead, and gives 2, or 4 if memory was refused.
 fn status<T: Threads + Wait + Sync>(rt: &HostRuntime, threads: &T) -> u8 {
     let mut errors = rt.stderr();
     let words = match env::args(rt) {
         Ok(words) => words,
         Err(fault) if fault.kind() == io::ErrorKind::OutOfMemory => {
-            return want_of_memory(&mut errors);
+            return tell_out_of_memory(&mut errors);
         }
         Err(_) => {
             let _ = writeln!(errors, "error: a word is no text");
@@ -53,7 +54,7 @@ fn status<T: Threads + Wait + Sync>(rt: &HostRuntime, threads: &T) -> u8 {
         }
     };
     let Ok(words) = words.skip(1).collect::<Vec<String>>(rt.alloc()) else {
-        return want_of_memory(&mut errors);
+        return tell_out_of_memory(&mut errors);
     };
     let terminal = rt.stdin().is_terminal();
     let mut output = io::writer(rt);

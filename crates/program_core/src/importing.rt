@@ -4,16 +4,17 @@ ghost use Rattle.std.specs.Io.KnownBytes.{IsAtEnd};
 ghost use Rattle.stream_core.specs.Inputs.{IsWhole};
 ghost use Rattle.command_line.specs.declared.chosen.Form.TheVariants as forms;
 ghost use Rattle.command_line.specs.declared.chosen.Subcommand.TheVariants as subcommands;
-ghost use Rattle.program_core.specs.Imported.{EndsAsMade, IsMade, IsUnmade, RefusesEventsAt, RefusesImport, TellsLeft, TellsLines, left_line, left_lines};
+ghost use Rattle.program_core.specs.Imported.{EndsAsMade, IsMade, IsUnmade, RefusesEventsAt, RefusesImport, TellsLines, TellsMissing, full_line, is_full, left_line, left_lines};
 ghost use Rattle.program_core.specs.Texts.{text_bytes};
 ghost use Rattle.program_core.specs.Program.{EndsAt, FailsAs, IsUnwritten, KeepsBefore, TellsMemory, fault_of_import};
 
+use crate::aside::Aside;
 use crate::fault::Fault;
 use crate::pages::page_with;
 use crate::printing::print;
 use crate::text::{Text, bytes_of};
 use crate::texts::{LONGEST_SESSION, session_line};
-use bench_core::Limits;
+use bench_core::{Bench, Limits};
 use command_line::Form;
 use import_core::{FaultKind, ImportFault};
 use import_page::import_shown;
@@ -24,7 +25,7 @@ use std::alloc::{Allocator, Global};
 use std::io::{Read, Write};
 use std::sync::ledger::Ledger;
 
-/// The bytes of the logs. If the input is too long, it keeps no more of it than logs may have.
+/// The bytes of the logs; `LongImport` if there are more than logs may have.
 fn read_events<'a, B: Allocator, R: Read, L: Ledger>(
     alloc: &'a B,
     reader: &mut R,
@@ -45,7 +46,7 @@ fn read_events<'a, B: Allocator, R: Read, L: Ledger>(
     }
 }
 
-/// `presence_bench: line L: left out`.
+/// Appends `presence_bench: line L: left out`, with L the number `line`, and a line feed.
 #[tactic(auto, unfolding(crate::specs::Imported::left_line))]
 fn put_left_line<A: Allocator>(text: &mut String<A>, line: u64) -> Result<(), Oom>
     ensures { OnOk result (string_bytes text.new ≡ string_bytes text.old ++ left_line line) }
@@ -53,7 +54,7 @@ fn put_left_line<A: Allocator>(text: &mut String<A>, line: u64) -> Result<(), Oo
     Ok(writeln!(text, "presence_bench: line {line}: left out")?)
 }
 
-/// A line `presence_bench: line L: left out` for each of these lines.
+/// Appends a line `presence_bench: line L: left out` for each number L in `left_out`.
 #[tactic(auto, unfolding(crate::specs::Imported::left_lines))]
 fn put_left<A: Allocator>(text: &mut String<A>, left_out: &[u64]) -> Result<(), Oom>
     ensures { OnOk result (string_bytes text.new ≡ string_bytes text.old ++ left_lines left_out.now) }
@@ -64,19 +65,37 @@ fn put_left<A: Allocator>(text: &mut String<A>, left_out: &[u64]) -> Result<(), 
     Ok(())
 }
 
-/// Prints which lines were left out, if that can be written.
-fn tell_left<A: Allocator, E: Write>(alloc: A, errors: &mut E, left_out: &[u64]) -> Result<(), Oom>
-    ensures { TellsLines left_out.now (E.contents errors.old) (E.contents errors.new) }
+/// If `full`, appends a line that tells of the full history.
+#[tactic(auto, unfolding(crate::specs::Imported::full_line))]
+fn put_full<A: Allocator>(text: &mut String<A>, full: bool) -> Result<(), Oom>
+    ensures { OnOk result (string_bytes text.new ≡ string_bytes text.old ++ full_line full) }
+{
+    if !full {
+        return Ok(());
+    }
+    Ok(text.push_str("presence_bench: the history is full: later steps are not in it\n")?)
+}
+
+/// Writes to `errors` a line for each line that was left out, and one more if `full`, the history is full. A failed
+/// write isn't a fault.
+fn tell_missing<A: Allocator, E: Write>(
+    alloc: A,
+    errors: &mut E,
+    left_out: &[u64],
+    full: bool,
+) -> Result<(), Oom>
+    ensures { TellsLines left_out.now full (E.contents errors.old) (E.contents errors.new) }
 {
     let mut text = String::new(alloc);
     put_left(&mut text, left_out)?;
+    put_full(&mut text, full)?;
     match write_out(errors, text.as_bytes()) {
         Ok(()) => Ok(()),
         Err(_unwritten) => Ok(()),
     }
 }
 
-/// The fault of an import as the program's.
+/// The fault of an import as a fault of the program.
 fn fault_of(fault: ImportFault) -> Fault
     ensures { result ≡ fault_of_import fault }
 {
@@ -86,13 +105,31 @@ fn fault_of(fault: ImportFault) -> Fault
     }
 }
 
-/// What is printed of the events: its text, whether it tells that the bench and the real nodes part, and the lines of what is
-/// left out.
+/// What is printed of the events, in `text`. `differs`: a check found where the bench and the real nodes part, and the
+/// text tells it. `left_out`: the numbers of the lines that were left out. `full`: the history of the bench in the text
+/// is full, so later steps may be missing; it is `false` for a script and for a check.
 #[derive(Drop)]
 pub struct Made<A: Allocator> {
     pub text: Text<A>,
     pub differs: bool,
     pub left_out: Vec<u64, A>,
+    pub full: bool,
+}
+
+/// Whether the history of the bench has no place for one more step: a step needs two, one for its call and one for
+/// itself.
+fn is_full<'a, B: Allocator>(bench: &Bench<'a, B>) -> bool
+    ensures { result ≡ is_full bench.now }
+{
+    let recorded = bench.history().len() as u64;
+    let remaining = bench.remaining().len() as u64;
+    // form: saturating spares a requirement
+    bench
+        .limits()
+        .acts()
+        .saturating_sub(recorded)
+        .saturating_sub(remaining)
+        < 2
 }
 
 /// The script of the events.
@@ -104,7 +141,7 @@ fn make_script<'a, B: Allocator>(
     lenient: bool,
     input: &[u8],
 ) -> Result<Made<&'a B>, ImportFault>
-    ensures made { IfOk result (λ m. IsMade false lines lenient forms.Script limits input.now (text_bytes m.text) m.differs m.left_out.items) }
+    ensures made { IfOk result (λ m. IsMade false lines lenient forms.Script limits input.now (text_bytes m.text) m.differs m.left_out.items m.full) }
     ensures refused { IfErr result (IsUnmade false lines lenient forms.Script limits input.now) }
 {
     let (scripted, left_out) = import_script(heap, alloc, limits, lenient, lines, input)?;
@@ -112,6 +149,7 @@ fn make_script<'a, B: Allocator>(
         text: Text::Own(text_of(scripted)),
         differs: false,
         left_out,
+        full: false,
     })
 }
 
@@ -130,20 +168,24 @@ fn make_session<'a, B: Allocator>(
     lenient: bool,
     input: &[u8],
 ) -> Result<Made<&'a B>, ImportFault>
-    ensures made { IfOk result (λ m. IsMade false lines lenient forms.Session limits input.now (text_bytes m.text) m.differs m.left_out.items) }
+    ensures made { IfOk result (λ m. IsMade false lines lenient forms.Session limits input.now (text_bytes m.text) m.differs m.left_out.items m.full) }
     ensures refused { IfErr result (IsUnmade false lines lenient forms.Session limits input.now) }
 {
+    // form: the parameter `lines` is for the contract alone
     let (bench, left_out) = import_bench(heap, alloc, limits, lenient, input)?;
     let text = session_line(heap, &bench);
+    let full = is_full(&bench);
+    // form: drop before exit
     drop(bench);
     Ok(Made {
         text: Text::Heap(text?),
         differs: false,
         left_out,
+        full,
     })
 }
 
-/// The page of the bench that the events leave, with what the logs tell besides its calls.
+/// The page of the bench that the events leave, with what else the logs tell.
 fn make_page<'a, B: Allocator>(
     heap: Global,
     alloc: &'a B,
@@ -152,20 +194,24 @@ fn make_page<'a, B: Allocator>(
     lenient: bool,
     input: &[u8],
 ) -> Result<Made<&'a B>, ImportFault>
-    ensures made { IfOk result (λ m. IsMade false lines lenient forms.Page limits input.now (text_bytes m.text) m.differs m.left_out.items) }
+    ensures made { IfOk result (λ m. IsMade false lines lenient forms.Page limits input.now (text_bytes m.text) m.differs m.left_out.items m.full) }
     ensures refused { IfErr result (IsUnmade false lines lenient forms.Page limits input.now) }
 {
+    // form: the parameter `lines` is for the contract alone
     let (shown, left_out) = import_shown(heap, alloc, limits, lenient, input)?;
     let page = page_with(alloc, &shown.bench, shown.keys.as_str());
+    let full = is_full(&shown.bench);
+    // form: drop before exit
     drop(shown);
     Ok(Made {
         text: Text::Own(page?),
         differs: false,
         left_out,
+        full,
     })
 }
 
-/// Where the bench and the real nodes part.
+/// A text that says where the bench and the real nodes part.
 fn make_check<'a, B: Allocator>(
     heap: Global,
     alloc: &'a B,
@@ -175,19 +221,22 @@ fn make_check<'a, B: Allocator>(
     form: Form,
     input: &[u8],
 ) -> Result<Made<&'a B>, ImportFault>
-    ensures made { IfOk result (λ m. IsMade true lines lenient form limits input.now (text_bytes m.text) m.differs m.left_out.items) }
+    ensures made { IfOk result (λ m. IsMade true lines lenient form limits input.now (text_bytes m.text) m.differs m.left_out.items m.full) }
     ensures refused { IfErr result (IsUnmade true lines lenient form limits input.now) }
 {
+    // form: `lines` and `form` are for the contract alone
     let (found, left_out) = import_check(heap, alloc, limits, lenient, input)?;
     let Checked { text, differs } = found;
     Ok(Made {
         text: Text::Own(text.into_bytes()),
         differs,
         left_out,
+        full: false,
     })
 }
 
-/// Makes of the events what the command line chose.
+/// Makes from the events what the command line chose. If the events are refused, `aside` gets the hint, if there is
+/// one.
 fn make<'a, B: Allocator>(
     heap: Global,
     alloc: &'a B,
@@ -197,8 +246,9 @@ fn make<'a, B: Allocator>(
     lenient: bool,
     form: Form,
     input: &[u8],
+    aside: &mut Aside,
 ) -> Result<Made<&'a B>, Fault>
-    ensures made { IfOk result (λ m. IsMade check lines lenient form limits input.now (text_bytes m.text) m.differs m.left_out.items) }
+    ensures made { IfOk result (λ m. IsMade check lines lenient form limits input.now (text_bytes m.text) m.differs m.left_out.items m.full) }
     ensures refused { IfErr result (RefusesImport check lines lenient form limits input.now) }
     ensures memory { IfErr result TellsMemory }
     ensures unwritten { IfErr result IsUnwritten }
@@ -212,11 +262,14 @@ fn make<'a, B: Allocator>(
     };
     match made {
         Ok(made) => Ok(made),
-        Err(fault) => Err(fault_of(fault)),
+        Err(fault) => {
+            aside.of_import(input, fault);
+            Err(fault_of(fault))
+        }
     }
 }
 
-/// Writes all of the text. Then, if the bench and the real nodes part, it ends with that fault.
+/// Writes the text of `made`. Then, if the bench and the real nodes part, ends with the fault `Differs`.
 fn print_made<B: Allocator, W: Write>(writer: &mut W, made: &Made<&B>) -> Result<(), Fault>
     ensures { EndsAsMade (text_bytes made.now.text) made.now.differs result (W.contents writer.old) (W.contents writer.new) }
 {
@@ -227,7 +280,8 @@ fn print_made<B: Allocator, W: Write>(writer: &mut W, made: &Made<&B>) -> Result
     Ok(())
 }
 
-/// Prints a script of the events that the input has, or what else was chosen of them. It first tells what it left out.
+/// Reads the events of logs, and prints a script of them, or what else was chosen. Before it prints, it tells on
+/// `errors` which lines were left out, if any were, and that the history is full, if it is.
 pub fn import_events<B: Allocator, R: Read, W: Write, E: Write, L: Ledger>(
     heap: Global,
     alloc: &B,
@@ -239,6 +293,7 @@ pub fn import_events<B: Allocator, R: Read, W: Write, E: Write, L: Ledger>(
     lines: bool,
     lenient: bool,
     form: Form,
+    aside: &mut Aside,
     steps: &mut Steps<L>,
 ) -> Result<(), Fault>
     ensures ends { EndsAt (subcommands.Import check lines lenient) form limits (R.remaining reader.old) result (W.contents writer.old) (W.contents writer.new) }
@@ -246,13 +301,16 @@ pub fn import_events<B: Allocator, R: Read, W: Write, E: Write, L: Ledger>(
     ensures unwritten { IfErr result (λ fault. KeepsBefore fault (W.contents writer.old) (W.contents writer.new)) }
     ensures memory { IfErr result TellsMemory }
     ensures failed { FailsAs result steps.old steps.new }
-    ensures aside { TellsLeft lenient (R.remaining reader.old) (E.contents errors.old) (E.contents errors.new) }
+    ensures aside { TellsMissing check lines lenient form limits (R.remaining reader.old) (E.contents errors.old) (E.contents errors.new) }
 {
     let input = read_events(alloc, reader, steps)?;
-    let made = make(heap, alloc, limits, check, lines, lenient, form, &input);
+    let made = make(
+        heap, alloc, limits, check, lines, lenient, form, &input, aside,
+    );
+    // form: drop before exit
     drop(input);
     let made = made?;
-    if tell_left(alloc, errors, &made.left_out).is_err() {
+    if tell_missing(alloc, errors, &made.left_out, made.full).is_err() {
         drop(made);
         return Err(Fault::OutOfMemory);
     }

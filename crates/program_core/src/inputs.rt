@@ -1,18 +1,18 @@
-//! The run of an input that is a script or a session. The first byte that isn't space tells which.
+//! Reads a run from an input that is a script or a session. The first byte that isn't white space tells which.
 ghost use Rattle.std.specs.Prelude.{◌≡◌, ◌≢◌, ◌<◌, length, Err, IfOk, IfErr, IsOkAnd, OnOk};
 ghost use Rattle.std.specs.Io.KnownBytes.{IsAtEnd};
-ghost use Rattle.json.specs.Word.{is_space};
 ghost use Rattle.grammar_core.specs.Grammar.{script_of};
 ghost use Rattle.grammar_core.specs.Scripts.{plain_script};
 ghost use Rattle.run_core.specs.Report.{played};
 ghost use Rattle.transcript_core.specs.Actors.{free_consoles};
 ghost use Rattle.recording_core.specs.Sessions.{IsSession};
-ghost use Rattle.program_core.specs.Program.{FailsAs, IsBenchAt, IsRunAt, IsUnwritten, RefusesBenchAt, RefusesScript, RefusesSession, TellsMemory, begins_session};
+ghost use Rattle.program_core.specs.Program.{FailsAs, IsBenchAt, IsRunAt, IsUnwritten, RefusesBenchAt, RefusesScript, RefusesSession, TellsMemory};
 
 use crate::aside::Aside;
 use crate::fault::Fault;
 use crate::texts::LONGEST_SESSION;
 use bench_core::{Bench, Limits, TextSet};
+use hint_core::begins_object;
 use payload_core::Oom;
 use script_core::{
     FaultKind, InputFault, Played, Script, Steps, console_names, parse_script, run_script,
@@ -31,42 +31,26 @@ pub struct Run<'a, B: Allocator> {
     pub consoles: TextSet<&'a B>,
 }
 
-/// Whether JSON takes the byte as white space.
-fn is_space(byte: u8) -> bool
-    ensures { result ≡ is_space byte }
-{
-    byte == b' ' || byte == b'\t' || byte == b'\n' || byte == b'\r'
-}
-
-/// Whether the bytes should be a session.
-fn begins_session(bytes: &[u8]) -> bool
-    ensures { result ≡ begins_session bytes.now }
-{
-    for byte in bytes {
-        if !is_space(*byte) {
-            return *byte == b'{';
-        }
-    }
-    false
-}
-
-/// The run of a bench whose consoles have no names: they get free ones.
+/// The run of a bench whose consoles have no names: the consoles get names that no node has.
 fn unnamed_run<'a, B: Allocator>(alloc: &'a B, bench: Bench<'a, B>) -> Result<Run<'a, B>, Oom>
     ensures bench { IfOk result (λ run. run.bench ≡ bench.entry) }
     ensures consoles { IfOk result (λ run. run.consoles ≡ free_consoles bench.entry) }
 {
     let Ok(consoles) = free_consoles(alloc, &bench) else {
+        // form: drop before exit
         drop(bench);
         return Err(Oom);
     };
     Ok(Run { bench, consoles })
 }
 
-/// The run of the session in these bytes.
+/// The run of the session in these bytes; `LongSession` if they are more than a session may have. If the session is
+/// refused, `aside` gets the hint, if there is one.
 fn load_bytes<'a, B: Allocator>(
     heap: Global,
     alloc: &'a B,
     bytes: &[u8],
+    aside: &mut Aside,
 ) -> Result<Run<'a, B>, Fault>
     ensures session { IfOk result (λ run. IsSession bytes.now run.bench × (run.consoles ≡ free_consoles run.bench)) }
     ensures cause { IfErr result (RefusesSession bytes.now) }
@@ -81,7 +65,10 @@ fn load_bytes<'a, B: Allocator>(
     let bench = match load(heap, alloc, bytes) {
         Ok(bench) => bench,
         Err(SessionFault::OutOfMemory) => return Err(Fault::OutOfMemory),
-        Err(fault) => return Err(Fault::Session(fault)),
+        Err(fault) => {
+            aside.of_session(bytes, fault);
+            return Err(Fault::Session(fault));
+        }
     };
     match unnamed_run(alloc, bench) {
         Ok(run) => Ok(run),
@@ -89,7 +76,7 @@ fn load_bytes<'a, B: Allocator>(
     }
 }
 
-/// The run of a script that is played.
+/// Plays a script, and gives its run.
 fn played_run<'a, B: Allocator>(
     alloc: &'a B,
     script: &Script<&'a B>,
@@ -100,6 +87,7 @@ fn played_run<'a, B: Allocator>(
 {
     let consoles = console_names(script).try_copy()?;
     let Ok(played) = run_script(alloc, script, limits) else {
+        // form: drop before exit
         drop(consoles);
         return Err(Oom);
     };
@@ -108,7 +96,8 @@ fn played_run<'a, B: Allocator>(
     Ok(Run { bench, consoles })
 }
 
-/// The run of the script that the bytes spell.
+/// Plays the script that the bytes spell, and gives its run. If the script is refused, `aside` gets the hint, if there
+/// is one.
 fn play_bytes<'a, B: Allocator>(
     alloc: &'a B,
     bytes: &[u8],
@@ -130,6 +119,7 @@ fn play_bytes<'a, B: Allocator>(
         }
     };
     let run = played_run(alloc, &script, limits);
+    // form: drop before exit
     drop(script);
     match run {
         Ok(run) => Ok(run),
@@ -137,7 +127,9 @@ fn play_bytes<'a, B: Allocator>(
     }
 }
 
-/// The run of the input, which is a session or a script.
+/// Reads the input, which is a session or a script, and gives its run. If the input is refused, `aside` gets the hint,
+/// if there is one. `limits` are for the bench of a script; a session has its limits in it. `steps` counts the calls of
+/// `read`.
 pub fn read_run<'a, B: Allocator, R: Read, L: Ledger>(
     heap: Global,
     alloc: &'a B,
@@ -157,24 +149,26 @@ pub fn read_run<'a, B: Allocator, R: Read, L: Ledger>(
         Ok(input) => input,
         Err(InputFault::ReadFault) => return Err(Fault::ReadFault),
         Err(InputFault::OutOfMemory) => return Err(Fault::OutOfMemory),
+        // `read_front` has no limit that it could refuse
         Err(InputFault::TooLong) => unreachable!(),
     };
-    if begins_session(&input) {
-        return load_bytes(heap, alloc, &input);
+    if begins_object(&input) {
+        return load_bytes(heap, alloc, &input, aside);
     }
     play_bytes(alloc, &input, limits, aside)
 }
 
-/// The bench of a run alone.
+/// The bench of a run. The names of the consoles are dropped.
 fn bench_of<'a, B: Allocator>(run: Run<'a, B>) -> Bench<'a, B>
     ensures { result ≡ run.entry.bench }
 {
     let Run { bench, consoles } = run;
+    // form: drop before exit
     drop(consoles);
     bench
 }
 
-/// The bench of the run that the input gives.
+/// Like `read_run`, but gives the bench without the names of the consoles.
 pub fn read_bench<'a, B: Allocator, R: Read, L: Ledger>(
     heap: Global,
     alloc: &'a B,
@@ -190,6 +184,7 @@ pub fn read_bench<'a, B: Allocator, R: Read, L: Ledger>(
     ensures read { OnOk result (IsAtEnd (R.remaining reader.new)) }
     ensures failed { FailsAs result steps.old steps.new }
 {
+    // form: each arm is a case of the proof
     match read_run(heap, alloc, reader, limits, aside, steps) {
         Ok(run) => Ok(bench_of(run)),
         Err(fault) => Err(fault),

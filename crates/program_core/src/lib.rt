@@ -1,15 +1,20 @@
-//! What the program does, with its words and its streams lent: it reads a script or a saved session, and prints what was chosen
-//! of it.
+//! What the program does with the words and streams that it is given: it reads a script, a saved session or logs, and
+//! prints what was chosen.
 //!
-//! Stands on `command_line` (what the words choose), `script_core` (scripts and their reports), `prompt_core` (prompts),
-//! `session_core` (sessions) and `session_report` (their reports), `picture_core` (pictures), `page_core` and `page_data` (pages),
-//! `explain_core` (explanations),
-//! `hint_core` (hints), `whatif_report` (changes), `transcript_core` (calls as a script, and reports with each line above what it printed), `import_report` (logs), `worker_core`
-//! (races), `explore_report` (what the network could have done) and `bench_core` (limits). In the order to read them: `fault` and `aside`, why the program ends early, and what to do about it;
-//! `texts`, `inputs`, `racing`, `exploring`, `whatifs`, `importing`, `stepping`, `shown`, `pictures`, `pages` and `printing`, what is read, the run of
-//! what may be a script or a session, what a race of a script leaves, what the network could have done, what would have made a difference,
-//! what is made of logs, what a prompt answers, what is shown of a play, how a run is drawn and looked at, and what is printed;
-//! `status`, the program from its words to its status; `hosted`, the same on the runtime's words and streams.
+//! It stands on `command_line` (what the words choose), `script_core` (scripts and their reports), `grammar_core` (the
+//! most bytes of a script), `prompt_core` (prompts), `session_core` (sessions) and `session_report` (their reports),
+//! `picture_core` (pictures), `page_core` and `page_data` (pages), `explain_core` (explanations), `hint_core` (hints),
+//! `whatif_report` (changes), `transcript_core` (calls as a script, and reports with each call above what it printed),
+//! `import_core`, `import_report` and `import_page` (logs), `worker_core` (races), `explore_report` (what the network
+//! could have done), `progress_core` (how far long work has come), `stream_core` (the first bytes of an input) and
+//! `bench_core` (benches and limits). It names the plain types of the crates below.
+//!
+//! The modules in reading order: `fault` and `aside`, why the program ends early, and what to do about it; `text`,
+//! bytes to be printed; `texts`, a script or a session that is read; `inputs`, the run of what may be either; `racing`,
+//! what a race leaves; `exploring`, what the network could have done; `whatifs`, what would have made a difference;
+//! `importing`, what is made from logs; `stepping`, a prompt; `shown`, what is shown of a play; `pictures` and `pages`,
+//! how a run is drawn and shown on a page; `printing`, what each choice prints; `status`, the program from its words to
+//! its status; `hosted`, the same on the runtime's words and streams.
 #![tactic(auto)]
 
 mod aside;

@@ -1,4 +1,4 @@
-//! A page to look at the run that an input gives.
+//! Prints a page that shows the run that an input gives.
 ghost use Rattle.std.specs.Prelude.{◌≡◌, IfErr, IfOk, OnOk};
 ghost use Rattle.std.specs.Io.KnownBytes.{IsAtEnd};
 ghost use Rattle.command_line.specs.declared.chosen.Subcommand.TheVariants as subcommands;
@@ -21,7 +21,7 @@ use std::io::{Read, Write};
 use std::sync::ledger::Ledger;
 use transcript_core::bench_steps;
 
-/// The page of a run with this data.
+/// The page of the run of `bench`, whose consoles have the names `consoles`. `run` is the data of the page.
 fn page_around<'a, B: Allocator>(
     alloc: &'a B,
     bench: &Bench<'a, B>,
@@ -45,7 +45,7 @@ fn page_of<'a, B: Allocator>(alloc: &'a B, run: &Run<'a, B>) -> Result<Vec<u8, &
     page_around(alloc, &run.bench, &run.consoles, told.as_str())
 }
 
-/// The page of a run without consoles, with further keys in its data.
+/// The page of a run without consoles. Its data has further `keys`, each with a comma before it.
 pub(crate) fn page_with<'a, B: Allocator>(
     alloc: &'a B,
     bench: &Bench<'a, B>,
@@ -58,7 +58,7 @@ pub(crate) fn page_with<'a, B: Allocator>(
     page_around(alloc, bench, &consoles, told.as_str())
 }
 
-/// A page of the run that the input gives.
+/// Reads a run from the input, and prints its page.
 pub fn page_run<B: Allocator, R: Read, W: Write, L: Ledger>(
     heap: Global,
     alloc: &B,
@@ -75,8 +75,10 @@ pub fn page_run<B: Allocator, R: Read, W: Write, L: Ledger>(
     ensures memory { IfErr result TellsMemory }
     ensures failed { FailsAs result steps.old steps.new }
 {
+    // form: the parameter `form` is for the contract alone
     let run = read_run(heap, alloc, reader, limits, aside, steps)?;
     let page = page_of(alloc, &run);
+    // form: drop before exit
     drop(run);
     let Ok(text) = page else {
         return Err(Fault::OutOfMemory);

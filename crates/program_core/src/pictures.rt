@@ -1,4 +1,4 @@
-//! A picture of the run that an input gives.
+//! Draws the run that an input gives.
 ghost use Rattle.std.specs.Prelude.{◌≡◌, IfErr, OnOk};
 ghost use Rattle.std.specs.Io.KnownBytes.{IsAtEnd};
 ghost use Rattle.command_line.specs.declared.chosen.Subcommand.TheVariants as subcommands;
@@ -17,7 +17,7 @@ use std::alloc::{Allocator, Global};
 use std::io::{Read, Write};
 use std::sync::ledger::Ledger;
 
-/// The presences that were chosen. `-` stands for each node.
+/// The presences that were chosen; the node `-` stands for each node, and becomes `None`.
 fn presence_of<'w>(question: Question<'w>) -> Presence<'w>
     ensures { result ≡ presence_of question.entry }
 {
@@ -33,7 +33,7 @@ fn presence_of<'w>(question: Question<'w>) -> Presence<'w>
     }
 }
 
-/// What was chosen to be drawn.
+/// The view that was chosen to be drawn.
 fn view_of<'w>(drawing: Drawing<'w>) -> View<'w>
     ensures { result ≡ view_of drawing.entry }
 {
@@ -49,7 +49,7 @@ fn view_of<'w>(drawing: Drawing<'w>) -> View<'w>
     }
 }
 
-/// A picture of the run that the input gives.
+/// Reads a run from the input, and prints its picture.
 pub fn draw_run<B: Allocator, R: Read, W: Write, L: Ledger>(
     heap: Global,
     alloc: &B,
@@ -67,9 +67,12 @@ pub fn draw_run<B: Allocator, R: Read, W: Write, L: Ledger>(
     ensures memory { IfErr result TellsMemory }
     ensures failed { FailsAs result steps.old steps.new }
 {
+    // form: the parameter `form` is for the contract alone
     let run = read_run(heap, alloc, reader, limits, aside, steps)?;
     let drawn = draw(alloc, &run.bench, &run.consoles, view_of(drawing));
+    // form: drop before exit
     drop(run);
+    // form: a `match`, as the proof cites what `Fault::from` ensures
     let text = match drawn {
         Ok(text) => text,
         Err(fault) => return Err(Fault::from(fault)),

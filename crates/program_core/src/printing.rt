@@ -1,4 +1,4 @@
-//! What each choice of the command line prints of the input.
+//! Prints what each choice of the command line asks for.
 ghost use Rattle.std.specs.Prelude.{◌≡◌, ◌≢◌, IfErr, OnOk};
 ghost use Rattle.std.specs.Io.KnownBytes.{IsAtEnd};
 ghost use Rattle.command_line.specs.declared.chosen.Form.{Form};
@@ -43,7 +43,7 @@ pub(crate) fn print<W: Write>(writer: &mut W, text: &[u8]) -> Result<(), Fault>
     }
 }
 
-/// What the recorded calls of a race of a script's lines print.
+/// Races the lines of the script that the input gives, and prints the report of what the race recorded.
 fn race_report<B: Allocator + Sync, T: Threads + Wait + Sync, R: Read, W: Write, L: Ledger>(
     alloc: &B,
     reader: &mut R,
@@ -61,8 +61,10 @@ fn race_report<B: Allocator + Sync, T: Threads + Wait + Sync, R: Read, W: Write,
     ensures memory { IfErr result TellsMemory }
     ensures failed { FailsAs result steps.old steps.new }
 {
+    // form: the parameter `form` is for the contract alone
     let script = read_script(alloc, reader, aside, steps)?;
     let bench = race_script(rt, alloc, &script, limits);
+    // form: drop before exit
     drop(script);
     let bench = bench?;
     let text = report_history(alloc, &bench);
@@ -73,7 +75,7 @@ fn race_report<B: Allocator + Sync, T: Threads + Wait + Sync, R: Read, W: Write,
     print(writer, &text)
 }
 
-/// Runs a race, and prints the session of the bench that it leaves.
+/// Races the lines of the script that the input gives, and prints the session of the bench that the race leaves.
 fn race_session<B: Allocator + Sync, T: Threads + Wait + Sync, R: Read, W: Write, L: Ledger>(
     rt: &T,
     heap: Global,
@@ -92,6 +94,7 @@ fn race_session<B: Allocator + Sync, T: Threads + Wait + Sync, R: Read, W: Write
 {
     let script = read_script(alloc, reader, aside, steps)?;
     let bench = race_script(rt, alloc, &script, limits);
+    // form: drop before exit
     drop(script);
     let bench = bench?;
     let text = session_line(heap, &bench);
@@ -102,7 +105,7 @@ fn race_session<B: Allocator + Sync, T: Threads + Wait + Sync, R: Read, W: Write
     print(writer, &text)
 }
 
-/// The question that was chosen.
+/// The question that was chosen, as `explain_core` takes it.
 fn question_of<'w>(chosen: command_line::Question<'w>) -> Question<'w>
     ensures { result ≡ question_of chosen.entry }
 {
@@ -113,7 +116,7 @@ fn question_of<'w>(chosen: command_line::Question<'w>) -> Question<'w>
     }
 }
 
-/// Why presences are online at a node of the bench that the input gives, and why not.
+/// Prints why presences are online at a node of the bench that the input gives, or why not.
 fn explain_bench<B: Allocator, R: Read, W: Write, L: Ledger>(
     heap: Global,
     alloc: &B,
@@ -131,9 +134,12 @@ fn explain_bench<B: Allocator, R: Read, W: Write, L: Ledger>(
     ensures memory { IfErr result TellsMemory }
     ensures failed { FailsAs result steps.old steps.new }
 {
+    // form: the parameter `form` is for the contract alone
     let bench = read_bench(heap, alloc, reader, limits, aside, steps)?;
     let told = explain_asked(alloc, &bench, question_of(question));
+    // form: drop before exit
     drop(bench);
+    // form: a `match`, as the proof cites what `Fault::from` ensures
     let text = match told {
         Ok(text) => text,
         Err(fault) => return Err(Fault::from(fault)),
@@ -141,8 +147,8 @@ fn explain_bench<B: Allocator, R: Read, W: Write, L: Ledger>(
     print(writer, text.as_bytes())
 }
 
-/// What would have made a difference to presences at a node of the bench that the input gives, or the run with one change. Lines on
-/// `errors` tell how many changes were tried.
+/// Prints what would have made a difference to presences at a node of the bench that the input gives, or the run with
+/// one change. Lines on `errors` tell how many changes were tried.
 fn tell_changes<B: Allocator, R: Read, W: Write, L: Ledger, C: Clock, E: Write>(
     heap: Global,
     alloc: &B,
@@ -157,17 +163,21 @@ fn tell_changes<B: Allocator, R: Read, W: Write, L: Ledger, C: Clock, E: Write>(
     clock: &C,
     errors: &mut E,
 ) -> Result<(), Fault>
-    ensures ends { EndsAt (subcommands.Whatif question.entry change) form limits (R.remaining reader.old) result (W.contents writer.old) (W.contents writer.new) }
+    ensures ends { EndsAt (subcommands.Whatif question.entry change) form limits (R.remaining reader.old) result (W.contents writer.old)
+        (W.contents writer.new) }
     ensures read { OnOk result (IsAtEnd (R.remaining reader.new)) }
     ensures unwritten { IfErr result (λ fault. KeepsBefore fault (W.contents writer.old) (W.contents writer.new)) }
     ensures memory { IfErr result TellsMemory }
     ensures failed { FailsAs result steps.old steps.new }
     ensures progress { TellsTried (E.contents errors.old) (E.contents errors.new) }
 {
+    // form: the parameter `form` is for the contract alone
     let bench = read_bench(heap, alloc, reader, limits, aside, steps)?;
     let mut teller = Teller::new(heap, clock, errors);
     let told = tell_whatif(alloc, &bench, question, change, &mut teller);
+    // form: drop before exit
     drop(bench);
+    // form: a `match`, as the proof cites what `Fault::from` ensures
     let text = match told {
         Ok(text) => text,
         Err(fault) => return Err(Fault::from(fault)),
@@ -175,8 +185,8 @@ fn tell_changes<B: Allocator, R: Read, W: Write, L: Ledger, C: Clock, E: Write>(
     print(writer, text.as_bytes())
 }
 
-/// What the network could have made of the bench that the input gives, or a run of one outcome. Lines on `errors` tell how far the
-/// walk has come.
+/// Prints what the network could have made of the bench that the input gives, or a run that leads to one outcome. Lines
+/// on `errors` tell how far the walk has come.
 fn explore_bench<B: Allocator, R: Read, W: Write, L: Ledger, C: Clock, E: Write>(
     heap: Global,
     alloc: &B,
@@ -194,18 +204,22 @@ fn explore_bench<B: Allocator, R: Read, W: Write, L: Ledger, C: Clock, E: Write>
     clock: &C,
     errors: &mut E,
 ) -> Result<(), Fault>
-    ensures ends { EndsAt (subcommands.Explore about.entry lost again states outcome) form limits (R.remaining reader.old) result (W.contents writer.old) (W.contents writer.new) }
+    ensures ends { EndsAt (subcommands.Explore about.entry lost again states outcome) form limits (R.remaining reader.old) result
+        (W.contents writer.old) (W.contents writer.new) }
     ensures read { OnOk result (IsAtEnd (R.remaining reader.new)) }
     ensures unwritten { IfErr result (λ fault. KeepsBefore fault (W.contents writer.old) (W.contents writer.new)) }
     ensures memory { IfErr result TellsMemory }
     ensures failed { FailsAs result steps.old steps.new }
     ensures progress { TellsWalked (E.contents errors.old) (E.contents errors.new) }
 {
+    // form: the parameter `form` is for the contract alone
     let bench = read_bench(heap, alloc, reader, limits, aside, steps)?;
     let question = asked_of(about, lost, again, states);
     let mut teller = Teller::new(heap, clock, errors);
     let told = tell_explored(alloc, &bench, question, outcome, &mut teller);
+    // form: drop before exit
     drop(bench);
+    // form: a `match`, as the proof cites what `Fault::from` ensures
     let text = match told {
         Ok(text) => text,
         Err(fault) => return Err(Fault::from(fault)),
@@ -213,11 +227,11 @@ fn explore_bench<B: Allocator, R: Read, W: Write, L: Ledger, C: Clock, E: Write>
     print(writer, text.as_bytes())
 }
 
-/// Reads the whole input, plays it as was chosen, and then prints. It writes nothing before the whole text is ready,
-/// except at a prompt, where it answers each line before it reads the next. Limits are those of a script's bench; a
-/// session has its own. JSON takes its memory from `heap`, and all else from `alloc`. `steps` counts the calls of
-/// `read`. On `errors` it writes only what it leaves out of the events of logs, the signs of a prompt on a terminal,
-/// and how far long work has come.
+/// Does what was chosen. At a prompt it answers each line before it reads the next. Else it reads the whole input, and
+/// writes nothing before the whole text is ready. `limits` are those of the bench, unless the input is a session, which
+/// has its own. JSON, hints and lines on how far work has come take their memory from `heap`; benches and all other
+/// texts take theirs from `alloc`. `steps` counts the calls of `read`. On `errors` it writes only what is missing from
+/// an import, the signs of a prompt on a terminal, and how far long work has come.
 pub fn answer<
     B: Allocator + Sync,
     T: Threads + Wait + Sync,
@@ -245,8 +259,9 @@ pub fn answer<
     ensures unwritten { IfErr result (λ fault. KeepsBefore fault (W.contents writer.old) (W.contents writer.new)) }
     ensures memory { IfErr result TellsMemory }
     ensures failed { FailsAs result steps.old steps.new }
-    ensures early { EndsSoon choice.entry.command limits result (R.remaining reader.old) (R.remaining reader.new) (W.contents writer.old) (W.contents writer.new) }
-    ensures aside { TellsOn terminal limits choice.entry.command (R.remaining reader.old) (E.contents errors.old) (E.contents errors.new) }
+    ensures early { EndsSoon choice.entry.command limits result (R.remaining reader.old) (R.remaining reader.new) (W.contents writer.old)
+        (W.contents writer.new) }
+    ensures aside { TellsOn terminal limits choice.entry.command choice.entry.form (R.remaining reader.old) (E.contents errors.old) (E.contents errors.new) }
 {
     match (choice.command, choice.form) {
         (Subcommand::Play { strict }, form) => play_shown(
@@ -269,7 +284,7 @@ pub fn answer<
             },
             form,
         ) => import_events(
-            heap, alloc, reader, writer, errors, limits, check, lines, lenient, form, steps,
+            heap, alloc, reader, writer, errors, limits, check, lines, lenient, form, aside, steps,
         ),
         (Subcommand::Step, _) => step_script(
             heap, alloc, reader, writer, errors, limits, terminal, steps,

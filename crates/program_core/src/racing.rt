@@ -1,4 +1,4 @@
-//! The race of a script's act lines.
+//! Races the act lines of a script.
 ghost use Rattle.std.specs.Prelude.{◌≡◌, Ok, Err, IfOk, IfErr};
 ghost use Rattle.grammar_core.specs.Scripts.{plain_script};
 ghost use Rattle.program_core.specs.Program.{TellsMemory, IsUnwritten, fault_of_race};
@@ -12,7 +12,7 @@ use std::sync::Wait;
 use std::thread::Threads;
 use worker_core::{Gate, RaceFault, Receipts, race};
 
-/// A gate whose calls return at once.
+/// A gate that does nothing, so no worker waits at it.
 struct Idle;
 
 impl Gate for Idle {
@@ -21,7 +21,7 @@ impl Gate for Idle {
     fn after(&self, _actor: u16, _line: u64) {}
 }
 
-/// A race's fault as the program's.
+/// The fault of a race as a fault of the program.
 fn fault_of(fault: RaceFault) -> Fault
     ensures { result ≡ fault_of_race fault }
 {
@@ -31,13 +31,14 @@ fn fault_of(fault: RaceFault) -> Fault
     }
 }
 
-/// Drops the receipts of a race that it vouched for.
+/// Drops the receipts of a race that is vouched for.
 fn discard<A: Allocator>(receipts: Receipts<A>) {
+    // form: drops the value whole
     drop(receipts);
 }
 
-/// The bench of a race, if the race vouched for it. Its receipts are dropped, and so is a bench that the race didn't
-/// vouch for.
+/// The bench of a race that is vouched for, without the receipts. Of a race that ended with a fault it gives the fault,
+/// and drops the bench.
 fn outcome<'a, B: Allocator>(
     raced: Result<(Bench<'a, B>, Receipts<&'a B>), (RaceFault, Bench<'a, B>)>,
 ) -> Result<Bench<'a, B>, Fault>
@@ -50,13 +51,15 @@ fn outcome<'a, B: Allocator>(
             Ok(bench)
         }
         Err((fault, bench)) => {
+            // form: drop before exit
             drop(bench);
             Err(fault_of(fault))
         }
     }
 }
 
-/// The bench that a race of the script's lines leaves. The workers run in any order.
+/// The bench that a race of the script's lines leaves. `NotAllowed` if a line isn't an act. The lines of different
+/// actors may come in any order.
 pub fn race_script<'a, B: Allocator + Sync, T: Threads + Wait + Sync>(
     rt: &T,
     alloc: &'a B,

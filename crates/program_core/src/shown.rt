@@ -1,5 +1,5 @@
-//! What is shown of a script that is played, or of a session that is played again, in the form that was chosen, strictly or
-//! not.
+//! What is shown of a played script, or of a session that is played again, in the form that was chosen. In a strict run
+//! a refused act or unwind is a fault.
 ghost use Rattle.std.specs.Prelude.{◌≡◌, IfErr, IfOk, OnOk};
 ghost use Rattle.std.specs.Io.KnownBytes.{IsAtEnd};
 ghost use Rattle.grammar_core.specs.Scripts.{plain_script};
@@ -26,14 +26,15 @@ use transcript_core::{
     bench_steps, first_in, first_refused, free_consoles, script_of_calls, script_steps,
 };
 
-/// A text, and the first act that was refused, if that is a fault.
+/// The text to print, and, in a strict run, the first act or unwind that was refused, if any was.
 #[derive(Drop)]
 pub struct Shown<A: Allocator> {
     pub text: Text<A>,
     pub refused: Option<Refused>,
 }
 
-/// The report with each line above what it printed.
+/// The report of a script with each line above what it printed. `bench` is what a play of the script with `limits`
+/// left.
 fn steps_of_script<'a, B: Allocator>(
     alloc: &'a B,
     script: &Script<&'a B>,
@@ -50,7 +51,7 @@ fn steps_of_script<'a, B: Allocator>(
     }
 }
 
-/// The report of the calls that a bench recorded, with each line above what it printed.
+/// The report of the calls that a bench recorded, with each call above what it printed.
 fn steps_of_bench<'a, B: Allocator>(
     alloc: &'a B,
     bench: &Bench<'a, B>,
@@ -65,7 +66,7 @@ fn steps_of_bench<'a, B: Allocator>(
     }
 }
 
-/// The recorded calls as a script.
+/// The recorded calls as a script, in which the consoles have these names.
 fn calls_of<'a, B: Allocator>(
     alloc: &'a B,
     bench: &Bench<'a, B>,
@@ -74,13 +75,14 @@ fn calls_of<'a, B: Allocator>(
     ensures ok { IfOk result (λ text. IsScriptOf bench.now consoles.now (text_bytes text)) }
     ensures err { IfErr result (RefusesCalls bench.now consoles.now) }
 {
+    // form: each arm is a case of the proof
     match script_of_calls(alloc, bench, consoles) {
         Ok(text) => Ok(Text::Own(text.into_bytes())),
         Err(fault) => Err(Fault::from(fault)),
     }
 }
 
-/// The session.
+/// The session of a bench, and a line feed.
 fn session_of<'a, B: Allocator>(heap: Global, bench: &Bench<'a, B>) -> Result<Text<&'a B>, Fault>
     ensures ok { IfOk result (λ text. text_bytes text ≡ session_text bench.now) }
     ensures err { IfErr result IsWant }
@@ -91,7 +93,7 @@ fn session_of<'a, B: Allocator>(heap: Global, bench: &Bench<'a, B>) -> Result<Te
     }
 }
 
-/// What is printed of a script that was played.
+/// Plays a script, and gives what is printed of it in this form.
 fn played_text<'a, B: Allocator>(
     heap: Global,
     alloc: &'a B,
@@ -107,16 +109,18 @@ fn played_text<'a, B: Allocator>(
     };
     let Played { bench, report } = played;
     let text = match form {
+        // only an import chooses a page
         Form::Report | Form::Page => Ok(Text::Own(report)),
         Form::Steps => steps_of_script(alloc, script, limits, &bench),
         Form::Script => calls_of(alloc, &bench, console_names(script)),
         Form::Session => session_of(heap, &bench),
     };
+    // form: drop before exit
     drop(bench);
     text
 }
 
-/// What is printed of a session that was played again.
+/// What is printed in this form of a session that was played again.
 fn told_text<'a, B: Allocator>(
     heap: Global,
     alloc: &'a B,
@@ -129,10 +133,12 @@ fn told_text<'a, B: Allocator>(
 {
     let Played { bench, report } = told;
     let Ok(consoles) = free_consoles(alloc, &bench) else {
+        // form: drop before exit
         drop(bench);
         return Err(Fault::OutOfMemory);
     };
     let text = match form {
+        // only an import chooses a page
         Form::Report | Form::Page => Ok(Text::Own(report)),
         Form::Steps => steps_of_bench(alloc, &bench, &consoles),
         Form::Script => calls_of(alloc, &bench, &consoles),
@@ -142,7 +148,7 @@ fn told_text<'a, B: Allocator>(
     text
 }
 
-/// The first refused line of a script, if that is a fault.
+/// The first refused line of a script that is played; `None` if no line is refused, or the run isn't strict.
 fn refused_line<'a, B: Allocator>(
     alloc: &'a B,
     script: &Script<&'a B>,
@@ -165,7 +171,7 @@ fn refused_line<'a, B: Allocator>(
     }
 }
 
-/// The first refused call that a bench recorded, if that is a fault.
+/// The first refused call that a bench recorded; `None` if no call was refused, or the run isn't strict.
 fn refused_act<'a, B: Allocator>(bench: &Bench<'a, B>, strict: bool) -> Option<Refused>
     ensures { result ≡ refused_act strict bench.now }
 {
@@ -181,7 +187,7 @@ fn refused_act<'a, B: Allocator>(bench: &Bench<'a, B>, strict: bool) -> Option<R
     }
 }
 
-/// What is shown of a script.
+/// What is shown of a script in this form.
 fn show_script<'a, B: Allocator>(
     heap: Global,
     alloc: &'a B,
@@ -198,7 +204,7 @@ fn show_script<'a, B: Allocator>(
     Ok(Shown { text, refused })
 }
 
-/// What is shown of a session.
+/// What is shown in this form of a session that was played again.
 fn show_session<'a, B: Allocator>(
     heap: Global,
     alloc: &'a B,
@@ -215,7 +221,7 @@ fn show_session<'a, B: Allocator>(
     Ok(Shown { text, refused })
 }
 
-/// Writes the text, and then ends with the act that was refused, if any.
+/// Writes the text of `shown`. Then, if an act or an unwind was refused in a strict run, ends with the fault `Refused`.
 fn finish<W: Write, A: Allocator>(writer: &mut W, shown: &Shown<A>) -> Result<(), Fault>
     ensures { EndsAsShown (text_bytes shown.now.text) shown.now.refused result (W.contents writer.old) (W.contents writer.new) }
 {
@@ -226,7 +232,7 @@ fn finish<W: Write, A: Allocator>(writer: &mut W, shown: &Shown<A>) -> Result<()
     }
 }
 
-/// Plays a script, and prints what was chosen of it.
+/// Reads and plays a script, and prints it in the form that was chosen.
 pub fn play_shown<B: Allocator, R: Read, W: Write, L: Ledger>(
     heap: Global,
     alloc: &B,
@@ -246,14 +252,16 @@ pub fn play_shown<B: Allocator, R: Read, W: Write, L: Ledger>(
 {
     let script = read_script(alloc, reader, aside, steps)?;
     let shown = show_script(heap, alloc, &script, limits, form, strict);
+    // form: drop before exit
     drop(script);
+    // form: each arm is a case of the proof
     match shown {
         Ok(shown) => finish(writer, &shown),
         Err(fault) => Err(fault),
     }
 }
 
-/// Plays a session again, and prints what was chosen of it.
+/// Reads a session, plays it again, and prints it in the form that was chosen.
 pub fn load_shown<B: Allocator, R: Read, W: Write, L: Ledger>(
     heap: Global,
     alloc: &B,
@@ -271,7 +279,9 @@ pub fn load_shown<B: Allocator, R: Read, W: Write, L: Ledger>(
     ensures memory { IfErr result TellsMemory }
     ensures failed { FailsAs result steps.old steps.new }
 {
+    // form: the parameter `limits` is for the contract alone
     let told = tell_session(heap, alloc, reader, aside, steps)?;
+    // form: each arm is a case of the proof
     match show_session(heap, alloc, told, form, strict) {
         Ok(shown) => finish(writer, &shown),
         Err(fault) => Err(fault),

@@ -1,4 +1,4 @@
-//! `program`: from the words to the status, with the streams and the clock lent.
+//! `program`: from the words to the status, with borrowed streams and a borrowed clock.
 ghost use Rattle.std.specs.Prelude.{◌≡◌, IfErr, IfOk, OnOk, map, string_bytes};
 ghost use Rattle.std.specs.Io.KnownBytes.{Keeps};
 ghost use Rattle.clap.specs.Words.{kind_of};
@@ -11,7 +11,6 @@ use crate::printing::answer;
 use bench_core::Limits;
 use clap::error::ErrorKind;
 use command_line::{Choice, Subcommand, choice};
-use import_core::{FaultKind, ImportFault};
 use payload_core::Oom;
 use script_core::{Steps, write_out};
 use std::alloc::{Allocator, Global};
@@ -23,7 +22,7 @@ use std::sync::ledger::{Blank, Ledger};
 use std::thread::Threads;
 use std::time::Clock;
 
-/// The status of an answer.
+/// The status of an answer: 0, or that of the fault.
 fn status_of(answer: Result<(), Fault>) -> u8
     ensures { result ≡ status_of answer }
 {
@@ -33,23 +32,15 @@ fn status_of(answer: Result<(), Fault>) -> u8
     }
 }
 
-/// Prints a fault as a line. If a script of logs is too long, one more line says what to do. For a check that found a
-/// difference it prints nothing.
+/// Prints a fault as a line on `errors`, as far as that can be written; nothing for a check that found a difference.
 fn tell<E: Write>(fault: Fault, errors: &mut E) {
     if fault == Fault::Differs {
         return;
     }
     let _ = writeln!(errors, "presence_bench: {fault}");
-    let long = ImportFault {
-        line: 0,
-        kind: FaultKind::TooLong,
-    };
-    if fault == Fault::Import(long) {
-        let _ = writeln!(errors, "hint: with --as session it may be longer");
-    }
 }
 
-/// The word that chooses a command.
+/// The word that chooses the subcommand.
 fn word_of(command: Subcommand<'_>) -> &'static str
     ensures { result.now ≡ word_of command.entry }
 {
@@ -67,7 +58,7 @@ fn word_of(command: Subcommand<'_>) -> &'static str
     }
 }
 
-/// The line that says that the command reads standard input.
+/// The line that says that the subcommand reads standard input.
 #[tactic(auto, unfolding(crate::specs::Program::input_line))]
 fn input_line(heap: Global, command: Subcommand<'_>) -> Result<String, Oom>
     ensures { IfOk result (λ line. string_bytes line ≡ input_line command.entry) }
@@ -76,7 +67,7 @@ fn input_line(heap: Global, command: Subcommand<'_>) -> Result<String, Oom>
     Ok(format!(in heap; "presence_bench: reads standard input: presence_bench {word} < FILE\n")?)
 }
 
-/// Prints that the command reads standard input, which is a terminal, if that can be written.
+/// Says on `errors` that the subcommand reads standard input, which is a terminal. A failed write isn't a fault.
 fn tell_input<E: Write>(heap: Global, command: Subcommand<'_>, errors: &mut E)
     ensures { TellsInput command.entry (E.contents errors.old) (E.contents errors.new) }
 {
@@ -86,7 +77,7 @@ fn tell_input<E: Write>(heap: Global, command: Subcommand<'_>, errors: &mut E)
     let _ = write_out(errors, line.as_bytes());
 }
 
-/// As `tell_input`, if the input is a terminal and the command isn't a prompt.
+/// Like `tell_input`, but says nothing if the input isn't a terminal, or the subcommand is a prompt.
 fn announce<E: Write>(heap: Global, command: Subcommand<'_>, errors: &mut E, terminal: bool)
     ensures { Announces terminal command.entry (E.contents errors.old) (E.contents errors.new) }
 {
@@ -99,7 +90,7 @@ fn announce<E: Write>(heap: Global, command: Subcommand<'_>, errors: &mut E, ter
     }
 }
 
-/// Prints what `announce` prints, and then does what was chosen.
+/// Says what `announce` says, and then does what was chosen.
 fn answer_on<
     B: Allocator + Sync,
     T: Threads + Wait + Sync,
@@ -127,8 +118,10 @@ fn answer_on<
     ensures unwritten { IfErr result (λ fault. KeepsBefore fault (W.contents writer.old) (W.contents writer.new)) }
     ensures memory { IfErr result TellsMemory }
     ensures failed { FailsAs result steps.old steps.new }
-    ensures early { EndsSoon choice.entry.command limits result (R.remaining reader.old) (R.remaining reader.new) (W.contents writer.old) (W.contents writer.new) }
-    ensures aside { TellsBeside terminal limits choice.entry.command (R.remaining reader.old) (E.contents errors.old) (E.contents errors.new) }
+    ensures early { EndsSoon choice.entry.command limits result (R.remaining reader.old) (R.remaining reader.new) (W.contents writer.old)
+        (W.contents writer.new) }
+    ensures aside { TellsBeside terminal limits choice.entry.command choice.entry.form (R.remaining reader.old) (E.contents errors.old)
+        (E.contents errors.new) }
 {
     announce(heap, choice.command, errors, terminal);
     answer(
@@ -136,8 +129,8 @@ fn answer_on<
     )
 }
 
-/// Does what was chosen, and gives the status. It writes a fault as one line to the errors, and a hint after it if
-/// there is one, as far as these can be written.
+/// Does what was chosen, and gives the status. It writes a fault to `errors` as one line, and a hint after it if there
+/// is one, as far as these can be written.
 fn run_choice<
     B: Allocator + Sync,
     T: Threads + Wait + Sync,
@@ -159,8 +152,10 @@ fn run_choice<
     steps: &mut Steps<L>,
     clock: &C,
 ) -> u8
-    ensures exits { Exits choice.entry (R.remaining reader.old) (R.remaining reader.new) limits result (W.contents writer.old) (W.contents writer.new) steps.old steps.new }
-    ensures aside { result ≡ 0 → TellsBeside terminal limits choice.entry.command (R.remaining reader.old) (E.contents errors.old) (E.contents errors.new) }
+    ensures exits { Exits choice.entry (R.remaining reader.old) (R.remaining reader.new) limits result (W.contents writer.old) (W.contents writer.new)
+        steps.old steps.new }
+    ensures aside { result ≡ 0 → TellsBeside terminal limits choice.entry.command choice.entry.form (R.remaining reader.old) (E.contents errors.old)
+        (E.contents errors.new) }
 {
     let mut aside = Aside::new(heap);
     let answer = answer_on(
@@ -170,19 +165,20 @@ fn run_choice<
         tell(fault, errors);
         aside.put(errors);
     }
+    // form: drop before exit
     drop(aside);
     status_of(answer)
 }
 
 /// Prints that a request for memory was refused, and gives the status of that fault.
-pub fn want_of_memory<E: Write>(errors: &mut E) -> u8
+pub fn tell_out_of_memory<E: Write>(errors: &mut E) -> u8
     ensures status { result ≡ 4 }
 {
     let _ = writeln!(errors, "presence_bench: {}", Fault::OutOfMemory);
     4
 }
 
-/// Prints help or the version, and gives its status.
+/// Prints the help or the version, and gives the status: 0, or 3 if that can't be written.
 fn print_help<W: Write, E: Write>(help: &clap::Error, writer: &mut W, errors: &mut E) -> u8
     ensures status { PrintsHelp result }
     ensures quiet { result ≡ 0 → Keeps (E.contents errors.old) (E.contents errors.new) }
@@ -194,33 +190,48 @@ fn print_help<W: Write, E: Write>(help: &clap::Error, writer: &mut W, errors: &m
     0
 }
 
-/// What to print of a word that isn't taken. It is mostly the name of a file.
+/// The hint for a word that isn't taken. Such a word is mostly the name of a file.
 const FILE_HINT: &str =
     "hint: the input is read from standard input; put < before the name of a file\n";
 
-/// Answers words that choose nothing: help and the version go to the output, a fault of the words to the errors.
-fn refuse<W: Write, E: Write>(fault: &clap::Error, writer: &mut W, errors: &mut E) -> u8
+/// Prints what is wrong with the words, and a hint if a word that isn't taken may be the name of a file, since it
+/// doesn't begin with `-`.
+fn tell_words<E: Write>(heap: Global, fault: &clap::Error, errors: &mut E) {
+    let Ok(text) = format!(in heap; "{fault}") else {
+        return;
+    };
+    let _ = errors.write_all(text.as_bytes());
+    if fault.kind() == ErrorKind::UnknownArgument && !text.contains("argument '-") {
+        let _ = errors.write_all(FILE_HINT.as_bytes());
+    }
+}
+
+/// Answers words that choose nothing, and gives the status. Help and the version go to the output; a fault of the words
+/// goes to the errors, and has the status 2, or 4 if memory was refused.
+fn refuse<W: Write, E: Write>(
+    heap: Global,
+    fault: &clap::Error,
+    writer: &mut W,
+    errors: &mut E,
+) -> u8
     ensures ends { EndsRefused (kind_of fault.now) result (W.contents writer.old) (W.contents writer.new) }
     ensures quiet { result ≡ 0 → Keeps (E.contents errors.old) (E.contents errors.new) }
 {
     match fault.kind() {
-        ErrorKind::OutOfMemory => want_of_memory(errors),
+        ErrorKind::OutOfMemory => tell_out_of_memory(errors),
         ErrorKind::DisplayHelp | ErrorKind::DisplayVersion => print_help(fault, writer, errors),
-        ErrorKind::UnknownArgument => {
-            let _ = write!(errors, "{fault}{FILE_HINT}");
-            2
-        }
         _ => {
-            let _ = write!(errors, "{fault}");
+            tell_words(heap, fault, errors);
             2
         }
     }
 }
 
-/// Does what the words after the program's name ask, on benches with these limits, and gives the status. The words and
-/// JSON are read in memory of `heap`, and all else is done in that of `alloc`. Where the reader is a terminal, a prompt
-/// shows its signs on `errors`, and any other command tells there what it reads. `steps` counts the calls of `read`;
-/// `clock` says when long work tells how far it has come.
+/// Does what the words after the program's name ask for, on benches with these limits, and gives the status. A
+/// session's bench has the session's limits. Words, JSON, hints, and lines on what is read and how far work has come
+/// take their memory from `heap`; benches and all other texts take theirs from `alloc`. If the reader is a terminal, a
+/// prompt shows its signs on `errors`, and any other subcommand says there what it reads. `steps` counts the calls of
+/// `read`; `clock` says when long work tells how far it has come.
 pub fn program_counted<
     S: AsStr,
     B: Allocator + Sync,
@@ -243,19 +254,20 @@ pub fn program_counted<
     steps: &mut Steps<L>,
     clock: &C,
 ) -> u8
-    ensures ends { EndsProgram (map S.text words.now) (R.remaining reader.old) (R.remaining reader.new) limits result (W.contents writer.old) (W.contents writer.new) steps.old steps.new }
+    ensures ends { EndsProgram (map S.text words.now) (R.remaining reader.old) (R.remaining reader.new) limits result (W.contents writer.old)
+        (W.contents writer.new) steps.old steps.new }
     ensures quiet { result ≡ 0 → IsQuietOn terminal limits (map S.text words.now) (R.remaining reader.old) (E.contents errors.old) (E.contents errors.new) }
 {
     match choice(heap, words) {
         Ok(choice) => run_choice(
             rt, heap, alloc, choice, reader, writer, errors, limits, terminal, steps, clock,
         ),
-        Err(fault) => refuse(&fault, writer, errors),
+        Err(fault) => refuse(heap, &fault, writer, errors),
     }
 }
 
-/// `program_counted` with a count of its own, which it drops. The words stand behind a second reference, since what is
-/// passed with a count must have a size.
+/// Like `program_counted`, but makes the count itself, from `blank`, and drops it. The words stand behind a second
+/// reference, since what is passed with a count must have a size.
 fn program_from<
     S: AsStr,
     B: Allocator + Sync,
@@ -281,7 +293,8 @@ fn program_from<
     requires name { blank.name ≡ L.name }
     requires parts { blank.parts ≡ L.parts }
     requires two { blank.parts ≡ 2 }
-    ensures ends { (before after : Count) × EndsProgram (map S.text words.now.now) (R.remaining reader.old) (R.remaining reader.new) limits result (W.contents writer.old) (W.contents writer.new) before after }
+    ensures ends { (before after : Count) × EndsProgram (map S.text words.now.now) (R.remaining reader.old) (R.remaining reader.new) limits result
+        (W.contents writer.old) (W.contents writer.new) before after }
     ensures quiet { result ≡ 0 → IsQuietOn terminal limits (map S.text words.now.now) (R.remaining reader.old) (E.contents errors.old) (E.contents errors.new) }
 {
     let mut steps = Steps::<L>::new(blank);
@@ -290,7 +303,7 @@ fn program_from<
     )
 }
 
-/// As `program_counted`, for callers that count no calls of `read`.
+/// Like `program_counted`, for callers that don't need the count of the calls of `read`.
 pub fn program_within<
     S: AsStr,
     B: Allocator + Sync,
@@ -311,7 +324,8 @@ pub fn program_within<
     terminal: bool,
     clock: &C,
 ) -> u8
-    ensures ends { (before after : Count) × EndsProgram (map S.text words.now) (R.remaining reader.old) (R.remaining reader.new) limits result (W.contents writer.old) (W.contents writer.new) before after }
+    ensures ends { (before after : Count) × EndsProgram (map S.text words.now) (R.remaining reader.old) (R.remaining reader.new) limits result
+        (W.contents writer.old) (W.contents writer.new) before after }
     ensures quiet { result ≡ 0 → IsQuietOn terminal limits (map S.text words.now) (R.remaining reader.old) (E.contents errors.old) (E.contents errors.new) }
 {
     program_from::<S, B, T, R, W, E, Brand, C>(
@@ -329,7 +343,7 @@ pub fn program_within<
     )
 }
 
-/// The program: `program_within` the usual limits, where the reader is no terminal.
+/// Like `program_within`, but with the usual limits, and for a reader that isn't a terminal.
 pub fn program<
     S: AsStr,
     B: Allocator + Sync,
@@ -348,7 +362,8 @@ pub fn program<
     errors: &mut E,
     clock: &C,
 ) -> u8
-    ensures ends { (before after : Count) × EndsProgram (map S.text words.now) (R.remaining reader.old) (R.remaining reader.new) usual result (W.contents writer.old) (W.contents writer.new) before after }
+    ensures ends { (before after : Count) × EndsProgram (map S.text words.now) (R.remaining reader.old) (R.remaining reader.new) usual result
+        (W.contents writer.old) (W.contents writer.new) before after }
     ensures quiet { result ≡ 0 → IsQuiet (map S.text words.now) (R.remaining reader.old) (E.contents errors.old) (E.contents errors.new) }
 {
     program_within(

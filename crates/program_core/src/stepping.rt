@@ -1,4 +1,4 @@
-//! A prompt from the program's input to its output.
+//! Runs a prompt from the program's input to its output.
 ghost use Rattle.std.specs.Prelude.{◌≡◌, IfErr, OnOk};
 ghost use Rattle.command_line.specs.Help.{language};
 ghost use Rattle.prompt_core.specs.Ends.{IsRead};
@@ -25,7 +25,8 @@ fn help() -> &'static str
     LANGUAGE
 }
 
-/// Answers the lines of a script one by one, each before the next is read; on a terminal with a sign before each.
+/// Answers the lines of a script one by one, each before the next is read. On a terminal it shows a sign before it
+/// reads a line.
 pub fn step_script<B: Allocator, R: Read, W: Write, E: Write, L: Ledger>(
     heap: Global,
     alloc: &B,
@@ -44,6 +45,7 @@ pub fn step_script<B: Allocator, R: Read, W: Write, E: Write, L: Ledger>(
     ensures early { EndsSoon subcommands.Step limits result (R.remaining reader.old) (R.remaining reader.new) (W.contents writer.old) (W.contents writer.new) }
     ensures signs { Shows terminal language limits (R.remaining reader.old) (E.contents errors.old) (E.contents errors.new) }
 {
+    // form: hands out what the proof cites
     report_law();
     match step_counted(
         heap,

@@ -1,4 +1,4 @@
-//! What is read, and what is printed of a bench besides the report of a play.
+//! Reads a script or a session, and writes the session of a bench.
 ghost use Rattle.std.specs.Prelude.{◌≡◌, IfOk, IfErr, OnOk};
 ghost use Rattle.std.specs.Io.KnownBytes.{IsAtEnd};
 ghost use Rattle.stream_core.specs.Inputs.{IsWhole};
@@ -10,6 +10,7 @@ ghost use Rattle.program_core.specs.Texts.{session_text};
 use crate::aside::Aside;
 use crate::fault::Fault;
 use bench_core::Bench;
+use grammar_core::LONGEST_SCRIPT;
 use script_core::{
     FaultKind, InputFault, Played, Script, ScriptFault, Steps, parse_script, read_all,
 };
@@ -19,13 +20,10 @@ use std::alloc::{AllocError, Allocator, Global};
 use std::io::Read;
 use std::sync::ledger::Ledger;
 
-/// The most bytes of a script.
-const LONGEST_SCRIPT: usize = 1_048_576;
-
-/// The most bytes of a session.
+/// The most bytes of a session, and of the events of logs.
 pub const LONGEST_SESSION: usize = 67_108_864;
 
-/// The script that the input spells.
+/// The script that the input spells. If it is refused, `aside` gets the hint, if there is one.
 pub fn read_script<'a, B: Allocator, R: Read, L: Ledger>(
     alloc: &'a B,
     reader: &mut R,
@@ -62,7 +60,7 @@ pub fn read_script<'a, B: Allocator, R: Read, L: Ledger>(
     }
 }
 
-/// The bytes of a session. If the input is too long, it keeps no more of it than a session may have.
+/// The bytes of a session; `LongSession` if there are more than a session may have.
 fn session_input<'a, B: Allocator, R: Read, L: Ledger>(
     alloc: &'a B,
     reader: &mut R,
@@ -83,7 +81,8 @@ fn session_input<'a, B: Allocator, R: Read, L: Ledger>(
     }
 }
 
-/// The bench of the session in the input, with what its calls print.
+/// The bench of the session in the input, and what the session's calls print. If the session is refused, `aside` gets
+/// the hint, if there is one.
 pub fn tell_session<'a, B: Allocator, R: Read, L: Ledger>(
     heap: Global,
     alloc: &'a B,
@@ -104,15 +103,13 @@ pub fn tell_session<'a, B: Allocator, R: Read, L: Ledger>(
         Ok(told) => Ok(told),
         Err(SessionFault::OutOfMemory) => Err(Fault::OutOfMemory),
         Err(refusal) => {
-            if refusal == SessionFault::NotJson {
-                aside.of_session(&input);
-            }
+            aside.of_session(&input, refusal);
             Err(Fault::Session(refusal))
         }
     }
 }
 
-/// The session of a bench and a line feed.
+/// The session of a bench, and a line feed.
 pub fn session_line<'a, B: Allocator>(
     heap: Global,
     bench: &Bench<'a, B>,

@@ -1,4 +1,4 @@
-//! What would have made a difference on a bench.
+//! Tells what would have made a difference on a bench.
 ghost use Rattle.std.specs.Prelude.{◌≡◌, IfErr, IfOk, string_bytes};
 ghost use Rattle.program_core.specs.Whatifs.{RefusesWhatif, TellsWhatif, question_of};
 ghost use Rattle.progress_core.specs.Watches.{Watched};
@@ -8,7 +8,7 @@ use progress_core::{Tried, Watch};
 use std::alloc::Allocator;
 use whatif_report::{Question, WhatifFault, run_with_change, whatif_asked};
 
-/// The question that was chosen.
+/// The question that was chosen, as `whatif_report` takes it.
 fn question_of<'w>(chosen: command_line::Question<'w>) -> Question<'w>
     ensures { result ≡ question_of chosen.entry }
 {
@@ -19,7 +19,8 @@ fn question_of<'w>(chosen: command_line::Question<'w>) -> Question<'w>
     }
 }
 
-/// The changes that would have made a difference; or, given the number of one, the run with it, as a script.
+/// The changes that would have made a difference; or, given the number of a `change`, the run with that change as a
+/// script.
 pub fn tell_whatif<'a, B: Allocator, W: Watch<Tried>>(
     alloc: &'a B,
     bench: &Bench<'a, B>,

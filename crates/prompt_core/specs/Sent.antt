@@ -1,10 +1,9 @@
 -- What a node has sent: its messages by number, the step that sent each, and the rows of its entries.
-use Rattle.std.specs.Prelude.{ℕ, ◌+◌, ◌==◌, ◌&&◌, Bool, List, [], ◌∷◌, ◌++◌, length, map, codes, decimal, Option, Some, None}
+use Rattle.std.specs.Prelude.{ℕ, ◌+◌, List, [], ◌∷◌, ◌++◌, length, map, codes, decimal, Option, Some, None}
 use Rattle.std.specs.FinMap as fin
 use Rattle.payload_core.specs.Presences.{Entries}
 use Rattle.payload_core.specs.Messages.{Message}
 use Rattle.node_core.specs.Nodes.{Node}
-use Rattle.node_core.specs.Operations.{sends}
 use Rattle.journal_core.specs.Journals.{Kept, sent_by}
 use Rattle.bench_core.specs.Machine.{Machine}
 use Rattle.bench_core.specs.NameList.{Texts}
@@ -12,10 +11,6 @@ use Rattle.diff_core.specs.Rows.{Row, row_of}
 use Rattle.report_core.specs.Rows.{name_at, row_lines}
 use Rattle.report_core.specs.Shown.{node_of}
 use Rattle.report_core.specs.StepText.{act_line}
-
--- whether a step is a sending step of the node
-abbrev pub is_sent : Kept → ℕ → Bool
-is_sent k node = (k.node == node) && sends k.step
 
 -- the rows of entries, by rising dot
 abbrev pub rows_of : Entries → List Row

@@ -8,7 +8,9 @@ use payload_core::Oom;
 use run_core::Prompt;
 use std::alloc::{Allocator, Global};
 
-/// Does what a line asks, and gives the answer. A fault changes nothing.
+/// Takes a line at the prompt, and gives what is to be printed: what a script's line prints, what a line of the
+/// prompt's own asks for, or the fault. Only a script's line without a fault changes the prompt. `number` is the number
+/// of the line.
 #[tactic(auto, unfolding(crate::specs::Answers::answer))]
 pub fn answer<'a, B: Allocator>(
     heap: Global,

@@ -31,7 +31,7 @@ pub fn put_text<A: Allocator>(answer: &mut Vec<u8, A>, text: &str) -> Result<(),
     Ok(answer.extend_from_slice(text.as_bytes())?)
 }
 
-/// Appends the fault of a line.
+/// Appends `line NUMBER: KIND` and a line feed.
 #[tactic(auto, unfolding(crate::specs::Answers::fault_line))]
 pub fn put_fault<A: Allocator + Copy>(
     alloc: A,

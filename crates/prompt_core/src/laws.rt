@@ -7,5 +7,6 @@ use run_core::laws::prompt_law;
 pub fn report_law()
     ensures { ReportLaw }
 {
+    // form: hands out what the proof cites
     prompt_law();
 }

@@ -1,12 +1,16 @@
 //! A bench at a prompt: lines are answered one by one, as they are read.
 //!
-//! Stands on `run_core`, which reads and does a line, `session_core`, which saves a bench, `explain_core`, which explains who
-//! is online, `whatif_report`, which tells what would have made a difference, `picture_core`, which draws, `transcript_core`,
-//! which writes a run as a script and step by step, and `stream_core`, which reads line by line. In the order to read them:
-//! `prompt_fault`, why a prompt ends early; `fault_line`, a fault as a prompt prints it; `sent`, what a node has sent; `runs`
-//! and `own`, the answers that a script doesn't have; `answering`, the answer to a line; `quit`, the line that ends a prompt;
-//! `out`, bytes that go out at once; `signs`, the sign before a line; `stepping`, from a reader to a writer. `laws` says that
-//! what a prompt prints for a script without faults is its report.
+//! It stands on `run_core` (reads and carries out a line), `grammar_core` (the faults of a line, and its words),
+//! `stream_core` (input line by line), `session_core` (a bench as a session), `explain_core` (who is online, and why),
+//! `whatif_report` (what would have made a difference), `picture_core` (pictures), `transcript_core` (a run as a
+//! script, and step by step), `report_core` (names and steps as they are printed), `progress_core` (a watcher that
+//! tells nobody) and `bench_core` (benches). It names the plain types of the crates below.
+//!
+//! The modules in reading order: `prompt_fault`, why a prompt ends early; `fault_line`, a fault as a prompt prints it;
+//! `sent`, what a node has sent; `runs` and `own`, the answers to the prompt's own lines; `answering`, the answer to a
+//! line; `quit`, the line that ends a prompt; `out`, bytes that go out at once; `signs`, the sign before a line;
+//! `stepping`, a prompt from a reader to a writer. `laws` says that what a prompt prints for a script without faults is
+//! the script's report.
 #![tactic(auto)]
 
 mod answering;

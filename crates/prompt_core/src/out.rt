@@ -1,4 +1,4 @@
-//! Bytes that go out at once.
+//! Writes bytes that are to go out at once.
 ghost use Rattle.std.specs.Prelude.{◌≡◌, ℕ, IfErr, OnErr, OnOk, take};
 ghost use Rattle.std.specs.Io.KnownBytes.{Appends};
 ghost use Rattle.prompt_core.specs.declared.prompt_fault.PromptFault.TheVariants.{WriteFault};

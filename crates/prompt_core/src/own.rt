@@ -1,4 +1,5 @@
-//! The answers to lines that no script has.
+//! The answers to the prompt's own lines, which no script has. Each function appends an answer to `answer`, or a fault
+//! with `number`, the number of the line.
 ghost use Rattle.std.specs.Prelude.{◌≡◌, ◌++◌, [], OnOk, codes, map, true};
 ghost use Rattle.bench_core.specs.NameList.{number_in};
 ghost use Rattle.grammar_core.specs.Words.{is_text};
@@ -16,7 +17,7 @@ use session_core::save;
 use std::alloc::{Allocator, Global};
 use whatif_report::{WhatifFault, whatif_asked};
 
-/// What `:help` prints, if no word follows it.
+/// Appends the help, if no word follows `:help`; else `WrongCount`. `words` are those behind `:help`.
 fn put_help<A: Allocator + Copy>(
     alloc: A,
     answer: &mut Vec<u8, A>,
@@ -26,6 +27,7 @@ fn put_help<A: Allocator + Copy>(
 ) -> Result<(), Oom>
     ensures { OnOk result (answer.new.items ≡ answer.old.items ++ alone number (map (λ word. word.now) words.now) (help.now ++ codes "\n")) }
 {
+    // form: a pattern, as the definition goes by cases on the words
     let [_, ..] = words else {
         put_text(answer, help)?;
         return put_text(answer, "\n");
@@ -33,7 +35,7 @@ fn put_help<A: Allocator + Copy>(
     put_fault(alloc, answer, number, FaultKind::WrongCount)
 }
 
-/// Nothing, if no word follows `:quit`.
+/// Appends nothing, if no word follows `:quit`; else `WrongCount`.
 fn put_quit<A: Allocator + Copy>(
     alloc: A,
     answer: &mut Vec<u8, A>,
@@ -42,13 +44,14 @@ fn put_quit<A: Allocator + Copy>(
 ) -> Result<(), Oom>
     ensures { OnOk result (answer.new.items ≡ answer.old.items ++ alone number (map (λ word. word.now) words.now) []) }
 {
+    // form: a pattern, as the definition goes by cases on the words
     let [_, ..] = words else {
         return Ok(());
     };
     put_fault(alloc, answer, number, FaultKind::WrongCount)
 }
 
-/// The session so far, once the nodes are named.
+/// Appends the bench as a session, and a line feed; `NoNodes` before the nodes are named.
 fn put_saved<'a, B: Allocator>(
     prompt: &Prompt<'a, B>,
     heap: Global,
@@ -66,7 +69,7 @@ fn put_saved<'a, B: Allocator>(
     put_text(answer, "\n")
 }
 
-/// The session so far, if no word follows `:save`.
+/// Like `put_saved`, if no word follows `:save`; else appends `WrongCount`.
 fn put_save<'a, B: Allocator>(
     prompt: &Prompt<'a, B>,
     heap: Global,
@@ -77,13 +80,15 @@ fn put_save<'a, B: Allocator>(
 ) -> Result<(), Oom>
     ensures { OnOk result (answer.new.items ≡ answer.old.items ++ alone number (map (λ word. word.now) words.now) (saved number prompt.now.machine)) }
 {
+    // form: a pattern, as the definition goes by cases on the words
     let [_, ..] = words else {
         return put_saved(prompt, heap, alloc, answer, number);
     };
     put_fault(alloc, answer, number, FaultKind::WrongCount)
 }
 
-/// The explanation that is asked for, or what is wrong with the question.
+/// Appends the explanation that is asked for; `BadName` if no node has the name in the question, `TooLong` if its topic
+/// or key isn't a word.
 fn put_explanation<'a, B: Allocator>(
     bench: &Bench<'a, B>,
     alloc: &'a B,
@@ -102,7 +107,8 @@ fn put_explanation<'a, B: Allocator>(
     }
 }
 
-/// What the words after `:explain` ask for, once the nodes are named.
+/// Appends the explanation that `words`, those after `:explain`, ask for; `NoNodes` before the nodes are named,
+/// `WrongCount` unless there are three words.
 #[tactic(auto, unfolding(crate::specs::Answers::explained))]
 fn put_explained<'a, B: Allocator>(
     prompt: &Prompt<'a, B>,
@@ -123,7 +129,8 @@ fn put_explained<'a, B: Allocator>(
     put_explanation(bench, alloc, answer, number, question)
 }
 
-/// What would have made a difference, or what is wrong with the question.
+/// Appends what would have made a difference; `BadName` if no node has the name in the question, `TooLong` if its topic
+/// or key isn't a word.
 fn put_whatif<'a, B: Allocator>(
     bench: &Bench<'a, B>,
     alloc: &'a B,
@@ -138,12 +145,14 @@ fn put_whatif<'a, B: Allocator>(
         Ok(text) => put_text(answer, text.as_str()),
         Err(WhatifFault::NoSuchNode) => put_fault(alloc, answer, number, FaultKind::BadName),
         Err(WhatifFault::NoWord) => put_fault(alloc, answer, number, FaultKind::TooLong),
+        // no change is asked for by its number
         Err(WhatifFault::NoSuchChange { changes: _ }) => unreachable!(),
         Err(WhatifFault::OutOfMemory) => Err(Oom),
     }
 }
 
-/// What the words after `:whatif` ask for, once the nodes are named.
+/// Appends what `words`, those after `:whatif`, ask for; `NoNodes` before the nodes are named, `WrongCount` unless
+/// there are three words.
 #[tactic(auto, unfolding(crate::specs::Answers::changes))]
 fn put_changes<'a, B: Allocator>(
     prompt: &Prompt<'a, B>,
@@ -164,7 +173,7 @@ fn put_changes<'a, B: Allocator>(
     put_whatif(bench, alloc, answer, number, question)
 }
 
-/// The answer to words that have this fault in a script.
+/// Appends the answer to a line with these words, which a script would refuse with the fault `kind`.
 #[tactic(auto, unfolding(crate::specs::Answers::worded))]
 fn put_worded<'a, B: Allocator>(
     prompt: &Prompt<'a, B>,
@@ -199,14 +208,15 @@ fn put_worded<'a, B: Allocator>(
     put_run(prompt, alloc, answer, number, kind, first, rest)
 }
 
+/// Whether the fault may be one of a line's first word, so that the line may be one of the prompt's own.
 fn is_first(kind: FaultKind) -> bool
     ensures { result ≡ is_first kind }
 {
     matches!(kind, FaultKind::UnknownWord | FaultKind::NoNodes)
 }
 
-/// The answer to a line that has this fault in a script: to one of the prompt's own lines what it asks, to any other
-/// the fault. If the fault is about the first word, the line is text.
+/// Appends the answer to a line that a script would refuse with the fault `kind`. If the line is one of the prompt's
+/// own, the answer is what it asks for, and else the fault. If `is_first` holds of `kind`, the line must be text.
 #[tactic(auto, unfolding(crate::specs::Answers::own_answer))]
 pub fn put_own<'a, B: Allocator>(
     prompt: &Prompt<'a, B>,

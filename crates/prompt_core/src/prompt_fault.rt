@@ -12,7 +12,7 @@ pub enum PromptFault {
     /// A write failed, or took nothing.
     #[error("write fault")]
     WriteFault,
-    /// There are more lines, or more bytes in one, than a number can count.
+    /// There are at least `u64::MAX - 1` lines, or a line has at least `u64::MAX` bytes.
     #[error("TooLong")]
     TooLong,
     /// A request for memory was refused.

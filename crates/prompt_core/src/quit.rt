@@ -3,10 +3,9 @@ ghost use Rattle.std.specs.Prelude.{◌≡◌, length};
 ghost use Rattle.grammar_core.specs.Words.{words_of};
 ghost use Rattle.prompt_core.specs.Answers.{are_quits, is_quit};
 
-/// The most bytes of a line.
-const LONGEST_LINE: usize = 4096;
+use grammar_core::LONGEST_LINE;
 
-/// Whether each word of the line is `:quit`.
+/// Whether each word of the line is `:quit`; yes, if the line has no words.
 fn are_quits(line: &[u8]) -> bool
     ensures { result ≡ are_quits (words_of line.now) }
 {
@@ -24,7 +23,7 @@ fn word_count(line: &[u8]) -> usize
         .count()
 }
 
-/// Whether the line's only word is `:quit`. It takes no memory.
+/// Whether the line's only word is `:quit`, and the line isn't too long. It asks for no memory.
 #[tactic(auto, unfolding(crate::specs::Answers::is_quit))]
 pub fn is_quit(line: &[u8]) -> bool
     ensures { result ≡ is_quit line.now }

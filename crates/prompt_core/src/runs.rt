@@ -1,4 +1,5 @@
-//! What the prompt's own words print of the run so far: its picture, its steps, its script, what a node has sent.
+//! The answers to those of the prompt's own lines that print the run of the bench: its picture, its steps, its script,
+//! what a node has sent. Each function appends an answer to `answer`, or a fault with `number`, the number of the line.
 ghost use Rattle.std.specs.Prelude.{◌≡◌, ◌++◌, OnOk, map};
 ghost use Rattle.bench_core.specs.NameList.{number_in};
 ghost use Rattle.prompt_core.specs.Answers.{alone, drawn, run_word, script_within, sent_at, told_script, told_sent, told_steps};
@@ -13,7 +14,7 @@ use run_core::Prompt;
 use std::alloc::Allocator;
 use transcript_core::{bench_steps, calls_text};
 
-/// The picture of the run, once the nodes are named.
+/// Appends the picture of the run; `NoNodes` before the nodes are named.
 fn put_picture<'a, B: Allocator>(
     prompt: &Prompt<'a, B>,
     alloc: &'a B,
@@ -33,7 +34,7 @@ fn put_picture<'a, B: Allocator>(
     put_text(answer, "\n")
 }
 
-/// The picture of the run, if no word follows `:draw`.
+/// Like `put_picture`, if no word follows `:draw`; else appends `WrongCount`.
 fn put_draw<'a, B: Allocator>(
     prompt: &Prompt<'a, B>,
     alloc: &'a B,
@@ -41,15 +42,17 @@ fn put_draw<'a, B: Allocator>(
     number: u64,
     words: &[&str],
 ) -> Result<(), Oom>
-    ensures { OnOk result (answer.new.items ≡ answer.old.items ++ alone number (map (λ word. word.now) words.now) (drawn number prompt.now.cast prompt.now.machine)) }
+    ensures { OnOk result (answer.new.items ≡ answer.old.items ++ alone number (map (λ word. word.now) words.now)
+        (drawn number prompt.now.cast prompt.now.machine)) }
 {
+    // form: a pattern, as the definition goes by cases on the words
     let [_, ..] = words else {
         return put_picture(prompt, alloc, answer, number);
     };
     put_fault(alloc, answer, number, FaultKind::WrongCount)
 }
 
-/// The recorded calls, each above what it printed, once the nodes are named.
+/// Appends the recorded calls, each above what it printed; `NoNodes` before the nodes are named.
 fn put_bench_steps<'a, B: Allocator>(
     prompt: &Prompt<'a, B>,
     alloc: &'a B,
@@ -68,7 +71,7 @@ fn put_bench_steps<'a, B: Allocator>(
     Ok(answer.extend_from_slice(&steps)?)
 }
 
-/// The recorded calls, each above what it printed, if no word follows `:steps`.
+/// Like `put_bench_steps`, if no word follows `:steps`; else appends `WrongCount`.
 fn put_steps<'a, B: Allocator>(
     prompt: &Prompt<'a, B>,
     alloc: &'a B,
@@ -76,15 +79,17 @@ fn put_steps<'a, B: Allocator>(
     number: u64,
     words: &[&str],
 ) -> Result<(), Oom>
-    ensures { OnOk result (answer.new.items ≡ answer.old.items ++ alone number (map (λ word. word.now) words.now) (told_steps number prompt.now.cast prompt.now.machine)) }
+    ensures { OnOk result (answer.new.items ≡ answer.old.items ++ alone number (map (λ word. word.now) words.now)
+        (told_steps number prompt.now.cast prompt.now.machine)) }
 {
+    // form: a pattern, as the definition goes by cases on the words
     let [_, ..] = words else {
         return put_bench_steps(prompt, alloc, answer, number);
     };
     put_fault(alloc, answer, number, FaultKind::WrongCount)
 }
 
-/// A script, unless it is longer than a script may be.
+/// Appends a script, or `TooLong` if it is longer than a script may be.
 fn put_within<A: Allocator + Copy>(
     alloc: A,
     answer: &mut Vec<u8, A>,
@@ -99,7 +104,8 @@ fn put_within<A: Allocator + Copy>(
     put_text(answer, script)
 }
 
-/// The recorded calls as a script, once the nodes are named.
+/// Appends the recorded calls as a script; `NoNodes` before the nodes are named, `TooLong` if the text is longer than a
+/// script may be.
 fn put_calls<'a, B: Allocator>(
     prompt: &Prompt<'a, B>,
     alloc: &'a B,
@@ -118,7 +124,7 @@ fn put_calls<'a, B: Allocator>(
     put_within(alloc, answer, number, &script)
 }
 
-/// The recorded calls as a script, if no word follows `:script`.
+/// Like `put_calls`, if no word follows `:script`; else appends `WrongCount`.
 fn put_script<'a, B: Allocator>(
     prompt: &Prompt<'a, B>,
     alloc: &'a B,
@@ -126,15 +132,17 @@ fn put_script<'a, B: Allocator>(
     number: u64,
     words: &[&str],
 ) -> Result<(), Oom>
-    ensures { OnOk result (answer.new.items ≡ answer.old.items ++ alone number (map (λ word. word.now) words.now) (told_script number prompt.now.cast prompt.now.machine)) }
+    ensures { OnOk result (answer.new.items ≡ answer.old.items ++ alone number (map (λ word. word.now) words.now)
+        (told_script number prompt.now.cast prompt.now.machine)) }
 {
+    // form: a pattern, as the definition goes by cases on the words
     let [_, ..] = words else {
         return put_calls(prompt, alloc, answer, number);
     };
     put_fault(alloc, answer, number, FaultKind::WrongCount)
 }
 
-/// What the node of this name has sent, or what is wrong with the name.
+/// Appends what the node with this name has sent; `BadName` if no node has the name.
 fn put_sent_at<'a, B: Allocator>(
     bench: &Bench<'a, B>,
     alloc: &'a B,
@@ -152,7 +160,8 @@ fn put_sent_at<'a, B: Allocator>(
     put_text(answer, &text)
 }
 
-/// What the word after `:sent` asks for, once the nodes are named.
+/// Appends what `words`, those after `:sent`, ask for; `NoNodes` before the nodes are named, `WrongCount` unless there
+/// is one word.
 #[tactic(auto, unfolding(crate::specs::Answers::told_sent))]
 fn put_told_sent<'a, B: Allocator>(
     prompt: &Prompt<'a, B>,
@@ -172,7 +181,8 @@ fn put_told_sent<'a, B: Allocator>(
     put_sent_at(bench, alloc, answer, number, node)
 }
 
-/// What these words print of the run, or their fault if they ask for nothing of the run.
+/// Appends what a line with the first word `first` and then `words` prints of the run; the fault `kind`, if no line of
+/// the prompt's own begins so.
 #[tactic(auto, unfolding(crate::specs::Answers::run_word))]
 pub fn put_run<'a, B: Allocator>(
     prompt: &Prompt<'a, B>,

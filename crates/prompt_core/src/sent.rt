@@ -1,26 +1,21 @@
-//! What a node has sent: its messages, by which steps, and what they hold.
+//! What a node has sent: its messages, which steps sent them, and which entries they have.
 ghost use Rattle.std.specs.Prelude.{◌≡◌, ◌++◌, ◌∷◌, [], IfNone, IfSome, OnOk, codes, length, string_bytes};
 ghost use Rattle.journal_core.specs.Holdings.{kepts};
 ghost use Rattle.journal_core.specs.Journals.{sent_by};
 ghost use Rattle.payload_core.specs.EntryLists.{pair_of};
 ghost use Rattle.diff_core.specs.Rows.{row_of};
 ghost use Rattle.report_core.specs.Rows.{row_line, row_lines};
-ghost use Rattle.prompt_core.specs.Sent.{is_sent, message_line, message_text, messages_text, rows_of, sent_line, sent_text};
+ghost use Rattle.prompt_core.specs.Sent.{message_line, message_text, messages_text, rows_of, sent_line, sent_text};
 
 use bench_core::{Bench, Journal, Kept, Names, Node};
 use journal_core::Steps;
 use payload_core::{Entry, EntrySet, Oom, Payload};
 use report_core::{name_at, node, put_act};
 use std::alloc::Allocator;
+use transcript_core::is_sent_by;
 
-/// Whether a step is a sending step of the node.
-fn is_sent<A: Allocator>(kept: &Kept<A>, node: u16) -> bool
-    ensures { result ≡ is_sent kept.now node }
-{
-    kept.node == node && kept.step.sends()
-}
-
-/// The next sending step of the node.
+/// Moves `steps` on behind the next sending step of `node`, and gives that step; `None` if no further step of `node`
+/// sends.
 fn next_sent<'x, 'a, B: Allocator>(
     steps: &mut Steps<'x, 'a, B>,
     node: u16,
@@ -29,14 +24,14 @@ fn next_sent<'x, 'a, B: Allocator>(
     ensures none { IfNone result (sent_by steps.old node ≡ []) }
 {
     while let Some(kept) = steps.next() {
-        if is_sent(kept, node) {
+        if is_sent_by(kept, node) {
             return Some(kept);
         }
     }
     None
 }
 
-/// The row of an entry, after a mark.
+/// Appends `= ` and the row of an entry.
 #[tactic(auto, unfolding(report_core::specs::Rows::row_text))]
 fn put_entry<A: Allocator, N: Allocator, W: Allocator>(
     text: &mut String<A>,
@@ -51,11 +46,12 @@ fn put_entry<A: Allocator, N: Allocator, W: Allocator>(
     let pid = entry.pid;
     let metadata = entry.metadata.as_str();
     text.push_str("= ")?;
+    // form: split in two for the proof
     write!(text, "{topic} {key} ")?;
     Ok(writeln!(text, "{node}/{pid} {metadata}")?)
 }
 
-/// The rows of the entries.
+/// Appends the rows of the entries, each after `= `.
 fn put_entries<'a, A: Allocator, B: Allocator, N: Allocator>(
     text: &mut String<A>,
     names: &Names<N>,
@@ -70,7 +66,7 @@ fn put_entries<'a, A: Allocator, B: Allocator, N: Allocator>(
     Ok(())
 }
 
-/// `message NUMBER by STEP`.
+/// Appends a line `message NUMBER by STEP NODE VERB ..`, with the step that sent the message.
 #[tactic(auto, unfolding(crate::specs::Sent::message_line))]
 fn put_message_line<A: Allocator, N: Allocator, W: Allocator>(
     text: &mut String<A>,
@@ -86,7 +82,7 @@ fn put_message_line<A: Allocator, N: Allocator, W: Allocator>(
     Ok(text.push_str("\n")?)
 }
 
-/// A message, and what it holds.
+/// Appends a line for a message and the step that sent it, and the rows of the message's entries.
 fn put_message<'a, A: Allocator, B: Allocator, N: Allocator>(
     text: &mut String<A>,
     names: &Names<N>,
@@ -100,7 +96,7 @@ fn put_message<'a, A: Allocator, B: Allocator, N: Allocator>(
     put_entries(text, names, message.entries())
 }
 
-/// All messages of a node, by the steps that sent them.
+/// Appends all messages of the node `found`, whose number is `node`, each with the step that sent it.
 fn put_messages<'a, A: Allocator, B: Allocator, N: Allocator>(
     text: &mut String<A>,
     names: &Names<N>,
@@ -108,15 +104,18 @@ fn put_messages<'a, A: Allocator, B: Allocator, N: Allocator>(
     found: &Node<'a, B>,
     node: u16,
 ) -> Result<(), Oom>
-    ensures { OnOk result (string_bytes text.new ≡ string_bytes text.old ++ messages_text names.now 1 found.now.outbox (sent_by (kepts journal.now.steps) node)) }
+    ensures { OnOk result (string_bytes text.new ≡ string_bytes text.old ++ messages_text names.now 1 found.now.outbox
+        (sent_by (kepts journal.now.steps) node)) }
 {
     let outbox = found.outbox();
     let mut steps = journal.steps();
     for place in 0..outbox.len() {
         let number = place as u64 + 1;
+        // messages are numbered from 1 to the length of the outbox
         let Some(message) = outbox.get(number) else {
             unreachable!()
         };
+        // form: each message has a step here; the test spares a requirement
         let Some(kept) = next_sent(&mut steps, node) else {
             return Ok(());
         };
@@ -125,7 +124,7 @@ fn put_messages<'a, A: Allocator, B: Allocator, N: Allocator>(
     Ok(())
 }
 
-/// `sent NODE COUNT`.
+/// Appends `sent NODE COUNT` and a line feed.
 #[tactic(auto, unfolding(crate::specs::Sent::sent_line))]
 fn put_sent_line<A: Allocator, N: Allocator>(
     text: &mut String<A>,
@@ -139,7 +138,7 @@ fn put_sent_line<A: Allocator, N: Allocator>(
     Ok(writeln!(text, "sent {node} {count}")?)
 }
 
-/// `sent NODE COUNT`, and all messages of that node.
+/// Appends `sent NODE COUNT`, and then all messages of the node `found`, whose number is `node`.
 fn put_all<'a, A: Allocator, B: Allocator, N: Allocator>(
     text: &mut String<A>,
     names: &Names<N>,
@@ -154,7 +153,8 @@ fn put_all<'a, A: Allocator, B: Allocator, N: Allocator>(
     put_messages(text, names, journal, found, node)
 }
 
-/// What a node has sent.
+/// Appends `sent NODE COUNT`, and then all messages of the node with this number; the count is 0 if there is no such
+/// node.
 #[tactic(auto, unfolding(crate::specs::Sent::sent_text))]
 pub fn put_sent<'a, A: Allocator, B: Allocator>(
     text: &mut String<A>,

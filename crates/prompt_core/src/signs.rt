@@ -8,12 +8,13 @@ use run_core::Prompt;
 use std::alloc::Allocator;
 use std::io::Write;
 
-/// The number that the next step will have.
+/// The number that the next step will have; 1 before the nodes are named.
 fn next_step<'a, B: Allocator>(prompt: &Prompt<'a, B>) -> u64
     ensures { result ≡ next_step prompt.now.machine }
 {
     match prompt.bench() {
         Some(bench) => {
+            // form: hands out what the bench keeps
             bench.bench_law();
             bench.meter() + 1
         }
@@ -21,7 +22,7 @@ fn next_step<'a, B: Allocator>(prompt: &Prompt<'a, B>) -> u64
     }
 }
 
-/// `N> `.
+/// The sign: `N> `, where N is the number of the next step.
 #[tactic(auto, unfolding(crate::specs::Signs::sign))]
 fn sign<'a, B: Allocator>(prompt: &Prompt<'a, B>, alloc: &'a B) -> Result<String<&'a B>, Oom>
     ensures { IfOk result (λ text. string_bytes text ≡ sign prompt.now) }
@@ -30,8 +31,8 @@ fn sign<'a, B: Allocator>(prompt: &Prompt<'a, B>, alloc: &'a B) -> Result<String
     Ok(format!(in alloc; "{number}> ")?)
 }
 
-/// Shows the sign, if signs are shown, and says whether they still are. Once one doesn't go out whole, no more are
-/// shown.
+/// Writes the sign to `errors`, if `is_shown`, and says whether it went out whole; no, too, if it isn't shown, or
+/// memory for it was refused. After a no `answer_each` shows no further sign.
 pub fn show_sign<'a, B: Allocator, E: Write>(
     prompt: &Prompt<'a, B>,
     alloc: &'a B,

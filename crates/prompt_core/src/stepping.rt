@@ -1,4 +1,4 @@
-//! A prompt from a reader to a writer.
+//! Runs a prompt from a reader to a writer.
 ghost use Rattle.std.specs.Prelude.{◌≡◌, IfErr, OnOk};
 ghost use Rattle.run_core.specs.Prompts.{new_prompt};
 ghost use Rattle.stream_core.specs.NextLines.{IsEndless};
@@ -24,8 +24,9 @@ use stream_core::{Steps, next_line};
 /// The most bytes of a line that are kept. A line of a script has fewer, so a line with this many bytes is too long.
 const KEPT: usize = 4097;
 
-/// Answers line by line, each before it reads the next, to the end of the input or a line that ends the prompt. The
-/// prompt has taken no line yet. Where signs are shown, there is one before each read.
+/// Answers each line before it reads the next, to the end of the input or a line that ends the prompt. The prompt must
+/// have taken no line yet. If `has_signs`, it shows a sign on `errors` before it reads a line, until a sign doesn't go
+/// out whole.
 fn answer_each<'a, B: Allocator, R: Read, W: Write, E: Write, L: Ledger>(
     prompt: &mut Prompt<'a, B>,
     heap: Global,
@@ -47,6 +48,7 @@ fn answer_each<'a, B: Allocator, R: Read, W: Write, E: Write, L: Ledger>(
     ensures signs { Shows has_signs help.now prompt.old.limits (R.remaining reader.old) (E.contents errors.old) (E.contents errors.new) }
 {
     let mut is_shown = has_signs;
+    // form: a bound that no input reaches, so that the loop ends
     for number in 1..u64::MAX {
         is_shown = show_sign(prompt, alloc, errors, is_shown);
         let Some(line) = next_line(alloc, reader, KEPT, steps)? else {
@@ -62,10 +64,10 @@ fn answer_each<'a, B: Allocator, R: Read, W: Write, E: Write, L: Ledger>(
 }
 
 /// Reads line by line, and answers each line before it reads the next, to the end of the input or a line that is
-/// `:quit`. A line that a script can have is done as in a script. The prompt's own lines are answered; `:help` prints
-/// `help`. Any other line is answered by its fault, which changes nothing. With signs, it shows the number of the next
-/// step on `errors` before each read. `steps` counts the calls of `read`; `step` is for callers that count none and
-/// show none.
+/// `:quit`. A line that a script can have is carried out as in a script. The prompt's own lines are answered; `:help`
+/// prints `help`. Any other line is answered by its fault, and changes nothing. If `has_signs`, it shows the number of
+/// the next step on `errors` before it reads a line, until that can't be written. `steps` counts the calls of `read`;
+/// callers that need neither the count nor signs use `step`.
 pub fn step_counted<B: Allocator, R: Read, W: Write, E: Write, L: Ledger>(
     heap: Global,
     alloc: &B,
@@ -81,10 +83,12 @@ pub fn step_counted<B: Allocator, R: Read, W: Write, E: Write, L: Ledger>(
     ensures report { OnOk result (Reports limits (R.remaining reader.old) (W.contents writer.old) (W.contents writer.new)) }
     ensures read { OnOk result (IsRead (R.remaining reader.old) (R.remaining reader.new)) }
     ensures endless { result ≡ Err TooLong → IsEndless (R.remaining reader.old) }
-    ensures early { IfErr result (λ fault. EndsEarly help.now limits fault (R.remaining reader.old) (R.remaining reader.new) (W.contents writer.old) (W.contents writer.new)) }
+    ensures early { IfErr result (λ fault. EndsEarly help.now limits fault (R.remaining reader.old) (R.remaining reader.new) (W.contents writer.old)
+        (W.contents writer.new)) }
     ensures failed { FailsAs result steps.old steps.new }
     ensures signs { Shows has_signs help.now limits (R.remaining reader.old) (E.contents errors.old) (E.contents errors.new) }
 {
+    // form: hands out what the proof cites
     report_law();
     let mut prompt = Prompt::new(alloc, limits);
     let ended = answer_each(
@@ -98,12 +102,13 @@ pub fn step_counted<B: Allocator, R: Read, W: Write, E: Write, L: Ledger>(
         has_signs,
         steps,
     );
+    // form: drop before exit
     drop(prompt);
     ended
 }
 
-/// `step_counted` without signs, with a count of its own, which it drops. The text stands behind a second reference,
-/// since what is passed with a count must have a size.
+/// Like `step_counted`, but shows no signs, makes the count itself, from `blank`, and drops it. The help stands behind
+/// a second reference, since what is passed with a count must have a size.
 fn step_from<B: Allocator, R: Read, W: Write, L: Ledger>(
     heap: Global,
     alloc: &B,
@@ -120,7 +125,8 @@ fn step_from<B: Allocator, R: Read, W: Write, L: Ledger>(
     ensures report { OnOk result (Reports limits (R.remaining reader.old) (W.contents writer.old) (W.contents writer.new)) }
     ensures read { OnOk result (IsRead (R.remaining reader.old) (R.remaining reader.new)) }
     ensures endless { result ≡ Err TooLong → IsEndless (R.remaining reader.old) }
-    ensures early { IfErr result (λ fault. EndsEarly help.now.now limits fault (R.remaining reader.old) (R.remaining reader.new) (W.contents writer.old) (W.contents writer.new)) }
+    ensures early { IfErr result (λ fault. EndsEarly help.now.now limits fault (R.remaining reader.old) (R.remaining reader.new)
+        (W.contents writer.old) (W.contents writer.new)) }
 {
     let mut steps = Steps::<L>::new(blank);
     step_counted(
@@ -136,7 +142,7 @@ fn step_from<B: Allocator, R: Read, W: Write, L: Ledger>(
     )
 }
 
-/// As `step_counted`, for callers that count no calls of `read` and show no signs.
+/// Like `step_counted`, for callers that need neither the count of the calls of `read` nor signs.
 pub fn step<B: Allocator, R: Read, W: Write>(
     heap: Global,
     alloc: &B,
@@ -149,7 +155,8 @@ pub fn step<B: Allocator, R: Read, W: Write>(
     ensures report { OnOk result (Reports limits (R.remaining reader.old) (W.contents writer.old) (W.contents writer.new)) }
     ensures read { OnOk result (IsRead (R.remaining reader.old) (R.remaining reader.new)) }
     ensures endless { result ≡ Err TooLong → IsEndless (R.remaining reader.old) }
-    ensures early { IfErr result (λ fault. EndsEarly help.now limits fault (R.remaining reader.old) (R.remaining reader.new) (W.contents writer.old) (W.contents writer.new)) }
+    ensures early { IfErr result (λ fault. EndsEarly help.now limits fault (R.remaining reader.old) (R.remaining reader.new) (W.contents writer.old)
+        (W.contents writer.new)) }
 {
     step_from::<B, R, W, Brand>(heap, alloc, reader, writer, limits, &help, Blank::new(2))
 }

@@ -5,7 +5,7 @@ use Rattle.journal_core.specs.Journals.{find_number}
 use Rattle.bench_core.specs.declared.fault.Fault.{Fault}
 use Rattle.bench_core.specs.Machine.{Event, State}
 use Rattle.bench_core.specs.Unwinds.{Unexplained, Gone, Unmade}
-use Rattle.report_core.specs.ActTexts.{is_want}
+use Rattle.report_core.specs.ActTexts.{is_out_of_memory}
 use Rattle.run_core.proofs.Printed.{no_gap}
 use Rattle.transcript_core.specs.Refusals.{fault_in, first_of, first_recorded, refusal_in, unwind_refusal}
 use Rattle.transcript_core.proofs.Walks.{left_more}
@@ -32,7 +32,7 @@ unfolding first_recorded
 first_none es i n past = at_drop_all (first_recorded n) es i past
 
 -- why a step isn't unwound, memory apart
-pub refused_undo : (s : State) (n : ℕ) (fault : Fault) → Unexplained s n fault → is_want fault ≡ false →
+pub refused_undo : (s : State) (n : ℕ) (fault : Fault) → Unexplained s n fault → is_out_of_memory fault ≡ false →
     Some fault ≡ unwind_refusal s n (find_number s.remaining n)
 refused_undo s n fault (Gone f none reply) other = sym (ap (unwind_refusal s n) none ∙ ap fault_in reply)
 refused_undo s n fault (Unmade k found) other = absurd (true≢false other)

@@ -1,4 +1,4 @@
-//! Who acts, by name: the nodes, and the consoles, whose names a session doesn't have.
+//! The names of those who act: nodes, and consoles, for which a session has no names.
 ghost use Rattle.std.specs.Prelude.{◌≡◌, IfOk, OnOk, map};
 ghost use Rattle.report_core.specs.Rows.{name_at};
 ghost use Rattle.transcript_core.specs.Actors.{actor_name, console_count, console_words, free_consoles, named_consoles, with_actor, with_free};
@@ -9,11 +9,11 @@ use payload_core::Oom;
 use report_core::name_at;
 use std::alloc::Allocator;
 
-/// Names for consoles that have none: more of them than the names of nodes and consoles together can take up.
+/// Names for consoles that have none. There are 48, so that 16 are free even if each of 32 nodes has one of them.
 pub const CONSOLES: &str =
     "c1 c2 c3 c4 c5 c6 c7 c8 c9 c10 c11 c12 c13 c14 c15 c16 c17 c18 c19 c20 c21 c22 c23 c24 c25 c26 c27 c28 c29 c30 c31 c32 c33 c34 c35 c36 c37 c38 c39 c40 c41 c42 c43 c44 c45 c46 c47 c48";
 
-/// The name of a console, or an empty text if there is no such console.
+/// The name of the console with this number, counted from 0 among the consoles; empty if there is no such console.
 pub fn console_at<A: Allocator>(consoles: &TextSet<A>, number: usize) -> &str
     ensures { result.now ≡ name_at consoles.now number }
 {
@@ -23,7 +23,7 @@ pub fn console_at<A: Allocator>(consoles: &TextSet<A>, number: usize) -> &str
     }
 }
 
-/// The name of a node or a console.
+/// The name of a node or a console; empty if there is no such actor.
 #[tactic(auto, unfolding(crate::specs::Actors::actor_name))]
 pub(crate) fn actor_name<'t, N: Allocator, C: Allocator>(
     nodes: &'t Names<N>,
@@ -38,15 +38,17 @@ pub(crate) fn actor_name<'t, N: Allocator, C: Allocator>(
     console_at(consoles, actor as usize - nodes.len())
 }
 
-/// How many consoles there are at least, if `count` were needed so far and this actor asked something.
+/// How many consoles there must be, if there are `nodes` nodes, for `actor` to be a node's or a console's number;
+/// `count` if that is more.
 fn with_actor(nodes: usize, count: usize, actor: u16) -> usize
     ensures { result ≡ with_actor nodes count actor }
 {
     let needed = (actor as usize + 1).saturating_sub(nodes);
+    // form: `max`, spelled out for the proof
     if count < needed { needed } else { count }
 }
 
-/// How many consoles asked something, or stand before one that did.
+/// How many consoles the recorded calls need: up to the last one that asked something.
 fn console_count<'a, B: Allocator>(nodes: usize, history: &History<'a, B>) -> usize
     ensures { result ≡ console_count nodes history.now }
 {
@@ -59,7 +61,7 @@ fn console_count<'a, B: Allocator>(nodes: usize, history: &History<'a, B>) -> us
     count
 }
 
-/// Gives the next console this name, if one has none yet and nobody has the name.
+/// Adds `name` to `consoles`, if these are fewer than `count`, and no node and no console has the name.
 fn put_free<A: Allocator + Copy, N: Allocator>(
     nodes: &Names<N>,
     count: usize,
@@ -74,7 +76,7 @@ fn put_free<A: Allocator + Copy, N: Allocator>(
     Ok(())
 }
 
-/// Names that consoles can have.
+/// The words of `CONSOLES`, as a list.
 #[tactic(auto, unfolding(crate::specs::Actors::console_words))]
 fn console_words<A: Allocator>(alloc: A) -> Result<Vec<&'static str, A>, Oom>
     ensures { IfOk result (λ words. map (λ word. word.now) words.items ≡ console_words) }
@@ -82,7 +84,8 @@ fn console_words<A: Allocator>(alloc: A) -> Result<Vec<&'static str, A>, Oom>
     words_of(alloc, CONSOLES)
 }
 
-/// Names for `count` consoles: the first of these words that no node has.
+/// Names for `count` consoles: the first ones of `CONSOLES` that no node has. If these are fewer than `count`, it gives
+/// all of them.
 #[tactic(auto, unfolding(crate::specs::Actors::named_consoles))]
 fn named_consoles<A: Allocator + Copy, N: Allocator>(
     nodes: &Names<N>,
@@ -99,7 +102,8 @@ fn named_consoles<A: Allocator + Copy, N: Allocator>(
     Ok(consoles)
 }
 
-/// Names for the consoles of a bench, which has none for them: `c1`, `c2` .., without those that a node has.
+/// Names for the consoles of a bench, up to the last one that asked something: `c1`, `c2` .., without those that a node
+/// has. The bench knows its consoles by number alone.
 #[tactic(auto, unfolding(crate::specs::Actors::free_consoles))]
 pub fn free_consoles<'a, B: Allocator>(
     alloc: &'a B,

@@ -1,17 +1,19 @@
-//! `TranscriptFault`: why the calls of a bench are no script.
+//! `TranscriptFault`: why the calls of a bench can't be written as a script.
 ghost use Rattle.std.specs.Prelude.{◌≡◌};
 
 use grammar_core::ScriptFault;
 use payload_core::Oom;
 use thiserror::Error;
 
-/// Why the calls of a bench are no script.
+/// Why the calls of a bench can't be written as a script.
 #[derive(Clone, Copy, Debug, PartialEq, Eq, Error)]
 pub enum TranscriptFault {
-    /// The lines of the calls are no script, and this is its first fault: a node's name that a script can't have, say.
+    /// The lines of the calls aren't a script, and `fault` is the first fault of their text. For example, a node has a
+    /// name that a script can't have.
     #[error("{fault}")]
     NoScript { fault: ScriptFault },
-    /// The lines of the calls ask something else, since a call named a node that isn't there.
+    /// The lines of the calls are a script that asks for other calls than those recorded. For example, one of the names
+    /// of a recorded extract is no node's, and the line of the extract leaves that name out.
     #[error("OtherCalls")]
     OtherCalls,
     /// A request for memory was refused.

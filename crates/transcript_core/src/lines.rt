@@ -9,7 +9,7 @@ use payload_core::Oom;
 use report_core::{name_at, put_act};
 use std::alloc::Allocator;
 
-/// `NODE VERB ..`, `ACTOR undo NUMBER` or `ACTOR back NAME`.
+/// Appends `NODE VERB ..`, `ACTOR undo NUMBER` or `ACTOR back NAME`, without a line feed.
 #[tactic(auto, unfolding(crate::specs::Scripts::call_line))]
 pub fn put_call<A: Allocator, N: Allocator, C: Allocator, W: Allocator>(
     text: &mut String<A>,

@@ -1,4 +1,4 @@
-//! The script of a bench's calls, read again.
+//! Reads the script of a bench's calls again, and compares it with the calls.
 ghost use Rattle.std.specs.Prelude.{◌≡◌, ◌↔◌, IsTrue, IfErr, OnOk, Some, map, option_map, slice_get};
 ghost use Rattle.grammar_core.specs.Scripts.{plain_command, plain_lines, plain_script};
 ghost use Rattle.run_core.specs.Report.{call_of, commands_of};
@@ -11,7 +11,7 @@ use grammar_core::{
 };
 use std::alloc::Allocator;
 
-/// Whether the line asks the recorded call.
+/// Whether the line asks for the recorded call.
 fn asks_call<A: Allocator>(line: &Line<A>, event: &Event<A>) -> bool
     ensures { IsTrue result ↔ (plain_command line.now.command ≡ call_of event.now) }
 {
@@ -21,7 +21,7 @@ fn asks_call<A: Allocator>(line: &Line<A>, event: &Event<A>) -> bool
     }
 }
 
-/// Whether the line asks the call that was recorded at this place.
+/// Whether the line asks for the call that was recorded at `place`, counted from 0; no if none was recorded there.
 fn asks_at<'a, B: Allocator>(history: &History<'a, B>, place: usize, line: &Line<&'a B>) -> bool
     ensures { IsTrue result ↔ (option_map call_of (slice_get history.now place) ≡ Some (plain_command line.now.command)) }
 {
@@ -31,7 +31,7 @@ fn asks_at<'a, B: Allocator>(history: &History<'a, B>, place: usize, line: &Line
     }
 }
 
-/// Whether the lines ask the recorded calls.
+/// Whether the lines ask for the recorded calls, all of them and no others.
 fn ask_calls<'a, B: Allocator>(history: &History<'a, B>, lines: &[Line<&'a B>]) -> bool
     ensures { IsTrue result ↔ (commands_of (plain_lines lines.now) ≡ map call_of history.now) }
 {
@@ -43,7 +43,7 @@ fn ask_calls<'a, B: Allocator>(history: &History<'a, B>, lines: &[Line<&'a B>]) 
     lines.len() == history.len()
 }
 
-/// Whether the script asks the calls of the bench, and names its nodes.
+/// Whether the script names the nodes of the bench, and asks for its recorded calls.
 fn asks<'a, B: Allocator>(bench: &Bench<'a, B>, script: &Script<&'a B>) -> bool
     ensures { IsTrue result ↔ Asks bench.now (plain_script script.now) }
 {
@@ -53,7 +53,7 @@ fn asks<'a, B: Allocator>(bench: &Bench<'a, B>, script: &Script<&'a B>) -> bool
     ask_calls(bench.history(), lines(script))
 }
 
-/// A fault of the text, as the fault of the script that it should have been.
+/// Why there is no script, if the text of the calls has this fault when it is read.
 fn fault_of(fault: ScriptFault) -> TranscriptFault
     ensures { result ≡ fault_of fault }
 {
@@ -63,7 +63,8 @@ fn fault_of(fault: ScriptFault) -> TranscriptFault
     }
 }
 
-/// Reads the text as a script, and compares it with the calls of the bench.
+/// Reads the text as a script, and compares it with the calls of the bench. `NoScript` if the text isn't a script;
+/// `OtherCalls` if the script names other nodes or asks for other calls.
 pub(crate) fn read_back<'a, B: Allocator>(
     bench: &Bench<'a, B>,
     text: &[u8],
@@ -77,6 +78,7 @@ pub(crate) fn read_back<'a, B: Allocator>(
         Err(fault) => return Err(fault_of(fault)),
     };
     let same = asks(bench, &script);
+    // form: drop before exit
     drop(script);
     if same {
         Ok(())

@@ -1,19 +1,20 @@
-//! The first call that was refused.
+//! Finds the first act or unwind that was refused.
 ghost use Rattle.std.specs.Prelude.{◌≡◌, IfOk, OnOk, slice_get};
 ghost use Rattle.journal_core.specs.Journals.{find_number};
 ghost use Rattle.bench_core.specs.Acts.{plain_act};
 ghost use Rattle.grammar_core.specs.Scripts.{plain_command, plain_lines, plain_script};
-ghost use Rattle.report_core.specs.ActTexts.{after_act, after_unwind, is_want, reply_of};
+ghost use Rattle.report_core.specs.ActTexts.{after_act, after_unwind, reply_of};
 ghost use Rattle.run_core.specs.Report.{after_command};
 ghost use Rattle.transcript_core.specs.Refusals.{fault_in, first_from, first_in, first_recorded, first_refused, refusal_in, refusal_of, unwind_refusal};
 
 use bench_core::{Act, Bench, Fault, History, Limits, Reply};
 use grammar_core::{Command, Line, Script, lines, node_names};
 use payload_core::Oom;
-use report_core::{answer, unwind};
+use report_core::{answer, is_out_of_memory, unwind};
 use std::alloc::Allocator;
 
-/// A call that was refused, by the number of its line in a script, or by its own number among those that were recorded.
+/// An act or an unwind that was refused. `number` is the number of its line in a script; for a recorded call it is the
+/// call's place in the history, counted from 1.
 #[derive(Clone, Copy, Debug, PartialEq, Eq)]
 pub struct Refusal {
     pub number: u64,
@@ -29,14 +30,7 @@ fn fault_in(reply: Reply) -> Option<Fault>
     }
 }
 
-/// Whether the fault is want of memory, which counts as no refusal.
-fn is_want(fault: Fault) -> bool
-    ensures { result ≡ is_want fault }
-{
-    matches!(fault, Fault::OutOfMemory)
-}
-
-/// Makes an act, and gives why it is refused, if it is. Fails for want of memory alone.
+/// Makes an act, and gives why it was refused; `None` if it wasn't. Only refused memory is an error.
 fn ask<'a, B: Allocator>(
     bench: &mut Bench<'a, B>,
     actor: u16,
@@ -48,17 +42,18 @@ fn ask<'a, B: Allocator>(
     Ok(fault_in(answer(bench, actor, act)?))
 }
 
-/// Why the unwind of a step is refused, if it is.
+/// Why the unwind of a step would be refused; `None` if it wouldn't. Only refused memory is an error.
 fn unwind_refusal<'a, B: Allocator>(bench: &Bench<'a, B>, number: u64) -> Result<Option<Fault>, Oom>
     ensures { IfOk result (λ refusal. refusal ≡ unwind_refusal bench.now.state number (find_number bench.now.state.remaining number)) }
 {
     match bench.why(number) {
         Ok(numbers) => {
+            // form: drop before exit
             drop(numbers);
             Ok(None)
         }
         Err(fault) => {
-            if is_want(fault) {
+            if is_out_of_memory(fault) {
                 return Err(Oom);
             }
             Ok(Some(fault))
@@ -66,7 +61,7 @@ fn unwind_refusal<'a, B: Allocator>(bench: &Bench<'a, B>, number: u64) -> Result
     }
 }
 
-/// Unwinds a step, and gives why that is refused, if it is.
+/// Unwinds a step, and gives why that was refused; `None` if it wasn't. What the unwind prints is dropped.
 fn ask_unwind<'a, B: Allocator>(
     bench: &mut Bench<'a, B>,
     actor: u16,
@@ -82,7 +77,7 @@ fn ask_unwind<'a, B: Allocator>(
     Ok(refusal)
 }
 
-/// Does what a line asks, and gives why that is refused, if it is.
+/// Carries out a command, and gives why it was refused; `None` if it wasn't. What the command prints is dropped.
 #[tactic(auto, unfolding(crate::specs::Refusals::refusal_of, run_core::specs::Report::after_command))]
 fn obey<'a, B: Allocator>(
     bench: &mut Bench<'a, B>,
@@ -99,7 +94,8 @@ fn obey<'a, B: Allocator>(
     }
 }
 
-/// The first of these lines that is refused.
+/// Carries out the lines in turn on the bench, up to the first that is refused, and gives that one's refusal; `None` if
+/// no line is refused.
 #[tactic(auto, unfolding(crate::specs::Refusals::first_from))]
 fn first_from<'a, B: Allocator>(
     bench: &mut Bench<'a, B>,
@@ -117,7 +113,7 @@ fn first_from<'a, B: Allocator>(
     Ok(None)
 }
 
-/// The first line of a script that is refused, if the script is played with these limits.
+/// The first line of a script that is refused when the script is played with these limits; `None` if no line is.
 #[tactic(auto, unfolding(crate::specs::Refusals::first_refused))]
 pub fn first_refused<'a, B: Allocator>(
     alloc: &'a B,
@@ -129,11 +125,12 @@ pub fn first_refused<'a, B: Allocator>(
     let names = node_names(script).try_copy()?;
     let mut bench = Bench::new(alloc, names, limits)?;
     let refusal = first_from(&mut bench, lines(script), alloc);
+    // form: drop before exit
     drop(bench);
     refusal
 }
 
-/// Why the call at this place was refused, if it was.
+/// Why the recorded call at `place`, counted from 0, was refused; `None` if it wasn't, or none was recorded there.
 fn refusal_at<'a, B: Allocator>(history: &History<'a, B>, place: usize) -> Option<Fault>
     ensures { result ≡ refusal_in (slice_get history.now place) }
 {
@@ -143,7 +140,7 @@ fn refusal_at<'a, B: Allocator>(history: &History<'a, B>, place: usize) -> Optio
     }
 }
 
-/// The first of the recorded calls that was refused.
+/// The first refused call of a history; `None` if no call was refused.
 fn first_recorded<'a, B: Allocator>(history: &History<'a, B>) -> Option<Refusal>
     ensures { result ≡ first_recorded 1 history.now }
 {
@@ -156,7 +153,7 @@ fn first_recorded<'a, B: Allocator>(history: &History<'a, B>) -> Option<Refusal>
     None
 }
 
-/// The first recorded call of a bench that was refused.
+/// The first refused call of those that a bench recorded; `None` if no call was refused.
 pub fn first_in<'a, B: Allocator>(bench: &Bench<'a, B>) -> Option<Refusal>
     ensures { result ≡ first_in bench.now }
 {

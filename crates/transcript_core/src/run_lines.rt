@@ -1,4 +1,4 @@
-//! The lines of a run as a script that plays it.
+//! Appends the lines of a script that plays a run: the nodes, and a line for each step.
 ghost use Rattle.std.specs.Prelude.{◌≡◌, ◌++◌, OnOk, string_bytes};
 ghost use Rattle.transcript_core.specs.Runs.{nodes_line, step_line};
 
@@ -8,7 +8,7 @@ use payload_core::Oom;
 use report_core::put_act;
 use std::alloc::Allocator;
 
-/// `nodes NAME ..` after the indent.
+/// Appends `indent`, `nodes NAME ..` and a line feed.
 #[tactic(auto, unfolding(crate::specs::Runs::nodes_line))]
 pub fn put_nodes_line<A: Allocator, N: Allocator>(
     text: &mut String<A>,
@@ -23,7 +23,7 @@ pub fn put_nodes_line<A: Allocator, N: Allocator>(
     Ok(text.push_str("\n")?)
 }
 
-/// The step as a line, after the indent.
+/// Appends `indent`, the step as a line of a script, and a line feed.
 #[tactic(auto, unfolding(crate::specs::Runs::step_line))]
 pub fn put_step_line<A: Allocator, N: Allocator, W: Allocator>(
     text: &mut String<A>,

@@ -1,4 +1,4 @@
-//! The calls of a bench as a script.
+//! Writes the calls of a bench as a script.
 ghost use Rattle.std.specs.Prelude.{◌≡◌, ◌++◌, IfErr, IfOk, OnOk, string_bytes};
 ghost use Rattle.transcript_core.specs.Scripts.{IsScriptOf, Refuses, cast_of, cast_text, consoles_text, event_line, event_lines, script_text, spaced_names};
 
@@ -12,7 +12,7 @@ use payload_core::Oom;
 use report_core::name_at;
 use std::alloc::Allocator;
 
-/// Each node's name after a space.
+/// Appends each node's name after a space.
 pub(crate) fn put_nodes<A: Allocator, N: Allocator>(
     text: &mut String<A>,
     nodes: &Names<N>,
@@ -26,7 +26,7 @@ pub(crate) fn put_nodes<A: Allocator, N: Allocator>(
     Ok(())
 }
 
-/// Each console's name after a space.
+/// Appends each console's name after a space.
 fn put_each_console<A: Allocator, C: Allocator>(
     text: &mut String<A>,
     consoles: &TextSet<C>,
@@ -40,7 +40,7 @@ fn put_each_console<A: Allocator, C: Allocator>(
     Ok(())
 }
 
-/// `consoles NAME ..`, if there are any.
+/// Appends `consoles NAME ..`, if there are any consoles.
 #[tactic(auto, unfolding(crate::specs::Scripts::consoles_text))]
 fn put_consoles<A: Allocator, C: Allocator>(
     text: &mut String<A>,
@@ -56,7 +56,7 @@ fn put_consoles<A: Allocator, C: Allocator>(
     Ok(text.push_str("\n")?)
 }
 
-/// `nodes NAME ..` and `consoles NAME ..`.
+/// Appends the lines `nodes NAME ..` and, if there are consoles, `consoles NAME ..`.
 #[tactic(auto, unfolding(crate::specs::Scripts::cast_text))]
 fn put_cast<A: Allocator, N: Allocator, C: Allocator>(
     text: &mut String<A>,
@@ -71,7 +71,7 @@ fn put_cast<A: Allocator, N: Allocator, C: Allocator>(
     put_consoles(text, consoles)
 }
 
-/// The line of a recorded call.
+/// Appends the line of a recorded call.
 fn put_event<A: Allocator, N: Allocator, C: Allocator, W: Allocator>(
     text: &mut String<A>,
     nodes: &Names<N>,
@@ -84,7 +84,7 @@ fn put_event<A: Allocator, N: Allocator, C: Allocator, W: Allocator>(
     Ok(text.push_str("\n")?)
 }
 
-/// A line for each recorded call.
+/// Appends a line for each recorded call.
 #[tactic(auto, unfolding(crate::specs::Scripts::event_lines))]
 fn put_events<'a, A: Allocator, B: Allocator, N: Allocator, C: Allocator>(
     history: &History<'a, B>,
@@ -102,7 +102,8 @@ fn put_events<'a, A: Allocator, B: Allocator, N: Allocator, C: Allocator>(
     Ok(())
 }
 
-/// The script of the calls, without reading it back.
+/// The lines that name the nodes and the consoles, and a line for each recorded call. They are a script only if
+/// `read_back` finds no fault in their text.
 #[tactic(auto, unfolding(crate::specs::Scripts::script_text))]
 pub fn calls_text<'a, A: Allocator, B: Allocator>(
     bench: &Bench<'a, B>,
@@ -117,8 +118,8 @@ pub fn calls_text<'a, A: Allocator, B: Allocator>(
     Ok(text)
 }
 
-/// The recorded calls of a bench as a script, with these names of the consoles. Before it goes out it is read again and
-/// compared with the calls; if it isn't read as these calls, there is none.
+/// The recorded calls of a bench as a script, in which the consoles have the names `consoles`. The text is read again:
+/// `NoScript` if it isn't a script, `OtherCalls` if it asks for other calls than those recorded.
 pub fn script_of_calls<'a, B: Allocator>(
     alloc: &'a B,
     bench: &Bench<'a, B>,
@@ -127,6 +128,7 @@ pub fn script_of_calls<'a, B: Allocator>(
     ensures script { IfOk result (λ text. IsScriptOf bench.now consoles.now (string_bytes text)) }
     ensures refused { IfErr result (Refuses bench.now consoles.now) }
 {
+    // form: each hands out what the proof cites
     bench.bench_law();
     replay_law();
     let text = calls_text(bench, consoles, alloc)?;

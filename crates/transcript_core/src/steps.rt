@@ -1,4 +1,4 @@
-//! A report with the line of each call above what it printed.
+//! Prints a report with the line of each call above what the call printed.
 ghost use Rattle.std.specs.Prelude.{◌≡◌, ◌++◌, IfOk, OnOk, map, string_bytes, true};
 ghost use Rattle.bench_core.specs.Acts.{plain_act};
 ghost use Rattle.bench_core.specs.Machine.{opening_machine};
@@ -16,7 +16,7 @@ use report_core::{act, name_at};
 use run_core::command as obey;
 use std::alloc::Allocator;
 
-/// Notes who took a step back, if an actor had this reply.
+/// Notes `actor` in `takers`, at the place of a step's number, if `reply` says that `actor` took that step back.
 fn note_reply<A: Allocator>(takers: &mut Vec<Option<u16>, A>, actor: u16, reply: Reply)
     ensures { takers.new.items ≡ with_reply takers.old.items actor reply }
 {
@@ -27,14 +27,14 @@ fn note_reply<A: Allocator>(takers: &mut Vec<Option<u16>, A>, actor: u16, reply:
     }
 }
 
-/// Notes who took a step back, if this call did.
+/// Notes in `takers` the actor of the recorded call, if the call took a step back.
 fn note_event<A: Allocator, W: Allocator>(takers: &mut Vec<Option<u16>, A>, event: &Event<W>)
     ensures { takers.new.items ≡ with_taker takers.old.items event.now }
 {
     note_reply(takers, event.actor, event.reply);
 }
 
-/// Who took steps back: at each step's number the actor who did, if anybody.
+/// Who took steps back: at the place of each step's number the actor who took that step back, or `None` if nobody did.
 #[tactic(auto, unfolding(crate::specs::Steps::takers_of))]
 fn takers_of<'a, B: Allocator>(
     bench: &Bench<'a, B>,
@@ -42,6 +42,7 @@ fn takers_of<'a, B: Allocator>(
 ) -> Result<Vec<Option<u16>, &'a B>, Oom>
     ensures { IfOk result (λ takers. takers.items ≡ takers_of bench.now.state.history) }
 {
+    // form: hands out what the bench keeps
     bench.bench_law();
     let history = bench.history();
     let mut takers = vec![in alloc; None; history.len() + 1]?;
@@ -53,7 +54,7 @@ fn takers_of<'a, B: Allocator>(
     Ok(takers)
 }
 
-/// Who took the step of this number back.
+/// Who took back the step with this number; `None` if nobody did.
 fn taker_of(takers: &[Option<u16>], number: u64) -> Option<u16>
     ensures { result ≡ taker_of takers.now number }
 {
@@ -63,7 +64,7 @@ fn taker_of(takers: &[Option<u16>], number: u64) -> Option<u16>
     }
 }
 
-/// The reply that was recorded at this place.
+/// The reply that was recorded at `place`, counted from 0; `None` if none was recorded there.
 fn reply_at<'a, B: Allocator>(history: &History<'a, B>, place: usize) -> Option<Reply>
     ensures { result ≡ reply_at history.now place }
 {
@@ -73,10 +74,11 @@ fn reply_at<'a, B: Allocator>(history: &History<'a, B>, place: usize) -> Option<
     }
 }
 
-/// The number of the step, or a dash.
+/// Appends the number of the step that a call took or took back, or a dash if it did neither, and two spaces.
 fn put_number<A: Allocator>(text: &mut String<A>, reply: Option<Reply>) -> Result<(), Oom>
     ensures { OnOk result (string_bytes text.new ≡ string_bytes text.old ++ number_text reply) }
 {
+    // form: each arm is a case of the proof
     match reply {
         Some(Reply::Taken(number)) => Ok(write!(text, "{number}  ")?),
         Some(Reply::Undone(number)) => Ok(write!(text, "{number}  ")?),
@@ -85,7 +87,7 @@ fn put_number<A: Allocator>(text: &mut String<A>, reply: Option<Reply>) -> Resul
     }
 }
 
-/// Who took the step back.
+/// Appends `undone by ACTOR` after two spaces.
 fn put_undone<A: Allocator, N: Allocator, C: Allocator>(
     text: &mut String<A>,
     nodes: &Names<N>,
@@ -98,7 +100,7 @@ fn put_undone<A: Allocator, N: Allocator, C: Allocator>(
     Ok(text.push_str(actor_name(nodes, consoles, actor))?)
 }
 
-/// Who took the step back, if anybody.
+/// Appends who took the step back; nothing if nobody did.
 fn put_taker<A: Allocator, N: Allocator, C: Allocator>(
     text: &mut String<A>,
     nodes: &Names<N>,
@@ -113,7 +115,7 @@ fn put_taker<A: Allocator, N: Allocator, C: Allocator>(
     }
 }
 
-/// Who took the step of this reply back, if anybody.
+/// Appends who took back the step that was taken with this reply; nothing if none was taken or nobody took it back.
 fn put_note<A: Allocator, N: Allocator, C: Allocator>(
     text: &mut String<A>,
     nodes: &Names<N>,
@@ -130,7 +132,8 @@ fn put_note<A: Allocator, N: Allocator, C: Allocator>(
     }
 }
 
-/// `NUMBER  NODE VERB ..`, and who took the step back.
+/// Appends the line of a call: `NUMBER  ACTOR VERB ..`, and behind that who took the call's step back later. NUMBER is
+/// that of the step that the call took or took back, or a dash if it did neither.
 #[tactic(auto, unfolding(crate::specs::Steps::head_line))]
 fn put_head<A: Allocator, N: Allocator, C: Allocator, W: Allocator>(
     text: &mut String<A>,
@@ -150,7 +153,7 @@ fn put_head<A: Allocator, N: Allocator, C: Allocator, W: Allocator>(
     Ok(text.push_str("\n")?)
 }
 
-/// The number of the step that the line unwinds, or a dash.
+/// Appends the number of the step that the line unwinds, or a dash if the step doesn't remain, and two spaces.
 fn put_unwind_number<A: Allocator>(
     text: &mut String<A>,
     remains: bool,
@@ -164,7 +167,8 @@ fn put_unwind_number<A: Allocator>(
     Ok(text.push_str("-  ")?)
 }
 
-/// What stands above what a line printed.
+/// Appends the line that stands above what a command printed. `reply` is the reply to a call; `remains` says whether
+/// the step of an unwind remained before the unwind.
 #[tactic(auto, unfolding(crate::specs::Steps::command_head))]
 fn put_command_head<A: Allocator, N: Allocator, C: Allocator, W: Allocator>(
     text: &mut String<A>,
@@ -198,7 +202,7 @@ fn put_command_head<A: Allocator, N: Allocator, C: Allocator, W: Allocator>(
     }
 }
 
-/// A byte, with two spaces before it at the beginning of a line.
+/// Appends a byte, and two spaces before it if it begins a line.
 fn put_byte<A: Allocator>(out: &mut Vec<u8, A>, begins: bool, byte: u8) -> Result<(), Oom>
     ensures { OnOk result (out.new.items ≡ out.old.items ++ byte_text begins byte) }
 {
@@ -223,7 +227,7 @@ fn put_indented<A: Allocator>(out: &mut Vec<u8, A>, text: &[u8]) -> Result<(), O
     Ok(())
 }
 
-/// A head, and below it what was printed.
+/// Appends a head, and below it what was printed, indented by two spaces.
 fn put_below<A: Allocator, H: Allocator>(
     out: &mut Vec<u8, A>,
     head: &String<H>,
@@ -235,7 +239,7 @@ fn put_below<A: Allocator, H: Allocator>(
     put_indented(out, printed.as_bytes())
 }
 
-/// Whether the step that the line unwinds remains.
+/// Whether the command unwinds a step, and that step remains.
 fn unwinds_one<'a, B: Allocator>(bench: &Bench<'a, B>, command: &Command<&'a B>) -> bool
     ensures { result ≡ unwinds_one bench.now (plain_command command.now) }
 {
@@ -245,7 +249,7 @@ fn unwinds_one<'a, B: Allocator>(bench: &Bench<'a, B>, command: &Command<&'a B>)
     }
 }
 
-/// A line of a script, and below it what it printed.
+/// Carries out a command on the bench, and appends its line and below that what it printed.
 #[tactic(auto, unfolding(crate::specs::Steps::command_steps))]
 fn put_line<'a, B: Allocator>(
     out: &mut Vec<u8, &'a B>,
@@ -277,7 +281,7 @@ fn put_line<'a, B: Allocator>(
     put_below(out, &head, &printed)
 }
 
-/// A recorded call, and below it what it printed.
+/// Makes a recorded call on the bench, and appends its line and below that what it printed.
 #[tactic(auto, unfolding(crate::specs::Steps::command_steps, crate::specs::Steps::command_head, run_core::specs::Report::command_text, run_core::specs::Report::after_command))]
 fn put_event<'a, B: Allocator>(
     out: &mut Vec<u8, &'a B>,
@@ -307,7 +311,7 @@ fn put_event<'a, B: Allocator>(
     put_below(out, &head, &printed)
 }
 
-/// The lines of a script, and below each what it printed.
+/// Carries out the lines of a script on the bench, and appends each with what it printed below.
 #[tactic(auto, unfolding(crate::specs::Steps::steps_text))]
 fn put_lines<'a, B: Allocator>(
     out: &mut Vec<u8, &'a B>,
@@ -326,7 +330,7 @@ fn put_lines<'a, B: Allocator>(
     Ok(())
 }
 
-/// The recorded calls, and below each what it printed.
+/// Makes recorded calls on the bench, and appends the line of each with what it printed below.
 #[tactic(auto, unfolding(crate::specs::Steps::steps_text))]
 fn put_events<'a, B: Allocator>(
     out: &mut Vec<u8, &'a B>,
@@ -347,7 +351,7 @@ fn put_events<'a, B: Allocator>(
     Ok(())
 }
 
-/// Asks the lines of a script of a bench, and gives each with what it printed below.
+/// Carries out the lines of a script on a bench, and gives each with what it printed below.
 fn lines_steps<'a, B: Allocator>(
     bench: &mut Bench<'a, B>,
     consoles: &TextSet<&'a B>,
@@ -362,7 +366,7 @@ fn lines_steps<'a, B: Allocator>(
     Ok(out)
 }
 
-/// Asks recorded calls of a bench again, and gives each with what it printed below.
+/// Makes recorded calls on a bench, and gives the line of each with what it printed below.
 fn events_steps<'a, B: Allocator>(
     bench: &mut Bench<'a, B>,
     consoles: &TextSet<&'a B>,
@@ -377,7 +381,7 @@ fn events_steps<'a, B: Allocator>(
     Ok(out)
 }
 
-/// A fresh bench of these names and limits.
+/// A new bench with these names and limits.
 fn opened<'a, B: Allocator>(
     names: &Names<&'a B>,
     limits: Limits,
@@ -388,7 +392,8 @@ fn opened<'a, B: Allocator>(
     Bench::new(alloc, names.try_copy()?, limits)
 }
 
-/// Recorded calls, asked of a fresh bench of these names and limits, and below each what it printed.
+/// Makes recorded calls on a new bench with these names and limits, and gives the line of each with what it printed
+/// below.
 fn events_anew<'a, B: Allocator>(
     names: &Names<&'a B>,
     limits: Limits,
@@ -397,15 +402,18 @@ fn events_anew<'a, B: Allocator>(
     history: &History<'a, B>,
     alloc: &'a B,
 ) -> Result<Vec<u8, &'a B>, Oom>
-    ensures { IfOk result (λ text. text.items ≡ steps_text (cast_of (opening_machine names.now limits) consoles.now) takers.now (opening_machine names.now limits) (map call_of history.now)) }
+    ensures { IfOk result (λ text. text.items ≡ steps_text (cast_of (opening_machine names.now limits) consoles.now) takers.now
+        (opening_machine names.now limits) (map call_of history.now)) }
 {
     let mut again = opened(names, limits, alloc)?;
     let steps = events_steps(&mut again, consoles, takers, history, alloc);
+    // form: drop before exit
     drop(again);
     steps
 }
 
-/// The lines of a script, and below each what it printed. The script was played with these limits, and left this bench.
+/// The lines of a script, and below each what it printed. `bench` must be what a play of the script with these limits
+/// left; its history tells who took a step back later.
 pub fn script_steps<'a, B: Allocator>(
     alloc: &'a B,
     script: &Script<&'a B>,
@@ -424,11 +432,12 @@ pub fn script_steps<'a, B: Allocator>(
         lines(script),
         alloc,
     );
+    // form: drop before exit
     drop(again);
     steps
 }
 
-/// The recorded calls of a bench, and below each what it printed, with these names of the consoles.
+/// The lines of a bench's recorded calls, and below each what it printed. `consoles` has the names of the consoles.
 #[tactic(auto, unfolding(crate::specs::Steps::bench_steps))]
 pub fn bench_steps<'a, B: Allocator>(
     alloc: &'a B,

@@ -7,6 +7,6 @@ use Rattle.program_core.proofs.importing.import_events.Goals as goal
 pub returns-clause-ends : goal.returns-clause-ends
 returns-clause-ends g c =
     ends_import c.args.check c.args.lines c.args.lenient c.args.form c.args.limits (text_bytes c.in_ok-made.made.text) c.in_ok-made.made.left_out.items
-    _ _ (g.R.Read.remaining c.args.reader.now) c.deref.result.now c.in_ok-made.made.differs c.print_made-printed.result
+    c.in_ok-made.made.full _ _ (g.R.Read.remaining c.args.reader.now) c.deref.result.now c.in_ok-made.made.differs c.print_made-printed.result
     (subst (λ (bytes : List ℕ). IsWhole (g.R.Read.remaining c.args.reader.now) bytes) (sym c.deref.ensures.value) c.in_ok-input.ensures.whole)
     c.in_ok-made.ensures.made c.print_made-printed.ensures

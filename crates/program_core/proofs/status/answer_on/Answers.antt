@@ -4,5 +4,5 @@ use Rattle.program_core.proofs.status.answer_on.Goals as goal
 -- what was told first, and what behind it
 pub returns-clause-aside : goal.returns-clause-aside
 returns-clause-aside g c =
-    beside c.args.terminal c.args.limits c.args.choice.command (g.R.Read.remaining c.args.reader.now) (g.E.Write.contents c.args.errors.now)
+    beside c.args.terminal c.args.limits c.args.choice.command c.args.choice.form (g.R.Read.remaining c.args.reader.now) (g.E.Write.contents c.args.errors.now)
     (g.E.Write.contents c.announce.new.errors) (g.E.Write.contents c.answer.new.errors) c.announce.ensures c.answer.ensures.aside

@@ -1,22 +1,23 @@
-//! The step that sent what another step delivers.
+//! Which step sent a message.
 ghost use Rattle.std.specs.Prelude.{◌≡◌};
 ghost use Rattle.journal_core.specs.Holdings.{kepts};
 ghost use Rattle.journal_core.specs.Journals.{sender_of, source_of};
 ghost use Rattle.node_core.specs.Operations.{plain};
-ghost use Rattle.page_data.specs.Asked.{is_sent};
+ghost use Rattle.transcript_core.specs.Senders.{is_sent};
 
 use bench_core::{Journal, Kept, Step};
 use std::alloc::Allocator;
 
-/// Whether a step is a sending step of the node.
-fn is_sent_by<A: Allocator>(kept: &Kept<A>, node: u16) -> bool
+/// Whether a step is a sending step of `node`.
+pub fn is_sent_by<A: Allocator>(kept: &Kept<A>, node: u16) -> bool
     ensures { result ≡ is_sent kept.now node }
 {
     kept.node == node && kept.step.sends()
 }
 
-/// The number of the step that sent this message of the node, if it remains. Messages are numbered from 1.
-fn sender_of<'a, B: Allocator>(journal: &Journal<'a, B>, node: u16, message: u64) -> Option<u64>
+/// The number of the remaining step that sent the message of `node` with the number `message`, counted from 1; `None`
+/// if there is no such step.
+pub fn sender_of<'a, B: Allocator>(journal: &Journal<'a, B>, node: u16, message: u64) -> Option<u64>
     ensures { result ≡ sender_of (kepts journal.now.steps) node message }
 {
     if message == 0 {
@@ -35,7 +36,8 @@ fn sender_of<'a, B: Allocator>(journal: &Journal<'a, B>, node: u16, message: u64
     None
 }
 
-/// The number of the step that sent what this step delivers.
+/// The number of the remaining step that sent what `step` delivers; `None` if `step` delivers nothing, or the sending
+/// step doesn't remain.
 pub fn source_of<'a, B: Allocator, W: Allocator>(
     journal: &Journal<'a, B>,
     step: &Step<W>,

@@ -1,7 +1,7 @@
 use Rattle.std.proofs.Common.{◌≡◌, ◌<◌, length}
 use Rattle.journal_core.specs.Holdings.{kepts}
 use Rattle.journal_core.specs.Journals.{sender_of}
-use Rattle.picture_core.proofs.sender.sender_of.Given as goal
+use Rattle.transcript_core.proofs.sender.sender_of.Given as goal
 
 -- what is left to find among the steps to come
 abbrev pub invariant-loop-kept : goal.invariant-loop-kept
