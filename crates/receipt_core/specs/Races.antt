@@ -10,8 +10,8 @@ use Rattle.bench_core.specs.declared.reply.Reply.{Reply}
 use Rattle.bench_core.specs.declared.reply.Reply.TheVariants as replies
 use Rattle.receipt_core.specs.Agree.{Agrees}
 use Rattle.receipt_core.specs.Receipts.{Receipt}
-use Rattle.receipt_core.specs.declared.race_fault.CrewFault.{CrewFault}
-use Rattle.receipt_core.specs.declared.race_fault.CrewFault.TheVariants as crew_faults
+use Rattle.receipt_core.specs.declared.race_fault.WorkersFault.{WorkersFault}
+use Rattle.receipt_core.specs.declared.race_fault.WorkersFault.TheVariants as workers_faults
 use Rattle.receipt_core.specs.declared.race_fault.RaceFault.{RaceFault}
 use Rattle.receipt_core.specs.declared.race_fault.RaceFault.TheVariants.{UnknownActor, NoRoom, WorkerRefused, OutOfMemory, LogsDisagree}
 
@@ -31,18 +31,18 @@ refusal_of m actors lines = if not (are_known actors lines) then Some UnknownAct
 abbrev pub IsLate : RaceFault → Type 0
 IsLate fault = (fault ≢ UnknownActor) × (fault ≢ NoRoom)
 
-abbrev pub fault_of_crew : CrewFault → RaceFault
-fault_of_crew crew_faults.WorkerRefused = WorkerRefused
-fault_of_crew crew_faults.OutOfMemory = OutOfMemory
+abbrev pub fault_of_workers : WorkersFault → RaceFault
+fault_of_workers workers_faults.WorkerRefused = WorkerRefused
+fault_of_workers workers_faults.OutOfMemory = OutOfMemory
 
 -- whether a call was refused memory
 
-abbrev pub is_want : Reply → Bool
-is_want (replies.Refused faults.OutOfMemory) = true
-is_want _ = false
+abbrev pub is_out_of_memory : Reply → Bool
+is_out_of_memory (replies.Refused faults.OutOfMemory) = true
+is_out_of_memory _ = false
 
-abbrev pub met_want : List (List Receipt) → Bool
-met_want lists = list_any (λ receipts. list_any (λ r. is_want r.reply) receipts) lists
+abbrev pub met_out_of_memory : List (List Receipt) → Bool
+met_out_of_memory lists = list_any (λ receipts. list_any (λ r. is_out_of_memory r.reply) receipts) lists
 
 -- a race is vouched for: the receipts account for what was added to this history, there is a list for each actor, and the bench
 -- has the names and limits that the race was given
@@ -57,7 +57,7 @@ pub record IsVouched (history : List Event) (names : Texts) (limits : Limits) (m
 -- doesn't hold
 abbrev pub IsUnvouched : Type 0 → List (List Receipt) → RaceFault → Type 0
 IsUnvouched vouched receipts OutOfMemory = ⊤
-IsUnvouched vouched receipts LogsDisagree = (met_want receipts ≡ false) × ¬ vouched
+IsUnvouched vouched receipts LogsDisagree = (met_out_of_memory receipts ≡ false) × ¬ vouched
 IsUnvouched vouched receipts UnknownActor = ⊥
 IsUnvouched vouched receipts NoRoom = ⊥
 IsUnvouched vouched receipts WorkerRefused = ⊥

@@ -1,4 +1,4 @@
-//! `agree`: whether the receipts of a race account for what it added to the history.
+//! `agree`: whether the receipts of a race account for the events that the race added to the history.
 ghost use Rattle.std.specs.Prelude.{◌≡◌, ◌↔◌, ◌<◌, IsTrue, IfOk, length, take, map};
 ghost use Rattle.std.specs.List.{AllByRecursion};
 ghost use Rattle.bench_core.specs.Acts.{plain_act, calls_of};
@@ -11,14 +11,15 @@ use bench_core::{Act, Event, History, Reply};
 use payload_core::Oom;
 use std::alloc::Allocator;
 
-/// Whether two recorded calls are the same, with the same reply.
+/// Whether two recorded calls are the same, with the same actor and reply.
 fn same_event<A: Allocator>(one: &Event<A>, other: &Event<A>) -> bool
     ensures { IsTrue result ↔ (one.now ≡ other.now) }
 {
     one.actor == other.actor && one.act.same(&other.act) && one.reply.same(other.reply)
 }
 
-/// Whether the receipt is of the line, and matches the event at its place, which is past `last`.
+/// Whether the receipt is that of the line `number`, in which `actor` asks `act`. The receipt must also name a place
+/// past `last`, and the history `after` must have there the event that the receipt tells of.
 fn answers<'a, B: Allocator>(
     after: &History<'a, B>,
     last: u64,
@@ -44,7 +45,8 @@ fn answers<'a, B: Allocator>(
         && event.reply.same(receipt.reply)
 }
 
-/// Whether the receipts are one for each of the actor's lines, in order, at places that rise from `start`.
+/// Whether `receipts` has a receipt for each of the actor's lines and no other, in the order of the lines, at rising
+/// places past `start`.
 fn are_answered<'a, B: Allocator>(
     after: &History<'a, B>,
     start: u64,
@@ -55,6 +57,7 @@ fn are_answered<'a, B: Allocator>(
     ensures { IsTrue result ↔ Answered after.now start (lines_of actor (calls_of lines.now)) receipts.now }
 {
     let mut last = start;
+    // form: counted by hand, as the proof names both counts
     let mut number = 0u64;
     let mut told = 0;
     for (line_actor, act) in lines {
@@ -74,7 +77,7 @@ fn are_answered<'a, B: Allocator>(
     told == receipts.len()
 }
 
-/// Whether each actor's list answers the actor's lines.
+/// Whether each list of receipts answers the lines of its actor, whose number is the list's place.
 fn are_all_answered<'a, B: Allocator>(
     after: &History<'a, B>,
     start: u64,
@@ -84,6 +87,7 @@ fn are_all_answered<'a, B: Allocator>(
     ensures answered { IsTrue result ↔ AllAnswered after.now start (calls_of lines.now) 0 (map (λ v. v.items) lists.now) }
     ensures within { IsTrue result → AllByRecursion (Within (length after.now)) (places (map (λ v. v.items) lists.now)) }
 {
+    // form: counted by hand, as the proof names the count
     let mut actor = 0;
     for list in lists {
         if !are_answered(after, start, lines, actor, list) {
@@ -94,7 +98,7 @@ fn are_all_answered<'a, B: Allocator>(
     true
 }
 
-/// Whether the one history begins the other.
+/// Whether the history `before` begins the history `after`.
 fn begins<'a, B: Allocator>(before: &History<'a, B>, after: &History<'a, B>) -> bool
     ensures { IsTrue result ↔ (take (length before.now) after.now ≡ before.now) }
 {
@@ -112,7 +116,7 @@ fn begins<'a, B: Allocator>(before: &History<'a, B>, after: &History<'a, B>) -> 
     true
 }
 
-/// Whether each line's actor has a list.
+/// Whether each line's actor has a list of receipts. There are `lists` of them, for the actors from 0 on.
 fn are_known<A: Allocator>(lines: &[(u16, Act<A>)], lists: usize) -> bool
     ensures { IsTrue result ↔ AllByRecursion (λ l. l.0 < lists) (calls_of lines.now) }
 {
@@ -124,7 +128,7 @@ fn are_known<A: Allocator>(lines: &[(u16, Act<A>)], lists: usize) -> bool
     true
 }
 
-/// Whether the receipts account for what was added to the history `before`, as `agree` says.
+/// Whether the receipts account for the events that were added to the history `before`, as `agree` says.
 pub(crate) fn account<'a, B: Allocator>(
     before: &History<'a, B>,
     after: &History<'a, B>,
@@ -144,10 +148,11 @@ pub(crate) fn account<'a, B: Allocator>(
     none_twice(alloc, after.len(), receipts)
 }
 
-/// Whether the receipts account for what was added to the history `before`: it begins `after`, which has one event more for
-/// each line; list `i` of the receipts, from 0, has one for each line of actor `i` and no other, in order, with that line's
-/// actor, number and act, at rising places past the end of `before`, where `after` has the event that the receipt tells of;
-/// each line's actor has a list; and no place is named twice.
+/// Whether the receipts account for the events that were added to the history `before`. They do if `before` begins
+/// `after`; `after` has one event more for each line; each line's actor has a list; and no place is named twice. List
+/// `i` of the receipts, counted from 0, has one for each line of actor `i` and no other, in order, with that line's
+/// actor, number and act. The list's places rise, all past the end of `before`, and at each `after` has the event that
+/// the receipt tells of.
 pub fn agree<'a, B: Allocator>(
     alloc: &'a B,
     before: &History<'a, B>,
@@ -157,5 +162,6 @@ pub fn agree<'a, B: Allocator>(
 ) -> Result<bool, Oom>
     ensures { IfOk result (λ b. IsTrue b ↔ Agrees before.now after.now (calls_of lines.now) (map (λ v. v.items) receipts.now)) }
 {
+    // form: the same with the usual order of parameters
     account(before, after, lines, receipts, alloc)
 }

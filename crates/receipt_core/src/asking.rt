@@ -1,4 +1,4 @@
-//! `ask`: one call of a bench that is lent.
+//! `ask`: makes one call on a borrowed bench, and gives its receipt.
 ghost use Rattle.std.specs.Prelude.{◌≡◌};
 ghost use Rattle.bench_core.specs.Acts.{plain_act};
 ghost use Rattle.bench_core.specs.Machine.{AnswersAs};
@@ -8,7 +8,8 @@ use crate::receipt::Receipt;
 use bench_core::{Act, Bench};
 use std::alloc::Allocator;
 
-/// Makes one call of the bench. Threads that share a bench make it on what their lock's guard lends.
+/// Makes one call on the bench, and gives its receipt. Threads that share a bench borrow it from the guard of their
+/// lock.
 pub fn ask<'a, B: Allocator>(
     bench: &mut Bench<'a, B>,
     actor: u16,

@@ -1,8 +1,10 @@
-//! What consoles tell of a race, and whether it accounts for what came out: plain values, without threads.
+//! What the workers of a race tell, and whether that accounts for the history after the race: plain values, without
+//! threads.
 //!
-//! It stands on `bench_core` (the machine). In the order to read them: `receipt`, what a console tells of a call; `asking`, one
-//! call of a bench that is lent; `places` and `agreeing`, whether receipts account for a history; `race_fault`; `vouching`,
-//! whether a race may begin, and whether it can be vouched for.
+//! The crate stands on `bench_core` (the machine), and names the plain types of the crates below. The modules in
+//! reading order: `receipt`, what a worker tells of a call; `asking`, one call on a borrowed bench; `places`, the
+//! places that receipts name; `agreeing`, whether receipts account for a history; `race_fault`, why a race may not
+//! begin, or can't be vouched for; `vouching`, whether a race may begin, and whether it can be vouched for.
 #![tactic(auto)]
 
 mod agreeing;
@@ -14,6 +16,6 @@ mod vouching;
 
 pub use agreeing::agree;
 pub use asking::ask;
-pub use race_fault::{CrewFault, RaceFault};
+pub use race_fault::{RaceFault, WorkersFault};
 pub use receipt::{Receipt, Receipts};
 pub use vouching::{Known, known_of, refusal, vouched};

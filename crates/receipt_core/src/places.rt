@@ -1,4 +1,4 @@
-//! The places that receipts name, and whether one is named twice.
+//! The places that receipts name, and whether a place is named twice.
 ghost use Rattle.std.specs.Prelude.{◌≡◌, ◌↔◌, IsTrue, IfOk, map};
 ghost use Rattle.std.specs.List.{AllByRecursion};
 ghost use Rattle.receipt_core.specs.Agree.{named, places, NoneTwice};
@@ -8,14 +8,14 @@ use crate::receipt::Receipt;
 use payload_core::Oom;
 use std::alloc::Allocator;
 
-/// The place that a receipt names, and 0 where it names none.
+/// The place that a receipt names; 0 if it names none.
 pub(crate) fn named_place<A: Allocator>(receipt: &Receipt<A>) -> u64
     ensures { result ≡ named receipt.now }
 {
     receipt.place.unwrap_or(0)
 }
 
-/// The places that the receipts name, list by list.
+/// The places that the receipts name, list by list, with 0 for a receipt that names none.
 fn named_places<A: Allocator + Copy>(
     alloc: A,
     lists: &[Vec<Receipt<A>, A>],
@@ -31,7 +31,8 @@ fn named_places<A: Allocator + Copy>(
     Ok(all)
 }
 
-/// Whether each place has a mark, none is marked, and none is named twice.
+/// Whether each of these places, counted from 1, has a mark in `marks` that isn't set, and none comes twice. A mark is
+/// set once its place was seen.
 fn are_fresh<A: Allocator>(mut marks: Vec<bool, A>, places: &[u64]) -> bool
     ensures { IsTrue result ↔ Fresh marks.items places.now }
 {
@@ -48,7 +49,8 @@ fn are_fresh<A: Allocator>(mut marks: Vec<bool, A>, places: &[u64]) -> bool
     true
 }
 
-/// Whether no place of a history of this length is named twice.
+/// Whether no two receipts name the same place. The caller has checked that each names a place from 1 to `length`, the
+/// length of the history. Asks for memory for a mark for each of these places.
 pub(crate) fn none_twice<A: Allocator + Copy>(
     alloc: A,
     length: usize,

@@ -1,11 +1,11 @@
-//! `RaceFault`: why a race can't be vouched for.
+//! `RaceFault`: why a race may not begin, or why it can't be vouched for afterwards.
 ghost use Rattle.std.specs.Prelude.{◌≡◌};
-ghost use Rattle.receipt_core.specs.Races.{fault_of_crew};
+ghost use Rattle.receipt_core.specs.Races.{fault_of_workers};
 
 use payload_core::Oom;
 use thiserror::Error;
 
-/// Why a race can't be vouched for.
+/// Why a race may not begin (`UnknownActor`, `NoRoom`), or why it can't be vouched for afterwards.
 #[derive(Clone, Copy, Debug, PartialEq, Eq, Error)]
 pub enum RaceFault {
     /// A line's actor isn't one of the actors.
@@ -17,39 +17,40 @@ pub enum RaceFault {
     /// A worker couldn't be started.
     #[error("WorkerRefused")]
     WorkerRefused,
-    /// A request for memory was refused, perhaps one of a call.
+    /// A request for memory was refused, perhaps one that a call made.
     #[error("OutOfMemory")]
     OutOfMemory,
-    /// The receipts don't account for the history.
+    /// The receipts don't account for the history, there aren't as many lists of them as actors, or the bench's names
+    /// or limits changed.
     #[error("LogsDisagree")]
     LogsDisagree,
 }
 
-/// Why a crew didn't ask its lines.
+/// Why the workers of a race weren't all started, or gave no receipts.
 #[derive(Clone, Copy, Debug, PartialEq, Eq)]
-pub enum CrewFault {
+pub enum WorkersFault {
     WorkerRefused,
     OutOfMemory,
 }
 
-impl From<Oom> for CrewFault {
-    ghost use Rattle.receipt_core.specs.declared.race_fault.CrewFault.TheVariants.{OutOfMemory};
+impl From<Oom> for WorkersFault {
+    ghost use Rattle.receipt_core.specs.declared.race_fault.WorkersFault.TheVariants.{OutOfMemory};
 
     ghost from_gives = { λ _ fault. fault ≡ OutOfMemory };
 
-    fn from(_: Oom) -> CrewFault {
-        CrewFault::OutOfMemory
+    fn from(_: Oom) -> WorkersFault {
+        WorkersFault::OutOfMemory
     }
 }
 
-impl CrewFault {
-    /// The fault of the race.
+impl WorkersFault {
+    /// The same fault as one of the race.
     pub fn of_race(self) -> RaceFault
-        ensures { result ≡ fault_of_crew self }
+        ensures { result ≡ fault_of_workers self }
     {
         match self {
-            CrewFault::WorkerRefused => RaceFault::WorkerRefused,
-            CrewFault::OutOfMemory => RaceFault::OutOfMemory,
+            WorkersFault::WorkerRefused => RaceFault::WorkerRefused,
+            WorkersFault::OutOfMemory => RaceFault::OutOfMemory,
         }
     }
 }

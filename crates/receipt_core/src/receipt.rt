@@ -3,8 +3,8 @@ use bench_core::{Act, Reply};
 use std::alloc::Allocator;
 use std::marker::Model;
 
-/// What a call was, what was answered, and where the history has it. Lines and places count from 1; there is no place where
-/// the call was not recorded.
+/// What a call was, what was answered, and at which place the history has it. Lines and places are numbered from 1.
+/// There is no place if the call wasn't recorded.
 #[derive(Drop)]
 pub struct Receipt<A: Allocator> {
     pub actor: u16,
@@ -26,5 +26,5 @@ impl<A: Allocator> Model for Receipt<A> {
     ghost view = { λ r. record { actor = r.actor; line = r.line; act = plain_act r.act; reply = r.reply; place = r.place } };
 }
 
-/// The receipts of a race: a list for each actor, by its number.
+/// The receipts of a race: a list for each actor, by the actor's number.
 pub type Receipts<A> = Vec<Vec<Receipt<A>, A>, A>;

@@ -1,4 +1,4 @@
-//! `carry`: a session's text in the form of the latest version.
+//! `carry`: a session's text in the form of the latest version, the second.
 ghost use Rattle.std.specs.Prelude.{IfErr, IfOk};
 ghost use Rattle.recording_core.specs.Sessions.{IsCarried, Refuses};
 
@@ -7,7 +7,7 @@ use crate::saving::save;
 use recording_core::SessionFault;
 use std::alloc::{Allocator, Global};
 
-/// The text, in the latest version, of the bench that `load` gives with this allocator.
+/// The text, in the latest version, of the bench that `load` makes with this allocator.
 fn carry_over<'a, B: Allocator>(
     bytes: &[u8],
     alloc: &'a B,
@@ -18,6 +18,7 @@ fn carry_over<'a, B: Allocator>(
 {
     let bench = load(heap, alloc, bytes)?;
     let saved = save(heap, &bench);
+    // form: drop before exit
     drop(bench);
     match saved {
         Ok(text) => Ok(text),
@@ -25,9 +26,9 @@ fn carry_over<'a, B: Allocator>(
     }
 }
 
-/// The compact text of the second version for the bench of a session's text. That bench has the same names, limits and
-/// recorded calls, so it has the same remaining steps and the same cluster. It refuses what `load` refuses, in its
-/// order. It takes all memory from the global heap.
+/// The compact text, of the second version, for the bench of a session's text. Once loaded, the new text gives a bench
+/// with the same names, limits and recorded calls, and so with the same remaining steps and the same cluster. `carry`
+/// refuses what `load` refuses, in the same order. All memory is from the global heap.
 pub fn carry(heap: Global, bytes: &[u8]) -> Result<Vec<u8>, SessionFault>
     ensures carried { IfOk result (λ text. IsCarried bytes.now text.items) }
     ensures refused { IfErr result (Refuses bytes.now) }

@@ -1,4 +1,4 @@
-//! `load`: the bench of a session, asked its calls again.
+//! `load`: the bench of a session, opened with the session's names and limits and asked its calls again.
 ghost use Rattle.std.specs.Prelude.{◌≡◌, List, Some, IfOk, OnOk, IfErr};
 ghost use Rattle.serde_json.specs.Data.{Data};
 ghost use Rattle.bench_core.specs.Machine.{Machine};
@@ -12,7 +12,7 @@ use dots_core::Oom;
 use recording_core::{Acts, Recording, SessionFault, Version, read_session};
 use std::alloc::{Allocator, Global};
 
-/// Asks the event's call, and says whether the bench gave its reply and recorded it.
+/// Asks the bench the event's call, and says whether it gave the reply that the event has, and recorded the call.
 fn records_next<'a, B: Allocator>(
     bench: &mut Bench<'a, B>,
     event: &Event<&'a B>,
@@ -30,8 +30,8 @@ fn records_next<'a, B: Allocator>(
     Ok(false)
 }
 
-/// Asks the call of act `number`, and compares the reply. Refused as `BadShape` if a text of this version can't have
-/// the call.
+/// Asks the call of act `number`, and compares the reply. `BadShape` if a text of this version can't have the call;
+/// `Disagrees` if the bench gives another reply, or doesn't record the call.
 fn take_event<'a, B: Allocator>(
     bench: &mut Bench<'a, B>,
     event: &Event<&'a B>,
@@ -50,7 +50,8 @@ fn take_event<'a, B: Allocator>(
     }
 }
 
-/// Asks the calls of the acts, in order.
+/// Asks the calls of the acts, in order. If a value that isn't an event follows them, `BadShape` with its number comes
+/// once they are all asked.
 fn take_events<'a, B: Allocator>(
     bench: &mut Bench<'a, B>,
     acts: &Acts<&'a B>,
@@ -71,11 +72,11 @@ fn take_events<'a, B: Allocator>(
     Ok(())
 }
 
-/// The bench of a session, of either version: opened with the session's names and limits, and asked its calls in order.
-/// The bench has to give each reply that is in the text, and to record it. If an object has two equal keys, the last
-/// counts. The refusals come in this order: `NotJson`; `BadShape {act: 0}` where there is no whole number at `version`;
-/// `BadVersion` where it is neither 1 nor 2; `BadShape {act: 0}` for the rest of the head; then act by act `BadShape`
-/// before `Disagrees`. A request, an answer and the refusals that come of these are acts of the second version alone.
+/// The bench of a session, of either version: it is opened with the session's names and limits, and asked its calls in
+/// order. The bench has to give each reply that is in the text, and to record it. If an object has two equal keys, the
+/// last one counts. The refusals come in this order: `NotJson`; `BadShape {act: 0}` if there is no whole number at
+/// `version`; `BadVersion` if that is neither 1 nor 2; `BadShape {act: 0}` for the rest of the head; then, act by act,
+/// `BadShape` before `Disagrees`. Only the second version has requests, answers and the refusals that come of these.
 /// Each act's JSON is dropped once its event is known. JSON values and the list of events take their memory from the
 /// global heap.
 pub fn load<'a, B: Allocator>(
@@ -94,6 +95,7 @@ pub fn load<'a, B: Allocator>(
         acts,
     } = read_session(heap, alloc, bytes)?;
     let Ok(mut bench) = Bench::new(alloc, names, limits) else {
+        // form: drop before exit
         drop(acts);
         return Err(SessionFault::OutOfMemory);
     };

@@ -45,7 +45,7 @@ fn limits_value(heap: Global, limits: Limits) -> Result<Value, Oom>
     json!(in heap; [limits.acts(), limits.entries(), limits.clock(), limits.messages()])
 }
 
-/// A session of the second version, of these values.
+/// A session of the second version, with these values as its members.
 fn members_value(heap: Global, acts: Value, limits: Value, nodes: Value) -> Result<Value, Oom>
     ensures { IfOk result (λ v. view v ≡ object (member (codes "acts") (view acts) (member (codes "limits") (view limits)
         (member (codes "nodes") (view nodes) (member (codes "version") (whole 2) no_members))))) }
@@ -53,12 +53,14 @@ fn members_value(heap: Global, acts: Value, limits: Value, nodes: Value) -> Resu
     json!(in heap; {"acts": acts, "limits": limits, "nodes": nodes, "version": 2u64})
 }
 
+/// The session of the bench as a JSON value.
 fn session_value<'a, B: Allocator>(heap: Global, bench: &Bench<'a, B>) -> Result<Value, Oom>
     ensures json { IfOk result (λ v. view v ≡ session 2 bench.now.names bench.now.limits bench.now.state.history) }
     ensures told { IfOk result (λ _. AllByRecursion IsEvent bench.now.state.history) }
 {
     let acts = events_value(heap, bench.history())?;
     let Ok(limits) = limits_value(heap, bench.limits()) else {
+        // form: drop before exit
         drop(acts);
         return Err(Oom);
     };
@@ -70,12 +72,13 @@ fn session_value<'a, B: Allocator>(heap: Global, bench: &Bench<'a, B>) -> Result
     members_value(heap, acts, limits, nodes)
 }
 
-/// The compact text of the bench's session: its names, its limits, and each recorded call with its reply. JSON values take
-/// their memory from the global heap.
+/// The compact text of the bench's session, of the second version: its names, its limits, and each recorded call with
+/// its reply. JSON values take their memory from the global heap.
 pub fn save<'a, B: Allocator>(heap: Global, bench: &Bench<'a, B>) -> Result<Vec<u8>, Oom>
     ensures text { IfOk result (λ text. text.items ≡ compact_text (session 2 bench.now.names bench.now.limits bench.now.state.history)) }
     ensures saved { IfOk result (λ text. IsSaved text.items bench.now) }
 {
+    // form: hands out what the value keeps
     bench.bench_law();
     bench.names().names_law();
     replay_law();

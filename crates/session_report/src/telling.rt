@@ -1,4 +1,4 @@
-//! `report_session`: the bench of a session, with what its calls print.
+//! `report_session`: the bench of a session, and what its calls print.
 ghost use Rattle.std.specs.Prelude.{◌≡◌, ◌↔◌, ◌++◌, List, Some, IfOk, IfErr, IsTrue, MatchResult, OnOk, map, option_map, slice_get, string_bytes};
 ghost use Rattle.serde_json.specs.Data.{Data};
 ghost use Rattle.bench_core.specs.Machine.{Machine};
@@ -16,7 +16,7 @@ use run_core::Played;
 use session_core::{Acts, SessionFault, Version, read_session};
 use std::alloc::{Allocator, Global};
 
-/// Whether the call at this place has this reply.
+/// Whether the history has a call at `place`, and that call has this reply.
 fn has_reply<'a, B: Allocator>(history: &History<'a, B>, place: usize, reply: Reply) -> bool
     ensures { IsTrue result ↔ (option_map (λ event. event.reply) (slice_get history.now place) ≡ Some reply) }
 {
@@ -26,7 +26,8 @@ fn has_reply<'a, B: Allocator>(history: &History<'a, B>, place: usize, reply: Re
     }
 }
 
-/// Asks the event's call, prints it, and says whether the bench gave its reply and recorded it.
+/// Asks the event's call, appends what it prints, and says whether the bench gave the reply that the event has, and
+/// recorded it.
 #[tactic(auto, unfolding(run_core::specs::Report::command_text, run_core::specs::Report::after_command))]
 fn tell_next<'a, B: Allocator>(
     text: &mut String<&'a B>,
@@ -43,8 +44,9 @@ fn tell_next<'a, B: Allocator>(
     Ok(has_reply(bench.history(), place, event.reply))
 }
 
-/// Asks the call of act `number`, prints it, and compares the reply. Refused as `BadShape` if a text of this version
-/// can't have the call.
+/// Asks the call of act `number`, appends what it prints, and compares the reply. `BadShape`, before the call is asked,
+/// if a text of this version can't have the call; `Disagrees` if the bench gives another reply, or doesn't record the
+/// call.
 fn tell_event<'a, B: Allocator>(
     text: &mut String<&'a B>,
     bench: &mut Bench<'a, B>,
@@ -67,7 +69,8 @@ fn tell_event<'a, B: Allocator>(
     }
 }
 
-/// Asks the calls of the acts, in order, and prints them.
+/// Asks the calls of the acts, in order, and appends what they print. If a value that isn't an event follows them,
+/// `BadShape` with its number comes once they are all asked.
 fn tell_events<'a, B: Allocator>(
     text: &mut String<&'a B>,
     bench: &mut Bench<'a, B>,
@@ -91,9 +94,9 @@ fn tell_events<'a, B: Allocator>(
     Ok(())
 }
 
-/// The bench of a session, and what its calls print, as `load` and `report_history` give them; but it asks each call
-/// once. It refuses what `load` refuses, in its order. JSON values and the list of events take their memory from the
-/// global heap.
+/// The bench that `load` of `session_core` would give, and the report that `report_history` of `run_core` would give of
+/// it; but each call is asked only once. `report_session` refuses what `load` refuses, in the same order. JSON values
+/// and the list of events take their memory from the global heap.
 pub fn report_session<'a, B: Allocator>(
     heap: Global,
     alloc: &'a B,

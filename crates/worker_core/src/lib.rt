@@ -1,17 +1,18 @@
-//! Consoles beside running nodes: workers on threads of their own ask their lines of one locked bench, and what comes out is
-//! compared with what each worker tells.
+//! Nodes and consoles that ask at the same time: workers on threads ask lines of one locked bench, and the history
+//! after that is compared with what each worker tells.
 //!
-//! It stands on `receipt_core`, which says whether a race can be vouched for, and on `bench_core` (the machine). In the order to
-//! read them: `gate`, what a worker calls around its lines; `crew`, the workers; `racing`, a race.
+//! The crate stands on `receipt_core`, which says whether a race can be vouched for, on `bench_core` (the machine), and
+//! on the kit's `crossbeam_channel`. It names the plain types of the crates below. The modules in reading order:
+//! `gate`, what a worker calls around its lines; `workers`, a thread for each actor that has a line; `racing`, a race.
 //!
-//! No proof says anything of threads: neither that a worker runs, nor that it has a thread of its own, nor that a line is ever
-//! asked, nor that the lock is free while a gate waits, nor that a race ends. What is proved of a race holds if it returns, and
-//! rests on `agree`.
+//! No proof says anything of threads: neither that a worker runs, nor that it has a thread of its own, nor that a line
+//! is ever asked, nor that the lock is free while a gate waits, nor that a race ends. What is proved of a race holds if
+//! it returns, and rests on `agree`.
 #![tactic(auto)]
 
-mod crew;
 mod gate;
 mod racing;
+mod workers;
 
 pub use gate::Gate;
 pub use racing::race;

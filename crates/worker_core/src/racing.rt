@@ -1,4 +1,4 @@
-//! `race`: each actor has a worker of its own, which asks its lines.
+//! `race`: several actors ask lines of one bench, each through its own worker.
 ghost use Rattle.std.specs.Prelude.{◌≡◌, IfOk, IfErr, Err, MatchOption, drop, length, map, vec_len};
 ghost use Rattle.bench_core.specs.Acts.{calls_of};
 ghost use Rattle.bench_core.specs.Benches.{IsMachine};
@@ -8,11 +8,11 @@ ghost use Rattle.receipt_core.specs.Interleaving.{IsInterleaving, all_told};
 ghost use Rattle.receipt_core.specs.Races.{IsLate, refusal_of};
 ghost use Rattle.receipt_core.specs.Replies.{AreMachineReplies};
 
-use crate::crew::ask_all;
 use crate::gate::Gate;
+use crate::workers::ask_all;
 use bench_core::{Act, Bench};
 use payload_core::Oom;
-use receipt_core::{CrewFault, RaceFault, Receipts, known_of, refusal, vouched};
+use receipt_core::{RaceFault, Receipts, WorkersFault, known_of, refusal, vouched};
 use std::alloc::Allocator;
 use std::sync::{Mutex, Wait};
 use std::thread::Threads;
@@ -28,7 +28,7 @@ fn copied<A: Allocator + Copy>(
     Ok(copies)
 }
 
-/// Has each line asked by a crew on the bench, which comes back with what the workers tell.
+/// Lets workers ask copies of the lines on the bench, and gives the bench back with what the workers tell.
 fn asked<'a, B: Allocator + Sync, G: Gate + Sync, R: Threads + Wait + Sync>(
     rt: &R,
     alloc: &'a B,
@@ -36,19 +36,19 @@ fn asked<'a, B: Allocator + Sync, G: Gate + Sync, R: Threads + Wait + Sync>(
     actors: u16,
     lines: &[(u16, Act<&'a B>)],
     gate: &G,
-) -> (Bench<'a, B>, Result<Receipts<&'a B>, CrewFault>) {
+) -> (Bench<'a, B>, Result<Receipts<&'a B>, WorkersFault>) {
     let Ok(copies) = copied(alloc, lines) else {
-        return (bench, Err(CrewFault::OutOfMemory));
+        return (bench, Err(WorkersFault::OutOfMemory));
     };
     let shared = Mutex::new(bench);
     let told = ask_all(rt, alloc, &shared, actors, copies, gate);
     (shared.into_inner(), told)
 }
 
-/// Has a thread for each actor ask that actor's lines on the one bench, in their order, and compares what the workers
-/// tell with the history. Lines are numbered from 1. The faults, in their order: `UnknownActor` and `NoRoom`, before
-/// anything is done; `WorkerRefused`, and then no line was asked; `OutOfMemory`; `LogsDisagree`. All that is promised
-/// holds if it returns.
+/// Asks the bench the lines: each actor's in their order, on a thread for that actor. Then compares what the workers
+/// tell with the history. Lines are numbered from 1. `UnknownActor` and then `NoRoom` come before anything is done;
+/// after `WorkerRefused` no line was asked; `OutOfMemory` may come before the workers start or after; `LogsDisagree`
+/// comes last. All that is promised holds if `race` returns.
 pub fn race<'a, B: Allocator + Sync, G: Gate + Sync, R: Threads + Wait + Sync>(
     rt: &R,
     alloc: &'a B,
@@ -58,15 +58,18 @@ pub fn race<'a, B: Allocator + Sync, G: Gate + Sync, R: Threads + Wait + Sync>(
     gate: &G,
 ) -> Result<(Bench<'a, B>, Receipts<&'a B>), (RaceFault, Bench<'a, B>)>
     ensures agrees { IfOk result (λ r. Agrees bench.entry.state.history r.0.state.history (calls_of lines.entry.items) (map (λ v. v.items) r.1.items)) }
-    ensures interleaving { IfOk result (λ r. IsInterleaving (drop (length bench.entry.state.history) r.0.state.history) (all_told (map (λ v. v.items) r.1.items))) }
+    ensures interleaving { IfOk result (λ r. IsInterleaving (drop (length bench.entry.state.history) r.0.state.history)
+        (all_told (map (λ v. v.items) r.1.items))) }
     ensures replies { IfOk result (λ r. AreMachineReplies (config_of r.0) r.0.state.history (map (λ v. v.items) r.1.items)) }
     ensures names { IfOk result (λ r. r.0.names ≡ bench.entry.names) }
     ensures limits { IfOk result (λ r. r.0.limits ≡ bench.entry.limits) }
     ensures lists { IfOk result (λ r. vec_len r.1 ≡ actors) }
     ensures machine { IfOk result (λ r. IsMachine r.0) }
-    ensures refused { MatchOption (refusal_of bench.entry actors (calls_of lines.entry.items)) (IfErr result (λ e. IsLate e.0)) (λ fault. result ≡ Err (fault, bench.entry)) }
+    ensures refused { MatchOption (refusal_of bench.entry actors (calls_of lines.entry.items)) (IfErr result (λ e. IsLate e.0))
+        (λ fault. result ≡ Err (fault, bench.entry)) }
 {
     if let Some(fault) = refusal(&bench, actors, &lines) {
+        // form: drop before exit
         drop(lines);
         return Err((fault, bench));
     }
