@@ -2,31 +2,31 @@
 use bench_core::Limits;
 use std::alloc::Global;
 
-/// A case of a file. As the file is read, one value stands for one case after the other.
+/// A case of a file. As the file is read, one value stands for each of its cases in turn.
 #[derive(Drop)]
 pub struct Case {
     pub heap: Global,
-    /// The line of the file with which it begins, or 0 before the first.
+    /// The number of the line with which the case begins in its file; 0 as long as no case has begun.
     pub line: u64,
     /// The words after the program's name.
     pub words: Vec<String>,
     pub input: Vec<u8>,
-    /// Whether the input is the case's own, and not that of the case before.
+    /// Whether the case has an input of its own, and not that of the case before.
     pub is_own: bool,
-    /// A part of the input that is to be replaced.
+    /// The part of the input that the next replacement replaces.
     pub part: String,
-    /// The input with its parts replaced.
+    /// The input with parts replaced, if any were.
     pub altered: Option<Vec<u8>>,
-    /// How many bytes of the input the program gets, at most.
+    /// How many bytes of the input the program gets at most.
     pub front: usize,
-    /// Whether the read after the input fails.
+    /// Whether a read fails once the program has read all of the input that it gets.
     pub fails: bool,
     /// How many bytes the output takes before a write fails.
     pub room: usize,
     pub limits: Limits,
     /// Whether the input is a terminal.
     pub terminal: bool,
-    /// Whether the case's output is only the beginning of what the program may print.
+    /// Whether the output is only the beginning of what the program may print.
     pub begins: bool,
     pub output: Vec<u8>,
     pub errors: Vec<u8>,
@@ -34,7 +34,7 @@ pub struct Case {
 }
 
 impl Case {
-    /// The value before the first case.
+    /// What stands for a case before the first one begins.
     pub fn new(heap: Global) -> Case {
         Case {
             heap,
@@ -56,11 +56,13 @@ impl Case {
         }
     }
 
-    /// The case that begins with this line. It has the input of the one before until it brings its own.
+    /// Makes this the case that begins at `line`. It keeps the input of the case before, and the part to be replaced,
+    /// until the case gets its own.
     pub fn begin(&mut self, line: u64) {
         self.line = line;
         self.words.clear();
         self.is_own = false;
+        // form: an assignment would drop the old value field by field
         drop(self.altered.take());
         self.front = usize::MAX;
         self.fails = false;
@@ -73,7 +75,7 @@ impl Case {
         self.status = 0;
     }
 
-    /// The input with its parts replaced.
+    /// The input, with parts replaced if any were.
     pub fn whole_input(&self) -> &[u8] {
         match &self.altered {
             Some(altered) => altered,
@@ -81,13 +83,13 @@ impl Case {
         }
     }
 
-    /// What the program is given to read.
+    /// The bytes that the program gets to read.
     pub fn given(&self) -> &[u8] {
         let whole = self.whole_input();
         whole.get(..self.front).unwrap_or(whole)
     }
 
-    /// The input, made the case's own, so that bytes can be appended.
+    /// The case's own input, so that bytes can be appended to it. It is empty at the first call of a case.
     pub fn own_input(&mut self) -> &mut Vec<u8> {
         if !self.is_own {
             self.is_own = true;

@@ -1,8 +1,10 @@
-//! Runs the cases of `data/cases/` on the program, lends it words and streams, and compares its output, its errors and its
-//! status with what each case says. Given a file, prints the report of the script in it.
+//! Runs the cases of `data/cases/` on the program, gives it words and streams, and compares its output, its errors and
+//! its status with what each case says. Given a file, it prints the report of the script in it.
 //!
-//! `data/README.md` has the form of a case. In the order to read them: `case`, what a case has; `reading`, what a line of a file
-//! gives its case; `running`, whether a case comes out as it says; here, all of them.
+//! It stands on `program_core` (the program), `script_core` (a script's report, and streams for tests), `progress_core`
+//! (a clock for tests) and `bench_core` (limits). `data/README.md` has the form of a case. The modules in reading
+//! order: `case`, what a case has; `reading`, what a line of a file gives its case; `running`, whether a case comes out
+//! as it says; here, all cases.
 #![tactic(auto)]
 
 mod case;
@@ -22,7 +24,7 @@ use std::{env, fs, io};
 /// The file with the names of the files of cases, a line each.
 const FILES: &str = "cases/files";
 
-/// How many cases were run, and how many of them came out otherwise than they say.
+/// How many cases were run, and how many of them didn't come out as they say.
 #[derive(Drop)]
 struct Counts {
     all: u64,
@@ -37,7 +39,7 @@ impl Counts {
         }
     }
 
-    /// Runs the case, if it was begun.
+    /// Runs the case and counts it; does nothing before the first case of a file.
     fn run<T: Threads + Wait + Sync>(
         &mut self,
         rt: &HostRuntime,
@@ -48,6 +50,7 @@ impl Counts {
         if case.line == 0 {
             return Ok(());
         }
+        // form: it saturates, which spares a requirement
         self.all = self.all.saturating_add(1);
         if !comes_out(rt, threads, file, case)? {
             self.differing = self.differing.saturating_add(1);
@@ -56,12 +59,28 @@ impl Counts {
     }
 
     fn add(&mut self, counts: &Counts) {
+        // form: it saturates, which spares a requirement
         self.all = self.all.saturating_add(counts.all);
         self.differing = self.differing.saturating_add(counts.differing);
     }
 }
 
-/// Runs the cases of a file.
+/// Reads a line of a file into `case`. If that fails, it prints where the line stands, and gives the error.
+fn take_line(
+    rt: &HostRuntime,
+    case: &mut Case,
+    file: &str,
+    number: u64,
+    line: &str,
+) -> io::Result<()> {
+    let taken = read_line(rt, case, line);
+    if taken.is_err() {
+        eprintln!(rt; "cases/{file}.cases:{number}: not a line of a case")?;
+    }
+    taken
+}
+
+/// Runs the cases of a file, and prints how many there are. Gives how many there are, and how many differ.
 fn run_file<T: Threads + Wait + Sync>(
     rt: &HostRuntime,
     threads: &T,
@@ -73,19 +92,20 @@ fn run_file<T: Threads + Wait + Sync>(
     let mut case = Case::new(rt.alloc());
     let mut number = 0u64;
     for line in text.lines() {
+        // form: a counter that saturates, which spares a requirement
         number = number.saturating_add(1);
         if line.starts_with("$ ") {
             counts.run(rt, threads, file, &case)?;
             case.begin(number);
         }
-        read_line(rt, &mut case, line)?;
+        take_line(rt, &mut case, file, number, line)?;
     }
     counts.run(rt, threads, file, &case)?;
     println!(rt; "{file}: {}", counts.all)?;
     Ok(counts)
 }
 
-/// Runs the cases of all files, and says whether all come out as they say.
+/// Runs the cases of all files, prints how many there are and how many differ, and says whether none does.
 fn run_files<T: Threads + Wait + Sync>(rt: &HostRuntime, threads: &T) -> io::Result<bool> {
     let files = fs::read_to_string(rt, FILES)?;
     let mut counts = Counts::new();
@@ -96,7 +116,7 @@ fn run_files<T: Threads + Wait + Sync>(rt: &HostRuntime, threads: &T) -> io::Res
     Ok(counts.differing == 0)
 }
 
-/// Whether the script in this file was played, and its report printed.
+/// Plays the script in this file, prints its report, and says whether that went well.
 fn prints(rt: &HostRuntime, path: &str) -> io::Result<bool> {
     let script = fs::read(rt, path)?;
     let mut reader = FakeReader::ending(&script);
@@ -105,7 +125,7 @@ fn prints(rt: &HostRuntime, path: &str) -> io::Result<bool> {
     Ok(answer.is_ok())
 }
 
-/// Does what the words after the program's name ask, and says whether that went well.
+/// Does what the words after the program's name ask for, and says whether that went well.
 fn ends_well<T: Threads + Wait + Sync>(rt: &HostRuntime, threads: &T) -> io::Result<bool> {
     let mut words = env::args(rt)?.skip(1);
     match words.next() {

@@ -1,4 +1,5 @@
-//! What a line of a file gives its case. A line is a mark, a space and a text; a line of another form ends the run.
+//! Takes a line of a file into its case. A line is a mark, a space and a text; empty lines and the mark `#` are
+//! skipped. A line of another form ends the run.
 use crate::case::Case;
 use bench_core::Limits;
 use std::io::ErrorKind;
@@ -27,7 +28,7 @@ fn put_bytes(bytes: &mut Vec<u8>, spelled: &str) -> io::Result<()> {
     Ok(())
 }
 
-/// Appends the text of `N TEXT` N times, each time with this end.
+/// Appends the text in `spelled`, which is `N TEXT`, N times, each time with `end` behind it.
 fn put_repeated(bytes: &mut Vec<u8>, spelled: &str, end: &str) -> io::Result<()> {
     let Some((times, text)) = spelled.split_once(' ') else {
         return Err(no_form());
@@ -39,8 +40,8 @@ fn put_repeated(bytes: &mut Vec<u8>, spelled: &str, end: &str) -> io::Result<()>
     Ok(())
 }
 
-/// Appends what a line of this form gives: a line, a text without its end, bytes, a text or a line many times, or a
-/// file.
+/// Appends what a text gives in this form: itself with a line feed or without, the bytes that it spells, a text or a
+/// line N times, or the file that it names.
 fn put(rt: &HostRuntime, bytes: &mut Vec<u8>, form: &str, text: &str) -> io::Result<()> {
     match form {
         "" => {
@@ -57,7 +58,8 @@ fn put(rt: &HostRuntime, bytes: &mut Vec<u8>, form: &str, text: &str) -> io::Res
     Ok(())
 }
 
-/// Replaces the case's part, where it first stands in the input, by a text.
+/// Replaces the case's part, where it first stands in the input, by this text. An error if the input isn't UTF-8 or
+/// doesn't have the part.
 fn replace(case: &mut Case, by: &str) -> io::Result<()> {
     let Ok(text) = str::from_utf8(case.whole_input()) else {
         return Err(no_form());
@@ -70,7 +72,7 @@ fn replace(case: &mut Case, by: &str) -> io::Result<()> {
     Ok(())
 }
 
-/// The limits that four numbers spell.
+/// The limits that four numbers spell: acts, entries, clock and messages.
 fn limits(spelled: &str) -> io::Result<Limits> {
     let mut numbers = [1u64; 4];
     let mut words = spelled.split(' ');
@@ -80,11 +82,15 @@ fn limits(spelled: &str) -> io::Result<Limits> {
             Err(_) => return Err(no_form()),
         }
     }
+    if words.next().is_some() {
+        return Err(no_form());
+    }
     let [acts, entries, clock, messages] = numbers;
     Limits::new(acts, entries, clock, messages).ok_or(no_form())
 }
 
-/// Sets up the streams and the bench.
+/// Sets what the first word of the text names. That is how much of the input is read and how it ends, whether it is a
+/// terminal, how much output goes out and how it is compared, or the limits.
 fn set(case: &mut Case, text: &str) -> io::Result<()> {
     let (name, rest) = text.split_once(' ').unwrap_or((text, ""));
     match name {
@@ -111,7 +117,7 @@ fn put_words(case: &mut Case, text: &str) -> io::Result<()> {
     Ok(())
 }
 
-/// The status that the text spells.
+/// The status that a text spells.
 fn status(text: &str) -> io::Result<u8> {
     match text.parse::<u8>() {
         Ok(status) => Ok(status),
@@ -119,7 +125,7 @@ fn status(text: &str) -> io::Result<u8> {
     }
 }
 
-/// Adds what the line gives to the input, the output or the errors.
+/// Appends what the line gives to the input, the output or the errors, by its mark.
 fn put_in_stream(rt: &HostRuntime, case: &mut Case, mark: &str, text: &str) -> io::Result<()> {
     if let Some(form) = mark.strip_prefix('<') {
         return put(rt, case.own_input(), form, text);
@@ -133,7 +139,7 @@ fn put_in_stream(rt: &HostRuntime, case: &mut Case, mark: &str, text: &str) -> i
     }
 }
 
-/// Takes a line of a file into its case.
+/// Takes a line of a file into its case, by its mark. `data/README.md` says what each mark means.
 pub fn read_line(rt: &HostRuntime, case: &mut Case, line: &str) -> io::Result<()> {
     let (mark, text) = line.split_once(' ').unwrap_or((line, ""));
     match mark {

@@ -1,4 +1,4 @@
-//! Whether a case comes out as it says, and what to print where it doesn't.
+//! Says whether a case comes out as it says, and prints what differs.
 use crate::case::Case;
 use program_core::program_within;
 use progress_core::FakeClock;
@@ -16,11 +16,7 @@ struct Ended {
 }
 
 /// Runs the program on what the case gives it.
-fn run_case<T: Threads + Wait + Sync>(
-    rt: &HostRuntime,
-    threads: &T,
-    case: &Case,
-) -> io::Result<Ended> {
+fn run_case<T: Threads + Wait + Sync>(rt: &HostRuntime, threads: &T, case: &Case) -> Ended {
     let heap = rt.alloc();
     let mut reader = if case.fails {
         FakeReader::failing(case.given())
@@ -42,18 +38,20 @@ fn run_case<T: Threads + Wait + Sync>(
         case.terminal,
         &clock,
     );
-    Ok(Ended {
+    Ended {
         status,
         output,
         errors,
-    })
+    }
 }
 
-/// The number and the two texts of the first line in which they differ.
+/// The number of the first line in which the two texts differ, and that line of each. A missing line is given as
+/// `nothing`; if all lines are the same, the one of `other` is given as `another end`.
 fn first_difference<'a>(one: &'a str, other: &'a str) -> (u64, &'a str, &'a str) {
     let mut number = 0u64;
     let mut others = other.lines();
     for line in one.lines() {
+        // form: a counter that saturates, which spares a requirement
         number = number.saturating_add(1);
         let other = others.next().unwrap_or("nothing");
         if line != other {
@@ -67,7 +65,7 @@ fn first_difference<'a>(one: &'a str, other: &'a str) -> (u64, &'a str, &'a str)
     )
 }
 
-/// Whether the stream has these bytes. If not, prints the first line that differs.
+/// Whether the stream has the expected bytes. If not, it prints the first line that differs.
 fn is_same(rt: &HostRuntime, place: &str, written: &[u8], expected: &[u8]) -> io::Result<bool> {
     if written == expected {
         return Ok(true);
@@ -80,7 +78,7 @@ fn is_same(rt: &HostRuntime, place: &str, written: &[u8], expected: &[u8]) -> io
     Ok(false)
 }
 
-/// The part of the output that the case compares.
+/// The part of the output that the case compares: all of it, or as many bytes as are expected of its beginning.
 fn looked_at<'a>(case: &Case, written: &'a [u8]) -> &'a [u8] {
     if !case.begins {
         return written;
@@ -88,14 +86,14 @@ fn looked_at<'a>(case: &Case, written: &'a [u8]) -> &'a [u8] {
     written.get(..case.output.len()).unwrap_or(written)
 }
 
-/// Whether the case comes out as it says. If not, prints its file and line with what differs.
+/// Whether the case comes out as it says. If not, it prints the case's file and line, and what differs.
 pub fn comes_out<T: Threads + Wait + Sync>(
     rt: &HostRuntime,
     threads: &T,
     file: &str,
     case: &Case,
 ) -> io::Result<bool> {
-    let ended = run_case(rt, threads, case)?;
+    let ended = run_case(rt, threads, case);
     let written = looked_at(case, ended.output.taken());
     let place = format!(in rt.alloc(); "{file}.cases:{}: output", case.line)?;
     let has_output = is_same(rt, place.as_str(), written, &case.output)?;

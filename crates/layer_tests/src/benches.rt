@@ -1,4 +1,4 @@
-//! Benches from scripts: the calls that act lines ask, and a bench that has played them.
+//! Benches from scripts: the calls that act lines ask for, and a bench that has played them.
 use bench_core::{Act, Bench, History, Limits, Reply};
 use grammar_core::{Script, acts, node_names, parse_script};
 use std::alloc::Global;
@@ -14,7 +14,8 @@ fn script_of<'a>(text: &str, heap: &'a Heap, rt: &impl Abort) -> Script<&'a Heap
     parse_script(heap, text.as_bytes()).expect(rt, text)
 }
 
-/// What the act lines of the script ask; it has no other lines but `nodes` and `consoles`.
+/// The calls that the script's lines ask for. Apart from the lines `nodes` and `consoles`, the script must have act
+/// lines alone.
 pub fn calls_of<'a>(text: &str, heap: &'a Heap, rt: &impl Abort) -> Calls<'a> {
     let script = script_of(text, heap, rt);
     let calls = acts(heap, &script);
@@ -31,7 +32,7 @@ pub fn opened<'a>(text: &str, limits: Limits, heap: &'a Heap, rt: &impl Abort) -
     Bench::new(heap, names, limits).expect(rt, "a bench")
 }
 
-/// Makes the calls; the bench refuses none.
+/// Makes the calls. The bench must refuse none.
 pub fn ask<'a>(bench: &mut Bench<'a, Heap>, calls: &Calls<'a>, rt: &impl Abort) {
     for (actor, act) in calls {
         let reply = bench.act(*actor, act);
@@ -48,7 +49,7 @@ pub fn played<'a>(text: &str, limits: Limits, heap: &'a Heap, rt: &impl Abort) -
     bench
 }
 
-/// Two benches that get the same calls, one of them with memory refused.
+/// Two benches that get the same calls: `bench` with memory refused, and `other` with memory.
 #[derive(Drop)]
 pub struct Pair<'a> {
     pub bench: Bench<'a, Heap>,
@@ -62,13 +63,13 @@ pub fn played_twice<'a>(text: &str, limits: Limits, heap: &'a Heap, rt: &impl Ab
     Pair { bench, other }
 }
 
-/// Limits on acts, and on a node's entries, clock and messages.
+/// The limits of these four values: on acts, and on a node's entries, clock and messages.
 pub fn limits_of(limits: [u64; 4], rt: &impl Abort) -> Limits {
     let [acts, entries, clock, messages] = limits;
     Limits::new(acts, entries, clock, messages).expect(rt, "limits")
 }
 
-/// Whether both have the same nodes.
+/// Whether both benches have the same nodes.
 fn have_same_nodes<'a>(one: &Bench<'a, Heap>, other: &Bench<'a, Heap>) -> bool {
     for number in 0..32 {
         match (one.node(number), other.node(number)) {
@@ -80,7 +81,7 @@ fn have_same_nodes<'a>(one: &Bench<'a, Heap>, other: &Bench<'a, Heap>) -> bool {
     true
 }
 
-/// Whether both keep the same steps, each with its number and its node.
+/// Whether both benches keep the same steps, each with the same number and node.
 fn keep_same_steps<'a>(one: &Bench<'a, Heap>, other: &Bench<'a, Heap>) -> bool {
     let (steps, others) = (one.remaining(), other.remaining());
     for place in 0..steps.len() {
@@ -95,7 +96,7 @@ fn keep_same_steps<'a>(one: &Bench<'a, Heap>, other: &Bench<'a, Heap>) -> bool {
     steps.len() == others.len()
 }
 
-/// Whether both have the same calls and replies.
+/// Whether both histories have the same calls and replies.
 pub fn are_calls<'a>(history: &History<'a, Heap>, other: &History<'a, Heap>) -> bool {
     for place in 0..history.len() {
         match (history.at(place), other.at(place)) {
@@ -109,7 +110,7 @@ pub fn are_calls<'a>(history: &History<'a, Heap>, other: &History<'a, Heap>) -> 
     history.len() == other.len()
 }
 
-/// Whether both have the same nodes, steps that remain, recorded calls and meter.
+/// Whether both benches have the same nodes, steps that remain, recorded calls and meter.
 pub fn are_same<'a>(one: &Bench<'a, Heap>, other: &Bench<'a, Heap>) -> bool {
     have_same_nodes(one, other)
         && keep_same_steps(one, other)

@@ -1,5 +1,5 @@
-//! Clusters: each request of a step for memory is refused in turn, and so are steps of nodes that aren't there. The steps are
-//! those of a script; a bench that takes the same steps says what the nodes are after each.
+//! Clusters: steps with each request for memory refused in turn, and steps that name nodes which aren't there. The
+//! steps are those of a script; a bench that takes the same steps says what the nodes must be after each.
 use crate::benches::{Calls, Heap, calls_of, opened};
 use bench_core::{Act, Bench, Cluster, Fault, Limits, Step};
 use std::process::Abort;
@@ -16,7 +16,7 @@ b down a
 a update 1 r alice away
 a leave 1 r alice";
 
-/// Whether both have the same nodes.
+/// Whether the cluster has the same nodes as the bench.
 fn has_nodes_of<'a>(cluster: &Cluster<'a, Heap>, bench: &Bench<'a, Heap>) -> bool {
     for number in 0..32 {
         match (cluster.node(number), bench.node(number)) {
@@ -28,8 +28,8 @@ fn has_nodes_of<'a>(cluster: &Cluster<'a, Heap>, bench: &Bench<'a, Heap>) -> boo
     true
 }
 
-/// Refuses the first, second, .. request of the step for memory in turn, which changes nothing, and then takes the
-/// step.
+/// Takes the step `call.1` at node `call.0` with its first, second, .. request for memory refused, until no refusal is
+/// met. Each refusal must leave the nodes the same as those of the bench.
 fn step_refused<'a>(
     cluster: &mut Cluster<'a, Heap>,
     bench: &Bench<'a, Heap>,
@@ -51,7 +51,8 @@ fn step_refused<'a>(
     holds!(rt, false);
 }
 
-/// Takes the steps of the calls, and has the bench take the same.
+/// Goes through the calls: takes each step at the cluster with `step_refused`, and makes the same call at the bench.
+/// After each call both must have the same nodes.
 fn play<'a>(
     cluster: &mut Cluster<'a, Heap>,
     bench: &mut Bench<'a, Heap>,

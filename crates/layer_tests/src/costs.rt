@@ -1,4 +1,4 @@
-//! How many bytes a step and its undo ask for, however much the node holds. They copy no node, and run no step again.
+//! A join and its undo ask for few bytes at a node that holds much: they copy no node, and run no step again.
 use crate::benches::{Calls, Heap, ask, calls_of, played};
 use bench_core::{Bench, Limits};
 use std::process::Abort;
@@ -8,7 +8,7 @@ const JOIN_AND_UNDO: &str = "nodes a
 a join 1001 r alice phone
 a undo 1001";
 
-/// A thousand joins of one node.
+/// A script of a thousand joins of one node.
 fn joins<'a>(heap: &'a Heap, rt: &impl Abort) -> String<&'a Heap> {
     let mut text = String::new(heap);
     text.push_str("nodes a").expect(rt, "memory");
@@ -18,7 +18,7 @@ fn joins<'a>(heap: &'a Heap, rt: &impl Abort) -> String<&'a Heap> {
     text
 }
 
-/// How many bytes the calls asked for, in fewer than 65 requests.
+/// Makes the calls, and gives how many bytes they ask for. They must make fewer than 65 requests.
 fn bytes_of<'a>(
     bench: &mut Bench<'a, Heap>,
     calls: &Calls<'a>,
@@ -40,7 +40,7 @@ fn bytes_of_copy<'a>(bench: &Bench<'a, Heap>, heap: &'a Heap, rt: &impl Abort) -
     heap.bytes()
 }
 
-/// A join and its undo, after those of the script.
+/// Plays the script, then a join and its undo. These must ask for less than a tenth of the bytes of a copy of the node.
 fn plays<'a>(script: &str, heap: &'a Heap, rt: &impl Abort) {
     let calls = calls_of(JOIN_AND_UNDO, heap, rt);
     let mut bench = played(script, Limits::usual(), heap, rt);
@@ -48,6 +48,7 @@ fn plays<'a>(script: &str, heap: &'a Heap, rt: &impl Abort) {
     let bytes_of_copy = bytes_of_copy(&bench, heap, rt);
     drop(bench);
     drop(calls);
+    // form: saturating spares a requirement
     holds!(rt, bytes.saturating_mul(10) < bytes_of_copy);
 }
 

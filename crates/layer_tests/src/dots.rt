@@ -1,13 +1,13 @@
 //! Dots, sets of names and sets of dots.
 ghost use Rattle.std.specs.Prelude.{◌<◌};
 
-use crate::rows::{holds, holds_at};
+use crate::cases::{holds, holds_at};
 use dots_core::{Dot, DotSet, NameSet, Oom, laws};
 use std::alloc::{Allocator, Global};
 use std::process::Abort;
 use test_alloc::Refusing;
 
-/// A name and a clock, and whether a set may hold that dot.
+/// Cases: the case's name; a dot's name and clock; and whether a set may hold the dot.
 const DOTS: [(&str, u16, u64, bool); 5] = [
     ("the first", 0, 1, true),
     ("the last", 31, 1_000_000_000, true),
@@ -35,13 +35,13 @@ fn a_name_set_has_what_was_put_in(rt: HostRuntime) {
     holds!(&rt, !names.same(NameSet::empty()));
 }
 
-/// Inserts the dot, and says whether it was new. The heap has memory for it.
+/// Inserts the dot, and says whether it was new. If that needs memory, the allocator must have it.
 fn puts_in<A: Allocator>(rt: &impl Abort, dots: &mut DotSet<A>, dot: Dot) -> bool {
     assert!(rt; dot.ok());
     dots.insert(dot).expect(rt, "a dot")
 }
 
-/// A set of dots of these names and clocks.
+/// A set of the dots with these names and clocks.
 fn set_of<A: Allocator + Copy>(rt: &impl Abort, alloc: A, pairs: &[(u16, u64)]) -> DotSet<A> {
     let mut dots = DotSet::new(alloc);
     for (name, clock) in pairs {
@@ -56,18 +56,19 @@ fn set_of<A: Allocator + Copy>(rt: &impl Abort, alloc: A, pairs: &[(u16, u64)]) 
 
 const THREE: [(u16, u64); 3] = [(0, 1), (0, 3), (0, 4)];
 
-/// An edit of a set of dots.
+/// An edit of a set of dots. `Insert` and `Remove` have the name and the clock of a dot.
 #[derive(Clone, Copy)]
 enum Edit {
     Insert(u16, u64),
     Remove(u16, u64),
-    /// The union with two dots far above the others, of the names 0 and 1.
+    /// The union with `FAR`: a dot of name 0 and one of name 1, each far above the others.
     Union,
 }
 
 const FAR: [(u16, u64); 2] = [(0, 9), (1, 9)];
 
-/// Makes the edit, and says whether it changed the set.
+/// Makes the edit, and says whether it changed the set; for a union it says `true`, even if nothing changed. `far` is
+/// the set to unite with.
 fn edits<A: Allocator + Copy>(
     rt: &impl Abort,
     dots: &mut DotSet<A>,
@@ -159,8 +160,8 @@ fn only_keeps_the_names_alone(rt: HostRuntime) {
     drop(dots);
 }
 
-/// Unites an empty set with these dots, as far as their names are known and not its own. Says whether it then has them
-/// all; if not, it must have none.
+/// Unites an empty set with the dots of `dots` whose names are in `known` and aren't `own`. Says whether the union has
+/// all of `dots`; if not, it must have none.
 fn takes<A: Allocator + Copy>(
     rt: &impl Abort,
     alloc: A,
@@ -227,7 +228,8 @@ fn each_law_can_be_called(rt: HostRuntime) {
     drop(dots);
 }
 
-/// Each of the 32 names has a dot above its context clock, in a part, a union and a copy too.
+/// Each of the 32 names has a dot above its context clock, also in a copy; and each but name 0 has it in what `only`
+/// gives and in a union, too.
 #[test]
 fn each_name_below_32_has_its_dots(rt: HostRuntime) {
     let mut dots = DotSet::new(rt.alloc());
@@ -246,7 +248,8 @@ fn each_name_below_32_has_its_dots(rt: HostRuntime) {
 
 type Heap = Refusing<Global>;
 
-/// Makes the edit with one request for memory refused. Says whether it was made, and whether it then met no refusal.
+/// Makes the edit with request `number` for memory refused. Says whether the edit was made. It must be made if it asked
+/// for memory fewer than `number` times, and only then.
 fn is_made<'a>(
     dots: &mut DotSet<&'a Heap>,
     far: &DotSet<&'a Heap>,
@@ -263,7 +266,7 @@ fn is_made<'a>(
     answer.is_ok()
 }
 
-/// The dots of a set, an edit of it, how many of its requests for memory can be refused, and the dots after it.
+/// A case: the dots of a set, an edit of it, how many of its requests for memory can be refused, and the dots after it.
 type Refusal = (&'static [(u16, u64)], Edit, u64, &'static [(u16, u64)]);
 
 const REFUSALS: [Refusal; 3] = [
@@ -287,8 +290,8 @@ const REFUSALS: [Refusal; 3] = [
     ),
 ];
 
-/// Makes the edit with its first, second, .. request for memory refused, until it meets no refusal. Each refusal leaves
-/// the set as it was. Gives how many were refused.
+/// Makes the edit with its first, second, .. request for memory refused, until no refusal is met. Each refusal must
+/// leave the set as it was. Gives how many requests were refused.
 fn refused_in_turn<'a>(
     dots: &mut DotSet<&'a Heap>,
     far: &DotSet<&'a Heap>,
@@ -319,7 +322,7 @@ fn a_refused_edit_changes_nothing(rt: HostRuntime) {
     drop(far);
 }
 
-/// Whether the edit can be refused this many times, and then leaves these dots.
+/// Whether the edit of the case can be refused as often as the case says, and then leaves the dots that the case says.
 fn is_refused_in_turn<'a>(
     far: &DotSet<&'a Heap>,
     refusal: Refusal,
@@ -378,8 +381,8 @@ fn what_grows_no_cloud_takes_no_memory(rt: HostRuntime) {
     drop(dots);
 }
 
-/// Inserts the dot that closes the gap, and the next one; takes out the name's part and puts it back; and takes the
-/// part of no names, which has no dot. Says whether all of that went as it should.
+/// Of name 0, inserts the dot that closes the gap, and the one after the last; then takes out the name's part, and puts
+/// it back. Copies the dots of no names, which gives the empty set. Says whether all of that went as it should.
 fn grows_its_context<A: Allocator + Copy>(rt: &impl Abort, dots: &mut DotSet<A>) -> bool {
     let fills = puts_in(rt, dots, Dot { name: 0, clock: 2 });
     let goes_on = puts_in(rt, dots, Dot { name: 0, clock: 5 });
@@ -392,8 +395,8 @@ fn grows_its_context<A: Allocator + Copy>(rt: &impl Abort, dots: &mut DotSet<A>)
     fills && goes_on && is_out && has_none && is_seen(dots, 0, 5, &[])
 }
 
-/// Takes a union that brings nothing new, takes out a dot below the context clock, and inserts it again. Says whether
-/// the set is the same as before.
+/// Unites the set with `same`, which has the same dots; then takes out the dot at the context clock of name 0, and
+/// inserts it again. Says whether the set is the same as before.
 fn takes_again<A: Allocator + Copy>(
     rt: &impl Abort,
     dots: &mut DotSet<A>,
@@ -407,7 +410,7 @@ fn takes_again<A: Allocator + Copy>(
     was_there && is_new && dots.same(same)
 }
 
-/// Inserts many dots of the name 1, far apart from the others.
+/// Inserts 20 dots of the name 1, with a gap below them.
 fn grows_its_cloud<A: Allocator>(rt: &impl Abort, dots: &mut DotSet<A>) {
     for clock in 11..=30u8 {
         let clock = u64::from(clock);
@@ -415,7 +418,7 @@ fn grows_its_cloud<A: Allocator>(rt: &impl Abort, dots: &mut DotSet<A>) {
     }
 }
 
-/// A union takes its memory from the allocator of the set that grows, and none from the other's.
+/// A union takes its memory from the allocator of the set that grows, and none from the allocator of the other set.
 #[test]
 fn a_union_takes_the_memory_of_the_set_that_grows(rt: HostRuntime) {
     let own = Refusing::new(rt.alloc());
@@ -432,7 +435,7 @@ fn a_union_takes_the_memory_of_the_set_that_grows(rt: HostRuntime) {
     drop(far);
 }
 
-/// A part takes its memory, and what it grows by, from the allocator of its set.
+/// What `only` gives takes its memory, and what it grows by, from the allocator of the set.
 #[test]
 fn a_part_keeps_the_memory_of_its_set(rt: HostRuntime) {
     let own = Refusing::new(rt.alloc());

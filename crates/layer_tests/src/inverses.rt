@@ -1,7 +1,7 @@
-//! Inverses: a bench keeps what each step destroyed, to take it back, and nothing more, not even another call's record that
-//! would serve as well. It lends the inverses to be looked at.
+//! Inverses: a bench keeps what each step destroyed, to take the step back, and nothing more. Each inverse is of its
+//! step's own kind, even where an inverse of another kind would serve as well. `Bench::way_back` shows the inverses.
 use crate::benches::{Heap, played};
-use crate::rows::holds_at;
+use crate::cases::holds_at;
 use bench_core::{Bench, Inverse, Limits};
 use dots_core::Dot;
 use payload_core::Handle;
@@ -14,7 +14,7 @@ use test_alloc::Refusing;
 /// The last of 32 names.
 const LAST: u16 = 31;
 
-/// An entry that left: the clock of its own dot, whether it stood in the delta, and whether its dot did.
+/// An entry that left: the clock of its dot, whether the delta had an entry there, and whether the delta had the dot.
 #[derive(Clone, Copy)]
 struct Stood {
     clock: u64,
@@ -22,8 +22,8 @@ struct Stood {
     in_delta: bool,
 }
 
-/// What is kept of a step of the first node. The names and the dots of others are those of the last node; dots are
-/// given by their clocks.
+/// What is kept of a step of the first node. Names and dots of other nodes are the last node's; dots are given by their
+/// clocks.
 #[derive(Clone, Copy)]
 enum Told {
     Join,
@@ -45,6 +45,7 @@ enum Told {
     },
 }
 
+/// Whether `left` is what `told` says, of an entry of the first node.
 fn is_left<A: Allocator>(left: &Left<A>, told: Stood) -> bool {
     let Left {
         entry,
@@ -65,6 +66,7 @@ fn are_left<A: Allocator>(lefts: &[Left<A>], told: &[Stood]) -> bool {
             .all(|(left, stood)| is_left(left, *stood))
 }
 
+/// Whether `dot` is the last node's dot with this clock.
 fn is_there(dot: Dot, clock: u64) -> bool {
     dot.name == LAST && dot.clock == clock
 }
@@ -85,6 +87,7 @@ fn are_entries<A: Allocator>(entries: &[Handle<A>], clocks: &[u64]) -> bool {
             .all(|(entry, clock)| is_there(entry.dot(), *clock))
 }
 
+/// Whether these are parts of the last node, with these context clocks and empty clouds.
 fn are_parts<A: Allocator>(parts: &[OldPart<A>], clocks: &[u64]) -> bool {
     parts.len() == clocks.len()
         && parts.iter().zip(clocks.iter()).all(|(old, clock)| {
@@ -122,7 +125,7 @@ fn is_forgotten<A: Allocator>(forgotten: &Forgotten<A>, told: Told) -> bool {
     part.clock == clock && part.cloud.is_empty() && are_entries(entries, clocks)
 }
 
-/// Whether the change is what the row says. Each variant is here, with each of its fields.
+/// Whether the change is what `told` says. Each variant of `Change` is here, with each of its fields.
 fn is_change<A: Allocator>(change: &Change<A>, told: Told) -> bool {
     match change {
         Change::Join => matches!(told, Told::Join),
@@ -151,7 +154,7 @@ fn is_change<A: Allocator>(change: &Change<A>, told: Told) -> bool {
     }
 }
 
-/// Whether the inverse is what the row says. Each variant is here, with each of its fields.
+/// Whether the inverse is what `told` says. Each variant of `Inverse` is here, with each of its fields.
 fn is_inverse<A: Allocator>(inverse: &Inverse<A>, told: Told) -> bool {
     match inverse {
         Inverse::Change(change) => is_change(change, told),
@@ -160,8 +163,9 @@ fn is_inverse<A: Allocator>(inverse: &Inverse<A>, told: Told) -> bool {
     }
 }
 
-/// The last node sends a join, the leave of its process, and a request. Then come the steps of the first: own ones, on
-/// entries that were sent and on entries that weren't; and those that read what the last one sent.
+/// The last node sends a join, the leave of its process, and a request. Then come the steps of the first node: its own
+/// joins, updates, leaves and sends, on entries that were sent and on entries that weren't; and its steps about the
+/// last node and the last node's messages.
 const SCRIPT: &str = "nodes a b c d e f g h i j k l m n o p q r s t u v w x y z aa ab ac ad ae af
 af join 1 r bob desk
 af broadcast
@@ -199,10 +203,10 @@ a permdown af
 a answer af 3
 ";
 
-/// How many steps the last node takes first.
+/// How many steps the last node takes before those of the first.
 const FIRST: usize = 5;
 
-/// What is kept of each step of the first node.
+/// What is kept of each step of the first node, in their order.
 const KEPT: &[Told] = &[
     Told::Join,
     Told::Update(Stood {
@@ -284,7 +288,7 @@ const KEPT: &[Told] = &[
     Told::Sent,
 ];
 
-/// Whether the bench keeps of the step what the row says.
+/// Whether the bench keeps of step `number` what `told` says.
 fn keeps<'a>(bench: &Bench<'a, Heap>, number: u64, told: Told) -> bool {
     match bench.way_back(number) {
         Some(inverse) => is_inverse(inverse, told),

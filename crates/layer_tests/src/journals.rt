@@ -1,5 +1,5 @@
-//! Journals: how a loan of an inverse ends, and which calls have memory. A journal reads no inverse, so the inverse of any step
-//! may stand beside each.
+//! Journals: how a loan of an inverse ends, and which calls need no memory. A journal doesn't read inverses, so the
+//! inverse of any step may stand beside any other step.
 ghost use Rattle.std.specs.Prelude.{◌≡◌, ◌++◌, ◌∷◌, [], None, Some};
 ghost use Rattle.node_core.specs.Operations.{plain};
 ghost use Rattle.node_core.specs.Inverses.{plain_inverse};
@@ -12,7 +12,7 @@ use node_core::{Inverse, Meter, Node, NodeLimits, Step};
 use std::process::Abort;
 use test_alloc::Refusing;
 
-/// A journal of two nodes, without a step.
+/// A journal of two nodes, without steps.
 fn opened<'a>(heap: &'a Heap, rt: &impl Abort) -> Journal<'a, Heap>
     ensures nodes { result.nodes ≡ 2 }
     ensures steps { result.steps ≡ [] }
@@ -36,7 +36,7 @@ fn inverse<'a>(heap: &'a Heap, rt: &impl Abort) -> Inverse<&'a Heap> {
     inverse
 }
 
-/// Keeps the step, and asserts that it was kept.
+/// Keeps the step as number 1 of node 0. It must be kept.
 fn keeps<'a>(
     journal: &mut Journal<'a, Heap>,
     step: Step<&'a Heap>,
@@ -61,28 +61,32 @@ fn keeps<'a>(
     assert!(rt; is_kept);
 }
 
+/// Lends the inverse of step `number`, and puts it back.
 fn lends_and_puts_back<'a>(journal: &mut Journal<'a, Heap>, number: u64, rt: &impl Abort)
     requires { AreAllHeld journal.old.steps }
     ensures { journal.new ≡ journal.old }
 {
+    // form: hands out the law of loans
     laws::loan_law();
     let inverse = journal.lend(number).expect(rt, "a step");
     journal.put_back(number, inverse);
 }
 
+/// Lends the inverse of step `number`, drops it, and takes the step out.
 fn lends_and_takes_out<'a>(journal: &mut Journal<'a, Heap>, number: u64, rt: &impl Abort)
     requires held { AreAllHeld journal.old.steps }
     requires free { first_consequence (kepts journal.old.steps) number ≡ None }
     ensures nodes { journal.new.nodes ≡ journal.old.nodes }
     ensures steps { journal.new.steps ≡ without_held journal.old.steps number }
 {
+    // form: hands out the law of loans
     laws::loan_law();
     let inverse = journal.lend(number).expect(rt, "a step");
     drop(inverse);
     journal.take_out(number);
 }
 
-/// Whether step 1, of node 0, is the first.
+/// Whether step 1, of node 0, is the first of the journal.
 fn has_first<'a>(journal: &Journal<'a, Heap>) -> bool {
     match (journal.at(0), journal.find(1)) {
         (Some(first), Some(found)) => first.number == 1 && found.node == 0,
@@ -90,7 +94,7 @@ fn has_first<'a>(journal: &Journal<'a, Heap>) -> bool {
     }
 }
 
-/// Keeps a send for which room was made, lends its inverse and has it put back, lends it again, and takes the send out.
+/// Keeps a send for which room was made, lends its inverse and puts it back, lends it again, and takes the send out.
 fn keeps_and_lends<'a>(journal: &mut Journal<'a, Heap>, inverse: Inverse<&'a Heap>, rt: &impl Abort)
     requires nodes { journal.old.nodes ≡ 2 }
     requires steps { journal.old.steps ≡ [] }
@@ -111,8 +115,8 @@ fn makes_room<'a>(journal: &mut Journal<'a, Heap>) -> bool
     is_made && journal.make_room(1, &Step::Up { name: 0 }).is_ok()
 }
 
-/// A step for which room was made is kept without memory, and a loan takes none and ends in two ways. Room that was made for a
-/// step stays while room is made for another.
+/// A step for which room was made is kept without memory, and a loan takes none, in whichever of its two ways it ends.
+/// Room that was made for a step stays while room is made for another.
 #[test]
 fn a_step_with_room_and_its_loans_take_no_memory(rt: HostRuntime) {
     let heap = Refusing::new(rt.alloc());

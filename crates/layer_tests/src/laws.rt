@@ -1,4 +1,5 @@
-//! The laws can be used on any bench: its contracts say what the laws ask for.
+//! The laws can be used on any bench: the bench's contracts say what the laws ask for. Each function calls the laws on
+//! which its own contract stands.
 ghost use Rattle.std.specs.Prelude.{◌≡◌, ℕ, List, Ok, Some, None, length, map};
 ghost use Rattle.journal_core.specs.Journals.{Kept, NumbersRise, steps_before, find_number, first_consequence, own_steps, without};
 ghost use Rattle.journal_core.specs.Futures.{IsFuture};
@@ -44,6 +45,7 @@ fn can_be_left_out<'a, B: Allocator>(bench: &Bench<'a, B>, number: u64)
         × (runs (node_limits bench.now.limits) (length bench.now.names) (steps_before bench.now.state.remaining number) ≡ Ok old)
         × (runs (node_limits bench.now.limits) (length bench.now.names) (without bench.now.state.remaining number) ≡ Ok (with_node_of k.node old c)) }
 {
+    // form: the parameter `number` is for the contract alone
     runs_in_order(bench);
     middle_law();
 }
@@ -53,10 +55,12 @@ fn can_be_unwound<'a, B: Allocator>(bench: &Bench<'a, B>, number: u64)
     ensures { (actor : ℕ) (numbers : List ℕ) → IsFuture bench.now.state.remaining number numbers →
         replies_of (config_of bench.now) bench.now.state (undos actor numbers) ≡ map Undone numbers }
 {
+    // form: the parameter `number` is for the contract alone
     bench.bench_law();
     unwind_law();
 }
 
+/// Uses the laws on the bench, also for step 1, which need not remain. Says whether no step remains.
 fn laws_hold<'a, B: Allocator>(bench: &Bench<'a, B>) -> bool {
     runs_in_order(bench);
     can_be_left_out(bench, 1);

@@ -1,28 +1,38 @@
-//! Tests of the crates from `dots_core` to `bench_core`, of `diff_core`, `order_core`, `explore_network`, `page_data` and `test_alloc`, in a crate of their own, so
-//! that those crates are proved once. It has no code but these tests.
+//! Tests of the crates from `dots_core` to `bench_core`, of `diff_core`, `order_core`, `explore_network`, `page_data`
+//! and `test_alloc`, in a crate of their own, so that those crates are proved once. `grammar_core` reads the tests'
+//! scripts, `run_core` plays some of these, and `progress_core` has the watchers of long work. This crate has no code
+//! but the tests.
 //!
-//! Each test says what only a call can show and no clause says: that calls succeed with memory, what a refusal of memory
-//! leaves, which calls take none, whose memory is taken, and what an inverse keeps. Rows of calls with their replies, lists and
-//! clocks are data of `example_tests`, and cost no proof there.
+//! Most tests say what only a call can show and no clause says: that calls succeed with memory, what a refusal of
+//! memory leaves, which calls take none, from which allocator memory is taken, and what an inverse keeps. The others go
+//! through small cases worked by hand. Most tables of calls with their replies, of lists and of clocks are data of
+//! `example_tests`, where they cost no proof.
 //!
-//! In the order to read them: `rows`, assertions; `refusing`, the allocator that these tests use; `dots`, sets of dots;
-//! `benches`, from a script to a bench that has played its acts, which prepares most tests; `payloads`, words, entries and
-//! messages; `journals`, loans of inverses; `inverses`, what each step keeps; `undone`, nodes taken back; `memory` and
-//! `unwinds`, what refused memory leaves of a bench; `clusters`, nodes without a bench; `costs`, the bytes of a step; `wide`,
-//! large values; `reads`, the calls that take no memory; `names`, `swaps`, `orders`, `networks`, `lists`, `laws` and `pages`.
+//! A test drops large values by name before it ends or asserts, for the check alone: ways out with many live values are
+//! costly.
+//!
+//! The modules in reading order: `cases`, assertions; `refusing`, tests of the allocator of `test_alloc`; `dots`, sets
+//! of dots; `benches`, from a script to a bench that has played its acts, which prepares most tests; `payloads`, words,
+//! entries and messages; `journals`, loans of inverses; `inverses`, what is kept of each step; `undone`, steps of nodes
+//! taken back; `memory` and `unwinds`, what refused memory leaves of a bench; `clusters`, nodes without a bench;
+//! `costs`, the bytes of a step; `wide`, large values; `reads`, the calls that take no memory; `names`, names and
+//! limits; `swaps`, from the steps of one bench to those of another; `orders`, `networks` and `pages`, small runs
+//! worked by hand; `lists`, how online lists differ; `laws`, that the laws can be used on any bench.
 #![tactic(auto)]
 
-/// An assertion as a call; its own text names it. An `assert!` here would add an exit, which is costly to prove where
-/// many values are live.
+/// An assertion as a call, which names its own text if it fails. An `assert!` here would add an exit, which is costly
+/// to prove where many values are live.
 #[cfg(test)]
 macro_rules! holds {
     ($rt:expr, $is_so:expr $(,)?) => {
-        $crate::rows::holds($rt, $is_so, stringify!($is_so))
+        $crate::cases::holds($rt, $is_so, stringify!($is_so))
     };
 }
 
 #[cfg(test)]
 mod benches;
+#[cfg(test)]
+mod cases;
 #[cfg(test)]
 mod clusters;
 #[cfg(test)]
@@ -53,8 +63,6 @@ mod payloads;
 mod reads;
 #[cfg(test)]
 mod refusing;
-#[cfg(test)]
-mod rows;
 #[cfg(test)]
 mod swaps;
 #[cfg(test)]

@@ -1,4 +1,5 @@
-//! Online lists and how two of them differ, which no report compares: worked rows, a large list, and refused memory.
+//! How the online lists of two nodes differ, which no report tells: for a small bench, for a large one, and if memory
+//! is refused.
 ghost use Rattle.diff_core.specs.Online.{AreInOrder};
 
 use crate::benches::{Heap, played};
@@ -11,9 +12,10 @@ use test_alloc::Refusing;
 
 type Rows<'a> = Vec<OnlineRow<&'a Heap>, &'a Heap>;
 
-/// A row in a table: topic, key, node, process, clock and metadata.
+/// A row of an online list: topic, key, node, process, clock and metadata.
 type Seen = (&'static str, &'static str, u16, u64, u64, &'static str);
 
+/// Whether the row has these values.
 fn is<'a>(row: &OnlineRow<&'a Heap>, seen: &Seen) -> bool {
     let (topic, key, name, pid, clock, metadata) = *seen;
     row.topic.as_str() == topic
@@ -22,7 +24,7 @@ fn is<'a>(row: &OnlineRow<&'a Heap>, seen: &Seen) -> bool {
         && row.metadata.as_str() == metadata
 }
 
-/// Whether these are the rows.
+/// Whether the rows are those of `seen`, in the same order.
 fn are<'a>(rows: &[OnlineRow<&'a Heap>], seen: &[Seen]) -> bool {
     for (place, row) in rows.iter().enumerate() {
         match seen.get(place) {
@@ -33,7 +35,7 @@ fn are<'a>(rows: &[OnlineRow<&'a Heap>], seen: &[Seen]) -> bool {
     rows.len() == seen.len()
 }
 
-/// The online list of a node.
+/// The online list of the node of this number.
 fn list_of<'a>(bench: &Bench<'a, Heap>, number: u16, heap: &'a Heap, rt: &impl Abort) -> Rows<'a>
     ensures { AreInOrder result.items }
 {
@@ -41,7 +43,7 @@ fn list_of<'a>(bench: &Bench<'a, Heap>, number: u16, heap: &'a Heap, rt: &impl A
     online_list(heap, node.replica()).expect(rt, "a list")
 }
 
-/// Whether the lists differ by these rows: the first ones left, the second ones joined. `None` where memory was
+/// Whether `after` differs from `before` by `rows`: the rows that left, and the rows that joined. `None` if memory was
 /// refused.
 fn differ<'a>(
     before: &Rows<'a>,
@@ -59,8 +61,8 @@ fn differ<'a>(
     Some(are_these)
 }
 
-/// Whether changes with these rows that left and joined come to `counts` rows on either side. `None` where memory was
-/// refused.
+/// Whether `net` of these rows gives as many as `counts` says: rows that left, and rows that joined. `None` if memory
+/// was refused.
 fn come_to<'a>(
     left: &Rows<'a>,
     joined: &Rows<'a>,
@@ -109,8 +111,9 @@ const AT_B_ALONE: &[Seen] = &[
     ("r", "alice", 1, 7, 1, "home"),
 ];
 
-/// Whether each row and the next are in order, and a copy of the first list is the same.
-fn are_in_order<'a>(rows: &Rows<'a>) -> bool {
+/// Whether the first row is less than the second, and a copy of the first is the same as the first and not as the
+/// second; `false` if there are fewer than two rows.
+fn begins_in_order<'a>(rows: &Rows<'a>) -> bool {
     let [first, second, ..] = rows.as_slice() else {
         return false;
     };
@@ -125,7 +128,7 @@ fn are_in_order<'a>(rows: &Rows<'a>) -> bool {
 }
 
 /// Compares the lists with the first, second, .. request for memory refused, until no refusal is met. Gives how many
-/// were refused.
+/// requests were refused.
 fn refused_in_turn<'a>(a: &Rows<'a>, b: &Rows<'a>, heap: &'a Heap, rt: &impl Abort) -> u64
     requires a { AreInOrder a.now.items }
     requires b { AreInOrder b.now.items }
@@ -151,7 +154,7 @@ fn compares<'a>(script: &str, heap: &'a Heap, rt: &impl Abort) {
     let b = list_of(&bench, 1, heap, rt);
     drop(bench);
     holds!(rt, are(&a, AT_A) && are(&b, AT_B));
-    holds!(rt, are_in_order(&a) && are_in_order(&b));
+    holds!(rt, begins_in_order(&a) && begins_in_order(&b));
     let refused = refused_in_turn(&a, &b, heap, rt);
     drop(a);
     drop(b);
@@ -164,7 +167,7 @@ fn lists_differ_by_their_own_rows(rt: HostRuntime) {
     compares(SCRIPT, &heap, &rt);
 }
 
-/// How many rows the one list has alone, and how many the other.
+/// How many rows `one` has alone, and how many `other`. `None` if memory was refused.
 fn counts_of<'a>(one: &Rows<'a>, other: &Rows<'a>, heap: &'a Heap) -> Option<(usize, usize)>
     requires one { AreInOrder one.now.items }
     requires other { AreInOrder other.now.items }

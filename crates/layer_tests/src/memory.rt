@@ -1,13 +1,13 @@
-//! What calls of a bench leave where memory is refused. The calls are those of a script; another bench, which makes the same
-//! calls with memory, says what there was before each.
+//! What calls of a bench leave if memory is refused. The calls are those of a script; a second bench, which makes the
+//! same calls with memory, says what there must be before and after each.
 use crate::benches::{Calls, Heap, Pair, are_same, calls_of, limits_of, opened, played_twice};
-use crate::rows::holds;
+use crate::cases::holds;
 use bench_core::{Act, Bench, Fault, Limits, Reply, Step};
 use dots_core::NameSet;
 use std::process::Abort;
 use test_alloc::Refusing;
 
-/// All twelve steps, each undone by its number; steps back; and refusals.
+/// A step of each of the twelve kinds, undone by its number; backs; and refusals.
 pub const SCRIPT: &str = "nodes a b
 consoles c
 b join 9 r bob desk
@@ -88,9 +88,10 @@ enum Refusal {
     From(u64),
 }
 
-/// Makes the call on a bench with memory refused. If the bench refuses it, it is the same as the other bench, which
-/// made all calls before with memory; then both make the call with memory, and are the same. Says whether it was
-/// refused.
+/// Makes the call on the first bench of the pair while the heap refuses memory. If the call is refused memory, the
+/// first bench must be the same as the second, which made all calls before with memory; the first then makes the call
+/// with memory. The second makes the call, too, and at the end both must be the same. Says whether the call was refused
+/// memory.
 fn is_refused<'a>(
     pair: &mut Pair<'a>,
     call: &(u16, Act<&'a Heap>),
@@ -111,7 +112,7 @@ fn is_refused<'a>(
     is_refused
 }
 
-/// Makes each of the calls while the heap refuses memory. Says whether one was refused.
+/// Makes each of the calls like `is_refused`, with this refusal. Says whether a call was refused memory.
 fn ask_refused<'a>(
     pair: &mut Pair<'a>,
     calls: &Calls<'a>,
@@ -130,11 +131,12 @@ fn ask_refused<'a>(
     is_met
 }
 
-/// The nodes of the script.
+/// The nodes of `SCRIPT`.
 const NODES: &str = "nodes a b";
 
-/// Makes the calls on two new benches while the heap refuses memory, and says whether one was refused. At the end the
-/// meter counts the steps that were taken; an undo, a step back and a refusal count nothing.
+/// Makes the calls, those of `SCRIPT`, on two new benches like `ask_refused`, and says whether a call was refused
+/// memory. At the end the meter must have counted the 34 steps that were taken; undos, backs and refusals count
+/// nothing.
 fn is_met<'a>(calls: &Calls<'a>, refusal: Refusal, heap: &'a Heap, rt: &impl Abort) -> bool {
     let mut pair = played_twice(NODES, Limits::usual(), heap, rt);
     let is_met = ask_refused(&mut pair, calls, refusal, heap, rt);
@@ -166,7 +168,8 @@ fn a_call_that_is_refused_memory_changes_nothing(rt: HostRuntime) {
     holds!(&rt, 0 < most && most < 99);
 }
 
-/// The limits of a bench; acts after which it has no place for a step, or for a record; and acts that it then refuses.
+/// A case: the limits of a bench; a script after which fewer than two places are free for a step, or none for a record;
+/// acts that the bench then refuses; and the fault of each.
 struct Full {
     limits: [u64; 4],
     script: &'static str,
@@ -179,8 +182,9 @@ const HELD: Fault = Fault::HasConsequence {
     held_by: 2,
 };
 
-/// The rows: one place, which is too few for a step; no place, for a step and for refusals, also of an undo with a
-/// consequence and of an undo that was already made; and a bench with no place from the start.
+/// The cases in turn. One free place is too few for a step. No free place: a step; undos of numbers that were never
+/// given; a back of a node without steps; an undo of a step with a consequence; an undo that was made already; and a
+/// back after an undo. The last case has a limit of 1 on acts, so two places are never free.
 const FULL: &[Full] = &[
     Full {
         limits: [3, 10, 10, 10],
@@ -248,7 +252,7 @@ fn are_free<'a>(
     heap.refuse_none();
 }
 
-/// Asks the calls so of one bench of the pair, which stays the same as the other.
+/// Makes the calls like `are_free` on one bench of the pair, which must stay the same as the other.
 fn ask_for_free<'a>(
     pair: &mut Pair<'a>,
     calls: &[(u16, Act<&'a Heap>)],
@@ -260,8 +264,8 @@ fn ask_for_free<'a>(
     holds(rt, are_same(&pair.bench, &pair.other), full.refused);
 }
 
-/// Plays the acts, and makes the calls with all memory refused: each is refused with its fault, asks for no memory and
-/// isn't recorded.
+/// Plays the acts of the case, and makes its calls with all memory refused. Each call must be refused with the fault of
+/// the case, ask for no memory and not be recorded.
 fn refuse_for_free<'a>(full: &Full, heap: &'a Heap, rt: &impl Abort) {
     let limits = limits_of(full.limits, rt);
     let calls = calls_of(full.refused, heap, rt);
@@ -296,7 +300,7 @@ fn unknown<'a>() -> [(u16, Act<&'a Heap>); 6] {
     ]
 }
 
-/// Whether the bench runs the calls and refuses each, since it names no node.
+/// Whether the bench runs the calls and refuses each as `UnknownNode`.
 fn run_unknown<'a>(bench: &mut Bench<'a, Heap>, calls: &[(u16, Act<&'a Heap>)]) -> bool {
     match bench.run(calls) {
         Ok(replies) => {
@@ -309,7 +313,8 @@ fn run_unknown<'a>(bench: &mut Bench<'a, Heap>, calls: &[(u16, Act<&'a Heap>)]) 
     }
 }
 
-/// A run has all its replies, or does nothing where their list is refused.
+/// Calls that name no node are refused in a run, and recorded while there is a place. If memory for the list of replies
+/// is refused, the run does nothing.
 fn unknown_is_refused<'a>(heap: &'a Heap, rt: &impl Abort) {
     let calls = unknown();
     let mut bench = opened("nodes a b", limits_of([6, 1, 1, 1], rt), heap, rt);

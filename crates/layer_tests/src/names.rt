@@ -1,13 +1,13 @@
-//! `Names` and `Limits`.
+//! `Names` and `Limits`: what they refuse, and refused memory.
 use crate::benches::Heap;
-use crate::rows::holds;
+use crate::cases::holds;
 use bench_core::{Limits, Names, NamesFault};
 use std::process::Abort;
 use test_alloc::Refusing;
 
 const MANY: [&str; 33] = ["a"; 33];
 
-/// Texts that are no names, and why.
+/// Cases: texts that aren't a list of names, and why.
 const NO_NAMES: [(&[&str], NamesFault); 6] = [
     (&[], NamesFault::WrongCount),
     (&MANY, NamesFault::WrongCount),
@@ -61,7 +61,7 @@ const ALL: [&str; 32] = [
     "5",
 ];
 
-/// As many names as there can be; only the last differs from `ALL`.
+/// As many names again; only the last differs from `ALL`.
 const OTHERS: [&str; 32] = [
     "b_1",
     "a",
@@ -101,7 +101,7 @@ fn named<'a>(heap: &'a Heap, texts: &[&str], rt: &impl Abort) -> Names<&'a Heap>
     Names::new(heap, texts).expect(rt, "names")
 }
 
-/// Whether these are all the names, by number and by text.
+/// Whether these are the names of `ALL`, by number and by text.
 fn are_all<'a>(names: &Names<&'a Heap>) -> bool {
     for (number, text) in ALL.iter().enumerate() {
         let number = number as u16;
@@ -112,7 +112,7 @@ fn are_all<'a>(names: &Names<&'a Heap>) -> bool {
     names.len() == 32 && names.text(32).is_none() && names.number_of("c").is_none()
 }
 
-/// Whether `same` tells names apart that differ in the last one alone.
+/// Whether `same` tells these names from others that differ in the last one alone.
 fn are_told<'a>(names: &Names<&'a Heap>, heap: &'a Heap, rt: &impl Abort) -> bool {
     let others = named(heap, &OTHERS, rt);
     let are_same = names.same(&others);
@@ -131,8 +131,8 @@ fn names_are_numbered_in_their_order_without_memory(rt: HostRuntime) {
     drop(names);
 }
 
-/// Makes all names with the first, second, .. request for memory refused, until no refusal is met. Gives how many were
-/// refused.
+/// Makes the names of `ALL` with the first, second, .. request for memory refused, until no refusal is met. Gives how
+/// many requests were refused.
 fn refused_names(heap: &Heap, rt: &impl Abort) -> u64 {
     for number in 1..100 {
         heap.refuse_only(number);
@@ -145,8 +145,8 @@ fn refused_names(heap: &Heap, rt: &impl Abort) -> u64 {
     99
 }
 
-/// Copies the names with the first, second, .. request for memory refused, until no refusal is met: the copy is the
-/// same. Gives how many were refused.
+/// Copies the names with the first, second, .. request for memory refused, until no refusal is met: then the copy must
+/// be the same. Gives how many requests were refused.
 fn refused_copies<'a>(names: &Names<&'a Heap>, heap: &'a Heap, rt: &impl Abort) -> u64 {
     for number in 1..100 {
         heap.refuse_only(number);
@@ -172,7 +172,7 @@ fn a_refused_request_is_out_of_memory(rt: HostRuntime) {
     drop(names);
 }
 
-/// Limits, and whether each is in its range.
+/// Cases: the case's name; limits on acts, entries, clock and messages; and whether each is in its range.
 const RANGES: [(&str, [u64; 4], bool); 10] = [
     ("least", [1, 1, 1, 1], true),
     (

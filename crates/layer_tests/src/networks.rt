@@ -1,5 +1,6 @@
-//! What the network could have done: the outcomes of small runs, worked by hand, each with a run beside it; what is refused;
-//! and each request for memory refused in turn. A run is given by the places of its steps.
+//! What the network could have done: the outcomes of small runs, worked by hand, each with a run that leads to it; what
+//! is refused; and requests for memory refused in turn. A run is given by its steps' places in the recorded run,
+//! counted from 0.
 use crate::benches::{Heap, limits_of, played};
 use crate::wide;
 use bench_core::{Bench, Cluster, Limits};
@@ -44,9 +45,9 @@ c up a
 b deliver a 1
 c deliver a 1";
 
-/// A script; the node whose rows of x in r are asked for; how many deliveries may be lost, and how many may come again; and the
-/// runs of the outcomes.
-struct Row {
+/// A case: a script; the node whose rows of topic `r` and key `x` are asked for; how many deliveries may be lost, and
+/// how many may come again; and a run for each outcome.
+struct Case {
     text: &'static str,
     node: u16,
     lost: usize,
@@ -54,52 +55,53 @@ struct Row {
     runs: &'static [&'static [usize]],
 }
 
-/// An up comes before or after a delivery, and concerns its own node alone; a message is lost; a join comes after its
-/// leave and has no effect, also when it comes again; an answer waits for its request.
-const ROWS: &[Row] = &[
-    Row {
+/// The cases in turn: an up changes nothing at another node; an up comes before or after a delivery; a message is lost;
+/// a leave is delivered before its sender is known, and the join only then, so that the join stays; the same with a
+/// delivery that comes again; an answer brings what was missed to the node that asked, and not to another.
+const CASES: &[Case] = &[
+    Case {
         text: UP_LATE,
         node: 0,
         lost: 0,
         again: 0,
         runs: &[&[0, 1, 2, 3]],
     },
-    Row {
+    Case {
         text: UP_LATE,
         node: 1,
         lost: 0,
         again: 0,
         runs: &[&[0, 1, 2, 3], &[0, 1, 3, 2]],
     },
-    Row {
+    Case {
         text: UP_LATE,
         node: 1,
         lost: 1,
         again: 0,
         runs: &[&[0, 1, 2, 3], &[0, 1, 2]],
     },
-    Row {
+    Case {
         text: GONE,
         node: 1,
         lost: 0,
         again: 0,
         runs: &[&[0, 1, 2, 3, 4, 5, 6], &[1, 2, 4, 5, 6, 0, 3]],
     },
-    Row {
+    Case {
         text: GONE,
         node: 1,
         lost: 0,
         again: 1,
         runs: &[&[0, 1, 2, 3, 4, 5, 6], &[1, 2, 4, 5, 3, 6, 0, 3]],
     },
-    Row {
+    Case {
         text: ANSWERED,
         node: 1,
         lost: 0,
         again: 0,
         runs: &[&[0, 1, 2, 3, 4, 5, 6, 7, 8]],
     },
-    Row {
+    Case {
         text: ANSWERED,
         node: 2,
         lost: 0,
@@ -108,8 +110,9 @@ const ROWS: &[Row] = &[
     },
 ];
 
-/// A script; the node whose replica is asked for, or none for all of the cluster; and for each outcome how dots of a
-/// stand, by node and clock: 0 not seen, 1 with its entry, 2 without.
+/// A case: a script; the node whose replica is asked for, or `None` for the whole cluster; dots of node `a`, each as
+/// the node at which it is looked up and its clock; and for each outcome the standings of these dots: 0 unseen, 1 live,
+/// 2 gone.
 struct Standings {
     text: &'static str,
     node: Option<u16>,
@@ -117,7 +120,9 @@ struct Standings {
     outcomes: &'static [&'static [u8]],
 }
 
-/// A node that misses something that its rows don't show; and nodes that may each miss a message.
+/// The cases in turn: a node's own dot, which it never misses; a join and its leave, where a node may miss the leave or
+/// both (its rows are the same after both and after neither); and a message, which one node may miss, or each of two
+/// nodes.
 const STANDINGS: &[Standings] = &[
     Standings {
         text: UP_LATE,
@@ -151,7 +156,8 @@ fn presence<'a>(node: u16, key: &str, heap: &'a Heap, rt: &impl Abort) -> Questi
     Question::Presence { node, topic, key }
 }
 
-/// What an exploration of the bench gives.
+/// What an exploration of the bench gives. `changes` has how many deliveries may be lost and how many may come again;
+/// `most` is how many states may be kept.
 fn explored<'a>(
     bench: &Bench<'a, Heap>,
     asked: &Question<&'a Heap>,
@@ -165,7 +171,7 @@ fn explored<'a>(
     explore(bench, asked, lost, again, most, heap, &mut Silent)
 }
 
-/// Whether the outcomes have these runs.
+/// Whether the outcomes have these runs, in this order, and there are no other outcomes.
 fn has_runs<'a>(explored: &Explored<'a, Heap>, runs: &[&[usize]]) -> bool {
     if explored.outcomes.len() != runs.len() {
         return false;
@@ -178,24 +184,25 @@ fn has_runs<'a>(explored: &Explored<'a, Heap>, runs: &[&[usize]]) -> bool {
     true
 }
 
-fn row_holds(row: &Row, heap: &Heap, rt: &impl Abort) {
-    let bench = played(row.text, Limits::usual(), heap, rt);
-    let asked = presence(row.node, "x", heap, rt);
-    let told = explored(&bench, &asked, (row.lost, row.again), 1000, heap, rt);
+/// Explores the case: the outcomes must have the runs that the case lists.
+fn case_holds(case: &Case, heap: &Heap, rt: &impl Abort) {
+    let bench = played(case.text, Limits::usual(), heap, rt);
+    let asked = presence(case.node, "x", heap, rt);
+    let told = explored(&bench, &asked, (case.lost, case.again), 1000, heap, rt);
     drop(asked);
     drop(bench);
-    holds!(rt, told.is_ok_and(|told| has_runs(&told, row.runs)));
+    holds!(rt, told.is_ok_and(|told| has_runs(&told, case.runs)));
 }
 
 #[test]
-fn rows_come_out_by_what_the_network_does(rt: HostRuntime) {
+fn runs_come_out_by_what_the_network_does(rt: HostRuntime) {
     let heap = Refusing::new(rt.alloc());
-    for row in ROWS {
-        row_holds(row, &heap, &rt);
+    for case in CASES {
+        case_holds(case, &heap, &rt);
     }
 }
 
-/// How a dot of node a stands at a node.
+/// The standing of node `a`'s dot with this clock at a node: 0 unseen, 1 live, 2 gone; 0 also if there is no such node.
 fn standing<'a>(cluster: &Cluster<'a, Heap>, node: u16, clock: u64) -> u8 {
     let dot = Dot { name: 0, clock };
     let Some(node) = cluster.node(node) else {
@@ -210,7 +217,7 @@ fn standing<'a>(cluster: &Cluster<'a, Heap>, node: u16, clock: u64) -> u8 {
     0
 }
 
-/// Whether the dots stand like this in the outcome.
+/// Whether the dots stand in the outcome as `so` says.
 fn is_so<'a>(outcome: &Outcome<'a, Heap>, dots: &[(u16, u64)], so: &[u8]) -> bool {
     for (dot, standing_wanted) in dots.iter().zip(so) {
         let (node, clock) = *dot;
@@ -221,7 +228,7 @@ fn is_so<'a>(outcome: &Outcome<'a, Heap>, dots: &[(u16, u64)], so: &[u8]) -> boo
     true
 }
 
-/// Whether the dots stand like this in one of the outcomes.
+/// Whether in one of the outcomes the dots have the standings `so`, one for each dot.
 fn is_one_so<'a>(explored: &Explored<'a, Heap>, dots: &[(u16, u64)], so: &[u8]) -> bool {
     for outcome in &explored.outcomes {
         if is_so(outcome, dots, so) {
@@ -231,8 +238,8 @@ fn is_one_so<'a>(explored: &Explored<'a, Heap>, dots: &[(u16, u64)], so: &[u8]) 
     false
 }
 
-/// Whether there are as many outcomes as the row lists, and for each that it lists there is one in which the dots stand
-/// like that.
+/// Whether the exploration has as many outcomes as the case lists, and has for each listed outcome one in which the
+/// dots stand as listed.
 fn are_so<'a>(explored: &Explored<'a, Heap>, told: &Standings) -> bool {
     for so in told.outcomes {
         if !is_one_so(explored, told.dots, so) {
@@ -242,6 +249,7 @@ fn are_so<'a>(explored: &Explored<'a, Heap>, told: &Standings) -> bool {
     explored.outcomes.len() == told.outcomes.len()
 }
 
+/// Explores the case: the outcomes must be those that the case lists.
 fn standings_hold(told: &Standings, heap: &Heap, rt: &impl Abort) {
     let bench = played(told.text, Limits::usual(), heap, rt);
     let asked = match told.node {
@@ -262,7 +270,7 @@ fn replicas_come_out_by_what_the_network_does(rt: HostRuntime) {
     }
 }
 
-/// Three states are too few, and four enough.
+/// Explores with at most three states, which are too few, and with four, which are enough.
 fn few_states_are_kept<'a>(heap: &'a Heap, rt: &impl Abort) {
     let bench = played(UP_LATE, Limits::usual(), heap, rt);
     let asked = presence(1, "x", heap, rt);
@@ -280,7 +288,8 @@ fn states_are_no_more_than_may_be(rt: HostRuntime) {
     few_states_are_kept(&heap, &rt);
 }
 
-/// Two joins may fill a node of one entry, though one of them leaves.
+/// The run makes two entries at a node that may hold one. The exploration is refused, though one entry leaves before
+/// the other joins.
 fn a_node_may_fill<'a>(heap: &'a Heap, rt: &impl Abort) {
     let limits = limits_of([100, 1, 100, 100], rt);
     let bench = played(
@@ -300,9 +309,10 @@ fn joins_that_may_fill_a_node_are_refused(rt: HostRuntime) {
     a_node_may_fill(&heap, &rt);
 }
 
-/// Of 65 deliveries one brings what is asked for, before its name is up or afterwards.
+/// Only one of 65 deliveries brings what is asked for, and the up of the sender may come before or after that delivery:
+/// two outcomes.
 #[test]
-fn a_wide_run_has_few_states(rt: HostRuntime) {
+fn a_wide_run_has_few_outcomes(rt: HostRuntime) {
     let heap = Refusing::new(rt.alloc());
     let text = wide::script(&heap, &rt);
     let bench = played(text.as_str(), Limits::usual(), &heap, &rt);
@@ -314,7 +324,8 @@ fn a_wide_run_has_few_states(rt: HostRuntime) {
     holds!(&rt, told.is_ok_and(|told| told.outcomes.len() == 2));
 }
 
-/// Refuses each request for memory in turn, until no refusal is met.
+/// Explores with the first, second, .. request for memory refused, until no refusal is met. Each refusal must be
+/// `OutOfMemory`.
 fn explore_refused<'a>(
     bench: &Bench<'a, Heap>,
     asked: &Question<&'a Heap>,
@@ -333,21 +344,21 @@ fn explore_refused<'a>(
     holds!(rt, false);
 }
 
-/// The same of the rows of x in r at the second node.
+/// Like `explore_refused`, asking for the rows of topic `r` and key `x` at node 1.
 fn rows_refused<'a>(bench: &Bench<'a, Heap>, heap: &'a Heap, rt: &impl Abort) {
     let asked = presence(1, "x", heap, rt);
     explore_refused(bench, &asked, heap, rt);
     drop(asked);
 }
 
-/// The same of each kind of question.
+/// Like `explore_refused`, for each kind of question.
 fn each_refused<'a>(bench: &Bench<'a, Heap>, heap: &'a Heap, rt: &impl Abort) {
     rows_refused(bench, heap, rt);
     explore_refused(bench, &Question::Node(1), heap, rt);
     explore_refused(bench, &Question::Cluster, heap, rt);
 }
 
-/// Each kind of question, with each request for memory refused in turn.
+/// Asks each kind of question of one bench, like `each_refused`.
 fn each_question_is_refused<'a>(heap: &'a Heap, rt: &impl Abort) {
     let bench = played(GONE, Limits::usual(), heap, rt);
     each_refused(&bench, heap, rt);
@@ -360,7 +371,8 @@ fn each_request_for_memory_is_refused(rt: HostRuntime) {
     each_question_is_refused(&heap, &rt);
 }
 
-/// How often the watcher was called, with how many states at last, and whether ever with fewer than before.
+/// A watcher that notes how often it was called, with how many states at the last call, and whether any call had fewer
+/// states than the call before.
 #[derive(Drop)]
 struct Counting {
     calls: u64,
@@ -374,14 +386,16 @@ impl Watch<Walked> for Counting {
     ghost told = { λ _ _. ⊤ };
 
     fn tell(&mut self, work: Walked) {
+        // form: saturating spares a requirement
         self.calls = self.calls.saturating_add(1);
         self.falls |= work.states < self.states;
         self.states = work.states;
     }
 }
 
-/// The walk takes a join, a broadcast, an up and a delivery, and then the delivery before the up. It calls the watcher
-/// at seven states, and at the last two it has kept the state after the first up.
+/// The walk of `UP_LATE` goes from the opening through a join, a broadcast, an up and a delivery; then, from the
+/// broadcast on, through the delivery and the up. So it tells the watcher of seven states. When it tells of the last
+/// two, it has kept two states: the one after the first up, and the one after the delivery that follows that up.
 fn walk_is_watched<'a>(heap: &'a Heap, rt: &impl Abort) {
     let bench = played(UP_LATE, Limits::usual(), heap, rt);
     let asked = presence(1, "x", heap, rt);

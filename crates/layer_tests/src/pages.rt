@@ -1,5 +1,5 @@
-//! The data of pages, worked by hand: for a run without calls, for hostile words, and for each kind of step; and with each
-//! request for memory refused in turn.
+//! The data of pages, worked by hand: for a run without calls, for hostile words, and for each kind of step (the leave
+//! all is refused); and with each request for memory refused in turn.
 use crate::benches::Heap;
 use bench_core::Limits;
 use grammar_core::{console_names, parse_script};
@@ -8,7 +8,7 @@ use run_core::run_script;
 use std::process::Abort;
 use test_alloc::Refusing;
 
-/// Scripts, and the data of their pages.
+/// Cases: a script, and the data of its page.
 const PAGES: &[(&str, &str)] = &[
     (
         "nodes a\n",
@@ -46,7 +46,8 @@ a leaveall 2
     ),
 ];
 
-/// Whether this is the data of the page of a script, or a request for memory was refused for it.
+/// Asks for the data of the script's page with request `refused` for memory refused. Says whether that gives `wanted`,
+/// or gives nothing because there was such a request.
 fn has_data<'a>(script: &str, wanted: &str, refused: u64, heap: &'a Heap, rt: &impl Abort) -> bool {
     let script = parse_script(heap, script.as_bytes()).expect(rt, script);
     let played = run_script(heap, &script, Limits::usual()).expect(rt, "a bench");

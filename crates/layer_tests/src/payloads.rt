@@ -1,5 +1,5 @@
 //! Words, entries, sets of entries, messages and outboxes.
-use crate::rows::holds;
+use crate::cases::holds;
 use dots_core::{Dot, DotSet, NameSet};
 use payload_core::{Entry, EntrySet, Outbox, OutboxFault, Payload, Word, WordFault};
 use std::alloc::{Allocator, Global};
@@ -8,7 +8,7 @@ use test_alloc::Refusing;
 
 type Heap = Refusing<Global>;
 
-/// A word, for which there is memory.
+/// A word. If it has more than 14 bytes, the allocator must have memory for it.
 pub fn word<A: Allocator + Clone>(rt: &impl Abort, alloc: A, text: &str) -> Word<A> {
     Word::new(alloc, text).expect(rt, "a word")
 }
@@ -30,14 +30,14 @@ fn entry<A: Allocator + Copy>(
     }
 }
 
-/// Puts in an entry whose dot is not there.
+/// Inserts `entry`. Its dot must have no entry in `entries` yet, and there must be memory or room for it.
 fn put<A: Allocator + Copy>(rt: &impl Abort, entries: &mut EntrySet<A>, entry: Entry<A>) {
     assert!(rt; entries.get(entry.dot).is_none());
     let is_in = entries.insert(entry).ok().is_some();
     holds!(rt, is_in);
 }
 
-/// Node 0's entries of `alice` at the clocks 9 and 5, and node 31's of `bob` at the clock 1.
+/// The entries of `alice` at node 0's clocks 9 and 5, and that of `bob` at node 31's clock 1.
 fn three<A: Allocator + Copy>(rt: &impl Abort, alloc: A) -> EntrySet<A> {
     let mut entries = EntrySet::new(alloc);
     put(rt, &mut entries, entry(rt, alloc, 0, 9, "alice"));
@@ -63,8 +63,8 @@ fn another_text_is_a_bad_word(rt: HostRuntime) {
     }
 }
 
-/// A word of more than 14 bytes takes one request, a text that is none takes none, and a copy none: it shares the bytes, and
-/// outlives its source.
+/// A word of more than 14 bytes takes one request for memory. A text that isn't a word takes none. A copy takes none
+/// either: it shares the bytes, and outlives its source.
 #[test]
 fn a_refused_word_is_out_of_memory(rt: HostRuntime) {
     let heap = Refusing::new(rt.alloc());
@@ -115,8 +115,8 @@ fn words_are_ordered_by_their_bytes(rt: HostRuntime) {
     }
 }
 
-/// Whether the entry of `alice` at the clock 1 is the same as that of this key at this clock, and whether it is tracked
-/// under the key.
+/// Whether the entry of `alice` at the clock 1 is the same as that of `key` at `clock`, and whether the entry of
+/// `alice` is tracked under `key`.
 fn compare<A: Allocator + Copy>(rt: &impl Abort, alloc: A, clock: u64, key: &str) -> (bool, bool) {
     let alice = entry(rt, alloc, 0, 1, "alice");
     let other = entry(rt, alloc, 0, clock, key);
@@ -134,7 +134,7 @@ fn entries_differ_by_dot_and_by_key(rt: HostRuntime) {
     holds!(&rt, compare(&rt, rt.alloc(), 1, "bob") == (false, false));
 }
 
-/// Whether `count` entries are of these names.
+/// Whether `count` of the entries are of these names, by what `only` gives.
 fn has_only<A: Allocator + Copy>(
     rt: &impl Abort,
     entries: &EntrySet<A>,
@@ -148,10 +148,10 @@ fn has_only<A: Allocator + Copy>(
     has_these
 }
 
-/// The places of three entries, by rising dot.
+/// The places of three entries, by rising dot, each with the name and the clock of its dot.
 const PLACES: [(usize, u16, u64); 3] = [(0, 0, 5), (1, 0, 9), (2, 31, 1)];
 
-/// Whether the entry at each place is the one of its dot.
+/// Whether the entries stand at the places of `PLACES`.
 fn rise_by_dot<A: Allocator>(entries: &EntrySet<A>) -> bool {
     for (place, name, clock) in PLACES {
         let dot = Dot { name, clock };
@@ -163,7 +163,7 @@ fn rise_by_dot<A: Allocator>(entries: &EntrySet<A>) -> bool {
     entries.len() == 3 && entries.at(3).is_none()
 }
 
-/// Whether the entries of `alice` are found by name and process, at the least clock.
+/// Whether `find` gives the least dot of the entries of `alice`, and nothing for another process or name.
 fn finds_least<A: Allocator + Copy>(rt: &impl Abort, alloc: A, entries: &EntrySet<A>) -> bool {
     let room = word(rt, alloc, "room");
     let alice = word(rt, alloc, "alice");
@@ -176,7 +176,7 @@ fn finds_least<A: Allocator + Copy>(rt: &impl Abort, alloc: A, entries: &EntrySe
     is_so
 }
 
-/// Takes out what is at the dot, and says whether that is an entry of this dot.
+/// Takes out the entry of `dot`, and says whether there was one, with this dot.
 fn takes_out<A: Allocator>(entries: &mut EntrySet<A>, dot: Dot) -> bool {
     match entries.remove(dot) {
         Some(entry) => {
@@ -188,7 +188,7 @@ fn takes_out<A: Allocator>(entries: &mut EntrySet<A>, dot: Dot) -> bool {
     }
 }
 
-/// The parts of a set, its places and its searches; and what a removal leaves.
+/// What `only` gives of a set; the set's places and searches; and what a removal leaves.
 #[test]
 fn a_set_of_entries_rises_by_dot(rt: HostRuntime) {
     let mut entries = three(&rt, rt.alloc());
@@ -205,7 +205,8 @@ fn a_set_of_entries_rises_by_dot(rt: HostRuntime) {
     drop(entries);
 }
 
-/// Whether the insert of an entry whose dot is not there is refused, and gives the entry back.
+/// Whether the insert of `entry` is refused and gives back an entry that is the same as `copy`. The dot of `entry` must
+/// have no entry in `entries` yet.
 fn is_given_back<A: Allocator + Copy>(
     rt: &impl Abort,
     entries: &mut EntrySet<A>,
@@ -223,7 +224,8 @@ fn is_given_back<A: Allocator + Copy>(
     }
 }
 
-/// Puts in an entry with all memory refused, which comes back; then makes room, and puts in another.
+/// Tries to insert an entry with all memory refused, and must get the entry back. Then makes room, starts the count of
+/// requests anew, and inserts an equal entry, again with all memory refused.
 fn puts_into_room<'a>(entries: &mut EntrySet<&'a Heap>, heap: &'a Heap, rt: &impl Abort) {
     let one = entry(rt, heap, 0, 1, "alice");
     let other = entry(rt, heap, 0, 1, "alice");
@@ -244,7 +246,7 @@ fn an_insert_into_room_takes_no_memory(rt: HostRuntime) {
     drop(entries);
 }
 
-/// A part of a set takes its list, and what it grows by, from the memory of that set. It shares its entries.
+/// What `only` gives takes its list, and what it grows by, from the memory of the set. It shares the set's entries.
 #[test]
 fn a_part_of_a_set_keeps_the_memory_of_its_set(rt: HostRuntime) {
     let own = Refusing::new(rt.alloc());
@@ -265,7 +267,7 @@ fn a_part_of_a_set_keeps_the_memory_of_its_set(rt: HostRuntime) {
     drop(entries);
 }
 
-/// The set of the dot of node 0 at this clock.
+/// A set of one dot, that of node 0 with this clock.
 fn seen_of<A: Allocator + Copy>(rt: &impl Abort, alloc: A, clock: u64) -> DotSet<A> {
     let mut seen = DotSet::new(alloc);
     let dot = Dot { name: 0, clock };
@@ -274,13 +276,13 @@ fn seen_of<A: Allocator + Copy>(rt: &impl Abort, alloc: A, clock: u64) -> DotSet
     seen
 }
 
-/// A message of node 0 that has seen this dot and has no entry.
+/// A message of node 0 that has seen its dot with this clock, and has no entry.
 fn message<'a>(heap: &'a Heap, clock: u64, rt: &impl Abort) -> Payload<&'a Heap> {
     let seen = seen_of(rt, heap, clock);
     Payload::new(0, seen, EntrySet::new(heap))
 }
 
-/// Whether the message can be taken apart, and its parts make the other one.
+/// Whether the parts of the message make a message that is the same as `other`.
 pub fn is_made_of_its_parts<'a>(message: Payload<&'a Heap>, other: &Payload<&'a Heap>) -> bool {
     let (sender, seen, entries) = message.into_parts();
     let made = Payload::new(sender, seen, entries);
@@ -289,7 +291,7 @@ pub fn is_made_of_its_parts<'a>(message: Payload<&'a Heap>, other: &Payload<&'a 
     is_same
 }
 
-/// Whether a copy can be taken apart, and its parts make the same message.
+/// Whether the parts of a copy make the same message.
 fn is_copied<'a>(message: &Payload<&'a Heap>) -> bool {
     match message.try_copy() {
         Ok(copy) => is_made_of_its_parts(copy, message),
@@ -307,14 +309,14 @@ fn a_message_gives_its_parts(rt: HostRuntime) {
     drop(message);
 }
 
-/// Whether the message differs from this one.
+/// Whether the message differs from `other`.
 fn is_other<'a>(message: Payload<&'a Heap>, other: &Payload<&'a Heap>) -> bool {
     let is_same = message.same(other);
     drop(message);
     !is_same
 }
 
-/// Whether the request differs from another request, and from the message without names that its parts make.
+/// Whether the request differs from a request for other names, and from the empty message that isn't a request.
 fn is_told<'a>(request: &Payload<&'a Heap>, heap: &'a Heap) -> bool {
     let names = NameSet::empty().with(31);
     let none = Payload::new(0, DotSet::new(heap), EntrySet::new(heap));
@@ -335,7 +337,8 @@ fn a_request_gives_its_names(rt: HostRuntime) {
     holds!(&rt, matches!(asked, Some(asked) if asked.same(names)));
 }
 
-/// Takes out the last message. Says whether it has seen the dot of this clock.
+/// Takes out the last message, and says whether it has seen node 0's dot with this clock; `false` if there is no
+/// message.
 fn pops<'a>(outbox: &mut Outbox<'a, Heap>, clock: u64) -> bool {
     match outbox.pop() {
         Some(last) => {
@@ -347,8 +350,8 @@ fn pops<'a>(outbox: &mut Outbox<'a, Heap>, clock: u64) -> bool {
     }
 }
 
-/// Pushes the message of this clock with all memory refused, after room was made for it if `has_room`. Gives its
-/// number, or the fault.
+/// Pushes the message of this clock with all memory refused, after making room for it if `has_room`. Gives its number,
+/// or the fault.
 fn pushes<'a>(
     outbox: &mut Outbox<'a, Heap>,
     clock: u64,
@@ -372,7 +375,7 @@ fn pushes<'a>(
     answer
 }
 
-/// Messages are numbered from 1, up to a limit, and popped from the end.
+/// Messages are numbered from 1, up to a limit, and taken out from the end.
 #[test]
 fn an_outbox_holds_as_many_messages_as_its_limit(rt: HostRuntime) {
     let heap = Refusing::new(rt.alloc());

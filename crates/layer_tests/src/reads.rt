@@ -1,4 +1,4 @@
-//! The calls that take no memory, on large values, with all memory refused: each succeeds, and asks for none.
+//! Calls that take no memory, made on large values with all memory refused: each succeeds, and asks for none.
 use crate::benches::{Heap, calls_of, played};
 use crate::memory::SCRIPT;
 use crate::payloads::is_made_of_its_parts;
@@ -10,7 +10,7 @@ use replica_core::{Replica, Status, laws};
 use std::process::Abort;
 use test_alloc::Refusing;
 
-/// Reads a set of 65 entries or more.
+/// Reads a set of at least 65 entries, among them that of the dot of node 0 with the clock 130.
 fn reads_entries<'a>(entries: &EntrySet<&'a Heap>, rt: &impl Abort) {
     let last = Dot {
         name: 0,
@@ -28,7 +28,7 @@ fn reads_entries<'a>(entries: &EntrySet<&'a Heap>, rt: &impl Abort) {
     holds!(rt, entries.same(entries));
 }
 
-/// Reads the last of 130 messages.
+/// Reads the last of 130 messages, which has one entry.
 fn reads_message<'a>(message: &Payload<&'a Heap>, rt: &impl Abort) {
     holds!(rt, message.sender() == 0);
     holds!(rt, message.asked().is_none());
@@ -46,7 +46,7 @@ fn reads_outbox<'a>(outbox: &Outbox<'a, Heap>, rt: &impl Abort) {
     reads_message(message, rt);
 }
 
-/// Reads the first replica, which sends.
+/// Reads the replica of the first node, which sends.
 fn reads_sender<'a>(a: &Replica<&'a Heap>, rt: &impl Abort) {
     holds!(rt, a.own() == 0);
     holds!(rt, a.seen().clock_of(0) == 131);
@@ -56,7 +56,7 @@ fn reads_sender<'a>(a: &Replica<&'a Heap>, rt: &impl Abort) {
     holds!(rt, a.same(a));
 }
 
-/// Whether the replica would ask for these names.
+/// Whether the replica's request asks for these names.
 fn asks_for<'a>(replica: &Replica<&'a Heap>, known: NameSet) -> bool {
     let request = replica.request();
     let asked = request.asked();
@@ -64,7 +64,7 @@ fn asks_for<'a>(replica: &Replica<&'a Heap>, known: NameSet) -> bool {
     matches!(asked, Some(names) if names.same(known))
 }
 
-/// Reads the second replica, to which messages came, and the request that it would send.
+/// Reads the replica of the second node, to which messages came, and the request that it would send.
 fn reads_receiver<'a>(b: &Replica<&'a Heap>, rt: &impl Abort) {
     let known = NameSet::empty().with(0).with(1);
     holds!(rt, asks_for(b, known) && b.known().same(known));
@@ -92,7 +92,7 @@ fn reads_history<'a>(history: &History<'a, Heap>, rt: &impl Abort) {
     holds!(rt, history.len() == 327);
 }
 
-/// Reads the parts of the bench.
+/// Reads the bench, its journal and its history.
 fn reads_bench<'a>(bench: &Bench<'a, Heap>, rt: &impl Abort) {
     holds!(rt, bench.names().number_of("af") == Some(31));
     holds!(rt, bench.limits() == Limits::usual());
@@ -115,7 +115,8 @@ fn reads_nodes<'a>(bench: &Bench<'a, Heap>, rt: &impl Abort) {
     reads_receiver(b.replica(), rt);
 }
 
-/// Reads all of a bench; then copies what its first node holds, and changes the copies.
+/// Reads a bench, its journal, its history and its first two nodes; then copies what the first node holds, and edits
+/// the copies.
 fn plays<'a>(script: &str, heap: &'a Heap, rt: &impl Abort) {
     let bench = played(script, Limits::usual(), heap, rt);
     heap.refuse_from(1);
@@ -136,8 +137,9 @@ fn reads_and_edits_take_no_memory(rt: HostRuntime) {
     drop(text);
 }
 
-/// Whether the delta is taken out, as a message of node 0, and given back.
+/// Takes the delta out, as a message of node 0, and gives it back. Says whether there was such a message.
 fn gives_the_delta_back<'a>(replica: &mut Replica<&'a Heap>) -> bool {
+    // form: hands out what the replica keeps
     replica.replica_law();
     laws::delta_law();
     let Ok(message) = replica.take_delta() else {
@@ -174,7 +176,7 @@ fn removes<'a>(entries: &EntrySet<&'a Heap>, heap: &'a Heap, rt: &impl Abort) {
     drop(copy);
 }
 
-/// A copy of the replica gives its delta out, and takes it back.
+/// Takes the delta out of a copy of the replica, and gives it back.
 fn sends<'a>(replica: &Replica<&'a Heap>, heap: &'a Heap, rt: &impl Abort) {
     let mut copy = replica.try_copy().expect(rt, "a copy");
     heap.refuse_from(1);
@@ -184,7 +186,7 @@ fn sends<'a>(replica: &Replica<&'a Heap>, heap: &'a Heap, rt: &impl Abort) {
     drop(copy);
 }
 
-/// Takes a copy of the message apart.
+/// Takes a copy of the message apart, and puts it together again.
 fn falls_apart<'a>(message: &Payload<&'a Heap>, heap: &'a Heap, rt: &impl Abort) {
     let copy = message.try_copy().expect(rt, "a copy");
     heap.refuse_from(1);
@@ -193,7 +195,7 @@ fn falls_apart<'a>(message: &Payload<&'a Heap>, heap: &'a Heap, rt: &impl Abort)
     heap.refuse_none();
 }
 
-/// Copies what the node holds, and makes the calls that change the copies without memory.
+/// Copies what the node holds, and edits the copies with all memory refused.
 fn edits<'a>(node: &Node<'a, Heap>, heap: &'a Heap, rt: &impl Abort) {
     let message = node.outbox().get(1).expect(rt, "a message");
     falls_apart(message, heap, rt);
@@ -202,7 +204,7 @@ fn edits<'a>(node: &Node<'a, Heap>, heap: &'a Heap, rt: &impl Abort) {
     sends(node.replica(), heap, rt);
 }
 
-/// Whether a copy asks the same.
+/// Whether the act has a copy that asks for the same.
 fn is_copied<'a>(act: &Act<&'a Heap>) -> bool {
     match act.try_copy() {
         Ok(copy) => {
@@ -214,7 +216,7 @@ fn is_copied<'a>(act: &Act<&'a Heap>) -> bool {
     }
 }
 
-/// The copy of an act, of each kind, shares its words.
+/// Acts of each kind are copied without memory, since their words are stored inline.
 #[test]
 fn an_act_is_copied_without_memory(rt: HostRuntime) {
     let heap = Refusing::new(rt.alloc());

@@ -2,7 +2,7 @@
 use std::alloc::Global;
 use test_alloc::Refusing;
 
-/// The length of a new list with room for a byte; none where its request is refused.
+/// The length of a new list with room for a byte, or `None` if the request for that is refused.
 fn length_of_new(heap: &Refusing<Global>) -> Option<usize> {
     let bytes: Vec<u8, _> = Vec::with_capacity(heap, 1).ok()?;
     let length = bytes.len();

@@ -1,6 +1,7 @@
-//! Swaps between the steps of two benches, which scripts prepare: worked rows, and refused memory.
+//! Swaps that lead from the steps of one bench to those of another: a table of cases, and refused memory. Scripts make
+//! the benches.
 use crate::benches::{Heap, limits_of, played};
-use crate::rows::holds;
+use crate::cases::holds;
 use bench_core::{Bench, SwapFault, same_cluster};
 use std::process::Abort;
 use test_alloc::Refusing;
@@ -21,7 +22,7 @@ b up a
 a broadcast
 b deliver a 1";
 
-/// Steps of two nodes, and the same steps in another order, to which three swaps lead.
+/// Steps of two nodes. Three swaps lead from them to `ONE_AFTER_THE_OTHER`.
 const IN_TURN: &str = "nodes a b
 a join 1 r alice phone
 b join 9 r bob desk
@@ -34,7 +35,7 @@ b join 8 r dora desk
 a join 1 r alice phone
 a join 2 r carl phone";
 
-/// Swaps by place, and what they answer for the steps of one bench and another.
+/// A case: the scripts of two benches, swaps by place, and what `same_cluster` answers.
 struct Swaps {
     name: &'static str,
     one: &'static str,
@@ -63,7 +64,7 @@ const SWAPS: &[Swaps] = &[
         answer: Ok(()),
     },
     Swaps {
-        name: "three swaps, of which the last is of one node",
+        name: "three swaps, of which the last takes the first back",
         one: IN_TURN,
         other: ONE_AFTER_THE_OTHER,
         limits: USUAL,
@@ -152,8 +153,8 @@ const SWAPS: &[Swaps] = &[
     },
 ];
 
-/// The answer, with the first, second, .. request for memory refused alone, until no refusal is met; and how many were
-/// refused.
+/// Asks `same_cluster` with its first, second, .. request for memory refused alone, until no refusal is met. Gives its
+/// answer, and how many requests were refused.
 fn answer_of<'a>(
     one: &Bench<'a, Heap>,
     other: &Bench<'a, Heap>,
@@ -171,8 +172,8 @@ fn answer_of<'a>(
     (Err(SwapFault::OutOfMemory), 9)
 }
 
-/// Compares the bench with the other one, as `answer_of` does. It asks for no memory if the benches are of different
-/// kinds.
+/// Compares `one` with the other bench of the case. This must ask for no memory if names or limits differ, and for some
+/// otherwise.
 fn compare<'a>(one: &Bench<'a, Heap>, swaps: &Swaps, heap: &'a Heap, rt: &impl Abort) {
     let limits = limits_of(swaps.limits, rt);
     let other = played(swaps.other, limits, heap, rt);
@@ -183,6 +184,7 @@ fn compare<'a>(one: &Bench<'a, Heap>, swaps: &Swaps, heap: &'a Heap, rt: &impl A
     holds(rt, (refused == 0) == is_other, swaps.name);
 }
 
+/// Plays the first script of the case, and compares the bench with the other.
 fn compares<'a>(swaps: &Swaps, heap: &'a Heap, rt: &impl Abort) {
     let limits = limits_of(USUAL, rt);
     let one = played(swaps.one, limits, heap, rt);

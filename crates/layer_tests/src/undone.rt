@@ -1,5 +1,5 @@
-//! A node's last step given back, and with it its replica's last change undone, with each request for memory refused in turn.
-//! Two nodes take the steps of a script.
+//! Takes back each step of a node, and so each change of its replica, with each request for memory refused in turn. The
+//! steps are those of a script for two nodes.
 ghost use Rattle.std.specs.Prelude.{◌<◌, IfSome};
 ghost use Rattle.replica_core.specs.Limits.{AreNodeLimits};
 ghost use Rattle.node_core.specs.Inverses.{LeadsSomewhere, plain_inverse};
@@ -12,7 +12,7 @@ use payload_core::Payload;
 use std::process::Abort;
 use test_alloc::Refusing;
 
-/// Steps of each kind, of entries that were sent and that were not.
+/// Steps of each kind, on entries that were sent and on entries that weren't.
 const SCRIPT: &str = "nodes a b
 b join 9 r bob desk
 b broadcast
@@ -59,7 +59,7 @@ fn limits() -> NodeLimits
     }
 }
 
-/// The message of the other node that the step reads.
+/// The message that the step reads, which must be one of `other`; `None` if the step reads none.
 fn message_of<'x, 'a>(
     other: &'x Node<'a, Heap>,
     step: &Step<&'a Heap>,
@@ -68,7 +68,7 @@ fn message_of<'x, 'a>(
     other.outbox().get(number)
 }
 
-/// Takes a step back. Where that is refused, the inverse comes back.
+/// Takes a step back by `inverse`. Gives the inverse again if memory for that is refused, and otherwise `None`.
 fn given_back<'a>(
     node: &mut Node<'a, Heap>,
     inverse: Inverse<&'a Heap>,
@@ -82,8 +82,8 @@ fn given_back<'a>(
     }
 }
 
-/// Takes a step back with this request for memory refused, and then with memory, if that was refused. Says whether it
-/// was.
+/// Takes a step back by `inverse` with request `number` for memory refused, and if that fails, again with memory. Says
+/// whether the first try failed.
 fn gives_back<'a>(
     node: &mut Node<'a, Heap>,
     inverse: Inverse<&'a Heap>,
@@ -105,8 +105,7 @@ fn gives_back<'a>(
     true
 }
 
-/// Has the node take the step, and takes it back with this request for memory refused, and then with memory. Says
-/// whether it was refused.
+/// Takes the step at the node, and takes it back like `gives_back`. Says whether the first try to take it back failed.
 fn steps_and_back<'a>(
     node: &mut Node<'a, Heap>,
     message: Option<&Payload<&'a Heap>>,
@@ -122,8 +121,8 @@ fn steps_and_back<'a>(
     gives_back(node, inverse, number, heap, rt)
 }
 
-/// Has a copy of the node take the step, and takes it back as `steps_and_back` does: the copy is then the same as the
-/// node. Says whether memory was refused.
+/// Like `steps_and_back`, but with a copy of the node, which must then be the same as the node. `other` has the message
+/// that the step reads.
 fn taken_back<'a>(
     node: &Node<'a, Heap>,
     other: &Node<'a, Heap>,
@@ -142,8 +141,8 @@ fn taken_back<'a>(
     is_refused
 }
 
-/// Takes the step back, at a copy of the node, with the first, second, .. request for memory refused, until no refusal
-/// is met. Gives how many were.
+/// Takes the step at a copy of the node, and takes it back with the first, second, .. request for memory refused, each
+/// at a copy of its own, until no refusal is met. Gives how many requests were refused.
 fn refusals<'a>(
     node: &Node<'a, Heap>,
     other: &Node<'a, Heap>,
@@ -161,8 +160,8 @@ fn refusals<'a>(
     50
 }
 
-/// Takes the step back at copies, as `refusals` does, and then has the node take it. Gives how many requests were
-/// refused.
+/// Takes the step and takes it back at copies of the node, like `refusals`, and then takes it at the node. Gives how
+/// many requests were refused.
 fn turn<'a>(
     node: &mut Node<'a, Heap>,
     other: &Node<'a, Heap>,
@@ -178,7 +177,7 @@ fn turn<'a>(
     refusals
 }
 
-/// Has `a` take each step whose actor is node 0, and `b` each other step, as `turn` does. Gives the most requests that
+/// Takes each step whose actor is node 0 at `a`, and each other step at `b`, like `turn`. Gives the most requests that
 /// were refused for one step.
 fn turns<'a>(
     a: &mut Node<'a, Heap>,
@@ -209,7 +208,7 @@ fn a_step_back_that_is_refused_memory_changes_nothing(rt: HostRuntime) {
     holds!(&rt, heap.requests() == 0 && Meter::new().count() == 0);
     heap.refuse_none();
     let most = turns(&mut a, &mut b, &calls, &heap, &rt);
-    holds!(&rt, 0 < most && most < 100);
+    holds!(&rt, 0 < most && most < 50);
     drop(calls);
     drop(b);
     drop(a);

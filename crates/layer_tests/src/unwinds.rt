@@ -1,12 +1,12 @@
-//! The undo of a step with all that follows from it, where memory is refused on the way. Another bench, which makes the undos
-//! that are reported one by one, says what there must be.
+//! Unwinds that are refused memory on the way. A second bench makes the undos that are reported, one by one; the first
+//! bench must be the same as the second after them.
 use crate::benches::{Heap, Pair, are_same, played_twice};
-use crate::rows::holds_at;
+use crate::cases::holds_at;
 use bench_core::{Act, Bench, Fault, Limits, Reply, Unwound};
 use std::process::Abort;
 use test_alloc::Refusing;
 
-/// A join that is sent and delivered, and a join of the node that it came to.
+/// A join that is sent and delivered, and a join of the node that took the delivery.
 const SCRIPT: &str = "nodes a b
 a join 1 r alice phone
 b up a
@@ -15,10 +15,11 @@ b deliver a 1
 b join 9 r bob desk
 ";
 
-/// What follows from step 1.
+/// The future of step 1.
 const FUTURE: [u64; 4] = [5, 4, 3, 1];
 
-/// How many of these steps are reported as undone, and whether these are all; `None` where others are reported.
+/// How many of these steps are reported as undone, and whether all are; 0 if the unwind was refused memory at once, and
+/// `None` for any other answer.
 fn told<'a>(unwound: &Unwound<&'a Heap>, steps: &[u64]) -> Option<(usize, bool)> {
     match unwound {
         Unwound::Done(numbers) if numbers.as_slice() == steps => Some((numbers.len(), true)),
@@ -28,7 +29,7 @@ fn told<'a>(unwound: &Unwound<&'a Heap>, steps: &[u64]) -> Option<(usize, bool)>
     }
 }
 
-/// Unwinds step 1, whose future these steps are. Gives how many were undone, and whether all.
+/// Unwinds step 1, whose future is `steps`. Gives how many were undone, and whether all were.
 fn unwinds<'a>(bench: &mut Bench<'a, Heap>, steps: &[u64], rt: &impl Abort) -> (usize, bool) {
     let unwound = bench.unwind(2, 1);
     let answer = told(&unwound, steps);
@@ -46,8 +47,9 @@ fn undo_each<'a>(bench: &mut Bench<'a, Heap>, steps: &[u64], rt: &impl Abort) {
     }
 }
 
-/// Unwinds step 1 with this request for memory refused, and then the rest with memory. Gives how many steps were undone
-/// first, and whether the request was met: if and only if it was, the unwind is reported as refused or as done in part.
+/// Unwinds step 1 with request `number` for memory refused, and then the rest with memory. Gives how many steps were
+/// undone at first, and whether there was such a request. If and only if there was, the unwind must be reported as
+/// refused or as done in part.
 fn goes_on<'a>(pair: &mut Pair<'a>, number: u64, heap: &'a Heap, rt: &impl Abort) -> (usize, bool) {
     let Pair { bench, other } = pair;
     heap.refuse_only(number);
@@ -67,7 +69,7 @@ fn goes_on<'a>(pair: &mut Pair<'a>, number: u64, heap: &'a Heap, rt: &impl Abort
     (undone, is_met)
 }
 
-/// As `goes_on`, for a new bench.
+/// Like `goes_on`, but on two new benches.
 fn undone_first<'a>(number: u64, heap: &'a Heap, rt: &impl Abort) -> (usize, bool) {
     let mut pair = played_twice(SCRIPT, Limits::usual(), heap, rt);
     let answer = goes_on(&mut pair, number, heap, rt);

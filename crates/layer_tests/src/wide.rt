@@ -5,11 +5,12 @@ use std::process::Abort;
 use test_alloc::Refusing;
 
 /// The first lines of the script: 32 nodes, and an up of the first at the second, which takes every second message of
-/// the first. So its cloud has 65 clocks.
+/// the first. So the second node's cloud of the first name has 65 clocks.
 const HEAD: &str =
     "nodes a b c d e f g h i j k l m n o p q r s t u v w x y z aa ab ac ad ae af\nb up a";
 
-/// The first node joins 130 processes, and sends each alone; what it does after that it hasn't sent.
+/// The script: the first node joins 130 processes and sends each alone, and the second node takes every second of these
+/// messages. A last join of the first node isn't sent.
 pub fn script<'a>(heap: &'a Heap, rt: &impl Abort) -> String<&'a Heap> {
     let mut text = String::new(heap);
     text.push_str(HEAD).expect(rt, "memory");
@@ -24,7 +25,7 @@ pub fn script<'a>(heap: &'a Heap, rt: &impl Abort) -> String<&'a Heap> {
     text
 }
 
-/// Whether a copy of the node is the same; none where it is refused memory.
+/// Whether a copy of the node is the same; `None` if it is refused memory.
 fn is_node_copied<'a>(node: &Node<'a, Heap>) -> Option<bool> {
     match node.try_copy() {
         Ok(copy) => {
@@ -36,7 +37,7 @@ fn is_node_copied<'a>(node: &Node<'a, Heap>) -> Option<bool> {
     }
 }
 
-/// As `is_node_copied`, for a history.
+/// Like `is_node_copied`, but for a history.
 fn is_history_copied<'a>(history: &History<'a, Heap>) -> Option<bool> {
     match history.try_copy() {
         Ok(copy) => {
@@ -48,8 +49,8 @@ fn is_history_copied<'a>(history: &History<'a, Heap>) -> Option<bool> {
     }
 }
 
-/// Whether a copy of the node with this request for memory refused met the refusal. If and only if it did, there is no
-/// copy.
+/// Copies the node with request `number` for memory refused, and says whether there was such a request. If so,
+/// there must be no copy, and otherwise one that is the same.
 fn node_is_refused<'a>(
     node: &Node<'a, Heap>,
     number: u64,
@@ -64,7 +65,7 @@ fn node_is_refused<'a>(
     is_met
 }
 
-/// As `node_is_refused`, for a history.
+/// Like `node_is_refused`, but for a history.
 fn history_is_refused<'a>(
     history: &History<'a, Heap>,
     number: u64,
@@ -79,7 +80,8 @@ fn history_is_refused<'a>(
     is_met
 }
 
-/// Copies the node with the first, second, .. request refused, until no refusal is met. Gives how many were refused.
+/// Copies the node with the first, second, .. request for memory refused, until no refusal is met. Gives how many
+/// requests were refused, or 2,000 if each of the first 1,999 was.
 fn node_copies<'a>(node: &Node<'a, Heap>, heap: &'a Heap, rt: &impl Abort) -> u64 {
     for number in 1..2_000 {
         if !node_is_refused(node, number, heap, rt) {
@@ -89,7 +91,7 @@ fn node_copies<'a>(node: &Node<'a, Heap>, heap: &'a Heap, rt: &impl Abort) -> u6
     2_000
 }
 
-/// As `node_copies`, for a history.
+/// Like `node_copies`, but for a history.
 fn history_copies<'a>(history: &History<'a, Heap>, heap: &'a Heap, rt: &impl Abort) -> u64 {
     for number in 1..2_000 {
         if !history_is_refused(history, number, heap, rt) {
@@ -99,8 +101,8 @@ fn history_copies<'a>(history: &History<'a, Heap>, heap: &'a Heap, rt: &impl Abo
     2_000
 }
 
-/// Copies the first two nodes and the history as `node_copies` and `history_copies` do: some requests are refused, but
-/// not all.
+/// Copies the first two nodes and the history, like `node_copies` and `history_copies`. Of each, the first try must be
+/// refused, and one of the first 1,999 must succeed.
 fn copies<'a>(bench: &Bench<'a, Heap>, heap: &'a Heap, rt: &impl Abort) {
     for number in 0..2 {
         let node = bench.node(number).expect(rt, "a node");
@@ -111,7 +113,8 @@ fn copies<'a>(bench: &Bench<'a, Heap>, heap: &'a Heap, rt: &impl Abort) {
     holds!(rt, 0 < refused && refused < 2_000);
 }
 
-/// Whether the second node's steps, which all follow from its first, are undone together.
+/// Unwinds step 1, the second node's up. Says whether all 66 steps of that node are undone: step 1, and the 65
+/// deliveries that follow from it.
 fn unwinds_many<'a>(bench: &mut Bench<'a, Heap>) -> bool {
     match bench.unwind(40, 1) {
         Unwound::Done(numbers) => {
@@ -123,6 +126,7 @@ fn unwinds_many<'a>(bench: &mut Bench<'a, Heap>) -> bool {
     }
 }
 
+/// Plays the script, copies nodes and history, and unwinds a step.
 fn plays<'a>(script: &str, heap: &'a Heap, rt: &impl Abort) {
     let mut bench = played(script, Limits::usual(), heap, rt);
     holds!(rt, bench.history().len() == 327);

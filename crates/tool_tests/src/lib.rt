@@ -1,16 +1,20 @@
-//! Tests of the crates that make a tool of the machine, by their public calls alone, in a crate of their own, so that those are
-//! proved once. They test what no clause states and no case of `example_tests` can: what refused memory leaves, and how streams
-//! and threads are used. In the order to read them: `scripts`, calls of scripts; `streams`, from bytes to bytes; `sessions`,
-//! how they are carried; `prompted`, a prompt; `workers`, races; `program`, what words choose, and how the program ends. `rows`
-//! has the assertions of loops over tables.
+//! Tests of the crates that make a tool of the machine (`script_core`, `session_core`, `prompt_core`, `worker_core`,
+//! `command_line` and `program_core`), by their public calls alone. They stand in a crate of their own, so that those
+//! crates are proved once. They test what no clause states and no case of `example_tests` can: what refused memory
+//! leaves, and how streams and threads are used. A test drops large values by name before it ends or asserts, for the
+//! check alone: ways out with many live values are costly.
+//!
+//! The modules in reading order: `cases`, the assertions of loops over tables; `scripts`, texts of faults; `streams`,
+//! how input is read and reports are written; `sessions`, how sessions are carried to the latest version; `prompted`, a
+//! prompt; `workers`, races; `program`, words that choose nothing, what the program tells, and how it ends.
 #![tactic(auto)]
 
+#[cfg(test)]
+mod cases;
 #[cfg(test)]
 mod program;
 #[cfg(test)]
 mod prompted;
-#[cfg(test)]
-mod rows;
 #[cfg(test)]
 mod scripts;
 #[cfg(test)]

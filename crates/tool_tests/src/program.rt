@@ -1,5 +1,6 @@
-//! Why words choose nothing; and what the program does where it can't write, or is refused memory. What words choose, what it
-//! prints and its statuses are cases of `example_tests`.
+//! Why words choose nothing; what the program does if it can't write, or is refused memory; what it tells of long work;
+//! and a race, with the status of its faults, `OutOfMemory` apart. What words choose, what the program prints and its
+//! other statuses are cases of `example_tests`.
 use clap::error::ErrorKind;
 use command_line::choice;
 use program_core::{Fault, program, run};
@@ -16,11 +17,11 @@ const JOINED: &str = "nodes a b\na join 1 r alice phone\na undo 1\n";
 
 const REPORT: &str = "1 ok\n+ r alice a/1 phone\nundone 1\n- r alice a/1 phone\n";
 
-/// A saved play of one script.
+/// The session of `JOINED`.
 const SESSION: &str = "{\"acts\":[[0,[\"do\",\"join\",1,\"r\",\"alice\",\"phone\"],[\"ok\",1]],\
 [0,[\"undo\",1],[\"undone\",1]]],\"limits\":[100000,10000,1000000,10000],\"nodes\":[\"a\",\"b\"],\"version\":2}\n";
 
-/// Words that choose nothing, and why.
+/// Cases: words that choose nothing, and why.
 const REFUSED: &[(&[&str], ErrorKind)] = &[
     (&[], ErrorKind::MissingSubcommand),
     (&["jump"], ErrorKind::InvalidSubcommand),
@@ -74,8 +75,8 @@ fn other_words_are_refused(rt: HostRuntime) {
     }
 }
 
-/// The status with which the program ends, and what it wrote to its output and to its errors. Each of these is a writer
-/// with this much room.
+/// Runs the program. Gives its status, and the writers of its output and of its errors. `rooms` has how many bytes each
+/// writer takes.
 fn ended<T: Threads + Wait + Sync + Abort, B: Allocator + Sync>(
     heap: Global,
     alloc: &B,
@@ -101,7 +102,7 @@ fn ended<T: Threads + Wait + Sync + Abort, B: Allocator + Sync>(
     (status, writer, errors)
 }
 
-/// Words, an input, and the status where nothing can be written.
+/// Cases: words, an input, and the status if nothing can be written.
 const UNWRITTEN: &[(&[&str], &str, u8)] = &[
     (&["play"], "nodes", 1),
     (&["jump"], "", 2),
@@ -110,7 +111,7 @@ const UNWRITTEN: &[(&[&str], &str, u8)] = &[
     (&["--help"], "", 3),
 ];
 
-/// Whether the program ends with this status and has written nothing, where nothing can be written.
+/// Whether the program ends with this status and has written nothing, if nothing can be written.
 fn ends_unwritten<T: Threads + Wait + Sync + Abort>(
     heap: Global,
     words: &[&str],
@@ -133,7 +134,7 @@ fn a_status_stands_where_its_line_cannot_be_written(rt: HostRuntime) {
     }
 }
 
-/// Words that the errors report, and words that ask for help, each with the status.
+/// Cases: words that are refused or ask for help, and the status.
 const TOLD: &[(&[&str], u8)] = &[
     (&["jump"], 2),
     (&["play", "x"], 2),
@@ -141,8 +142,8 @@ const TOLD: &[(&[&str], u8)] = &[
     (&["play", "--help"], 0),
 ];
 
-/// Whether the program ends with this status without reading its input, and writes to its errors alone, or, if it
-/// prints help, to its output alone.
+/// Whether the program ends with this status and reads no input. Refused words must be told on its errors alone, and
+/// help printed on its output alone.
 fn tells_words<T: Threads + Wait + Sync + Abort>(
     heap: Global,
     words: &[&str],
@@ -195,7 +196,7 @@ at b
 - r alice a/1 phone
 ";
 
-/// Each step, two refusals and a step back.
+/// A session of each step, two refusals and a back.
 const EVERY_ACT: &str = concat!(
     r#"{"acts":[[0,["do","join",1,"r","alice","phone"],["ok",1]],"#,
     r#"[0,["do","join",1,"s","bob","desk"],["ok",2]],"#,
@@ -217,7 +218,7 @@ const EVERY_ACT: &str = concat!(
     "\n"
 );
 
-/// A bench of one node, with one join.
+/// A session of one node, with one join.
 const ALONE: &str = "{\"acts\":[[0,[\"do\",\"join\",1,\"r\",\"alice\",\"phone\"],[\"ok\",1]]],\
 \"limits\":[10,10,10,10],\"nodes\":[\"a\"],\"version\":2}";
 
@@ -247,7 +248,7 @@ const ALONE_DRAWN: &str = concat!(
     r#"</svg></svg>"#
 );
 
-/// A delivery that the network could have made before its sender was known; it would then have brought nothing.
+/// A delivery that the network could have made before its sender was known. It would then have brought nothing.
 const ONE_DELIVERY: &str =
     "nodes a b\na join 1 r alice phone\na broadcast\nb up a\nb deliver a 1\n";
 
@@ -267,7 +268,7 @@ const LOGGED: &str = concat!(
 const LOGGED_SCRIPT: &str =
     "nodes a b\na join 0 r alice phone\na broadcast\nb deliver a 1\nshow b\n";
 
-/// Words, an input, and what the program prints for it.
+/// Cases: words, an input, and what the program prints for it.
 const ANSWERED: &[(&[&str], &str, &str)] = &[
     (&["play"], UNWOUND, UNWOUND_REPORT),
     (&["play", "--as", "session"], JOINED, SESSION),
@@ -286,8 +287,9 @@ const ANSWERED: &[(&[&str], &str, &str)] = &[
     ),
 ];
 
-/// Runs the program with this request for memory refused: it prints all, or prints nothing and says so. Gives whether
-/// the request was met, and whether the program ended early.
+/// Runs the program with request `number` for memory refused: it must either print all and end with status 0, or print
+/// nothing, say that it was out of memory and end with status 4. Gives whether there was such a request, and whether
+/// the program ended early.
 fn refused<T: Threads + Wait + Sync + Abort>(
     rt: &T,
     global: Global,
@@ -313,13 +315,15 @@ fn refused<T: Threads + Wait + Sync + Abort>(
     (is_met, status == 4)
 }
 
-/// Runs the program with each request for memory refused in turn, and gives how often it ended early.
+/// Runs the program with each request for memory refused in turn, and gives how often it ended early; 0 if it makes
+/// 9,999 requests or more.
 fn early_ends<T: Threads + Wait + Sync + Abort>(
     rt: &T,
     global: Global,
     heap: &Refusing<Global>,
     answered: (&[&str], &str, &str),
 ) -> u64 {
+    // form: saturating spares a requirement
     let mut ended_early = 0u64;
     for number in 1..10_000 {
         let (is_met, is_early) = refused(rt, global, heap, answered, number);
@@ -332,7 +336,7 @@ fn early_ends<T: Threads + Wait + Sync + Abort>(
 }
 
 #[test]
-fn want_of_memory_prints_nothing(rt: HostRuntime) {
+fn refused_memory_prints_nothing(rt: HostRuntime) {
     let heap = Refusing::new(rt.alloc());
     for answered in ANSWERED {
         assert!(rt; 10 <= early_ends(&rt, rt.alloc(), &heap, *answered));
@@ -354,8 +358,8 @@ b up a\n\
 b deliver a 1\n\
 b deliver a 2\n";
 
-/// By how many milliseconds the clock is later at each look, how much room the errors have, and what is printed there.
-/// The program looks at the clock once, and then at each sixteenth change.
+/// Cases: by how many milliseconds the clock is later at each look, how many bytes the writer of the errors takes, and
+/// what is printed there. The program looks at the clock once, and then at each sixteenth change.
 const WORKED: &[(u64, usize, &str)] = &[
     (
         1000,
@@ -372,7 +376,7 @@ presence_bench: 48 of 79 changes tried\npresence_bench: 64 of 79 changes tried\n
     (1000, 20, "presence_bench: 16 o"),
 ];
 
-/// Whether long work prints this of how far it has come, and ends well.
+/// Whether the program, at long work, writes this to its errors, and ends with status 0.
 fn tells_work<T: Threads + Wait + Sync + Abort>(
     heap: Global,
     worked: (u64, usize, &str),
@@ -407,14 +411,14 @@ fn long_work_tells_how_far_it_has_come(rt: HostRuntime) {
     }
 }
 
-/// How many replies the report has.
+/// How many replies to steps the report has: lines that end with ` ok`, and refusals.
 fn replies_of(report: &[u8]) -> usize {
     let report = str::from_utf8(report).unwrap_or("");
     let is_reply = |line: &&str| line.ends_with(" ok") || line.starts_with("no ");
     report.lines().filter(is_reply).count()
 }
 
-/// What the program writes, if it ends well and writes nothing to its errors.
+/// What the program writes to its output. It must end with status 0, and write nothing to its errors.
 fn printed<T: Threads + Wait + Sync + Abort>(
     heap: Global,
     words: &[&str],
@@ -430,7 +434,7 @@ fn printed<T: Threads + Wait + Sync + Abort>(
     writer
 }
 
-/// A race asks lines of two nodes in whatever order: its session has an event for each line.
+/// A race asks the lines of two nodes in whatever order, and its session has an event for each line.
 #[test]
 fn a_race_is_saved_and_loads_again(rt: HostRuntime) {
     let script = b"nodes a b\na join 1 r alice phone\nb up a\na broadcast\nb deliver a 1\n";
@@ -442,7 +446,7 @@ fn a_race_is_saved_and_loads_again(rt: HostRuntime) {
     assert!(rt; count == 4);
 }
 
-/// The status and the line of each fault of a race.
+/// Cases: a fault of a race, the status, and the fault's line.
 const RACE_FAULTS: &[(RaceFault, u8, &str)] = &[
     (RaceFault::UnknownActor, 1, "race: UnknownActor"),
     (RaceFault::NoRoom, 1, "race: NoRoom"),
@@ -461,7 +465,7 @@ fn the_faults_of_a_race_have_their_status(rt: HostRuntime) {
     }
 }
 
-/// The words of the tests' own command line choose nothing.
+/// `run` reads the words of the tests' own command line, which choose nothing.
 #[test]
 fn run_ends_with_the_status(rt: HostRuntime) {
     let code = run(&rt, &rt).report(&rt);

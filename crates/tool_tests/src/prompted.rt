@@ -1,6 +1,6 @@
-//! A prompt answers each line before it reads the next, also where memory is refused. What it prints are cases of
+//! A prompt answers each line before it reads the next, also if memory is refused. What it prints is tested by cases of
 //! `example_tests`.
-use crate::rows::holds_at;
+use crate::cases::holds_at;
 use bench_core::Limits;
 use prompt_core::{PromptFault, step};
 use script_core::{FakeReader, FakeWriter};
@@ -12,7 +12,7 @@ use test_alloc::Refusing;
 const HELP: &str = "the lines";
 
 /// A prompt answers each line that was read, and flushes the answer, before a read fails. It doesn't answer a line
-/// without its end.
+/// whose end wasn't read.
 #[test]
 fn lines_are_answered_before_a_read_fault(rt: HostRuntime) {
     let alloc = rt.alloc();
@@ -29,7 +29,7 @@ fn lines_are_answered_before_a_read_fault(rt: HostRuntime) {
 
 const ANSWERED: &str = "nodes a\na join 1 r alice phone\n:save\na undo x\nshow a\n";
 
-/// The answers to the lines.
+/// The answers to the lines of `ANSWERED`.
 const ANSWERS: &[&str] = &[
     "",
     "1 ok\n+ r alice a/1 phone\n",
@@ -39,7 +39,7 @@ const ANSWERS: &[&str] = &[
     "online a 1\n= r alice a/1 phone\n",
 ];
 
-/// Whether the text has the answers to the first lines, and whether it has those to all.
+/// Whether the text is the answers to the first lines, perhaps to none, and whether it is the answers to all lines.
 fn are_answers(heap: Global, text: &[u8], rt: &impl Abort) -> (bool, bool) {
     let mut printed = String::new(heap);
     let mut are_first = text.is_empty();
@@ -52,8 +52,8 @@ fn are_answers(heap: Global, text: &[u8], rt: &impl Abort) -> (bool, bool) {
     (are_first, are_all)
 }
 
-/// How a prompt ends with this request for memory refused, whether it met the refusal, and whether the lines before it
-/// have their answers and no others went out.
+/// Runs a prompt with request `number` for memory refused. Gives how it ends; whether there was such a request; and
+/// whether what went out is the answers to the first lines, or to all lines if there was no such request.
 fn answered_without(
     heap: Global,
     refusing: &Refusing<Global>,
@@ -65,7 +65,7 @@ fn answered_without(
     let mut reader = BufReader::new(heap, reader).expect(rt, "memory");
     let mut writer = FakeWriter::new(heap, 1_000);
     let limits = Limits::usual();
-    let answer = step(heap, &refusing, &mut reader, &mut writer, limits, HELP);
+    let answer = step(heap, refusing, &mut reader, &mut writer, limits, HELP);
     let is_met = number <= refusing.requests();
     let (are_first, are_all) = are_answers(heap, writer.taken(), rt);
     drop(writer);
@@ -74,7 +74,7 @@ fn answered_without(
 }
 
 #[test]
-fn want_of_memory_is_told_after_what_was_answered(rt: HostRuntime) {
+fn refused_memory_is_told_after_what_was_answered(rt: HostRuntime) {
     let heap = Refusing::new(rt.alloc());
     let mut count = 0u64;
     for number in 1..10_000 {

@@ -1,5 +1,5 @@
-//! The texts of faults that no input makes.
-use crate::rows::holds;
+//! The texts of those faults of a play that no input makes.
+use crate::cases::holds;
 use script_core::{FaultKind, PlayFault, ScriptFault};
 use std::alloc::Global;
 use std::process::Abort;
@@ -16,14 +16,14 @@ const FAULTS: &[(PlayFault, &str)] = &[
     (PlayFault::OutOfMemory, "out of memory"),
 ];
 
-/// Whether this is the text of the fault.
+/// Whether `text` is the text of the fault.
 fn is_told_as(rt: &impl Abort, heap: Global, fault: PlayFault, text: &str) -> bool {
     let told = format!(in heap; "{fault}").expect(rt, "memory");
     told.as_str() == text
 }
 
 #[test]
-fn want_of_memory_has_its_text(rt: HostRuntime) {
+fn refused_memory_has_its_text(rt: HostRuntime) {
     for (fault, text) in FAULTS {
         holds(&rt, is_told_as(&rt, rt.alloc(), *fault, text), text);
     }

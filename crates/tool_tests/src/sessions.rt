@@ -1,4 +1,4 @@
-//! Sessions of either version, of many calls, are carried to the latest one.
+//! Sessions of many calls, of either version, are carried to the latest version.
 use session_core::carry;
 use std::alloc::Global;
 use std::process::Abort;
@@ -18,7 +18,7 @@ fn session(heap: Global, version: u8, rt: &impl Abort) -> String {
     text
 }
 
-/// Whether the session in this version is carried to the one in the second.
+/// Whether the session in this version is carried to the same session in version 2.
 fn is_carried(heap: Global, version: u8, rt: &impl Abort) -> bool {
     let text = session(heap, version, rt);
     let latest = session(heap, 2, rt);

@@ -1,5 +1,5 @@
 //! How input is read and reports are written.
-use crate::rows::{holds, holds_at};
+use crate::cases::{holds, holds_at};
 use bench_core::Limits;
 use script_core::{
     FakeReader, FakeWriter, InputFault, PlayFault, WriteFault, play, read_input, write_out,
@@ -9,13 +9,12 @@ use std::io;
 use std::io::{ErrorKind, Read, Write};
 use std::process::Abort;
 
-/// A join, and its undo.
+/// A join, its undo, and a list.
 const SCRIPT: &str = "nodes a b\nconsoles c1\na join 1 r alice phone\na undo 1\nshow a\n";
 
 const REPORT: &str = "1 ok\n+ r alice a/1 phone\nundone 1\n- r alice a/1 phone\nonline a 0\n";
 
-/// Reads `abc` with this limit. Whether it reads it all, or meets this fault; and whether it makes no more than `calls`
-/// calls.
+/// Whether a read of `abc` with this limit on bytes gives all of it, or this fault, and makes at most `calls` calls.
 fn is_read(
     rt: &impl Abort,
     heap: Global,
@@ -32,7 +31,7 @@ fn is_read(
     is_so && reader.calls() <= calls
 }
 
-/// How much is read at most, in how many calls, and the fault, if there is one.
+/// Cases: the limit on bytes, the most calls, and the fault, if there is one.
 const READS: &[(usize, usize, Option<InputFault>)] = &[
     (4, 6, None),
     (3, 5, None),
@@ -48,7 +47,8 @@ fn input_is_read_whole_or_refused(rt: HostRuntime) {
     }
 }
 
-/// Whether a play from this reader gives a failed read, after `calls` calls, and writes nothing.
+/// Whether a play from this reader ends with `ReadFault`, after `calls` calls unless `calls` is `None`, and writes
+/// nothing.
 fn fails_to_read(heap: Global, mut reader: FakeReader, calls: Option<usize>) -> bool {
     let mut writer = FakeWriter::new(heap, 1000);
     let answer = play(&heap, &mut reader, &mut writer, Limits::usual());
@@ -69,7 +69,7 @@ fn a_failed_read_is_not_tried_again(rt: HostRuntime) {
     }
 }
 
-/// Has a read of the script fail after each number of its first bytes.
+/// Lets a read of the script fail after none of its bytes, after one, and so on up to all.
 #[test]
 fn a_read_that_fails_at_any_byte_is_told(rt: HostRuntime) {
     let script = SCRIPT.as_bytes();
@@ -79,7 +79,7 @@ fn a_read_that_fails_at_any_byte_is_told(rt: HostRuntime) {
     }
 }
 
-/// Whether the report goes out if the writer takes at most `most` bytes at once.
+/// Whether the whole report goes out if the writer takes at most `most` bytes at once.
 fn goes_out_in_parts(heap: Global, most: usize) -> bool {
     let mut reader = FakeReader::ending(SCRIPT.as_bytes());
     let mut writer = FakeWriter::taking(heap, most);
@@ -93,7 +93,8 @@ fn a_report_goes_out_in_parts(rt: HostRuntime) {
     assert!(rt; goes_out_in_parts(rt.alloc(), 3));
 }
 
-/// Whether a play whose writer fails after `most` bytes reports that number, and these bytes begin the report.
+/// Whether a play whose writer fails after `most` bytes reports that number, or succeeds if the report isn't longer;
+/// and the bytes that went out are the first `most` of the report.
 fn is_written_up_to(heap: Global, mut writer: FakeWriter, most: usize) -> bool {
     let report = REPORT.as_bytes();
     let mut reader = FakeReader::ending(SCRIPT.as_bytes());
@@ -118,7 +119,7 @@ fn a_write_that_fails_at_any_byte_tells_what_went_out(rt: HostRuntime) {
     assert!(rt; is_written_up_to(rt.alloc(), writer, 7));
 }
 
-/// Whether a write of `abc` with room for two bytes reports two as written, and a write of no bytes succeeds.
+/// Whether a write of `abc` to a writer that takes two bytes reports two as written, and a write of no bytes succeeds.
 fn is_written_in_part(heap: Global) -> bool {
     let mut writer = FakeWriter::new(heap, 2);
     write_out(&mut writer, b"abc") == Err(WriteFault { written: 2 })
@@ -143,6 +144,7 @@ impl Write for Stalling {
     ghost contents = { λ _. None };
 
     fn write(&mut self, buf: &[u8]) -> io::Result<usize> {
+        // form: saturating spares a requirement
         self.calls = self.calls.saturating_add(1);
         if self.calls > 1 {
             return Ok(buf.len());
@@ -180,7 +182,7 @@ enum Answer {
     Interrupted,
 }
 
-/// A reader that gives one answer at each call, and then ends. If it is read after an end, it goes on.
+/// A reader that gives the next answer at each call, and then ends. Read again after an `End`, it goes on.
 #[derive(Drop)]
 struct Answering {
     answers: &'static [Answer],
@@ -194,6 +196,7 @@ impl Read for Answering {
 
     fn read(&mut self, buf: &mut [u8]) -> io::Result<usize> {
         let answer = self.answers.get(self.calls);
+        // form: saturating spares a requirement
         self.calls = self.calls.saturating_add(1);
         match answer {
             Some(Answer::Interrupted) => Err(io::Error::from(ErrorKind::Interrupted)),
@@ -210,7 +213,7 @@ const A: Answer = Answer::Byte(b'a');
 
 const B: Answer = Answer::Byte(b'b');
 
-/// What a reader answers, what is read of that, if no read fails, and in how many calls.
+/// Cases: what a reader answers; what is read of that, or `None` if a read fails; and in how many calls.
 const ANSWERED: &[(&[Answer], Option<&str>, usize)] = &[
     (&[A, B], Some("ab"), 3),
     (&[A, Answer::End, B], Some("a"), 2),
@@ -219,7 +222,7 @@ const ANSWERED: &[(&[Answer], Option<&str>, usize)] = &[
     (&[A, Answer::Interrupted, B], None, 2),
 ];
 
-/// Whether `expected` is read of the answers, in `calls` calls.
+/// Whether `expected` is read of these answers, in `calls` calls.
 fn reads_answers(
     heap: Global,
     answers: &'static [Answer],

@@ -4,10 +4,10 @@ use std::thread;
 use std::time::{Clock, Duration};
 use worker_core::Gate;
 
-/// How often a gate looks again, a millisecond apart, before it gives up.
+/// How often a gate looks whether enough lines have passed, a millisecond apart, before it gives up.
 const TURNS: u32 = 10_000;
 
-/// The most lines that an order has.
+/// The most lines that an order may have.
 const LINES: usize = 8;
 
 /// A gate whose calls return at once.
@@ -19,16 +19,16 @@ impl Gate for Idle {
     fn after(&self, _actor: u16, _line: u64) {}
 }
 
-/// A gate that lets lines pass in a given order: before a line it waits until the line before it in that order has passed. It
-/// counts its calls for each line, those that name another actor, and those in which it gave up.
+/// A gate that lets lines pass in a given order: it holds a line until the line before it in that order has passed. It
+/// counts its calls for each line, and its calls that name another actor than the line's, and notes whether it gave up.
 #[derive(Drop)]
 pub struct InOrder<R> {
     rt: R,
     order: &'static [u64],
-    /// The actor of each line.
+    /// The actor of each line, beginning with line 1.
     actors: &'static [u16],
-    /// After this line, too, the gate waits until the next line in the order has passed. So the bench can't be locked
-    /// there.
+    /// The line after which the gate waits, too, until the next line in the order has passed. That shows that the bench
+    /// isn't locked while the gate waits. 0, no line's number, if it waits after none.
     stays: u64,
     passed: AtomicU64,
     strangers: AtomicU64,
@@ -66,7 +66,7 @@ impl<R: Clock> InOrder<R> {
         }
     }
 
-    /// Whether each line of the order passed once, under its own actor, without giving up.
+    /// Whether each line of the order passed once, under its own actor, and the gate didn't give up.
     pub fn has_passed_each_once(&self) -> bool {
         let lines = self.order.len();
         self.given_up.load(Ordering::SeqCst) == 0
@@ -75,19 +75,20 @@ impl<R: Clock> InOrder<R> {
             && are_once(&self.afters, lines)
     }
 
-    /// How many lines stand before this one in the order.
+    /// How many lines come before `line` in the order; the length of the order if `line` isn't in it.
     fn place(&self, line: u64) -> u64 {
         let mut place = 0u64;
         for other in self.order {
             if *other == line {
                 break;
             }
+            // form: saturating spares a requirement
             place = place.saturating_add(1);
         }
         place
     }
 
-    /// Waits until `lines` lines have passed.
+    /// Waits until `lines` lines have passed, or gives up.
     fn wait_for(&self, lines: u64) {
         for _ in 0..TURNS {
             if lines <= self.passed.load(Ordering::SeqCst) {
@@ -98,8 +99,9 @@ impl<R: Clock> InOrder<R> {
         self.given_up.store(1, Ordering::SeqCst);
     }
 
-    /// Counts the call if it names another actor than the line's.
+    /// Counts the call among `strangers` if it names another actor than the line's.
     fn note(&self, actor: u16, line: u64) {
+        // form: lines are from 1; saturating spares a requirement that says so
         if self.actors.get(line.saturating_sub(1) as usize) != Some(&actor) {
             self.strangers.fetch_add(1, Ordering::SeqCst);
         }
@@ -113,15 +115,17 @@ fn are_once(counts: &[AtomicU64; LINES], lines: usize) -> bool {
     for count in counts.as_slice() {
         let expected = u64::from(left > 0);
         are_so = are_so && count.load(Ordering::SeqCst) == expected;
+        // once `left` is 0, it stays 0
         left = left.saturating_sub(1);
     }
     are_so
 }
 
-/// Counts one more call for this line, from 1.
+/// Counts one more call for this line. Lines are numbered from 1; a line above `LINES` isn't counted.
 fn count(counts: &[AtomicU64; LINES], line: u64) {
     let mut number = 0u64;
     for count in counts.as_slice() {
+        // form: saturating spares a requirement
         number = number.saturating_add(1);
         if number == line {
             count.fetch_add(1, Ordering::SeqCst);
@@ -141,6 +145,7 @@ impl<R: Clock> Gate for InOrder<R> {
         self.note(actor, line);
         self.passed.fetch_add(1, Ordering::SeqCst);
         if line == self.stays {
+            // form: saturating spares a requirement
             self.wait_for(self.place(line).saturating_add(2));
         }
     }

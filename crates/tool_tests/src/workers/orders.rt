@@ -1,4 +1,5 @@
-//! Consoles that undo against running nodes in orders that a gate fixes, and altered receipts of such a race.
+//! Consoles that undo while nodes run, in orders that a gate fixes; altered receipts of such a race; and histories with
+//! another beginning.
 use crate::workers::gates::{Idle, InOrder};
 use crate::workers::lines::{let_go_of_lines, lines_of, open};
 use crate::workers::races::{Left, agree_with_none, agrees, raced, raced_on};
@@ -21,10 +22,11 @@ b deliver a 1
 c1 undo 3
 ";
 
-/// The actor of each of its lines.
+/// The actor of each line of `UNDONE_BESIDE`.
 pub const ACTORS: &[u16] = &[0, 1, 0, 1, 2];
 
-/// An order of its lines, their replies in that order, and how many entries node `b` has then.
+/// A case: an order of the lines of `UNDONE_BESIDE`, their replies in that order, and how many entries node `b` has
+/// then.
 struct Order {
     lines: &'static [u64],
     replies: [Reply; 5],
@@ -90,6 +92,7 @@ fn is_told<'a, B: Allocator>(
     lines: &[(u16, Act<&'a B>)],
 ) -> bool {
     let mut is_so = bench.history().len() == order.lines.len();
+    // form: saturating spares a requirement
     let mut place = 0usize;
     for line in order.lines {
         if let (Some(event), Some((actor, act)), Some(reply)) = (
@@ -112,7 +115,7 @@ fn entries_of<'a, B: Allocator>(bench: &Bench<'a, B>, number: u16, rt: &impl Abo
     node.replica().entries().len()
 }
 
-/// Whether the bench gave the order's replies, and has as many entries as the order says.
+/// Whether the bench gave the order's replies, and node `b` has as many entries as the order says.
 fn is_left_so<'a>(
     bench: &Bench<'a, Global>,
     order: &Order,
@@ -125,7 +128,8 @@ fn is_left_so<'a>(
     is_so && entries_of(bench, 1, rt) == order.entries
 }
 
-/// Whether a race in this order gives its replies, and leaves as many entries as it says.
+/// Whether a race in this order gives the replies of the order, leaves node `b` with as many entries as the order says,
+/// and lets each line pass the gate once.
 fn is_raced_so<R: Threads + Wait + Clock + Abort + Sync + Copy>(
     rt: &R,
     heap: &Global,
@@ -145,7 +149,7 @@ fn consoles_undo_beside_running_nodes(rt: HostRuntime) {
     }
 }
 
-/// More lines, of both nodes.
+/// Eight lines, of both nodes.
 const EIGHT_LINES: &str = "\
 nodes a b
 a join 1 r alice phone
@@ -166,7 +170,7 @@ fn each_line_passes_the_gate_under_its_actor(rt: HostRuntime) {
     assert!(rt; gate.has_passed_each_once());
 }
 
-/// What is changed of the receipts.
+/// What is changed in the receipts of a race.
 #[derive(Clone, Copy)]
 enum Alteration {
     Nothing,
@@ -193,7 +197,7 @@ const ALTERATIONS: &[Alteration] = &[
     Alteration::NoPlace,
 ];
 
-/// The last receipt of an actor, again.
+/// A copy of the last receipt.
 fn last_again<'a, B: Allocator>(receipts: &[Receipt<&'a B>], rt: &impl Abort) -> Receipt<&'a B> {
     let last = receipts.last().expect(rt, "a receipt");
     Receipt {
@@ -205,7 +209,8 @@ fn last_again<'a, B: Allocator>(receipts: &[Receipt<&'a B>], rt: &impl Abort) ->
     }
 }
 
-/// Makes an alteration in an actor's list of receipts: of the whole list, or else of its first receipt.
+/// Makes the alteration in one actor's list of receipts: drops or doubles the last receipt, exchanges the only two, or
+/// else alters the first.
 fn alter_list<'a, B: Allocator>(
     alteration: Alteration,
     list: &mut Vec<Receipt<&'a B>, &'a B>,
@@ -228,7 +233,7 @@ fn alter_list<'a, B: Allocator>(
     }
 }
 
-/// Alters a receipt of a line, at place 1.
+/// Alters the receipt of line 1, whose place is 1.
 fn alter_receipt<A: Allocator>(alteration: Alteration, receipt: &mut Receipt<A>) {
     match alteration {
         Alteration::Line => receipt.line = 2,
@@ -240,7 +245,8 @@ fn alter_receipt<A: Allocator>(alteration: Alteration, receipt: &mut Receipt<A>)
     }
 }
 
-/// Alters the receipts of node `a`, of its lines 1 and 3.
+/// Alters the receipts of node `a`, which are those of lines 1 and 3. `OneMoved` moves the last of them to the list of
+/// node `b`.
 fn alter<'a, B: Allocator>(alteration: Alteration, lists: &mut Receipts<&'a B>, rt: &impl Abort) {
     let list = lists.get_mut(0).expect(rt, "a list");
     if let Alteration::OneMoved = alteration {
@@ -252,7 +258,7 @@ fn alter<'a, B: Allocator>(alteration: Alteration, lists: &mut Receipts<&'a B>, 
     }
 }
 
-/// What a race in the order of the lines leaves.
+/// Races the lines of `UNDONE_BESIDE` in their order, and gives the bench and the receipts.
 fn raced_in_turn<'a, R: Threads + Wait + Clock + Abort + Sync + Copy>(
     heap: &'a Global,
     rt: &R,
@@ -262,7 +268,7 @@ fn raced_in_turn<'a, R: Threads + Wait + Clock + Abort + Sync + Copy>(
 }
 
 /// Whether altered receipts of a race in the order of its lines agree with its history, and whether they do with the
-/// two histories exchanged.
+/// histories before and after it exchanged.
 fn agree_altered<R: Threads + Wait + Clock + Abort + Sync + Copy>(
     rt: &R,
     heap: &Global,
@@ -284,14 +290,15 @@ fn altered_receipts_disagree(rt: HostRuntime) {
     }
 }
 
-/// A bench just opened, from which the console has asked an undo of this number.
+/// A fresh bench on which a console has asked to undo this number.
 fn asked_to_undo<'a>(heap: &'a Global, number: u64, rt: &impl Abort) -> Bench<'a, Global> {
     let mut bench = open(heap, 100, rt);
     drop(ask(&mut bench, 2, 1, Act::Undo(number)));
     bench
 }
 
-/// Whether the receipts account for what the history has beyond that of a bench from which a console asked this undo.
+/// Whether the receipts of `left` agree with its history, if the history before is that of a fresh bench on which a
+/// console asked to undo `number`.
 fn agrees_after_undo<'a>(
     left: &Left<'a, Global>,
     number: u64,
@@ -304,7 +311,8 @@ fn agrees_after_undo<'a>(
     agrees
 }
 
-/// Whether a race on a bench that has recorded one undo agrees with the history of a bench that has recorded another.
+/// Asks a fresh bench to undo `asked`, and then races the lines of `UNDONE_BESIDE` on it. Says whether the receipts
+/// account for what its history has beyond that of a fresh bench on which a console asked to undo `other`.
 fn agrees_after<R: Threads + Wait + Abort + Sync>(
     rt: &R,
     heap: &Global,

@@ -9,7 +9,7 @@ use std::thread::Threads;
 use std::time::Clock;
 use worker_core::{Gate, RaceFault, Receipt, Receipts, agree, ask, race};
 
-/// A node joins and sends, and another takes the delivery.
+/// A node joins and sends; another, which knows it by an up, takes the delivery.
 const DELIVERED: &str = "\
 nodes a b
 consoles c1
@@ -37,7 +37,7 @@ type Raced<'a, B> = Result<(Bench<'a, B>, Receipts<&'a B>), (RaceFault, Bench<'a
 /// What calls of several actors leave: the bench, and the receipts of each actor.
 pub type Left<'a, B> = (Bench<'a, B>, Receipts<&'a B>);
 
-/// A race of the lines of a script, over this bench.
+/// Races the lines of the script on this bench.
 fn race_of<'a, B: Allocator + Sync, G: Gate + Sync, R: Threads + Wait + Sync + Abort>(
     bench: Bench<'a, B>,
     heap: &'a B,
@@ -50,7 +50,7 @@ fn race_of<'a, B: Allocator + Sync, G: Gate + Sync, R: Threads + Wait + Sync + A
     race(rt, heap, bench, actors, lines, gate)
 }
 
-/// The fault of a race that was refused, how many calls its bench has recorded, and how many it may.
+/// The fault of a race that was refused, how many calls its bench has recorded, and its limit on acts.
 fn refusal_of<'a, B: Allocator>(refused: (RaceFault, Bench<'a, B>)) -> (RaceFault, usize, u64) {
     let (fault, bench) = refused;
     let told = (fault, bench.history().len(), bench.limits().acts());
@@ -58,7 +58,7 @@ fn refusal_of<'a, B: Allocator>(refused: (RaceFault, Bench<'a, B>)) -> (RaceFaul
     told
 }
 
-/// What a race over this bench leaves, which is vouched for.
+/// Races the lines of the script on this bench, and gives the bench and the receipts. The race must be vouched for.
 pub fn raced_on<'a, B: Allocator + Sync, G: Gate + Sync, R: Threads + Wait + Sync + Abort>(
     bench: Bench<'a, B>,
     heap: &'a B,
@@ -71,7 +71,7 @@ pub fn raced_on<'a, B: Allocator + Sync, G: Gate + Sync, R: Threads + Wait + Syn
     raced.expect(rt, "a race")
 }
 
-/// What a race over a bench just opened leaves, which is vouched for.
+/// Races the lines of the script on a fresh bench, and gives the bench and the receipts. The race must be vouched for.
 pub fn raced<'a, B: Allocator + Sync, G: Gate + Sync, R: Threads + Wait + Sync + Abort>(
     heap: &'a B,
     script: &str,
@@ -83,7 +83,8 @@ pub fn raced<'a, B: Allocator + Sync, G: Gate + Sync, R: Threads + Wait + Sync +
     raced_on(bench, heap, script, actors, gate, rt)
 }
 
-/// Whether the receipts account for what the calls of a script's lines added to the history of a bench.
+/// Whether the receipts, of the lines of the script, account for what the history of `after` has beyond that of
+/// `before`.
 pub fn agrees<'a, B: Allocator>(
     before: &Bench<'a, B>,
     after: &Bench<'a, B>,
@@ -98,8 +99,8 @@ pub fn agrees<'a, B: Allocator>(
     agrees.expect(rt, "memory")
 }
 
-/// Whether the receipts account for what the history has beyond that of a bench just opened; and whether they do with
-/// the two histories exchanged.
+/// Whether the receipts of `left` account for what its history has beyond that of a fresh bench; and whether they do
+/// with the two histories exchanged.
 pub fn agree_with_none<'a, B: Allocator>(
     left: &Left<'a, B>,
     script: &str,
@@ -113,7 +114,7 @@ pub fn agree_with_none<'a, B: Allocator>(
     (agree, agree_backwards)
 }
 
-/// Whether this bench gives the reply of each recorded call of the other.
+/// Makes the recorded calls of `bench` on `again`. Says whether `again` replies to each as `bench` did.
 fn replies_so<'a, B: Allocator>(again: &mut Bench<'a, B>, bench: &Bench<'a, B>) -> bool {
     for place in 0..bench.history().len() {
         let Some(event) = bench.history().at(place) else {
@@ -139,7 +140,7 @@ fn same_nodes<'a, B: Allocator>(one: &Bench<'a, B>, other: &Bench<'a, B>) -> boo
     true
 }
 
-/// Whether the nodes are what the recorded calls give on a bench just opened.
+/// Whether the nodes are what the recorded calls give on a fresh bench.
 fn is_what_its_history_gives<'a, B: Allocator>(
     bench: &Bench<'a, B>,
     alloc: &'a B,
@@ -151,7 +152,7 @@ fn is_what_its_history_gives<'a, B: Allocator>(
     is_so
 }
 
-/// Whether the lists have these lengths.
+/// Whether there are as many lists as lengths, each with its length.
 fn have_lengths<A: Allocator>(lists: &[Vec<Receipt<A>, A>], lengths: &[usize]) -> bool {
     let mut are_so = lists.len() == lengths.len();
     for (list, length) in lists.iter().zip(lengths) {
@@ -177,7 +178,7 @@ fn a_race_is_vouched_for(rt: HostRuntime) {
     assert!(rt; is_so);
 }
 
-/// Each of the two lines in turn waits at the gate until the other was asked.
+/// Cases: the order in which the gate lets the two lines pass, and the node whose join is then last.
 const TURNS: &[(&[u64], u16)] = &[(&[2, 1], 0), (&[1, 2], 1)];
 
 /// Whether the second call of the history is the join of this node.
@@ -188,7 +189,8 @@ fn is_last<'a, B: Allocator>(bench: &Bench<'a, B>, node: u16) -> bool {
     }
 }
 
-/// Whether the join of this node comes last if the gate lets the lines pass in this order.
+/// Whether the join of node `later` comes last if the gate lets the lines pass in this order, and each line passes the
+/// gate once.
 fn turns<R: Threads + Wait + Clock + Abort + Sync + Copy>(
     rt: &R,
     heap: &Global,
@@ -209,7 +211,8 @@ fn a_gate_turns_the_order(rt: HostRuntime) {
     }
 }
 
-/// Races that are refused before they begin: their script, the limit on acts, the number of actors, and the fault.
+/// Cases of races that are refused before they begin: the script, the limit on acts, the number of actors, and the
+/// fault.
 const REFUSED: &[(&str, u64, u16, RaceFault)] = &[
     (UNKNOWN_ACTOR, 100, 2, RaceFault::UnknownActor),
     (TWO_JOINS, 3, 2, RaceFault::NoRoom),
@@ -228,7 +231,7 @@ fn a_race_is_refused_before_it_begins(rt: HostRuntime) {
     }
 }
 
-/// The reply of a receipt, and its place.
+/// Asks the act of the bench, and gives the reply and the place that the receipt tells.
 fn told<'a, B: Allocator>(
     bench: &mut Bench<'a, B>,
     actor: u16,
@@ -241,7 +244,8 @@ fn told<'a, B: Allocator>(
     told
 }
 
-/// The replies and places of two joins, with room for one, and then of two undos, with room for one.
+/// What `told` gives for four acts in turn: a join with two free places or more; a join with one; an undo with one,
+/// which is recorded; and an undo with none, which can't be recorded.
 const TOLD: [(Reply, Option<u64>); 4] = [
     (Reply::Taken(1), Some(1)),
     (Reply::Refused(Fault::HistoryFull), None),
@@ -249,7 +253,7 @@ const TOLD: [(Reply, Option<u64>); 4] = [
     (Reply::Refused(Fault::NoSuchStep), None),
 ];
 
-/// The two joins.
+/// The acts of the two joins.
 fn two_joins<'a>(heap: &'a Global, rt: &impl Abort) -> (Act<&'a Global>, Act<&'a Global>) {
     let mut lines = lines_of(heap, TWO_JOINS, rt);
     let (_, second) = lines.pop().expect(rt, "a line");

@@ -1,4 +1,4 @@
-//! A race that is refused memory, and threads of a test's own that share a bench.
+//! A race that is refused memory, and threads outside a race that share a bench.
 use crate::workers::gates::Idle;
 use crate::workers::lines::{Lines, lines_of, open};
 use crate::workers::orders::UNDONE_BESIDE;
@@ -14,8 +14,9 @@ use worker_core::{RaceFault, Receipt, ask, race};
 
 type Heap = Refusing<Global>;
 
-/// Whether a race that is refused wants memory, and gives back a bench that still answers.
-fn is_want<'a>(refused: (RaceFault, Bench<'a, Heap>)) -> bool {
+/// Whether refused memory explains the fault (a worker can't be started without memory, either), and the bench that
+/// came back still answers.
+fn memory_explains<'a>(refused: (RaceFault, Bench<'a, Heap>)) -> bool {
     let (fault, mut bench) = refused;
     let answer = bench.act(0, &Act::Undo(0));
     drop(bench);
@@ -23,8 +24,9 @@ fn is_want<'a>(refused: (RaceFault, Bench<'a, Heap>)) -> bool {
     wants && answer == Reply::Refused(Fault::NoSuchStep)
 }
 
-/// Whether a race meets this request for memory, which is refused. Where the race ends for it, it says so and the bench
-/// comes back; it may go on with room that was made before, and else it is vouched for.
+/// Races with request `number` for memory refused, and says whether there was such a request. If the race is refused,
+/// there must have been such a request, and `memory_explains` must hold. Otherwise the race is vouched for: there was
+/// no such request, or the refused room had been made before.
 fn refused<R: Threads + Wait + Abort + Sync>(rt: &R, heap: &Heap, number: u64) -> bool {
     let lines = lines_of(heap, UNDONE_BESIDE, rt);
     let bench = open(heap, 100, rt);
@@ -32,7 +34,7 @@ fn refused<R: Threads + Wait + Abort + Sync>(rt: &R, heap: &Heap, number: u64) -
     let raced = race(rt, heap, bench, 3, lines, &Idle);
     let is_met = number <= heap.requests();
     heap.refuse_none();
-    let want = raced.map_err(is_want).err();
+    let want = raced.map_err(memory_explains).err();
     let is_right = match want {
         Some(wants) => wants && is_met,
         None => true,
@@ -49,12 +51,14 @@ fn a_race_that_is_refused_memory_gives_its_bench_back(rt: HostRuntime) {
         if !refused(&rt, &heap, number) {
             break;
         }
+        // form: saturating spares a requirement
         count = count.saturating_add(1);
     }
     assert!(rt; 10 <= count && count < 999);
 }
 
-/// What two threads share. It asks a line, and gives a receipt.
+// form: over any line and receipt, as a thread's closure gets no proof if its types name the bench's lifetime
+/// What two threads share under a lock; the tests share a bench. Asked a line, it gives a receipt.
 trait Shared<L, T> {
     fn ask_line(&mut self, number: u64, line: L) -> T;
 }
@@ -66,7 +70,8 @@ impl<'a, B: Allocator> Shared<(u16, Act<&'a B>), Receipt<&'a B>> for Bench<'a, B
     }
 }
 
-/// Asks the lines, which are numbered on from this number, each under its own hold of the lock.
+/// Asks the lines, numbered from `from + 1` on, each under its own hold of the lock. Appends their receipts to
+/// `receipts`.
 fn ask_many<L: Drop, T: Drop, A: Allocator + Copy, S: Shared<L, T>, R: Wait + Abort>(
     rt: &R,
     shared: &Mutex<S>,
@@ -76,6 +81,7 @@ fn ask_many<L: Drop, T: Drop, A: Allocator + Copy, S: Shared<L, T>, R: Wait + Ab
 ) -> Vec<T, A> {
     let mut number = from;
     for line in lines {
+        // form: saturating spares a requirement
         number = number.saturating_add(1);
         let receipt = ask_alone(rt, shared, number, line);
         receipts.push(receipt).expect(rt, "memory");
@@ -89,7 +95,7 @@ fn ask_alone<L, T, S: Shared<L, T>, R: Wait>(rt: &R, shared: &Mutex<S>, number: 
     bench.ask_line(number, line)
 }
 
-/// A thousand joins of each of these nodes, as a script.
+/// A script of a thousand joins of each of these nodes.
 fn joins<A: Allocator>(rt: &impl Abort, alloc: A, nodes: &[&str]) -> String<A> {
     let mut script = String::new(alloc);
     script.push_str("nodes a b\n").expect(rt, "memory");
@@ -101,7 +107,8 @@ fn joins<A: Allocator>(rt: &impl Abort, alloc: A, nodes: &[&str]) -> String<A> {
     script
 }
 
-/// Has two threads ask the lines of node `a` and those of node `b`, side by side.
+/// Asks lines on two threads side by side: `first`, numbered from 1, on one thread, and `second`, numbered from 1,001,
+/// on the other.
 fn ask_both<
     L: Drop + Send,
     T: Drop + Send,
@@ -122,7 +129,7 @@ fn ask_both<
     )
 }
 
-/// A thousand joins of one node.
+/// The lines of a thousand joins of one node.
 fn joins_of<'a>(heap: &'a Global, node: &str, rt: &impl Abort) -> Lines<'a, Global> {
     let script = joins(rt, heap, &[node]);
     lines_of(heap, script.as_str(), rt)
@@ -130,9 +137,11 @@ fn joins_of<'a>(heap: &'a Global, node: &str, rt: &impl Abort) -> Lines<'a, Glob
 
 /// How many of the receipts tell of a step that was taken.
 fn taken_of<A: Allocator>(receipts: &[Receipt<A>]) -> usize {
+    // form: a count by hand, for the proof
     let mut count = 0usize;
     for receipt in receipts {
         if let Reply::Taken(_) = receipt.reply {
+            // form: saturating spares a requirement
             count = count.saturating_add(1);
         }
     }
@@ -146,7 +155,7 @@ fn clock_of<'a>(bench: &Bench<'a, Global>, node: u16, rt: &impl Abort) -> u64 {
     replica.seen().clock_of(node)
 }
 
-/// A bench that two threads have asked for a thousand joins each, and their receipts.
+/// A bench after two threads asked it for a thousand joins each, with their receipts.
 fn shared_by_two<'a, R: Threads + Wait + Abort + Sync>(
     heap: &'a Global,
     rt: &R,
@@ -161,13 +170,13 @@ fn shared_by_two<'a, R: Threads + Wait + Abort + Sync>(
     (shared.into_inner(), receipts)
 }
 
-/// Whether the bench has taken a thousand joins of this node, and there is a receipt for each.
+/// Whether the bench has taken a thousand joins of this node, with a receipt for each.
 fn are_all_taken<'a>(left: &Left<'a, Global>, node: u16, rt: &impl Abort) -> bool {
     let list = left.1.get(usize::from(node)).expect(rt, "a list");
     taken_of(list) == 1_000 && clock_of(&left.0, node, rt) == 1_000
 }
 
-/// Whether the bench has taken a thousand joins of both nodes, and the receipts account for its history.
+/// Whether the bench has taken a thousand joins of each node, and the receipts account for its history.
 fn are_all_told<'a>(left: &Left<'a, Global>, heap: &'a Global, rt: &impl Abort) -> bool {
     let script = joins(rt, heap, &["a", "b"]);
     agree_with_none(left, script.as_str(), heap, rt) == (true, false)
