@@ -36,7 +36,7 @@ BackLaw =
     }
 
 -- refused only for a named consequence: an undo of a remaining step is made, and changes its node alone; or it is
--- refused with its least direct consequence, and changes nothing
+-- refused with its least direct consequence, and the remaining steps stay as they were
 abbrev pub UndoLaw : Type 0
 UndoLaw =
     (c : Config) (s : State) (actor : ℕ) (step : Kept) (cluster : Cluster) → IsReached c s →

@@ -17,7 +17,7 @@ pub enum Act<A: Allocator> {
 }
 
 impl<A: Allocator> Act<A> {
-    /// Whether both ask the same.
+    /// Whether both acts ask for the same.
     pub fn same(&self, other: &Self) -> bool
         ensures { IsTrue result ↔ (plain_act self.now ≡ plain_act other.now) }
     {

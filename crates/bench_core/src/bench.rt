@@ -31,7 +31,8 @@ use node_core::{Inverse, Meter, Node, Oom, Step, StepFault};
 use std::alloc::Allocator;
 use std::marker::Model;
 
-/// Takes back step `number` of this node by its inverse. For a join, an up, a down or a send it needs no memory.
+/// Takes back step `number` of `node` by the step's inverse, and takes the step out of the journal. If memory is
+/// refused, nothing changes. To take back a join, an up, a down or a send needs no memory.
 fn take_back<'a, B: Allocator>(
     cluster: &mut Cluster<'a, B>,
     journal: &mut Journal<'a, B>,
@@ -45,6 +46,7 @@ fn take_back<'a, B: Allocator>(
     ensures err_journal { OnErr result (journal.new ≡ journal.old) }
     ensures needs_no_memory { NeedsNoMemory journal.old.steps number → IsOk result }
 {
+    // form: hands out the law of loans
     loan_law();
     let inverse = journal.lend(number).unwrap();
     if let Err((inverse, _)) = cluster.give_back(node, inverse) {
@@ -55,8 +57,8 @@ fn take_back<'a, B: Allocator>(
     Ok(())
 }
 
-/// A cluster of named nodes, the calls that it was asked, and the steps that remain. A contract sees the
-/// names, the limits, the recorded calls and the remaining steps; the nodes are what these steps give.
+/// A cluster of named nodes, the calls that were recorded, and the steps that remain. A contract sees the names, the
+/// limits, the recorded calls and the remaining steps; the nodes are what these steps give.
 #[derive(Drop)]
 pub struct Bench<'a, B: Allocator> {
     names: Names<&'a B>,
@@ -91,6 +93,7 @@ impl<'a, B: Allocator> Bench<'a, B> {
         ensures { IfOk result (λ b. b ≡ opening_machine names.entry limits) }
     {
         let Ok(cluster) = Cluster::new(alloc, names.len(), limits.of_node()) else {
+            // form: drop before exit
             drop(names);
             return Err(Oom);
         };
@@ -139,7 +142,7 @@ impl<'a, B: Allocator> Bench<'a, B> {
         &self.journal
     }
 
-    /// The node of this number, as the remaining steps give it from empty nodes.
+    /// The node of this number, as the remaining steps give it from empty nodes; `None` if there is no such node.
     pub fn node(&self, number: u16) -> Option<&Node<'a, B>>
         ensures value { IsNodeOf self.now number (option_map (λ n. n.now) result) }
         ensures each { IsSome result ↔ (number < length self.now.names) }
@@ -147,8 +150,9 @@ impl<'a, B: Allocator> Bench<'a, B> {
         self.cluster.node(number)
     }
 
-    /// The inverse of a remaining step, to look at. While nothing follows from the step, it leads from the step's node
-    /// back along the undo. (Danos and Krivine: causal undo.)
+    /// The inverse of step `number`; `None` if the step doesn't remain. While nothing follows from the step, its
+    /// inverse leads the step's node back to what the node would be after an undo of the step. (Danos and Krivine:
+    /// causal undo.)
     pub fn way_back(&self, number: u64) -> Option<&Inverse<&'a B>>
         ensures leads { IfSome result (λ inverse. IsWayBack self.now number (plain_inverse inverse.now)) }
         ensures each { IsSome result ↔ IsSome (find_number self.now.state.remaining number) }
@@ -167,6 +171,7 @@ impl<'a, B: Allocator> Bench<'a, B> {
     pub fn bench_law(&self)
         ensures { IsMachine self.now }
     {
+        // form: the proof reads the field here
         let _ = &self.journal;
     }
 
@@ -175,14 +180,14 @@ impl<'a, B: Allocator> Bench<'a, B> {
         self.cluster.allocator()
     }
 
-    /// How many more calls and steps there is room for.
+    /// How many more calls and steps, together, the limit on acts allows.
     fn free(&self) -> u64
         ensures { result ≡ free_places (config_of self.now) self.now.state }
     {
         self.limits.acts() - (self.history.len() as u64 + self.journal.len() as u64)
     }
 
-    /// Whether the actor and the nodes that the step names are nodes.
+    /// Whether the actor and the nodes that the step names are nodes of the bench.
     fn knows(&self, actor: u16, step: &Step<&'a B>) -> bool
         ensures { result ≡ knows (config_of self.now) actor (plain step.now) }
     {
@@ -190,7 +195,8 @@ impl<'a, B: Allocator> Bench<'a, B> {
         actor < count && step.names_below(count)
     }
 
-    /// The node of a step that remains, or why its undo is refused.
+    /// The node of step `number`, or why its undo is refused: `NoSuchStep` if the number was never given,
+    /// `AlreadyUndone` if the step doesn't remain.
     fn node_of(&self, number: u64) -> Result<u16, Fault>
         ensures remains { IfOk result (λ node. IsStepOf self.now.state number node) }
         ensures gone { IfErr result (λ fault. IsGone self.now.state number fault) }
@@ -204,7 +210,8 @@ impl<'a, B: Allocator> Bench<'a, B> {
         }
     }
 
-    /// A refusal, recorded while a place is free.
+    /// Refuses the act with this fault, and records the refusal if a place is free. If memory for the record is
+    /// refused, the reply is `OutOfMemory`.
     fn refuse(&mut self, actor: u16, act: &Act<&'a B>, fault: Fault) -> Reply
         requires refused { reply_to (config_of self.old) self.old.state actor (plain_act act.now) ≡ Refused fault }
         requires recorded { fault ≢ HistoryFull }
@@ -220,7 +227,9 @@ impl<'a, B: Allocator> Bench<'a, B> {
         reply
     }
 
-    /// Takes a step of node `actor`, as `act` asks.
+    /// Takes `step`, the step of `act`, at node `actor`. Room in the journal, the record of the call and a copy of the
+    /// step come first, so nothing can be refused once the step is taken. The record has `OutOfMemory` as its reply
+    /// until the true reply replaces it; if memory is refused, the record is taken out again.
     fn take(&mut self, actor: u16, act: &Act<&'a B>, step: &Step<&'a B>) -> Reply
         requires { plain_act act.now ≡ Do (plain step.now) }
         ensures { AnswersAs self.old actor (plain_act act.now) result self.new }
@@ -244,6 +253,7 @@ impl<'a, B: Allocator> Bench<'a, B> {
         };
         match self.cluster.take(actor, &step, &mut self.meter) {
             Err(fault) => {
+                // form: drop before exit
                 drop(step);
                 if fault == StepFault::OutOfMemory {
                     self.history.forget_last();
@@ -263,7 +273,8 @@ impl<'a, B: Allocator> Bench<'a, B> {
         }
     }
 
-    /// Undoes this step, as `act` asks.
+    /// Undoes step `number`, as `act` asks, or refuses the act. An undo is recorded before the step is taken back; if
+    /// memory is then refused, the record is taken out again.
     fn undo(&mut self, actor: u16, act: &Act<&'a B>, number: u64) -> Reply
         requires { reply_to (config_of self.old) self.old.state actor (plain_act act.now) ≡ undo_reply self.old.state number }
         ensures { AnswersAs self.old actor (plain_act act.now) result self.new }
@@ -290,7 +301,8 @@ impl<'a, B: Allocator> Bench<'a, B> {
         reply
     }
 
-    /// Undoes the last step of a node, as `act` asks.
+    /// Undoes the last step of `node`, as `act` asks, or refuses the act: with `UnknownNode` if there is no such node,
+    /// and with `NothingToUndo` if no step of the node remains.
     fn back(&mut self, actor: u16, act: &Act<&'a B>, node: u16) -> Reply
         requires { plain_act act.now ≡ Back node }
         ensures { AnswersAs self.old actor (plain_act act.now) result self.new }
@@ -304,12 +316,13 @@ impl<'a, B: Allocator> Bench<'a, B> {
         self.undo(actor, act, number)
     }
 
-    /// One call: a step of node `actor`, or a step back, which any actor may ask for.
+    /// Makes one call: a step of node `actor`, or an undo or a back, which any actor may ask for.
     pub fn act(&mut self, actor: u16, act: &Act<&'a B>) -> Reply
         ensures answers { AnswersAs self.old actor (plain_act act.now) result self.new }
         ensures taken_back_at_once { CanBeTakenBack self.old result self.new }
         ensures refused_only_for_a_named_consequence { RefusedOnlyForConsequence self.old (plain_act act.now) result self.new }
     {
+        // form: hands out what the bench keeps
         self.bench_law();
         match act {
             Act::Do(step) => self.take(actor, act, step),
@@ -318,8 +331,8 @@ impl<'a, B: Allocator> Bench<'a, B> {
         }
     }
 
-    /// Makes the calls in order, and gives a reply for each. Does nothing where memory for the list of replies is
-    /// refused.
+    /// Makes the calls in order, and gives a reply for each. If memory for the list of replies is refused, no call is
+    /// made.
     pub fn run(&mut self, calls: &[(u16, Act<&'a B>)]) -> Result<Vec<Reply, &'a B>, Oom>
         ensures ok { IfOk result (λ replies. AllAnswered self.old (calls_of calls.now) replies.items self.new) }
         ensures err { OnErr result (self.new ≡ self.old) }
@@ -333,15 +346,16 @@ impl<'a, B: Allocator> Bench<'a, B> {
         Ok(replies)
     }
 
-    /// The number of a step and the numbers of all that follows from it, greatest first, the order in which they can be
-    /// undone. Refused where the step doesn't remain, with `NoSuchStep` or `AlreadyUndone` as its undo would be;
-    /// `OutOfMemory` where memory for the list is refused.
+    /// The future of a step: its number and the numbers of all that follows from it, greatest first, the order in which
+    /// they can be undone. If the step doesn't remain, the fault is that of its undo, `NoSuchStep` or `AlreadyUndone`.
+    /// If memory is refused, the fault is `OutOfMemory`.
     pub fn why(&self, number: u64) -> Result<Vec<u64, &'a B>, Fault>
         ensures future { IfOk result (λ numbers. Explains self.now.state number numbers.items) }
         ensures refused { IfErr result (λ fault. Unexplained self.now.state number fault) }
         ensures can_be_undone { IfOk result (λ numbers. CanBeUndone self.now numbers.items) }
         ensures gathered { IfOk result (λ numbers. numbers.items ≡ gathered_numbers self.now.state.remaining number) }
     {
+        // form: hands out what the bench keeps
         self.bench_law();
         self.node_of(number)?;
         let Ok(numbers) = self.journal.future(number) else {
@@ -350,7 +364,7 @@ impl<'a, B: Allocator> Bench<'a, B> {
         Ok(numbers)
     }
 
-    /// Undoes these steps in turn, until an undo is refused memory. Gives how many were undone.
+    /// Undoes these steps in turn, until an undo is refused memory, and gives how many were undone.
     fn undo_each(&mut self, actor: u16, numbers: &[u64]) -> usize
         requires { CanBeUndone self.old numbers.now }
         ensures few { result ≤ length numbers.now }
@@ -359,6 +373,7 @@ impl<'a, B: Allocator> Bench<'a, B> {
         for (i, number) in numbers.iter().enumerate() {
             let act = Act::Undo(*number);
             let reply = self.act(actor, &act);
+            // form: drop before exit
             drop(act);
             if reply != Reply::Undone(*number) {
                 return i;
@@ -368,8 +383,8 @@ impl<'a, B: Allocator> Bench<'a, B> {
     }
 
     /// Undoes a step and all that follows from it, greatest number first. Each is an undo that the actor asks for, as
-    /// any actor may. (Danos and Krivine: what follows from a step goes back before it.) Refused as `why` is, and then
-    /// it does and records nothing. Where an undo is refused memory, the undos before it stand.
+    /// any actor may. (Danos and Krivine: what follows from a step goes back before it.) The unwind is refused like
+    /// `why`, and then does and records nothing. If an undo is refused memory, the undos before it stand.
     pub fn unwind(&mut self, actor: u16, number: u64) -> Unwound<&'a B>
         ensures answer { IsUnwound self.old.state number result }
         ensures undone { AreUndone self.old actor (undone_by result) self.new }

@@ -17,7 +17,9 @@ use payload_core::Payload;
 use std::alloc::Allocator;
 use std::marker::Model;
 
-/// The message that a step delivers, from among the nodes before one and those after it.
+/// The message that the step delivers, from the outbox of another node. `before` and `after` have the nodes with lower
+/// and with higher numbers than the node that takes the step. `None` if the step delivers no message, or if none of
+/// these nodes has the message.
 fn message<'x, 'a, B: Allocator>(
     before: &'x [Node<'a, B>],
     after: &'x [Node<'a, B>],
@@ -29,8 +31,8 @@ fn message<'x, 'a, B: Allocator>(
     other(before, after, sender as usize)?.outbox().get(number)
 }
 
-/// A node takes a step with the others at hand. One of them lends the message that the step delivers, since no step
-/// reads a message of its own node.
+/// A node takes a step, and may read the other nodes: the message that a step delivers is in the outbox of one of them.
+/// No step reads a message of its own node.
 impl<'a, B: Allocator> Member for Node<'a, B> {
     type Step = Step<&'a B>;
 
@@ -38,7 +40,8 @@ impl<'a, B: Allocator> Member for Node<'a, B> {
 
     ghost may_take = { λ before node after step count. MayStep (before ++ node ∷ after) (plain step) count };
 
-    ghost takes = { λ before node after step count answer left counted. StepsOnce (before ++ node ∷ after) (length before) (plain step) count answer (before ++ left ∷ after) counted };
+    ghost takes = { λ before node after step count answer left counted.
+        StepsOnce (before ++ node ∷ after) (length before) (plain step) count answer (before ++ left ∷ after) counted };
 
     fn take_beside(
         &mut self,
@@ -48,12 +51,13 @@ impl<'a, B: Allocator> Member for Node<'a, B> {
         meter: &mut Meter,
     ) -> Result<Inverse<&'a B>, StepFault> {
         let result = self.take(step, message(before, after, step), meter);
+        // form: hands out what the node keeps
         self.node_law();
         result
     }
 }
 
-/// Has one node of the list take a step.
+/// Takes a step at node `actor`, which is edited in place. `meter` counts the step if it is taken.
 fn step_node<'a, B: Allocator>(
     nodes: &mut Vec<Node<'a, B>, &'a B>,
     actor: u16,
@@ -94,7 +98,7 @@ impl<'a, B: Allocator> Model for Cluster<'a, B> {
 }
 
 impl<'a, B: Allocator> Cluster<'a, B> {
-    /// This many empty nodes.
+    /// A cluster of `count` empty nodes.
     pub fn new(alloc: &'a B, count: usize, limits: NodeLimits) -> Result<Self, Oom>
         requires few { count ≤ 32 }
         requires limits { AreNodeLimits limits }
@@ -114,20 +118,21 @@ impl<'a, B: Allocator> Cluster<'a, B> {
         self.nodes.len()
     }
 
-    /// The node of this number.
+    /// The node of this number; `None` if there is no such node.
     pub fn node(&self, number: u16) -> Option<&Node<'a, B>>
         ensures { option_map (λ n. n.now) result ≡ slice_get self.now number }
     {
         self.nodes.get(number as usize)
     }
 
-    /// Whether the two have the same nodes. It takes no memory.
+    /// Whether both have the same nodes. It takes no memory.
     pub fn same(&self, other: &Cluster<'a, B>) -> bool
         ensures { IsTrue result ↔ (self.now ≡ other.now) }
     {
         if self.nodes.len() != other.nodes.len() {
             return false;
         }
+        // form: a loop, for the proof
         for (number, node) in self.nodes.iter().enumerate() {
             if !node.same(&other.nodes[number]) {
                 return false;
@@ -149,8 +154,8 @@ impl<'a, B: Allocator> Cluster<'a, B> {
         node < count && step.names_below(count)
     }
 
-    /// Takes a step of this node; its inverse leads the cluster back. `UnknownNode` where the node, or one that the
-    /// step names, isn't in the cluster.
+    /// Takes a step at this node, and gives the inverse that leads the cluster back. `UnknownNode` if `node`, or a node
+    /// that the step names, isn't in the cluster.
     pub fn step(&mut self, node: u16, step: &Step<&'a B>) -> Result<Inverse<&'a B>, Fault>
         ensures taken { OnOk result (cluster_step self.old node (plain step.now) ≡ Ok self.new) }
         ensures refused { IfErr result (λ fault. fault ≢ OutOfMemory → cluster_step self.old node (plain step.now) ≡ Err fault) }
@@ -163,8 +168,8 @@ impl<'a, B: Allocator> Cluster<'a, B> {
         Ok(self.take(node, step, &mut Meter::new())?)
     }
 
-    /// Takes a step of this node, where the nodes that it names are in the cluster. The meter counts the step if it is
-    /// taken.
+    /// Like `step`, but the node and the nodes that the step names must be in the cluster, and `meter` counts the step
+    /// if it is taken. The faults are those of the node.
     pub(crate) fn take(
         &mut self,
         node: u16,
@@ -181,7 +186,7 @@ impl<'a, B: Allocator> Cluster<'a, B> {
         step_node(&mut self.nodes, node, step, meter)
     }
 
-    /// Takes back the last step of this node by that step's inverse. Where memory is refused nothing changes, and the
+    /// Takes back the last step of this node by that step's inverse. If memory is refused, nothing changes, and the
     /// inverse comes back.
     pub fn give_back(
         &mut self,

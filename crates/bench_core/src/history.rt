@@ -9,7 +9,7 @@ use node_core::Oom;
 use std::alloc::Allocator;
 use std::marker::Model;
 
-/// A call of the bench: who asked, what, and what was answered.
+/// A recorded call of the bench: who asked, what, and what was answered.
 #[derive(Drop)]
 pub struct Event<A: Allocator> {
     pub actor: u16,
@@ -30,7 +30,7 @@ impl<A: Allocator> Model for Event<A> {
 }
 
 impl<A: Allocator + Copy> Event<A> {
-    /// A copy: an event with the same call and reply.
+    /// A copy of the event.
     fn try_copy(&self) -> Result<Self, Oom>
         ensures { IfOk result (λ copy. copy ≡ self.now) }
     {
@@ -77,20 +77,21 @@ impl<'a, B: Allocator> History<'a, B> {
         self.events.len()
     }
 
-    /// The call at this place, from 0.
+    /// The call at `place`, counted from 0, the oldest first; `None` past the last.
     pub fn at(&self, place: usize) -> Option<&Event<&'a B>>
         ensures { option_copied result ≡ slice_get self.now place }
     {
         self.events.get(place)
     }
 
-    /// A second list of the same calls.
+    /// A copy of the history.
     pub fn try_copy(&self) -> Result<Self, Oom>
         ensures { IfOk result (λ copy. copy ≡ self.now) }
     {
         let mut events = Vec::with_capacity(*self.events.allocator(), self.len())?;
         for event in &self.events {
             let Ok(copy) = event.try_copy() else {
+                // form: drop before exit
                 drop(events);
                 return Err(Oom);
             };
@@ -99,7 +100,7 @@ impl<'a, B: Allocator> History<'a, B> {
         Ok(History { events })
     }
 
-    /// Records a call with this reply.
+    /// Records a call with this reply, after the others.
     pub(crate) fn record(&mut self, actor: u16, act: &Act<&'a B>, reply: Reply) -> Result<(), Oom>
         ensures ok { OnOk result (self.new ≡ note actor (plain_act act.now) reply self.old) }
         ensures err { OnErr result (self.new ≡ self.old) }
@@ -109,16 +110,17 @@ impl<'a, B: Allocator> History<'a, B> {
         Ok(())
     }
 
-    /// Replaces the reply of the last recorded call. It takes no memory.
+    /// Replaces the reply of the last recorded call, if there is one. It takes no memory.
     pub(crate) fn answer_last(&mut self, reply: Reply)
         ensures { IsAnswered reply self.old self.new }
     {
+        // form: taken out for the edit, and put back
         if let Some(event) = self.events.pop() {
             self.events.push_reserved(Event { reply, ..event });
         }
     }
 
-    /// Takes out the call that was recorded last.
+    /// Drops the call that was recorded last, if there is one.
     pub(crate) fn forget_last(&mut self)
         ensures { IsForgotten self.old self.new }
     {

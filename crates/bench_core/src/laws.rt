@@ -6,20 +6,23 @@ ghost use Rattle.bench_core.specs.Replays.{NoMemoryLaw, ReplayLaw};
 ghost use Rattle.bench_core.specs.Unwinds.{LeastLaw, OthersLaw, UndoneInTurnLaw};
 ghost use Rattle.bench_core.specs.Laws.{ChainLaw, ExchangeLaw, LoopLaw, MiddleLaw, OneEntryLaw, OwnRunLaw, PlacesLaw, RepeatLaw, SwapLaw};
 
-/// The loop: a step at the end of a journal has no direct consequence, and taking it out gives the journal before.
+/// The loop law: a step at the end of a journal has no direct consequence, and taking it out gives the journal before
+/// it.
 pub fn loop_law()
     ensures { LoopLaw }
 {}
 
-/// The middle: each node passes through the states of its own run. A step without direct consequences can be left out of
-/// a run, and then its node alone changes, to what it was just before the step.
+/// The middle law: at each point of a run, a node is what its own steps up to that point give, with the messages that
+/// its deliveries name. A step without direct consequences can be left out of a run, and then its node alone changes,
+/// to what it was just before the step.
 pub fn middle_law()
     ensures own_run { OwnRunLaw }
     ensures left_out { MiddleLaw }
 {}
 
-/// The headline, of every list of calls from the opening: the cluster is what the remaining steps give; a step is
-/// taken back at once; an undo of a remaining step is refused only for a named consequence, and then changes nothing.
+/// The headline: three laws of every list of calls from the opening on. The cluster is what the remaining steps give. A
+/// step can be taken back right after it was taken. An undo of a remaining step is refused only for a named
+/// consequence, and then the remaining steps stay as they were.
 pub fn headline_law()
     ensures given_by_the_remaining_steps { GivenLaw }
     ensures taken_back_at_once { BackLaw }
@@ -32,32 +35,33 @@ pub fn chain_law()
     ensures { ChainLaw }
 {}
 
-/// On a reached machine: the undos of a step's future are all made, greatest number first; any undos and steps back
-/// that take the step back take back its whole future; and a node doesn't change if none of its steps is undone.
+/// Three laws of each machine that calls reach from the opening. The undos of a step's future are all made, greatest
+/// number first. Any undos and backs that take the step back take back its whole future. Undos that are all made don't
+/// change a node if they undo none of its steps.
 pub fn unwind_law()
     ensures future { UndoneInTurnLaw }
     ensures least { LeastLaw }
     ensures others { OthersLaw }
 {}
 
-/// Swaps: if swaps of adjacent independent steps turn one journal into another, either both run, to the same cluster, or
-/// neither does. Step numbers don't matter.
+/// The swap law: if swaps of adjacent independent steps turn one journal into another, either both run, to the same
+/// cluster, or neither does. Step numbers don't matter. Swaps by place lead to an equivalent journal.
 pub fn swap_law()
     ensures equal_runs { SwapLaw }
     ensures swaps_by_place { PlacesLaw }
 {}
 
-/// Deliveries: in what a journal gives, entries of one dot are equal, wherever they stand. Two adjacent deliveries at
-/// one node may be exchanged if neither order meets `EntriesFull`; a delivery repeated at once is accepted and changes
-/// nothing.
+/// The delivery law: in what a journal gives, entries of one dot are equal, wherever they stand. Two adjacent
+/// deliveries at one node may be exchanged if neither order meets `EntriesFull`. A delivery repeated at once is
+/// accepted, and leaves the cluster the same.
 pub fn delivery_law()
     ensures one_entry { OneEntryLaw }
     ensures exchanged { ExchangeLaw }
     ensures repeated { RepeatLaw }
 {}
 
-/// If the recorded calls of a reached machine are made again from the opening, each gets its old reply and is recorded,
-/// and they lead to the same state. None of these replies is `OutOfMemory`.
+/// If the recorded calls of a machine that calls reach from the opening are made again, each gets its old reply and is
+/// recorded, and they lead to the same state. None of these replies is `OutOfMemory`.
 pub fn replay_law()
     ensures replayed { ReplayLaw }
     ensures no_memory { NoMemoryLaw }

@@ -1,12 +1,14 @@
-//! The machine: a bench of presence nodes that takes steps, takes them back while nothing follows from them, and keeps its
-//! nodes equal to what the remaining steps give.
+//! The machine: a bench of presence nodes that takes steps, takes them back while nothing follows from them, and keeps
+//! its nodes equal to what the remaining steps give.
 //!
-//! It stands on `node_core` (one node, its steps and the way back) and `journal_core` (the steps that remain, with their
-//! inverses); words come from `payload_core`, memory's refusal from `dots_core`.
+//! The crate stands on `node_core` (one node, its steps and the way back) and `journal_core` (the steps that remain,
+//! with their inverses). Messages come from `payload_core`, and `Oom` from `dots_core`. It names the plain types of the
+//! crates below.
 //!
-//! In the order to read them: `names`, over `names_fault` and `texts`, and `limits`, for whom and how much; `act`, `fault`,
-//! `reply` and `unwound`, what is asked and answered; `history`; `cluster`, the nodes without a history, over `among`; `bench`,
-//! the machine; `swaps`, over `movable` and `swap_fault`; `laws`.
+//! The modules in reading order: `names` (with `names_fault` and `texts`) and `limits`, with which a bench is opened;
+//! `act`, `fault`, `reply` and `unwound`, what is asked and answered; `history`, the recorded calls; `cluster`, the
+//! nodes without a history (with `among`, a step of one of several values); `bench`, the machine; `swaps`, whether
+//! swaps lead from one bench to another (with `movable` and `swap_fault`); `laws`, of runs and of the machine.
 #![tactic(auto)]
 
 mod act;

@@ -7,7 +7,7 @@ ghost use Rattle.bench_core.specs.Limits.{AreLimits, node_limits};
 use node_core::NodeLimits;
 use std::marker::Model;
 
-/// Four limits, each in its range.
+/// The four limits of a bench, each in its range.
 #[derive(Clone, Copy, Debug, PartialEq, Eq)]
 pub struct Limits {
     acts: u64,
@@ -29,7 +29,7 @@ impl Model for Limits {
 }
 
 impl Limits {
-    /// The limits, where each is in its range.
+    /// The limits; `None` if one of them isn't in its range.
     pub fn new(acts: u64, entries: u64, clock: u64, messages: u64) -> Option<Limits>
         ensures { SomeIff result (AreLimits (record { acts = acts; entries = entries; clock = clock; messages = messages }))
             (record { acts = acts; entries = entries; clock = clock; messages = messages }) }
@@ -49,7 +49,7 @@ impl Limits {
         })
     }
 
-    /// The limits that a bench has where nobody says otherwise.
+    /// The limits that a bench has by default.
     pub fn usual() -> Limits
         ensures { result ≡ record { acts = 100000; entries = 10000; clock = 1000000; messages = 10000 } }
     {
@@ -61,7 +61,7 @@ impl Limits {
         }
     }
 
-    /// The bound on recorded calls and remaining steps together: 1 to 1,000,000.
+    /// The limit on acts: 1 to 1,000,000. Recorded calls and remaining steps count towards it together.
     pub fn acts(self) -> u64
         ensures value { result ≡ self.acts }
         ensures range { AreLimits self }
@@ -69,7 +69,7 @@ impl Limits {
         self.acts
     }
 
-    /// The bound on the entries of one node: 1 to 100,000.
+    /// The limit on the entries of one node: 1 to 100,000.
     pub fn entries(self) -> u64
         ensures value { result ≡ self.entries }
         ensures range { AreLimits self }
@@ -77,7 +77,7 @@ impl Limits {
         self.entries
     }
 
-    /// The bound on the own clock of one node: 1 to 1,000,000,000.
+    /// The limit on the own clock of one node: 1 to 1,000,000,000.
     pub fn clock(self) -> u64
         ensures value { result ≡ self.clock }
         ensures range { AreLimits self }
@@ -85,7 +85,7 @@ impl Limits {
         self.clock
     }
 
-    /// The bound on the messages in one outbox: 1 to 100,000.
+    /// The limit on the messages in one outbox: 1 to 100,000.
     pub fn messages(self) -> u64
         ensures value { result ≡ self.messages }
         ensures range { AreLimits self }
@@ -93,7 +93,7 @@ impl Limits {
         self.messages
     }
 
-    /// The limits that bind each node.
+    /// The limits on each node: all but the limit on acts.
     pub fn of_node(self) -> NodeLimits
         ensures value { result ≡ node_limits self }
         ensures range { AreLimits self }

@@ -5,7 +5,7 @@ ghost use Rattle.bench_core.specs.Movables.{is_message, may_swap};
 /// A message, by its sender and its number.
 type Message = (u16, u64);
 
-/// A step of a journal, by its place from 0, with its node and the messages that it delivers and sends.
+/// A step of a journal: its place, counted from 0, its node, and the messages that it delivers and sends.
 #[derive(Clone, Copy)]
 pub(crate) struct Movable {
     pub(crate) place: usize,
@@ -14,10 +14,11 @@ pub(crate) struct Movable {
     pub(crate) sends: Option<Message>,
 }
 
-/// Whether what is sent is what is delivered.
+/// Whether `sent` and `delivered` are the same message; if either is `None`, they aren't.
 fn is_message(sent: Option<Message>, delivered: Option<Message>) -> bool
     ensures { result ≡ is_message sent delivered }
 {
+    // form: `==` of pairs, spelled out for the proof
     match (sent, delivered) {
         (Some(sent), Some(delivered)) => sent.0 == delivered.0 && sent.1 == delivered.1,
         _ => false,

@@ -33,6 +33,8 @@ pub fn is_name(text: &str) -> bool
     has_name_bytes(text.as_bytes())
 }
 
+/// Adds `text` to `names`. `BadName` if `text` isn't a name, and `Twice` if `names` has it already; either fault tells
+/// the place of `text`, counted from 1.
 fn add_name<A: Allocator + Copy>(names: &mut TextSet<A>, text: &str) -> Result<(), NamesFault>
     ensures { GivesUnless NamesFault.OutOfMemory (λ _. names.new) result (with_name names.old text.now) }
 {
@@ -46,6 +48,7 @@ fn add_name<A: Allocator + Copy>(names: &mut TextSet<A>, text: &str) -> Result<(
     Ok(())
 }
 
+/// Adds these texts to `names` in turn, up to the first fault.
 fn add_names<A: Allocator + Copy>(names: &mut TextSet<A>, texts: &[&str]) -> Result<(), NamesFault>
     ensures { GivesUnless NamesFault.OutOfMemory (λ _. names.new) result (with_names names.old (map (λ text. text.now) texts.now)) }
 {
@@ -55,7 +58,7 @@ fn add_names<A: Allocator + Copy>(names: &mut TextSet<A>, texts: &[&str]) -> Res
     Ok(())
 }
 
-/// 1 to 32 names, each of 1 to 16 bytes of `a-z0-9_` and each once, numbered from 0 in their order.
+/// 1 to 32 different names, each of 1 to 16 bytes of `a-z0-9_`, numbered from 0 in their order.
 #[derive(Drop)]
 pub struct Names<A: Allocator> {
     texts: TextSet<A>,
@@ -82,7 +85,7 @@ impl<A: Allocator> Names<A> {
         self.texts.len()
     }
 
-    /// The number of a name, from 0.
+    /// The number of a name, counted from 0; `None` if the text isn't one of the names.
     pub fn number_of(&self, text: &str) -> Option<u16>
         ensures { result ≡ number_in self.now text.now }
     {
@@ -90,21 +93,22 @@ impl<A: Allocator> Names<A> {
         Some(number as u16)
     }
 
-    /// The name with this number.
+    /// The name with this number, counted from 0; `None` if there is none.
     pub fn text(&self, number: u16) -> Option<&str>
         ensures { option_copied result ≡ slice_get self.now number }
     {
         self.texts.text(number as usize)
     }
 
-    /// Does nothing. Its contract says what all names keep.
+    /// Does nothing. Its contract says what each `Names` keeps.
     pub fn names_law(&self)
         ensures { names_of self.now ≡ Ok self.now }
     {
+        // form: the proof reads the field here
         let _ = &self.texts;
     }
 
-    /// Whether the names and their order are the same.
+    /// Whether both have the same names in the same order.
     pub fn same(&self, other: &Names<A>) -> bool
         ensures { IsTrue result ↔ (self.now ≡ other.now) }
     {
@@ -113,8 +117,8 @@ impl<A: Allocator> Names<A> {
 }
 
 impl<A: Allocator + Copy> Names<A> {
-    /// The names in this order, or their first fault. It looks at the count first, and then at each name in turn: at
-    /// its bytes, and then whether it is new.
+    /// The names in this order, or their first fault. Their count is looked at first, and then each name in turn: its
+    /// bytes, and then whether it is new.
     pub fn new(alloc: A, texts: &[&str]) -> Result<Names<A>, NamesFault>
         ensures gives { GivesUnless NamesFault.OutOfMemory (λ names. names) result (names_of (map (λ text. text.now) texts.now)) }
         ensures texts { IfOk result (λ names. names ≡ map (λ text. text.now) texts.now) }
@@ -128,7 +132,7 @@ impl<A: Allocator + Copy> Names<A> {
         Ok(Names { texts: names })
     }
 
-    /// The same names, in the same order.
+    /// A copy of the names, in the same order.
     pub fn try_copy(&self) -> Result<Names<A>, Oom>
         ensures { IfOk result (λ copy. copy ≡ self.now) }
     {

@@ -14,7 +14,7 @@ pub enum Reply {
 }
 
 impl Reply {
-    /// Whether both are the same reply.
+    /// Whether both are the same reply. `==` says so, too, but is costly to prove, because of the faults.
     pub fn same(self, other: Reply) -> bool
         ensures { IsTrue result ↔ (self ≡ other) }
     {

@@ -1,22 +1,23 @@
-//! Why swaps don't lead from the steps of one bench to those of another.
+//! `SwapFault`: why `same_cluster` doesn't answer `Ok`.
 ghost use Rattle.std.specs.Prelude.{◌≡◌};
 ghost use Rattle.bench_core.specs.declared.swap_fault.SwapFault.TheVariants.{OutOfMemory};
 
 use dots_core::Oom;
 use thiserror::Error;
 
-/// Why swaps don't lead from the steps of one bench to those of another.
+/// Why `same_cluster` doesn't answer `Ok`, in the order in which the causes are looked for.
 #[derive(Clone, Copy, Debug, PartialEq, Eq, Error)]
 pub enum SwapFault {
     /// The names or the limits differ.
     #[error("OtherBench")]
     OtherBench,
+    /// A request for memory was refused.
     #[error("OutOfMemory")]
     OutOfMemory,
-    /// The swap at this place of the list, counted from 1, isn't one of independent steps.
+    /// The swap at this place of the list, counted from 1, isn't a swap of independent steps.
     #[error("BadSwap at {at}")]
     BadSwap { at: usize },
-    /// The swaps lead to other steps.
+    /// The swaps lead to other steps than those of the second bench.
     #[error("OtherSteps")]
     OtherSteps,
 }

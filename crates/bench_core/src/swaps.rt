@@ -15,7 +15,8 @@ use journal_core::{Journal, Kept};
 use node_core::Oom;
 use std::alloc::Allocator;
 
-/// What a swap needs to know of the step at this place. `sent` has, for each node, how many messages it sent before.
+/// What a swap needs to know of the step `kept` at `place`, counted from 0. `sent` has how many messages each node sent
+/// in the steps before; if `kept` sends a message, its node's count rises by one.
 fn noted<A: Allocator>(kept: &Kept<A>, place: usize, sent: &mut [u64]) -> Movable
     requires known { kept.now.node < length sent.old }
     requires few { (n : ℕ) → slice_get sent.old kept.now.node ≡ Some n → n < 18446744073709551615 }
@@ -37,7 +38,7 @@ fn noted<A: Allocator>(kept: &Kept<A>, place: usize, sent: &mut [u64]) -> Movabl
     }
 }
 
-/// The steps of the journal in their order.
+/// What a swap needs to know of each step of the journal, in their order.
 fn movables<'a, B: Allocator>(
     journal: &Journal<'a, B>,
     nodes: usize,
@@ -55,7 +56,8 @@ fn movables<'a, B: Allocator>(
     Ok(movables)
 }
 
-/// Exchanges the steps at this place, from 1, and the next, if they are there and independent, and says whether it did.
+/// Exchanges the step of `steps` at `place`, counted from 1, with the next one, if both exist and are independent. Says
+/// whether they were exchanged.
 fn swap(steps: &mut [Movable], place: u64) -> bool
     ensures { exchanged may_swap steps.old place ≡ (if result then Some steps.new else None) }
 {
@@ -70,7 +72,8 @@ fn swap(steps: &mut [Movable], place: u64) -> bool
     true
 }
 
-/// Makes these swaps in turn, up to the first bad one, and gives its place in the list, from 1.
+/// Makes these swaps in `steps` in turn, up to the first bad one, and gives its place in the list, counted from 1;
+/// `None` if no swap is bad.
 fn first_bad(steps: &mut [Movable], places: &[u64]) -> Option<usize>
     ensures none { result ≡ None → after_swaps (exchanged may_swap) 1 steps.old places.now ≡ Ok steps.new }
     ensures bad { IfSome result (λ at. after_swaps (exchanged may_swap) 1 steps.old places.now ≡ Err (BadSwap at)) }
@@ -83,7 +86,8 @@ fn first_bad(steps: &mut [Movable], places: &[u64]) -> Option<usize>
     None
 }
 
-/// Whether the step at this place of one journal is the step at another place of the other, whatever their numbers.
+/// Whether journal `one` has at `place` the same step as journal `other` at `second`, whatever their numbers; `false`
+/// if either place has none.
 fn is_same<'a, B: Allocator>(
     one: &Journal<'a, B>,
     place: usize,
@@ -98,7 +102,7 @@ fn is_same<'a, B: Allocator>(
     }
 }
 
-/// Whether these steps of a journal are those of the other, whatever their numbers.
+/// Whether `steps`, of journal `one`, are the steps of journal `other` in the same order, whatever their numbers.
 fn are_steps_of<'a, B: Allocator>(
     one: &Journal<'a, B>,
     steps: &[Movable],
@@ -109,6 +113,7 @@ fn are_steps_of<'a, B: Allocator>(
     if steps.len() != other.len() {
         return false;
     }
+    // form: a loop, for the proof
     for (i, step) in steps.iter().enumerate() {
         if !is_same(one, step.place, other, i) {
             return false;
@@ -124,9 +129,9 @@ fn are_of_one_kind<'a, B: Allocator>(one: &Bench<'a, B>, other: &Bench<'a, B>) -
     one.names().same(other.names()) && one.limits() == other.limits()
 }
 
-/// Ok if these swaps lead from the remaining steps of one bench to those of the other, whatever their numbers; else why
-/// not. Swap `i` exchanges the steps at places `i` and `i + 1`, from 1: their nodes must differ, and neither may
-/// deliver what the other sent. (Causal equivalence, after Danos and Krivine.)
+/// `Ok` if these swaps lead from the remaining steps of `one` to those of `other`, whatever their numbers; otherwise
+/// why not. Swap `i` exchanges the steps at places `i` and `i + 1`, counted from 1: their nodes must differ, and
+/// neither may deliver what the other sent. (Causal equivalence, after Danos and Krivine.)
 pub fn same_cluster<'a, B: Allocator>(
     one: &Bench<'a, B>,
     other: &Bench<'a, B>,
@@ -135,6 +140,7 @@ pub fn same_cluster<'a, B: Allocator>(
     ensures answers { SwapsEnd one.now other.now places.now result }
     ensures equal_clusters { IfOk result (λ _. (c : Cluster) × (cluster_of one.now ≡ Ok c) × (cluster_of other.now ≡ Ok c)) }
 {
+    // form: hands out what the bench keeps
     one.bench_law();
     if !are_of_one_kind(one, other) {
         return Err(SwapFault::OtherBench);

@@ -1,4 +1,4 @@
-//! A set of texts with their numbers: the one place that names `indexmap`.
+//! A set of texts with their numbers: the one module of this crate that names `indexmap`.
 ghost use Rattle.std.specs.Prelude.{◌≡◌, ◌↔◌, [], ◌∷◌, ◌++◌, ◌<◌, ◌^◌, length, slice_get, option_copied, not, IsTrue, IfOk, OnErr, if◌then◌else◌};
 ghost use Rattle.std.specs.List.{list_any};
 ghost use Rattle.std.specs.Str.{bytes_eq};
@@ -34,21 +34,21 @@ impl<A: Allocator> TextSet<A> {
         self.texts.len()
     }
 
-    /// The number of a text.
+    /// The number of a text, counted from 0; `None` if the text isn't in the set.
     pub fn number_of(&self, text: &str) -> Option<usize>
         ensures { result ≡ number_in self.now text.now }
     {
         self.texts.get_index_of(text)
     }
 
-    /// The text with this number.
+    /// The text with this number, counted from 0; `None` if there is none.
     pub fn text(&self, number: usize) -> Option<&str>
         ensures { option_copied result ≡ slice_get self.now number }
     {
         Some(self.texts.get_index(number)?.as_str())
     }
 
-    /// Whether the texts and their order are the same.
+    /// Whether both have the same texts in the same order.
     pub fn same(&self, other: &TextSet<A>) -> bool
         ensures { IsTrue result ↔ (self.now ≡ other.now) }
     {
@@ -57,7 +57,7 @@ impl<A: Allocator> TextSet<A> {
 }
 
 impl<A: Allocator + Copy> TextSet<A> {
-    /// A set without texts.
+    /// The empty set.
     pub fn new(alloc: A) -> TextSet<A>
         ensures { result ≡ [] }
     {
@@ -66,7 +66,8 @@ impl<A: Allocator + Copy> TextSet<A> {
         }
     }
 
-    /// Appends the text if it is new, and says whether it was.
+    /// Appends the text if it is new, and says whether it was. It copies the text first, so memory may be refused even
+    /// for a text that is there already.
     pub fn insert(&mut self, text: &str) -> Result<bool, Oom>
         ensures added { IfOk result (λ new. new ≡ not (list_any (bytes_eq text.now) self.old)) }
         ensures texts { IfOk result (λ new. self.new ≡ (if new then self.old ++ text.now ∷ [] else self.old)) }
@@ -76,7 +77,7 @@ impl<A: Allocator + Copy> TextSet<A> {
         Ok(self.texts.insert(text)?)
     }
 
-    /// The same texts, in the same order.
+    /// A copy of the set, with the texts in the same order.
     pub fn try_copy(&self) -> Result<TextSet<A>, Oom>
         ensures { IfOk result (λ copy. copy ≡ self.now) }
     {

@@ -17,8 +17,8 @@ use entry_core::{Entry, EntryList, Handle, Spare, mask, masked};
 use std::alloc::Allocator;
 use std::marker::Model;
 
-/// The live entries of a name whose clocks have one quotient by 64. Its list may also hold entries that aren't live:
-/// they left while others had the list.
+/// The live entries of a name among the 64 clocks from `base * 64` on. The block's list may also hold entries that
+/// aren't live: they were removed from the block while other sets shared the list.
 #[derive(Drop)]
 pub struct Block<A: Allocator> {
     name: u16,
@@ -50,14 +50,14 @@ impl<A: Allocator> Model for Block<A> {
 }
 
 impl<A: Allocator> Block<A> {
-    /// The name of its entries.
+    /// The name of the block's entries.
     pub fn name(&self) -> u16
         ensures { result ≡ self.now.name }
     {
         self.name
     }
 
-    /// The quotient of their clocks by 64.
+    /// The base of the block, whose clocks are the 64 from `base * 64` on.
     pub fn base(&self) -> u64
         ensures base { result ≡ self.now.base }
         ensures small { result < 2 ^ 58 }
@@ -65,14 +65,14 @@ impl<A: Allocator> Block<A> {
         self.base
     }
 
-    /// Whether it stands before the block of this name and base.
+    /// Whether the block is below `name` and `base`, by name and then by base.
     pub fn is_before(&self, name: u16, base: u64) -> bool
         ensures { result ≡ is_before (dot name base) self.now }
     {
         (self.name, self.base) < (name, base)
     }
 
-    /// Whether it is the block of this name and base.
+    /// Whether the block is that of this name and base.
     pub fn is(&self, name: u16, base: u64) -> bool
         ensures { IsTrue result ↔ (key self.now ≡ dot name base) }
     {
@@ -83,6 +83,7 @@ impl<A: Allocator> Block<A> {
     pub fn told(&self)
         ensures { IsWithin self.now }
     {
+        // form: the proof reads the field here
         let _ = &self.name;
     }
 
@@ -94,14 +95,15 @@ impl<A: Allocator> Block<A> {
         usize::from(self.count)
     }
 
-    /// The clocks of its live entries, as a mask.
+    /// The clocks of the block's live entries, as a mask.
     pub fn live(&self) -> u64
         ensures { IsMaskOf self.now.name self.now.base result self.now.map }
     {
         self.live
     }
 
-    /// Appends to a list the dots of the entries whose clocks are in the mask.
+    /// Appends to `dots` the dots of the live entries whose clocks are in the mask. If memory is refused, some may have
+    /// been appended.
     pub fn push_dots(&self, dots: &mut Vec<Dot, A>, mask: u64) -> Result<(), Oom>
         ensures { OnOk result (dots.new.items ≡ dots.old.items ++ map (λ p. p.0) (filter (λ p. is_live mask p.0) (fin.entries self.now.map))) }
     {
@@ -112,14 +114,14 @@ impl<A: Allocator> Block<A> {
         masked::push_dots(dots, self.items.as_slice(), both)
     }
 
-    /// Its entries, live or not, and a mask of those that are live.
+    /// The entries of the block's list, live or not, and a mask of those that are live.
     pub fn entries(&self) -> (&[Handle<A>], u64)
         ensures { listed self.now.map ≡ live_ones result.1 result.0.now }
     {
         (self.items.as_slice(), self.live)
     }
 
-    /// The entry of the dot.
+    /// The live entry of the dot, or `None` if there is none.
     pub fn get(&self, dot: Dot) -> Option<&Handle<A>>
         ensures { option_copied result ≡ option_map (entry_of dot) (fin.get self.now.map dot) }
     {
@@ -133,7 +135,8 @@ impl<A: Allocator> Block<A> {
         }
     }
 
-    /// Takes out the entry of a dot of the block. It takes no memory.
+    /// Takes out the live entry of the dot; `None` if there is no such entry. The dot must be one of the block's 64. It
+    /// takes no memory.
     pub fn remove(&mut self, dot: Dot) -> Option<Entry<A>>
         requires { IsIn self.old.name self.old.base dot }
         ensures entry { result ≡ option_map (entry_of dot) (fin.get self.old.map dot) }
@@ -155,7 +158,8 @@ impl<A: Allocator> Block<A> {
         }
     }
 
-    /// Drops the entry of a dot of the block, and says whether there was one. It takes no memory.
+    /// Drops the live entry of the dot, and says whether there was one. The dot must be one of the block's 64. It takes
+    /// no memory.
     pub fn discard(&mut self, dot: Dot) -> bool
         requires { IsIn self.old.name self.old.base dot }
         ensures was { result ≡ is_some (fin.get self.old.map dot) }
@@ -179,7 +183,8 @@ impl<A: Allocator> Block<A> {
 }
 
 impl<A: Allocator + Copy> Block<A> {
-    /// The block of an entry, in the memory of a spare if there is one. Where memory is refused, the entry comes back.
+    /// A block with this entry alone. Its memory is taken out of `spare`, or asked for if that is `None`. If memory is
+    /// refused, the entry comes back.
     pub fn of(
         entry: Handle<A>,
         spare: &mut Option<Spare<A>>,
@@ -204,7 +209,8 @@ impl<A: Allocator + Copy> Block<A> {
         }
     }
 
-    /// Appends to a list handles of the entries whose clocks are in the mask.
+    /// Appends to `list` handles of the live entries whose clocks are in the mask. If memory is refused, some may have
+    /// been appended.
     pub fn push_copies(&self, list: &mut Vec<Handle<A>, A>, mask: u64, alloc: A) -> Result<(), Oom>
         ensures { OnOk result (pairs list.new.items ≡ pairs list.old.items ++ filter (λ p. is_live mask p.0) (fin.entries self.now.map)) }
     {
@@ -215,8 +221,8 @@ impl<A: Allocator + Copy> Block<A> {
         masked::push_copies(list, self.items.as_slice(), both, alloc)
     }
 
-    /// Inserts an entry of the block, with the memory of a spare if there is one. Where memory is refused, the entry
-    /// comes back.
+    /// Inserts an entry whose dot is one of the block's 64 and isn't live yet. Memory is taken out of `spare`, or asked
+    /// for if that is `None`. If memory is refused, the entry comes back.
     pub fn insert(
         &mut self,
         entry: Handle<A>,
@@ -243,8 +249,8 @@ impl<A: Allocator + Copy> Block<A> {
         }
     }
 
-    /// Takes out the entry of a dot of the block, as a handle: moved, or shared where others have the list. An `Err`
-    /// changes nothing.
+    /// Takes out the live entry of the dot as a handle: moved, or shared if others share the list. `Ok(None)` if there
+    /// is no such entry. The dot must be one of the block's 64. An `Err` changes nothing.
     pub fn take(&mut self, dot: Dot, alloc: A) -> Result<Option<Handle<A>>, Oom>
         requires { IsIn self.old.name self.old.base dot }
         ensures entry { IfOk result (λ taken. taken ≡ option_map (entry_of dot) (fin.get self.old.map dot)) }
@@ -269,7 +275,7 @@ impl<A: Allocator + Copy> Block<A> {
         }
     }
 
-    /// A block with the same entries, which shares them where it can.
+    /// A copy of the block. A list that may be shared is shared once more, any other is copied.
     pub fn try_share(&self, alloc: A) -> Result<Block<A>, Oom>
         ensures { IfOk result (λ copy. copy ≡ self.now) }
     {

@@ -1,4 +1,4 @@
-//! Blocks that rise by name and base: a search in them, and edits of one.
+//! Lists of blocks in the order of their names and bases: searches, and edits of one block.
 ghost use Rattle.std.specs.Prelude.{◌≡◌, ◌==◌, ◌+◌, ◌-◌, ◌<◌, ◌≤◌, ◌^◌, [], ◌∷◌, ◌++◌, if◌then◌else◌, IfErr, IfOk, IsOk, IsSome, OnErr, OnOk, MatchResult, Some, false, filter, insert, is_some, length, option_copied, remove, slice_get, take, vec_capacity, vec_len};
 ghost use Rattle.std.specs.declared.cmp.Ordering.TheVariants.{Less};
 ghost use Rattle.std.specs.FinMap as fin;
@@ -15,10 +15,11 @@ use dots_core::{Dot, NameSet, Oom};
 use entry_core::{Entry, Handle, Spare};
 use std::alloc::Allocator;
 
-/// Blocks in their order.
+/// Blocks in the order of their names and bases.
 type Row<A> = Vec<Block<A>, A>;
 
-/// The place of the first block that isn't before the one of this name and base, or the end.
+/// The place of the first block that isn't below `name` and `base`, by name and then by base; the number of blocks if
+/// there is none.
 pub fn place<A: Allocator>(blocks: &[Block<A>], name: u16, base: u64) -> usize
     requires { RisingBlocks blocks.now }
     ensures within { result ≤ length blocks.now }
@@ -28,14 +29,15 @@ pub fn place<A: Allocator>(blocks: &[Block<A>], name: u16, base: u64) -> usize
     blocks.partition_point(|block| block.is_before(name, base))
 }
 
-/// The block at a place, counted from 0.
+/// The block at `place`, counted from 0; `None` past the end.
 pub fn block_at<A: Allocator>(blocks: &[Block<A>], place: usize) -> Option<&Block<A>>
     ensures { option_copied result ≡ slice_get blocks.now place }
 {
     blocks.get(place)
 }
 
-/// The place of a block, or else the one where it would stand. The last block is looked at first.
+/// `Ok` with the place of the block of this name and base, or `Err` with the place where it would stand. The last block
+/// is looked at first, and then comes a binary search.
 pub fn search<A: Allocator>(blocks: &[Block<A>], name: u16, base: u64) -> Result<usize, usize>
     requires { RisingBlocks blocks.now }
     ensures { MatchResult result (λ at. IsBlockAt (dot name base) blocks.now at) (λ at. IsGap (dot name base) blocks.now at) }
@@ -54,12 +56,13 @@ pub fn search<A: Allocator>(blocks: &[Block<A>], name: u16, base: u64) -> Result
     search_all(blocks, name, base)
 }
 
-/// As `search`, without a first look at the last block.
+/// Like `search`, but doesn't look at the last block first.
 fn search_all<A: Allocator>(blocks: &[Block<A>], name: u16, base: u64) -> Result<usize, usize>
     requires { RisingBlocks blocks.now }
     ensures { MatchResult result (λ at. IsBlockAt (dot name base) blocks.now at) (λ at. IsGap (dot name base) blocks.now at) }
 {
     let at = place(blocks, name, base);
+    // form: each arm is a case of the proof
     match block_at(blocks, at) {
         Some(block) => {
             if block.is(name, base) {
@@ -72,7 +75,7 @@ fn search_all<A: Allocator>(blocks: &[Block<A>], name: u16, base: u64) -> Result
     }
 }
 
-/// As `search`, with a first look at the block at a hint. Any hint will do.
+/// Like `search`, but looks first at the block at `hint`. Any hint will do.
 fn search_near<A: Allocator>(
     blocks: &[Block<A>],
     hint: usize,
@@ -82,6 +85,7 @@ fn search_near<A: Allocator>(
     requires { RisingBlocks blocks.now }
     ensures { MatchResult result (λ at. IsBlockAt (dot name base) blocks.now at) (λ at. IsGap (dot name base) blocks.now at) }
 {
+    // form: each arm is a case of the proof
     match block_at(blocks, hint) {
         Some(block) => {
             if block.is(name, base) {
@@ -94,7 +98,7 @@ fn search_near<A: Allocator>(
     }
 }
 
-/// The entry of the dot.
+/// The entry of the dot, or `None` if there is none.
 pub fn get<A: Allocator>(blocks: &[Block<A>], dot: Dot) -> Option<&Handle<A>>
     requires { AreBlocks blocks.now }
     ensures { option_copied result ≡ option_map (entry_of dot) (fin.get (set_map blocks.now) dot) }
@@ -105,7 +109,8 @@ pub fn get<A: Allocator>(blocks: &[Block<A>], dot: Dot) -> Option<&Handle<A>>
     }
 }
 
-/// Takes out the entry of a dot, from the block at a place.
+/// Takes the entry of the dot out of the block at `at`, and the block out of the list if it is then empty. `None` if
+/// the block has no such entry. It takes no memory.
 pub fn take_out<A: Allocator>(blocks: &mut Row<A>, at: usize, dot: Dot) -> Option<Entry<A>>
     requires are { AreBlocks blocks.old.items }
     requires at { IsBlockAt (block_key dot) blocks.old.items at }
@@ -116,12 +121,13 @@ pub fn take_out<A: Allocator>(blocks: &mut Row<A>, at: usize, dot: Dot) -> Optio
 {
     let block = &mut blocks[at];
     let entry = block.remove(dot);
+    // form: hands out what the block keeps
     block.told();
     drop_empty(blocks, at);
     entry
 }
 
-/// Takes out the entry of a dot, from the block at a place, as a handle. An `Err` changes nothing.
+/// Like `take_out`, but gives a handle, and may ask for memory. An `Err` changes nothing.
 pub fn take_handle<A: Allocator + Copy>(
     blocks: &mut Row<A>,
     at: usize,
@@ -139,6 +145,7 @@ pub fn take_handle<A: Allocator + Copy>(
     let block = &mut blocks[at];
     match block.take(dot, alloc) {
         Ok(entry) => {
+            // form: hands out what the block keeps
             block.told();
             drop_empty(blocks, at);
             Ok(entry)
@@ -147,7 +154,7 @@ pub fn take_handle<A: Allocator + Copy>(
     }
 }
 
-/// Drops the entry of a dot, from the block at a place, and says whether there was one.
+/// Like `take_out`, but drops the entry, and says whether there was one.
 pub fn let_go<A: Allocator>(blocks: &mut Row<A>, at: usize, dot: Dot) -> bool
     requires are { AreBlocks blocks.old.items }
     requires at { IsBlockAt (block_key dot) blocks.old.items at }
@@ -158,12 +165,13 @@ pub fn let_go<A: Allocator>(blocks: &mut Row<A>, at: usize, dot: Dot) -> bool
 {
     let block = &mut blocks[at];
     let was = block.discard(dot);
+    // form: hands out what the block keeps
     block.told();
     drop_empty(blocks, at);
     was
 }
 
-/// Takes out the block at a place, if it is empty.
+/// Takes out the block at `at`, if it is empty.
 fn drop_empty<A: Allocator>(blocks: &mut Row<A>, at: usize)
     requires rises { RisingBlocks blocks.old.items }
     requires within { AllByRecursion IsWithin blocks.old.items }
@@ -178,7 +186,7 @@ fn drop_empty<A: Allocator>(blocks: &mut Row<A>, at: usize)
     }
 }
 
-/// Inserts an entry. Where memory is refused, the entry comes back.
+/// Inserts a new entry. If memory is refused, the entry comes back.
 pub fn put_in<A: Allocator + Copy>(blocks: &mut Row<A>, entry: Handle<A>) -> Result<(), Handle<A>>
     requires are { AreBlocks blocks.old.items }
     requires new { fin.get (set_map blocks.old.items) entry.dot ≡ None }
@@ -191,11 +199,13 @@ pub fn put_in<A: Allocator + Copy>(blocks: &mut Row<A>, entry: Handle<A>) -> Res
 {
     let mut none = None;
     let put = put_or_spare(blocks, entry, &mut none);
+    // form: drop before exit
     drop(none);
     put
 }
 
-/// Inserts an entry, with the memory of a spare; it asks for no memory.
+/// Inserts a new entry, with the memory of a spare. The list must have a place for one more block, so no memory is
+/// asked for.
 pub fn put_spared<A: Allocator + Copy>(blocks: &mut Row<A>, entry: Handle<A>, spare: Spare<A>)
     requires are { AreBlocks blocks.old.items }
     requires new { fin.get (set_map blocks.old.items) entry.dot ≡ None }
@@ -207,12 +217,13 @@ pub fn put_spared<A: Allocator + Copy>(blocks: &mut Row<A>, entry: Handle<A>, sp
 {
     let mut spare = Some(spare);
     let put = put_or_spare(blocks, entry, &mut spare);
+    // form: drop before exit
     drop(spare);
     put.unwrap();
 }
 
-/// Inserts an entry. It needs no memory with a spare and a place for one more block. Where memory is refused, the entry
-/// comes back.
+/// Inserts a new entry. Memory for it is taken out of `spare`, or asked for if that is `None`. With a spare and a place
+/// for one more block no memory is asked for. Otherwise, if memory is refused, the entry comes back.
 fn put_or_spare<A: Allocator + Copy>(
     blocks: &mut Row<A>,
     entry: Handle<A>,
@@ -236,7 +247,8 @@ fn put_or_spare<A: Allocator + Copy>(
     }
 }
 
-/// Inserts an entry into the block at a place.
+/// Inserts a new entry into the block at `at`. Memory is taken out of `spare`, or asked for if that is `None`. If
+/// memory is refused, the entry comes back.
 fn put_into<A: Allocator + Copy>(
     blocks: &mut Row<A>,
     at: usize,
@@ -258,6 +270,7 @@ fn put_into<A: Allocator + Copy>(
     let block = &mut blocks[at];
     match block.insert(entry, spare, alloc) {
         Ok(()) => {
+            // form: hands out what the block keeps
             block.told();
             Ok(())
         }
@@ -265,7 +278,8 @@ fn put_into<A: Allocator + Copy>(
     }
 }
 
-/// Inserts a block with an entry.
+/// Inserts at `at` a block with this entry alone. Memory for the block is taken out of `spare`, or asked for if that is
+/// `None`. If memory is refused, the entry comes back.
 fn put_new<A: Allocator + Copy>(
     blocks: &mut Row<A>,
     at: usize,
@@ -288,6 +302,7 @@ fn put_new<A: Allocator + Copy>(
     }
     match Block::of(entry, spare, alloc) {
         Ok(block) => {
+            // form: hands out what the block keeps
             block.told();
             put(blocks, at, block);
             Ok(())
@@ -296,7 +311,8 @@ fn put_new<A: Allocator + Copy>(
     }
 }
 
-/// Makes a place for one more block. In an empty list it makes exactly one.
+/// Makes a place in the list for one more block. If it must ask for memory, an empty list gets exactly one place, and
+/// any other list at least one.
 fn make_place<A: Allocator>(blocks: &mut Row<A>) -> Result<(), Oom>
     ensures items { blocks.new.items ≡ blocks.old.items }
     ensures len { vec_len blocks.new ≡ vec_len blocks.old }
@@ -311,7 +327,7 @@ fn make_place<A: Allocator>(blocks: &mut Row<A>) -> Result<(), Oom>
     }
 }
 
-/// Inserts a block at a place of a list that has room for it.
+/// Inserts a block at `at`, in a list that has room for it.
 fn put<A: Allocator>(blocks: &mut Row<A>, at: usize, block: Block<A>)
     requires within { at ≤ length blocks.old.items }
     requires room { vec_len blocks.old < vec_capacity blocks.old }
@@ -319,6 +335,7 @@ fn put<A: Allocator>(blocks: &mut Row<A>, at: usize, block: Block<A>)
     ensures len { vec_len blocks.new ≡ vec_len blocks.old + 1 }
     ensures capacity { vec_capacity blocks.old ≤ vec_capacity blocks.new }
 {
+    // form: the checker asks for the type of the result here
     let put: Result<_, _> = blocks.insert(at, block);
     put.unwrap();
 }
@@ -328,6 +345,7 @@ pub fn count_in<A: Allocator>(blocks: &[Block<A>]) -> usize
     requires { length (joined blocks.now) ≤ 2 ^ 62 }
     ensures { result ≡ length (joined blocks.now) }
 {
+    // form: a sum by hand, for the proof
     let mut count = 0;
     for block in blocks {
         count += block.len();
@@ -335,7 +353,7 @@ pub fn count_in<A: Allocator>(blocks: &[Block<A>]) -> usize
     count
 }
 
-/// Blocks with the same entries, which share them where they can.
+/// Copies of the blocks. A block's list that may be shared is shared once more, any other is copied.
 pub fn copies<A: Allocator + Copy>(blocks: &[Block<A>], alloc: A) -> Result<Row<A>, Oom>
     ensures { IfOk result (λ all. all.items ≡ blocks.now) }
 {
@@ -346,7 +364,7 @@ pub fn copies<A: Allocator + Copy>(blocks: &[Block<A>], alloc: A) -> Result<Row<
     Ok(all)
 }
 
-/// The blocks of these names, which share their entries where they can.
+/// Like `copies`, but of the blocks of these names alone.
 pub fn named<A: Allocator + Copy>(
     blocks: &[Block<A>],
     names: NameSet,
@@ -361,7 +379,7 @@ pub fn named<A: Allocator + Copy>(
     Ok(part)
 }
 
-/// How many of the blocks are of these names. No contract states it: it only says how much memory to ask for at once.
+/// How many of the blocks are of these names. No contract says so: it only decides how much memory to ask for at once.
 fn count_named<A: Allocator>(blocks: &[Block<A>], names: NameSet) -> usize {
     blocks
         .iter()
@@ -369,7 +387,7 @@ fn count_named<A: Allocator>(blocks: &[Block<A>], names: NameSet) -> usize {
         .count()
 }
 
-/// Appends to a list a block with the same entries, if it is of these names.
+/// Appends a copy of the block to `list`, if the block's name is among `names`.
 fn push_if<A: Allocator + Copy>(
     list: &mut Row<A>,
     block: &Block<A>,
@@ -384,8 +402,8 @@ fn push_if<A: Allocator + Copy>(
     Ok(())
 }
 
-/// The clocks with this quotient by 64 at which a name has entries, as a mask; and a hint for the next block. It looks
-/// first at the block at the given hint.
+/// A mask of the clocks at which the name has entries, among the 64 from `base * 64` on; and the hint for the search of
+/// a later block. The search that this call makes looks first at the block at `hint`.
 pub fn live_bits<A: Allocator>(
     blocks: &[Block<A>],
     hint: usize,

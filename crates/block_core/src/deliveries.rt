@@ -1,4 +1,5 @@
-//! What a message changes, by masks: which of its entries join, and which of ours leave.
+//! What the delivery of a message changes, found by masks: which of the message's entries join a set, and which of the
+//! set's own entries ('ours') leave.
 ghost use Rattle.std.specs.Prelude.{◌≡◌, ◌+◌, ◌++◌, ◌<◌, ◌≤◌, IfOk, OnOk, filter, length, map, true};
 ghost use Rattle.std.specs.FinMap as fin;
 ghost use Rattle.std.specs.FinSet as set;
@@ -14,7 +15,8 @@ use dots_core::{Dot, DotSet, NameSet, Oom};
 use entry_core::{Handle, mask};
 use std::alloc::Allocator;
 
-/// Appends to a list handles of the entries of a block that join.
+/// Appends to `list` handles of the block's entries that join: those whose name is in `names` and whose dot isn't in
+/// `seen`.
 fn push_joining<A: Allocator + Copy>(
     list: &mut Vec<Handle<A>, A>,
     block: &Block<A>,
@@ -24,6 +26,7 @@ fn push_joining<A: Allocator + Copy>(
 ) -> Result<(), Oom>
     ensures { OnOk result (pairs list.new.items ≡ pairs list.old.items ++ filter (λ p. is_new (set.contains names) seen.now p.0) (fin.entries block.now.map)) }
 {
+    // form: hands out what the block keeps
     block.told();
     if !names.has(block.name()) {
         return Ok(());
@@ -32,7 +35,7 @@ fn push_joining<A: Allocator + Copy>(
     block.push_copies(list, mask::others(old), alloc)
 }
 
-/// The message's entries of these names that weren't seen, by rising dot.
+/// Handles of the message's entries that join, by rising dot: those of `names` whose dots aren't in `seen`.
 pub fn joining<A: Allocator + Copy>(
     message: &[Block<A>],
     seen: &DotSet<A>,
@@ -51,7 +54,9 @@ pub fn joining<A: Allocator + Copy>(
     Ok(joining)
 }
 
-/// The place of the next block that may have an entry which wasn't seen. It passes over blocks up to the context clock.
+/// Passes over blocks from `at` on whose entries were all seen, and gives the place where it stops. It stops at `at` if
+/// there is no block, or one with the base 0. Otherwise it passes over the blocks of the same name that stand before
+/// the block of the name's context clock in `seen`.
 fn next_new<A: Allocator>(
     message: &[Block<A>],
     at: usize,
@@ -64,12 +69,15 @@ fn next_new<A: Allocator>(
     ensures within { result ≤ length message.now }
     ensures passed { HasNone (is_new (set.contains names) seen.now) message.now at result }
 {
+    // form: the parameter `names` is for the contract alone
     match block_at(message, at) {
         Some(block) => {
             let name = block.name();
+            // form: no entry has a name from 32 on; the test spares a requirement that says so
             if name >= 32 {
                 return at;
             }
+            // form: clock 0 is never seen; the test spares a requirement that no entry has it
             if block.base() == 0 {
                 return at;
             }
@@ -79,8 +87,8 @@ fn next_new<A: Allocator>(
     }
 }
 
-/// Appends to a list the dots of the entries of a block that leave. It looks first at the message's block at a hint;
-/// the answer is a hint for the next block.
+/// Appends to `dots` the dots of the block's entries that leave. The search for the message's block of the same name
+/// and base looks first at `hint`; the result is the hint for the next block.
 fn push_leaving<A: Allocator>(
     dots: &mut Vec<Dot, A>,
     block: &Block<A>,
@@ -90,9 +98,11 @@ fn push_leaving<A: Allocator>(
     names: NameSet,
 ) -> Result<usize, Oom>
     requires { AreBlocks message.now }
-    ensures dots { OnOk result (dots.new.items ≡ dots.old.items ++ map (λ p. p.0) (filter (λ p. is_gone (set.contains names) seen.now (set_map message.now) p.0) (fin.entries block.now.map))) }
+    ensures dots { OnOk result (dots.new.items ≡ dots.old.items ++ map (λ p. p.0)
+        (filter (λ p. is_gone (set.contains names) seen.now (set_map message.now) p.0) (fin.entries block.now.map))) }
     ensures hint { IfOk result (λ next. next ≤ length message.now) }
 {
+    // form: hands out what the block keeps
     block.told();
     let name = block.name();
     let base = block.base();
@@ -105,7 +115,8 @@ fn push_leaving<A: Allocator>(
     Ok(next)
 }
 
-/// The dots of our entries of these names that the message has seen and doesn't have, rising.
+/// The dots of our entries that leave, rising: those of `names` that the message speaks of (they are in `seen`) and for
+/// which it has no entry.
 pub fn leaving<A: Allocator + Copy>(
     blocks: &[Block<A>],
     message: &[Block<A>],
@@ -115,7 +126,8 @@ pub fn leaving<A: Allocator + Copy>(
 ) -> Result<Vec<Dot, A>, Oom>
     requires ours { AreBlocks blocks.now }
     requires theirs { AreBlocks message.now }
-    ensures { IfOk result (λ leaving. leaving.items ≡ fin.keys (fin.retain_keys (set_map blocks.now) (is_gone (set.contains names) seen.now (set_map message.now)))) }
+    ensures { IfOk result (λ leaving. leaving.items ≡ fin.keys
+        (fin.retain_keys (set_map blocks.now) (is_gone (set.contains names) seen.now (set_map message.now)))) }
 {
     let mut leaving = Vec::new(alloc);
     let mut hint = 0;
@@ -127,8 +139,9 @@ pub fn leaving<A: Allocator + Copy>(
     Ok(leaving)
 }
 
-/// The place of our next block that may have an entry which leaves. It passes over blocks that are alike on both sides,
-/// and blocks without a dot that the message has seen.
+/// The place of our first block from `at` on that may have an entry which leaves; the number of our blocks if there is
+/// none. It passes over blocks that are alike in ours and, from `hint` on, in the message's, and then over blocks
+/// without a dot that the message speaks of.
 fn next_gone<A: Allocator>(
     blocks: &[Block<A>],
     at: usize,
@@ -149,7 +162,8 @@ fn next_gone<A: Allocator>(
     next_seen(blocks, unlike, seen, names)
 }
 
-/// How many blocks from a place on are like those of the message from another on.
+/// How many blocks, one after the other, are alike on both sides, beginning at `at` in ours and at `hint` in the
+/// message's.
 fn count_alike<A: Allocator>(
     blocks: &[Block<A>],
     at: usize,
@@ -169,7 +183,8 @@ fn count_alike<A: Allocator>(
     count
 }
 
-/// Whether our block at a place and the message's block at another have entries at the same clocks.
+/// Whether our block at `at` and the message's at `there` are of the same name and base, with entries at the same
+/// clocks; `false` past the end of either list.
 fn is_alike<A: Allocator>(
     blocks: &[Block<A>],
     at: usize,
@@ -180,6 +195,7 @@ fn is_alike<A: Allocator>(
     ensures inside { result ≡ true → (at < length blocks.now) × (there < length message.now) }
     ensures alike { result ≡ true → AreAlike message.now blocks.now at (at + 1) }
 {
+    // form: each arm is a case of the proof
     match block_at(blocks, at) {
         Some(ours) => match block_at(message, there) {
             Some(theirs) => theirs.is(ours.name(), ours.base()) && ours.live() == theirs.live(),
@@ -189,7 +205,8 @@ fn is_alike<A: Allocator>(
     }
 }
 
-/// The place of our next block with a dot that the message has seen.
+/// The place of our first block from `at` on that may have a dot of `names` that the message speaks of; the number of
+/// our blocks if there is none.
 fn next_seen<A: Allocator>(
     blocks: &[Block<A>],
     at: usize,
@@ -217,7 +234,8 @@ fn next_seen<A: Allocator>(
     }
 }
 
-/// The place of the first block from a place on that isn't before the one of this name and base.
+/// The place of the first block from `at` on that isn't below `name` and `base`, by name and then by base; the number
+/// of blocks if there is none.
 fn place_behind<A: Allocator>(blocks: &[Block<A>], at: usize, name: u16, base: u64) -> usize
     requires rises { RisingBlocks blocks.now }
     requires within { at ≤ length blocks.now }
@@ -225,6 +243,7 @@ fn place_behind<A: Allocator>(blocks: &[Block<A>], at: usize, name: u16, base: u
     ensures within { result ≤ length blocks.now }
     ensures before { AreBefore (dot name base) blocks.now at result }
 {
+    // form: each arm is a case of the proof
     match block_at(blocks, at) {
         Some(block) => {
             if block.is_before(name, base) {

@@ -1,4 +1,4 @@
-//! `EntriesByDot`, live entries as a map by their dots, in blocks: what an entry set keeps.
+//! `EntriesByDot`, a map from dots to live entries, kept in blocks. `EntrySet` of `payload_core` is built on it.
 ghost use Rattle.std.specs.Prelude.{◌≡◌, ◌==◌, ◌↔◌, ◌+◌, ◌^◌, ◌<◌, ◌≤◌, IfErr, IfOk, IsOk, IsTrue, OnErr, OnOk, is_some, slice_get, vec_len};
 ghost use Rattle.std.specs.FinMap as fin;
 ghost use Rattle.std.specs.FinSet as set;
@@ -18,10 +18,11 @@ use entry_core::{Entry, Handle, Spare, Word};
 use std::alloc::Allocator;
 use std::marker::Model;
 
-/// No memory has room for as many entries.
+/// More entries than any memory has room for.
 const TOO_MANY: usize = 1 << 62;
 
-/// Live entries by their dots, with room for more.
+/// Live entries by their dots, with room for more. Each insert for which room was made has a spare and a place for a
+/// block.
 #[derive(Drop)]
 pub struct EntriesByDot<A: Allocator> {
     blocks: Vec<Block<A>, A>,
@@ -67,7 +68,7 @@ impl<A: Allocator> EntriesByDot<A> {
         }
     }
 
-    /// The allocator of its lists.
+    /// The allocator of the set's lists.
     pub fn allocator(&self) -> A
     where
         A: Copy,
@@ -75,7 +76,7 @@ impl<A: Allocator> EntriesByDot<A> {
         *self.blocks.allocator()
     }
 
-    /// How many entries it has.
+    /// How many entries the set has.
     pub fn len(&self) -> usize
         ensures len { result ≡ fin.len self.now.map }
         ensures small { result < 2 ^ 63 }
@@ -83,14 +84,14 @@ impl<A: Allocator> EntriesByDot<A> {
         self.count
     }
 
-    /// Whether it has no entry.
+    /// Whether the set has no entry.
     pub fn is_empty(&self) -> bool
         ensures { IsTrue result ↔ (self.now.map ≡ fin.empty) }
     {
         self.len() == 0
     }
 
-    /// The entry of the dot, in a logarithm of comparisons.
+    /// The entry of the dot, found by a binary search; `None` if there is none.
     pub fn get(&self, dot: Dot) -> Option<&Entry<A>>
         ensures { option_copied result ≡ option_map (entry_of dot) (fin.get self.now.map dot) }
     {
@@ -100,7 +101,9 @@ impl<A: Allocator> EntriesByDot<A> {
         }
     }
 
-    /// A handle of the dot's entry.
+    /// A handle of the dot's entry; `None` if there is none. An entry that may be shared is shared once more, and any
+    /// other is copied. An `Err` means that the count of an entry's copies is at its limit, or that memory for a copy
+    /// was refused.
     pub fn handle(&self, dot: Dot) -> Result<Option<Handle<A>>, Oom>
     where
         A: Copy,
@@ -120,14 +123,14 @@ impl<A: Allocator> EntriesByDot<A> {
         Walk::over(&self.blocks, None)
     }
 
-    /// A walk over the entries of a name by rising clock. It passes over the other names' blocks.
+    /// A walk over the entries of the name by rising clock. It passes over the other names' blocks.
     pub fn walk_of(&self, name: u16) -> Walk<'_, A>
         ensures { result ≡ listed (entries_of_names (λ n. n == name) self.now.map) }
     {
         Walk::over(&self.blocks, Some(name))
     }
 
-    /// The entry at a place, counted from 0 by rising dot. It walks over the entries.
+    /// The entry at `place`, counted from 0 by rising dot, found by a walk; `None` past the last.
     pub fn at(&self, place: usize) -> Option<&Entry<A>>
         ensures { option_copied result ≡ option_map (λ e. entry_of e.0 e.1) (slice_get (fin.entries self.now.map) place) }
     {
@@ -138,10 +141,12 @@ impl<A: Allocator> EntriesByDot<A> {
         walk.next()
     }
 
-    /// The place of the first entry whose dot is not below this one, or the end. It walks over the entries.
+    /// The place of the first entry whose dot is not below `dot`, found by a walk; the number of entries if there is
+    /// none.
     pub fn first_from(&self, dot: Dot) -> usize
         ensures { IsPlaceFrom dot (fin.entries self.now.map) result }
     {
+        // form: the proof reads the bound on the count here
         let _count = self.len();
         let mut place = 0;
         let mut walk = self.walk();
@@ -154,8 +159,8 @@ impl<A: Allocator> EntriesByDot<A> {
         place
     }
 
-    /// The dot of the least clock among those of a name that are tracked as this process, topic and key. It walks over
-    /// the name's entries.
+    /// The name's dot of least clock whose entry tracks this process under this topic and key; `None` if there is none.
+    /// It walks over the name's entries.
     pub fn first_tracked(&self, name: u16, pid: u64, topic: &Word<A>, key: &Word<A>) -> Option<Dot>
         ensures { result ≡ slice_get (dots_of name (is_tracked_as pid topic.now key.now) self.now.map) 0 }
     {
@@ -168,7 +173,7 @@ impl<A: Allocator> EntriesByDot<A> {
         None
     }
 
-    /// The dots of a name's entries that are of this process, by rising clock. It walks over the name's entries.
+    /// The dots of the name's entries that track this process, by rising clock. It walks over the name's entries.
     pub fn dots_of_process(&self, name: u16, pid: u64) -> Result<Vec<Dot, A>, Oom>
     where
         A: Copy,
@@ -203,13 +208,15 @@ impl<A: Allocator> EntriesByDot<A> {
                 None => return false,
             }
         }
+        // form: `is_none`, spelled out for the proof
         match others.next() {
             Some(_) => false,
             None => true,
         }
     }
 
-    /// Handles of the message's entries of these names that weren't seen, by rising dot.
+    /// Handles, by rising dot, of the entries that join when a message with this set is delivered to a store that has
+    /// seen the dots `seen`. These are the entries of `names` whose dots aren't in `seen`.
     pub fn joining(&self, seen: &DotSet<A>, names: NameSet) -> Result<Vec<Handle<A>, A>, Oom>
     where
         A: Copy,
@@ -219,7 +226,9 @@ impl<A: Allocator> EntriesByDot<A> {
         deliveries::joining(&self.blocks, seen, names, alloc)
     }
 
-    /// The dots of the entries of these names that a message has seen and doesn't have, rising.
+    /// The dots, rising, of the entries that leave this set when a message with the dots `seen` and the entries
+    /// `message` is delivered. These are the entries of `names` whose dots are in `seen` and have no entry in
+    /// `message`.
     pub fn leaving(
         &self,
         message: &EntriesByDot<A>,
@@ -234,7 +243,8 @@ impl<A: Allocator> EntriesByDot<A> {
         deliveries::leaving(&self.blocks, &message.blocks, seen, names, alloc)
     }
 
-    /// Takes out the entry of the dot, in a logarithm of comparisons. The room never falls.
+    /// Takes out the entry of the dot, found by a binary search; `None` if there is none. It takes no memory, and the
+    /// room never falls.
     pub fn remove(&mut self, dot: Dot) -> Option<Entry<A>>
         ensures entry { result ≡ option_map (entry_of dot) (fin.get self.old.map dot) }
         ensures map { self.new.map ≡ fin.remove self.old.map dot }
@@ -252,9 +262,9 @@ impl<A: Allocator> EntriesByDot<A> {
         }
     }
 
-    /// Takes out the entry of the dot, as a handle: moved, or shared where others have the list. An `Err` changes
-    /// nothing: it means that a count of copies can't rise, or that memory for a copy of an entry with a long word was
-    /// refused. The room never falls.
+    /// Takes out the entry of the dot, as a handle: moved, or shared if other sets share its block's list. `Ok(None)`
+    /// if there is no such entry. An `Err` changes nothing: the count of an entry's copies is at its limit, or memory
+    /// to copy an entry that handles can't share was refused. The room never falls.
     pub fn take(&mut self, dot: Dot) -> Result<Option<Handle<A>>, Oom>
     where
         A: Copy,
@@ -279,7 +289,7 @@ impl<A: Allocator> EntriesByDot<A> {
         }
     }
 
-    /// Drops the entry of the dot, and says whether there was one. It takes no memory, and copies nothing. The room
+    /// Drops the entry of the dot, and says whether there was one. It takes no memory and copies nothing, and the room
     /// never falls.
     pub fn discard(&mut self, dot: Dot) -> bool
         ensures was { result ≡ is_some (fin.get self.old.map dot) }
@@ -297,8 +307,8 @@ impl<A: Allocator> EntriesByDot<A> {
         }
     }
 
-    /// After an `Ok`, `count` inserts succeed. The entries stay, and so does the room that was made before, also where
-    /// memory is refused.
+    /// Makes room: after an `Ok`, `count` inserts succeed. The entries stay, and so does the room that was made before,
+    /// even if memory is refused.
     pub fn make_room(&mut self, count: usize) -> Result<(), Oom>
     where
         A: Copy,
@@ -315,8 +325,8 @@ impl<A: Allocator> EntriesByDot<A> {
         make_spares(&mut self.spares, count, alloc)
     }
 
-    /// Inserts a new entry, in a logarithm of comparisons. Where room was made, it asks for no memory. Else, where
-    /// memory is refused, the entry comes back.
+    /// Inserts a new entry, whose place a binary search finds. If room was made, it asks for no memory. Otherwise the
+    /// entry comes back if memory is refused, or if the set has `TOO_MANY` entries.
     pub fn insert(&mut self, entry: Entry<A>) -> Result<(), Entry<A>>
     where
         A: Copy,
@@ -333,7 +343,8 @@ impl<A: Allocator> EntriesByDot<A> {
         }
     }
 
-    /// Inserts a new entry, with memory that is asked for.
+    /// Inserts a new entry, in memory that it asks for. The entry comes back if memory is refused, or if the set has
+    /// `TOO_MANY` entries.
     fn insert_asking(&mut self, entry: Entry<A>) -> Result<(), Entry<A>>
     where
         A: Copy,
@@ -353,8 +364,8 @@ impl<A: Allocator> EntriesByDot<A> {
         }
     }
 
-    /// Inserts a new entry, which may be shared. Where memory is refused, the entry comes back. The room that was made
-    /// is not used.
+    /// Inserts a new entry, which may be shared. If memory is refused, or the set has `TOO_MANY` entries, the entry
+    /// comes back. It uses no spare, but perhaps a place for a block.
     pub fn put(&mut self, entry: Handle<A>) -> Result<(), Handle<A>>
     where
         A: Copy,
@@ -377,8 +388,7 @@ impl<A: Allocator> EntriesByDot<A> {
         }
     }
 
-    /// Inserts a new entry, which may be shared and for which room was made. The room is used only where memory is
-    /// refused.
+    /// Inserts a new entry, which may be shared and for which room was made. A spare is used only if memory is refused.
     pub fn put_ready(&mut self, entry: Handle<A>)
     where
         A: Copy,
@@ -392,7 +402,8 @@ impl<A: Allocator> EntriesByDot<A> {
         }
     }
 
-    /// Inserts a new entry, with the memory of a spare.
+    /// Inserts a new entry, in the memory of a spare. The entry comes back if there is no spare or no place for one
+    /// more block, or if the set has `TOO_MANY` entries.
     fn insert_spare(&mut self, entry: Entry<A>) -> Result<(), Entry<A>>
     where
         A: Copy,
@@ -416,7 +427,8 @@ impl<A: Allocator> EntriesByDot<A> {
         Ok(())
     }
 
-    /// The entries of these names, which are shared where they can be.
+    /// A set of the entries of these names. A block's list that may be shared is shared once more, any other is copied.
+    /// The set has no room.
     pub fn only(&self, names: NameSet) -> Result<EntriesByDot<A>, Oom>
     where
         A: Copy,
@@ -433,7 +445,8 @@ impl<A: Allocator> EntriesByDot<A> {
         })
     }
 
-    /// A set with the same entries, which are shared where they can be.
+    /// A copy of the set. A block's list that may be shared is shared once more, any other is copied. The copy has no
+    /// room.
     pub fn try_copy(&self) -> Result<EntriesByDot<A>, Oom>
     where
         A: Copy,

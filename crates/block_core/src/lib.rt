@@ -1,12 +1,18 @@
 //! Live entries by their dots, in blocks that sets share.
 //!
-//! The crates above see a set of entries as a finite map with its room, and nothing of how it is kept: a list of blocks, which
-//! rises by name and base. A block has 64 clocks of a name: a mask of those whose entries are live, and a list of handles,
-//! which extracts and copies of the set share. An edit copies a list that others have; a removal takes no memory, and only
-//! clears a bit where others have the list.
+//! The crates above see a set of entries as a finite map with its room. How a set is kept they don't see: as a list of
+//! blocks, in the order of their names and bases. A block has the live entries of one name among the 64 clocks from 64
+//! times its base on. It keeps a list of handles and a mask of the clocks whose entries are live. Extracts and copies
+//! of the set share the list, unless a spare gave its memory or an entry has a long word. If others share the list, an
+//! insert copies it first, and a removal only clears a bit of the mask.
 //!
-//! In the order to read them: `list_edits`, of the list of a block; `block`; `blocks`, a row of them; `deliveries`, what a
-//! message changes, by masks; `walk`; `entries_by_dot`, the set.
+//! A function often passes an `Err` on by a match where `?` would do, since `?` would drop more values there.
+//!
+//! The crate stands on `entry_core` (entries, lists and masks) and `dots_core` (dots and sets of them).
+//!
+//! The modules in reading order: `list_edits`, edits of the list of a block; `block`, the live entries of one name
+//! among 64 clocks; `blocks`, a list of blocks; `deliveries`, what a message changes, by masks; `walk`, over the
+//! entries by rising dot; `entries_by_dot`, the set.
 #![tactic(auto)]
 
 mod block;

@@ -1,4 +1,4 @@
-//! Edits of the list of a block, which may hold entries that aren't live.
+//! Edits of the list of a block. The list may hold entries that aren't live.
 ghost use Rattle.std.specs.Prelude.{◌≡◌, ◌∷◌, [], ◌<◌, ◌≤◌, ◌⊎◌, IfErr, IfOk, IsOk, IsSome, OnErr, OnOk, Some, length, slice_get, vec_capacity};
 ghost use Rattle.std.specs.FinMap as fin;
 ghost use Rattle.std.specs.List.{remove};
@@ -12,7 +12,7 @@ use entry_core::spot::spot_in;
 use entry_core::{Entry, EntryList, Handle, Spare};
 use std::alloc::Allocator;
 
-/// Takes the entry at a place out of a list, or copies it where others have the list.
+/// Takes the entry at `place` out of the list, or copies it if others share the list. It takes no memory.
 pub fn take_out<A: Allocator>(items: &mut EntryList<A>, place: usize) -> Entry<A>
     requires { place < length items.old }
     ensures entry { Some result ≡ slice_get items.old place }
@@ -24,7 +24,8 @@ pub fn take_out<A: Allocator>(items: &mut EntryList<A>, place: usize) -> Entry<A
     }
 }
 
-/// Moves the entry at a place out of a list, or shares it where others have the list. An `Err` changes nothing.
+/// Moves the entry at `place` out of the list, or gives a further handle of it if others share the list. An `Err`
+/// changes nothing.
 pub fn take_handle<A: Allocator>(
     items: &mut EntryList<A>,
     place: usize,
@@ -41,7 +42,7 @@ pub fn take_handle<A: Allocator>(
     }
 }
 
-/// A handle of the entry at a place.
+/// A handle of the entry at `place`.
 fn share_at<A: Allocator>(entries: &[Handle<A>], place: usize, alloc: A) -> Result<Handle<A>, Oom>
     requires { place < length entries.now }
     ensures { IfOk result (λ e. Some e ≡ slice_get entries.now place) }
@@ -49,7 +50,7 @@ fn share_at<A: Allocator>(entries: &[Handle<A>], place: usize, alloc: A) -> Resu
     entries[place].try_share(alloc)
 }
 
-/// Drops the entry at a place of a list, unless others have the list.
+/// Drops the entry at `place`, unless others share the list.
 pub fn let_go<A: Allocator>(items: &mut EntryList<A>, place: usize)
     requires { place < length items.old }
     ensures { (items.new ≡ remove items.old place) ⊎ (items.new ≡ items.old) }
@@ -60,7 +61,7 @@ pub fn let_go<A: Allocator>(items: &mut EntryList<A>, place: usize)
     }
 }
 
-/// A copy of the entry at a place.
+/// A copy of the entry at `place`.
 fn copy_at<A: Allocator>(entries: &[Handle<A>], place: usize) -> Entry<A>
     requires within { place < length entries.now }
     requires short { AreShort entries.now }
@@ -69,7 +70,8 @@ fn copy_at<A: Allocator>(entries: &[Handle<A>], place: usize) -> Entry<A>
     entries[place].entry().copy_short()
 }
 
-/// A list of one entry, in the memory of a spare if there is one. Where memory is refused, the entry comes back.
+/// A list of this entry alone. Its memory is taken out of `spare`, or asked for if that is `None`. If memory is
+/// refused, the entry comes back.
 pub fn list_of<A: Allocator + Copy>(
     entry: Handle<A>,
     spare: &mut Option<Spare<A>>,
@@ -85,7 +87,7 @@ pub fn list_of<A: Allocator + Copy>(
     }
 }
 
-/// A list of one entry in memory that is asked for.
+/// Like `list_of`, but always asks for the memory.
 fn one_list<A: Allocator + Copy>(entry: Handle<A>, alloc: A) -> Result<EntryList<A>, Handle<A>>
     ensures ok { IfOk result (λ list. list ≡ entry ∷ []) }
     ensures given_back { IfErr result (λ back. back ≡ entry) }
@@ -96,7 +98,8 @@ fn one_list<A: Allocator + Copy>(entry: Handle<A>, alloc: A) -> Result<EntryList
     }
 }
 
-/// An empty list, filled with one entry.
+/// Puts the entry into `list`, which is empty and has room for it, and makes an `EntryList` of `list`. If memory is
+/// refused, the entry comes back.
 fn filled<A: Allocator>(
     mut list: Vec<Handle<A>, A>,
     entry: Handle<A>,
@@ -114,16 +117,16 @@ fn filled<A: Allocator>(
     }
 }
 
-/// A list of one entry, in the memory of a spare.
+/// A list of this entry alone, in the memory of a spare.
 fn spare_list<A: Allocator>(entry: Handle<A>, spare: Spare<A>) -> EntryList<A>
     ensures { result ≡ entry ∷ [] }
 {
     EntryList::of_own(spare.with(entry))
 }
 
-/// Puts in an entry that isn't among the live ones, with the memory of a spare if there is one. Without a spare, a list
-/// that others have, too, is copied without the entries that aren't live; where memory is refused, the entry comes
-/// back.
+/// Puts in an entry whose dot isn't live. A spare in `spare` is taken out, and the entries of the list move into its
+/// memory. Without a spare the entry goes into the list itself or, if the list refuses it, into a copy of the live
+/// entries, which then is the list. If memory is refused, the entry comes back.
 pub fn put_in<A: Allocator + Copy>(
     items: &mut EntryList<A>,
     live: u64,
@@ -148,7 +151,8 @@ pub fn put_in<A: Allocator + Copy>(
     }
 }
 
-/// As `put_in`, with memory that is asked for.
+/// Like `put_in`, but without a spare: puts the entry into the list itself or, if the list refuses it, into a copy of
+/// the live entries, which then is the list.
 fn put_own_or_copy<A: Allocator + Copy>(
     items: &mut EntryList<A>,
     live: u64,
@@ -168,7 +172,8 @@ fn put_own_or_copy<A: Allocator + Copy>(
     }
 }
 
-/// Puts an entry into the list itself, if nobody else has it and there is memory.
+/// Puts the entry into the list itself. The entry comes back if others share the list, if others may share the list and
+/// the entry has a long word, or if memory is refused.
 fn put_own<A: Allocator>(
     items: &mut EntryList<A>,
     live: u64,
@@ -187,7 +192,7 @@ fn put_own<A: Allocator>(
     }
 }
 
-/// Puts an entry into a copy of the live ones.
+/// Replaces the list by a copy of its live entries, with this entry put in. If memory is refused, the entry comes back.
 fn put_in_copy<A: Allocator + Copy>(
     items: &mut EntryList<A>,
     live: u64,
@@ -213,7 +218,7 @@ fn put_in_copy<A: Allocator + Copy>(
     }
 }
 
-/// A list of these entries and one more.
+/// Puts the entry among those of `list`, and makes an `EntryList` of them. If memory is refused, the entry comes back.
 fn listed_with<A: Allocator>(
     mut list: Vec<Handle<A>, A>,
     live: u64,
@@ -235,7 +240,7 @@ fn listed_with<A: Allocator>(
     }
 }
 
-/// Puts an entry into a list, which moves, or is copied, into the memory of a spare.
+/// Moves or copies the list into the memory of a spare, and puts the entry in. It asks for no memory.
 fn put_in_spare<A: Allocator>(
     items: &mut EntryList<A>,
     live: u64,
@@ -253,7 +258,8 @@ fn put_in_spare<A: Allocator>(
     *items = EntryList::of_own(list);
 }
 
-/// Inserts an entry, and gives its place. Where memory is refused, the entry comes back.
+/// Inserts `entry` into `list`. If `list` has an entry of the same dot, which then isn't live, `entry` replaces that.
+/// Gives the place of `entry`. If memory is refused, the entry comes back.
 fn put_among<A: Allocator>(
     list: &mut Vec<Handle<A>, A>,
     live: u64,

@@ -1,4 +1,4 @@
-//! `Walk`, over entries by rising dot.
+//! `Walk`, which goes over entries by rising dot.
 ghost use Rattle.std.specs.Prelude.{◌≡◌, ◌∷◌, [], MatchOption, filter, option_copied};
 ghost use Rattle.block_core.specs.Sets.{listed_in, wants};
 
@@ -8,8 +8,8 @@ use entry_core::{Entry, Handle};
 use std::alloc::Allocator;
 use std::marker::Model;
 
-/// The entries that a walk has still to give, by rising dot: those of a set, or of one name. A contract sees them as a
-/// list.
+/// The entries that a walk has still to give, by rising dot: those of all names, or those of `name` alone. A contract
+/// sees them as a list.
 #[derive(Drop)]
 pub struct Walk<'a, A: Allocator> {
     entries: &'a [Handle<A>],
@@ -30,7 +30,7 @@ impl<'a, A: Allocator> Model for Walk<'a, A> {
 }
 
 impl<'a, A: Allocator> Walk<'a, A> {
-    /// A walk over the entries of blocks, of all names or of one.
+    /// A walk over the entries of these blocks: those of `name`, or of all names if `name` is `None`.
     pub fn over(blocks: &'a [Block<A>], name: Option<u16>) -> Walk<'a, A>
         ensures { result ≡ listed_in (filter (λ b. wants name b.name) blocks.now) }
     {
@@ -42,10 +42,11 @@ impl<'a, A: Allocator> Walk<'a, A> {
         }
     }
 
-    /// The next entry.
+    /// Steps on, and gives the next entry; `None` at the end.
     pub fn next(&mut self) -> Option<&'a Entry<A>>
         ensures { MatchOption (option_copied result) (self.old ≡ []) (λ e. self.old ≡ e ∷ self.new) }
     {
+        // form: the proof names the loop
         'blocks: loop {
             if let Some((entry, rest)) = next_live(self.entries, self.live) {
                 self.entries = rest;
@@ -62,7 +63,7 @@ impl<'a, A: Allocator> Walk<'a, A> {
     }
 }
 
-/// Whether a name is wanted: each is, or only one.
+/// Whether `name` is wanted: it is `wanted`, or `wanted` is `None`.
 fn is_wanted(wanted: Option<u16>, name: u16) -> bool
     ensures { result ≡ wants wanted name }
 {

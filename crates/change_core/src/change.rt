@@ -1,4 +1,4 @@
-//! `Change`: one thing that the network could have done otherwise, or that a node could have noticed otherwise.
+//! `Change`: one step that could have gone otherwise: lost, never made, moved, or made once more.
 ghost use Rattle.std.specs.Prelude.{◌≡◌, ◌≤◌, ◌+◌, ◌==◌, ◌&&◌, length, slice_range};
 ghost use Rattle.node_core.specs.Operations.{plain, sends};
 ghost use Rattle.change_core.specs.Changes.{has_send, is_change, is_delivery, is_notice, may_pass, rank};
@@ -6,7 +6,7 @@ ghost use Rattle.change_core.specs.Changes.{has_send, is_change, is_delivery, is
 use bench_core::{Kept, Step};
 use std::alloc::Allocator;
 
-/// What becomes of a step.
+/// What is changed about a step.
 #[derive(Clone, Copy, Debug, PartialEq, Eq)]
 pub enum Kind {
     /// The delivery is lost.
@@ -21,8 +21,8 @@ pub enum Kind {
     Again,
 }
 
-/// A change of the step at one place, from 0. The second place is that of the step directly before or behind which it
-/// comes; where the step is left out, it is the same place.
+/// A change of the step at `place`, counted from 0. The step comes, or comes again, directly before or behind the step
+/// at `beside`. For a step that is left out, `beside` is `place`.
 #[derive(Clone, Copy, Debug, PartialEq, Eq)]
 pub struct Change {
     pub kind: Kind,
@@ -31,7 +31,7 @@ pub struct Change {
 }
 
 impl Kind {
-    /// The place of this kind in the order of kinds.
+    /// The number of this kind in the order of kinds, counted from 0.
     pub fn rank(self) -> u8
         ensures { result ≡ rank self }
     {
@@ -51,6 +51,7 @@ fn is_delivery<A: Allocator>(step: &Step<A>) -> bool
     matches!(step, Step::Deliver { .. })
 }
 
+/// Whether the step is a notice: an up, a down or a permanently down.
 fn is_notice<A: Allocator>(step: &Step<A>) -> bool
     ensures { result ≡ is_notice (plain step.now) }
 {
@@ -67,7 +68,7 @@ fn is_send_of<A: Allocator>(kept: &Kept<A>, node: u16) -> bool
     kept.node == node && kept.step.sends()
 }
 
-/// Whether a send of the node is among the steps.
+/// Whether one of the steps is a send of this node.
 fn has_send<A: Allocator>(steps: &[Kept<A>], node: u16) -> bool
     ensures { result ≡ has_send steps.now node }
 {
@@ -79,7 +80,8 @@ fn has_send<A: Allocator>(steps: &[Kept<A>], node: u16) -> bool
     false
 }
 
-/// Whether the step may be moved past these.
+/// Whether the step `kept` may be moved past the steps `passed`: it is a delivery or a notice, or a send that passes no
+/// send of its node.
 fn may_pass<A: Allocator>(passed: &[Kept<A>], kept: &Kept<A>) -> bool
     ensures { result ≡ may_pass passed.now kept.now }
 {
@@ -89,7 +91,7 @@ fn may_pass<A: Allocator>(passed: &[Kept<A>], kept: &Kept<A>) -> bool
     kept.step.sends() && !has_send(passed, kept.node)
 }
 
-/// Whether the run of these steps has this change.
+/// Whether this change can be made to the run of these steps. It doesn't say whether the changed run is possible.
 #[tactic(auto, unfolding(crate::specs::Changes::is_change))]
 pub fn is_change<A: Allocator>(steps: &[Kept<A>], change: Change) -> bool
     ensures { result ≡ is_change steps.now change }

@@ -1,4 +1,4 @@
-//! What the nodes did with a change, as marks of an order.
+//! The steps of a run with a change made to them, as marks, and an order of these.
 ghost use Rattle.std.specs.Prelude.{◌≡◌, ◌≤◌, ◌<◌, ◌+◌, ◌++◌, ℕ, IfOk, OnOk, Some, length, map, option_map, slice_get};
 ghost use Rattle.std.specs.List.{flat_map, AllByRecursion};
 ghost use Rattle.order_core.specs.Orders.{order_of};
@@ -16,7 +16,7 @@ type Marks<A> = Vec<Mark, A>;
 
 pub(crate) type Places<A> = Vec<usize, A>;
 
-/// The mark of the step at this place.
+/// The mark of the step `kept`, which stands at `place`.
 fn mark_of<W: Allocator>(kept: &Kept<W>, place: usize) -> Mark
     ensures { result ≡ mark_of place kept.now }
 {
@@ -28,7 +28,7 @@ fn mark_of<W: Allocator>(kept: &Kept<W>, place: usize) -> Mark
     }
 }
 
-/// Appends the marks of the steps from one place to another.
+/// Appends the marks of the steps at the places from `from` up to, but not including, `to`.
 fn put_piece<W: Allocator, A: Allocator>(
     marks: &mut Marks<A>,
     steps: &[Kept<W>],
@@ -44,7 +44,7 @@ fn put_piece<W: Allocator, A: Allocator>(
     Ok(())
 }
 
-/// Appends the marks of the steps in these ranges of places.
+/// Appends the marks of the steps in these ranges of places, which don't include their ends.
 fn put_pieces<W: Allocator, A: Allocator>(
     marks: &mut Marks<A>,
     steps: &[Kept<W>],
@@ -59,7 +59,8 @@ fn put_pieces<W: Allocator, A: Allocator>(
     Ok(())
 }
 
-/// The marks of what the nodes did with this change.
+/// The marks of the steps with this change. Each node's marks stand in the order in which the node then takes its
+/// steps.
 #[tactic(auto, unfolding(crate::specs::Marked::changed_marks))]
 pub(crate) fn changed_marks<W: Allocator, A: Allocator>(
     steps: &[Kept<W>],
@@ -108,14 +109,14 @@ pub(crate) fn changed_marks<W: Allocator, A: Allocator>(
     Ok(marks)
 }
 
-/// The places of steps in the order of these marks.
+/// The places of the marks, in their order.
 fn places_of<A: Allocator>(marks: &[Mark], alloc: A) -> Result<Places<A>, Oom>
     ensures { IfOk result (λ places. places.items ≡ map (λ m. m.place) marks.now) }
 {
     Ok(marks.iter().map(|mark| mark.place).collect(alloc)?)
 }
 
-/// The places of all steps.
+/// The places of all steps: 0, 1, 2 and so on.
 pub(crate) fn all_places<W: Allocator, A: Allocator>(
     steps: &[Kept<W>],
     alloc: A,
@@ -129,7 +130,7 @@ pub(crate) fn all_places<W: Allocator, A: Allocator>(
     Ok(places)
 }
 
-/// The places of the steps of a run with this change, in an order, if they have one.
+/// The run with this change, as places of steps, in the order that `order` finds; `None` if there is no order.
 pub(crate) fn places_with<W: Allocator, A: Allocator + Copy>(
     steps: &[Kept<W>],
     change: Change,
@@ -141,6 +142,7 @@ pub(crate) fn places_with<W: Allocator, A: Allocator + Copy>(
 {
     let marks = changed_marks(steps, change, alloc)?;
     let found = order(alloc, marks.as_slice());
+    // form: drop before exit
     drop(marks);
     let Some(run) = found? else {
         return Ok(None);

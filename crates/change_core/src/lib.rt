@@ -1,8 +1,9 @@
-//! The single changes of what the nodes did, each in its order, and where a run with one leads.
+//! The single changes of a run, and where a run with such a change leads. A run is what each node did, in its order.
 //!
-//! It stands on `bench_core`, whose cluster plays a changed run, on `order_core`, which finds an order of what the nodes did, and on
-//! `diff_core`, which lists who is online. In the order to read them: `change`, one change, and whether a run has it; `steps`, copies
-//! of steps; `changed`, the steps with a change; `rows`, what a cluster shows; `walk`, a run that is played and taken back, and
+//! The crate stands on `bench_core`, whose cluster plays a changed run, on `order_core`, which finds an order of what
+//! the nodes did, and on `diff_core`, which lists who is online. It names the plain types of the crates below. The
+//! modules in reading order: `change`, one change, and whether it can be made to a run; `steps`, copies of steps;
+//! `changed`, the steps with a change; `rows`, what a node shows; `walk`, a run that is played and taken back, and
 //! `playing`, where changed runs lead; `running`, the run with a change.
 #![tactic(auto)]
 

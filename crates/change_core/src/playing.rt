@@ -1,5 +1,5 @@
-//! `Search`: where changed runs lead. It plays each run from the place where it parts with the one before, and stops where it
-//! meets a run whose end is known.
+//! `Search`, which finds where changed runs lead. A run is played from the place where it parts from the run that was
+//! played last, and only until it meets a run whose end is known.
 ghost use Rattle.std.specs.Prelude.{◌≡◌, ◌<◌, ◌≤◌, ◌-◌, IfOk, drop, length, option_map};
 ghost use Rattle.bench_core.specs.Machine.{Machine};
 ghost use Rattle.change_core.specs.Ends.{rows_before};
@@ -17,8 +17,9 @@ use payload_core::{Oom, Word};
 use std::alloc::Allocator;
 use std::marker::Model;
 
-/// How many steps of a run are played to see whether it meets a run whose end is known. Most runs meet it at the first
-/// step; those that don't meet it within a few dozen mostly never do.
+/// How many steps are played to see whether a run meets the second known run that is tried; for the first known run one
+/// step is played. Most runs meet one of the two at once; most of those that meet none within a few dozen steps never
+/// do.
 const FAR: usize = 64;
 
 /// The places of a run's steps, and the rows at its end.
@@ -38,16 +39,16 @@ impl<A: Allocator> Model for Known<A> {
     ghost view = { λ k. record { places = k.places.items; rows = k.rows.items } };
 }
 
-/// Two walks, on which runs are played beside each other, and two runs whose ends are known.
+/// Two walks, on which runs are played side by side, and two runs whose ends are known.
 #[derive(Drop)]
 pub struct Search<'a, B: Allocator> {
     here: Walk<'a, B>,
     there: Walk<'a, B>,
     /// The recorded run.
     recorded: Known<&'a B>,
-    /// The last run that was possible.
+    /// The last run that was possible; the recorded one at first.
     last: Known<&'a B>,
-    /// Whether the next run is expected to end as the last one did.
+    /// Whether the next run is expected to end as `last` does rather than as `recorded` does.
     prefers_last: bool,
 }
 
@@ -61,7 +62,7 @@ impl<'a, B: Allocator> Model for Search<'a, B> {
     ghost view = { λ s. record { here = s.here; there = s.there; recorded = s.recorded; last = s.last } };
 }
 
-/// How many places at the end of both are the same.
+/// How many places the two lists have in common at their ends.
 fn common_end(places: &[usize], others: &[usize]) -> usize
     ensures within { result ≤ length places.now }
     ensures others { result ≤ length others.now }
@@ -76,7 +77,9 @@ fn common_end(places: &[usize], others: &[usize]) -> usize
     most
 }
 
-/// Plays these steps on both walks, and says whether they met.
+/// Plays up to `far` of the steps at `places` on both walks, until their clusters are the same, and says whether they
+/// became so. The clusters are compared only before step 0, 1, 3, 7 and so on of these, and not after the last. False
+/// also if a walk refuses a step.
 fn meet_on<'a, B: Allocator>(
     here: &mut Walk<'a, B>,
     there: &mut Walk<'a, B>,
@@ -98,8 +101,9 @@ fn meet_on<'a, B: Allocator>(
     Ok(false)
 }
 
-/// Plays two runs from where they part to where their steps are the same again, and then up to `far` more steps; says
-/// whether they met.
+/// Plays `run` on the walk `here` and `known` on `there`, each up to the place from which on their steps are the same,
+/// and then up to `far` more steps on both. Says whether `meet_on` found the walks' clusters to be the same. False also
+/// if a step is refused.
 fn meet<'a, B: Allocator>(
     here: &mut Walk<'a, B>,
     there: &mut Walk<'a, B>,
@@ -124,7 +128,7 @@ fn meet<'a, B: Allocator>(
     meet_on(here, there, steps, end, far)
 }
 
-/// As `meet`, with a known run.
+/// Like `meet`, but takes the places of the second run out of a `Known`.
 fn meet_known<'a, B: Allocator>(
     here: &mut Walk<'a, B>,
     there: &mut Walk<'a, B>,
@@ -140,8 +144,8 @@ fn meet_known<'a, B: Allocator>(
     meet(here, there, steps, run, known.places.as_slice(), far)
 }
 
-/// The recorded run, with the rows at its end.
-fn run_as_it_was<W: Allocator, A: Allocator + Copy>(
+/// The recorded run, with `before`, the rows at its end.
+fn recorded_run<W: Allocator, A: Allocator + Copy>(
     steps: &[Kept<W>],
     before: &[OnlineRow<A>],
     alloc: A,
@@ -155,7 +159,7 @@ fn run_as_it_was<W: Allocator, A: Allocator + Copy>(
 }
 
 impl<'a, B: Allocator> Search<'a, B> {
-    /// A search on a bench with these steps, which shows these rows.
+    /// A search on a bench that has these steps and shows the rows `before`.
     pub fn new(
         bench: &Bench<'a, B>,
         steps: &[Kept<&'a B>],
@@ -165,9 +169,10 @@ impl<'a, B: Allocator> Search<'a, B> {
         requires { steps.now ≡ bench.now.state.remaining }
         ensures { IfOk result (λ search. (q : Question) → before.now ≡ rows_before bench.now q → IsSearch bench.now q steps.now search) }
     {
+        // form: hands out what the value keeps
         bench.bench_law();
-        let recorded = run_as_it_was(steps, before, alloc)?;
-        let last = run_as_it_was(steps, before, alloc)?;
+        let recorded = recorded_run(steps, before, alloc)?;
+        let last = recorded_run(steps, before, alloc)?;
         let here = Walk::new(bench, alloc)?;
         let there = Walk::new(bench, alloc)?;
         Ok(Search {
@@ -179,7 +184,8 @@ impl<'a, B: Allocator> Search<'a, B> {
         })
     }
 
-    /// Plays the run of the steps at these places beside a known one, and says whether they met.
+    /// Plays `run`, which is given by the places of its steps, side by side with the last run if `is_last`, and else
+    /// with the recorded one (see `meet`). Says whether their clusters were found to be the same within `far` steps.
     fn meets(
         &mut self,
         steps: &[Kept<&'a B>],
@@ -205,16 +211,17 @@ impl<'a, B: Allocator> Search<'a, B> {
         )
     }
 
-    /// Whether the run is expected to end as the last changed one rather than as the recorded one, since it parts later
-    /// with the last one.
+    /// Guesses whether the run ends as the last one did rather than as the recorded one: yes if it has more steps at
+    /// its end in common with the last one. If it has as many in common with either, `prefers_last` decides.
     fn is_near_last(&self, run: &[usize]) -> bool {
         let by_last = common_end(run, self.last.places.as_slice());
         let by_recorded = common_end(run, self.recorded.places.as_slice());
         by_recorded < by_last || (by_recorded == by_last && self.prefers_last)
     }
 
-    /// Looks for a known run that ends as the run of the steps at these places does. Gives whether it is the last one,
-    /// or `None` if neither is found to.
+    /// Looks for a known run with the same end as `run`, which is given by the places of its steps: true stands for the
+    /// last run, false for the recorded one. `None` if neither was found to end the same, though it may. Notes in
+    /// `prefers_last` which of the two the next run is expected to end like.
     fn find_known(&mut self, steps: &[Kept<&'a B>], run: &[usize]) -> Result<Option<bool>, Oom>
         requires { AreWalks steps.now self.old }
         ensures { IfOk result (Finds steps.now run.now self.old self.new) }
@@ -232,7 +239,7 @@ impl<'a, B: Allocator> Search<'a, B> {
         Ok(None)
     }
 
-    /// The rows at the end of a known run.
+    /// A copy of the rows at the end of the last run if `is_last`, and else of the recorded one.
     fn known_rows(&self, is_last: bool, alloc: &'a B) -> Result<Rows<&'a B>, Oom>
         ensures { IfOk result (λ rows. rows.items ≡ (known_of is_last self.now).rows) }
     {
@@ -242,8 +249,8 @@ impl<'a, B: Allocator> Search<'a, B> {
         copied_rows(self.recorded.rows.as_slice(), alloc)
     }
 
-    /// The rows that are asked for at the end of the run of the steps at these places, if each step is accepted. The
-    /// run is played alone.
+    /// The rows with this topic and key at the node, at the end of the run of the steps at these places; `None` if a
+    /// step is refused. Plays the run up to its end.
     fn own_rows(
         &mut self,
         steps: &[Kept<&'a B>],
@@ -264,7 +271,8 @@ impl<'a, B: Allocator> Search<'a, B> {
         Ok(Some(rows))
     }
 
-    /// The rows that are asked for at the end of the run of the steps at these places, if each is accepted.
+    /// Like `own_rows`, but first looks for a known run that ends the same. If one is found, its
+    /// rows are copied, and the run isn't played to its end.
     fn rows_of(
         &mut self,
         steps: &[Kept<&'a B>],
@@ -284,7 +292,8 @@ impl<'a, B: Allocator> Search<'a, B> {
         }
     }
 
-    /// The rows that are asked for at the end of a run with this change, if it is possible.
+    /// The rows with this topic and key at the node, at the end of the run with this change; `None` if that run isn't
+    /// possible. A possible run becomes the last one.
     pub fn rows_after(
         &mut self,
         steps: &[Kept<&'a B>],
@@ -297,7 +306,8 @@ impl<'a, B: Allocator> Search<'a, B> {
         requires walks { AreWalks steps.now self.old }
         requires place { change.place < length steps.now }
         requires beside { change.beside < length steps.now }
-        ensures { IfOk result (λ rows. (m : Machine) → steps.now ≡ m.state.remaining → IsSearch m (record { node = node; topic = topic.now; key = key.now }) steps.now self.old →
+        ensures { IfOk result (λ rows. (m : Machine) → steps.now ≡ m.state.remaining
+            → IsSearch m (record { node = node; topic = topic.now; key = key.now }) steps.now self.old →
             AreRowsAfter m (record { node = node; topic = topic.now; key = key.now }) steps.now change self.new (option_map (λ r. r.items) rows)) }
     {
         let Some(run) = places_with(steps, change, alloc)? else {

@@ -1,4 +1,4 @@
-//! The rows that are asked for.
+//! The rows of a topic and a key in a node's online list.
 ghost use Rattle.std.specs.Prelude.{◌≡◌, IfOk, filter, option_map};
 ghost use Rattle.change_core.specs.Ends.{rows_before};
 ghost use Rattle.change_core.specs.Questions.{is_of, rows_at, rows_in};
@@ -46,16 +46,18 @@ pub(crate) fn rows_in<'a, B: Allocator>(
 ) -> Result<Rows<&'a B>, Oom>
     ensures { IfOk result (λ rows. rows.items ≡ rows_in (record { node = node; topic = topic.now; key = key.now }) (option_map (λ n. n.now) found.entry)) }
 {
+    // form: the parameter `node` is for the contract alone
     let Some(found) = found else {
         return Ok(Vec::new(alloc));
     };
     let listed = online_list(alloc, found.replica())?;
     let rows = rows_of(alloc, listed.as_slice(), topic, key);
+    // form: drop before exit
     drop(listed);
     rows
 }
 
-/// The rows that the cluster shows.
+/// The rows with this topic and key in the online list of a node of the cluster; none if there is no such node.
 #[tactic(auto, unfolding(crate::specs::Questions::rows_at))]
 pub(crate) fn rows_at<'a, B: Allocator>(
     cluster: &Cluster<'a, B>,
@@ -69,7 +71,8 @@ pub(crate) fn rows_at<'a, B: Allocator>(
     rows_in(cluster.node(node), node, topic, key, alloc)
 }
 
-/// The rows at the end of the recorded run.
+/// The rows of this node's online list with this topic and key, at the end of the recorded run; none if there is no
+/// such node.
 pub fn rows_before<'a, B: Allocator>(
     bench: &Bench<'a, B>,
     node: u16,

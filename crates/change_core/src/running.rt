@@ -11,7 +11,7 @@ use order_core::order;
 use payload_core::Oom;
 use std::alloc::Allocator;
 
-/// The run of these steps with a change, if it has an order.
+/// The run of these steps with a change, in the order that `order` finds; `None` if there is none.
 fn run_of<'a, B: Allocator>(
     steps: &[Kept<&'a B>],
     change: Change,
@@ -23,6 +23,7 @@ fn run_of<'a, B: Allocator>(
 {
     let marks = changed_marks(steps, change, alloc)?;
     let found = order(alloc, marks.as_slice());
+    // form: drop before exit
     drop(marks);
     let Some(run) = found? else {
         return Ok(None);
@@ -30,8 +31,9 @@ fn run_of<'a, B: Allocator>(
     Ok(Some(copied_at(steps, &run, alloc)?))
 }
 
-/// The remaining steps with a change: each node's steps in their order, and those of different nodes as near to the
-/// recorded order as messages allow; `None` where no order has each message sent before it comes.
+/// The remaining steps with a change: each node's in the order that the change gives them, and those of different nodes
+/// as near to the recorded order as messages allow (see `order` of `order_core`). `None` if each order delivers some
+/// message before it is sent.
 pub fn run_with<'a, B: Allocator>(
     bench: &Bench<'a, B>,
     change: Change,
@@ -43,6 +45,7 @@ pub fn run_with<'a, B: Allocator>(
 {
     let steps = copied(bench.remaining(), alloc)?;
     let run = run_of(steps.as_slice(), change, alloc);
+    // form: drop before exit
     drop(steps);
     run
 }

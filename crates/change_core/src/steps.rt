@@ -8,10 +8,10 @@ use order_core::Mark;
 use payload_core::Oom;
 use std::alloc::Allocator;
 
-/// Steps of a run.
+/// Steps of a run, with their nodes and numbers.
 pub type Steps<A> = Vec<Kept<A>, A>;
 
-/// A step with the same number, of the same node.
+/// A copy of a step, with its number and node.
 fn copy_of<A: Allocator + Copy>(kept: &Kept<A>) -> Result<Kept<A>, Oom>
     ensures { IfOk result (λ copy. copy ≡ kept.now) }
 {
@@ -34,7 +34,7 @@ pub fn copied<'a, B: Allocator>(journal: &Journal<'a, B>, alloc: &'a B) -> Resul
     Ok(copies)
 }
 
-/// Appends a copy of the step at this place, if there is one.
+/// Appends a copy of the step at `place`, if there is one.
 fn put_copy<A: Allocator + Copy>(
     copies: &mut Steps<A>,
     steps: &[Kept<A>],
@@ -48,7 +48,7 @@ fn put_copy<A: Allocator + Copy>(
     }
 }
 
-/// Copies of the steps at the places of these marks.
+/// Copies of the steps at the places of these marks, in the order of the marks.
 pub(crate) fn copied_at<A: Allocator + Copy>(
     steps: &[Kept<A>],
     marks: &[Mark],

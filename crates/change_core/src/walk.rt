@@ -1,4 +1,4 @@
-//! `Walk`: a run that is played on a cluster of its own, and from which steps are taken back.
+//! `Walk`: a run that is played on a cluster apart from the bench's, and whose last steps can be taken back.
 ghost use Rattle.std.specs.Prelude.{◌≡◌, ◌≤◌, ◌-◌, List, IfOk, OnOk, length, take};
 ghost use Rattle.journal_core.specs.Journals.{Kept as PlainKept};
 ghost use Rattle.bench_core.specs.Clusters.{opening_of};
@@ -10,7 +10,7 @@ use payload_core::Oom;
 use std::alloc::Allocator;
 use std::marker::Model;
 
-/// A step that was taken: its place, its node, and what leads back from it.
+/// A step that was taken: its place among the recorded steps, its node, and its inverse.
 #[derive(Drop)]
 struct Taken<A: Allocator> {
     place: usize,
@@ -29,7 +29,7 @@ impl<A: Allocator> Model for Taken<A> {
     ghost view = { λ t. record { place = t.place; node = t.node; inverse = plain_inverse t.inverse } };
 }
 
-/// The cluster to which some steps led, and the way back.
+/// A cluster, and the steps that led to it, with their inverses.
 #[derive(Drop)]
 pub(crate) struct Walk<'a, B: Allocator> {
     cluster: Cluster<'a, B>,
@@ -46,7 +46,7 @@ impl<'a, B: Allocator> Model for Walk<'a, B> {
     ghost view = { λ w. record { cluster = w.cluster; taken = w.taken.items } };
 }
 
-/// How many steps at the beginning of the walk are those at these places.
+/// The length of the common beginning of two lists: the places of the steps taken, and `places`.
 fn common<A: Allocator>(taken: &[Taken<A>], places: &[usize]) -> usize
     ensures within { result ≤ length taken.now }
     ensures same { take result (places_of taken.now) ≡ take result places.now }
@@ -62,7 +62,7 @@ fn common<A: Allocator>(taken: &[Taken<A>], places: &[usize]) -> usize
 }
 
 impl<'a, B: Allocator> Walk<'a, B> {
-    /// A walk at the beginning of the bench, with no step taken.
+    /// A walk with no step taken, on empty nodes: as many as the bench has, and with its limits.
     pub(crate) fn new(bench: &Bench<'a, B>, alloc: &'a B) -> Result<Self, Oom>
         ensures { IfOk result (λ walk. (ks : List PlainKept) → IsWalk ks (opening_of (node_limits bench.now.limits) (length bench.now.names)) walk) }
     {
@@ -73,7 +73,7 @@ impl<'a, B: Allocator> Walk<'a, B> {
         })
     }
 
-    /// Where the steps led.
+    /// The cluster to which the steps led.
     pub(crate) fn cluster(&self) -> &Cluster<'a, B>
         ensures { result.now ≡ self.now.cluster }
     {
@@ -87,7 +87,8 @@ impl<'a, B: Allocator> Walk<'a, B> {
         self.taken.len()
     }
 
-    /// Takes the step at this place, if there is one, and says whether it was accepted.
+    /// Takes the step at `place`, and says whether it was accepted. True, with nothing changed, if there is no such
+    /// step. If a request for memory is refused, the step may have been taken, and its inverse is dropped.
     pub(crate) fn ask_at(&mut self, steps: &[Kept<&'a B>], place: usize) -> Result<bool, Oom>
         ensures { IfOk result (Asks steps.now place self.old self.new) }
     {
@@ -109,7 +110,7 @@ impl<'a, B: Allocator> Walk<'a, B> {
         }
     }
 
-    /// Takes the last step back.
+    /// Takes the last step back, if there is one. If a request for memory is refused, the step's inverse is dropped.
     fn back(&mut self) -> Result<(), Oom>
         requires { IsSomeWalk self.old }
         ensures less { OnOk result (self.new.taken ≡ take (length self.old.taken - 1) self.old.taken) }
@@ -124,13 +125,14 @@ impl<'a, B: Allocator> Walk<'a, B> {
             inverse,
         } = taken;
         if let Err((inverse, _)) = self.cluster.give_back(node, inverse) {
+            // form: drop before exit
             drop(inverse);
             return Err(Oom);
         }
         Ok(())
     }
 
-    /// Takes steps back until `count` are left.
+    /// Takes the last steps back, so that the first `count` stay taken.
     fn back_to(&mut self, count: usize) -> Result<(), Oom>
         requires walk { IsSomeWalk self.old }
         requires count { count ≤ length self.old.taken }
@@ -143,7 +145,9 @@ impl<'a, B: Allocator> Walk<'a, B> {
         Ok(())
     }
 
-    /// Goes to where the steps at these places lead, and says whether all were accepted.
+    /// Turns the walk into that of the steps at `places`, from empty nodes on, and says whether all were accepted; if
+    /// not, the walk ends before the step that was refused. The steps that the walk and `places` have in common at the
+    /// beginning stay, and the walk's other steps are taken back first.
     pub(crate) fn go_to(&mut self, steps: &[Kept<&'a B>], places: &[usize]) -> Result<bool, Oom>
         requires { IsWalkOf steps.now self.old }
         ensures { IfOk result (GoesTo steps.now places.now self.old self.new) }

@@ -1,10 +1,11 @@
-//! The clocks of a name as bits, 64 at a time; the first of them is a multiple of 64.
+//! 64 clocks of a name as the bits of a number: bit `k` stands for the clock `low + k`, where `low` is a multiple of
+//! 64.
 
 ghost use Rattle.std.specs.Prelude.{◌≡◌, ℕ, ◌+◌, ◌<◌, ◌≤◌, ◌^◌, ◌==◌, ◌&&◌, ◌||◌, false, length, nat_le, nat_lt, take};
 ghost use Rattle.dots_core.specs.ClockBits.{has_bit};
 ghost use Rattle.dots_core.specs.Clocks.{RisesAbove, is_among};
 
-/// The clocks from 1 to `clock`, as bits for the 64 clocks from `low` on.
+/// Which of the 64 clocks from `low` on are among those from 1 to `clock`, as bits.
 pub(crate) fn run_bits(clock: u64, low: u64) -> u64
     requires { low + 63 < 2 ^ 64 }
     ensures { (k : ℕ) → k < 64 → has_bit result k ≡ (nat_lt 0 (low + k) && nat_le (low + k) clock) }
@@ -12,12 +13,13 @@ pub(crate) fn run_bits(clock: u64, low: u64) -> u64
     if clock < low {
         return 0;
     }
+    // no dot has the clock 0
     let first = if low == 0 { 1 } else { 0 };
     let end = (clock - low).min(63) + 1;
     ones_below(end) - ones_below(first)
 }
 
-/// The `count` lowest bits.
+/// The number whose `count` lowest bits are set, and no others.
 fn ones_below(count: u64) -> u64
     requires { count ≤ 64 }
     ensures { result + 1 ≡ 2 ^ count }
@@ -29,7 +31,7 @@ fn ones_below(count: u64) -> u64
     }
 }
 
-/// The clocks of a cloud, as bits for the 64 clocks from `low` on.
+/// Which of the 64 clocks from `low` on are in the cloud, as bits.
 pub(crate) fn cloud_bits(cloud: &[u64], low: u64) -> u64
     requires low { low + 63 < 2 ^ 64 }
     requires rises { RisesAbove 0 cloud.now }
@@ -42,7 +44,7 @@ pub(crate) fn cloud_bits(cloud: &[u64], low: u64) -> u64
     bits_among(&cloud[first..], low)
 }
 
-/// How many clocks at the front of the cloud are below this one.
+/// How many clocks at the front of the cloud are below `low`.
 fn place_from(cloud: &[u64], low: u64) -> usize
     requires { RisesAbove 0 cloud.now }
     ensures within { result ≤ length cloud.now }
@@ -51,7 +53,7 @@ fn place_from(cloud: &[u64], low: u64) -> usize
     cloud.partition_point(|clock| *clock < low)
 }
 
-/// The clocks of a list, as bits for the 64 clocks from `low` on.
+/// Which of the 64 clocks from `low` on are in the rising list, as bits.
 fn bits_among(clocks: &[u64], low: u64) -> u64
     requires low { low + 63 < 2 ^ 64 }
     requires rises { RisesAbove 0 clocks.now }
@@ -59,6 +61,7 @@ fn bits_among(clocks: &[u64], low: u64) -> u64
 {
     let mut bits = 0;
     for clock in clocks {
+        // form: the caller passes no clock below `low`; the test spares a requirement that says so
         if *clock >= low {
             if *clock - low >= 64 {
                 return bits;
@@ -69,7 +72,7 @@ fn bits_among(clocks: &[u64], low: u64) -> u64
     bits
 }
 
-/// The bits with one more set.
+/// `bits` with bit `at` set, too.
 fn with_bit(bits: u64, at: u64) -> u64
     requires { at < 64 }
     ensures { (k : ℕ) → has_bit result k ≡ ((k == at) || has_bit bits k) }

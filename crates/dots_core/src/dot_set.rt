@@ -18,8 +18,8 @@ use std::alloc::{Allocator, Global};
 use std::marker::Model;
 use std::mem;
 
-/// A finite set of dots. It keeps one `Part` for each name, in a place of its own, so an empty set takes no memory. The
-/// value is large, some 1,300 bytes with a reference as its allocator: move few of them about.
+/// A finite set of dots. It holds an array with a `Part` for each of the 32 names, so an empty set takes no memory. The
+/// value is large, some 1,300 bytes if its allocator is a reference: avoid moving it.
 #[derive(Drop)]
 pub struct DotSet<A: Allocator = Global> {
     parts: [Part<A>; 32],
@@ -55,8 +55,8 @@ impl<A: Allocator> DotSet<A> {
         }
     }
 
-    /// Whether the dot is in the set. Up to the context clock of its name that is one comparison, and above it a search
-    /// in the cloud.
+    /// Whether the dot is in the set; a dot with a name from 32 on never is. Up to the context clock of its name this
+    /// takes one comparison, and above it a binary search in the cloud.
     pub fn contains(&self, dot: Dot) -> bool
         ensures { result ≡ set.contains self.now dot }
     {
@@ -66,8 +66,9 @@ impl<A: Allocator> DotSet<A> {
         }
     }
 
-    /// The name's dots whose clocks have this quotient by 64, as bits: a clock's bit stands at its remainder. The
-    /// context clock gives them by a shift, and the cloud by one search.
+    /// Which of the name's 64 dots with the clocks from `base * 64` on are in the set, as bits: bit `k` is that of
+    /// clock `base * 64 + k`. A name from 32 on has no bits. It takes a few shifts for the context clock, one binary
+    /// search in the cloud, and a look at each clock of the cloud among the 64.
     pub fn bits_of(&self, name: u16, base: u64) -> u64
         requires { base < 2 ^ 58 }
         ensures { AreBitsOf name base result self.now }
@@ -100,6 +101,7 @@ impl<A: Allocator> DotSet<A> {
     pub fn is_empty(&self) -> bool
         ensures { IsTrue result ↔ (self.now ≡ set.empty) }
     {
+        // form: a loop over the names, for the proof
         for name in 0..32 {
             if !self.parts[name].is_empty() {
                 return false;
@@ -112,6 +114,7 @@ impl<A: Allocator> DotSet<A> {
     pub fn same(&self, other: &DotSet<A>) -> bool
         ensures { IsTrue result ↔ (self.now ≡ other.now) }
     {
+        // form: a loop over the names, for the proof
         for name in 0..32 {
             if !self.parts[name].same(&other.parts[name]) {
                 return false;
@@ -120,7 +123,8 @@ impl<A: Allocator> DotSet<A> {
         true
     }
 
-    /// Whether it has each dot of the name that the other has. It searches for each clock of the other's cloud.
+    /// Whether the set has each dot of `name` that `other` has. Each clock in the cloud of `other` above this set's
+    /// context clock takes a binary search.
     pub fn has_all_of(&self, other: &DotSet<A>, name: u16) -> bool
         requires { name < 32 }
         ensures { IsTrue result ↔ HasAllOf name self.now other.now }
@@ -129,8 +133,8 @@ impl<A: Allocator> DotSet<A> {
         self.parts[at].has_all_of(&other.parts[at])
     }
 
-    /// The first dot of the set that has one of these names and is not below this dot: one of the dot's own name, found
-    /// by a search, or else the first dot of a later name.
+    /// The first dot of the set that has one of `names` and isn't below `dot`; `None` if there is none. A search finds
+    /// it among the dots of `dot.name`; if none of these qualifies, it is the first dot of a later name in `names`.
     pub fn first_from(&self, names: NameSet, dot: Dot) -> Option<Dot>
         ensures { IsFirstDot (set.contains names) self.now dot result }
     {
@@ -146,8 +150,8 @@ impl<A: Allocator> DotSet<A> {
     }
 
     /// Inserts the dot, and says whether it is new. The dot after the context clock moves that clock on, past the
-    /// clocks of the cloud that follow it without a gap; any other new dot goes into the cloud. The cloud alone may
-    /// take memory.
+    /// clocks of the cloud that follow it without a gap; any other new dot goes into the cloud. Only the cloud may take
+    /// memory.
     pub fn insert(&mut self, dot: Dot) -> Result<bool, Oom>
         requires { IsValid dot }
         ensures ok { OnOk result (self.new ≡ set.insert self.old dot) }
@@ -158,8 +162,9 @@ impl<A: Allocator> DotSet<A> {
         self.parts[usize::from(dot.name)].insert(dot.clock)
     }
 
-    /// Takes out the dot, and says whether it was there. If it was below the context clock, the clocks between the two
-    /// go into the cloud, which may take memory. The last dot of a name takes none.
+    /// Takes out the dot, and says whether it was there. If the context clock covered the dot, the clocks above it, up
+    /// to the context clock, go into the cloud, which may take memory. Taking out the greatest dot of a name takes
+    /// none.
     pub fn remove(&mut self, dot: Dot) -> Result<bool, Oom>
         requires { IsValid dot }
         ensures ok { OnOk result (self.new ≡ set.remove self.old dot) }
@@ -170,8 +175,8 @@ impl<A: Allocator> DotSet<A> {
         self.parts[usize::from(dot.name)].remove(dot.clock)
     }
 
-    /// Adds the other's dots of the known names other than the own one, in time linear in their parts. A name where the
-    /// other has no new dot takes no memory.
+    /// Adds the dots of `other` whose names are in `known` and aren't `own`, in time linear in the parts of these
+    /// names. A name without a new dot takes no memory.
     pub fn union_known(&mut self, other: &DotSet<A>, known: NameSet, own: u16) -> Result<(), Oom>
     where
         A: Copy,
@@ -182,8 +187,8 @@ impl<A: Allocator> DotSet<A> {
         union_from(&mut self.parts, &other.parts, known.without(own), 0)
     }
 
-    /// Adds the other's dots of these names, in time linear in their parts. A name where the other has no new dot takes
-    /// no memory.
+    /// Adds the dots of `other` whose names are in `names`, in time linear in the parts of these names. A name without
+    /// a new dot takes no memory.
     pub fn union_named(&mut self, other: &DotSet<A>, names: NameSet) -> Result<(), Oom>
     where
         A: Copy,
@@ -193,7 +198,7 @@ impl<A: Allocator> DotSet<A> {
         union_from(&mut self.parts, &other.parts, names, 0)
     }
 
-    /// A set of the dots of these names.
+    /// A copy of the set with the dots of these names alone.
     pub fn only(&self, names: NameSet) -> Result<DotSet<A>, Oom>
     where
         A: Copy,
@@ -209,7 +214,7 @@ impl<A: Allocator> DotSet<A> {
         Ok(chosen)
     }
 
-    /// A set with the same dots.
+    /// A copy of the set.
     pub fn try_copy(&self) -> Result<DotSet<A>, Oom>
     where
         A: Copy,
@@ -230,7 +235,7 @@ impl<A: Allocator> DotSet<A> {
         self.parts[usize::from(name)].try_copy()
     }
 
-    /// Takes out the name's dots, and gives its context clock and cloud.
+    /// Takes out the name's dots, and returns the context clock and cloud that it had.
     pub fn drop_name(&mut self, name: u16) -> Part<A>
     where
         A: Copy,
@@ -243,8 +248,8 @@ impl<A: Allocator> DotSet<A> {
         mem::replace(&mut self.parts[usize::from(name)], Part::empty(alloc))
     }
 
-    /// Replaces the name's context clock and cloud by these. If `part_of` or `drop_name` gave them for the name,
-    /// `laws::part_law` says that its dots are again what they were then.
+    /// Replaces the name's context clock and cloud by `part`. If `part_of` or `drop_name` gave `part` for this name,
+    /// `laws::part_law` says that the name's dots are again what they were then.
     pub fn set_part(&mut self, name: u16, part: Part<A>)
         requires { name < 32 }
         ensures part { IsPartOf self.new name part }
@@ -259,6 +264,7 @@ impl<A: Allocator> DotSet<A> {
     pub fn valid_law(&self)
         ensures { AreValid self.now }
     {
+        // form: the proof reads the field here
         let _ = &self.parts;
     }
 
@@ -271,7 +277,8 @@ impl<A: Allocator> DotSet<A> {
     }
 }
 
-// The least clock at which a dot of `name` is not below `dot`. The name is not below that of the dot.
+/// The least clock with which a dot of `name` is not below `dot`: the clock of `dot` if `name` is the name of `dot`,
+/// and 0 if `name` is a later name. No caller passes an earlier name.
 fn clock_from(dot: Dot, name: u16) -> u64
     ensures own { name ≡ dot.name → result ≡ dot.clock }
     ensures later { dot.name < name → result ≡ 0 }
@@ -279,8 +286,9 @@ fn clock_from(dot: Dot, name: u16) -> u64
     if name == dot.name { dot.clock } else { 0 }
 }
 
-// Adds the other parts of these names, from `name` on. Whatever may be refused memory comes first, for all
-// names; then each part is put in place. The calls hold the parts until then.
+/// Adds the parts of `others` to `parts`, for each of `names` from `name` on; if memory is refused, `parts` stays. On
+/// the way down the recursion makes each union, which may be refused memory; on the way back, when nothing can be
+/// refused any more, the recursion puts each union in its place.
 fn union_from<A: Allocator + Copy>(
     parts: &mut [Part<A>],
     others: &[Part<A>],
@@ -305,6 +313,7 @@ fn union_from<A: Allocator + Copy>(
     union_from(parts, others, names, name + 1)?;
     if let Some(part) = new {
         parts[at] = part;
+        // form: the part has moved into its place, so this case returns by itself
         return Ok(());
     }
     Ok(())

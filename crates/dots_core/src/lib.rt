@@ -1,10 +1,10 @@
 //! Dots, and finite sets of them.
 //!
-//! A dot is the unique stamp of one add of one replica. The crates above see a set of dots as a finite set; how it is
-//! kept, as a context clock and a cloud for each name, is this crate's own. It uses std alone.
+//! A dot is the unique stamp of one add by one replica. The crates above see a set of dots as a finite set; how it is
+//! kept, as a context clock and a cloud for each name, is this crate's own business. The crate uses std alone.
 //!
-//! In the order to read them: `dot` and `name_set`; `clock_bits` and `part`, the dots of one name; `union`, that of two parts; `dot_set`;
-//! `laws`.
+//! The modules in reading order: `dot`; `name_set`, a set of names; `clock_bits`, clocks of a name as bits; `part`, the
+//! dots of one name; `union`, the union of two parts; `dot_set`, a set of dots; `laws`, of sets of dots.
 #![tactic(auto)]
 
 mod clock_bits;
@@ -20,5 +20,5 @@ pub use dot_set::DotSet;
 pub use name_set::NameSet;
 pub use part::Part;
 
-/// Want of memory. It is std's error, so that `?` on a call of std gives it.
+/// A request for memory was refused. This is std's error, so `?` on a call of std passes it on.
 pub use std::alloc::AllocError as Oom;

@@ -35,7 +35,7 @@ impl Model for NameSet {
 }
 
 impl NameSet {
-    /// The set of no name.
+    /// The empty set.
     pub fn empty() -> NameSet
         ensures { result ≡ set.empty }
     {
@@ -60,7 +60,7 @@ impl NameSet {
         self
     }
 
-    /// Whether the name is in the set; a number from 32 on is not.
+    /// Whether the name is in the set. A number from 32 on never is.
     pub fn has(self, name: u16) -> bool
         ensures { result ≡ set.contains self name }
     {
@@ -85,6 +85,7 @@ impl NameSet {
     pub fn names_law(self)
         ensures { AreNamesBelow 32 self }
     {
+        // form: the proof reads the field here
         let _ = &self.has;
     }
 

@@ -10,8 +10,8 @@ use crate::clock_bits::{cloud_bits, run_bits};
 use std::alloc::{Allocator, Global};
 use std::marker::Model;
 
-/// The dots of one name in a set (Phoenix.Tracker.State): all clocks from 1 to `clock`, and those in `cloud`, which
-/// rises and begins above `clock + 1`. So equal sets of clocks have equal parts.
+/// The dots of one name in a set (Phoenix.Tracker.State): all clocks from 1 to `clock`, and those in `cloud`, a rising
+/// list that begins above `clock + 1`. So equal sets of clocks have equal parts.
 #[derive(Drop)]
 pub struct Part<A: Allocator = Global> {
     pub clock: u64,
@@ -48,7 +48,7 @@ impl<A: Allocator> Part<A> {
         }
     }
 
-    /// The clocks that it has among the 64 whose quotient by 64 is `base`, as bits.
+    /// Which of the 64 clocks from `base * 64` on the part has, as bits: bit `k` is that of clock `base * 64 + k`.
     pub(crate) fn bits(&self, base: u64) -> u64
         requires { base < 2 ^ 58 }
         ensures { (k : ℕ) → k < 64 → has_bit result k ≡ holds self.now (base * 64 + k) }
@@ -68,13 +68,15 @@ impl<A: Allocator> Part<A> {
         self.clock == other.clock && self.cloud == other.cloud
     }
 
-    /// Whether it has each clock of the other. It searches for each clock of the other's cloud.
+    /// Whether the part has each clock of `other`. Each clock in the cloud of `other` above the part's context clock
+    /// takes a binary search.
     pub(crate) fn has_all_of(&self, other: &Part<A>) -> bool
         ensures { IsTrue result ↔ HoldsAllOf self.now other.now }
     {
         if other.clock > self.clock {
             return false;
         }
+        // form: a loop, for the proof
         for clock in &other.cloud {
             if !self.has(*clock) {
                 return false;
@@ -83,7 +85,8 @@ impl<A: Allocator> Part<A> {
         true
     }
 
-    /// The first of its clocks that is not below this one, by a search in the cloud.
+    /// The least clock of the part that is not below `clock`; `None` if there is none. Above the context clock a binary
+    /// search finds it.
     pub(crate) fn first_from(&self, clock: u64) -> Option<u64>
         ensures { IsFirstFrom self.now clock result }
     {
@@ -97,8 +100,9 @@ impl<A: Allocator> Part<A> {
         }
     }
 
-    /// Inserts a clock, and says whether it is new. The next clock moves the context clock on, past the clocks of the
-    /// cloud that follow it without a gap.
+    /// Inserts `clock`, and says whether it is new. If `clock` is the next after the context clock, the context clock
+    /// moves on to `clock`, and past the clocks of the cloud that follow without a gap. Any other new clock goes into
+    /// the cloud, which may ask for memory.
     pub(crate) fn insert(&mut self, clock: u64) -> Result<bool, Oom>
         requires positive { 0 < clock }
         requires last { clock ≤ 1000000000 }
@@ -126,7 +130,8 @@ impl<A: Allocator> Part<A> {
         }
     }
 
-    /// Takes out a clock, and says whether it was there. The clocks between it and the context clock go into the cloud.
+    /// Takes out `clock`, and says whether it was there. If the context clock covered `clock`, the clocks above
+    /// `clock`, up to the context clock, go into the cloud, which may ask for memory.
     pub(crate) fn remove(&mut self, clock: u64) -> Result<bool, Oom>
         requires { 0 < clock }
         ensures canonical { IsCanonical self.new }
@@ -167,7 +172,7 @@ fn clock_at(cloud: &[u64], place: usize) -> Option<u64>
     cloud.get(place).copied()
 }
 
-// How many clocks at the front of the cloud follow the clock without a gap.
+/// How many clocks at the front of `cloud` follow `clock` without a gap: `clock + 1`, `clock + 2` and so on.
 fn run_after(clock: u64, cloud: &[u64]) -> usize
     requires clock { clock ≤ 1000000000 }
     requires cloud { All (λ c. c ≤ 1000000000) cloud.now }
@@ -184,7 +189,8 @@ fn run_after(clock: u64, cloud: &[u64]) -> usize
     cloud.len()
 }
 
-// Puts the clocks from `from` up to `to`, without it, in front of the cloud.
+/// Puts the clocks from `from` to `to - 1` in front of the cloud, which must begin above them. If `from` is `to`, it
+/// asks for no memory.
 fn put_in_front<A: Allocator>(cloud: &mut Vec<u64, A>, from: u64, to: u64) -> Result<(), Oom>
     requires { from ≤ to }
     ensures ok { OnOk result (cloud.new.items ≡ numbers from (to - from) ++ cloud.old.items) }

@@ -1,4 +1,4 @@
-//! The union of the parts that two sets have of one name, in time linear in the two.
+//! Unites the parts that two sets have of one name, in time linear in the two parts.
 
 ghost use Rattle.std.specs.Prelude.{◌≡◌, ℕ, ◌<◌, ◌≤◌, [], ◌++◌, true, false, ◌||◌, IfOk, OnOk, MatchOption, length};
 ghost use Rattle.dots_core.specs.Clocks.{is_among, RisesAbove, IsCanonical, IsUnion, Gains, holds};
@@ -8,7 +8,8 @@ use crate::Oom;
 use crate::part::Part;
 use std::alloc::Allocator;
 
-/// The union of the two parts, or `None` where `own` has all clocks of `other` already.
+/// The union of the two parts, or `None` if `own` has all clocks of `other` already. Only the union's cloud takes
+/// memory.
 pub(crate) fn grown<A: Allocator + Copy>(
     own: &Part<A>,
     other: &Part<A>,
@@ -32,7 +33,7 @@ pub(crate) fn grown<A: Allocator + Copy>(
     Ok(Some(union))
 }
 
-// Whether the part has each of the clocks, which rise.
+/// Whether `own` has each of `clocks`. If `clocks` doesn't rise, the answer may be `false` although `own` has them all.
 fn has_each<A: Allocator>(own: &Part<A>, clocks: &[u64]) -> bool
     requires { (k : ℕ) → is_among k clocks.now ≡ true → 0 < k }
     ensures { result ≡ true → HasEach own.now clocks.now }
@@ -50,7 +51,7 @@ fn has_each<A: Allocator>(own: &Part<A>, clocks: &[u64]) -> bool
     true
 }
 
-// The first place from `place` on with a clock that is not below this one.
+/// The first place from `place` on whose clock is not below `clock`; the length of the cloud if there is none.
 fn first_from(cloud: &[u64], mut place: usize, clock: u64) -> usize {
     while place < cloud.len() && cloud[place] < clock {
         place += 1;
@@ -58,7 +59,7 @@ fn first_from(cloud: &[u64], mut place: usize, clock: u64) -> usize {
     place
 }
 
-// The least clock of two lists that rise.
+/// The least clock of two rising lists, or `None` if both are empty.
 fn least(left: &[u64], right: &[u64]) -> Option<u64>
     requires left { RisesAbove 0 left.now }
     requires right { RisesAbove 0 right.now }
@@ -66,13 +67,14 @@ fn least(left: &[u64], right: &[u64]) -> Option<u64>
 {
     match (left.first(), right.first()) {
         (Some(a), Some(b)) => Some((*a).min(*b)),
+        // form: each arm is a case of the proof
         (Some(a), None) => Some(*a),
         (None, Some(b)) => Some(*b),
         (None, None) => None,
     }
 }
 
-// The clocks after this one, if it is the first of them; else all of them.
+/// `clocks` without the first, if the first is `clock`; otherwise all of `clocks`.
 fn after(clocks: &[u64], clock: u64) -> &[u64]
     ensures { result.now ≡ without_first clock clocks.now }
 {
@@ -82,7 +84,8 @@ fn after(clocks: &[u64], clock: u64) -> &[u64]
     }
 }
 
-// Adds a clock that is above the part's cloud.
+/// Adds `clock`, which must be above all clocks of the part's cloud. If the context clock covers `clock`, nothing
+/// changes; if `clock` is the next after the context clock, the context clock moves on to `clock`.
 fn add_last<A: Allocator>(part: &mut Part<A>, clock: u64) -> Result<(), Oom>
     requires positive { 0 < clock }
     requires last { clock ≤ 1000000000 }

@@ -27,7 +27,7 @@ impl<A: Allocator> Model for Entry<A> {
 }
 
 impl<A: Allocator> Entry<A> {
-    /// Whether the two are alike in each field. It takes no memory.
+    /// Whether the two entries are equal in each field. It takes no memory.
     pub fn same(&self, other: &Entry<A>) -> bool
         ensures { IsTrue result ↔ (self.now ≡ other.now) }
     {
@@ -38,14 +38,14 @@ impl<A: Allocator> Entry<A> {
             && self.metadata.same(&other.metadata)
     }
 
-    /// Whether it is of this process, topic and key.
+    /// Whether the entry tracks this process under this topic and key.
     pub fn is_tracked_as(&self, pid: u64, topic: &Word<A>, key: &Word<A>) -> bool
         ensures { result ≡ is_tracked_as pid topic.now key.now (presence_of self.now) }
     {
         self.pid == pid && self.topic == *topic && self.key == *key
     }
 
-    /// A placeholder for an entry to come. It takes no memory.
+    /// A placeholder, for a box whose entry comes later. It takes no memory.
     pub(crate) fn filler() -> Entry<A>
         ensures { IsShort result }
     {
@@ -58,14 +58,14 @@ impl<A: Allocator> Entry<A> {
         }
     }
 
-    /// Whether its words are all stored inline.
+    /// Whether the entry's words are all stored inline.
     pub fn is_short(&self) -> bool
         ensures { IsTrue result ↔ IsShort self.now }
     {
         self.topic.is_short() && self.key.is_short() && self.metadata.is_short()
     }
 
-    /// A copy of an entry whose words are stored inline. It takes no memory, and can't be refused.
+    /// A copy of an entry whose words are all stored inline. It takes no memory, so it can't be refused.
     pub fn copy_short(&self) -> Entry<A>
         requires { IsShort self.now }
         ensures { result ≡ self.now }
@@ -79,7 +79,8 @@ impl<A: Allocator> Entry<A> {
         }
     }
 
-    /// An entry with the same fields, which shares its words. It takes no memory.
+    /// A copy of the entry. The copy shares the words that aren't stored inline. It takes no memory; an `Err` means
+    /// that the count of a word's copies is at its limit.
     pub fn try_copy(&self) -> Result<Entry<A>, Oom>
         ensures { IfOk result (λ copy. copy ≡ self.now) }
     {

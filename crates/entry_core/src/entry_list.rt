@@ -1,4 +1,4 @@
-//! `EntryList`: up to 64 entries, its own or shared.
+//! `EntryList`: handles of entries side by side, in memory of the list's own or shared with other lists.
 ghost use Rattle.std.specs.Prelude.{◌≡◌, ◌<◌, ◌≤◌, IfErr, IfOk, IsOk, MatchOption, OnErr, OnOk, Some, length, true, slice_get, slice_set, vec_capacity, vec_len};
 ghost use Rattle.std.specs.List.{insert, remove};
 ghost use Rattle.entry_core.specs.Lists.{AreShort, live_ones};
@@ -11,16 +11,17 @@ use std::alloc::Allocator;
 use std::marker::Model;
 use std::sync::Arc;
 
-/// Whether other lists may have the entries.
+/// The handles of a list, in memory that other lists may share or not. A handle may be shared in either case.
 #[derive(Drop)]
 pub enum Items<A: Allocator> {
-    /// Nobody else has them.
+    /// No other list has this memory.
     Own(OwnList<A>),
-    /// Other lists may have them. Their words are all stored inline.
+    /// Other lists may have this memory. The words of all entries are stored inline.
     Shared(Arc<Vec<Handle<A>, A>, A>),
 }
 
-/// Entries side by side. Copies share them, unless one of them had a long word.
+/// Handles of entries side by side. Copies of the list share its memory if `of` made it and all words of its entries
+/// are stored inline.
 #[derive(Drop)]
 pub struct EntryList<A: Allocator> {
     items: Items<A>,
@@ -40,7 +41,7 @@ impl<A: Allocator> Model for EntryList<A> {
 }
 
 impl<A: Allocator> EntryList<A> {
-    /// A list of these entries. Where memory is refused, the entries come back.
+    /// A list of these entries. If memory is refused, the entries come back.
     pub fn of(items: Vec<Handle<A>, A>, alloc: A) -> Result<EntryList<A>, Vec<Handle<A>, A>>
         ensures ok { IfOk result (λ list. list ≡ items.items) }
         ensures given_back { IfErr result (λ back. back.items ≡ items.items) }
@@ -62,7 +63,7 @@ impl<A: Allocator> EntryList<A> {
         }
     }
 
-    /// A list of these entries, which its copies don't share.
+    /// A list of these entries, in memory that copies of the list don't share.
     pub fn of_own(items: OwnList<A>) -> EntryList<A>
         ensures { result ≡ items.value.items }
     {
@@ -81,10 +82,12 @@ impl<A: Allocator> EntryList<A> {
         }
     }
 
-    /// Moves the entry at a place out. Where others have the list it gives `None`; the entries are then all short.
+    /// Moves the entry at `place` out. Gives `None`, and leaves the list unchanged, if other lists share its memory;
+    /// the words of all entries are then stored inline.
     pub fn take_own(&mut self, place: usize) -> Option<Handle<A>>
         requires { place < length self.old }
-        ensures { MatchOption result ((self.new ≡ self.old) × AreShort self.old) (λ e. (Some e ≡ slice_get self.old place) × (self.new ≡ remove self.old place)) }
+        ensures { MatchOption result ((self.new ≡ self.old) × AreShort self.old) (λ e. (Some e ≡ slice_get self.old place)
+            × (self.new ≡ remove self.old place)) }
     {
         match &mut self.items {
             Items::Own(items) => Some(items.remove(place)),
@@ -95,8 +98,8 @@ impl<A: Allocator> EntryList<A> {
         }
     }
 
-    /// Inserts an entry at a place. The entry comes back where others have the list, where others may have it and the
-    /// entry has a long word, and where memory is refused.
+    /// Inserts `entry` at `place`. The entry comes back if other lists share this list's memory, if others may share
+    /// that memory and the entry has a long word, or if memory is refused.
     pub fn put_own(&mut self, place: usize, entry: Handle<A>) -> Result<(), Handle<A>>
         requires { place ≤ length self.old }
         ensures ok { OnOk result (self.new ≡ insert self.old place entry) }
@@ -117,8 +120,8 @@ impl<A: Allocator> EntryList<A> {
         }
     }
 
-    /// Replaces an entry by another. The new entry comes back where others have the list, and where others may have it
-    /// and the entry has a long word.
+    /// Replaces the entry at `place` by `entry`. `entry` comes back if other lists share this list's memory, or if
+    /// others may share that memory and `entry` has a long word.
     pub fn swap_own(&mut self, place: usize, entry: Handle<A>) -> Result<(), Handle<A>>
         requires { place < length self.old }
         ensures ok { OnOk result (self.new ≡ slice_set self.old place entry) }
@@ -145,8 +148,8 @@ impl<A: Allocator> EntryList<A> {
         }
     }
 
-    /// The entries in the memory of a spare: moved, or copied where others may have them. This list is empty once they
-    /// have moved.
+    /// Gives the entries in the memory of `spare`: moved, which leaves this list empty, or copied if other lists may
+    /// share this list's memory. It asks for no memory.
     pub fn move_to(&mut self, spare: Spare<A>) -> OwnList<A>
         requires { length self.old ≤ 64 }
         ensures items { result.value.items ≡ self.old }
@@ -158,8 +161,8 @@ impl<A: Allocator> EntryList<A> {
         }
     }
 
-    /// The entries, moved into the memory of a spare. The spare comes back where others may have them; they are then
-    /// short.
+    /// Moves the entries into the memory of `spare`. `spare` comes back, and the list stays, if other lists may share
+    /// the list's memory; the words of all entries are then stored inline.
     fn move_own(&mut self, spare: Spare<A>) -> Result<OwnList<A>, Spare<A>>
         requires { length self.old ≤ 64 }
         ensures moved { IfOk result (λ list. list.value.items ≡ self.old) }
@@ -172,7 +175,8 @@ impl<A: Allocator> EntryList<A> {
         }
     }
 
-    /// A list with the same entries. It shares them where other lists may have them, and copies them otherwise.
+    /// A list with the same entries. Memory that may be shared is shared once more; any other is copied, with a further
+    /// handle of each entry.
     pub fn try_share(&self, alloc: A) -> Result<EntryList<A>, Oom>
     where
         A: Copy,
@@ -186,7 +190,7 @@ impl<A: Allocator> EntryList<A> {
     }
 }
 
-/// Inserts an entry at a place of a list. Where memory is refused, the entry comes back.
+/// Inserts the entry into `list` at `place`. If memory is refused, the entry comes back.
 pub fn put<A: Allocator>(
     list: &mut Vec<Handle<A>, A>,
     place: usize,
@@ -204,7 +208,7 @@ pub fn put<A: Allocator>(
     }
 }
 
-/// Replaces an entry by another.
+/// Replaces the entry of `list` at `place`.
 pub fn set<A: Allocator>(list: &mut Vec<Handle<A>, A>, place: usize, entry: Handle<A>)
     requires { place < length list.old.items }
     ensures { list.new.items ≡ slice_set list.old.items place entry }
@@ -216,6 +220,7 @@ pub fn set<A: Allocator>(list: &mut Vec<Handle<A>, A>, place: usize, entry: Hand
 fn are_short<A: Allocator>(entries: &[Handle<A>]) -> bool
     ensures { result ≡ true → AreShort entries.now }
 {
+    // form: a loop, for the proof
     for entry in entries {
         if !entry.is_short() {
             return false;
@@ -224,7 +229,7 @@ fn are_short<A: Allocator>(entries: &[Handle<A>]) -> bool
     true
 }
 
-/// Handles of the live entries among these.
+/// A new list with handles of the entries whose clocks are in the mask `live`, with room for one more handle.
 pub fn live_copies<A: Allocator + Copy>(
     entries: &[Handle<A>],
     live: u64,
@@ -237,7 +242,7 @@ pub fn live_copies<A: Allocator + Copy>(
     Ok(list)
 }
 
-/// A list with the same entries.
+/// A new list with handles of the same entries.
 fn copies<A: Allocator + Copy>(entries: &[Handle<A>], alloc: A) -> Result<Vec<Handle<A>, A>, Oom>
     ensures { IfOk result (λ list. list.items ≡ entries.now) }
 {

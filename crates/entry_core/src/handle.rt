@@ -1,4 +1,4 @@
-//! `Handle`, an entry that several lists may have.
+//! `Handle`, an entry that several lists may share.
 ghost use Rattle.std.specs.Prelude.{◌≡◌, IfErr, IfOk, true};
 ghost use Rattle.entry_core.specs.Short.{IsShort};
 
@@ -8,17 +8,17 @@ use std::alloc::Allocator;
 use std::marker::Model;
 use std::sync::Arc;
 
-/// Whether other handles may have the entry.
+/// The entry of a handle, in memory that other handles may share or not.
 #[derive(Drop)]
 pub enum Holder<A: Allocator> {
-    /// Nobody else has it.
+    /// No other handle has the entry.
     Own(Box<Entry<A>, A>),
-    /// Others may have it. Its words are all stored inline.
+    /// Other handles may have the entry. Its words are all stored inline.
     Shared(Arc<Entry<A>, A>),
 }
 
-/// An entry in memory of its own. Copies of the handle share it if all its words are stored inline. A contract sees the
-/// entry.
+/// One entry, in a box or behind a counted pointer. Copies of the handle share the entry if `of` made the handle and
+/// all words of the entry are stored inline; otherwise each copy has its own. A contract sees the entry.
 #[derive(Drop)]
 pub struct Handle<A: Allocator> {
     holder: Holder<A>,
@@ -37,7 +37,7 @@ impl<A: Allocator> Model for Handle<A> {
 }
 
 impl<A: Allocator> Handle<A> {
-    /// The handle of an entry. Where memory is refused, the entry comes back.
+    /// A handle of the entry. If memory is refused, the entry comes back.
     pub fn of(entry: Entry<A>, alloc: A) -> Result<Handle<A>, Entry<A>>
         ensures ok { IfOk result (λ handle. handle ≡ entry) }
         ensures given_back { IfErr result (λ back. back ≡ entry) }
@@ -59,7 +59,8 @@ impl<A: Allocator> Handle<A> {
         }
     }
 
-    /// The handle of an entry, in the memory of a box, which drops what it had.
+    /// A handle of `entry`, with the box `own` as its memory; the entry that was in the box is dropped. Copies of the
+    /// handle don't share the entry.
     pub(crate) fn in_box(entry: Entry<A>, own: Box<Entry<A>, A>) -> Handle<A>
         ensures { result ≡ entry }
     {
@@ -80,14 +81,14 @@ impl<A: Allocator> Handle<A> {
         }
     }
 
-    /// The dot of its entry.
+    /// The dot of the handle's entry.
     pub fn dot(&self) -> Dot
         ensures { result ≡ self.now.dot }
     {
         self.entry().dot
     }
 
-    /// Whether its words are all stored inline.
+    /// Whether the entry's words are all stored inline.
     pub fn is_short(&self) -> bool
         ensures { result ≡ true → IsShort self.now }
     {
@@ -97,7 +98,7 @@ impl<A: Allocator> Handle<A> {
         }
     }
 
-    /// The entry of the handle, moved out, or a copy where others have it. It takes no memory.
+    /// Moves the entry out of the handle, or copies it if other handles share it. It takes no memory.
     pub fn into_entry(self) -> Entry<A>
         ensures { result ≡ self }
     {
@@ -110,7 +111,7 @@ impl<A: Allocator> Handle<A> {
         }
     }
 
-    /// A handle of the same entry. It shares the entry if all its words are stored inline, and copies it otherwise.
+    /// A handle of the same entry. An entry that may be shared is shared once more; any other is copied.
     pub fn try_share(&self, alloc: A) -> Result<Handle<A>, Oom>
         ensures { IfOk result (λ copy. copy ≡ self.now) }
     {

@@ -1,12 +1,13 @@
 //! Words, entries, and lists of entries that may be shared.
 //!
-//! The crates above see a word as its bytes, a handle as its entry and a list as the entries. Short words are stored inline,
-//! and a copy of them can't be refused. So lists share an entry only if all its words are short: then a copy of it can always
-//! be had.
+//! The crates above see a word as its bytes, a handle as its entry and a list as its entries. A short word, of up to 14
+//! bytes, is stored inline, so no copy of it is refused memory. Lists share an entry only if all its words are short:
+//! then it can always be copied. This crate stands on `dots_core` (dots).
 //!
-//! In the order to read them: `word`; `entry`, a presence under its dot; `handle`, an entry that several lists may have;
-//! `mask`, clocks as bits; `masked`, the entries of a list whose clocks are in a mask; `spare`, memory for an insert to which
-//! memory is refused; `entry_list`, entries side by side, its own or shared; `spot`, where the entry of a dot stands.
+//! The modules in reading order: `word`; `entry`, a presence under its dot; `handle`, an entry that several lists may
+//! share; `mask`, clocks as bits; `masked`, the entries of a list whose clocks are in a mask; `spare`, memory for an
+//! insert whose requests for memory are refused; `entry_list`, entries side by side; `spot`, where the entry of a dot
+//! stands in a list.
 #![tactic(auto)]
 
 mod entry;

@@ -1,4 +1,4 @@
-//! Clocks as the bits of a number: 64 of them, each at its remainder by 64.
+//! Masks: 64 clocks as the bits of a number. A clock's bit has the clock's remainder by 64 as its number.
 ghost use Rattle.std.specs.Prelude.{◌≡◌, ◌%◌, ◌<◌, ◌&&◌, ℕ, not};
 ghost use Rattle.entry_core.specs.Masks.{IsWith, IsWithout, has_bit};
 
@@ -23,21 +23,22 @@ pub fn without(mask: u64, clock: u64) -> u64
     mask & !(1 << (clock % 64))
 }
 
-/// The clocks that aren't in the mask.
+/// A mask of the clocks that aren't in `mask`.
 pub fn others(mask: u64) -> u64
     ensures { (k : ℕ) → k < 64 → has_bit result k ≡ not (has_bit mask k) }
 {
     !mask
 }
 
-/// The clocks that are in both masks.
+/// A mask of the clocks that are in both masks.
 pub fn both(one: u64, other: u64) -> u64
     ensures { (k : ℕ) → has_bit result k ≡ (has_bit one k && has_bit other k) }
 {
     one & other
 }
 
-/// How many bits are set below the clock's. No contract states it: a caller checks the place that it gets.
+/// How many bits of the mask are set below that of `clock`. No contract says so: a caller checks the place that it
+/// gets.
 pub fn rank(mask: u64, clock: u64) -> usize {
     (mask & ((1 << (clock % 64)) - 1)).count_ones() as usize
 }

@@ -9,7 +9,8 @@ use crate::mask;
 use dots_core::{Dot, Oom};
 use std::alloc::Allocator;
 
-/// Appends to a list handles of the entries whose clocks are in the mask.
+/// Appends to `list` handles of the entries whose clocks are in the mask. If memory is refused, some may have been
+/// appended.
 pub fn push_copies<A: Allocator + Copy>(
     list: &mut Vec<Handle<A>, A>,
     entries: &[Handle<A>],
@@ -26,7 +27,8 @@ pub fn push_copies<A: Allocator + Copy>(
     Ok(())
 }
 
-/// Appends to a list the dots of the entries whose clocks are in the mask.
+/// Appends to `dots` the dots of the entries whose clocks are in the mask. If memory is refused, some may have been
+/// appended.
 pub fn push_dots<A: Allocator>(
     dots: &mut Vec<Dot, A>,
     entries: &[Handle<A>],
@@ -42,14 +44,14 @@ pub fn push_dots<A: Allocator>(
     Ok(())
 }
 
-/// Whether a dot stands below another.
+/// Whether `one` is below `other`: by name, and then by clock.
 pub fn is_below(one: Dot, other: Dot) -> bool
     ensures { result ≡ is_lt (dot_cmp one other) }
 {
     (one.name, one.clock) < (other.name, other.clock)
 }
 
-/// The first entry whose clock is in the mask, with the entries after it.
+/// The first entry whose clock is in the mask, with the entries after it; `None` if there is no such entry.
 pub fn next_live<A: Allocator>(
     entries: &[Handle<A>],
     mask: u64,

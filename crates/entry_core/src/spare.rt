@@ -1,4 +1,4 @@
-//! `Spare`, memory for an insert to which memory is refused.
+//! `Spare`, memory that was asked for ahead, for an insert whose requests for memory are refused.
 ghost use Rattle.std.specs.Prelude.{◌≡◌, ◌<◌, ◌≤◌, ◌∷◌, [], IfOk, length, vec_capacity};
 ghost use Rattle.entry_core.specs.Lists.{AreShort};
 
@@ -8,14 +8,14 @@ use dots_core::Oom;
 use std::alloc::Allocator;
 use std::marker::Model;
 
-/// How many entries a list may have.
+/// How many entries a list may have at most if it is to move into a spare.
 const MOST: usize = 64;
 
-/// Entries in memory of their own.
+/// A list of handles, in memory that no other list shares.
 pub type OwnList<A> = Box<Vec<Handle<A>, A>, A>;
 
-/// An empty list with room for `MOST` entries, and a box for each of them and for one more. A contract sees the number
-/// of boxes.
+/// An empty list with room for `MOST` entries, and a box for each of them; until `boxed` is called, there is one box
+/// more. A contract sees the number of boxes.
 #[derive(Drop)]
 pub struct Spare<A: Allocator> {
     list: OwnList<A>,
@@ -37,7 +37,7 @@ impl<A: Allocator> Model for Spare<A> {
 }
 
 impl<A: Allocator> Spare<A> {
-    /// A spare with all its boxes.
+    /// A spare with `MOST + 1` boxes.
     pub fn new(alloc: A) -> Result<Spare<A>, Oom>
     where
         A: Copy,
@@ -48,7 +48,7 @@ impl<A: Allocator> Spare<A> {
         Ok(Spare { list, boxes })
     }
 
-    /// The handle of an entry, in one of the boxes.
+    /// Moves the entry into the last of the boxes, and gives a handle of it.
     pub fn boxed(&mut self, entry: Entry<A>) -> Handle<A>
         requires { 64 < self.old }
         ensures { result ≡ entry }
@@ -57,7 +57,7 @@ impl<A: Allocator> Spare<A> {
         Handle::in_box(entry, own)
     }
 
-    /// The list, with one entry put in.
+    /// The spare's list, with this entry put in. It takes no memory.
     pub fn with(self, entry: Handle<A>) -> OwnList<A>
         ensures { result.value.items ≡ entry ∷ [] }
     {
@@ -66,7 +66,7 @@ impl<A: Allocator> Spare<A> {
         list
     }
 
-    /// The list, with the entries of another moved in.
+    /// The spare's list, with these entries moved in, which leaves `entries` empty. It takes no memory.
     pub(crate) fn moved(self, entries: &mut Vec<Handle<A>, A>) -> OwnList<A>
         requires { length entries.old.items ≤ 64 }
         ensures items { result.value.items ≡ entries.old.items }
@@ -77,7 +77,7 @@ impl<A: Allocator> Spare<A> {
         list
     }
 
-    /// The list, with copies of these entries, whose words are stored inline.
+    /// The spare's list, with copies of these entries, whose words are all stored inline. It takes no memory.
     pub(crate) fn copied(self, entries: &[Handle<A>]) -> OwnList<A>
         requires few { length entries.now ≤ 64 }
         requires short { AreShort entries.now }
@@ -93,7 +93,7 @@ impl<A: Allocator> Spare<A> {
     }
 }
 
-/// `MOST` boxes, and one more.
+/// `MOST + 1` boxes, each with a placeholder.
 fn boxes<A: Allocator + Copy>(alloc: A) -> Result<Vec<Box<Entry<A>, A>, A>, Oom>
     ensures { IfOk result (λ boxes. 64 < length boxes.items) }
 {
@@ -104,18 +104,20 @@ fn boxes<A: Allocator + Copy>(alloc: A) -> Result<Vec<Box<Entry<A>, A>, A>, Oom>
     Ok(boxes)
 }
 
-/// Moves entries into an empty list with room for them.
+/// Moves the entries into an empty list that has room for them, so that no memory is asked for.
 fn move_over<A: Allocator>(list: &mut Vec<Handle<A>, A>, entries: &mut Vec<Handle<A>, A>)
     requires empty { list.old.items ≡ [] }
     requires room { length entries.old.items ≤ vec_capacity list.old }
     ensures items { list.new.items ≡ entries.old.items }
     ensures room { vec_capacity list.old ≤ vec_capacity list.new }
 {
+    // form: the checker asks for the type of the result here
     let moved: Result<_, _> = list.append(entries);
     moved.unwrap();
 }
 
-/// Puts copies of entries whose words are stored inline into an empty list with room for them.
+/// Puts copies of `entries`, whose words are all stored inline, into an empty list that has room for them. Each copy
+/// takes a box out of `boxes`.
 fn copy_each<A: Allocator>(
     list: &mut Vec<Handle<A>, A>,
     boxes: &mut Vec<Box<Entry<A>, A>, A>,

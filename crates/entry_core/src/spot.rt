@@ -1,4 +1,4 @@
-//! Where the entry of a dot stands in a list that rises by dot.
+//! Where the entry of a dot stands in a list whose entries are in the order of their dots.
 ghost use Rattle.std.specs.Prelude.{◌≡◌, ◌<◌, ◌≤◌, Err, IfErr, IfOk, Ok, length, slice_get, true};
 ghost use Rattle.std.specs.Option.{option_copied};
 ghost use Rattle.entry_core.specs.EntryLists.{IsBefore, IsBehind, Rises, spot};
@@ -10,8 +10,9 @@ use crate::masked::is_below;
 use dots_core::Dot;
 use std::alloc::Allocator;
 
-/// The place of the dot's entry, or else the place where it would stand. If the mask has the clocks of these entries
-/// and no others, the number of its lower bits is that place, so it is tried first.
+/// `Ok` with the place of the dot's entry, or `Err` with the place where it would stand. The place tried first is the
+/// number of mask bits below the dot's, which is right if the mask has exactly the clocks of these entries. If that
+/// place is wrong, a binary search finds the right one.
 pub fn spot_in<A: Allocator>(entries: &[Handle<A>], mask: u64, dot: Dot) -> Result<usize, usize>
     requires { Rises entries.now }
     ensures place { result ≡ spot dot entries.now }
@@ -28,7 +29,7 @@ pub fn spot_in<A: Allocator>(entries: &[Handle<A>], mask: u64, dot: Dot) -> Resu
     search(entries, dot)
 }
 
-/// Whether the dot's entry stands at a place.
+/// Whether the dot's entry stands at `place`.
 fn is_place<A: Allocator>(entries: &[Handle<A>], place: usize, dot: Dot) -> bool
     requires { Rises entries.now }
     ensures { result ≡ true → (place < length entries.now) × (spot dot entries.now ≡ Ok place) }
@@ -39,7 +40,7 @@ fn is_place<A: Allocator>(entries: &[Handle<A>], place: usize, dot: Dot) -> bool
     }
 }
 
-/// Whether the list has no entry of the dot, and one would stand at this place.
+/// Whether the dot has no entry in the list, and its entry would stand at `place`.
 fn is_gap<A: Allocator>(entries: &[Handle<A>], place: usize, dot: Dot) -> bool
     requires { Rises entries.now }
     ensures { result ≡ true → (place ≤ length entries.now) × (spot dot entries.now ≡ Err place) }
@@ -53,7 +54,8 @@ fn is_gap<A: Allocator>(entries: &[Handle<A>], place: usize, dot: Dot) -> bool
     is_before(entries, place, dot)
 }
 
-/// Whether the dot is above what stands before a place.
+/// Whether the dot is above that of the entry before `place`: `true` if `place` is 0, `false` if `place` is beyond the
+/// end of the list.
 fn is_behind<A: Allocator>(entries: &[Handle<A>], place: usize, dot: Dot) -> bool
     ensures { result ≡ true → IsBehind dot entries.now place }
 {
@@ -66,7 +68,7 @@ fn is_behind<A: Allocator>(entries: &[Handle<A>], place: usize, dot: Dot) -> boo
     }
 }
 
-/// Whether the dot is below what stands at a place.
+/// Whether the dot is below that of the entry at `place`; `true` if there is no such entry.
 fn is_before<A: Allocator>(entries: &[Handle<A>], place: usize, dot: Dot) -> bool
     ensures { result ≡ true → IsBefore dot entries.now place }
 {
@@ -76,7 +78,7 @@ fn is_before<A: Allocator>(entries: &[Handle<A>], place: usize, dot: Dot) -> boo
     }
 }
 
-/// As `spot_in`, by a search.
+/// Like `spot_in`, but without a mask, by a binary search.
 fn search<A: Allocator>(entries: &[Handle<A>], dot: Dot) -> Result<usize, usize>
     requires { Rises entries.now }
     ensures place { result ≡ spot dot entries.now }
@@ -89,14 +91,14 @@ fn search<A: Allocator>(entries: &[Handle<A>], dot: Dot) -> Result<usize, usize>
     })
 }
 
-/// The entry at a place, counted from 0.
+/// The entry at `place`, counted from 0; `None` past the end.
 pub fn handle_at<A: Allocator>(entries: &[Handle<A>], place: usize) -> Option<&Handle<A>>
     ensures { option_copied result ≡ slice_get entries.now place }
 {
     entries.get(place)
 }
 
-/// The entry at a place, to look at.
+/// Like `handle_at`, but gives the entry itself.
 fn entry_at<A: Allocator>(entries: &[Handle<A>], place: usize) -> Option<&Entry<A>>
     ensures { option_copied result ≡ slice_get entries.now place }
 {

@@ -24,10 +24,10 @@ const SHORT: usize = 14;
 /// The length of the longest words, in bytes.
 const LONGEST: usize = 200;
 
-/// Why a text is no `Word`.
+/// Why no `Word` was made of a text.
 #[derive(Clone, Copy, Debug, PartialEq, Eq, Error)]
 pub enum WordFault {
-    /// It is empty, longer than 200 bytes, or has a byte below 0x21 or above 0x7E.
+    /// The text is empty, longer than 200 bytes, or has a byte below 0x21 or above 0x7E.
     #[error("BadWord")]
     BadWord,
     /// Memory was refused.
@@ -50,14 +50,15 @@ pub struct ShortText {
     bytes: [u8; 14],
 }
 
-/// Where a word's text stands.
+/// The text of a word, inline or shared.
 #[derive(Debug, Drop)]
 pub enum Text<A: Allocator> {
     Short(ShortText),
     Long(ArcStr<A>),
 }
 
-/// 1 to 200 bytes, each 0x21 to 0x7E. A contract sees the bytes. Copies of a longer word share them.
+/// 1 to 200 bytes, each 0x21 to 0x7E. A contract sees the bytes. Copies of a word of more than 14 bytes share its
+/// bytes.
 #[derive(Debug, Drop)]
 pub struct Word<A: Allocator> {
     text: Text<A>,
@@ -83,7 +84,8 @@ fn has_word_bytes(bytes: &[u8]) -> bool
 }
 
 impl<A: Allocator> Word<A> {
-    /// The word of a text. A text that is no word is refused before memory is asked for.
+    /// The word with this text. `BadWord` comes before any request for memory; only a text of more than 14 bytes needs
+    /// one.
     pub fn new(alloc: A, text: &str) -> Result<Word<A>, WordFault>
     where
         A: Clone,
@@ -112,13 +114,14 @@ impl<A: Allocator> Word<A> {
         match &self.text {
             Text::Short(short) => {
                 let all: &[u8] = &short.bytes;
+                // the bytes are ASCII, and so UTF-8
                 unsafe { str::from_utf8_unchecked(&all[..usize::from(short.len)]) }
             }
             Text::Long(text) => text.as_str(),
         }
     }
 
-    /// Whether the two have the same bytes. It takes no memory.
+    /// Whether the two words have the same bytes. It takes no memory.
     pub fn same(&self, other: &Word<A>) -> bool
         ensures { IsTrue result ↔ (self.now ≡ other.now) }
     {
@@ -135,7 +138,7 @@ impl<A: Allocator> Word<A> {
         }
     }
 
-    /// Whether it is stored inline.
+    /// Whether the word is stored inline, as each word of up to 14 bytes is.
     pub fn is_short(&self) -> bool
         ensures { IsTrue result ↔ IsShortText self.now }
     {
@@ -145,7 +148,7 @@ impl<A: Allocator> Word<A> {
         }
     }
 
-    /// A copy of a word that is stored inline. It takes no memory, and can't be refused.
+    /// A copy of a word that is stored inline. It takes no memory, so it can't be refused.
     pub fn copy_short(&self) -> Word<A>
         requires { IsShortText self.now }
         ensures { result ≡ self.now }
@@ -158,7 +161,8 @@ impl<A: Allocator> Word<A> {
         }
     }
 
-    /// A word that shares its bytes. It takes no memory; an `Err` means that a count of copies can't rise.
+    /// A copy of the word. A word of more than 14 bytes shares its bytes with the copy. It takes no memory; an `Err`
+    /// means that the count of such copies is at its limit.
     pub fn try_copy(&self) -> Result<Word<A>, Oom>
         ensures { IfOk result (λ copy. copy ≡ self.now) }
     {
@@ -213,7 +217,7 @@ impl<A: Allocator> Ord for Word<A> {
     }
 }
 
-/// The text of a few bytes.
+/// These bytes, at most 14, as a text that is stored inline.
 fn in_place(text: &[u8]) -> ShortText
     requires { length text.now ≤ 14 }
     ensures text { take result.len result.bytes ≡ text.now }

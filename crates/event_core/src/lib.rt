@@ -1,8 +1,9 @@
 //! Recorded calls as JSON values, and back.
 //!
-//! Stands on `bench_core`, whose calls and replies these are, on `json_core`, and on the kit's `serde_json`, whose values take
-//! their memory from the global heap. In the order to read them: `write_act`, `write_reply` and `write_event`, from a call to its
-//! value; `places`, `read_step`, `read_act`, `read_reply` and `read_event`, from a value to what it says.
+//! The crate stands on `bench_core` for calls and replies, on `json_core`, which reads JSON lists place by place, and
+//! on the kit's `serde_json`, whose values take their memory from the global heap. It names the plain types of the
+//! crates below. The modules in reading order: `write_act`, `write_reply` and `write_event`, from a call to its value;
+//! `places`, `read_step`, `read_act`, `read_reply` and `read_event`, from a value to what it says.
 #![tactic(auto)]
 
 mod places;

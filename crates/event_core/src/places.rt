@@ -1,4 +1,4 @@
-//! A node's number or a word at a place of a JSON list.
+//! Reads a node's number or a word at a place of a JSON list.
 ghost use Rattle.std.specs.Prelude.{◌≡◌};
 ghost use Rattle.serde_json.specs.View.{view};
 ghost use Rattle.json_core.specs.Decoded.{Gives};
@@ -9,7 +9,7 @@ use payload_core::{Word, WordFault};
 use serde_json::Value;
 use std::alloc::Allocator;
 
-/// The number of a node or an actor.
+/// The number of a node or an actor at `place`; `Shape` unless a whole number below 65,536 stands there.
 pub(crate) fn node_in(list: &Value, place: usize) -> Result<u16, Unread>
     ensures { Gives (λ n. n) result (node_in place (view list.now)) }
 {
@@ -21,6 +21,7 @@ pub(crate) fn node_in(list: &Value, place: usize) -> Result<u16, Unread>
     }
 }
 
+/// The word at `place`; `Shape` unless a text stands there that may be a word.
 pub(crate) fn word_in<'a, B: Allocator>(
     alloc: &'a B,
     list: &Value,

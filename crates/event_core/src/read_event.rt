@@ -1,4 +1,4 @@
-//! The recorded call that a JSON list stands for: its actor, its act and its reply.
+//! Reads the recorded call that a JSON list stands for: its actor, its act and its reply.
 ghost use Rattle.std.specs.Prelude.{◌≡◌};
 ghost use Rattle.serde_json.specs.View.{view};
 ghost use Rattle.json_core.specs.Decoded.{Gives};
@@ -12,7 +12,8 @@ use json_core::{Unread, ends_at};
 use serde_json::Value;
 use std::alloc::Allocator;
 
-/// The recorded call that the list stands for; `Shape` if it stands for none. Its words take their memory from `alloc`.
+/// The recorded call that the list stands for; `Shape` if it doesn't stand for one. The words of the call take their
+/// memory from `alloc`.
 #[tactic(auto, unfolding(crate::specs::Decoding::event_at))]
 pub fn event_at<'a, B: Allocator>(alloc: &'a B, list: &Value) -> Result<Event<&'a B>, Unread>
     ensures { Gives (λ e. e) result (event_at (view list.now)) }

@@ -1,4 +1,4 @@
-//! The reply that a JSON list gives.
+//! Reads the reply that a JSON list gives.
 ghost use Rattle.std.specs.Prelude.{◌≡◌};
 ghost use Rattle.serde_json.specs.View.{view};
 ghost use Rattle.json_core.specs.Decoded.{Gives};
@@ -8,7 +8,7 @@ use bench_core::{Fault, Reply};
 use json_core::{Unread, ends_at, number_in, text_in};
 use serde_json::Value;
 
-/// The fault with this number, among those that are recorded and have no fields.
+/// The fault with this number in a session, among those that are recorded and have no fields; `None` for other numbers.
 fn fault_of(code: u64) -> Option<Fault>
     ensures { result ≡ fault_of code }
 {
@@ -46,6 +46,8 @@ fn consequence_at(list: &Value) -> Result<Fault, Unread>
     Ok(Fault::HasConsequence { step, held_by })
 }
 
+/// The fault of a refusal, by its number. 16 is `HasConsequence`; the number of the step and that of its consequence
+/// follow. `Shape` for any other list.
 #[tactic(auto, unfolding(crate::specs::Decoding::fault_at))]
 fn fault_at(list: &Value) -> Result<Fault, Unread>
     ensures { Gives (λ f. f) result (fault_at (view list.now)) }
@@ -61,7 +63,7 @@ fn fault_at(list: &Value) -> Result<Fault, Unread>
     Ok(fault)
 }
 
-/// The one number of a list of a word and a number.
+/// The number that is the second and last item of the list; `Shape` if there is none.
 #[tactic(auto, unfolding(crate::specs::Decoding::counted_at))]
 fn counted_at(list: &Value) -> Result<u64, Unread>
     ensures { Gives (λ n. n) result (counted_at (view list.now)) }
@@ -73,6 +75,7 @@ fn counted_at(list: &Value) -> Result<u64, Unread>
     Ok(number)
 }
 
+/// The reply that the list gives, by its first word: `ok`, `undone` or `no`. `Shape` if it gives none.
 #[tactic(auto, unfolding(crate::specs::Decoding::reply_at))]
 pub(crate) fn reply_at(list: &Value) -> Result<Reply, Unread>
     ensures { Gives (λ r. r) result (reply_at (view list.now)) }

@@ -1,4 +1,4 @@
-//! The step that a JSON list asks, after the word `do`.
+//! Reads the step that a JSON list asks, after the word `do`.
 ghost use Rattle.std.specs.Prelude.{◌≡◌, option_map};
 ghost use Rattle.serde_json.specs.View.{view, items_view};
 ghost use Rattle.dots_core.specs.Names.{Names};
@@ -25,6 +25,7 @@ struct Presence<A: Allocator> {
     metadata: Word<A>,
 }
 
+/// The process, topic, key and metadata behind the verb; `Shape` if one is missing or more follows.
 #[tactic(auto, unfolding(crate::specs::Decoding::presence_at))]
 fn presence_at<'a, B: Allocator>(alloc: &'a B, list: &Value) -> Result<Presence<&'a B>, Unread>
     ensures { Gives (λ p. record { pid = p.pid; topic = p.topic; key = p.key; metadata = p.metadata }) result (presence_at (view list.now)) }
@@ -37,6 +38,7 @@ fn presence_at<'a, B: Allocator>(alloc: &'a B, list: &Value) -> Result<Presence<
     let key = match word_in(alloc, list, 4) {
         Ok(key) => key,
         Err(fault) => {
+            // form: drop before exit
             drop(topic);
             return Err(fault);
         }
@@ -115,7 +117,7 @@ fn leave_all_at<A: Allocator>(list: &Value) -> Result<Step<A>, Unread>
     Ok(Step::LeaveAll { pid })
 }
 
-/// The set of these numbers, which rise and are below 32.
+/// The set of names with these numbers; `None` unless they are whole, rise and are below 32.
 fn names_from(values: &[Value]) -> Option<NameSet>
     ensures { option_map (λ names. names) result ≡ names_from 0 set.empty (items_view values.now) }
 {
@@ -144,7 +146,7 @@ fn extract_at<A: Allocator>(list: &Value) -> Result<Step<A>, Unread>
     Ok(Step::Extract { names })
 }
 
-/// The sender and the number of the message of a delivery or an answer.
+/// The sender and the number of the message of a delivery or an answer; `Shape` if one is missing or more follows.
 #[tactic(auto, unfolding(crate::specs::Decoding::sent_at))]
 fn sent_at(list: &Value) -> Result<(u16, u64), Unread>
     ensures { Gives (λ message. message) result (sent_at (view list.now)) }
@@ -171,7 +173,7 @@ fn answer_at<A: Allocator>(list: &Value) -> Result<Step<A>, Unread>
     Ok(Step::Answer { sender, number })
 }
 
-/// The one name of an up, a down or a permanently down.
+/// The name of an up, a down or a permanently down; `Shape` if it is missing or more follows.
 #[tactic(auto, unfolding(crate::specs::Decoding::name_at))]
 fn name_at(list: &Value) -> Result<u16, Unread>
     ensures { Gives (λ n. n) result (name_at (view list.now)) }
@@ -183,7 +185,7 @@ fn name_at(list: &Value) -> Result<u16, Unread>
     Ok(name)
 }
 
-/// A step that sets the status of another name.
+/// The step of an up, a down or a permanently down; `Shape` for any other verb.
 #[tactic(auto, unfolding(crate::specs::Decoding::status_at))]
 fn status_at<A: Allocator>(verb: &str, list: &Value) -> Result<Step<A>, Unread>
     ensures { Gives plain result (status_at verb.now (view list.now)) }
@@ -202,7 +204,7 @@ fn status_at<A: Allocator>(verb: &str, list: &Value) -> Result<Step<A>, Unread>
     }
 }
 
-/// A step that sends or delivers a message, or else sets a status.
+/// The step of a verb that sends or delivers a message; for other verbs what `status_at` gives.
 #[tactic(auto, unfolding(crate::specs::Decoding::message_at))]
 fn message_at<A: Allocator>(verb: &str, list: &Value) -> Result<Step<A>, Unread>
     ensures { Gives plain result (message_at verb.now (view list.now)) }
@@ -219,7 +221,7 @@ fn message_at<A: Allocator>(verb: &str, list: &Value) -> Result<Step<A>, Unread>
     }
 }
 
-/// A step that changes the own entries, or else another step.
+/// The step of a verb that changes the node's own entries; for other verbs what `message_at` gives.
 #[tactic(auto, unfolding(crate::specs::Decoding::tracking_at))]
 fn tracking_at<'a, B: Allocator>(
     alloc: &'a B,
@@ -237,6 +239,7 @@ fn tracking_at<'a, B: Allocator>(
     }
 }
 
+/// The step that the list asks, by its verb, the second word. `Shape` if it asks none.
 #[tactic(auto, unfolding(crate::specs::Decoding::step_at))]
 pub(crate) fn step_at<'a, B: Allocator>(alloc: &'a B, list: &Value) -> Result<Step<&'a B>, Unread>
     ensures { Gives plain result (step_at (view list.now)) }

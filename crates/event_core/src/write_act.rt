@@ -13,7 +13,7 @@ use dots_core::NameSet;
 use serde_json::{Value, json};
 use std::alloc::{AllocError, Allocator, Global};
 
-/// The numbers of the names, rising.
+/// The numbers of the names, in rising order.
 fn numbers_of(heap: Global, names: NameSet) -> Result<Vec<u16>, AllocError>
     ensures { IfOk result (λ numbers. numbers.items ≡ numbers_of names) }
 {
@@ -40,13 +40,14 @@ fn extract_value(heap: Global, names: NameSet) -> Result<Value, AllocError>
     ensures json { IfOk result (λ v. view v ≡ act_json (Do (Extract names))) }
     ensures told { AreNamesBelow 32 names }
 {
+    // form: hands out what the value keeps
     names.names_law();
     let numbers = numbers_of(heap, names)?;
     let numbers = numbers_value(heap, numbers.as_slice())?;
     json!(in heap; ["do", "extract", numbers])
 }
 
-/// A step that tracks a process.
+/// A join or an update as JSON.
 fn presence_value(
     heap: Global,
     verb: &str,
@@ -55,7 +56,8 @@ fn presence_value(
     key: &str,
     metadata: &str,
 ) -> Result<Value, AllocError>
-    ensures { IfOk result (λ v. view v ≡ list (string (codes "do") ∷ string verb.now ∷ whole pid ∷ string topic.now ∷ string key.now ∷ string metadata.now ∷ [])) }
+    ensures { IfOk result (λ v. view v ≡ list
+        (string (codes "do") ∷ string verb.now ∷ whole pid ∷ string topic.now ∷ string key.now ∷ string metadata.now ∷ [])) }
 {
     json!(in heap; ["do", verb, pid, topic, key, metadata])
 }
@@ -72,27 +74,28 @@ fn leave_all_value(heap: Global, pid: u64) -> Result<Value, AllocError>
     json!(in heap; ["do", "leaveall", pid])
 }
 
-/// A step that names nothing.
+/// A step that has nothing but its verb, as JSON.
 fn bare_value(heap: Global, verb: &str) -> Result<Value, AllocError>
     ensures { IfOk result (λ v. view v ≡ list (string (codes "do") ∷ string verb.now ∷ [])) }
 {
     json!(in heap; ["do", verb])
 }
 
-/// A step that names a message.
+/// A delivery or an answer as JSON.
 fn message_value(heap: Global, verb: &str, sender: u16, number: u64) -> Result<Value, AllocError>
     ensures { IfOk result (λ v. view v ≡ list (string (codes "do") ∷ string verb.now ∷ whole sender ∷ whole number ∷ [])) }
 {
     json!(in heap; ["do", verb, sender, number])
 }
 
-/// A step that sets the status of another name.
+/// An up, a down or a permanently down as JSON.
 fn status_value(heap: Global, verb: &str, name: u16) -> Result<Value, AllocError>
     ensures { IfOk result (λ v. view v ≡ list (string (codes "do") ∷ string verb.now ∷ whole name ∷ [])) }
 {
     json!(in heap; ["do", verb, name])
 }
 
+/// A step as JSON: the word `do`, its verb, and what goes with the verb.
 fn step_value<A: Allocator>(heap: Global, step: &Step<A>) -> Result<Value, AllocError>
     ensures json { IfOk result (λ v. view v ≡ act_json (Do (plain step.now))) }
     ensures told { IfOk result (λ _. IsOperation (plain step.now)) }

@@ -11,7 +11,7 @@ use dots_core::Oom;
 use serde_json::{Value, json};
 use std::alloc::{Allocator, Global};
 
-/// The event as a list: its actor, its act and its reply.
+/// The event as a JSON list: its actor, its act and its reply.
 pub fn event_value<A: Allocator>(heap: Global, event: &Event<A>) -> Result<Value, Oom>
     ensures json { IfOk result (λ v. view v ≡ event_json event.now) }
     ensures told { IfOk result (λ _. IsEvent event.now) }

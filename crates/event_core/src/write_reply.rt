@@ -8,21 +8,21 @@ use bench_core::{Fault, Reply};
 use serde_json::{Value, json};
 use std::alloc::{AllocError, Global};
 
-/// A reply that gives a step's number.
+/// A reply that has a step's number, as JSON.
 fn numbered_value(heap: Global, word: &str, number: u64) -> Result<Value, AllocError>
     ensures { IfOk result (λ v. view v ≡ list (string word.now ∷ whole number ∷ [])) }
 {
     json!(in heap; [word, number])
 }
 
-/// A refusal that names a consequence.
+/// A refusal that names a consequence, as JSON.
 fn consequence_value(heap: Global, step: u64, held_by: u64) -> Result<Value, AllocError>
     ensures { IfOk result (λ v. view v ≡ list (string (codes "no") ∷ whole 16 ∷ whole step ∷ whole held_by ∷ [])) }
 {
     json!(in heap; ["no", 16u8, step, held_by])
 }
 
-/// A refusal whose fault has no fields.
+/// A refusal whose fault has no fields, as JSON.
 fn refusal_value(heap: Global, fault: Fault) -> Result<Value, AllocError>
     ensures { IfOk result (λ v. view v ≡ list (string (codes "no") ∷ whole (code_of fault) ∷ [])) }
 {

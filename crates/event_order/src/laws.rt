@@ -3,22 +3,22 @@
 ghost use Rattle.event_order.specs.Laws.{InterleavingLaw, NearestLaw, OneNearestLaw, NoOrderLaw};
 
 /// An order is an interleaving: each event comes once, the events of a node come in their order, and an event comes
-/// after the one it waits for.
+/// after the send of the message that it waits for.
 pub fn interleaving_law()
     ensures { InterleavingLaw }
 {}
 
-/// Where the nearest order first differs from another, it has the earlier event of the input.
+/// Where the nearest order and another one first differ, the nearest has the event that comes earlier in the input.
 pub fn nearest_law()
     ensures { NearestLaw }
 {}
 
-/// There is one nearest order.
+/// There is only one nearest order.
 pub fn one_nearest_law()
     ensures { OneNearestLaw }
 {}
 
-/// Where a message is never sent, or an event waits forever, there is no order.
+/// If a message that an event waits for is never sent, or an event waits forever, there is no order.
 pub fn no_order_law()
     ensures { NoOrderLaw }
 {}

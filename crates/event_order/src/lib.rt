@@ -1,9 +1,9 @@
 //! The order in which logged events of several nodes can have come.
 //!
-//! Each node logs its own events in their order. Of other nodes it knows only that a message which it takes was sent before.
-//! The crate stands on std and `thiserror` alone. In the order to read them: `logged`, what an order needs to know of an event;
-//! `order_fault`, why there is no order; `senders`, which messages are sent; `walk`, an order as far as it has come;
-//! `ordering`, the whole; `laws`.
+//! Each node logs its own events in their order. Of other nodes it knows only that a message which it takes was sent
+//! before. The crate stands on std and `thiserror` alone. The modules in reading order: `logged`, what an order needs
+//! to know of an event; `order_fault`, why there is no order; `senders`, which messages are sent; `walk`, an order
+//! while it is built; `ordering`, the order or why there is none; `laws`, what holds of orders.
 #![tactic(auto)]
 
 pub mod laws;
@@ -17,5 +17,5 @@ pub use logged::Logged;
 pub use order_fault::OrderFault;
 pub use ordering::ordered;
 
-/// Want of memory. It is std's error, so that `?` on a call of std gives it.
+/// A request for memory was refused. This is std's error, so `?` on a call of std passes it on.
 pub use std::alloc::AllocError as Oom;

@@ -5,7 +5,7 @@ ghost use Rattle.event_order.specs.declared.order_fault.OrderFault.TheVariants.{
 use crate::Oom;
 use thiserror::Error;
 
-/// Why events have no order. Places count from 0.
+/// Why events have no order. Places are counted from 0.
 #[derive(Clone, Copy, Debug, PartialEq, Eq, Error)]
 pub enum OrderFault {
     /// The event at this place sends a message that an earlier event sends, too.
@@ -14,7 +14,7 @@ pub enum OrderFault {
     /// The event at this place waits for a message that no event sends.
     #[error("NeverSent at {at}")]
     NeverSent { at: usize },
-    /// The event at this place is the first that waits forever.
+    /// The event at this place is the first of those that wait forever.
     #[error("Circle at {at}")]
     Circle { at: usize },
     #[error("OutOfMemory")]

@@ -9,7 +9,9 @@ use crate::senders::{mark_senders, never_sent};
 use crate::walk::{first_heads, least, walk};
 use std::alloc::Allocator;
 
-/// Ok if no message is sent twice and each message that an event waits for is sent; else the first event at fault.
+/// Checks that no message is sent twice, and that each message which an event waits for is sent. `Twice` is looked for
+/// first, and names the first event that sends a message again. `NeverSent` names the first event that waits for a
+/// message which isn't sent.
 fn check_messages<A: Allocator>(
     alloc: A,
     events: &[Logged],
@@ -28,7 +30,8 @@ fn check_messages<A: Allocator>(
     Ok(())
 }
 
-/// The order, from the first event of each node; or the first event that waits forever.
+/// The order that a walk from the first event of each node finds; if some events wait forever, `Circle` with the first
+/// of these. The walk edits `heads` and `sent`.
 fn order_from<A: Allocator>(
     alloc: A,
     events: &[Logged],
@@ -48,7 +51,8 @@ fn order_from<A: Allocator>(
     Ok(order)
 }
 
-/// The order of the events that is nearest to the input, by their places in the input; or why there is none.
+/// The places of the events in the order that is nearest to the input; or why there is none. There are `nodes` nodes
+/// and `messages` messages.
 pub fn ordered<A: Allocator + Copy>(
     alloc: A,
     events: &[Logged],

@@ -5,7 +5,8 @@ ghost use Rattle.event_order.specs.Walks.{IsSentUpTo};
 
 use crate::logged::Logged;
 
-/// Marks the messages that the events send; or gives the first event that sends one again.
+/// Marks in `sent` the messages that the events send. The error is the place of the first event that sends a message
+/// again; then only the messages of the events before it are marked.
 pub(crate) fn mark_senders(events: &[Logged], sent: &mut [bool]) -> Result<(), usize>
     requires messages { HasMessages (length sent.old) events.now }
     requires none { IsSentUpTo events.now 0 sent.old }
@@ -22,7 +23,7 @@ pub(crate) fn mark_senders(events: &[Logged], sent: &mut [bool]) -> Result<(), u
     Ok(())
 }
 
-/// The first event that waits for a message that no event sends.
+/// The place of the first event that waits for a message that no event sends; `None` if there is none.
 pub(crate) fn never_sent(events: &[Logged], sent: &[bool]) -> Option<usize>
     requires messages { HasMessages (length sent.now) events.now }
     requires sent { IsSentUpTo events.now (length events.now) sent.now }

@@ -1,4 +1,4 @@
-//! An order as far as it has come: which messages were sent, and the next event of each node.
+//! An order while it is built: which messages were sent, and the next event of each node.
 ghost use Rattle.std.specs.Prelude.{◌≡◌, ◌≤◌, ◌<◌, ◌+◌, ◌++◌, ◌∷◌, [], IfOk, Some, length};
 ghost use Rattle.std.specs.Prelude.{ℕ, List, slice_index};
 ghost use Rattle.event_order.specs.Ordering.{HasNodes, HasMessages, CanCome, IsBegun, IsNearest, node_at};
@@ -8,7 +8,7 @@ use crate::Oom;
 use crate::logged::Logged;
 use std::alloc::Allocator;
 
-/// The first event of the node from a place on; where there is none, the number of all events.
+/// The place of the node's first event at or behind `from`; the number of all events if there is none.
 fn first_of(events: &[Logged], node: u16, from: usize) -> usize
     requires { from ≤ length events.now }
     ensures { IsFirstOf events.now node from result }
@@ -21,7 +21,7 @@ fn first_of(events: &[Logged], node: u16, from: usize) -> usize
     events.len()
 }
 
-/// Whether what the event waits for was sent.
+/// Whether the message that the event waits for was sent; true if it waits for none.
 fn is_ready(event: &Logged, sent: &[bool]) -> bool
     requires { (message : ℕ) → event.now.waits ≡ Some message → message < length sent.now }
     ensures { result ≡ is_sent event.now.waits sent.now }
@@ -32,7 +32,7 @@ fn is_ready(event: &Logged, sent: &[bool]) -> bool
     }
 }
 
-/// The least of these places whose event is ready; where there is none, the number of all events.
+/// The least of the places `heads` whose event is ready; the number of all events if there is none.
 pub(crate) fn least_ready(events: &[Logged], heads: &[usize], sent: &[bool]) -> usize
     requires { HasMessages (length sent.now) events.now }
     ensures { IsLeastReady events.now heads.now sent.now result }
@@ -46,7 +46,7 @@ pub(crate) fn least_ready(events: &[Logged], heads: &[usize], sent: &[bool]) -> 
     least
 }
 
-/// The least of the numbers below a limit; where there is none, the limit.
+/// The least of the numbers that are below `limit`; `limit` if there is none.
 pub(crate) fn least(limit: usize, numbers: &[usize]) -> usize
     ensures { IsLeast limit numbers.now result }
 {
@@ -59,7 +59,8 @@ pub(crate) fn least(limit: usize, numbers: &[usize]) -> usize
     least
 }
 
-/// The first event of each node.
+/// The heads to begin with: for each node the place of its first event, or the number of all events if it has none. In
+/// a walk the head of a node is the place of its next event.
 pub(crate) fn first_heads<A: Allocator>(
     alloc: A,
     events: &[Logged],
@@ -74,8 +75,8 @@ pub(crate) fn first_heads<A: Allocator>(
     Ok(heads)
 }
 
-/// Appends the event at the head of its node to the order: the head moves on, and the message that the event sends is
-/// marked.
+/// Takes the event at `place`, the next one of its node: moves the node's head on to the node's next event, and marks
+/// the message that the event sends as sent.
 fn come(events: &[Logged], place: usize, heads: &mut [usize], sent: &mut [bool])
     requires there { place < length events.now }
     requires nodes { HasNodes (length heads.old) events.now }
@@ -91,7 +92,8 @@ fn come(events: &[Logged], place: usize, heads: &mut [usize], sent: &mut [bool])
     }
 }
 
-/// Appends events to the order, each time the first that can come, until none can.
+/// The places of the events in the order in which they come: each time the first that can come, until none can. Edits
+/// `heads` and `sent` on the way.
 pub(crate) fn walk<A: Allocator>(
     alloc: A,
     events: &[Logged],

@@ -10,7 +10,7 @@ pub enum AskFault {
     /// No node has this name.
     #[error("NoSuchNode")]
     NoSuchNode,
-    /// The text is no word, so nothing is tracked under it.
+    /// The topic or the key isn't a word, so nothing is tracked under it.
     #[error("NoWord")]
     NoWord,
     /// A request for memory was refused.

@@ -1,4 +1,4 @@
-//! An explanation that is asked for by words.
+//! The explanation for a question in words.
 ghost use Rattle.std.specs.Prelude.{◌≡◌, IfErr, IfOk, string_bytes};
 ghost use Rattle.explain_core.specs.Questions.{IsAnswer, Refuses};
 
@@ -8,7 +8,7 @@ use bench_core::Bench;
 use payload_core::Word;
 use std::alloc::Allocator;
 
-/// The question why the presences of this topic and key are online at the node of this name, or why not.
+/// Asks why the presences of this topic and key are online at the node of this name, or why not.
 #[derive(Clone, Copy, Debug, PartialEq, Eq)]
 pub struct Question<'q> {
     pub node: &'q str,
@@ -16,7 +16,8 @@ pub struct Question<'q> {
     pub key: &'q str,
 }
 
-/// The explanation that is asked for.
+/// The explanation for the question. `NoSuchNode` if no node has the name, `NoWord` if the topic or the key isn't a
+/// word.
 pub fn explain_asked<'a, B: Allocator>(
     alloc: &'a B,
     bench: &Bench<'a, B>,
@@ -31,6 +32,7 @@ pub fn explain_asked<'a, B: Allocator>(
     let topic = Word::new(alloc, question.topic)?;
     let key = Word::new(alloc, question.key)?;
     let text = explain(bench, node, &topic, &key, alloc);
+    // form: drop before exit
     drop(key);
     drop(topic);
     Ok(text?)

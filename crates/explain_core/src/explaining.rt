@@ -17,7 +17,7 @@ use payload_core::{Oom, Word};
 use report_core::{name_at, put_act};
 use std::alloc::Allocator;
 
-/// How many presences are followed in one walk over the steps.
+/// The most presences that are followed in one walk over the steps.
 const FOLLOWED_TOGETHER: usize = 512;
 
 impl Verdict {
@@ -38,7 +38,7 @@ impl Verdict {
     }
 }
 
-/// `LABEL NUMBER NODE VERB ..`.
+/// Appends the step as the line `LABEL NUMBER NODE VERB ..`: `label`, the step's number, and its line in a script.
 #[tactic(auto, unfolding(crate::specs::Explanations::labelled))]
 fn put_labelled<A: Allocator, N: Allocator, W: Allocator>(
     text: &mut String<A>,
@@ -54,7 +54,7 @@ fn put_labelled<A: Allocator, N: Allocator, W: Allocator>(
     Ok(text.push_str("\n")?)
 }
 
-/// The line of a step that remains.
+/// Appends the line of the step with this number (see `put_labelled`), if the step remains.
 #[tactic(auto, unfolding(crate::specs::Explanations::step_line))]
 fn put_step<'a, A: Allocator, B: Allocator>(
     bench: &Bench<'a, B>,
@@ -70,6 +70,7 @@ fn put_step<'a, A: Allocator, B: Allocator>(
     }
 }
 
+/// Like `put_step`, but appends nothing without a number.
 fn put_step_if<'a, A: Allocator, B: Allocator>(
     bench: &Bench<'a, B>,
     text: &mut String<A>,
@@ -84,7 +85,7 @@ fn put_step_if<'a, A: Allocator, B: Allocator>(
     }
 }
 
-/// A line for each of these steps.
+/// Appends a line for each of the steps with these numbers.
 #[tactic(auto, unfolding(crate::specs::Explanations::step_lines))]
 fn put_steps<'a, A: Allocator, B: Allocator>(
     bench: &Bench<'a, B>,
@@ -100,7 +101,7 @@ fn put_steps<'a, A: Allocator, B: Allocator>(
     Ok(())
 }
 
-/// A verdict, and the steps that it rests on.
+/// Appends a verdict, and a line for each step that it rests on.
 #[tactic(auto, unfolding(crate::specs::Explanations::found_text))]
 fn put_found<'a, A: Allocator, B: Allocator, F: Allocator>(
     bench: &Bench<'a, B>,
@@ -114,7 +115,7 @@ fn put_found<'a, A: Allocator, B: Allocator, F: Allocator>(
     put_steps(bench, text, "by", &finding.steps)
 }
 
-/// The step by which the presence left at its own node.
+/// Appends the line of the step by which the presence left at its own node (the node that `dot` names), if it left.
 #[tactic(auto, unfolding(crate::specs::Explanations::left_text))]
 fn put_left<'a, A: Allocator, B: Allocator>(
     bench: &Bench<'a, B>,
@@ -132,7 +133,7 @@ fn put_left<'a, A: Allocator, B: Allocator>(
     }
 }
 
-/// How the presence stands at the node, and why.
+/// Appends how the presence stands at the node, and why.
 #[tactic(auto, unfolding(crate::specs::Explanations::node_text, crate::specs::Explanations::finding_text))]
 fn put_node<'a, A: Allocator, B: Allocator>(
     bench: &Bench<'a, B>,
@@ -148,11 +149,12 @@ fn put_node<'a, A: Allocator, B: Allocator>(
     write!(text, "at {name} ")?;
     let finding = finding_of(bench, node, dot, track, alloc)?;
     let put = put_found(bench, text, &finding);
+    // form: drop before exit
     drop(finding);
     put
 }
 
-/// `dot NODE CLOCK`.
+/// Appends `dot NODE CLOCK`, and a line feed.
 #[tactic(auto, unfolding(crate::specs::Explanations::dot_line))]
 fn put_dot<'a, A: Allocator, B: Allocator>(
     bench: &Bench<'a, B>,
@@ -166,7 +168,7 @@ fn put_dot<'a, A: Allocator, B: Allocator>(
     Ok(writeln!(text, "dot {name} {clock}")?)
 }
 
-/// The last status step of the node about the presence's name.
+/// Appends the line of the node's last status step about the presence's name, if one remains.
 #[tactic(auto, unfolding(crate::specs::Explanations::status_text))]
 fn put_status<'a, A: Allocator, B: Allocator>(
     bench: &Bench<'a, B>,
@@ -182,7 +184,7 @@ fn put_status<'a, A: Allocator, B: Allocator>(
     put_step_if(bench, text, "status", status)
 }
 
-/// Why the removal didn't come, where it should have.
+/// Appends why the removal didn't come, if the presence left at its own node and is still live at `node`.
 #[tactic(auto, unfolding(crate::specs::Explanations::removal_text, crate::specs::Explanations::finding_text))]
 fn put_removal<'a, A: Allocator, B: Allocator>(
     bench: &Bench<'a, B>,
@@ -198,6 +200,7 @@ fn put_removal<'a, A: Allocator, B: Allocator>(
         text.push_str("removal ")?;
         let finding = missing(alloc, &track.hops, node, Standing::Gone)?;
         let put = put_found(bench, text, &finding);
+        // form: drop before exit
         drop(finding);
         put
     } else {
@@ -205,7 +208,7 @@ fn put_removal<'a, A: Allocator, B: Allocator>(
     }
 }
 
-/// The text for a presence with this track.
+/// Appends the text for the presence with this track.
 #[tactic(auto, unfolding(crate::specs::Explanations::tracked_text))]
 fn put_tracked<'a, A: Allocator, B: Allocator>(
     bench: &Bench<'a, B>,
@@ -227,7 +230,7 @@ fn put_tracked<'a, A: Allocator, B: Allocator>(
     put_removal(bench, text, node, making.dot, track, alloc)
 }
 
-/// The text for each of these presences.
+/// Appends the text for each of these presences.
 fn put_traced<'a, A: Allocator, B: Allocator>(
     bench: &Bench<'a, B>,
     text: &mut String<A>,
@@ -245,7 +248,7 @@ fn put_traced<'a, A: Allocator, B: Allocator>(
     Ok(())
 }
 
-/// The text for each of these presences, whose tracks are followed together.
+/// Appends the text for each of these presences. Their tracks are followed together, in one walk over the steps.
 fn put_some<'a, A: Allocator, B: Allocator>(
     bench: &Bench<'a, B>,
     text: &mut String<A>,
@@ -259,12 +262,13 @@ fn put_some<'a, A: Allocator, B: Allocator>(
     let statuses = last_statuses(bench.remaining(), node, names, alloc)?;
     let traced = traced_of(bench, makings, alloc)?;
     let put = put_traced(bench, text, &statuses, node, &traced, alloc);
+    // form: drop before exit
     drop(traced);
     drop(statuses);
     put
 }
 
-/// The text for each presence. Few are followed at a time, so their tracks take little memory.
+/// Appends the text for each presence. Up to 512 are followed at a time, so that their tracks take little memory.
 #[tactic(auto, unfolding(crate::specs::Explanations::making_texts))]
 fn put_makings<'a, A: Allocator, B: Allocator>(
     bench: &Bench<'a, B>,
@@ -284,7 +288,7 @@ fn put_makings<'a, A: Allocator, B: Allocator>(
     Ok(())
 }
 
-/// `explain NODE TOPIC KEY COUNT`.
+/// Appends `explain NODE TOPIC KEY COUNT`, where COUNT is `count`, the number of presences, and a line feed.
 #[tactic(auto, unfolding(crate::specs::Explanations::head_line))]
 fn put_head<'a, A: Allocator, B: Allocator>(
     bench: &Bench<'a, B>,
@@ -299,11 +303,12 @@ fn put_head<'a, A: Allocator, B: Allocator>(
     let node = name_at(bench.names(), node);
     let topic = topic.as_str();
     let key = key.as_str();
+    // form: a `writeln!` split in two, which the proof takes one by one
     write!(text, "explain {node} {topic}")?;
     Ok(writeln!(text, " {key} {count}")?)
 }
 
-/// The line that says how many presences there are, and the text for each.
+/// Appends the line that says how many presences there are, and the text for each.
 fn put_explanation<'a, A: Allocator, B: Allocator>(
     bench: &Bench<'a, B>,
     text: &mut String<A>,
@@ -320,10 +325,11 @@ fn put_explanation<'a, A: Allocator, B: Allocator>(
     put_makings(bench, text, node, makings, alloc)
 }
 
-/// Why the presences of a topic and key are online at a node, and why not. For each presence that a remaining step
-/// made, in the order of these steps, it tells the step; the step by which it left at its own node, if it did; how it
-/// stands at the node, with the steps that brought it there or lost it; the last status step of the node about its
-/// name; and, if it left and is still there, why the removal didn't come.
+/// Tells why the presences of a topic and key are online at a node, or why not: each presence that a remaining step
+/// made, in the order of these steps. Of a presence it tells the step that made it, and its dot; the step by which the
+/// presence left at its own node, if it did; how it stands at the node, with the steps that brought it there or lost
+/// it; the node's last status step about its name, if one remains; and, if the presence left and is still live at the
+/// node, why the removal didn't come.
 #[tactic(auto, unfolding(crate::specs::Explanations::explanation))]
 pub fn explain<'a, B: Allocator>(
     bench: &Bench<'a, B>,
@@ -337,6 +343,7 @@ pub fn explain<'a, B: Allocator>(
     let makings = makings_of(bench, topic, key, alloc)?;
     let mut text = String::new(alloc);
     let put = put_explanation(bench, &mut text, node, topic, key, &makings, alloc);
+    // form: drop before exit
     drop(makings);
     put?;
     Ok(text)

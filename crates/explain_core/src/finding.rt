@@ -15,28 +15,28 @@ use payload_core::Oom;
 use std::alloc::Allocator;
 use std::marker::Model;
 
-/// How a presence stands at a node, and why.
+/// How a presence stands at a node, and why. The last four verdicts are also told of the removal of a presence.
 #[derive(Clone, Copy, Debug, PartialEq, Eq)]
 pub enum Verdict {
-    /// It is in the node's online list.
+    /// The presence is in the node's online list.
     Online,
-    /// The node has it, and its name is down there.
+    /// The node has the presence, and the presence's name is down there.
     Down,
-    /// A delivery, or a step of the node itself, took it out.
+    /// The presence's dot is gone at the node, by a delivery or by a step of the node itself.
     Removed,
-    /// It left at its own node, and the node has nothing of it.
+    /// The presence left at its own node, and the node that is asked about hasn't seen its dot.
     Left,
-    /// The node had it, and forgot all of its name.
+    /// The node had seen the presence, and forgot all dots of the presence's name.
     Forgotten,
-    /// It was delivered while the node didn't know its name, so nothing was kept.
+    /// The presence was delivered while the node didn't know the presence's name, so the node took nothing of it.
     Missed,
-    /// It was sent, and no step of the node delivered it.
+    /// The presence was sent, and no step of the node delivered it.
     Undelivered,
-    /// No step sent it.
+    /// No step sent the presence.
     Unsent,
 }
 
-/// A verdict with the steps that it rests on, by their numbers.
+/// A verdict, with the numbers of the steps that it rests on.
 #[derive(Drop)]
 pub struct Finding<A: Allocator> {
     pub verdict: Verdict,
@@ -52,7 +52,7 @@ impl<A: Allocator> Model for Finding<A> {
 }
 
 impl Hop {
-    /// Whether the step sent or delivered the dot, and is this one.
+    /// Whether this is the step with the number `target`, and it sent or delivered the dot.
     fn is_link(&self, target: Option<u64>) -> bool
         ensures { result ≡ is_link target self.now }
     {
@@ -64,26 +64,29 @@ impl Hop {
         }
     }
 
-    /// Whether this step made the node forget the dot, which stood there as `wanted` or above.
+    /// Whether this step made the node forget the dot, which until then stood there as `wanted` or above.
     fn is_forgotten_at(&self, node: u16, wanted: Standing) -> bool
         ensures { result ≡ is_forgotten_at node wanted self.now }
     {
         matches!(self.kind, Kind::Forgot) && self.node == node && !wanted.is_above(self.standing)
     }
 
+    /// Whether this step delivered a message in which the dot stands as `wanted`, and the node missed the dot.
     fn is_missed_at(&self, node: u16, wanted: Standing) -> bool
         ensures { result ≡ is_missed_at node wanted self.now }
     {
         matches!(self.kind, Kind::Missed) && self.node == node && self.standing.is_same(wanted)
     }
 
+    /// Whether this step sent a message in which the dot stands as `wanted`.
     fn is_sent_as(&self, wanted: Standing) -> bool
         ensures { result ≡ is_sent_as wanted self.now }
     {
         matches!(self.kind, Kind::Sent) && self.standing.is_same(wanted)
     }
 
-    /// Whether it is a step of this kind, and a reason why the dot doesn't stand as `wanted` at the node.
+    /// Whether the step is of this kind, and a reason why the dot doesn't stand as `wanted` at the node. For `Came` the
+    /// answer is that for `Sent`.
     fn is_why(&self, kind: Kind, node: u16, wanted: Standing) -> bool
         ensures { result ≡ is_why kind node wanted self.now }
     {
@@ -95,7 +98,9 @@ impl Hop {
     }
 }
 
-/// The sends and deliveries that brought the dot to a step, in their order.
+/// The numbers of the sends and deliveries that brought the dot to the step `by`, in their order. The last of them is
+/// `by`; there are none if `by` is `None`, or is neither a send nor a delivery. The search goes back from hop to hop,
+/// each time to the step that made what the hop read.
 #[tactic(auto, unfolding(crate::specs::Findings::backwards))]
 fn chain<A: Allocator>(alloc: A, hops: &[Hop], by: Option<u64>) -> Result<Vec<u64, A>, Oom>
     ensures { IfOk result (λ numbers. numbers.items ≡ chain hops.now by) }
@@ -131,7 +136,8 @@ fn numbers_of<A: Allocator>(
         .collect(alloc)
 }
 
-/// Why the dot doesn't stand as `wanted` at the node.
+/// Why the dot doesn't stand as `wanted` at the node: `Forgotten`, `Missed`, `Undelivered` or `Unsent`, the first of
+/// these that holds.
 #[tactic(auto, unfolding(crate::specs::Findings::missing))]
 pub fn missing<A: Allocator + Copy>(
     alloc: A,
@@ -148,6 +154,7 @@ pub fn missing<A: Allocator + Copy>(
             steps: forgotten,
         });
     }
+    // form: drop before exit
     drop(forgotten);
     let missed = numbers_of(alloc, hops, Kind::Missed, node, wanted)?;
     if !missed.is_empty() {
@@ -166,7 +173,7 @@ pub fn missing<A: Allocator + Copy>(
     Ok(Finding { verdict, steps })
 }
 
-/// Whether the node knows the name, and has it up.
+/// Whether the name is up at the node; false if there is no such node or it doesn't know the name.
 #[tactic(auto, unfolding(crate::specs::Findings::is_up_at, report_core::specs::Shown::node_of))]
 fn is_up_at<'a, B: Allocator>(bench: &Bench<'a, B>, node: u16, name: u16) -> bool
     ensures { result ≡ is_up_at bench.now node name }
@@ -177,14 +184,14 @@ fn is_up_at<'a, B: Allocator>(bench: &Bench<'a, B>, node: u16, name: u16) -> boo
     }
 }
 
-/// Whether the presence has left at its own node.
+/// Whether the presence of the dot has left at its own node, which is the node that the dot names.
 pub fn has_left<'a, B: Allocator>(bench: &Bench<'a, B>, dot: Dot) -> bool
     ensures { result ≡ has_left bench.now dot }
 {
     standing_at(bench, dot.name, dot).is_same(Standing::Gone)
 }
 
-/// This verdict, with the steps that brought the dot to its standing at the node.
+/// The verdict, with the steps that brought the dot to its standing at the node.
 fn brought<A: Allocator, T: Allocator>(
     alloc: A,
     track: &Track<T>,
@@ -230,6 +237,7 @@ pub fn finding_of<'a, B: Allocator>(
     }
 }
 
+/// Whether the step is an up, a down or a permanently down of this name.
 fn is_status_of<A: Allocator>(step: &Step<A>, name: u16) -> bool
     ensures { result ≡ is_status_of name (plain step.now) }
 {
@@ -241,7 +249,8 @@ fn is_status_of<A: Allocator>(step: &Step<A>, name: u16) -> bool
     }
 }
 
-/// The last status step of the node about the name, if any remains.
+/// The number of the node's last remaining step that is an up, a down or a permanently down of this name; `None` if
+/// there is none.
 #[tactic(auto, unfolding(crate::specs::Findings::last_status))]
 fn last_status<'a, B: Allocator>(journal: &Journal<'a, B>, node: u16, name: u16) -> Option<u64>
     ensures { result ≡ last_status Nothing (kepts journal.now.steps) node name }
@@ -256,7 +265,7 @@ fn last_status<'a, B: Allocator>(journal: &Journal<'a, B>, node: u16, name: u16)
     last
 }
 
-/// The last status step of the node about each of the first names, by number.
+/// For each name below `names`, what `last_status` gives.
 pub fn last_statuses<'a, B: Allocator>(
     journal: &Journal<'a, B>,
     node: u16,
@@ -272,7 +281,7 @@ pub fn last_statuses<'a, B: Allocator>(
     Ok(statuses)
 }
 
-/// The last status step about one name, looked up among those about the first names.
+/// The same as `last_status`, looked up in `statuses` if that has the name.
 pub fn status_among<'a, B: Allocator>(
     journal: &Journal<'a, B>,
     statuses: &[Option<u64>],

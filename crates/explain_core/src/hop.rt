@@ -7,32 +7,33 @@ use crate::standing::Standing;
 /// What a step did to a dot.
 #[derive(Clone, Copy, Debug, PartialEq, Eq)]
 pub enum Kind {
-    /// It sent a message that has the dot.
+    /// The step sent a message in which the dot stands live or gone.
     Sent,
-    /// It delivered a message that has the dot, and since then the dot stands at the node as in the message.
+    /// The step delivered a message that has the dot, and so the dot came to stand at the node as in the message.
     Came,
-    /// It delivered a message that has the dot, but the node didn't know the dot's name and kept nothing of it.
+    /// The step delivered a message that has the dot, but the node didn't know the dot's name and kept nothing of it.
     Missed,
-    /// It forgot the dot.
+    /// The step took the dot's name permanently down, so the step's node forgot the dot.
     Forgot,
 }
 
-/// A step that did something to a dot, by its number and its node.
+/// A step that did something to a dot, with its number and its node.
 #[derive(Clone, Copy, Debug, PartialEq, Eq)]
 pub struct Hop {
     pub kind: Kind,
     pub number: u64,
     pub node: u16,
-    /// How the dot stands in the message, or stood before it was forgotten.
+    /// How the dot stands in the message; or, if the dot was forgotten, how it stood before.
     pub standing: Standing,
-    /// The number of the message that a send sent; else 0.
+    /// The number of the message that the step sent; 0 for other steps.
     pub message: u64,
-    /// The step that made what this step read.
+    /// The number of the step that made what this step read: the send of the message that a delivery took, or else the
+    /// step since which the dot had stood at the node as it stood before this step. `None` if there is no such step.
     pub reads: Option<u64>,
 }
 
 impl Hop {
-    /// Whether it sent this message.
+    /// Whether the step sent this message of this node.
     pub fn is_sender(&self, node: u16, message: u64) -> bool
         ensures { result ≡ is_sender node message self.now }
     {
@@ -44,5 +45,6 @@ impl Hop {
 #[derive(Clone, Copy, Debug, PartialEq, Eq)]
 pub struct Stand {
     pub standing: Standing,
+    /// The number of that step; `None` if the dot has stood unseen there from the beginning.
     pub by: Option<u64>,
 }

@@ -1,10 +1,12 @@
-//! Why a presence is online at a node of a bench, and why not, explained by the steps that remain.
+//! Why a presence is online at a node of a bench, or why not, told by the steps that remain.
 //!
-//! Stands on `report_core`, which prints steps, and names the plain types of the crates below. In the order to read them:
-//! `standing`, how a dot stands at a node and in a message; `hop`, what a step did to a dot; `track`, how it came to stand as it
-//! does, step by step; `tracking`, the remaining steps asked again; `making`, the steps that made presences of a topic and key;
-//! `tracing`, these presences with their tracks; `finding`, how a presence stands at a node, and why; `explaining`, the text; `asking`, one that is asked for by words,
-//! and `ask_fault`, why there is none. `laws` says what holds of all of it.
+//! The crate stands on `bench_core`, whose fresh bench is asked the steps again, and on `report_core`, which prints
+//! steps. It names the plain types of the crates below. The modules in reading order: `standing`, how a dot stands at a
+//! node and in a message; `hop`, what a step did to a dot; `track`, how a dot came to stand as it does, step by step;
+//! `tracking`, the remaining steps asked again; `making`, the steps that made presences of a topic and key; `tracing`,
+//! these presences with their tracks; `finding`, how a presence stands at a node, and why; `explaining`, the text;
+//! `asking`, the text for a question in words; `ask_fault`, why there is no text; and `laws`, what holds of
+//! explanations.
 #![tactic(auto)]
 
 mod ask_fault;

@@ -9,14 +9,14 @@ use dots_core::Dot;
 use payload_core::{Oom, Word};
 use std::alloc::Allocator;
 
-/// A step that made a presence, and the presence's dot.
+/// The number of a step that made a presence, and the presence's dot.
 #[derive(Clone, Copy, Debug, PartialEq, Eq)]
 pub struct Making {
     pub number: u64,
     pub dot: Dot,
 }
 
-/// The dot under which the node tracks the process, topic and key.
+/// The dot under which the node tracks the process, topic and key; `None` if it doesn't track them.
 #[tactic(auto, unfolding(crate::specs::Makings::tracked_dot, report_core::specs::Shown::node_of))]
 fn tracked_dot<'a, B: Allocator>(
     bench: &Bench<'a, B>,
@@ -28,13 +28,14 @@ fn tracked_dot<'a, B: Allocator>(
 ) -> Option<Dot>
     ensures { result ≡ tracked_dot bench.now node (record { pid = pid; topic = topic.now; key = key.now; metadata = metadata.now }) }
 {
+    // form: `metadata` is for the contract alone
     let _ = metadata;
     let found = bench.node(node)?;
     found.replica().entries().find(node, pid, topic, key)
 }
 
-/// Appends the number of a step and the dot that it made, if it made a presence of this topic and key. `asked` is the
-/// bench after the step.
+/// Appends the number of the step `kept` and the dot of the presence that the step made, if that presence has this
+/// topic and key. `asked` is the bench after the step.
 #[tactic(auto, unfolding(crate::specs::Makings::making_of))]
 fn put_making<'a, B: Allocator>(
     makings: &mut Vec<Making, &'a B>,
@@ -68,6 +69,7 @@ fn put_making<'a, B: Allocator>(
     }
 }
 
+/// Appends the number of a step and `dot`, that of the presence which the step made; nothing if `dot` is `None`.
 fn put_made<A: Allocator>(
     makings: &mut Vec<Making, A>,
     number: u64,
@@ -81,7 +83,8 @@ fn put_made<A: Allocator>(
     Ok(())
 }
 
-/// Appends the makings of these steps.
+/// Asks the remaining steps of `journal`, one by one, of the bench `asked`, and appends the making of each that made a
+/// presence of this topic and key.
 #[tactic(auto, unfolding(crate::specs::Makings::makings_from))]
 fn put_makings<'a, B: Allocator>(
     makings: &mut Vec<Making, &'a B>,
@@ -100,7 +103,7 @@ fn put_makings<'a, B: Allocator>(
     Ok(())
 }
 
-/// The steps that made presences of this topic and key, in their order, each with the presence's dot.
+/// The remaining steps that made presences of this topic and key, in their order, each with the presence's dot.
 #[tactic(auto, unfolding(crate::specs::Makings::makings_of))]
 pub fn makings_of<'a, B: Allocator>(
     bench: &Bench<'a, B>,
@@ -113,6 +116,7 @@ pub fn makings_of<'a, B: Allocator>(
     let mut asked = opened(bench, alloc)?;
     let mut makings = Vec::new(alloc);
     let answer = put_makings(&mut makings, &mut asked, topic, key, bench.remaining());
+    // form: drop before exit
     drop(asked);
     answer?;
     Ok(makings)

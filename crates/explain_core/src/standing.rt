@@ -10,17 +10,17 @@ use std::alloc::Allocator;
 /// How a dot stands.
 #[derive(Clone, Copy, Debug, PartialEq, Eq)]
 pub enum Standing {
-    /// It was not seen, or is forgotten.
+    /// The dot wasn't seen, or was forgotten.
     Unseen,
-    /// It has its entry.
+    /// The dot has its entry.
     Live,
-    /// It was seen, and its entry went.
+    /// The dot was seen, and has no entry.
     Gone,
 }
 
 impl Standing {
-    /// Whether a delivery of a message in which a dot stands like this replaces `other`, the dot's standing at the
-    /// node.
+    /// Whether this standing is greater than `other`, in the order unseen, live, gone. If so, a delivery of a message
+    /// in which the dot stands like this replaces `other`, the dot's standing at a node that knows the dot's name.
     pub fn is_above(self, other: Standing) -> bool
         ensures { result ≡ is_above self other }
     {
@@ -31,10 +31,11 @@ impl Standing {
         }
     }
 
-    /// Whether both are one standing.
+    /// Whether both are the same standing.
     pub fn is_same(self, other: Standing) -> bool
         ensures { result ≡ is_same self other }
     {
+        // form: `==` of an enum, case by case for the contract
         match (self, other) {
             (Standing::Unseen, Standing::Unseen) => true,
             (Standing::Live, Standing::Live) => true,
@@ -44,7 +45,7 @@ impl Standing {
     }
 }
 
-/// How a dot stands among these dots and entries.
+/// How a dot stands, given the dots that were seen and the entries.
 fn standing_in<A: Allocator>(seen: &DotSet<A>, entries: &EntrySet<A>, dot: Dot) -> Standing
     ensures { result ≡ standing_in seen.now entries.now.map dot }
 {
@@ -60,7 +61,7 @@ fn standing_in<A: Allocator>(seen: &DotSet<A>, entries: &EntrySet<A>, dot: Dot) 
     }
 }
 
-/// How a dot stands at a node, as the remaining steps give it.
+/// How a dot stands at a node of the bench; `Unseen` if there is no such node.
 #[tactic(auto, unfolding(crate::specs::Standings::standing_at, report_core::specs::Shown::node_of))]
 pub fn standing_at<'a, B: Allocator>(bench: &Bench<'a, B>, node: u16, dot: Dot) -> Standing
     ensures { result ≡ standing_at bench.now node dot }
@@ -72,7 +73,7 @@ pub fn standing_at<'a, B: Allocator>(bench: &Bench<'a, B>, node: u16, dot: Dot) 
     standing_in(replica.seen(), replica.entries(), dot)
 }
 
-/// How a dot stands in a message. It first asks whether the dot was seen, which is cheaper.
+/// How a dot stands in a message. Asks first whether the dot was seen, which is cheaper.
 fn standing_told<A: Allocator>(message: &Payload<A>, dot: Dot) -> Standing
     ensures { result ≡ standing_told (Some message.now) dot }
 {
@@ -83,7 +84,7 @@ fn standing_told<A: Allocator>(message: &Payload<A>, dot: Dot) -> Standing
     standing_in(message.seen(), entries, dot)
 }
 
-/// How a dot stands in a message of a node, by its number.
+/// How a dot stands in the node's message with this number; `Unseen` if there is no such node or message.
 #[tactic(auto, unfolding(crate::specs::Standings::standing_sent, report_core::specs::Shown::node_of))]
 pub fn standing_sent<'a, B: Allocator>(
     bench: &Bench<'a, B>,
@@ -102,7 +103,7 @@ pub fn standing_sent<'a, B: Allocator>(
     standing_told(message, dot)
 }
 
-/// The number of the last message of a node, 0 where it has none.
+/// The number of the node's last message; 0 if it has none, or there is no such node.
 #[tactic(auto, unfolding(crate::specs::Standings::last_message, report_core::specs::Shown::node_of))]
 pub fn last_message<'a, B: Allocator>(bench: &Bench<'a, B>, node: u16) -> u64
     ensures { result ≡ last_message bench.now node }

@@ -28,7 +28,8 @@ impl<A: Allocator> Model for Traced<A> {
 }
 
 impl<'a, B: Allocator> Traced<&'a B> {
-    /// Follows the dot over a step, on the bench after it, where the step reaches it.
+    /// Follows the dot over the step `kept`, if the step may have done something to the dot. `asked` is the bench after
+    /// the step.
     fn follow(&mut self, asked: &Bench<'a, B>, kept: &Kept<&'a B>) -> Result<(), Oom>
         requires { IsLeft asked.now kept.now self.old }
         ensures { OnOk result (self.new ≡ traced_on asked.now kept.now self.old) }
@@ -40,7 +41,7 @@ impl<'a, B: Allocator> Traced<&'a B> {
     }
 }
 
-/// Appends a presence with the track of a dot that no step has seen yet.
+/// Appends the presence of `making` with an empty track: its dot stands unseen at each of `nodes` nodes.
 fn put_untraced<'a, B: Allocator>(
     traced: &mut Vec<Traced<&'a B>, &'a B>,
     making: Making,
@@ -53,7 +54,7 @@ fn put_untraced<'a, B: Allocator>(
     Ok(traced.push(Traced { making, track })?)
 }
 
-/// Each presence with the track of a dot that no step has seen yet.
+/// The presences, each with an empty track for `nodes` nodes.
 fn untraced<'a, B: Allocator>(
     makings: &[Making],
     nodes: usize,
@@ -68,7 +69,7 @@ fn untraced<'a, B: Allocator>(
     Ok(traced)
 }
 
-/// Follows each dot over a step, on the bench after it.
+/// Follows each dot over a step, and so each track in `traced`. `asked` is the bench after the step.
 fn follow_step<'a, B: Allocator>(
     asked: &Bench<'a, B>,
     traced: &mut [Traced<&'a B>],
@@ -83,7 +84,7 @@ fn follow_step<'a, B: Allocator>(
     Ok(())
 }
 
-/// Follows each dot over the remaining steps of a bench. Another bench takes these steps once for all dots.
+/// Follows each dot over the bench's remaining steps. `asked`, a fresh bench, takes these steps once for all dots.
 fn follow_steps<'a, B: Allocator>(
     bench: &Bench<'a, B>,
     asked: &mut Bench<'a, B>,
@@ -93,6 +94,7 @@ fn follow_steps<'a, B: Allocator>(
     requires untraced { (makings : List Made) × (traced.old ≡ map (untraced (length bench.now.names)) makings) }
     ensures { OnOk result (traced.new ≡ map (traced_from asked.old bench.now.state.remaining) traced.old) }
 {
+    // form: hands out what the value keeps
     bench.bench_law();
     let mut steps = bench.remaining().steps();
     while let Some(kept) = steps.next() {
@@ -102,7 +104,7 @@ fn follow_steps<'a, B: Allocator>(
     Ok(())
 }
 
-/// Follows each dot over all steps that remain.
+/// Like `follow_steps`, but opens the fresh bench itself.
 fn follow_all<'a, B: Allocator>(
     bench: &Bench<'a, B>,
     traced: &mut [Traced<&'a B>],
@@ -113,11 +115,12 @@ fn follow_all<'a, B: Allocator>(
 {
     let mut asked = opened(bench, alloc)?;
     let answer = follow_steps(bench, &mut asked, traced);
+    // form: drop before exit
     drop(asked);
     answer
 }
 
-/// Each of these presences with the track of its dot.
+/// The presences, each with the track of its dot over all remaining steps.
 pub fn traced_of<'a, B: Allocator>(
     bench: &Bench<'a, B>,
     makings: &[Making],

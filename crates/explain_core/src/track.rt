@@ -28,7 +28,7 @@ impl<A: Allocator> Model for Track<A> {
     ghost view = { λ t. record { stands = t.stands.items; hops = t.hops.items } };
 }
 
-/// How the dot stands at a node.
+/// How the dot stands at a node; unseen, by no step, if there is no such node.
 pub fn stand_at(stands: &[Stand], node: u16) -> Stand
     ensures { result ≡ stand_at stands.now node }
 {
@@ -38,7 +38,8 @@ pub fn stand_at(stands: &[Stand], node: u16) -> Stand
     })
 }
 
-/// The step that sent this message, if the dot is in it.
+/// The number of the step that sent this message of the node; `None` if none of the hops did, because the dot isn't in
+/// the message.
 fn sender_among(hops: &[Hop], node: u16, message: u64) -> Option<u64>
     ensures { result ≡ sender_among hops.now node message }
 {
@@ -66,7 +67,7 @@ fn hop_of<A: Allocator>(
     }
 }
 
-/// What a send did.
+/// The hop of a send in whose message the dot stands as `told`; `None` if the dot isn't in the message.
 fn sent_hop<A: Allocator>(
     kept: &Kept<A>,
     before: Stand,
@@ -75,6 +76,7 @@ fn sent_hop<A: Allocator>(
 ) -> Option<Hop>
     ensures { result ≡ sent_hop kept.now before message told }
 {
+    // form: each arm is a case of the proof
     match told {
         Standing::Unseen => None,
         Standing::Live => Some(hop_of(kept, Kind::Sent, Standing::Live, message, before.by)),
@@ -82,7 +84,8 @@ fn sent_hop<A: Allocator>(
     }
 }
 
-/// What a delivery did.
+/// The hop of a delivery: the dot stands as `told` in the message, stood as `before` at the node, and stands there as
+/// `now`. `None` if the delivery neither brought the dot nor missed it.
 fn delivered_hop<A: Allocator>(
     kept: &Kept<A>,
     before: Stand,
@@ -102,7 +105,7 @@ fn delivered_hop<A: Allocator>(
     }
 }
 
-/// What the delivery of this message did. It looks for the sending step only where the delivery did something.
+/// Like `delivered_hop`, but looks up the step that sent the message, and only if the delivery has a hop.
 fn received_hop<A: Allocator>(
     kept: &Kept<A>,
     hops: &[Hop],
@@ -121,7 +124,7 @@ fn received_hop<A: Allocator>(
     delivered_hop(kept, before, told, now, reads)
 }
 
-/// What a step that neither sends nor delivers did.
+/// The hop of a step that neither sends nor delivers, if the step forgot the dot; else `None`.
 fn other_hop<A: Allocator>(kept: &Kept<A>, before: Stand, now: Standing) -> Option<Hop>
     ensures { result ≡ other_hop kept.now before now }
 {
@@ -132,7 +135,8 @@ fn other_hop<A: Allocator>(kept: &Kept<A>, before: Stand, now: Standing) -> Opti
     }
 }
 
-/// What a step did to the dot, on the bench after it.
+/// The hop of a step; `None` if it neither sent, brought, missed nor forgot the dot. The dot stood as `before` at the
+/// step's node and stands there as `now`. `asked` is the bench after the step.
 #[tactic(auto, unfolding(crate::specs::Tracks::hop_at))]
 fn hop_at<'a, B: Allocator>(
     dot: Dot,
@@ -159,14 +163,14 @@ fn hop_at<'a, B: Allocator>(
     }
 }
 
-/// Whether a message has the dot.
+/// Whether the node's message has the dot, live or gone.
 fn is_told<'a, B: Allocator>(asked: &Bench<'a, B>, node: u16, message: u64, dot: Dot) -> bool
     ensures { result ≡ is_told asked.now node message dot }
 {
     !standing_sent(asked, node, message, dot).is_same(Standing::Unseen)
 }
 
-/// Whether the step may change what its node holds of a name, other than by a message.
+/// Whether the step, of the node `node`, may change how a dot of this name stands there, other than by a message.
 fn is_changed<A: Allocator>(step: &Step<A>, node: u16, name: u16) -> bool
     ensures { result ≡ is_changed (plain step.now) node name }
 {
@@ -179,8 +183,8 @@ fn is_changed<A: Allocator>(step: &Step<A>, node: u16, name: u16) -> bool
     }
 }
 
-/// Whether the step may have done something to the dot, on the bench after it. This is cheaper to find out than what it
-/// did.
+/// Whether the step may have done something to the dot. `asked` is the bench after the step. This is cheaper to find
+/// out than what the step did.
 #[tactic(auto, unfolding(crate::specs::Tracks::reaches))]
 pub fn reaches<'a, B: Allocator>(asked: &Bench<'a, B>, kept: &Kept<&'a B>, dot: Dot) -> bool
     ensures { result ≡ reaches asked.now kept.now dot }
@@ -194,6 +198,7 @@ pub fn reaches<'a, B: Allocator>(asked: &Bench<'a, B>, kept: &Kept<&'a B>, dot: 
     }
 }
 
+/// Appends the hop, if there is one.
 fn put_hop<A: Allocator>(hops: &mut Vec<Hop, A>, hop: Option<Hop>) -> Result<(), Oom>
     ensures { OnOk result (hops.new.items ≡ with_hop hops.old.items hop) }
 {
@@ -203,6 +208,8 @@ fn put_hop<A: Allocator>(hops: &mut Vec<Hop, A>, hop: Option<Hop>) -> Result<(),
     Ok(())
 }
 
+/// Notes in `stands` how the dot stands at the step's node after the step, and that it has stood so since this step.
+/// Changes nothing if the dot stood so before.
 fn put_stand<A: Allocator, W: Allocator>(
     stands: &mut Vec<Stand, A>,
     kept: &Kept<W>,
@@ -220,7 +227,7 @@ fn put_stand<A: Allocator, W: Allocator>(
 }
 
 impl<A: Allocator> Track<A> {
-    /// The track of a dot that no step has seen yet.
+    /// The empty track of a dot, which stands unseen at each of `nodes` nodes.
     pub fn new(alloc: A, nodes: usize) -> Result<Track<A>, Oom>
     where
         A: Copy,
@@ -238,7 +245,7 @@ impl<A: Allocator> Track<A> {
 }
 
 impl<'a, B: Allocator> Track<&'a B> {
-    /// Follows the dot over one more step, on the bench after it.
+    /// Follows the dot over one more step. `asked` is the bench after the step.
     #[tactic(auto, unfolding(crate::specs::Tracks::followed))]
     pub fn follow(&mut self, dot: Dot, asked: &Bench<'a, B>, kept: &Kept<&'a B>) -> Result<(), Oom>
         ensures { OnOk result (self.new ≡ followed dot asked.now kept.now self.old) }

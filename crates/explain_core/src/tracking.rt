@@ -1,4 +1,4 @@
-//! The remaining steps, asked again of a fresh bench.
+//! Asks the remaining steps again, of a fresh bench.
 ghost use Rattle.std.specs.Prelude.{◌≡◌, IfOk, OnOk};
 ghost use Rattle.explain_core.specs.Tracks.{after_step, opened};
 
@@ -6,7 +6,7 @@ use bench_core::{Act, Bench, Fault, Kept, Reply};
 use payload_core::Oom;
 use std::alloc::Allocator;
 
-/// A fresh bench of the same names and limits.
+/// A fresh bench with the same names and limits.
 pub fn opened<'a, B: Allocator>(bench: &Bench<'a, B>, alloc: &'a B) -> Result<Bench<'a, B>, Oom>
     ensures { IfOk result (λ asked. asked ≡ opened bench.now) }
 {
@@ -14,13 +14,14 @@ pub fn opened<'a, B: Allocator>(bench: &Bench<'a, B>, alloc: &'a B) -> Result<Be
     Bench::new(alloc, names, bench.limits())
 }
 
-/// Has the bench take a step.
+/// Asks the step of the bench `asked`. Refused memory is an error; any other reply is passed over.
 #[tactic(auto, unfolding(crate::specs::Tracks::after_step, report_core::specs::ActTexts::after_act))]
 pub fn ask<'a, B: Allocator>(asked: &mut Bench<'a, B>, kept: &Kept<&'a B>) -> Result<(), Oom>
     ensures { OnOk result (asked.new ≡ after_step asked.old kept.now) }
 {
     let act = Act::Do(kept.step.try_copy()?);
     let reply = asked.act(kept.node, &act);
+    // form: drop before exit
     drop(act);
     if reply.same(Reply::Refused(Fault::OutOfMemory)) {
         return Err(Oom);

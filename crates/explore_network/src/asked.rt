@@ -1,4 +1,4 @@
-//! The dots of the presences that are asked for.
+//! The dots that a question is about: those of its presences, or the own dots of all nodes.
 ghost use Rattle.std.specs.Prelude.{◌≡◌, ◌≤◌, ◌<◌, ◌++◌, [], ℕ, IfOk, OnOk, Ok, option_map, slice_get};
 ghost use Rattle.replica_core.specs.Limits.{AreNodeLimits};
 ghost use Rattle.replica_core.specs.Replicas.{fresh};
@@ -27,6 +27,7 @@ use std::alloc::Allocator;
 fn is_asked<A: Allocator>(step: &Step<A>, wanted_topic: &Word<A>, wanted_key: &Word<A>) -> bool
     ensures { result ≡ is_asked wanted_topic.now wanted_key.now (plain_step step.now) }
 {
+    // form: each arm is a case of the proof
     match step {
         Step::Join {
             pid: _,
@@ -44,11 +45,12 @@ fn is_asked<A: Allocator>(step: &Step<A>, wanted_topic: &Word<A>, wanted_key: &W
     }
 }
 
-/// The dot of the node's next entry.
+/// The dot that the node's next entry gets.
 fn fresh<'a, B: Allocator>(node: &Node<'a, B>) -> Dot
     ensures dot { result ≡ fresh node.now.replica }
     ensures name { result.name < 32 }
 {
+    // form: hands out what the value keeps
     node.replica().replica_law();
     let last = node.replica().last();
     Dot {
@@ -57,7 +59,8 @@ fn fresh<'a, B: Allocator>(node: &Node<'a, B>) -> Dot
     }
 }
 
-/// Appends the dot of the entry that a step makes, if it is of this topic and key.
+/// Appends the dot of the entry that a step makes, if the entry has this topic and key. `cluster` is the cluster before
+/// the step; nothing is appended if it doesn't have the step's node.
 fn put_asked<'a, B: Allocator>(
     dots: &mut Vec<Dot, &'a B>,
     cluster: &Cluster<'a, B>,
@@ -66,7 +69,8 @@ fn put_asked<'a, B: Allocator>(
     key: &Word<&'a B>,
 ) -> Result<(), Oom>
     ensures dots { OnOk result (dots.new.items ≡ dots.old.items ++ asked_dots topic.now key.now kept.now (slice_get cluster.now kept.now.node)) }
-    ensures names { OnOk result (AllByRecursion (λ (d : PlainDot). d.name < 32) dots.old.items → AllByRecursion (λ (d : PlainDot). d.name < 32) dots.new.items) }
+    ensures names { OnOk result (AllByRecursion (λ (d : PlainDot). d.name < 32) dots.old.items
+        → AllByRecursion (λ (d : PlainDot). d.name < 32) dots.new.items) }
 {
     if !is_asked(&kept.step, topic, key) {
         return Ok(());
@@ -77,7 +81,7 @@ fn put_asked<'a, B: Allocator>(
     }
 }
 
-/// Plays these steps, and appends the dots of all presences of a topic and a key that they make.
+/// Plays these steps on `cluster`, and appends the dots of all entries with this topic and key that the steps make.
 fn put_all_asked<'a, B: Allocator>(
     dots: &mut Vec<Dot, &'a B>,
     cluster: &mut Cluster<'a, B>,
@@ -85,8 +89,10 @@ fn put_all_asked<'a, B: Allocator>(
     topic: &Word<&'a B>,
     key: &Word<&'a B>,
 ) -> Result<(), Oom>
-    ensures names { OnOk result (AllByRecursion (λ (d : PlainDot). d.name < 32) dots.old.items → AllByRecursion (λ (d : PlainDot). d.name < 32) dots.new.items) }
-    ensures asked { OnOk result ((l : PlainLimits) (count : ℕ) (end : PlainCluster) → cluster.old ≡ opening_of l count → dots.old.items ≡ [] → runs l count steps.now ≡ Ok end →
+    ensures names { OnOk result (AllByRecursion (λ (d : PlainDot). d.name < 32) dots.old.items
+        → AllByRecursion (λ (d : PlainDot). d.name < 32) dots.new.items) }
+    ensures asked { OnOk result ((l : PlainLimits) (count : ℕ) (end : PlainCluster) → cluster.old ≡ opening_of l count → dots.old.items ≡ []
+        → runs l count steps.now ≡ Ok end →
         WantsMade l steps.now (is_wanted dots.new.items) topic.now key.now) }
 {
     for place in 0..steps.len() {
@@ -96,7 +102,7 @@ fn put_all_asked<'a, B: Allocator>(
     Ok(())
 }
 
-/// The dots of all presences of a topic and a key that the steps make.
+/// The dots of all entries with this topic and key that the steps make.
 fn dots_of_presences<'a, B: Allocator>(
     steps: &[Kept<&'a B>],
     count: u16,
@@ -112,12 +118,13 @@ fn dots_of_presences<'a, B: Allocator>(
     let mut cluster = Cluster::new(alloc, count as usize, limits)?;
     let mut dots = Vec::new(alloc);
     let answer = put_all_asked(&mut dots, &mut cluster, steps, topic, key);
+    // form: drop before exit
     drop(cluster);
     answer?;
     Ok(dots)
 }
 
-/// Appends the dots of a name up to its last.
+/// Appends the dots of the name of `last`, from clock 1 up to `last` itself.
 fn put_own<'a, B: Allocator>(dots: &mut Vec<Dot, &'a B>, last: Dot) -> Result<(), Oom>
     ensures { OnOk result (dots.new.items ≡ dots.old.items ++ dots_up_to last.name last.clock) }
 {
@@ -130,16 +137,18 @@ fn put_own<'a, B: Allocator>(dots: &mut Vec<Dot, &'a B>, last: Dot) -> Result<()
     Ok(())
 }
 
-/// Appends the own dots that a node has seen, if the node is there.
+/// Appends the own dots that a node has seen; nothing if `node` is `None`.
 fn put_own_of<'a, B: Allocator>(
     dots: &mut Vec<Dot, &'a B>,
     node: Option<&Node<'a, B>>,
 ) -> Result<(), Oom>
     ensures dots { OnOk result (dots.new.items ≡ dots.old.items ++ own_of (option_map (λ n. n.now) node.entry)) }
-    ensures names { OnOk result (AllByRecursion (λ (d : PlainDot). d.name < 32) dots.old.items → AllByRecursion (λ (d : PlainDot). d.name < 32) dots.new.items) }
+    ensures names { OnOk result (AllByRecursion (λ (d : PlainDot). d.name < 32) dots.old.items
+        → AllByRecursion (λ (d : PlainDot). d.name < 32) dots.new.items) }
 {
     match node {
         Some(node) => {
+            // form: hands out what the value keeps
             node.replica().replica_law();
             put_own(dots, node.replica().last())
         }
@@ -154,7 +163,8 @@ fn put_own_of_all<'a, B: Allocator>(
     count: u16,
 ) -> Result<(), Oom>
     ensures dots { OnOk result (dots.new.items ≡ dots.old.items ++ own_of_all cluster.now count) }
-    ensures names { OnOk result (AllByRecursion (λ (d : PlainDot). d.name < 32) dots.old.items → AllByRecursion (λ (d : PlainDot). d.name < 32) dots.new.items) }
+    ensures names { OnOk result (AllByRecursion (λ (d : PlainDot). d.name < 32) dots.old.items
+        → AllByRecursion (λ (d : PlainDot). d.name < 32) dots.new.items) }
 {
     for number in 0..count {
         put_own_of(dots, cluster.node(number))?;
@@ -162,7 +172,7 @@ fn put_own_of_all<'a, B: Allocator>(
     Ok(())
 }
 
-/// The own dots that the nodes of a cluster have seen.
+/// The own dots that the first `count` nodes of the cluster have seen.
 fn own_dots<'a, B: Allocator>(
     cluster: &Cluster<'a, B>,
     count: u16,
@@ -191,6 +201,7 @@ fn dots_of_nodes<'a, B: Allocator>(
     let places = places(steps.len(), alloc)?;
     let cluster = played(steps, &places, count, limits, alloc)?;
     let dots = own_dots(&cluster, count, alloc);
+    // form: drop before exit
     drop(cluster);
     dots
 }
@@ -207,6 +218,7 @@ pub(crate) fn dots_of<'a, B: Allocator>(
     requires limits { AreNodeLimits limits }
     ensures { IfOk result (λ dots. AreAsked limits count steps.now (plain question.now) dots.items) }
 {
+    // form: each arm is a case of the proof
     match question {
         Question::Cluster => dots_of_nodes(steps, count, limits, alloc),
         Question::Node(_) => dots_of_nodes(steps, count, limits, alloc),

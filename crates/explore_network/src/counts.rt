@@ -8,25 +8,27 @@ use network_rules::{Turn, count_at};
 use node_core::Oom;
 use std::alloc::Allocator;
 
-/// The count of a turn after one more step, if it was `count` before.
+/// How often a turn has come after the step `kept`, if it had come `count` times before the step.
 fn count_with<A: Allocator>(turn: Turn, kept: &Kept<A>, count: usize) -> usize
     ensures { (w : List PlainKept) → count ≡ count_of turn w → length w + 1 < 2 ^ 64 → result ≡ count_of turn (w ++ kept.now ∷ []) }
 {
     if turn.has(kept) {
+        // form: saturating spares a requirement
         count.saturating_add(1)
     } else {
         count
     }
 }
 
-/// How often each turn came, with one more step.
+/// How often each turn has come after the step `kept`, given the counts before the step.
 pub(crate) fn counted<'a, B: Allocator>(
     kept: &Kept<&'a B>,
     turns: &[Turn],
     counts: &[usize],
     alloc: &'a B,
 ) -> Result<Vec<usize, &'a B>, Oom>
-    ensures { IfOk result (λ new. (w : List PlainKept) → counts.now ≡ counts_of turns.now w → length w + 1 < 2 ^ 64 → new.items ≡ counts_of turns.now (w ++ kept.now ∷ [])) }
+    ensures { IfOk result (λ new. (w : List PlainKept) → counts.now ≡ counts_of turns.now w → length w + 1 < 2 ^ 64
+        → new.items ≡ counts_of turns.now (w ++ kept.now ∷ [])) }
 {
     let mut new = Vec::with_capacity(alloc, turns.len())?;
     for place in 0..turns.len() {

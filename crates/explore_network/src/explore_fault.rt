@@ -6,9 +6,9 @@ use node_core::Oom;
 /// Why an exploration gives no outcomes.
 #[derive(Clone, Copy, Debug, PartialEq, Eq)]
 pub enum ExploreFault {
-    /// The walk reached a further state when it had kept as many as it may; it had found this many outcomes.
+    /// The walk had kept as many states as it may, and reached another. It had found `outcomes` outcomes.
     TooManyStates { outcomes: usize },
-    /// In some order the joins and updates could fill a node.
+    /// The joins and updates make more entries than a node may hold, so some order might be refused (`EntriesFull`).
     MayFill,
     /// A run could have more than 3,000 steps.
     TooManySteps,
@@ -42,7 +42,7 @@ impl From<Oom> for ExploreFault {
     }
 }
 
-/// The fault of an exploration that stopped for this reason. Its steps fill no node.
+/// The fault for a walk that ended early.
 pub(crate) fn fault_of(stop: Stop) -> ExploreFault
     ensures fills_not { result ≢ ExploreFault.MayFill }
     ensures few_steps { result ≢ ExploreFault.TooManySteps }

@@ -33,17 +33,17 @@ use node_core::Oom;
 use progress_core::{Walked, Watch};
 use std::alloc::Allocator;
 
-/// The steps that a run may have, since the walk goes a call deeper at each.
+/// The most steps that a run may have. The walk goes one call of `visit` deeper at each step.
 const MOST_STEPS: u128 = 3000;
 
-/// What was found, and how many states were kept.
+/// The outcomes that were found, and how many states were kept.
 #[derive(Drop)]
 pub struct Explored<'a, B: Allocator> {
     pub outcomes: Vec<Outcome<'a, B>, &'a B>,
     pub states: usize,
 }
 
-/// The turns and ranks of these steps, and the names that matter for them.
+/// What a plan has besides its steps: their turns, their ranks, and which names matter where.
 #[derive(Drop)]
 struct Parts<'a, B: Allocator> {
     turns: Vec<Turn, &'a B>,
@@ -51,7 +51,7 @@ struct Parts<'a, B: Allocator> {
     cone: Cone<'a, B>,
 }
 
-/// What a plan finds out about its steps.
+/// Works out the turns, ranks and cone of these steps.
 fn parts_of<'a, B: Allocator>(
     steps: &[Kept<&'a B>],
     count: u16,
@@ -82,7 +82,7 @@ fn parts_of<'a, B: Allocator>(
     Ok(Parts { turns, ranks, cone })
 }
 
-/// The plan of these steps, which fill no node.
+/// The plan for these steps, which make no more entries than a node may hold.
 fn plan_of<'a, B: Allocator>(
     steps: Steps<&'a B>,
     count: u16,
@@ -121,20 +121,21 @@ fn plan_of<'a, B: Allocator>(
             })
         }
         Err(oom) => {
+            // form: drop before exit
             drop(steps);
             Err(oom)
         }
     }
 }
 
-/// A list of zeros.
+/// A list of `count` zeros.
 fn zeros<'a, B: Allocator>(count: usize, alloc: &'a B) -> Result<Vec<usize, &'a B>, Oom>
     ensures { IfOk result (λ zeros. zeros.items ≡ replicate count 0) }
 {
     vec![in alloc; 0usize; count]
 }
 
-/// What the recorded run leads to.
+/// The outcome of the recorded run.
 fn recorded_outcome<'a, B: Allocator>(
     tour: &Tour<'a, '_, B>,
     alloc: &'a B,
@@ -147,7 +148,7 @@ fn recorded_outcome<'a, B: Allocator>(
     Ok(outcome)
 }
 
-/// The outcome with which a walk begins.
+/// The outcomes that a walk begins with: that of the recorded run alone.
 fn first_outcomes<'a, B: Allocator>(
     tour: &Tour<'a, '_, B>,
     alloc: &'a B,
@@ -161,7 +162,7 @@ fn first_outcomes<'a, B: Allocator>(
     Ok(outcomes)
 }
 
-/// Where the walk begins.
+/// Where the walk begins: with empty nodes, no steps, and the outcome of the recorded run.
 fn begun<'a, B: Allocator>(tour: &Tour<'a, '_, B>, alloc: &'a B) -> Result<Walk<'a, B>, Oom>
     requires plan { IsPlan tour.now.plan.now (plain tour.now.question.now) }
     ensures cluster { IfOk result (λ walk. walk.cluster ≡ opening_of tour.now.plan.now.limits tour.now.plan.now.count) }
@@ -178,13 +179,14 @@ fn begun<'a, B: Allocator>(tour: &Tour<'a, '_, B>, alloc: &'a B) -> Result<Walk<
             outcomes,
         }),
         Err(oom) => {
+            // form: drop before exit
             drop(cluster);
             Err(oom)
         }
     }
 }
 
-/// What a walk found.
+/// Takes the outcomes out of a walk, and counts the states that it kept.
 fn explored_of<'a, B: Allocator>(walk: Walk<'a, B>) -> Explored<'a, B>
     ensures outcomes { result.outcomes.items ≡ walk.entry.outcomes.items }
     ensures states { result.states ≡ length walk.entry.settled }
@@ -196,13 +198,14 @@ fn explored_of<'a, B: Allocator>(walk: Walk<'a, B>) -> Explored<'a, B>
         settled,
         outcomes,
     } = walk;
+    // form: drop before exit
     drop(cluster);
     drop(path);
     drop(settled);
     Explored { outcomes, states }
 }
 
-/// All outcomes of a plan whose recorded run is accepted.
+/// Finds all outcomes of a plan whose recorded run is accepted.
 fn explore_plan<'a, B: Allocator, W: Watch<Walked>>(
     plan: &Plan<'a, B>,
     question: &Question<&'a B>,
@@ -225,6 +228,7 @@ fn explore_plan<'a, B: Allocator, W: Watch<Walked>>(
     let mut walk = begun(&tour, alloc)?;
     let left = plan.steps().len() as u128 + plan.again() as u128;
     let answer = visit(&tour, &mut walk, &counts, left, watch);
+    // form: drop before exit
     drop(counts);
     match answer {
         Ok(()) => Ok(explored_of(walk)),
@@ -235,9 +239,10 @@ fn explore_plan<'a, B: Allocator, W: Watch<Walked>>(
     }
 }
 
-/// All outcomes of what the network could have made of the steps that remain: with up to `lost` deliveries missing, and
-/// up to `again` that come a second time. It keeps at most `most` states. It tells the watcher how far the walk has
-/// come.
+/// Finds all outcomes of what the network could have made of the steps that remain, with up to `lost` deliveries
+/// missing and up to `again` that come a second time. The walk may keep `most` states (`TooManyStates` if it needs
+/// more), and tells `watch` how far it has come. `MayFill` is looked for first and then `TooManySteps`, both before the
+/// walk begins.
 pub fn explore<'a, B: Allocator, W: Watch<Walked>>(
     bench: &Bench<'a, B>,
     question: &Question<&'a B>,
@@ -260,10 +265,12 @@ pub fn explore<'a, B: Allocator, W: Watch<Walked>>(
     ensures few_steps { IsOk result → length bench.now.state.remaining + again ≤ 3000 }
     ensures watched { Watched W.told watch.old watch.new }
 {
+    // form: hands out what the value keeps
     bench.bench_law();
     let limits = bench.limits().of_node();
     let steps = copied(bench.remaining(), alloc)?;
     if made(&steps) as u64 > limits.entries {
+        // form: drop before exit
         drop(steps);
         return Err(ExploreFault::MayFill);
     }

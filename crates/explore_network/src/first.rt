@@ -12,7 +12,7 @@ use bench_core::{Cluster, Kept};
 use network_rules::{Rank, are_spent, delivery, is_easy, is_idle, is_next};
 use std::alloc::Allocator;
 
-/// Whether an own step concerns its node alone, or nothing more is delivered there.
+/// Whether the own step `kept` is easy, or nothing more is delivered at its node.
 fn is_alone<'a, B: Allocator>(
     plan: &Plan<'a, B>,
     cluster: &Cluster<'a, B>,
@@ -27,7 +27,7 @@ fn is_alone<'a, B: Allocator>(
     are_spent(plan.turns(), counts, plan.again(), kept.node)
 }
 
-/// Whether the step, if it comes next, can be taken first without missing an outcome.
+/// Whether this step, if it may come next, can be taken first without missing an outcome.
 fn goes_first<'a, B: Allocator>(
     plan: &Plan<'a, B>,
     cluster: &Cluster<'a, B>,
@@ -52,7 +52,7 @@ fn goes_first<'a, B: Allocator>(
     }
 }
 
-/// As `goes_first`, for the step at a place.
+/// Like `goes_first`, but for the step at `place`; false if there is no such step, or it has no rank.
 fn can_go_first<'a, B: Allocator>(
     plan: &Plan<'a, B>,
     cluster: &Cluster<'a, B>,
@@ -70,7 +70,8 @@ fn can_go_first<'a, B: Allocator>(
     goes_first(plan, cluster, counts, kept, *rank)
 }
 
-/// The first step that can be taken first without missing an outcome, if there is one.
+/// The place of the first step that may come next and can be taken first without missing an outcome; `None` if there is
+/// none.
 pub(crate) fn first<'a, B: Allocator>(
     plan: &Plan<'a, B>,
     cluster: &Cluster<'a, B>,

@@ -1,10 +1,16 @@
-//! All that the network could have made of the steps of a bench: what each node did, in its order, with messages that come at
-//! other times, get lost, or come again. It finds the outcomes, each with a run that leads there.
+//! All that the network could have made of the steps of a bench: what each node did, in its order, with messages that
+//! come at other times, get lost, or come again. The crate finds the outcomes, each with a run that leads there.
 //!
-//! In the order to read them: `question`, `shown` and `outcome`, what counts as one outcome; `turns`, whose step or delivery
-//! each step is, and `counts`, how often each came; `playing`, runs that are played; `asked`, which dots matter, and `rounds`,
-//! which names matter where; `plan`; `table`, which states are known; `first`, the step that can be taken first; `walk`;
-//! `steps` and `exploring`.
+//! The crate stands on `network_rules` (which steps may come next, and the keys of states), `network_core` (what holds
+//! of such runs), `change_core` (copies of steps), `bench_core` (benches and clusters), `diff_core` (online lists) and
+//! `progress_core` (how far the walk has come). It names the plain types of the crates below.
+//!
+//! The modules in reading order: `question`, `shown` and `outcome`, what counts as the same outcome; `turns`, of which
+//! turn each step is, and `counts`, how often each turn came; `playing`, runs that are played; `steps`, how many
+//! entries steps make, and the places of steps; `asked`, which dots a question is about, and `rounds`, which names
+//! matter where; `plan`, what all runs have in common; `table`, which states are known; `first`, the step that can be
+//! taken first; `explore_fault`, why there are no outcomes; `walk`, the walk over all runs; `exploring`, the whole
+//! search.
 #![tactic(auto)]
 
 mod asked;

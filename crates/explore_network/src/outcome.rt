@@ -1,4 +1,4 @@
-//! `Outcome`: what a run of the network leads to.
+//! `Outcome`: a run of the network with the cluster to which it leads.
 ghost use Rattle.std.specs.Prelude.{◌≡◌, ◌≤◌, IfOk, length};
 ghost use Rattle.std.specs.List.{AllByRecursion};
 ghost use Rattle.explore_network.specs.Questions.{plain};
@@ -11,7 +11,7 @@ use node_core::Oom;
 use std::alloc::Allocator;
 use std::marker::Model;
 
-/// What a run of the network leads to.
+/// A run of the network, and the cluster to which it leads.
 #[derive(Drop)]
 pub struct Outcome<'a, B: Allocator> {
     run: Vec<usize, &'a B>,
@@ -35,14 +35,14 @@ impl<'a, B: Allocator> Outcome<'a, B> {
         Outcome { run, cluster }
     }
 
-    /// The places of its steps among the recorded ones, in order.
+    /// The places of the run's steps among the recorded ones, in the order of the run.
     pub fn run(&self) -> &[usize]
         ensures { result.now ≡ self.now.run }
     {
         self.run.as_slice()
     }
 
-    /// The cluster to which the steps lead.
+    /// The cluster to which the run leads.
     pub fn cluster(&self) -> &Cluster<'a, B>
         ensures { result.now ≡ self.now.cluster }
     {
@@ -50,7 +50,7 @@ impl<'a, B: Allocator> Outcome<'a, B> {
     }
 }
 
-/// Whether one of the outcomes shows the same as a cluster.
+/// Whether one of the outcomes shows the same to the question as the cluster does.
 pub(crate) fn is_told<'a, B: Allocator>(
     outcomes: &[Outcome<'a, B>],
     cluster: &Cluster<'a, B>,

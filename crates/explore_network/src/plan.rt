@@ -15,11 +15,11 @@ pub(crate) struct Plan<'a, B: Allocator> {
     pub(crate) count: u16,
     /// The recorded steps.
     pub(crate) steps: Steps<&'a B>,
-    /// How many deliveries may be missing.
+    /// How many deliveries may be missing from a run.
     pub(crate) lost: usize,
-    /// How many deliveries may come a second time.
+    /// How many deliveries may come a second time in a run.
     pub(crate) again: usize,
-    /// How many states may be kept.
+    /// How many states the walk may keep.
     pub(crate) most: usize,
     pub(crate) turns: Vec<Turn, &'a B>,
     pub(crate) ranks: Vec<Rank, &'a B>,

@@ -11,7 +11,8 @@ use bench_core::{Cluster, Fault, Inverse, Kept, NodeLimits};
 use node_core::Oom;
 use std::alloc::Allocator;
 
-/// The cluster at the end of these steps, if each is accepted.
+/// Plays the steps at the places of `path`, from empty nodes on, and gives the cluster at the end. A step that is
+/// refused is passed over, and so is a place without a step.
 pub(crate) fn played<'a, B: Allocator>(
     steps: &[Kept<&'a B>],
     path: &[usize],
@@ -30,7 +31,8 @@ pub(crate) fn played<'a, B: Allocator>(
     Ok(cluster)
 }
 
-/// Has the node of the step at a place take it, if it is accepted.
+/// Makes the step at `place` of `steps`, at its node of the cluster. Nothing changes if the step is refused or there is
+/// no such step.
 pub(crate) fn play<'a, B: Allocator>(
     cluster: &mut Cluster<'a, B>,
     steps: &[Kept<&'a B>],
@@ -43,6 +45,7 @@ pub(crate) fn play<'a, B: Allocator>(
     };
     match cluster.step(kept.node, &kept.step) {
         Ok(inverse) => {
+            // form: drop before exit
             drop(inverse);
             Ok(())
         }
@@ -51,7 +54,8 @@ pub(crate) fn play<'a, B: Allocator>(
     }
 }
 
-/// Has its node take a step. Gives the inverse, if the step is accepted.
+/// Makes the step at its node of the cluster, and gives the inverse. `None` if the step is refused; then nothing
+/// changed.
 pub(crate) fn ask<'a, B: Allocator>(
     cluster: &mut Cluster<'a, B>,
     kept: &Kept<&'a B>,
@@ -68,7 +72,7 @@ pub(crate) fn ask<'a, B: Allocator>(
     }
 }
 
-/// Takes back a step that its node took.
+/// Takes the node's last step back by its inverse. If a request for memory is refused, the inverse is dropped.
 pub(crate) fn lead_back<'a, B: Allocator>(
     cluster: &mut Cluster<'a, B>,
     node: u16,
@@ -78,6 +82,7 @@ pub(crate) fn lead_back<'a, B: Allocator>(
     ensures { OnOk result (NodeGoesBack cluster.old node (plain_inverse inverse.entry) cluster.new) }
 {
     if let Err((inverse, _)) = cluster.give_back(node, inverse) {
+        // form: drop before exit
         drop(inverse);
         return Err(Oom);
     }

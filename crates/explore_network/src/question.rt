@@ -1,18 +1,19 @@
-//! `Question`: what is asked, which decides when two clusters count as different.
+//! `Question`: what is asked about a cluster. Two clusters count as different if they show different things to the
+//! question.
 ghost use Rattle.std.specs.Prelude.{◌≡◌, ◌↔◌, IsTrue};
 ghost use Rattle.explore_network.specs.Questions.{node_of, plain, IsThere};
 
 use payload_core::Word;
 use std::alloc::Allocator;
 
-/// What is asked.
+/// What is asked about a cluster.
 #[derive(Drop)]
 pub enum Question<A: Allocator> {
-    /// All of the cluster: the replica of each node.
+    /// About the whole cluster: the replica of each node.
     Cluster,
-    /// The replica of a node.
+    /// About the replica of the node with this number.
     Node(u16),
-    /// The presences of a topic and a key, as a node shows them.
+    /// About the rows with a topic and a key in a node's online list.
     Presence {
         node: u16,
         topic: Word<A>,
@@ -21,10 +22,11 @@ pub enum Question<A: Allocator> {
 }
 
 impl<A: Allocator> Question<A> {
-    /// Whether the node that is asked about, if any, is one of `count` nodes.
+    /// Whether the node that the question is about is one of the first `count`; true if it is about the whole cluster.
     pub fn is_there(&self, count: usize) -> bool
         ensures { IsTrue result ↔ IsThere count (plain self.now) }
     {
+        // form: each arm is a case of the proof
         match self {
             Question::Cluster => true,
             Question::Node(node) => (*node as usize) < count,
@@ -36,10 +38,11 @@ impl<A: Allocator> Question<A> {
         }
     }
 
-    /// The node that is asked about, or `None` for all.
+    /// The node that the question is about; `None` if it is about the whole cluster.
     pub(crate) fn node(&self) -> Option<u16>
         ensures { result ≡ node_of (plain self.now) }
     {
+        // form: each arm is a case of the proof
         match self {
             Question::Cluster => None,
             Question::Node(node) => Some(*node),

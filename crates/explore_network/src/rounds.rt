@@ -1,5 +1,5 @@
-//! Which names matter where. Rounds find it, from the end of the run back to its beginning. Nothing is proved of the rounds:
-//! what they find is checked.
+//! Finds which names matter where, in rounds from the end of the run back to its beginning. Nothing is proved of the
+//! rounds: `cone_of` checks what they find.
 ghost use Rattle.std.specs.Prelude.{◌≡◌, ◌<◌, IfOk};
 ghost use Rattle.std.specs.List.{AllByRecursion};
 ghost use Rattle.dots_core.specs.declared.dot.Dot.{Dot as PlainDot};
@@ -12,7 +12,7 @@ use network_rules::{Cone, Rank, Rows, Turn, all_names, cone_of, delivery, said};
 use node_core::Oom;
 use std::alloc::Allocator;
 
-/// The names of both sets.
+/// The names that are in one of the sets, or in both.
 fn union(one: NameSet, other: NameSet) -> NameSet {
     let mut names = one;
     for name in 0..32u16 {
@@ -23,20 +23,22 @@ fn union(one: NameSet, other: NameSet) -> NameSet {
     names
 }
 
-// During the rounds the sets of names stand in rows of one width, one row for each node: a set after each
-// number of its own steps, or for each of its messages.
+// The rounds keep their sets of names in two flat lists, `matters` and `carries`, each with a row of `width` sets for
+// each node. A row of `matters` has a set for each number of own steps that the node has taken, and a row of `carries`
+// one for each of its messages.
 
-/// The index of a place in a node's row.
+/// The index of the set at `place` in a node's row. It saturates, which spares a requirement about sizes.
 fn index(width: usize, node: u16, place: usize) -> usize {
     (node as usize).saturating_mul(width).saturating_add(place)
 }
 
-/// The names at an index; none beyond the end.
+/// The names at an index; the empty set if the index is past the end of the list.
 fn at(names: &[NameSet], index: usize) -> NameSet {
     names.get(index).copied().unwrap_or(NameSet::empty())
 }
 
-/// Adds names that matter at an index, and says whether any is new.
+/// Adds `more` to the set of `names` at an index, and says whether any name of `more` is new there. If the index is
+/// past the end of the list, adds nothing and gives false.
 fn add(names: &mut [NameSet], index: usize, more: NameSet) -> bool {
     let Some(before) = names.get_mut(index) else {
         return false;
@@ -47,7 +49,8 @@ fn add(names: &mut [NameSet], index: usize, more: NameSet) -> bool {
     is_news
 }
 
-/// What matters to a node from its beginning on matters in a message that it may take. Says whether any name is new.
+/// Edits `carries`: what matters to `node` before its first own step matters in message `number` of `sender`, too, as
+/// the node may take it then. Adds these names there, and says whether any is new.
 fn widen_message(
     matters: &[NameSet],
     carries: &mut [NameSet],
@@ -57,11 +60,13 @@ fn widen_message(
     number: u64,
 ) -> bool {
     let names = at(matters, index(width, node, 0));
+    // form: saturating spares a requirement
     let place = number.saturating_sub(1) as usize;
     add(carries, index(width, sender, place), names)
 }
 
-/// What matters after an own step matters before it, and in what it sends. Says whether any name is new.
+/// Edits `matters`: what matters after an own step, or is taken into its message (see `said`), matters before the step,
+/// too. Adds these names there, and says whether any is new.
 fn widen_node<A: Allocator>(
     matters: &mut [NameSet],
     carries: &[NameSet],
@@ -70,13 +75,15 @@ fn widen_node<A: Allocator>(
     rank: Rank,
 ) -> bool {
     let here = index(width, kept.node, rank.before);
+    // form: saturating spares a requirement
     let message = index(width, kept.node, rank.number.saturating_sub(1) as usize);
     let sent = said(&kept.step, at(carries, message));
     let behind = at(matters, here.saturating_add(1));
     add(matters, here, union(behind, sent))
 }
 
-/// What matters after a step matters before it. Says whether any name is new.
+/// Carries the names that matter back over one step: over a delivery into `carries`, over an own step into `matters`.
+/// Says whether any of these names is new there.
 fn widen<A: Allocator>(
     matters: &mut [NameSet],
     carries: &mut [NameSet],
@@ -92,7 +99,8 @@ fn widen<A: Allocator>(
     }
 }
 
-/// One round, from the last step to the first. Says whether any name is new.
+/// Makes one round over `matters` and `carries`: `widen` for each step, from the last to the first. Says whether any
+/// name is new.
 fn widen_all<A: Allocator>(
     matters: &mut [NameSet],
     carries: &mut [NameSet],
@@ -110,7 +118,7 @@ fn widen_all<A: Allocator>(
     is_news
 }
 
-/// Makes rounds until no name is new, at most 2,048.
+/// Makes rounds (`widen_all`) until one finds no new name, but at most 2,048.
 fn close<A: Allocator>(
     matters: &mut [NameSet],
     carries: &mut [NameSet],
@@ -125,7 +133,8 @@ fn close<A: Allocator>(
     }
 }
 
-/// The rows of `count` nodes at the end of the run: what matters there, for the node that is asked about, or for all.
+/// The sets of `matters` that the rounds begin with, `width` for each of `count` nodes. They have all names for the
+/// node `asked`, or for each node if `asked` is `None`, and no names for the other nodes.
 fn begun<'a, B: Allocator>(
     width: usize,
     asked: Option<u16>,
@@ -147,7 +156,7 @@ fn begun<'a, B: Allocator>(
     Ok(names)
 }
 
-/// A copy of `count` sets of names, from a place on.
+/// A copy of `count` sets of names, from the index `first` on. Behind the end of the list they are empty.
 fn row<'a, B: Allocator>(
     names: &[NameSet],
     first: usize,
@@ -156,12 +165,13 @@ fn row<'a, B: Allocator>(
 ) -> Result<Vec<NameSet, &'a B>, Oom> {
     let mut row = Vec::with_capacity(alloc, count)?;
     for place in 0..count {
+        // form: saturating spares a requirement
         row.push(at(names, first.saturating_add(place)))?;
     }
     Ok(row)
 }
 
-/// The names that matter to the nodes: of each node a set at its beginning, and one after each of its own steps.
+/// The names that matter to each node: a set before its own steps, and one after each of them.
 fn rows_of_nodes<'a, B: Allocator>(
     matters: &[NameSet],
     width: usize,
@@ -172,12 +182,13 @@ fn rows_of_nodes<'a, B: Allocator>(
     let mut rows = Vec::new(alloc);
     for node in 0..count {
         let own = turns.get(node as usize).map_or(0, |turn| turn.recorded);
+        // form: saturating spares a requirement
         rows.push(row(matters, index(width, node, 0), own.saturating_add(1), alloc)?)?;
     }
     Ok(rows)
 }
 
-/// The names that matter in messages: of each node a set for each message that it sends.
+/// The names that matter in messages: for each node a set for each message that it sends.
 fn rows_of_messages<'a, B: Allocator>(
     steps: &[Kept<&'a B>],
     carries: &[NameSet],
@@ -192,14 +203,14 @@ fn rows_of_messages<'a, B: Allocator>(
     Ok(rows)
 }
 
-/// The names that matter to nodes, and in messages.
+/// What the rounds found: the names that matter to nodes, and in messages.
 #[derive(Drop)]
 struct Found<A: Allocator> {
     matters: Rows<A>,
     carries: Rows<A>,
 }
 
-/// The names that the rounds find.
+/// Makes the rounds, and gives what they find.
 fn rows_found<'a, B: Allocator>(
     steps: &[Kept<&'a B>],
     turns: &[Turn],
@@ -208,6 +219,7 @@ fn rows_found<'a, B: Allocator>(
     count: u16,
     alloc: &'a B,
 ) -> Result<Found<&'a B>, Oom> {
+    // form: saturating spares a requirement
     let width = steps.len().saturating_add(1);
     let mut matters = begun(width, asked, count, alloc)?;
     let size = (count as usize).saturating_mul(width);
@@ -218,7 +230,7 @@ fn rows_found<'a, B: Allocator>(
     Ok(Found { matters, carries })
 }
 
-/// The cone of these dots: what matters for them at the end of the node that is asked about, or of all.
+/// The cone of these dots, for a question about the node `asked`, or about all nodes if `asked` is `None`.
 pub(crate) fn cone_for<'a, B: Allocator>(
     steps: &[Kept<&'a B>],
     dots: Vec<Dot, &'a B>,

@@ -52,18 +52,19 @@ pub fn rows_in<'a, B: Allocator>(
     };
     let listed = online_list(alloc, found.replica())?;
     let rows = rows_of(alloc, listed.as_slice(), topic, key);
+    // form: drop before exit
     drop(listed);
     rows
 }
 
-/// Whether the rows are the same.
+/// Whether both lists have the same rows.
 fn same_rows<A: Allocator>(rows: &[OnlineRow<A>], others: &[OnlineRow<A>]) -> bool
     ensures { result ≡ same_rows rows.now others.now }
 {
     rows == others
 }
 
-/// Whether two nodes show the same rows of this topic and key.
+/// Whether two nodes show the same rows with this topic and key. A missing node shows none.
 fn same_rows_in<'a, B: Allocator>(
     one: Option<&Node<'a, B>>,
     other: Option<&Node<'a, B>>,
@@ -71,17 +72,19 @@ fn same_rows_in<'a, B: Allocator>(
     key: &Word<&'a B>,
     alloc: &'a B,
 ) -> Result<bool, Oom>
-    ensures { IfOk result (λ same. IsTrue same ↔ (rows_in topic.now key.now (option_map (λ n. n.now) one.entry) ≡ rows_in topic.now key.now (option_map (λ n. n.now) other.entry))) }
+    ensures { IfOk result (λ same. IsTrue same ↔
+        (rows_in topic.now key.now (option_map (λ n. n.now) one.entry) ≡ rows_in topic.now key.now (option_map (λ n. n.now) other.entry))) }
 {
     let rows = rows_in(one, topic, key, alloc)?;
     let others = rows_in(other, topic, key, alloc)?;
     let same = same_rows(rows.as_slice(), others.as_slice());
+    // form: drop before exit
     drop(rows);
     drop(others);
     Ok(same)
 }
 
-/// Whether two nodes have the same replica.
+/// Whether two nodes have the same replica, or both are missing.
 fn same_replica<'a, B: Allocator>(one: Option<&Node<'a, B>>, other: Option<&Node<'a, B>>) -> bool
     ensures { IsTrue result ↔ (replicas_in (option_map (λ n. n.now) one.entry) ≡ replicas_in (option_map (λ n. n.now) other.entry)) }
 {
@@ -94,7 +97,7 @@ fn same_replica<'a, B: Allocator>(one: Option<&Node<'a, B>>, other: Option<&Node
     }
 }
 
-/// Whether the nodes of two clusters have the same replicas, node by node.
+/// Whether the nodes of two clusters, which have at most 32 each, have the same replicas, node by node.
 fn same_replicas<'a, B: Allocator>(one: &Cluster<'a, B>, other: &Cluster<'a, B>) -> bool
     requires few { length one.now ≤ 32 }
     requires few_too { length other.now ≤ 32 }
@@ -108,7 +111,7 @@ fn same_replicas<'a, B: Allocator>(one: &Cluster<'a, B>, other: &Cluster<'a, B>)
     true
 }
 
-/// Whether both clusters show the same to the question.
+/// Whether both clusters show the same to the question: the same replicas, or the same rows.
 #[tactic(auto, unfolding(crate::specs::Questions::shown))]
 pub(crate) fn show_same<'a, B: Allocator>(
     one: &Cluster<'a, B>,

@@ -13,6 +13,7 @@ use std::alloc::Allocator;
 fn makes<A: Allocator>(step: &Step<A>) -> bool
     ensures { result ≡ makes (plain step.now) }
 {
+    // form: each arm is a case of the proof
     match step {
         Step::Join {
             pid: _,
@@ -30,7 +31,7 @@ fn makes<A: Allocator>(step: &Step<A>) -> bool
     }
 }
 
-/// How many of the steps make an entry.
+/// How many of the steps make an entry, as a count over the list.
 fn count_made<A: Allocator>(steps: &[Kept<A>]) -> usize
     ensures { result ≡ count_by (λ k. makes k.step) steps.now }
 {
@@ -41,10 +42,11 @@ fn count_made<A: Allocator>(steps: &[Kept<A>]) -> usize
 pub(crate) fn made<A: Allocator>(steps: &[Kept<A>]) -> usize
     ensures { result ≡ made steps.now }
 {
+    // form: two functions, as each contract states the count in its own way
     count_made(steps)
 }
 
-/// The places of `count` steps.
+/// The places of `count` steps: 0, 1, 2 and so on.
 pub(crate) fn places<'a, B: Allocator>(count: usize, alloc: &'a B) -> Result<Vec<usize, &'a B>, Oom>
     ensures { IfOk result (λ places. (j : List PlainKept) → length j ≡ count → steps_at j places.items ≡ j) }
 {

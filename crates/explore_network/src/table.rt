@@ -39,14 +39,14 @@ impl<'a, B: Allocator> Table<'a, B> {
         self.known.len()
     }
 
-    /// Whether this key is among them.
+    /// Whether this key is in the table.
     pub(crate) fn has(&self, key: &Key<&'a B>) -> bool
         ensures { IsTrue result → IsAmong key.now.items self.now }
     {
         self.known.contains(key)
     }
 
-    /// Adds a key, unless it is among them.
+    /// Adds a key, unless it is in the table.
     pub(crate) fn put(&mut self, key: Key<&'a B>) -> Result<(), Oom>
         ensures { OnOk result ((self.new ≡ self.old) ⊎ ((self.new ≡ self.old ++ key.entry.items ∷ []) × (IsAmong key.entry.items self.old → ⊥))) }
     {

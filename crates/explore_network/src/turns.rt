@@ -1,4 +1,5 @@
-//! The turns of a run, and the rank of each step in its turn.
+//! The turns of a run, and the rank of each step in its turn. A turn is a node's own steps, or the deliveries of one
+//! message at one node (`network_rules::Turn`).
 ghost use Rattle.std.specs.Prelude.{◌≡◌, ◌+◌, ◌<◌, ◌≤◌, ◌^◌, IfOk, OnOk, length};
 ghost use Rattle.journal_core.specs.Journals.{sent_by};
 ghost use Rattle.explore_network.specs.Turns.{count_of, noted, own_turns, place_of, rank_of, ranks_of, turn_of, turns_of};
@@ -8,14 +9,14 @@ use network_rules::{Rank, Turn, delivery};
 use node_core::Oom;
 use std::alloc::Allocator;
 
-/// How many of the steps are of the turn.
+/// How many of the steps belong to the turn.
 fn count<A: Allocator>(steps: &[Kept<A>], turn: Turn) -> usize
     ensures { result ≡ count_of turn steps.now }
 {
     steps.iter().filter(|kept| turn.has(kept)).count()
 }
 
-/// The place of the turn of a step.
+/// The place of a step's turn among these turns; `None` if the turn isn't there.
 fn find<A: Allocator>(turns: &[Turn], kept: &Kept<A>) -> Option<usize>
     ensures { result ≡ place_of turns.now kept.now }
 {
@@ -27,7 +28,8 @@ fn find<A: Allocator>(turns: &[Turn], kept: &Kept<A>) -> Option<usize>
     None
 }
 
-/// The turn of a node's own steps, or of the deliveries of a message there.
+/// The turn of a node's own steps if `delivers` is `None`, or else of the deliveries of that message at the node, with
+/// their count among `steps`.
 fn turn_of<A: Allocator>(steps: &[Kept<A>], node: u16, delivers: Option<(u16, u64)>) -> Turn
     ensures { result ≡ turn_of steps.now node delivers }
 {
@@ -43,7 +45,8 @@ fn turn_of<A: Allocator>(steps: &[Kept<A>], node: u16, delivers: Option<(u16, u6
     }
 }
 
-/// Appends the turn of a step, unless it is among these.
+/// Appends the turn of the step `kept` to `turns`, unless it is there already. The steps of the turn are counted among
+/// `steps`.
 fn note<'a, B: Allocator>(
     turns: &mut Vec<Turn, &'a B>,
     steps: &[Kept<&'a B>],
@@ -59,7 +62,7 @@ fn note<'a, B: Allocator>(
     Ok(())
 }
 
-/// The turns of the nodes' own steps.
+/// The turns of own steps, one for each of the first `count` nodes.
 fn own_turns<'a, B: Allocator>(
     steps: &[Kept<&'a B>],
     count: u16,
@@ -74,7 +77,7 @@ fn own_turns<'a, B: Allocator>(
     Ok(turns)
 }
 
-/// The turns of `count` nodes: of their own steps, by node, and then of the deliveries, by their first places.
+/// All turns: first those of own steps, by node, and then those of deliveries, by the place of their first step.
 pub(crate) fn turns_of<'a, B: Allocator>(
     steps: &[Kept<&'a B>],
     count: u16,
@@ -89,7 +92,7 @@ pub(crate) fn turns_of<'a, B: Allocator>(
     Ok(turns)
 }
 
-/// How many messages a node sends by these steps.
+/// How many messages a node sends in these steps.
 pub(crate) fn sent<A: Allocator>(steps: &[Kept<A>], node: u16) -> usize
     ensures count { result ≡ length (sent_by steps.now node) }
     ensures within { result ≤ length steps.now }
@@ -100,7 +103,8 @@ pub(crate) fn sent<A: Allocator>(steps: &[Kept<A>], node: u16) -> usize
         .count()
 }
 
-/// The rank of a step that comes after these.
+/// The rank of the step `kept`, which comes right after the steps `done`. A turn that isn't among `turns` has the place
+/// 0.
 fn rank_of<A: Allocator>(turns: &[Turn], done: &[Kept<A>], kept: &Kept<A>) -> Rank
     requires { length done.now + 1 < 2 ^ 64 }
     ensures { result ≡ rank_of turns.now done.now kept.now }
@@ -117,7 +121,7 @@ fn rank_of<A: Allocator>(turns: &[Turn], done: &[Kept<A>], kept: &Kept<A>) -> Ra
     }
 }
 
-/// The ranks of the steps, by place.
+/// The rank of each step, in the order of the steps.
 pub(crate) fn ranks_of<'a, B: Allocator>(
     steps: &[Kept<&'a B>],
     turns: &[Turn],

@@ -24,7 +24,7 @@ use node_core::Oom;
 use progress_core::{Walked, Watch};
 use std::alloc::Allocator;
 
-/// What does not change while the walk goes.
+/// The plan and the question of a walk, and its allocator. None of them changes during the walk.
 #[derive(Drop)]
 pub(crate) struct Tour<'a, 't, B: Allocator> {
     pub(crate) plan: &'t Plan<'a, B>,
@@ -32,19 +32,19 @@ pub(crate) struct Tour<'a, 't, B: Allocator> {
     pub(crate) alloc: &'a B,
 }
 
-/// Where the walk stands, and what it has seen.
+/// Where the walk stands, and what it has found.
 #[derive(Drop)]
 pub(crate) struct Walk<'a, B: Allocator> {
-    /// What the steps of the path lead to.
+    /// The cluster to which the steps of `path` led.
     pub(crate) cluster: Cluster<'a, B>,
-    /// The places of the steps so far.
+    /// The places, among the recorded steps, of the steps that led to the cluster.
     pub(crate) path: Vec<usize, &'a B>,
-    /// The states from which all outcomes were found.
+    /// The keys of the states from which all outcomes were found.
     pub(crate) settled: Table<'a, B>,
     pub(crate) outcomes: Vec<Outcome<'a, B>, &'a B>,
 }
 
-/// Adds the outcome to which the path leads, unless another shows the same.
+/// Adds the path's outcome to the walk's outcomes, unless one of these shows the same to the question.
 fn tell<'a, B: Allocator>(tour: &Tour<'a, '_, B>, walk: &mut Walk<'a, B>) -> Result<(), Oom>
     requires plan { IsPlan tour.now.plan.now (plain tour.now.question.now) }
     requires keeps { Keeps tour.now.plan.now (plain tour.now.question.now) walk.old.settled walk.old.outcomes.items }
@@ -62,14 +62,15 @@ fn tell<'a, B: Allocator>(tour: &Tour<'a, '_, B>, walk: &mut Walk<'a, B>) -> Res
     Ok(())
 }
 
-/// The outcome to which a path leads.
+/// Plays a path, and gives its outcome.
 pub(crate) fn outcome_of<'a, B: Allocator>(
     tour: &Tour<'a, '_, B>,
     path: &[usize],
 ) -> Result<Outcome<'a, B>, Oom>
     requires plan { IsPlan tour.now.plan.now (plain tour.now.question.now) }
     ensures run { IfOk result (λ outcome. outcome.run ≡ path.now) }
-    ensures leads { IfOk result (λ outcome. (end : PlainCluster) → runs tour.now.plan.now.limits tour.now.plan.now.count (steps_at tour.now.plan.now.steps path.now) ≡ Ok end → outcome.cluster ≡ end) }
+    ensures leads { IfOk result (λ outcome. (end : PlainCluster)
+        → runs tour.now.plan.now.limits tour.now.plan.now.count (steps_at tour.now.plan.now.steps path.now) ≡ Ok end → outcome.cluster ≡ end) }
 {
     let plan = tour.plan;
     let run = run_of(path, tour.alloc)?;
@@ -77,7 +78,7 @@ pub(crate) fn outcome_of<'a, B: Allocator>(
     Ok(Outcome::new(run, cluster))
 }
 
-/// Adds the outcome to which the path leads, if all steps that must come have come.
+/// Like `tell`, but adds nothing if a run may not end here.
 fn tell_end<'a, B: Allocator>(
     tour: &Tour<'a, '_, B>,
     walk: &mut Walk<'a, B>,
@@ -89,7 +90,8 @@ fn tell_end<'a, B: Allocator>(
     ensures cluster { OnOk result (walk.new.cluster ≡ walk.old.cluster) }
     ensures path { OnOk result (walk.new.path.items ≡ walk.old.path.items) }
     ensures went { OnOk result (Went tour.now.plan.now (plain tour.now.question.now) walk.old.outcomes.items walk.new.settled walk.new.outcomes.items) }
-    ensures told { OnOk result (IsNetworkRun tour.now.plan.now.steps tour.now.plan.now.lost tour.now.plan.now.again (steps_at tour.now.plan.now.steps walk.old.path.items) →
+    ensures told { OnOk result (IsNetworkRun tour.now.plan.now.steps tour.now.plan.now.lost tour.now.plan.now.again
+        (steps_at tour.now.plan.now.steps walk.old.path.items) →
         told_by (plain tour.now.question.now) walk.new.outcomes.items walk.old.cluster ≡ true) }
 {
     let plan = tour.plan;
@@ -99,13 +101,14 @@ fn tell_end<'a, B: Allocator>(
     tell(tour, walk)
 }
 
-/// The key of where the walk stands.
+/// The key of the state in which the walk stands.
 fn key_at<'a, B: Allocator>(
     tour: &Tour<'a, '_, B>,
     cluster: &Cluster<'a, B>,
     counts: &[usize],
 ) -> Result<Key<&'a B>, Oom>
-    ensures { IfOk result (λ key. key.items ≡ key_of tour.now.plan.now.tables tour.now.plan.now.count tour.now.plan.now.steps tour.now.plan.now.ranks counts.now cluster.now) }
+    ensures { IfOk result (λ key. key.items ≡ key_of tour.now.plan.now.tables tour.now.plan.now.count tour.now.plan.now.steps tour.now.plan.now.ranks
+        counts.now cluster.now) }
 {
     let plan = tour.plan;
     key_of(
@@ -119,7 +122,8 @@ fn key_at<'a, B: Allocator>(
     )
 }
 
-/// Goes on after a step that was taken.
+/// Goes on after the step `kept`, which was just taken and stands at `place`: puts the place on the path, visits the
+/// state after the step unless `left` is 0, and takes the place off the path again.
 #[cycle(visit)]
 fn onward<'a, B: Allocator, W: Watch<Walked>>(
     tour: &Tour<'a, '_, B>,
@@ -137,7 +141,8 @@ fn onward<'a, B: Allocator, W: Watch<Walked>>(
     ensures cluster { OnOk result (walk.new.cluster ≡ walk.old.cluster) }
     ensures path { OnOk result (walk.new.path.items ≡ walk.old.path.items) }
     ensures went { OnOk result (Went tour.now.plan.now (plain tour.now.question.now) walk.old.outcomes.items walk.new.settled walk.new.outcomes.items) }
-    ensures told { OnOk result (IsTold tour.now.plan.now (plain tour.now.question.now) walk.new.outcomes.items (steps_at tour.now.plan.now.steps walk.old.path.items ++ kept.now ∷ [])) }
+    ensures told { OnOk result (IsTold tour.now.plan.now (plain tour.now.question.now) walk.new.outcomes.items
+        (steps_at tour.now.plan.now.steps walk.old.path.items ++ kept.now ∷ [])) }
     ensures stops { IfErr result (HasReason tour.now.plan.now (plain tour.now.question.now)) }
     ensures watched { Watched W.told watch.old watch.new }
 {
@@ -150,8 +155,8 @@ fn onward<'a, B: Allocator, W: Watch<Walked>>(
     Ok(())
 }
 
-/// Takes the step at this place, if it is accepted, goes on from there, and takes it back. Says whether it was
-/// accepted.
+/// Takes the step at `place`, goes on after it (see `onward`), and takes the step back. Says whether the step was there
+/// and was accepted; if not, nothing changed.
 #[cycle(visit)]
 fn through<'a, B: Allocator, W: Watch<Walked>>(
     tour: &Tour<'a, '_, B>,
@@ -161,12 +166,14 @@ fn through<'a, B: Allocator, W: Watch<Walked>>(
     left: u128,
     watch: &mut W,
 ) -> Result<bool, Stop>
-    requires ready { IsReady tour.now.plan.now (plain tour.now.question.now) walk.old.path.items walk.old.cluster walk.old.settled walk.old.outcomes.items counts.now left }
+    requires ready { IsReady tour.now.plan.now (plain tour.now.question.now) walk.old.path.items walk.old.cluster walk.old.settled
+        walk.old.outcomes.items counts.now left }
     requires next { next_in tour.now.plan.now counts.now place ≡ true }
     ensures cluster { OnOk result (walk.new.cluster ≡ walk.old.cluster) }
     ensures path { OnOk result (walk.new.path.items ≡ walk.old.path.items) }
     ensures went { OnOk result (Went tour.now.plan.now (plain tour.now.question.now) walk.old.outcomes.items walk.new.settled walk.new.outcomes.items) }
-    ensures goes { IfOk result (λ taken. GoesThrough tour.now.plan.now (plain tour.now.question.now) (steps_at tour.now.plan.now.steps walk.old.path.items) walk.old.cluster place taken walk.new.outcomes.items) }
+    ensures goes { IfOk result (λ taken. GoesThrough tour.now.plan.now (plain tour.now.question.now)
+        (steps_at tour.now.plan.now.steps walk.old.path.items) walk.old.cluster place taken walk.new.outcomes.items) }
     ensures stops { IfErr result (HasReason tour.now.plan.now (plain tour.now.question.now)) }
     ensures watched { Watched W.told watch.old watch.new }
 {
@@ -182,13 +189,14 @@ fn through<'a, B: Allocator, W: Watch<Walked>>(
             Ok(true)
         }
         Err(stop) => {
+            // form: drop before exit
             drop(inverse);
             Err(stop)
         }
     }
 }
 
-/// Goes on with the step at this place, if it may come next.
+/// Goes on with the step at `place` (see `through`) if it may come next.
 #[cycle(visit)]
 fn go_at<'a, B: Allocator, W: Watch<Walked>>(
     tour: &Tour<'a, '_, B>,
@@ -198,11 +206,13 @@ fn go_at<'a, B: Allocator, W: Watch<Walked>>(
     left: u128,
     watch: &mut W,
 ) -> Result<(), Stop>
-    requires { IsReady tour.now.plan.now (plain tour.now.question.now) walk.old.path.items walk.old.cluster walk.old.settled walk.old.outcomes.items counts.now left }
+    requires { IsReady tour.now.plan.now (plain tour.now.question.now) walk.old.path.items walk.old.cluster walk.old.settled walk.old.outcomes.items
+        counts.now left }
     ensures cluster { OnOk result (walk.new.cluster ≡ walk.old.cluster) }
     ensures path { OnOk result (walk.new.path.items ≡ walk.old.path.items) }
     ensures went { OnOk result (Went tour.now.plan.now (plain tour.now.question.now) walk.old.outcomes.items walk.new.settled walk.new.outcomes.items) }
-    ensures goes { OnOk result (GoesThroughAt tour.now.plan.now (plain tour.now.question.now) walk.old.path.items walk.old.cluster counts.now walk.new.outcomes.items place) }
+    ensures goes { OnOk result (GoesThroughAt tour.now.plan.now (plain tour.now.question.now) walk.old.path.items walk.old.cluster counts.now
+        walk.new.outcomes.items place) }
     ensures stops { IfErr result (HasReason tour.now.plan.now (plain tour.now.question.now)) }
     ensures watched { Watched W.told watch.old watch.new }
 {
@@ -213,7 +223,7 @@ fn go_at<'a, B: Allocator, W: Watch<Walked>>(
     Ok(())
 }
 
-/// Goes on with each step that may come next, in the order in which they were recorded.
+/// Goes on with each step that may come next, in the order of the steps' places.
 #[cycle(visit)]
 fn go_on<'a, B: Allocator, W: Watch<Walked>>(
     tour: &Tour<'a, '_, B>,
@@ -222,11 +232,13 @@ fn go_on<'a, B: Allocator, W: Watch<Walked>>(
     left: u128,
     watch: &mut W,
 ) -> Result<(), Stop>
-    requires { IsReady tour.now.plan.now (plain tour.now.question.now) walk.old.path.items walk.old.cluster walk.old.settled walk.old.outcomes.items counts.now left }
+    requires { IsReady tour.now.plan.now (plain tour.now.question.now) walk.old.path.items walk.old.cluster walk.old.settled walk.old.outcomes.items
+        counts.now left }
     ensures cluster { OnOk result (walk.new.cluster ≡ walk.old.cluster) }
     ensures path { OnOk result (walk.new.path.items ≡ walk.old.path.items) }
     ensures went { OnOk result (Went tour.now.plan.now (plain tour.now.question.now) walk.old.outcomes.items walk.new.settled walk.new.outcomes.items) }
-    ensures goes { OnOk result (AllGoThrough tour.now.plan.now (plain tour.now.question.now) walk.old.path.items walk.old.cluster counts.now walk.new.outcomes.items) }
+    ensures goes { OnOk result (AllGoThrough tour.now.plan.now (plain tour.now.question.now) walk.old.path.items walk.old.cluster counts.now
+        walk.new.outcomes.items) }
     ensures stops { IfErr result (HasReason tour.now.plan.now (plain tour.now.question.now)) }
     ensures watched { Watched W.told watch.old watch.new }
 {
@@ -236,7 +248,7 @@ fn go_on<'a, B: Allocator, W: Watch<Walked>>(
     Ok(())
 }
 
-/// Goes on with the first step that can be taken first without missing an outcome, and says whether there is one.
+/// Goes on with the step that `first` gives, if there is one. Says whether the step was there and was accepted.
 #[cycle(visit)]
 fn go_first<'a, B: Allocator, W: Watch<Walked>>(
     tour: &Tour<'a, '_, B>,
@@ -245,11 +257,13 @@ fn go_first<'a, B: Allocator, W: Watch<Walked>>(
     left: u128,
     watch: &mut W,
 ) -> Result<bool, Stop>
-    requires { IsReady tour.now.plan.now (plain tour.now.question.now) walk.old.path.items walk.old.cluster walk.old.settled walk.old.outcomes.items counts.now left }
+    requires { IsReady tour.now.plan.now (plain tour.now.question.now) walk.old.path.items walk.old.cluster walk.old.settled walk.old.outcomes.items
+        counts.now left }
     ensures cluster { OnOk result (walk.new.cluster ≡ walk.old.cluster) }
     ensures path { OnOk result (walk.new.path.items ≡ walk.old.path.items) }
     ensures went { OnOk result (Went tour.now.plan.now (plain tour.now.question.now) walk.old.outcomes.items walk.new.settled walk.new.outcomes.items) }
-    ensures told { IfOk result (λ taken. taken ≡ true → IsTold tour.now.plan.now (plain tour.now.question.now) walk.new.outcomes.items (steps_at tour.now.plan.now.steps walk.old.path.items)) }
+    ensures told { IfOk result (λ taken. taken ≡ true → IsTold tour.now.plan.now (plain tour.now.question.now) walk.new.outcomes.items
+        (steps_at tour.now.plan.now.steps walk.old.path.items)) }
     ensures stops { IfErr result (HasReason tour.now.plan.now (plain tour.now.question.now)) }
     ensures watched { Watched W.told watch.old watch.new }
 {
@@ -259,7 +273,8 @@ fn go_first<'a, B: Allocator, W: Watch<Walked>>(
     }
 }
 
-/// Adds the outcome to which the path leads, if it may end here, and those of all that goes on from here.
+/// Adds the outcome of the path itself, if a run may end here, and the outcomes of all runs that go on from where the
+/// walk stands.
 #[cycle(visit)]
 fn tell_all<'a, B: Allocator, W: Watch<Walked>>(
     tour: &Tour<'a, '_, B>,
@@ -268,11 +283,13 @@ fn tell_all<'a, B: Allocator, W: Watch<Walked>>(
     left: u128,
     watch: &mut W,
 ) -> Result<(), Stop>
-    requires { IsReady tour.now.plan.now (plain tour.now.question.now) walk.old.path.items walk.old.cluster walk.old.settled walk.old.outcomes.items counts.now left }
+    requires { IsReady tour.now.plan.now (plain tour.now.question.now) walk.old.path.items walk.old.cluster walk.old.settled walk.old.outcomes.items
+        counts.now left }
     ensures cluster { OnOk result (walk.new.cluster ≡ walk.old.cluster) }
     ensures path { OnOk result (walk.new.path.items ≡ walk.old.path.items) }
     ensures went { OnOk result (Went tour.now.plan.now (plain tour.now.question.now) walk.old.outcomes.items walk.new.settled walk.new.outcomes.items) }
-    ensures told { OnOk result (IsTold tour.now.plan.now (plain tour.now.question.now) walk.new.outcomes.items (steps_at tour.now.plan.now.steps walk.old.path.items)) }
+    ensures told { OnOk result (IsTold tour.now.plan.now (plain tour.now.question.now) walk.new.outcomes.items
+        (steps_at tour.now.plan.now.steps walk.old.path.items)) }
     ensures stops { IfErr result (HasReason tour.now.plan.now (plain tour.now.question.now)) }
     ensures watched { Watched W.told watch.old watch.new }
 {
@@ -280,7 +297,8 @@ fn tell_all<'a, B: Allocator, W: Watch<Walked>>(
     go_on(tour, walk, counts, left, watch)
 }
 
-/// Adds all outcomes of what can come from here on, unless they were found before.
+/// Adds the outcomes of all runs that go on from where the walk stands, and puts the key of this state into the table;
+/// does nothing if the key is there already. `TooManyStates` if the table then has more keys than the plan allows.
 #[cycle(visit)]
 fn tell_once<'a, B: Allocator, W: Watch<Walked>>(
     tour: &Tour<'a, '_, B>,
@@ -289,11 +307,13 @@ fn tell_once<'a, B: Allocator, W: Watch<Walked>>(
     left: u128,
     watch: &mut W,
 ) -> Result<(), Stop>
-    requires { IsReady tour.now.plan.now (plain tour.now.question.now) walk.old.path.items walk.old.cluster walk.old.settled walk.old.outcomes.items counts.now left }
+    requires { IsReady tour.now.plan.now (plain tour.now.question.now) walk.old.path.items walk.old.cluster walk.old.settled walk.old.outcomes.items
+        counts.now left }
     ensures cluster { OnOk result (walk.new.cluster ≡ walk.old.cluster) }
     ensures path { OnOk result (walk.new.path.items ≡ walk.old.path.items) }
     ensures went { OnOk result (Went tour.now.plan.now (plain tour.now.question.now) walk.old.outcomes.items walk.new.settled walk.new.outcomes.items) }
-    ensures told { OnOk result (IsTold tour.now.plan.now (plain tour.now.question.now) walk.new.outcomes.items (steps_at tour.now.plan.now.steps walk.old.path.items)) }
+    ensures told { OnOk result (IsTold tour.now.plan.now (plain tour.now.question.now) walk.new.outcomes.items
+        (steps_at tour.now.plan.now.steps walk.old.path.items)) }
     ensures stops { IfErr result (HasReason tour.now.plan.now (plain tour.now.question.now)) }
     ensures watched { Watched W.told watch.old watch.new }
 {
@@ -311,7 +331,9 @@ fn tell_once<'a, B: Allocator, W: Watch<Walked>>(
     Ok(())
 }
 
-/// Adds all outcomes of what can come from here on. It tells the watcher how far the walk has come.
+/// Adds the outcomes of all runs that go on from where the walk stands, and leaves the cluster and the path unchanged;
+/// after a `Stop` they are those at which the walk ended. At most `left` steps can follow. Tells `watch` how far the
+/// walk has come.
 #[cycle(visit)]
 pub(crate) fn visit<'a, B: Allocator, W: Watch<Walked>>(
     tour: &Tour<'a, '_, B>,
@@ -320,11 +342,13 @@ pub(crate) fn visit<'a, B: Allocator, W: Watch<Walked>>(
     left: u128,
     watch: &mut W,
 ) -> Result<(), Stop>
-    requires { IsReady tour.now.plan.now (plain tour.now.question.now) walk.old.path.items walk.old.cluster walk.old.settled walk.old.outcomes.items counts.now left }
+    requires { IsReady tour.now.plan.now (plain tour.now.question.now) walk.old.path.items walk.old.cluster walk.old.settled walk.old.outcomes.items
+        counts.now left }
     ensures cluster { OnOk result (walk.new.cluster ≡ walk.old.cluster) }
     ensures path { OnOk result (walk.new.path.items ≡ walk.old.path.items) }
     ensures went { OnOk result (Went tour.now.plan.now (plain tour.now.question.now) walk.old.outcomes.items walk.new.settled walk.new.outcomes.items) }
-    ensures told { OnOk result (IsTold tour.now.plan.now (plain tour.now.question.now) walk.new.outcomes.items (steps_at tour.now.plan.now.steps walk.old.path.items)) }
+    ensures told { OnOk result (IsTold tour.now.plan.now (plain tour.now.question.now) walk.new.outcomes.items
+        (steps_at tour.now.plan.now.steps walk.old.path.items)) }
     ensures stops { IfErr result (HasReason tour.now.plan.now (plain tour.now.question.now)) }
     ensures watched { Watched W.told watch.old watch.new }
 {

@@ -1,4 +1,4 @@
-//! What the network could have made of a run, asked by words.
+//! Answers what the network could have made of a run, for a question in words.
 ghost use Rattle.std.specs.Prelude.{◌≡◌, ◌≤◌, IfErr, IfOk, length, option_map, string_bytes};
 ghost use Rattle.payload_core.specs.Messages.{numbered};
 ghost use Rattle.explore_network.specs.Questions.{plain, IsThere};
@@ -14,7 +14,8 @@ use explore_network::{Explored, Outcome, Question as Plain, explore};
 use progress_core::{Walked, Watch};
 use std::alloc::Allocator;
 
-/// The outcomes that a question asks for.
+/// Finds the outcomes for `question`. `asked` is `question.about` as the function `asked` gives it: the node by its
+/// number, topic and key as `Word`s.
 fn explored<'a, B: Allocator, W: Watch<Walked>>(
     bench: &Bench<'a, B>,
     asked: &Plain<&'a B>,
@@ -40,7 +41,7 @@ fn explored<'a, B: Allocator, W: Watch<Walked>>(
     }
 }
 
-/// What the network could have made of the remaining steps, as a text: each outcome, and a run that leads there.
+/// What the network could have made of the remaining steps, as a text: each outcome, with a run that leads there.
 pub fn explore_asked<'a, B: Allocator, W: Watch<Walked>>(
     alloc: &'a B,
     bench: &Bench<'a, B>,
@@ -54,12 +55,13 @@ pub fn explore_asked<'a, B: Allocator, W: Watch<Walked>>(
     let asked = asked(bench, question.about, alloc)?;
     let explored = explored(bench, &asked, question, alloc, watch)?;
     let text = tell(bench, &asked, &explored, alloc);
+    // form: drop before exit
     drop(explored);
     drop(asked);
     Ok(text?)
 }
 
-/// The outcome with this number in the text, from 1.
+/// The outcome with this number in the text, counted from 1; `None` if there is none.
 fn outcome_at<'l, 'a, B: Allocator>(
     outcomes: &'l [Outcome<'a, B>],
     number: u64,
@@ -70,7 +72,7 @@ fn outcome_at<'l, 'a, B: Allocator>(
     outcomes.get(place as usize)
 }
 
-/// The run of the outcome with this number in the text, as a script that plays it.
+/// The run of the outcome with this number in the text, as a script that plays it. `NoSuchOutcome` if there is none.
 pub fn run_of_outcome<'a, B: Allocator, W: Watch<Walked>>(
     alloc: &'a B,
     bench: &Bench<'a, B>,
@@ -84,6 +86,7 @@ pub fn run_of_outcome<'a, B: Allocator, W: Watch<Walked>>(
 {
     let asked = asked(bench, question.about, alloc)?;
     let explored = explored(bench, &asked, question, alloc, watch)?;
+    // form: drop before exit
     drop(asked);
     let Some(outcome) = outcome_at(explored.outcomes.as_slice(), number) else {
         let outcomes = explored.outcomes.len();

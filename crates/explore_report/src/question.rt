@@ -1,4 +1,4 @@
-//! What is asked, by words.
+//! A question in words.
 ghost use Rattle.std.specs.Prelude.{IfErr, IfOk, length};
 ghost use Rattle.explore_network.specs.Questions.{IsThere, plain};
 ghost use Rattle.explore_report.specs.Asked.{Asks, IsUnasked};
@@ -16,7 +16,7 @@ pub enum About<'q> {
     Cluster,
     /// The node of this name.
     Node(&'q str),
-    /// The presences of this topic and key at the node of this name.
+    /// The rows of this topic and key in the online list of the node of this name.
     Presence {
         node: &'q str,
         topic: &'q str,
@@ -24,8 +24,8 @@ pub enum About<'q> {
     },
 }
 
-/// The question what the network could have made of the steps that remain: with up to `lost` deliveries missing, and up
-/// to `again` that come a second time. At most `states` states are kept.
+/// Asks what the network could have made of the steps that remain, with up to `lost` deliveries missing and up to
+/// `again` that come a second time. At most `states` states are kept.
 #[derive(Clone, Copy, Debug, PartialEq, Eq)]
 pub struct Question<'q> {
     pub about: About<'q>,
@@ -34,7 +34,8 @@ pub struct Question<'q> {
     pub states: usize,
 }
 
-/// What is asked, with the node's number and with words in place of texts.
+/// What the question is about, with the node's number in place of its name, and with topic and key as words.
+/// `NoSuchNode` if no node has the name, `NoWord` if the topic or the key isn't a word.
 pub(crate) fn asked<'a, B: Allocator>(
     bench: &Bench<'a, B>,
     about: About<'_>,

@@ -12,13 +12,14 @@ pub enum ReportFault {
     /// No node has this name.
     #[error("NoSuchNode")]
     NoSuchNode,
-    /// The text is no word, so nothing is tracked under it.
+    /// The topic or the key isn't a word, so nothing is tracked under it.
     #[error("NoWord")]
     NoWord,
-    /// The walk kept `states` states, which is all that it may, and reached another; it had found `outcomes` outcomes.
+    /// The walk had kept `states` states, which is all that it may, and reached another. It had found `outcomes`
+    /// outcomes.
     #[error("TooManyStates, more than {states}, outcomes so far {outcomes}")]
     TooManyStates { states: usize, outcomes: usize },
-    /// In some order the joins and updates could fill a node.
+    /// The joins and updates make more entries than a node may hold, so some order might be refused (`EntriesFull`).
     #[error("MayFill")]
     MayFill,
     /// A run could have more than 3,000 steps.
@@ -55,7 +56,7 @@ impl From<WordFault> for ReportFault {
     }
 }
 
-/// The fault of a walk that may keep `states` states.
+/// The fault to report for a walk that may keep `states` states.
 pub(crate) fn fault_of(fault: ExploreFault, states: usize) -> ReportFault
     ensures { result ≡ fault_of_explore states fault }
 {

@@ -1,4 +1,4 @@
-//! A run, given by the places of its steps, as a script.
+//! A run as a script. The run is given by the places of its steps among those that remain.
 ghost use Rattle.std.specs.Prelude.{◌≡◌, ◌++◌, [], IfOk, OnOk, slice_get, string_bytes};
 ghost use Rattle.journal_core.specs.Holdings.{kepts};
 ghost use Rattle.explore_network.specs.Walks.{steps_at};
@@ -10,7 +10,7 @@ use payload_core::Oom;
 use std::alloc::Allocator;
 use transcript_core::{put_nodes_line, put_step_line};
 
-/// The line of the step at this place, if there is one.
+/// Appends the line of the step at `place`, if there is one.
 fn put_step<'a, A: Allocator, N: Allocator, B: Allocator>(
     journal: &Journal<'a, B>,
     text: &mut String<A>,
@@ -27,7 +27,7 @@ fn put_step<'a, A: Allocator, N: Allocator, B: Allocator>(
     }
 }
 
-/// A line for each step.
+/// Appends the line of the step at each of `places`.
 fn put_steps<'a, A: Allocator, N: Allocator, B: Allocator>(
     journal: &Journal<'a, B>,
     text: &mut String<A>,
@@ -43,7 +43,8 @@ fn put_steps<'a, A: Allocator, N: Allocator, B: Allocator>(
     Ok(())
 }
 
-/// The run of the remaining steps at these places, each line with an indent.
+/// Appends the run of the remaining steps at these places: the line that names the nodes, and a line for each step, all
+/// of them after `indent`.
 #[tactic(auto, unfolding(transcript_core::specs::Runs::run_text))]
 pub(crate) fn put_run<'a, A: Allocator, B: Allocator>(
     bench: &Bench<'a, B>,

@@ -12,7 +12,7 @@ use payload_core::{Oom, Word};
 use report_core::{name_at, put_dots, put_rows};
 use std::alloc::Allocator;
 
-/// The node's online list; an empty one if there is no such node.
+/// The node's online list; empty if there is no such node.
 fn listed<'a, B: Allocator>(
     found: Option<&Node<'a, B>>,
     alloc: &'a B,
@@ -25,7 +25,7 @@ fn listed<'a, B: Allocator>(
     }
 }
 
-/// `online NODE COUNT`, and the rows.
+/// Appends the line `online NODE COUNT`, and the rows, each after `= `.
 #[tactic(auto, unfolding(report_core::specs::Rows::online_text))]
 fn put_online<A: Allocator, N: Allocator, R: Allocator>(
     text: &mut String<A>,
@@ -41,7 +41,7 @@ fn put_online<A: Allocator, N: Allocator, R: Allocator>(
     put_rows(text, "= ", names, rows)
 }
 
-/// What `show` and `dots` print of a node.
+/// Appends what `show` and `dots` print of a node.
 #[tactic(auto, unfolding(crate::specs::Texts::node_text))]
 fn put_node<'a, A: Allocator, N: Allocator, B: Allocator>(
     cluster: &Cluster<'a, B>,
@@ -54,12 +54,13 @@ fn put_node<'a, A: Allocator, N: Allocator, B: Allocator>(
 {
     let rows = listed(cluster.node(node), alloc)?;
     let put = put_online(text, names, node, rows.as_slice());
+    // form: drop before exit
     drop(rows);
     put?;
     put_dots(cluster.node(node), text, names)
 }
 
-/// What `show` and `dots` print of each node.
+/// Appends what `show` and `dots` print of each node.
 fn put_nodes<'a, A: Allocator, N: Allocator, B: Allocator>(
     cluster: &Cluster<'a, B>,
     text: &mut String<A>,
@@ -74,7 +75,7 @@ fn put_nodes<'a, A: Allocator, N: Allocator, B: Allocator>(
     Ok(())
 }
 
-/// The rows of a topic and a key at a node, each after `= `.
+/// Appends the rows of a topic and a key at a node, each after `= `.
 fn put_presences<'a, A: Allocator, N: Allocator, B: Allocator>(
     found: Option<&Node<'a, B>>,
     text: &mut String<A>,
@@ -88,11 +89,12 @@ fn put_presences<'a, A: Allocator, N: Allocator, B: Allocator>(
 {
     let rows = rows_in(found, topic, key, alloc)?;
     let put = put_rows(text, "= ", names, rows.as_slice());
+    // form: drop before exit
     drop(rows);
     put
 }
 
-/// What the cluster shows to the question.
+/// Appends what the cluster shows to the question.
 #[tactic(auto, unfolding(crate::specs::Texts::shown_text))]
 pub(crate) fn put_shown<'a, A: Allocator, N: Allocator, B: Allocator>(
     cluster: &Cluster<'a, B>,

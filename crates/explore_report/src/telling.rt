@@ -11,7 +11,7 @@ use payload_core::{Oom, Word};
 use report_core::name_at;
 use std::alloc::Allocator;
 
-/// ` NODE TOPIC KEY`.
+/// Appends ` NODE TOPIC KEY`.
 fn put_presence<A: Allocator, N: Allocator, W: Allocator>(
     text: &mut String<A>,
     names: &Names<N>,
@@ -27,7 +27,7 @@ fn put_presence<A: Allocator, N: Allocator, W: Allocator>(
     Ok(write!(text, " {node} {topic} {key}")?)
 }
 
-/// What is asked, after a space.
+/// Appends what is asked about, ` NODE` or ` NODE TOPIC KEY`; nothing if the question is about the cluster.
 fn put_asked<A: Allocator, N: Allocator, W: Allocator>(
     text: &mut String<A>,
     names: &Names<N>,
@@ -45,7 +45,7 @@ fn put_asked<A: Allocator, N: Allocator, W: Allocator>(
     }
 }
 
-/// `explore [NODE [TOPIC KEY]] outcomes M states S`.
+/// Appends `explore [NODE [TOPIC KEY]] outcomes M states S`, where M is `outcomes` and S is `states`, and a line feed.
 #[tactic(auto, unfolding(crate::specs::Texts::head_line))]
 fn put_head<A: Allocator, N: Allocator, W: Allocator>(
     text: &mut String<A>,
@@ -61,7 +61,8 @@ fn put_head<A: Allocator, N: Allocator, W: Allocator>(
     Ok(writeln!(text, " outcomes {outcomes} states {states}")?)
 }
 
-/// `outcome K`, what it shows, and the run that leads there.
+/// Appends the line `outcome K`, where K is `number`; then what the outcome shows, and the run that leads there, two
+/// spaces before each of the run's lines.
 #[tactic(auto, unfolding(crate::specs::Texts::outcome_text))]
 fn put_outcome<'a, B: Allocator>(
     bench: &Bench<'a, B>,
@@ -78,7 +79,7 @@ fn put_outcome<'a, B: Allocator>(
     put_run(bench, text, "  ", outcome.run())
 }
 
-/// Each outcome, numbered from 1.
+/// Appends each outcome, numbered from 1.
 fn put_outcomes<'a, B: Allocator>(
     bench: &Bench<'a, B>,
     text: &mut String<&'a B>,
@@ -94,7 +95,7 @@ fn put_outcomes<'a, B: Allocator>(
     Ok(())
 }
 
-/// The whole text.
+/// Appends the whole text: the head, and each outcome.
 #[tactic(auto, unfolding(crate::specs::Texts::explore_text))]
 fn put_explored<'a, B: Allocator>(
     bench: &Bench<'a, B>,
@@ -117,7 +118,7 @@ fn put_explored<'a, B: Allocator>(
     put_outcomes(bench, text, question, outcomes, alloc)
 }
 
-/// What was found, as a text.
+/// The text of all that was found.
 pub(crate) fn tell<'a, B: Allocator>(
     bench: &Bench<'a, B>,
     question: &Question<&'a B>,

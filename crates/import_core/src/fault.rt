@@ -8,22 +8,22 @@ use dots_core::Oom;
 use log_core::LineFault;
 use thiserror::Error;
 
-/// What is wrong with a line or with the whole. `docs/FORMATS.md` has the order in which it is looked for.
+/// What is wrong with a line, or with the whole input. `docs/FORMATS.md` has the order in which faults are looked for.
 #[derive(Clone, Copy, Debug, PartialEq, Eq, Error)]
 pub enum FaultKind {
-    /// More bytes than a line or a script may have.
+    /// The line or the script has more bytes than it may.
     #[error("TooLong")]
     TooLong,
-    /// No JSON, or nested too deep.
+    /// The line isn't JSON, or nests too deep.
     #[error("NotJson")]
     NotJson,
-    /// No event: a key is missing or of a wrong kind, or the event is unknown.
+    /// The line isn't an event: a key is missing or of a wrong kind, or the event is unknown.
     #[error("BadEvent")]
     BadEvent,
-    /// More than 32 nodes.
+    /// The line names a node beyond the 32 that there may be.
     #[error("TooManyNodes")]
     TooManyNodes,
-    /// No line has an event.
+    /// No line has an event, or a lenient import left out all events.
     #[error("NoNodes")]
     NoNodes,
     /// The line sends a message that an earlier line sends, too.
@@ -32,7 +32,7 @@ pub enum FaultKind {
     /// The line waits for a message that no line sends.
     #[error("NeverSent")]
     NeverSent,
-    /// The line is the first that waits forever.
+    /// The line is the first of those that wait forever.
     #[error("Circle")]
     Circle,
     /// A request for memory was refused.
@@ -71,7 +71,8 @@ impl From<NoteFault> for FaultKind {
     }
 }
 
-/// Why lines give no script: the line, from 1, or 0 for the whole, and what is wrong with it. Want of memory has no line.
+/// Why lines give no script: the number of the line, counted from 1, or 0 for the whole input, and what is wrong with
+/// it. `OutOfMemory` always has line 0.
 #[derive(Clone, Copy, Debug, PartialEq, Eq, Error)]
 #[error("line {line}: {kind}")]
 pub struct ImportFault {
@@ -80,7 +81,7 @@ pub struct ImportFault {
 }
 
 impl ImportFault {
-    /// The fault at a line; want of memory has none.
+    /// The fault at this line; `OutOfMemory` at line 0.
     pub(crate) fn at(line: u64, kind: FaultKind) -> ImportFault
         ensures { result ≡ fault_at line kind }
     {

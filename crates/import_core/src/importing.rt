@@ -1,4 +1,4 @@
-//! From the bytes of logs to the notes of their events and an order of them.
+//! From the bytes of logs to the notes of their events, and an order of the events.
 ghost use Rattle.std.specs.Prelude.{◌≡◌, ◌<◌, length, map, IfOk, IfErr, OnOk};
 ghost use Rattle.event_order.specs.Ordering.{HasNodes, HasMessages, IsOrdered, IsFaultOf};
 ghost use Rattle.log_core.specs.Lines.{lines_of};
@@ -15,28 +15,28 @@ use dots_core::Oom;
 use event_order::{Logged, OrderFault, ordered};
 use std::alloc::{Allocator, Global};
 
-/// How many nodes there can be.
+/// The most nodes that there may be.
 const NODES: u16 = 32;
 
-/// What an input gives: the tables of what stands for what, the notes of the events that stay, and an order of these,
-/// by their places.
+/// What an input gives: the tables, which say what each number stands for; the notes of the events that stay; and an
+/// order of these events, as places in `notes`.
 #[derive(Drop)]
 pub struct Import<A: Allocator> {
     pub tables: Tables<A>,
     pub notes: Vec<Noted<A>, A>,
     pub order: Vec<usize, A>,
-    /// The lines of the deliveries and answers that were left out.
+    /// The numbers of the lines whose deliveries and answers were left out, round by round.
     pub left_out: Vec<u64, A>,
 }
 
-/// The lines, separated by line feeds.
+/// The lines of the input, which line feeds divide.
 fn lines_of<A: Allocator>(alloc: A, bytes: &[u8]) -> Result<Vec<&[u8], A>, Oom>
     ensures { IfOk result (λ lines. map (λ line. line.now) lines.items ≡ lines_of bytes.now) }
 {
     bytes.split(|byte| *byte == b'\n').collect(alloc)
 }
 
-/// What an order needs to know of the events.
+/// What an order needs to know of each event.
 fn logged<A: Allocator + Copy>(alloc: A, notes: &[Noted<A>]) -> Result<Vec<Logged, A>, Oom>
     ensures { IfOk result (λ logged. logged.items ≡ logged_of (map note_of notes.now)) }
 {
@@ -47,7 +47,7 @@ fn logged<A: Allocator + Copy>(alloc: A, notes: &[Noted<A>]) -> Result<Vec<Logge
     Ok(events)
 }
 
-/// The number of the line of the event at a place.
+/// The line number of the note at `place`; 0 if there is none.
 fn number_at<A: Allocator>(notes: &[Noted<A>], place: usize) -> u64
     ensures { result ≡ number_at (map note_of notes.now) place }
 {
@@ -57,7 +57,7 @@ fn number_at<A: Allocator>(notes: &[Noted<A>], place: usize) -> u64
     }
 }
 
-/// Why events have no order, with the line of the event at fault.
+/// The fault of an order as a fault of the import, at the line of the event that the order's fault names.
 fn fault_of<A: Allocator>(notes: &[Noted<A>], fault: OrderFault) -> ImportFault
     requires { IsFaultOf (logged_of (map note_of notes.now)) fault }
     ensures { IsOrderFault (map note_of notes.now) result }
@@ -79,7 +79,7 @@ fn fault_of<A: Allocator>(notes: &[Noted<A>], fault: OrderFault) -> ImportFault
     }
 }
 
-/// The nearest order of the events of notes, or why there is none.
+/// The order of these events that is nearest to the input; or why there is none. `NoNodes` if there are no events.
 fn order_of<A: Allocator + Copy>(
     alloc: A,
     notes: &[Noted<A>],
@@ -104,9 +104,9 @@ fn order_of<A: Allocator + Copy>(
     }
 }
 
-/// The events of the input's lines, with the tables of what stands for what and the nearest order; or the first reason
-/// why there are none. If `lenient`, it leaves out each delivery and answer whose message no line sends, then those
-/// whose message was sent by a line that was left out, and so on.
+/// The notes of the input's events, with the tables in which their texts have numbers, and the nearest order; or the
+/// first fault. If `lenient`, each delivery and answer whose message no line sends is left out, then those whose
+/// message only a line that was left out sends, and so on.
 pub fn imported<A: Allocator + Copy>(
     heap: Global,
     alloc: A,

@@ -1,4 +1,4 @@
-//! Leaves out deliveries and answers whose messages no line sends: for logs that begin in the middle.
+//! Leaves out deliveries and answers whose messages no line sends, for logs that begin in the middle of an incident.
 ghost use Rattle.std.specs.Prelude.{◌≡◌, ◌<◌, ◌++◌, ◌∷◌, [], ◌==◌, ◌||◌, ℕ, not, length, map, slice_index_or, false, IfOk, IfSome, OnOk};
 ghost use Rattle.std.specs.List.{AllByRecursion};
 ghost use Rattle.import_core.specs.Lenient.{IsLenient, Stay, gone, has_awaited, is_message, is_sent, lines_gone, staying};
@@ -8,7 +8,7 @@ use crate::notes::Noted;
 use dots_core::Oom;
 use std::alloc::Allocator;
 
-/// Marks the message that an event sends.
+/// Marks in `sent` the message that an event sends, if it sends one.
 fn mark<A: Allocator>(sent: &mut Vec<bool, A>, sends: Option<usize>)
     requires { IfSome sends (λ m. m < length sent.old.items) }
     ensures all { length sent.new.items ≡ length sent.old.items }
@@ -19,7 +19,7 @@ fn mark<A: Allocator>(sent: &mut Vec<bool, A>, sends: Option<usize>)
     }
 }
 
-/// For each message, by its number, whether the events send it.
+/// For each message, by number, whether one of the events sends it.
 fn sent_by<A: Allocator + Copy>(
     alloc: A,
     notes: &[Noted<A>],
@@ -35,7 +35,7 @@ fn sent_by<A: Allocator + Copy>(
     Ok(sent)
 }
 
-/// Whether the event waits for nothing, or for a message that is sent.
+/// Whether the event waits for no message, or for one that is sent.
 fn can_stay<A: Allocator>(note: &Noted<A>, sent: &[bool]) -> bool
     ensures { result ≡ has_awaited (λ m. slice_index_or sent.now m false) (note_of note.now).logged.waits }
 {
@@ -45,7 +45,7 @@ fn can_stay<A: Allocator>(note: &Noted<A>, sent: &[bool]) -> bool
     }
 }
 
-/// Appends the number of the event's line, if the event is left out.
+/// Appends the number of the event's line to `left_out`, unless the event can stay.
 fn add_gone<A: Allocator>(
     left_out: &mut Vec<u64, A>,
     note: &Noted<A>,
@@ -59,7 +59,7 @@ fn add_gone<A: Allocator>(
     Ok(())
 }
 
-/// Appends the lines of the events that go.
+/// Appends the line numbers of the events that can't stay to `left_out`.
 fn note_gone<A: Allocator>(
     left_out: &mut Vec<u64, A>,
     notes: &[Noted<A>],
@@ -74,7 +74,8 @@ fn note_gone<A: Allocator>(
     Ok(())
 }
 
-/// Takes out the events that wait for a message which none of these sends, and says whether there were any.
+/// Makes one round: takes out of `notes` each event that waits for a message which no event in `notes` sends, appends
+/// the event's line number to `left_out`, and says whether there was such an event.
 fn let_go<A: Allocator + Copy>(
     alloc: A,
     notes: &mut Vec<Noted<A>, A>,
@@ -93,8 +94,8 @@ fn let_go<A: Allocator + Copy>(
     Ok(left_out.len() != before)
 }
 
-/// Takes out events until each that stays waits only for a message that one of them sends. Gives the lines of those
-/// that it took out.
+/// Makes rounds with `let_go` until one takes nothing out of `notes`; then each message that an event in `notes` waits
+/// for is sent by an event in `notes`. Gives the line numbers of the events that were taken out.
 fn leave_out<A: Allocator + Copy>(
     alloc: A,
     notes: &mut Vec<Noted<A>, A>,
@@ -104,6 +105,7 @@ fn leave_out<A: Allocator + Copy>(
     ensures { IfOk result (λ left_out. IsLenient (map note_of notes.old.items) (map note_of notes.new.items) left_out.items) }
 {
     let mut left_out = Vec::new(alloc);
+    // form: the proof names the loop
     'rounds: loop {
         if !let_go(alloc, notes, &mut left_out, messages)? {
             break;
@@ -112,7 +114,7 @@ fn leave_out<A: Allocator + Copy>(
     Ok(left_out)
 }
 
-/// As `leave_out`, if `lenient`; else all events stay.
+/// Like `leave_out`, but leaves out nothing if not `lenient`.
 pub(crate) fn stay<A: Allocator + Copy>(
     alloc: A,
     lenient: bool,

@@ -1,10 +1,12 @@
-//! From the events of logs to notes of them, in an order in which a bench can play them.
+//! From the events of logs to notes of the events, and an order in which a bench can play them.
 //!
-//! It stands on `log_core` for what a line says, on `event_order` for the order of events, on `spelling_core` for words, on
-//! `diff_core` for rows, and on the bench's own names and steps. In the order to read them: `numbering`, the number of a text;
-//! `texts`, the text of a value; `tables`, what stands for what; `note_fault`; `noting`, an event as a step; `rows`, what a real
-//! node listed; `fault`; `notes`, all events; `lenient`, what is left out
-//! of them; `importing`, the whole; `laws`.
+//! The crate stands on `log_core` for what a line says, on `event_order` for the order of events, on `spelling_core`
+//! for words, on `diff_core` for rows, and on `bench_core` for steps and sets of texts. It names the plain types of the
+//! crates below. The modules in reading order: `numbering`, the number of a text; `texts`, the text of a value;
+//! `tables`, which number stands for which text; `note_fault`, why no step stands for an event; `noting`, an event as a
+//! step; `rows`, what a real node listed; `fault`, why lines give no script; `notes`, the notes of all events;
+//! `lenient`, which events are left out; `importing`, from bytes to notes and an order; `laws`, what holds of the
+//! tables.
 #![tactic(auto)]
 
 mod fault;
@@ -24,5 +26,5 @@ pub use importing::{Import, imported};
 pub use notes::Noted;
 pub use tables::Tables;
 
-/// Want of memory. It is std's error, so that `?` on a call of std gives it.
+/// A request for memory was refused. This is std's error, so `?` on a call of std passes it on.
 pub use dots_core::Oom;

@@ -1,4 +1,4 @@
-//! All events of a log, as they are ordered and played.
+//! Notes of all events of a log, from which the events are ordered and played.
 ghost use Rattle.std.specs.Prelude.{◌≡◌, ◌^◌, ◌<◌, ◌≤◌, ◌++◌, ◌∷◌, [], Err, length, map, IfOk, IfErr, OnOk, option_map};
 ghost use Rattle.node_core.specs.Operations.{plain};
 ghost use Rattle.log_core.specs.Views.{line as shown_line};
@@ -20,7 +20,8 @@ use event_order::Logged;
 use log_core::{LogLine, line_at, value_of_line};
 use std::alloc::{Allocator, Global};
 
-/// What an order needs to know of an event, the number of its line, its step, if it is one, and the rows that it lists.
+/// A note of an event: the number of its line, what an order needs to know of the event, the step that stands for it,
+/// if there is one, and the rows that it lists. Messages have the numbers of the tables, not those of an outbox.
 #[derive(Drop)]
 pub struct Noted<A: Allocator> {
     pub number: u64,
@@ -29,7 +30,7 @@ pub struct Noted<A: Allocator> {
     pub rows: Vec<OnlineRow<A>, A>,
 }
 
-/// The message that a step takes, by its number among all.
+/// The number that the tables gave the message which a step takes; `None` if there is no step, or it takes no message.
 fn awaited<A: Allocator>(step: &Option<Step<A>>) -> Option<usize>
     ensures { result ≡ awaited (option_map plain step.now) }
 {
@@ -42,7 +43,7 @@ fn awaited<A: Allocator>(step: &Option<Step<A>>) -> Option<usize>
     }
 }
 
-/// The note of an event.
+/// The note of an event. New texts get numbers in the tables.
 fn note_for<A: Allocator + Copy>(
     heap: Global,
     alloc: A,
@@ -68,7 +69,7 @@ fn note_for<A: Allocator + Copy>(
     })
 }
 
-/// The note of an event, if there are no more than 32 nodes with those that it names.
+/// Like `note_for`, but also makes sure that the tables have at most 32 nodes.
 fn note_of_event<A: Allocator + Copy>(
     heap: Global,
     alloc: A,
@@ -83,14 +84,16 @@ fn note_of_event<A: Allocator + Copy>(
     ensures many { result ≡ Err NoteFault.TooManyNodes → HasTooMany (all_of tables.old) (names_in (shown_line line.now)) }
 {
     let note = note_for(heap, alloc, tables, number, line)?;
+    // form: `Tables::node` refuses a node past the 32nd; the test spares a requirement
     if tables.nodes.len() > 32 {
+        // form: drop before exit
         drop(note);
         return Err(NoteFault::TooManyNodes);
     }
     Ok(note)
 }
 
-/// The note of a line, if it has an event.
+/// The note of a line; `None` if the line is blank. New texts get numbers in the tables.
 fn note_of_line<A: Allocator + Copy>(
     heap: Global,
     alloc: A,
@@ -121,7 +124,7 @@ fn add<A: Allocator + Copy>(notes: &mut Vec<Noted<A>, A>, note: Noted<A>) -> Res
     Ok(())
 }
 
-/// Appends the note of a line, if it has an event.
+/// Appends the note of a line, unless the line is blank. New texts get numbers in the tables.
 fn add_line<A: Allocator + Copy>(
     heap: Global,
     alloc: A,
@@ -143,7 +146,8 @@ fn add_line<A: Allocator + Copy>(
     Ok(())
 }
 
-/// The notes of the lines, numbered from 1, or the fault of the first line at fault.
+/// The notes of all lines, which are numbered from 1; or the fault of the first line that has one. New texts get
+/// numbers in the tables.
 pub(crate) fn noted_all<A: Allocator + Copy>(
     heap: Global,
     alloc: A,
@@ -160,6 +164,7 @@ pub(crate) fn noted_all<A: Allocator + Copy>(
     for (index, line) in lines.iter().enumerate() {
         let number = index as u64 + 1;
         if let Err(kind) = add_line(heap, alloc, tables, &mut notes, number, line) {
+            // form: drop before exit
             drop(notes);
             return Err(ImportFault::at(number, kind));
         }

@@ -1,4 +1,4 @@
-//! An event as a step.
+//! An event as a step. A text that the tables don't have yet gets a number in them.
 ghost use Rattle.std.specs.Prelude.{◌≡◌, ◌∷◌, [], ℕ, Err, IfOk, IfSome, OnOk, is_some, not};
 ghost use Rattle.std.specs.FinSet as set;
 ghost use Rattle.serde_json.specs.View.{view, items_view};
@@ -18,7 +18,7 @@ use payload_core::Word;
 use serde_json::Value;
 use std::alloc::{Allocator, Global};
 
-/// What a join and an update say of a process.
+/// What a join, an update or a listed row says of a process.
 #[derive(Drop)]
 pub(crate) struct Presence<A: Allocator> {
     pub pid: u64,
@@ -27,7 +27,7 @@ pub(crate) struct Presence<A: Allocator> {
     pub metadata: Word<A>,
 }
 
-/// What stands for a presence.
+/// The number of the process, and the words of a presence. New texts get numbers in the tables.
 pub(crate) fn presence_for<A: Allocator + Copy>(
     heap: Global,
     alloc: A,
@@ -69,7 +69,8 @@ fn leave_for<A: Allocator + Copy>(
     Ok(Step::Leave { pid, topic, key })
 }
 
-/// The sender of a message and the number of the message among all.
+/// The number of the node that sent a message, and that of the message in the tables. A new node or message gets the
+/// next number.
 fn taken_from<A: Allocator + Copy>(
     heap: Global,
     tables: &mut Tables<A>,
@@ -87,7 +88,8 @@ fn taken_from<A: Allocator + Copy>(
     Ok((sender, message as u64))
 }
 
-/// The nodes with these names, each of which is a text.
+/// The nodes with these names, of which new ones get numbers in the tables. Values that aren't texts are passed over;
+/// an event has no such values.
 fn nodes_for<A: Allocator + Copy>(
     tables: &mut Tables<A>,
     names: &[Value],
@@ -146,7 +148,7 @@ fn update_for<A: Allocator + Copy>(
     })
 }
 
-/// The step that stands for a change of the own presences.
+/// The step that stands for a change of the node's own presences; `None` for other events.
 fn own_step_for<A: Allocator + Copy>(
     heap: Global,
     alloc: A,
@@ -178,7 +180,8 @@ fn answer_for<A: Allocator + Copy>(
     from: &str,
     message: &Value,
 ) -> Result<Step<A>, NoteFault>
-    ensures step { IfOk result (λ s. (n : ℕ) × (k : ℕ) × (plain s ≡ Answer n k) × IsNodeOf (all_of tables.new) from.now n × IsMessageOf (all_of tables.new) n (view message.now) k) }
+    ensures step { IfOk result (λ s. (n : ℕ) × (k : ℕ) × (plain s ≡ Answer n k) × IsNodeOf (all_of tables.new) from.now n
+        × IsMessageOf (all_of tables.new) n (view message.now) k) }
     ensures seen { OnOk result (SeesNodes (all_of tables.old) (all_of tables.new) (from.now ∷ [])) }
     ensures kept { Keeps (all_of tables.old) (all_of tables.new) }
     ensures many { result ≡ Err NoteFault.TooManyNodes → HasTooMany (all_of tables.old) (from.now ∷ []) }
@@ -203,7 +206,7 @@ fn deliver_for<A: Allocator + Copy>(
     Ok(Step::Deliver { sender, number })
 }
 
-/// The step that stands for an event which sends or takes a message.
+/// The step that stands for an event that sends or takes a message; `None` for other events.
 fn message_step_for<A: Allocator + Copy>(
     heap: Global,
     tables: &mut Tables<A>,
@@ -231,7 +234,7 @@ fn message_step_for<A: Allocator + Copy>(
     }
 }
 
-/// The step that stands for a status.
+/// The step that stands for an up, a down or a permanently down; `None` for other events.
 fn status_for<A: Allocator + Copy>(
     tables: &mut Tables<A>,
     event: &LogEvent<'_>,
@@ -256,7 +259,7 @@ fn status_for<A: Allocator + Copy>(
     }
 }
 
-/// The step that stands for an event. There is none for an event that lists rows.
+/// The step that stands for an event; `None` for an event that lists rows. New texts get numbers in the tables.
 pub(crate) fn step_for<A: Allocator + Copy>(
     heap: Global,
     alloc: A,
@@ -278,7 +281,8 @@ pub(crate) fn step_for<A: Allocator + Copy>(
     }
 }
 
-/// The number of the message that an event of a node sends.
+/// The number in the tables of the message that an event of the node sends; `None` if it sends none. A new message gets
+/// the next number.
 pub(crate) fn sent_by<A: Allocator + Copy>(
     heap: Global,
     tables: &mut Tables<A>,
@@ -289,6 +293,7 @@ pub(crate) fn sent_by<A: Allocator + Copy>(
     ensures same_nodes { tables.new.nodes ≡ tables.old.nodes }
     ensures kept { Keeps (all_of tables.old) (all_of tables.new) }
 {
+    // form: each arm is a case of the proof
     match event {
         LogEvent::Broadcast(message) => Ok(Some(tables.message(heap, node, message)?)),
         LogEvent::Request(message) => Ok(Some(tables.message(heap, node, message)?)),

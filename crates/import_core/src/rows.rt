@@ -1,4 +1,4 @@
-//! The rows that a real node listed, as rows of the bench.
+//! The rows that a real node listed, as rows of an online list of the bench.
 ghost use Rattle.std.specs.Prelude.{◌≡◌, ◌++◌, ◌∷◌, [], Err, IfOk, OnOk};
 ghost use Rattle.serde_json.specs.View.{items_view};
 ghost use Rattle.log_core.specs.Views.{event as shown_event, row as shown_row};
@@ -15,7 +15,8 @@ use log_core::{LogEvent, Row, row_at};
 use serde_json::Value;
 use std::alloc::{Allocator, Global};
 
-/// What stands for a row, at the clock 0: a real node lists no clocks.
+/// A listed row as one of the bench, with clock 0, since a real node lists no clocks. New texts get numbers in the
+/// tables.
 fn row_for<A: Allocator + Copy>(
     heap: Global,
     alloc: A,
@@ -49,7 +50,8 @@ fn add_row<A: Allocator + Copy>(
     Ok(())
 }
 
-/// The rows that stand for these values, each of which is a row.
+/// The listed rows as rows of the bench. Values that aren't rows are passed over; an event has no such values. New
+/// texts get numbers in the tables.
 fn rows_for<A: Allocator + Copy>(
     heap: Global,
     alloc: A,
@@ -71,7 +73,7 @@ fn rows_for<A: Allocator + Copy>(
     Ok(rows)
 }
 
-/// The rows that stand for those of an event, if it lists some.
+/// The rows that an event lists, as rows of the bench; none if it lists none. New texts get numbers in the tables.
 pub(crate) fn listed_for<A: Allocator + Copy>(
     heap: Global,
     alloc: A,

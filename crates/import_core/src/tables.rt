@@ -1,4 +1,4 @@
-//! `Tables`: what stands for what.
+//! `Tables`: which number stands for which text.
 ghost use Rattle.std.specs.Prelude.{◌≡◌, ◌<◌, ◌^◌, ◌++◌, Some, Err, IfOk, OnOk, length, string_bytes, decimal, codes};
 ghost use Rattle.serde_json.specs.View.{view};
 ghost use Rattle.import_core.specs.Tables.{IsTextOf, IsWordOf, IsNumberOf, IsNodeOf, IsMessageOf, Extends, Keeps, all_of, no_tables, message_text};
@@ -14,8 +14,8 @@ use serde_json::Value;
 use spelling_core::{LONGEST, word_of};
 use std::alloc::{Allocator, Global};
 
-/// The texts of nodes, of processes, of messages with their senders, and of the values whose words are cut, each numbered by first
-/// sight.
+/// The texts of nodes, of processes, of messages with their senders, and of the values whose words are cut. Each has a
+/// number, counted from 0, in the order of first sight.
 #[derive(Drop)]
 pub struct Tables<A: Allocator> {
     pub nodes: TextSet<A>,
@@ -24,7 +24,7 @@ pub struct Tables<A: Allocator> {
     pub longs: TextSet<A>,
 }
 
-/// The number of a value among those with these texts.
+/// The number of a value's text among `texts`. A new text gets the next number.
 fn number_in<A: Allocator + Copy>(
     heap: Global,
     texts: &mut TextSet<A>,
@@ -37,7 +37,7 @@ fn number_in<A: Allocator + Copy>(
     Ok(numbered(texts, &text)? as u64)
 }
 
-/// The word of a value.
+/// The word of a value. If the word must be cut, the value gets a number among `longs`.
 fn word_in<A: Allocator + Copy>(
     heap: Global,
     alloc: A,
@@ -56,7 +56,7 @@ fn word_in<A: Allocator + Copy>(
     word_of(alloc, &spelling, number)
 }
 
-/// A message as a text: the number of its sender, and the text of its value.
+/// The text by which a message is known: the number of its sender, and the text of its value.
 fn message_text(heap: Global, sender: u16, text: &str) -> Result<String, Oom>
     ensures { IfOk result (λ s. string_bytes s ≡ message_text sender text.now) }
 {
@@ -65,7 +65,7 @@ fn message_text(heap: Global, sender: u16, text: &str) -> Result<String, Oom>
 }
 
 impl<A: Allocator + Copy> Tables<A> {
-    /// Tables in which nothing stands for anything yet.
+    /// Empty tables: nothing has a number yet.
     pub(crate) fn new(alloc: A) -> Tables<A>
         ensures { all_of result ≡ no_tables }
     {
@@ -77,7 +77,7 @@ impl<A: Allocator + Copy> Tables<A> {
         }
     }
 
-    /// The word of a value.
+    /// The word of a value as a topic, a key or metadata. A value whose word must be cut gets a number.
     pub(crate) fn word(&mut self, heap: Global, alloc: A, value: &Value) -> Result<Word<A>, Oom>
         ensures word { IfOk result (λ word. IsWordOf self.new.longs (view value.now) word) }
         ensures same_nodes { self.new.nodes ≡ self.old.nodes }
@@ -86,7 +86,7 @@ impl<A: Allocator + Copy> Tables<A> {
         word_in(heap, alloc, &mut self.longs, value)
     }
 
-    /// The number of a process.
+    /// The number of a process. A process that wasn't seen before gets the next number.
     pub(crate) fn pid(&mut self, heap: Global, value: &Value) -> Result<u64, Oom>
         ensures pid { IfOk result (λ pid. IsNumberOf self.new.pids (view value.now) pid) }
         ensures same_nodes { self.new.nodes ≡ self.old.nodes }
@@ -95,7 +95,8 @@ impl<A: Allocator + Copy> Tables<A> {
         number_in(heap, &mut self.pids, value)
     }
 
-    /// The number of a node.
+    /// The number of the node with this name. A node that wasn't seen before gets the next number. `TooManyNodes` if
+    /// the number is above 31; the name stays in the tables then, too.
     pub(crate) fn node(&mut self, name: &str) -> Result<u16, NoteFault>
         ensures node { IfOk result (λ node. IsNodeOf (all_of self.new) name.now node) }
         ensures few { IfOk result (λ node. node < 32) }
@@ -110,7 +111,7 @@ impl<A: Allocator + Copy> Tables<A> {
         Ok(number as u16)
     }
 
-    /// The number of a message of this sender.
+    /// The number of this sender's message. A message that wasn't seen before gets the next number.
     pub(crate) fn message(&mut self, heap: Global, sender: u16, value: &Value) -> Result<usize, Oom>
         ensures message { IfOk result (λ message. IsMessageOf (all_of self.new) sender (view value.now) message) }
         ensures same_nodes { self.new.nodes ≡ self.old.nodes }

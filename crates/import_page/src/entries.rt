@@ -1,4 +1,4 @@
-//! The events as JSON, one after another.
+//! The events as JSON, in the order in which they are played.
 ghost use Rattle.std.specs.Prelude.{◌≡◌, ◌++◌, ◌<◌, ℕ, List, OnOk, length, map, option_map, string_bytes};
 ghost use Rattle.std.specs.List.{All};
 ghost use Rattle.node_core.specs.Operations.{plain};
@@ -16,17 +16,18 @@ use page_data::{put_comma, put_number_key, put_text_key};
 use payload_core::Oom;
 use std::alloc::{Allocator, Global};
 
-/// The line of this number.
+/// The line with this number, counted from 1; empty if there are fewer lines.
 fn line_of<'l>(lines: &[&'l [u8]], number: u64) -> &'l [u8]
     ensures { result.now ≡ line_of (map (λ line. line.now) lines.now) number }
 {
+    // form: saturating spares a requirement
     match lines.get(number.saturating_sub(1) as usize) {
         Some(line) => line,
         None => &[],
     }
 }
 
-/// `,"time":"TIME"`, where there is one.
+/// Appends `,"time":"TIME"`, if the line has a time.
 fn put_time<A: Allocator>(text: &mut String<A>, time: &Option<String>) -> Result<(), Oom>
     ensures { OnOk result (string_bytes text.new ≡ string_bytes text.old ++ time_key (option_map string_bytes time.now)) }
 {
@@ -36,7 +37,8 @@ fn put_time<A: Allocator>(text: &mut String<A>, time: &Option<String>) -> Result
     }
 }
 
-/// `{"line":L,"time":"TIME"`.
+/// Appends `{"line":L,"time":"TIME"`, where L is `number`, with no `time` if the line has none, and with a comma before
+/// it unless `place` is 0.
 #[tactic(auto, unfolding(crate::specs::Entries::head_text))]
 fn put_head<A: Allocator>(
     text: &mut String<A>,
@@ -51,7 +53,8 @@ fn put_head<A: Allocator>(
     put_time(text, time)
 }
 
-/// `,"node":N,"unsent":true`.
+/// Appends `,"node":N,"unsent":true`, where N is `node`, for an event whose step can't be asked (see `asked` of
+/// `import_report`).
 #[tactic(auto, unfolding(crate::specs::Entries::unsent_text))]
 fn put_unsent<A: Allocator>(text: &mut String<A>, node: u16) -> Result<(), Oom>
     ensures { OnOk result (string_bytes text.new ≡ string_bytes text.old ++ unsent_text node) }
@@ -60,7 +63,8 @@ fn put_unsent<A: Allocator>(text: &mut String<A>, node: u16) -> Result<(), Oom>
     Ok(text.push_str(",\"unsent\":true")?)
 }
 
-/// Asks the bench a step of an event.
+/// Plays the step of an event on the bench, and notes in `numbers` what the step sent, as `play` does. The reply plays
+/// no part here.
 #[tactic(auto, unfolding(import_report::specs::Events::after_step))]
 fn ask<'a, B: Allocator>(
     bench: &mut Bench<'a, B>,
@@ -68,11 +72,14 @@ fn ask<'a, B: Allocator>(
     note: &Noted<&'a B>,
     step: Step<&'a B>,
 ) -> Result<(), Oom>
-    ensures bench { OnOk result (bench.new ≡ (after_step (record { machine = bench.old; numbers = numbers.old }) note.now.logged.node note.now.logged.sends (plain step.entry)).machine) }
-    ensures numbers { OnOk result (numbers.new ≡ (after_step (record { machine = bench.old; numbers = numbers.old }) note.now.logged.node note.now.logged.sends (plain step.entry)).numbers) }
+    ensures bench { OnOk result (bench.new ≡
+        (after_step (record { machine = bench.old; numbers = numbers.old }) note.now.logged.node note.now.logged.sends (plain step.entry)).machine) }
+    ensures numbers { OnOk result (numbers.new ≡
+        (after_step (record { machine = bench.old; numbers = numbers.old }) note.now.logged.node note.now.logged.sends (plain step.entry)).numbers) }
 {
     let act = Act::Do(step);
     let played = play(bench, numbers, note.logged.node, note.logged.sends, &act);
+    // form: drop before exit
     drop(act);
     match played {
         Ok(_reply) => Ok(()),
@@ -80,7 +87,8 @@ fn ask<'a, B: Allocator>(
     }
 }
 
-/// Plays an event, and appends what it tells besides its call.
+/// Plays an event, and appends what it tells besides its call. A list tells the rows that only the event's list or only
+/// the bench's has. A step that can't be asked (see `asked`) tells that it can't. Other steps tell nothing more.
 #[tactic(auto, unfolding(import_report::specs::Events::after_event))]
 fn put_told<'a, B: Allocator>(
     bench: &mut Bench<'a, B>,
@@ -103,7 +111,8 @@ fn put_told<'a, B: Allocator>(
     }
 }
 
-/// Plays the event at this place, and appends what it tells.
+/// Plays the event that is at `place` in the order, and appends its entry: its line number, its time, and what it tells
+/// (see `put_told`).
 fn put_entry<'a, B: Allocator>(
     bench: &mut Bench<'a, B>,
     text: &mut String<&'a B>,
@@ -125,7 +134,7 @@ fn put_entry<'a, B: Allocator>(
     Ok(text.push_str("}")?)
 }
 
-/// Plays the events in this order, and appends what each tells.
+/// Plays the events in this order, and appends the entry of each. `order` has their places in `notes`.
 pub(crate) fn put_entries<'a, B: Allocator>(
     bench: &mut Bench<'a, B>,
     text: &mut String<&'a B>,
@@ -138,8 +147,10 @@ pub(crate) fn put_entries<'a, B: Allocator>(
 ) -> Result<(), Oom>
     requires { All (λ place. place < length notes.now) order.now }
     ensures told { OnOk result ((told : List ℕ) × (string_bytes text.new ≡ string_bytes text.old ++ told)
-        × AreEntries (map (λ line. line.now) lines.now) (record { machine = bench.old; numbers = numbers.old }) 0 (in_order (map note_of notes.now) order.now) told) }
-    ensures bench { OnOk result (bench.new ≡ (after_events (record { machine = bench.old; numbers = numbers.old }) (in_order (map note_of notes.now) order.now)).machine) }
+        × AreEntries (map (λ line. line.now) lines.now) (record { machine = bench.old; numbers = numbers.old }) 0
+        (in_order (map note_of notes.now) order.now) told) }
+    ensures bench { OnOk result (bench.new ≡
+        (after_events (record { machine = bench.old; numbers = numbers.old }) (in_order (map note_of notes.now) order.now)).machine) }
 {
     for (index, place) in order.iter().enumerate() {
         let note = &notes[*place];

@@ -1,4 +1,4 @@
-//! From the bytes of logs to a bench, and to what the logs tell besides its calls.
+//! From the bytes of logs to a bench, and to what the logs tell besides the bench's calls.
 ghost use Rattle.std.specs.Prelude.{◌≡◌, ◌<◌, ◌≤◌, ◌++◌, ℕ, List, IfOk, IfErr, OnOk, length, map, string_bytes};
 ghost use Rattle.std.specs.List.{All};
 ghost use Rattle.log_core.specs.Lines.{lines_of};
@@ -18,7 +18,7 @@ use page_data::put_texts;
 use payload_core::Oom;
 use std::alloc::{Allocator, Global};
 
-/// What the line feeds divide.
+/// The lines of the input, which line feeds divide.
 fn lines_of<A: Allocator>(alloc: A, bytes: &[u8]) -> Result<Vec<&[u8], A>, Oom>
     ensures { IfOk result (λ lines. map (λ line. line.now) lines.items ≡ lines_of bytes.now) }
 {
@@ -29,11 +29,12 @@ fn lines_of<A: Allocator>(alloc: A, bytes: &[u8]) -> Result<Vec<&[u8], A>, Oom>
 #[derive(Drop)]
 pub struct Shown<'a, B: Allocator> {
     pub bench: Bench<'a, B>,
-    /// The further keys of the data of a page.
+    /// Further keys of the data of a page, as JSON, each after a comma.
     pub keys: String<&'a B>,
 }
 
-/// The nodes' own names, the values of the processes and of the words that were cut, and the events.
+/// The keys of a page's data that tell of the logs: `names` has the nodes' own names, `pids` the values of processes,
+/// `cut` the values of words that were cut, and `events` the text `entries`.
 #[tactic(auto, unfolding(crate::specs::Keys::keys_text))]
 fn keys_text<A: Allocator + Copy>(
     alloc: A,
@@ -55,7 +56,8 @@ fn keys_text<A: Allocator + Copy>(
     Ok(keys)
 }
 
-/// Plays the events of an import.
+/// Plays the events of an import on a fresh bench. Gives the bench, and the text of the JSON objects that tell of the
+/// events (see `put_entries`).
 fn played<'a, B: Allocator>(
     heap: Global,
     alloc: &'a B,
@@ -89,13 +91,14 @@ fn played<'a, B: Allocator>(
     match put {
         Ok(()) => Ok((bench, entries)),
         Err(oom) => {
+            // form: drop before exit
             drop(bench);
             Err(oom)
         }
     }
 }
 
-/// An import as a page shows it.
+/// The bench and the keys of an import.
 fn shown_of<'a, B: Allocator>(
     heap: Global,
     alloc: &'a B,
@@ -116,21 +119,23 @@ fn shown_of<'a, B: Allocator>(
     match keys_text(alloc, &import.tables, entries.as_str()) {
         Ok(keys) => Ok(Shown { bench, keys }),
         Err(oom) => {
+            // form: drop before exit
             drop(bench);
             Err(oom)
         }
     }
 }
 
-/// The lines of what was left out.
+/// The line numbers of the deliveries and answers that were left out, taken out of the import.
 fn left_out_of<A: Allocator>(import: Import<A>) -> Vec<u64, A>
     ensures { result.items ≡ import.left_out.items }
 {
+    // form: takes the import apart in a function of its own
     import.left_out
 }
 
-/// The bench that the events of these logs leave, with these limits; what they tell besides its calls; and the lines of
-/// the deliveries and answers that were left out. Only a `lenient` import leaves out any.
+/// The bench on which the events of these logs were played, with these limits; what the logs tell besides its calls;
+/// and the line numbers of the deliveries and answers that were left out, which only a `lenient` import has.
 pub fn import_shown<'a, B: Allocator>(
     heap: Global,
     alloc: &'a B,
@@ -142,6 +147,7 @@ pub fn import_shown<'a, B: Allocator>(
     ensures refused { IfErr result (IsImportFault lenient bytes.now) }
 {
     let import = imported(heap, alloc, lenient, bytes)?;
+    // form: one way out, behind the import
     let shown = shown_of(heap, alloc, limits, bytes, &import);
     let left_out = left_out_of(import);
     let shown = shown?;

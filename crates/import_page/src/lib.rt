@@ -1,8 +1,10 @@
-//! What logs tell on a page besides the calls of the bench on which they were played: the data's further keys.
+//! What logs tell on a page besides the calls of the bench on which they were played: further keys of the page's data.
 //!
-//! It stands on `import_report`, which plays events, on `listed_core` for what a real node listed, and on `page_data` for JSON. In
-//! the order to read them: `times`, the time of a line; `rows`, lists that part; `entries`, an event; `importing`, from the bytes
-//! of logs to the keys; `laws`, which says that no `<` stands in them.
+//! The crate stands on `import_core` for the events and their order, on `import_report`, which plays events, on
+//! `log_core` for the value of a line, on `listed_core` for what a real node listed, on `bench_core` for the bench, and
+//! on `page_data` for JSON. It names the plain types of the crates below. The modules in reading order: `times`, the
+//! time of a line; `rows`, where lists part; `entries`, an event; `importing`, from the bytes of logs to the keys;
+//! `laws`, which says that no `<` stands in the keys.
 #![tactic(auto)]
 
 mod entries;
@@ -13,5 +15,5 @@ mod times;
 
 pub use importing::{Shown, import_shown};
 
-/// Want of memory. It is std's error, so that `?` on a call of std gives it.
+/// A request for memory was refused. This is std's error, so `?` on a call of std passes it on.
 pub use payload_core::Oom;

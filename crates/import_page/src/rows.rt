@@ -1,4 +1,4 @@
-//! Lists that real nodes listed, against those of a bench.
+//! Where lists of real nodes and of the bench part, as JSON.
 ghost use Rattle.std.specs.Prelude.{◌≡◌, ◌++◌, ℕ, List, OnOk, string_bytes};
 ghost use Rattle.import_core.specs.Notes.{note_of};
 ghost use Rattle.report_core.specs.Shown.{rows_at};
@@ -13,7 +13,7 @@ use page_data::{put_comma, put_number_key, put_word};
 use payload_core::Oom;
 use std::alloc::Allocator;
 
-/// `[NAME,"PID"`.
+/// Appends `[NAME,"PID"`, where NAME is the number of the row's node.
 #[tactic(auto, unfolding(crate::specs::Entries::row_head))]
 fn put_row_head<A: Allocator>(text: &mut String<A>, name: u16, pid: u64) -> Result<(), Oom>
     ensures { OnOk result (string_bytes text.new ≡ string_bytes text.old ++ row_head name pid) }
@@ -21,7 +21,7 @@ fn put_row_head<A: Allocator>(text: &mut String<A>, name: u16, pid: u64) -> Resu
     Ok(write!(text, "[{name},\"{pid}\"")?)
 }
 
-/// A row.
+/// Appends a row as `[NAME,"PID","TOPIC","KEY","META"]`.
 #[tactic(auto, unfolding(crate::specs::Entries::row_text))]
 fn put_row<A: Allocator, R: Allocator>(text: &mut String<A>, row: &OnlineRow<R>) -> Result<(), Oom>
     ensures { OnOk result (string_bytes text.new ≡ string_bytes text.old ++ row_text row.now) }
@@ -33,7 +33,7 @@ fn put_row<A: Allocator, R: Allocator>(text: &mut String<A>, row: &OnlineRow<R>)
     Ok(text.push_str("]")?)
 }
 
-/// The rows, separated by commas.
+/// Appends the rows, separated by commas.
 fn put_rows<A: Allocator, R: Allocator>(
     text: &mut String<A>,
     rows: &[OnlineRow<R>],
@@ -47,7 +47,8 @@ fn put_rows<A: Allocator, R: Allocator>(
     Ok(())
 }
 
-/// The rows that only the bench has, and those that only the real node listed.
+/// Appends `,"node":N,"online":[[OURS],[THEIRS]]`, where N is `node`. `OURS` are the rows that only the bench has
+/// (`ours`), `THEIRS` those that only the real node listed (`theirs`).
 #[tactic(auto, unfolding(crate::specs::Entries::list_text))]
 fn put_list<A: Allocator, R: Allocator>(
     text: &mut String<A>,
@@ -65,7 +66,8 @@ fn put_list<A: Allocator, R: Allocator>(
     Ok(text.push_str("]]")?)
 }
 
-/// A list that a real node listed, against that of the bench.
+/// Compares the list of an event with the bench's list of its node, and appends the rows that only one of the lists
+/// has.
 pub(crate) fn put_listed<'a, B: Allocator>(
     bench: &Bench<'a, B>,
     text: &mut String<&'a B>,
@@ -77,6 +79,7 @@ pub(crate) fn put_listed<'a, B: Allocator>(
 {
     let rows = rows_at(bench, note.logged.node, alloc)?;
     let found = compared(alloc, &note.rows, &rows);
+    // form: drop before exit
     drop(rows);
     let found = found?;
     let put = put_list(text, note.logged.node, &found.joined, &found.left);

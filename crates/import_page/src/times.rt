@@ -10,14 +10,14 @@ use payload_core::Oom;
 use serde_json::Value;
 use std::alloc::Global;
 
-/// The text of a value, as JSON.
+/// The JSON text of a value.
 fn text_of(heap: Global, value: &Value) -> Result<String, Oom>
     ensures { IfOk result (λ s. IsTextOf (view value.now) (string_bytes s)) }
 {
     value.to_string(heap)
 }
 
-/// The text of a time: a string itself, or the text of a number.
+/// A time as a text: a string itself, or the JSON text of a number; `None` for other values.
 fn told(heap: Global, value: &Value) -> Result<Option<String>, Oom>
     ensures { IfOk result (λ time. IsTimeBy (as_str (view value.now)) (as_number (view value.now)) (view value.now) (option_map string_bytes time)) }
 {
@@ -30,7 +30,7 @@ fn told(heap: Global, value: &Value) -> Result<Option<String>, Oom>
     Ok(Some(text_of(heap, value)?))
 }
 
-/// The time that a value has.
+/// The time that the value has under `time`, as a text; `None` if nothing is there, or neither a string nor a number.
 fn time_of(heap: Global, value: &Value) -> Result<Option<String>, Oom>
     ensures { IfOk result (λ time. IsTimeOf (view value.now) (option_map string_bytes time)) }
 {
@@ -40,7 +40,7 @@ fn time_of(heap: Global, value: &Value) -> Result<Option<String>, Oom>
     }
 }
 
-/// The time that a line has.
+/// The time of a line; `None` if the line has none, is blank, is too long or isn't JSON.
 pub(crate) fn time_on(heap: Global, line: &[u8]) -> Result<Option<String>, Oom>
     ensures { IfOk result (λ time. IsTimeOn line.now (option_map string_bytes time)) }
 {

@@ -1,10 +1,11 @@
-//! JSON in ASCII, where each character that is neither a visible byte nor a space is escaped.
+//! JSON in ASCII: each character that is neither a visible byte nor a space is escaped.
 ghost use Rattle.std.specs.Prelude.{◌≡◌, ◌++◌, ◌∷◌, [], ◌<◌, IfOk, OnOk, string_bytes};
 ghost use Rattle.import_report.specs.Ascii.{ascii_char, ascii_text, escaped_char, escaped_unit, hex_digit, string_char, string_text};
 
 use payload_core::Oom;
 use std::alloc::Allocator;
 
+/// The hexadecimal digit for `value`, in lower case. (`W` stands 10 before `a`.)
 fn hex_digit(value: u32) -> char
     requires { value < 16 }
     ensures { result ≡ hex_digit value }
@@ -16,7 +17,7 @@ fn hex_digit(value: u32) -> char
     }
 }
 
-/// A character of ASCII.
+/// Appends a character that is ASCII.
 fn put_ascii<A: Allocator>(text: &mut String<A>, c: char) -> Result<(), Oom>
     requires { c < 128 }
     ensures { OnOk result (string_bytes text.new ≡ string_bytes text.old ++ c ∷ []) }
@@ -24,7 +25,7 @@ fn put_ascii<A: Allocator>(text: &mut String<A>, c: char) -> Result<(), Oom>
     Ok(text.push(c)?)
 }
 
-/// One of the digits of a unit.
+/// Appends one hexadecimal digit.
 fn put_digit<A: Allocator>(text: &mut String<A>, value: u32) -> Result<(), Oom>
     requires { value < 16 }
     ensures { OnOk result (string_bytes text.new ≡ string_bytes text.old ++ hex_digit value ∷ []) }
@@ -32,7 +33,7 @@ fn put_digit<A: Allocator>(text: &mut String<A>, value: u32) -> Result<(), Oom>
     put_ascii(text, hex_digit(value))
 }
 
-/// A unit of UTF-16, as in `\u00e9`.
+/// Appends a unit of UTF-16, as in `\u00e9`.
 #[tactic(auto, unfolding(crate::specs::Ascii::escaped_unit))]
 fn put_unit<A: Allocator>(text: &mut String<A>, unit: u32) -> Result<(), Oom>
     ensures { OnOk result (string_bytes text.new ≡ string_bytes text.old ++ escaped_unit unit) }
@@ -44,7 +45,7 @@ fn put_unit<A: Allocator>(text: &mut String<A>, unit: u32) -> Result<(), Oom>
     put_digit(text, unit % 16)
 }
 
-/// The units of a character.
+/// Appends a character as one or two units of UTF-16.
 #[tactic(auto, unfolding(crate::specs::Ascii::escaped_char))]
 fn put_escaped<A: Allocator>(text: &mut String<A>, c: char) -> Result<(), Oom>
     ensures { OnOk result (string_bytes text.new ≡ string_bytes text.old ++ escaped_char c) }
@@ -57,6 +58,7 @@ fn put_escaped<A: Allocator>(text: &mut String<A>, c: char) -> Result<(), Oom>
     put_unit(text, 0xDC00 + (c - 0x10000) % 0x400)
 }
 
+/// Appends a character: a visible byte or a space as it is, any other one escaped.
 #[tactic(auto, unfolding(crate::specs::Ascii::ascii_char))]
 fn put_char<A: Allocator>(text: &mut String<A>, c: char) -> Result<(), Oom>
     ensures { OnOk result (string_bytes text.new ≡ string_bytes text.old ++ ascii_char c) }
@@ -67,7 +69,7 @@ fn put_char<A: Allocator>(text: &mut String<A>, c: char) -> Result<(), Oom>
     put_escaped(text, c)
 }
 
-/// A character of a string.
+/// Appends a character of a string, with `\` before a quotation mark or another `\`.
 #[tactic(auto, unfolding(crate::specs::Ascii::string_char))]
 fn put_string_char<A: Allocator>(text: &mut String<A>, c: char) -> Result<(), Oom>
     ensures { OnOk result (string_bytes text.new ≡ string_bytes text.old ++ string_char c) }
@@ -79,7 +81,7 @@ fn put_string_char<A: Allocator>(text: &mut String<A>, c: char) -> Result<(), Oo
     put_char(text, c)
 }
 
-/// The text of a value of JSON in ASCII.
+/// This JSON text, in ASCII.
 pub(crate) fn ascii_text<A: Allocator>(alloc: A, json: &str) -> Result<String<A>, Oom>
     ensures { IfOk result (λ s. string_bytes s ≡ ascii_text json.now) }
 {
@@ -90,7 +92,7 @@ pub(crate) fn ascii_text<A: Allocator>(alloc: A, json: &str) -> Result<String<A>
     Ok(text)
 }
 
-/// What stands between the quotation marks of a string of JSON in ASCII.
+/// What stands between the quotation marks of a JSON string in ASCII.
 pub(crate) fn string_text<A: Allocator>(alloc: A, string: &str) -> Result<String<A>, Oom>
     ensures { IfOk result (λ s. string_bytes s ≡ string_text string.now) }
 {

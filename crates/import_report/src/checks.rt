@@ -1,4 +1,4 @@
-//! Where the bench and the real nodes part, event by event.
+//! Tells where the bench and the real nodes part, event by event.
 ghost use Rattle.std.specs.Prelude.{◌≡◌, ◌++◌, ◌<◌, ◌==◌, ℕ, Bool, List, IfOk, OnOk, length, map, not, string_bytes};
 ghost use Rattle.std.specs.List.{All};
 ghost use Rattle.node_core.specs.Operations.{plain};
@@ -21,7 +21,7 @@ use payload_core::Oom;
 use report_core::{name_at, node, put_lines};
 use std::alloc::Allocator;
 
-/// `line L NODE`.
+/// Appends `line L NODE`, where L is the number of the event's line in the logs, without a line feed.
 #[tactic(auto, unfolding(crate::specs::Checks::place_text))]
 fn put_place<A: Allocator, N: Allocator, W: Allocator>(
     text: &mut String<A>,
@@ -35,7 +35,8 @@ fn put_place<A: Allocator, N: Allocator, W: Allocator>(
     Ok(write!(text, "line {number} {node}")?)
 }
 
-/// The rows that only the bench has, and those that only the real node listed; nothing where there are none.
+/// Appends the line `line L NODE`, then the rows that only the bench has (`ours`), and then those that only the real
+/// node listed (`theirs`). Appends nothing if there are no such rows.
 #[tactic(auto, unfolding(crate::specs::Checks::list_text))]
 fn put_list<A: Allocator, N: Allocator, W: Allocator>(
     text: &mut String<A>,
@@ -54,7 +55,7 @@ fn put_list<A: Allocator, N: Allocator, W: Allocator>(
     put_lines(text, names, ours, theirs)
 }
 
-/// The online list of a node.
+/// The online list of a node of the bench; empty if there is no such node.
 #[tactic(auto, unfolding(report_core::specs::Shown::rows_at))]
 pub fn rows_at<'a, B: Allocator>(
     bench: &Bench<'a, B>,
@@ -69,8 +70,8 @@ pub fn rows_at<'a, B: Allocator>(
     }
 }
 
-/// Compares a list that a real node listed with that of the bench, appends where they part, and gives whether they
-/// agree.
+/// Compares the list that a real node listed (in `note`) with the bench's list of that node. Appends where the two
+/// lists part, and says whether they agree.
 fn check_list<'a, B: Allocator>(
     bench: &Bench<'a, B>,
     text: &mut String<&'a B>,
@@ -82,6 +83,7 @@ fn check_list<'a, B: Allocator>(
 {
     let rows = rows_at(bench, note.logged.node, alloc)?;
     let found = compared(alloc, &note.rows, &rows);
+    // form: drop before exit
     drop(rows);
     let found = found?;
     let agrees = found.joined.is_empty() && found.left.is_empty();
@@ -91,7 +93,7 @@ fn check_list<'a, B: Allocator>(
     Ok(agrees)
 }
 
-/// `line L NODE no message`.
+/// Tells of an event whose step can't be asked (see `asked`): appends `line L NODE no message`, and a line feed.
 #[tactic(auto, unfolding(crate::specs::Checks::unsent_text))]
 fn put_unsent<A: Allocator, N: Allocator, W: Allocator>(
     text: &mut String<A>,
@@ -104,7 +106,7 @@ fn put_unsent<A: Allocator, N: Allocator, W: Allocator>(
     Ok(text.push_str(" no message\n")?)
 }
 
-/// `line L NODE no NAME`, where the bench refuses a step.
+/// Appends `line L NODE no FAULT`, and a line feed, if the reply is a refusal.
 #[tactic(auto, unfolding(crate::specs::Checks::refusal_text))]
 fn put_refusal<A: Allocator, N: Allocator, W: Allocator>(
     text: &mut String<A>,
@@ -121,7 +123,7 @@ fn put_refusal<A: Allocator, N: Allocator, W: Allocator>(
     Ok(writeln!(text, " no {fault}")?)
 }
 
-/// Plays a step of an event, and appends its refusal, if any.
+/// Plays the step of an event (see `play`), and appends its refusal, if it is refused.
 #[tactic(auto, unfolding(crate::specs::Events::after_step))]
 fn check_step<'a, B: Allocator>(
     bench: &mut Bench<'a, B>,
@@ -130,17 +132,23 @@ fn check_step<'a, B: Allocator>(
     note: &Noted<&'a B>,
     step: Step<&'a B>,
 ) -> Result<(), Oom>
-    ensures text { OnOk result (string_bytes text.new ≡ string_bytes text.old ++ refusal_text bench.old.names (note_of note.now) (reply_of bench.old note.now.logged.node (Do (plain step.entry)))) }
-    ensures bench { OnOk result (bench.new ≡ (after_step (record { machine = bench.old; numbers = numbers.old }) note.now.logged.node note.now.logged.sends (plain step.entry)).machine) }
-    ensures numbers { OnOk result (numbers.new ≡ (after_step (record { machine = bench.old; numbers = numbers.old }) note.now.logged.node note.now.logged.sends (plain step.entry)).numbers) }
+    ensures text { OnOk result (string_bytes text.new ≡ string_bytes text.old ++ refusal_text bench.old.names (note_of note.now)
+        (reply_of bench.old note.now.logged.node (Do (plain step.entry)))) }
+    ensures bench { OnOk result (bench.new ≡
+        (after_step (record { machine = bench.old; numbers = numbers.old }) note.now.logged.node note.now.logged.sends (plain step.entry)).machine) }
+    ensures numbers { OnOk result (numbers.new ≡
+        (after_step (record { machine = bench.old; numbers = numbers.old }) note.now.logged.node note.now.logged.sends (plain step.entry)).numbers) }
 {
     let act = Act::Do(step);
     let played = play(bench, numbers, note.logged.node, note.logged.sends, &act);
+    // form: drop before exit
     drop(act);
     put_refusal(text, bench.names(), note, played?)
 }
 
-/// Checks an event against the bench before it: appends where they part, notes whether lists agree, and plays it.
+/// Checks an event. Plays its step, and appends the step's refusal, if it is refused; or appends that the step can't be
+/// asked. If the event is a list, compares it with the bench's list, appends where the two part, and notes in
+/// `agreements` whether they agree.
 #[tactic(auto, unfolding(crate::specs::Checks::IsEventChecked, crate::specs::Events::after_event))]
 fn check_event<'a, B: Allocator>(
     bench: &mut Bench<'a, B>,
@@ -150,7 +158,8 @@ fn check_event<'a, B: Allocator>(
     note: &Noted<&'a B>,
     alloc: &'a B,
 ) -> Result<(), Oom>
-    ensures told { OnOk result ((here : List Bool) × (now : List ℕ) × (agreements.new.items ≡ agreements.old.items ++ here) × (string_bytes text.new ≡ string_bytes text.old ++ now)
+    ensures told { OnOk result ((here : List Bool) × (now : List ℕ) × (agreements.new.items ≡ agreements.old.items ++ here)
+        × (string_bytes text.new ≡ string_bytes text.old ++ now)
         × IsEventChecked bench.old.names (record { machine = bench.old; numbers = numbers.old }) (note_of note.now) here now) }
     ensures bench { OnOk result (bench.new ≡ (after_event (record { machine = bench.old; numbers = numbers.old }) (note_of note.now)).machine) }
     ensures numbers { OnOk result (numbers.new ≡ (after_event (record { machine = bench.old; numbers = numbers.old }) (note_of note.now)).numbers) }
@@ -166,7 +175,7 @@ fn check_event<'a, B: Allocator>(
     }
 }
 
-/// Checks the events in this order.
+/// Checks the events in this order (see `check_event`). `order` has their places in `notes`.
 fn check_events<'a, B: Allocator>(
     bench: &mut Bench<'a, B>,
     text: &mut String<&'a B>,
@@ -177,7 +186,8 @@ fn check_events<'a, B: Allocator>(
     alloc: &'a B,
 ) -> Result<(), Oom>
     requires { All (λ place. place < length notes.now) order.now }
-    ensures { OnOk result ((found : List Bool) × (told : List ℕ) × (agreements.new.items ≡ agreements.old.items ++ found) × (string_bytes text.new ≡ string_bytes text.old ++ told)
+    ensures { OnOk result ((found : List Bool) × (told : List ℕ) × (agreements.new.items ≡ agreements.old.items ++ found)
+        × (string_bytes text.new ≡ string_bytes text.old ++ told)
         × AreChecked bench.old.names (record { machine = bench.old; numbers = numbers.old }) (in_order (map note_of notes.now) order.now) found told) }
 {
     for place in order {
@@ -186,7 +196,7 @@ fn check_events<'a, B: Allocator>(
     Ok(())
 }
 
-/// `agree K of N`.
+/// Appends `agree K of N`, and a line feed: of the N lists that were compared K agree.
 #[tactic(auto, unfolding(crate::specs::Checks::agree_line))]
 fn put_agree<A: Allocator>(text: &mut String<A>, agreements: &[bool]) -> Result<(), Oom>
     ensures { OnOk result (string_bytes text.new ≡ string_bytes text.old ++ agree_line agreements.now) }
@@ -196,7 +206,8 @@ fn put_agree<A: Allocator>(text: &mut String<A>, agreements: &[bool]) -> Result<
     Ok(writeln!(text, "agree {agree} of {all}")?)
 }
 
-/// Checks events in this order on a fresh bench, and gives whether they differ from it.
+/// Checks the events in this order, appends where the bench and the real nodes part and how many lists agree, and says
+/// whether bench and nodes part anywhere. The text must be empty.
 pub(crate) fn checked<'a, B: Allocator>(
     bench: &mut Bench<'a, B>,
     text: &mut String<&'a B>,

@@ -1,4 +1,4 @@
-//! What the names of nodes and the marks of cut words stand for, as comments.
+//! Comments that tell what the names of nodes and the marks of cut words stand for.
 ghost use Rattle.std.specs.Prelude.{◌≡◌, ◌++◌, ◌<◌, ◌≤◌, ◌^◌, true, IfOk, OnOk, length, string_bytes};
 ghost use Rattle.grammar_core.specs.Words.{is_text};
 ghost use Rattle.import_core.specs.Tables.{all_of};
@@ -16,7 +16,7 @@ use std::alloc::Allocator;
 /// The most bytes of a text in a comment.
 const LONGEST_TOLD: usize = 4000;
 
-/// The text, or the beginning of one that is too long for a line.
+/// The text; if it has more than 4,000 bytes, its first 4,000 and `..`.
 fn shortened<A: Allocator>(alloc: A, text: &str) -> Result<String<A>, Oom>
     requires { is_text text.now ≡ true }
     ensures { IfOk result (λ s. string_bytes s ≡ shortened text.now) }
@@ -29,7 +29,7 @@ fn shortened<A: Allocator>(alloc: A, text: &str) -> Result<String<A>, Oom>
     Ok(short)
 }
 
-/// `# n0 is "app@10.0.0.1"`, where the node has another name in the script.
+/// Appends a comment such as `# n0 is "app@10.0.0.1"`, unless the node has its own name in the script.
 fn put_node<A: Allocator + Copy>(
     alloc: A,
     text: &mut String<A>,
@@ -42,12 +42,13 @@ fn put_node<A: Allocator + Copy>(
         return Ok(());
     }
     let told = shortened(alloc, &string_text(alloc, node)?)?;
+    // form: a `writeln!` split in pieces, which the proof takes one by one
     write!(text, "# {name} is \"")?;
     text.push_str(&told)?;
     Ok(text.push_str("\"\n")?)
 }
 
-/// Appends for each node whose own name differs from its name in the script a comment with its own name.
+/// Appends a comment for each node whose name in the script isn't its own.
 fn put_nodes<A: Allocator + Copy, N: Allocator>(
     alloc: A,
     text: &mut String<A>,
@@ -64,7 +65,8 @@ fn put_nodes<A: Allocator + Copy, N: Allocator>(
     Ok(())
 }
 
-/// `# ~0 is ..`, the text of the value whose word was cut under this number.
+/// Appends the comment `# ~NUMBER is TEXT`. TEXT is `value`, the JSON text of the value whose word was cut under this
+/// number, in ASCII and shortened.
 fn put_word<A: Allocator + Copy>(
     alloc: A,
     text: &mut String<A>,
@@ -74,12 +76,13 @@ fn put_word<A: Allocator + Copy>(
     ensures { OnOk result (string_bytes text.new ≡ string_bytes text.old ++ ended (word_line number value.now)) }
 {
     let told = shortened(alloc, &ascii_text(alloc, value)?)?;
+    // form: a `writeln!` split in pieces, which the proof takes one by one
     write!(text, "# ~{number} is ")?;
     text.push_str(&told)?;
     Ok(text.push_str("\n")?)
 }
 
-/// Appends for each value whose word was cut a comment with its text.
+/// Appends a comment for each value whose word was cut.
 fn put_words<A: Allocator + Copy>(
     alloc: A,
     text: &mut String<A>,
@@ -94,7 +97,7 @@ fn put_words<A: Allocator + Copy>(
     Ok(())
 }
 
-/// The comments that say what stands for what, where it can't be seen.
+/// Appends the comments that tell what the nodes' names and the cut words stand for.
 #[tactic(auto, unfolding(crate::specs::Comments::comments_text))]
 pub(crate) fn put_comments<A: Allocator + Copy, N: Allocator>(
     alloc: A,

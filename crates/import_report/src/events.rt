@@ -1,4 +1,4 @@
-//! The line of an event, and the bench after it.
+//! Plays an event on the bench, and makes its lines in the script.
 ghost use Rattle.std.specs.Prelude.{◌≡◌, ◌++◌, OnOk, IfOk, codes, string_bytes};
 ghost use Rattle.node_core.specs.Operations.{plain};
 ghost use Rattle.bench_core.specs.Acts.{plain_act};
@@ -15,7 +15,7 @@ use payload_core::Oom;
 use report_core::{answer, name_at, put_act};
 use std::alloc::Allocator;
 
-/// `show NODE`.
+/// Appends `show NODE`, and a line feed.
 fn put_show<A: Allocator, N: Allocator>(
     text: &mut String<A>,
     names: &Names<N>,
@@ -27,21 +27,21 @@ fn put_show<A: Allocator, N: Allocator>(
     Ok(writeln!(text, "show {node}")?)
 }
 
-/// `# line L`.
+/// Appends `# line L`, where L is `number`, without a line feed.
 fn put_number<A: Allocator>(text: &mut String<A>, number: u64) -> Result<(), Oom>
     ensures { OnOk result (string_bytes text.new ≡ string_bytes text.old ++ mark_line number) }
 {
     Ok(write!(text, "# line {number}")?)
 }
 
-/// What stands in the place of an event whose message was not sent.
+/// Appends the comment that stands for an event whose step can't be asked (see `asked`).
 fn put_unsent<A: Allocator>(text: &mut String<A>, number: u64) -> Result<(), Oom>
     ensures { OnOk result (string_bytes text.new ≡ string_bytes text.old ++ ended (mark_line number ++ codes ": its message was not sent")) }
 {
     Ok(writeln!(text, "# line {number}: its message was not sent")?)
 }
 
-/// `NODE VERB ..`, on a line.
+/// Appends `NODE VERB ..`, the line of the step in a script, and a line feed.
 fn put_step<A: Allocator, N: Allocator, W: Allocator>(
     text: &mut String<A>,
     names: &Names<N>,
@@ -54,7 +54,8 @@ fn put_step<A: Allocator, N: Allocator, W: Allocator>(
     Ok(text.push_str("\n")?)
 }
 
-/// Has a node take a step, which sends this message, if any.
+/// Asks the bench `act`, with `node` as the actor, and gives the reply. If the bench took a step, and it sends the
+/// message `sends`, notes in `numbers` the message's number in the node's outbox.
 #[tactic(auto, unfolding(crate::specs::Events::after_step))]
 pub fn play<'a, B: Allocator>(
     bench: &mut Bench<'a, B>,
@@ -65,14 +66,15 @@ pub fn play<'a, B: Allocator>(
 ) -> Result<Reply, Oom>
     ensures reply { IfOk result (λ reply. reply ≡ reply_of bench.old node (plain_act act.now)) }
     ensures bench { OnOk result (bench.new ≡ after_act bench.old node (plain_act act.now)) }
-    ensures numbers { OnOk result (numbers.new ≡ numbers_after (after_act bench.old node (plain_act act.now)) numbers.old node sends (reply_of bench.old node (plain_act act.now))) }
+    ensures numbers { OnOk result (numbers.new ≡ numbers_after (after_act bench.old node (plain_act act.now)) numbers.old node sends
+        (reply_of bench.old node (plain_act act.now))) }
 {
     let reply = answer(bench, node, act)?;
     note_sent(bench, numbers, node, sends, reply);
     Ok(reply)
 }
 
-/// Plays a step of an event, and appends its line.
+/// Appends the line of an event's step, and plays the step (see `play`).
 #[tactic(auto, unfolding(crate::specs::Events::after_step))]
 fn put_played<'a, B: Allocator>(
     text: &mut String<&'a B>,
@@ -89,6 +91,7 @@ fn put_played<'a, B: Allocator>(
     put_step(text, bench.names(), node, &step)?;
     let act = Act::Do(step);
     let played = play(bench, numbers, node, sends, &act);
+    // form: drop before exit
     drop(act);
     match played {
         Ok(_reply) => Ok(()),
@@ -96,7 +99,8 @@ fn put_played<'a, B: Allocator>(
     }
 }
 
-/// Plays an event, and appends its line.
+/// Plays an event, and appends its line: a step, `show` for an event that lists rows, or a comment if the step can't be
+/// asked (see `asked`).
 #[tactic(auto, unfolding(crate::specs::Events::event_line, crate::specs::Events::after_event))]
 fn put_event<'a, B: Allocator>(
     text: &mut String<&'a B>,
@@ -119,7 +123,7 @@ fn put_event<'a, B: Allocator>(
     put_played(text, bench, numbers, node, note.logged.sends, step)
 }
 
-/// `# line L`, if `told`.
+/// Appends `# line L`, and a line feed, if `told`.
 fn put_mark<A: Allocator>(text: &mut String<A>, told: bool, number: u64) -> Result<(), Oom>
     ensures { OnOk result (string_bytes text.new ≡ string_bytes text.old ++ mark_text told number) }
 {
@@ -130,7 +134,8 @@ fn put_mark<A: Allocator>(text: &mut String<A>, told: bool, number: u64) -> Resu
     Ok(text.push_str("\n")?)
 }
 
-/// Plays an event, and appends its lines.
+/// Appends `# line L` if `told`, with the event's line number in the logs, and then plays the event and appends its
+/// line (see `put_event`).
 #[tactic(auto, unfolding(crate::specs::Events::event_text))]
 pub(crate) fn put_lines<'a, B: Allocator>(
     text: &mut String<&'a B>,
@@ -139,7 +144,8 @@ pub(crate) fn put_lines<'a, B: Allocator>(
     told: bool,
     note: &Noted<&'a B>,
 ) -> Result<(), Oom>
-    ensures text { OnOk result (string_bytes text.new ≡ string_bytes text.old ++ event_text told bench.old.names (record { machine = bench.old; numbers = numbers.old }) (note_of note.now)) }
+    ensures text { OnOk result (string_bytes text.new ≡ string_bytes text.old ++ event_text told bench.old.names
+        (record { machine = bench.old; numbers = numbers.old }) (note_of note.now)) }
     ensures bench { OnOk result (bench.new ≡ (after_event (record { machine = bench.old; numbers = numbers.old }) (note_of note.now)).machine) }
     ensures numbers { OnOk result (numbers.new ≡ (after_event (record { machine = bench.old; numbers = numbers.old }) (note_of note.now)).numbers) }
 {

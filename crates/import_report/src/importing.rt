@@ -1,4 +1,4 @@
-//! From the bytes of logs to a script, to a bench, and to where the two part.
+//! From the bytes of logs to a script, to a bench, and to where the bench and the real nodes part.
 ghost use Rattle.std.specs.Prelude.{◌≡◌, ◌<◌, ◌≤◌, ◌^◌, ◌++◌, ◌==◌, ℕ, Bool, List, IfOk, IfErr, OnOk, length, map, not, string_bytes};
 ghost use Rattle.std.specs.List.{All};
 ghost use Rattle.import_core.specs.Notes.{note_of};
@@ -18,7 +18,7 @@ use import_core::{FaultKind, Import, ImportFault, imported};
 use payload_core::Oom;
 use std::alloc::{Allocator, Global};
 
-/// The script of what was imported.
+/// The script of an import's events, and the bench on which they were played.
 fn script_of_import<'a, B: Allocator>(
     alloc: &'a B,
     limits: Limits,
@@ -29,9 +29,11 @@ fn script_of_import<'a, B: Allocator>(
     requires few { length import.now.tables.nodes ≤ 32 }
     requires places { All (λ place. place < length import.now.notes.items) import.now.order.items }
     ensures text { IfOk result (λ s. string_bytes s.text ≡
-        script_text told limits (shown_names import.now.tables.nodes) (all_of import.now.tables) (in_order (map note_of import.now.notes.items) import.now.order.items)) }
+        script_text told limits (shown_names import.now.tables.nodes) (all_of import.now.tables)
+        (in_order (map note_of import.now.notes.items) import.now.order.items)) }
     ensures bench { IfOk result (λ s. s.bench ≡
-        (after_events (opening limits (shown_names import.now.tables.nodes) (length import.now.tables.messages)) (in_order (map note_of import.now.notes.items) import.now.order.items)).machine) }
+        (after_events (opening limits (shown_names import.now.tables.nodes) (length import.now.tables.messages))
+        (in_order (map note_of import.now.notes.items) import.now.order.items)).machine) }
     ensures names { OnOk result (AreNames (shown_names import.now.tables.nodes)) }
     ensures longs { OnOk result (length import.now.tables.longs < 2 ^ 64) }
     ensures count { OnOk result (length (shown_names import.now.tables.nodes) ≡ length import.now.tables.nodes) }
@@ -48,16 +50,18 @@ fn script_of_import<'a, B: Allocator>(
     )
 }
 
-/// The lines of what was left out.
+/// The line numbers of the deliveries and answers that were left out, taken out of the import.
 fn left_out_of<A: Allocator>(import: Import<A>) -> Vec<u64, A>
     ensures { result.items ≡ import.left_out.items }
 {
+    // form: takes the import apart in a function of its own
     import.left_out
 }
 
-/// The script of these logs; the bench, with these limits, on which its lines were played as they were made; and the
-/// lines of the deliveries and answers that were left out. Only a `lenient` import leaves out any. If `told`, a comment
-/// before each line of the script has the number of its event's line.
+/// The script of these logs, with the bench on which its lines were played as they were made; and the line numbers of
+/// the deliveries and answers that were left out, which only a `lenient` import has. If `told`, a comment before the
+/// script's line of an event has the event's line number in the logs. `TooLong` if the script has more bytes than a
+/// play reads.
 pub fn import_script<'a, B: Allocator>(
     heap: Global,
     alloc: &'a B,
@@ -70,10 +74,12 @@ pub fn import_script<'a, B: Allocator>(
     ensures refused { IfErr result (IsRefused lenient told limits bytes.now) }
 {
     let import = imported(heap, alloc, lenient, bytes)?;
+    // form: one way out, behind the import
     let scripted = script_of_import(alloc, limits, told, &import);
     let left_out = left_out_of(import);
     let scripted = scripted?;
     if scripted.text.len() > LONGEST_SCRIPT {
+        // form: drop before exit
         drop(scripted);
         return Err(ImportFault {
             line: 0,
@@ -83,7 +89,7 @@ pub fn import_script<'a, B: Allocator>(
     Ok((scripted, left_out))
 }
 
-/// As `import_script`, but the bench alone, however long the script would be.
+/// Like `import_script`, but gives the bench in place of the script, however long the script would be.
 pub fn import_bench<'a, B: Allocator>(
     heap: Global,
     alloc: &'a B,
@@ -95,28 +101,30 @@ pub fn import_bench<'a, B: Allocator>(
     ensures refused { IfErr result (IsImportFault lenient bytes.now) }
 {
     let import = imported(heap, alloc, lenient, bytes)?;
+    // form: one way out, behind the import
     let scripted = script_of_import(alloc, limits, false, &import);
     let left_out = left_out_of(import);
     let scripted = scripted?;
     Ok((bench_of(scripted), left_out))
 }
 
-/// The bench of a script.
+/// The bench, taken out of a script.
 fn bench_of<'a, B: Allocator>(scripted: Scripted<'a, B>) -> Bench<'a, B>
     ensures { result ≡ scripted.entry.bench }
 {
+    // form: takes the script apart in a function of its own
     scripted.bench
 }
 
-/// What the bench shows of each event, against what the real node did.
+/// Where the bench and the real nodes part, as a text.
 #[derive(Drop)]
 pub struct Checked<'a, B: Allocator> {
     pub text: String<&'a B>,
-    /// Whether a list differs, or the bench refused a step, or a step couldn't be asked.
+    /// Whether bench and nodes part: a list differs, the bench refused a step, or a step couldn't be asked.
     pub differs: bool,
 }
 
-/// The check of an import.
+/// Checks the events of an import on a fresh bench.
 fn check_of_import<'a, B: Allocator>(
     alloc: &'a B,
     limits: Limits,
@@ -142,12 +150,14 @@ fn check_of_import<'a, B: Allocator>(
         &import.order,
         alloc,
     );
+    // form: drop before exit
     drop(bench);
     let differs = differs?;
     Ok(Checked { text, differs })
 }
 
-/// Where the bench and the real nodes part, for these logs.
+/// Tells where the bench and the real nodes part, for these logs. Also gives the line numbers of the deliveries and
+/// answers that were left out, which only a `lenient` import has.
 pub fn import_check<'a, B: Allocator>(
     heap: Global,
     alloc: &'a B,
@@ -159,6 +169,7 @@ pub fn import_check<'a, B: Allocator>(
     ensures refused { IfErr result (IsImportFault lenient bytes.now) }
 {
     let import = imported(heap, alloc, lenient, bytes)?;
+    // form: one way out, behind the import
     let found = check_of_import(alloc, limits, &import);
     let left_out = left_out_of(import);
     let found = found?;

@@ -1,10 +1,13 @@
-//! The script of an import: what the events of logs ask of a bench, as lines that a play reads.
+//! The script of an import: what the events of logs ask of a bench, as lines that a play reads; and where the bench and
+//! the real nodes part.
 //!
-//! It stands on `import_core` for the events and their order, on `report_core` for lines and for what a bench answers, and on
-//! `listed_core` for what a real node listed; that the lines are read back rests on `run_core`. In the order to read them: `names`,
-//! the nodes' names in the script; `ascii`, JSON in ASCII; `comments`, what stands for what; `numbers`, the messages by their
-//! numbers in outboxes; `events`, the line of an event, and the bench after it; `script`, all lines; `checks`, where the bench and
-//! the real nodes part; `importing`, from the bytes of logs to these.
+//! The crate stands on `import_core` for the events and their order, on `bench_core` for the bench, on `report_core`
+//! for lines and for what a bench answers, on `listed_core` for what a real node listed, and on `grammar_core` for what
+//! a script may have. That the lines are read back rests on `run_core`. The crate names the plain types of the crates
+//! below. The modules in reading order: `names`, the nodes' names in the script; `ascii`, JSON in ASCII; `comments`,
+//! what the nodes' names and the cut words stand for; `numbers`, the numbers of messages in outboxes; `events`, the
+//! line of an event, and the bench after it; `script`, all lines; `checks`, where the bench and the real nodes part;
+//! `importing`, from the bytes of logs to a script, to a bench, or to what `checks` tells.
 #![tactic(auto)]
 
 mod ascii;
@@ -23,5 +26,5 @@ pub use names::shown_names;
 pub use numbers::asked;
 pub use script::{Scripted, zeros};
 
-/// Want of memory. It is std's error, so that `?` on a call of std gives it.
+/// A request for memory was refused. This is std's error, so `?` on a call of std passes it on.
 pub use payload_core::Oom;

@@ -9,11 +9,12 @@ use grammar_core::words_of;
 use payload_core::Oom;
 use std::alloc::Allocator;
 
-/// Names for nodes whose own can't be kept.
+/// The nodes' names in a script that can't have all of their own names.
 pub const NUMBERED: &str =
     "n0 n1 n2 n3 n4 n5 n6 n7 n8 n9 n10 n11 n12 n13 n14 n15 n16 n17 n18 n19 n20 n21 n22 n23 n24 n25 n26 n27 n28 n29 n30 n31";
 
-/// The word, or, where it has a meaning of its own, the empty text, which is no name either.
+/// The word. If it is a keyword with which a script line may begin, such as `show`, it can't be a node's name, and the
+/// empty text stands for it.
 #[tactic(auto, unfolding(grammar_core::specs::Grammar::keyword_of, grammar_core::specs::Grammar::unreserved))]
 fn unreserved(word: &str) -> &str
     ensures { result.now ≡ unreserved word.now }
@@ -24,7 +25,7 @@ fn unreserved(word: &str) -> &str
     }
 }
 
-/// The text of a number, and nothing where there is none.
+/// The text with this number; empty if there is none.
 pub(crate) fn text_at<A: Allocator>(texts: &TextSet<A>, number: usize) -> &str
     ensures { result.now ≡ name_at texts.now number }
 {
@@ -41,7 +42,7 @@ fn add_word<'t, A: Allocator>(words: &mut Vec<&'t str, A>, text: &'t str) -> Res
     Ok(())
 }
 
-/// The texts as words of a `nodes` line.
+/// The texts as words of a `nodes` line, each as `unreserved` gives it.
 fn texts_as_words<'t, A: Allocator + Copy>(
     alloc: A,
     texts: &'t TextSet<A>,
@@ -55,7 +56,7 @@ fn texts_as_words<'t, A: Allocator + Copy>(
     Ok(words)
 }
 
-/// The first of these words.
+/// The first `count` of these words.
 fn first_words<'s, 't>(words: &'s [&'t str], count: usize) -> &'s [&'t str]
     requires { count ≤ length words.now }
     ensures { result.now ≡ take count words.now }
@@ -63,7 +64,7 @@ fn first_words<'s, 't>(words: &'s [&'t str], count: usize) -> &'s [&'t str]
     &words[..count]
 }
 
-/// `count` names `n0`, `n1` ..
+/// The names `n0`, `n1` and so on, `count` of them.
 fn numbered_names<A: Allocator + Copy>(alloc: A, count: usize) -> Result<Names<A>, Oom>
     requires some { 0 < count }
     requires few { count ≤ 32 }
@@ -74,6 +75,7 @@ fn numbered_names<A: Allocator + Copy>(alloc: A, count: usize) -> Result<Names<A
     let words = words_of(alloc, NUMBERED)?;
     match Names::new(alloc, first_words(&words, count)) {
         Ok(names) => {
+            // form: hands out what the value keeps
             names.names_law();
             Ok(names)
         }
@@ -81,7 +83,8 @@ fn numbered_names<A: Allocator + Copy>(alloc: A, count: usize) -> Result<Names<A
     }
 }
 
-/// Names `n0`, `n1` .. for nodes whose own names have this fault. Want of memory stays a fault.
+/// The names `n0`, `n1` and so on, `count` of them, for nodes whose own names have this fault; `OutOfMemory` stays a
+/// fault.
 fn or_numbered<A: Allocator + Copy>(
     alloc: A,
     fault: NamesFault,
@@ -99,7 +102,8 @@ fn or_numbered<A: Allocator + Copy>(
     numbered_names(alloc, count)
 }
 
-/// The names of the nodes in the script: their own where a `nodes` line can have them all.
+/// The names of the nodes in the script: their own, if a `nodes` line can have all of them, or else `n0`, `n1` and so
+/// on.
 pub fn shown_names<A: Allocator + Copy>(alloc: A, nodes: &TextSet<A>) -> Result<Names<A>, Oom>
     requires some { 0 < length nodes.now }
     requires few { length nodes.now ≤ 32 }
@@ -110,6 +114,7 @@ pub fn shown_names<A: Allocator + Copy>(alloc: A, nodes: &TextSet<A>) -> Result<
     let words = texts_as_words(alloc, nodes)?;
     match Names::new(alloc, &words) {
         Ok(names) => {
+            // form: hands out what the value keeps
             names.names_law();
             Ok(names)
         }

@@ -1,4 +1,5 @@
-//! The messages by their numbers in the outboxes of their senders.
+//! The numbers of messages in the outboxes of their senders. `numbers` has one for each message of the tables, 0 until
+//! the message is sent.
 ghost use Rattle.std.specs.Prelude.{◌≡◌, IfOk, option_map};
 ghost use Rattle.node_core.specs.Operations.{plain};
 ghost use Rattle.report_core.specs.Shown.{node_of};
@@ -9,7 +10,7 @@ use payload_core::Oom;
 use report_core::node;
 use std::alloc::Allocator;
 
-/// The number that a sent message has in its sender's outbox.
+/// The number of a message in its sender's outbox; `None` if it wasn't sent.
 fn number_at(numbers: &[u64], message: u64) -> Option<u64>
     ensures { result ≡ number_at numbers.now message }
 {
@@ -17,13 +18,14 @@ fn number_at(numbers: &[u64], message: u64) -> Option<u64>
     if number == 0 { None } else { Some(number) }
 }
 
-/// The step as the bench is asked it, with the message's number in the outbox; `None` where that message was not sent,
-/// or where an extract names no node.
+/// The step as it is asked of the bench, with the message's number in the outbox; `None` if that message wasn't sent,
+/// or if an extract names no node.
 pub fn asked<A: Allocator + Copy>(step: &Step<A>, numbers: &[u64]) -> Result<Option<Step<A>>, Oom>
     ensures { IfOk result (λ s. option_map plain s ≡ asked numbers.now (plain step.now)) }
 {
     match step {
         Step::Extract { names } => {
+            // form: all names are below 0 only if there are none
             if names.is_below(0) {
                 return Ok(None);
             }
@@ -47,7 +49,7 @@ pub fn asked<A: Allocator + Copy>(step: &Step<A>, numbers: &[u64]) -> Result<Opt
     }
 }
 
-/// How many messages the node sent.
+/// How many messages the node sent; 0 if there is no such node.
 fn outbox_length<'a, B: Allocator>(bench: &Bench<'a, B>, number: u16) -> u64
     ensures { result ≡ outbox_length (node_of bench.now number) }
 {
@@ -57,7 +59,8 @@ fn outbox_length<'a, B: Allocator>(bench: &Bench<'a, B>, number: u16) -> u64
     }
 }
 
-/// Notes the number of the message that a step of the node sent, if the reply took it: the last of the outbox.
+/// If the reply says that a step was taken, and the step sends the message `sends`, notes in `numbers` the message's
+/// number in the node's outbox, where it is the last one.
 pub(crate) fn note_sent<'a, B: Allocator>(
     bench: &Bench<'a, B>,
     numbers: &mut [u64],
@@ -73,6 +76,7 @@ pub(crate) fn note_sent<'a, B: Allocator>(
     let Some(message) = sends else {
         return;
     };
+    // form: each message has a number here; the test spares a requirement
     if message < numbers.len() {
         numbers[message] = outbox_length(bench, node);
     }

@@ -16,7 +16,7 @@ use payload_core::Oom;
 use report_core::name_at;
 use std::alloc::Allocator;
 
-/// Each name after a space.
+/// Appends each name after a space.
 fn put_names<A: Allocator, N: Allocator>(text: &mut String<A>, names: &Names<N>) -> Result<(), Oom>
     ensures { OnOk result (string_bytes text.new ≡ string_bytes text.old ++ spaced_names names.now) }
 {
@@ -27,7 +27,7 @@ fn put_names<A: Allocator, N: Allocator>(text: &mut String<A>, names: &Names<N>)
     Ok(())
 }
 
-/// `nodes NAME ..`.
+/// Appends `nodes NAME ..`, and a line feed.
 #[tactic(auto, unfolding(crate::specs::Scripts::nodes_line))]
 fn put_nodes<A: Allocator, N: Allocator>(text: &mut String<A>, names: &Names<N>) -> Result<(), Oom>
     ensures { OnOk result (string_bytes text.new ≡ string_bytes text.old ++ ended (nodes_line names.now)) }
@@ -37,7 +37,7 @@ fn put_nodes<A: Allocator, N: Allocator>(text: &mut String<A>, names: &Names<N>)
     Ok(text.push_str("\n")?)
 }
 
-/// Plays the events in this order, and appends their lines.
+/// Plays the events in this order, and appends their lines. `order` has their places in `notes`.
 #[tactic(auto, unfolding(crate::specs::Events::events_text))]
 fn put_events<'a, B: Allocator>(
     text: &mut String<&'a B>,
@@ -50,7 +50,8 @@ fn put_events<'a, B: Allocator>(
     requires { All (λ place. place < length notes.now) order.now }
     ensures text { OnOk result (string_bytes text.new ≡ string_bytes text.old ++
         events_text told bench.old.names (record { machine = bench.old; numbers = numbers.old }) (in_order (map note_of notes.now) order.now)) }
-    ensures bench { OnOk result (bench.new ≡ (after_events (record { machine = bench.old; numbers = numbers.old }) (in_order (map note_of notes.now) order.now)).machine) }
+    ensures bench { OnOk result (bench.new ≡
+        (after_events (record { machine = bench.old; numbers = numbers.old }) (in_order (map note_of notes.now) order.now)).machine) }
 {
     for place in order {
         put_lines(text, bench, numbers, told, &notes[*place])?;
@@ -58,7 +59,7 @@ fn put_events<'a, B: Allocator>(
     Ok(())
 }
 
-/// A zero for each message: none was sent yet.
+/// A zero for each of `count` messages: none was sent yet.
 pub fn zeros<A: Allocator>(alloc: A, count: usize) -> Result<Vec<u64, A>, Oom>
     ensures { IfOk result (λ v. v.items ≡ replicate count 0) }
 {
@@ -72,7 +73,7 @@ pub struct Scripted<'a, B: Allocator> {
     pub bench: Bench<'a, B>,
 }
 
-/// Appends the first lines: the nodes, and what stands for what.
+/// Appends the first lines: the nodes, and the comments of `put_comments`.
 fn put_head<'a, B: Allocator>(
     alloc: &'a B,
     text: &mut String<&'a B>,
@@ -87,7 +88,7 @@ fn put_head<'a, B: Allocator>(
     put_comments(alloc, text, names, tables)
 }
 
-/// The script of events in this order, made by playing them on a bench of these nodes.
+/// Makes the script of the events in this order, by playing them on a bench with these names and limits.
 #[tactic(auto, unfolding(crate::specs::Scripts::script_text))]
 pub(crate) fn script_of<'a, B: Allocator>(
     alloc: &'a B,
@@ -111,6 +112,7 @@ pub(crate) fn script_of<'a, B: Allocator>(
     let mut numbers = zeros(alloc, tables.messages.len())?;
     let mut bench = Bench::new(alloc, names, limits)?;
     if let Err(oom) = put_events(&mut text, &mut bench, &mut numbers, told, notes, order) {
+        // form: drop before exit
         drop(bench);
         return Err(oom);
     }

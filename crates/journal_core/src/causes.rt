@@ -1,4 +1,4 @@
-//! `Causes`: the index of one node: its steps, its messages, and who delivers them.
+//! `Causes`: the index of one node: its steps, and which steps deliver its messages.
 ghost use Rattle.std.specs.Prelude.{◌≡◌, ℕ, ◌≤◌, ◌++◌, ◌∷◌, [], ◌<◌, ◌+◌, ◌-◌, None, Some, OnOk, OnErr, length, take};
 ghost use Rattle.smallvec.specs.SmallVec.{HasRoomFor};
 ghost use Rattle.journal_core.specs.Numbers.{Rises, first_above, last, all_but};
@@ -10,7 +10,7 @@ use smallvec::SmallVec;
 use std::alloc::Allocator;
 use std::marker::Model;
 
-/// For one node: the rising numbers of its steps; those of its sending steps; and beside each of these the rising
+/// For one node: the rising numbers of its steps; those of its sending steps; and for each sending step the rising
 /// numbers of the steps that deliver its message.
 #[derive(Drop)]
 pub(crate) struct Causes<'a, B: Allocator> {
@@ -53,21 +53,22 @@ impl<'a, B: Allocator> Causes<'a, B> {
         }
     }
 
-    /// The number of its last step.
+    /// The number of the node's last step; `None` if the node has no step.
     pub(crate) fn last(&self) -> Option<u64>
         ensures { result ≡ last None self.now.own }
     {
         self.own.last().copied()
     }
 
-    /// The number of its first step after this number.
+    /// The number of the node's first step above `number`; `None` if there is none.
     pub(crate) fn next(&self, number: u64) -> Option<u64>
         ensures { result ≡ first_above number self.now.own }
     {
         first_above(&self.own, number)
     }
 
-    /// The number of the first step that delivers what the step of this number sent, if it sent a message.
+    /// The number of the first step that delivers the message of step `number`; `None` if there is none, or if step
+    /// `number` sent no message.
     pub(crate) fn first_delivery(&self, number: u64) -> Option<u64>
         ensures { result ≡ first_delivered self.now.sent self.now.deliveries number }
     {
@@ -77,7 +78,7 @@ impl<'a, B: Allocator> Causes<'a, B> {
         self.deliveries[place].first().copied()
     }
 
-    /// The numbers of the steps that deliver what the step of this number sent, if it sent a message.
+    /// The numbers of the steps that deliver the message of step `number`; none if step `number` sent no message.
     pub(crate) fn deliveries_of(&self, number: u64) -> &[u64]
         ensures { result.now ≡ delivered self.now.sent self.now.deliveries number }
     {
@@ -87,14 +88,14 @@ impl<'a, B: Allocator> Causes<'a, B> {
         }
     }
 
-    /// How many of its sending steps remain.
+    /// How many of the node's sending steps remain, which is the number of its last message.
     pub(crate) fn messages(&self) -> usize
         ensures { result ≡ length self.now.deliveries }
     {
         self.deliveries.len()
     }
 
-    /// Makes room for one more step.
+    /// Makes room for one more step, whether it sends a message or not.
     pub(crate) fn make_room(&mut self) -> Result<(), Oom>
         ensures same { IsSameIndex self.old self.new }
         ensures ok { OnOk result (0 < self.new.room) }
@@ -106,7 +107,7 @@ impl<'a, B: Allocator> Causes<'a, B> {
         self.deliveries.reserve(1)
     }
 
-    /// Makes room for one more delivery of the message at a place, from 0.
+    /// Makes room for one more delivery of the message at `place`, counted from 0.
     pub(crate) fn make_room_at(&mut self, place: usize) -> Result<(), Oom>
         requires { place < length self.old.deliveries }
         ensures same { IsSameIndex self.old self.new }
@@ -117,7 +118,7 @@ impl<'a, B: Allocator> Causes<'a, B> {
         self.deliveries[place].reserve(1)
     }
 
-    /// Appends a step that sends nothing.
+    /// Appends step `number`, which sends nothing and for which there is room.
     pub(crate) fn push(&mut self, number: u64)
         requires room { 0 < self.old.room }
         requires rises { Rises (self.old.own ++ number ∷ []) }
@@ -128,7 +129,7 @@ impl<'a, B: Allocator> Causes<'a, B> {
         self.own.push_reserved(number);
     }
 
-    /// Appends a step that sends a message.
+    /// Appends step `number`, which sends a message and for which there is room.
     pub(crate) fn push_sending(&mut self, number: u64)
         requires room { 0 < self.old.room }
         requires rises { Rises (self.old.own ++ number ∷ []) }
@@ -143,7 +144,7 @@ impl<'a, B: Allocator> Causes<'a, B> {
         self.deliveries.push_reserved(SmallVec::new(alloc));
     }
 
-    /// Appends a delivery of the message at a place.
+    /// Appends step `number` to the deliveries of the message at `place`, for which there is room.
     pub(crate) fn deliver(&mut self, place: usize, number: u64)
         requires place { place < length self.old.deliveries }
         requires room { HasRoomFor (deliveries_at self.old.deliveries place) 1 }
@@ -167,7 +168,7 @@ impl<'a, B: Allocator> Causes<'a, B> {
         self.own.pop();
     }
 
-    /// Takes out the last step, which sent a message, and that message.
+    /// Takes out the last step, which sent a message, and its message.
     pub(crate) fn pop_sending(&mut self)
         ensures own { self.new.own ≡ take (length self.old.own - 1) self.old.own }
         ensures sent { self.new.sent ≡ take (length self.old.sent - 1) self.old.sent }
@@ -179,7 +180,7 @@ impl<'a, B: Allocator> Causes<'a, B> {
         drop(self.deliveries.pop());
     }
 
-    /// Takes out a delivery of the message at a place.
+    /// Takes step `number` out of the deliveries of the message at `place`.
     pub(crate) fn undeliver(&mut self, place: usize, number: u64)
         requires { place < length self.old.deliveries }
         ensures own { self.new.own ≡ self.old.own }
@@ -193,7 +194,7 @@ impl<'a, B: Allocator> Causes<'a, B> {
     }
 }
 
-/// Takes a number out of a rising list.
+/// Takes `number` out of a rising list, if it is there.
 fn remove<B: Allocator>(numbers: &mut SmallVec<u64, 4, &B>, number: u64)
     requires { Rises numbers.old.items }
     ensures items { numbers.new.items ≡ all_but number numbers.old.items }

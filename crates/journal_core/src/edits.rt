@@ -1,4 +1,4 @@
-//! Edits of the slots and of the indices of all nodes, as room is made for a step, and as it is kept or taken out.
+//! Edits of the slots and of all nodes' indices: making room for a step, keeping it, and taking it out.
 ghost use Rattle.std.specs.Prelude.{◌≡◌, ℕ, ◌++◌, ◌∷◌, [], ◌<◌, ◌≤◌, ◌↔◌, IsTrue, IsOk, Some, None, OnOk, OnErr, length, map};
 ghost use Rattle.std.specs.List.{Contains};
 ghost use Rattle.node_core.specs.Operations.{delivers};
@@ -16,7 +16,7 @@ use crate::slots::Slots;
 use node_core::Oom;
 use std::alloc::Allocator;
 
-/// Makes room for a step of this node.
+/// Makes room for a step in the index of its node.
 pub(crate) fn make_room<'a, B: Allocator>(
     causes: &mut Vec<Causes<'a, B>, &'a B>,
     node: usize,
@@ -29,7 +29,7 @@ pub(crate) fn make_room<'a, B: Allocator>(
     causes[node].make_room()
 }
 
-/// Whether a node has this message.
+/// Whether `sender` is a node and has a message of this number, counted from 1.
 fn has_message<'a, B: Allocator>(causes: &[Causes<'a, B>], sender: u16, number: u64) -> bool
     ensures { IsTrue result ↔ HasMessage (Some (sender, number)) causes.now }
 {
@@ -37,7 +37,7 @@ fn has_message<'a, B: Allocator>(causes: &[Causes<'a, B>], sender: u16, number: 
     sender < causes.len() && 0 < number && number <= causes[sender].messages() as u64
 }
 
-/// Makes room for a delivery of this message, if there is one and its sender has it.
+/// Makes room for one more delivery of `message`; does nothing if that is `None`, or if its sender has no such message.
 pub(crate) fn make_room_for<'a, B: Allocator>(
     causes: &mut Vec<Causes<'a, B>, &'a B>,
     message: Option<(u16, u64)>,
@@ -56,7 +56,7 @@ pub(crate) fn make_room_for<'a, B: Allocator>(
     causes[sender as usize].make_room_at(number as usize - 1)
 }
 
-/// Appends a step to the index of its node.
+/// Appends step `number` to the index of its node. `sends` says whether the step sends a message.
 pub(crate) fn add_step<'a, B: Allocator>(
     causes: &mut Vec<Causes<'a, B>, &'a B>,
     node: usize,
@@ -70,13 +70,14 @@ pub(crate) fn add_step<'a, B: Allocator>(
     ensures others { OthersStay node causes.old.items causes.new.items }
     ensures at { AddsStep sends number (causes_at causes.old.items node) (causes_at causes.new.items node) }
 {
+    // form: each arm is a case of the proof
     match sends {
         true => causes[node].push_sending(number),
         false => causes[node].push(number),
     }
 }
 
-/// Appends a delivery of this message, if there is one.
+/// Appends step `number` to the deliveries of `message`, if that isn't `None`.
 pub(crate) fn add_delivery<'a, B: Allocator>(
     causes: &mut Vec<Causes<'a, B>, &'a B>,
     message: Option<(u16, u64)>,
@@ -92,7 +93,7 @@ pub(crate) fn add_delivery<'a, B: Allocator>(
     }
 }
 
-/// Takes out the last step of a node.
+/// Takes the last step of `node` out of that node's index. `sends` says whether the step sent a message.
 pub(crate) fn drop_step<'a, B: Allocator>(
     causes: &mut Vec<Causes<'a, B>, &'a B>,
     node: usize,
@@ -103,13 +104,14 @@ pub(crate) fn drop_step<'a, B: Allocator>(
     ensures keeps { KeepsRoom causes.old.items causes.new.items }
     ensures at { DropsStep sends (causes_at causes.old.items node) (causes_at causes.new.items node) }
 {
+    // form: each arm is a case of the proof
     match sends {
         true => causes[node].pop_sending(),
         false => causes[node].pop(),
     }
 }
 
-/// Takes out a delivery of this message, if there is one.
+/// Takes step `number` out of the deliveries of `message`, if that isn't `None`.
 pub(crate) fn drop_delivery<'a, B: Allocator>(
     causes: &mut Vec<Causes<'a, B>, &'a B>,
     message: Option<(u16, u64)>,
@@ -124,7 +126,8 @@ pub(crate) fn drop_delivery<'a, B: Allocator>(
     }
 }
 
-/// Makes room for a step: its slot, its places in the index of its node, and one among the deliveries of its message.
+/// Makes room for a step of the kind `room`: its slot, and its places in the index of its node. If the step delivers a
+/// message that was sent, also a place among that message's deliveries.
 pub(crate) fn make_all_room<'a, B: Allocator>(
     slots: &mut Slots<'a, B>,
     causes: &mut Vec<Causes<'a, B>, &'a B>,
@@ -142,7 +145,7 @@ pub(crate) fn make_all_room<'a, B: Allocator>(
     make_room_for(causes, room.delivers)
 }
 
-/// Makes room for a step, unless it is among the room that was made.
+/// Makes room for a step of the kind `room`, unless the kind is among `made`, those for which room was made already.
 pub(crate) fn make_sure<'a, B: Allocator>(
     slots: &mut Slots<'a, B>,
     causes: &mut Vec<Causes<'a, B>, &'a B>,
@@ -164,7 +167,7 @@ pub(crate) fn make_sure<'a, B: Allocator>(
     make_all_room(slots, causes, room)
 }
 
-/// Keeps a step for which there is room, after the others.
+/// Appends `held`, a step for which there is room, to the slots and to the indices.
 pub(crate) fn keep<'a, B: Allocator>(
     slots: &mut Slots<'a, B>,
     causes: &mut Vec<Causes<'a, B>, &'a B>,
@@ -187,7 +190,8 @@ pub(crate) fn keep<'a, B: Allocator>(
     add_step(causes, room.node as usize, number, room.sends);
 }
 
-/// Takes out a step from which nothing follows. All room stays.
+/// Takes the step of this number, from which nothing follows, out of the slots and the indices, if it remains. All room
+/// stays.
 pub(crate) fn take_out<'a, B: Allocator>(
     slots: &mut Slots<'a, B>,
     causes: &mut Vec<Causes<'a, B>, &'a B>,

@@ -1,4 +1,6 @@
-//! The future of a step: the step, its direct consequences, theirs, and so on.
+//! The future of a step: the step, its direct consequences, theirs, and so on. One pass over the steps, by rising
+//! number, gathers it. Each node has a bound, which says which of the node's steps are reached: all above the bound, or
+//! none if the bound is `None`.
 ghost use Rattle.std.specs.Prelude.{◌≡◌, ◌<◌, ◌-◌, ◌&&◌, replicate, nat_lt, IfOk, OnOk, OnErr, length, Some, None, [], option_map, option_copied};
 ghost use Rattle.std.specs.Prelude.{slice_set};
 ghost use Rattle.journal_core.specs.Journals.{AreInCausalOrder, find_number, first_number, NumbersRise};
@@ -14,13 +16,15 @@ use crate::slots::Slots;
 use node_core::Oom;
 use std::alloc::Allocator;
 
-/// Marks a step as reached: brings the bound of its node below it.
+/// Notes `held` and the later steps of its node as reached: lowers the node's bound in `bounds`, unless that bound is
+/// below the number of `held` already.
 fn lower_below<'a, B: Allocator>(held: &Held<'a, B>, bounds: &mut [Option<u64>])
     requires { held.now.kept.node < length bounds.old }
     ensures { bounds.new ≡ lower_at bounds.old (Some held.now.kept) }
 {
     let node = held.node() as usize;
     let number = held.number();
+    // form: numbers are from 1; saturating spares a requirement that says so
     let lower = match bounds[node] {
         Some(above) if above < number => above,
         _ => number.saturating_sub(1),
@@ -28,7 +32,8 @@ fn lower_below<'a, B: Allocator>(held: &Held<'a, B>, bounds: &mut [Option<u64>])
     bounds[node] = Some(lower);
 }
 
-/// Marks the steps of these numbers as reached.
+/// Notes the steps of these numbers as reached in `bounds`, each like `lower_below`. A number without a step is passed
+/// over.
 fn lower_all<'a, B: Allocator>(slots: &Slots<'a, B>, numbers: &[u64], bounds: &mut [Option<u64>])
     requires { AreKnown (length bounds.old) (kepts slots.now.steps) }
     ensures { bounds.new ≡ lowered (kepts slots.now.steps) numbers.now bounds.old }
@@ -40,17 +45,18 @@ fn lower_all<'a, B: Allocator>(slots: &Slots<'a, B>, numbers: &[u64], bounds: &m
     }
 }
 
-/// The first step of a node that is reached and above a number.
+/// The number of a node's first reached step above `number`, by the node's `bound`; `None` if there is none.
 fn next_of<'a, B: Allocator>(causes: &Causes<'a, B>, bound: Option<u64>, number: u64) -> Option<u64>
     ensures { result ≡ next_own bound number causes.now.own }
 {
+    // form: `max`, spelled out for the proof
     match bound {
         Some(above) => causes.next(if above < number { number } else { above }),
         None => None,
     }
 }
 
-/// The first step that is reached and above a number.
+/// The number of the first reached step above `number`, whatever its node; `None` if there is none.
 fn next_above<'a, B: Allocator>(
     slots: &Slots<'a, B>,
     causes: &[Causes<'a, B>],
@@ -63,6 +69,7 @@ fn next_above<'a, B: Allocator>(
     requires indexed { AreIndexed (kepts slots.now.steps) (kepts slots.now.steps) causes.now }
     ensures { result ≡ first_number (λ k. reaches bounds.now k && nat_lt number k.number) (kepts slots.now.steps) }
 {
+    // form: the parameter `slots` is for the contract alone
     let mut next = None;
     for (node, causes) in causes.iter().enumerate() {
         next = least(next, next_of(causes, bounds[node], number));
@@ -70,7 +77,8 @@ fn next_above<'a, B: Allocator>(
     next
 }
 
-/// Marks each delivery of the step's message as reached.
+/// Notes in `bounds` as reached each step that delivers the message of step `number`, and the later steps of the
+/// delivering step's node. If step `number` sent no message, or doesn't remain, nothing changes.
 fn lower<'a, B: Allocator>(
     slots: &Slots<'a, B>,
     causes: &[Causes<'a, B>],
@@ -88,7 +96,7 @@ fn lower<'a, B: Allocator>(
     lower_all(slots, causes[node].deliveries_of(number), bounds);
 }
 
-/// The bounds at the start: below this number for this node, and none for the others.
+/// The bounds at the start: just below `number` for `node`, and `None` for the others.
 fn start<'a, B: Allocator>(
     alloc: &'a B,
     nodes: usize,
@@ -99,11 +107,13 @@ fn start<'a, B: Allocator>(
     ensures { IfOk result (λ bounds. bounds.items ≡ slice_set (replicate nodes None) node (Some (number - 1))) }
 {
     let mut bounds = vec![in alloc; None; nodes]?;
+    // form: numbers are from 1; saturating spares a requirement that says so
     bounds[node] = Some(number.saturating_sub(1));
     Ok(bounds)
 }
 
-/// Gathers the numbers of what follows, least first.
+/// The numbers of step `number` and of all that follows from it, least first. `bounds` are those at the start, and are
+/// lowered on the way.
 fn gather<'a, B: Allocator>(
     slots: &Slots<'a, B>,
     causes: &[Causes<'a, B>],
@@ -128,7 +138,7 @@ fn gather<'a, B: Allocator>(
     Ok(numbers)
 }
 
-/// The numbers of a step and of all that follows from it, greatest first.
+/// Like `gather`, but greatest first.
 fn gather_back<'a, B: Allocator>(
     slots: &Slots<'a, B>,
     causes: &[Causes<'a, B>],
@@ -148,8 +158,8 @@ fn gather_back<'a, B: Allocator>(
     Ok(numbers)
 }
 
-/// The numbers of a step and of all that follows from it, greatest first. The time grows with the steps found times a
-/// logarithm.
+/// The numbers of step `number` and of all that follows from it, greatest first; none if the step doesn't remain. For
+/// each of these steps it makes a binary search in each node's index.
 pub(crate) fn future<'a, B: Allocator>(
     slots: &Slots<'a, B>,
     causes: &[Causes<'a, B>],

@@ -8,7 +8,7 @@ use node_core::Inverse;
 use std::alloc::Allocator;
 use std::marker::Model;
 
-/// A step with its inverse, unless that is lent.
+/// A kept step with its inverse, unless that is lent.
 #[derive(Drop)]
 pub(crate) struct Held<'a, B: Allocator> {
     kept: Kept<&'a B>,
@@ -43,7 +43,7 @@ impl<'a, B: Allocator> Held<'a, B> {
         &self.kept
     }
 
-    /// The inverse, unless it is lent.
+    /// The inverse; `None` if it is lent.
     pub(crate) fn inverse(&self) -> Option<&Inverse<&'a B>>
         ensures { option_map (λ i. plain_inverse i.now) result ≡ self.now.inverse }
     {

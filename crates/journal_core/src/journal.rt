@@ -21,15 +21,15 @@ use node_core::{Inverse, Oom, Step};
 use std::alloc::Allocator;
 use std::marker::Model;
 
-/// The steps that remain, by rising number, each with its inverse beside it. No delivery stands before the step that sent
-/// its message.
+/// The steps that remain, by rising number, each with its inverse beside it, unless that is lent. No delivery stands
+/// before the step that sent its message.
 ///
-/// A contract sees the steps with their inverses (`None` for one that is lent), how many nodes there are, and the steps
-/// for which room was made since one was last kept.
+/// A contract sees the steps with their inverses (`None` for one that is lent), how many nodes there are, and the kinds
+/// of steps for which room was made since a step was last kept.
 #[derive(Drop)]
 pub struct Journal<'a, B: Allocator> {
     slots: Slots<'a, B>,
-    // of each node, which of its steps caused what
+    /// For each node, its steps and which steps deliver its messages.
     causes: Vec<Causes<'a, B>, &'a B>,
     room: Vec<Room, &'a B>,
 }
@@ -50,7 +50,7 @@ impl<'a, B: Allocator> Model for Journal<'a, B> {
 }
 
 impl<'a, B: Allocator> Journal<'a, B> {
-    /// A journal of `nodes` nodes, without a step.
+    /// A journal for `nodes` nodes, without steps.
     pub fn new(alloc: &'a B, nodes: u16) -> Result<Self, Oom>
         requires { nodes ≤ 32 }
         ensures { IfOk result (λ journal. journal ≡ record { nodes = nodes; steps = []; room = [] }) }
@@ -75,8 +75,8 @@ impl<'a, B: Allocator> Journal<'a, B> {
         self.slots.len()
     }
 
-    /// The step at this place, from 0. It takes one read if steps were taken out at the end alone, and a walk
-    /// otherwise.
+    /// The step at `place`, counted from 0; `None` past the last. It takes one read, or a walk if a step was taken out
+    /// from before another step that still remains.
     pub fn at(&self, place: usize) -> Option<&Kept<&'a B>>
         ensures { option_copied result ≡ slice_get (kepts self.now.steps) place }
     {
@@ -93,7 +93,7 @@ impl<'a, B: Allocator> Journal<'a, B> {
         self.slots.steps()
     }
 
-    /// The step of this number.
+    /// The step of this number; `None` if it doesn't remain.
     pub fn find(&self, number: u64) -> Option<&Kept<&'a B>>
         ensures { option_copied result ≡ find_number (kepts self.now.steps) number }
     {
@@ -103,7 +103,7 @@ impl<'a, B: Allocator> Journal<'a, B> {
         }
     }
 
-    /// The inverse of the step of this number, to look at, if the step remains and its inverse is not lent.
+    /// The inverse of the step of this number; `None` if the step doesn't remain or its inverse is lent.
     pub fn inverse(&self, number: u64) -> Option<&Inverse<&'a B>>
         ensures { option_map (λ i. plain_inverse i.now) result ≡ inverse_of (find_held self.now.steps number) }
     {
@@ -114,7 +114,7 @@ impl<'a, B: Allocator> Journal<'a, B> {
         }
     }
 
-    /// The number of the last step of a node.
+    /// The number of the last step of the node; `None` if the node has none.
     pub fn last_of(&self, node: u16) -> Option<u64>
         requires { node < self.now.nodes }
         ensures { result ≡ last_of (kepts self.now.steps) node }
@@ -122,8 +122,8 @@ impl<'a, B: Allocator> Journal<'a, B> {
         self.causes[node as usize].last()
     }
 
-    /// The number of the least direct consequence of a step: a later step of its node, or one that delivers what it
-    /// sent.
+    /// The number of the least direct consequence of step `number`: a later step of its node, or a delivery of the
+    /// message that it sent. `None` if there is none, or if step `number` doesn't remain.
     pub fn first_consequence(&self, number: u64) -> Option<u64>
         ensures { result ≡ first_consequence (kepts self.now.steps) number }
     {
@@ -134,8 +134,8 @@ impl<'a, B: Allocator> Journal<'a, B> {
         least(causes.next(number), causes.first_delivery(number))
     }
 
-    /// The numbers of a step and of all that follows from it: of its direct consequences, of theirs, and so on.
-    /// Greatest first; none where the step doesn't remain.
+    /// The future of a step: its number and the numbers of all that follows from it, greatest first. It is empty if the
+    /// step doesn't remain.
     pub fn future(&self, number: u64) -> Result<Vec<u64, &'a B>, Oom>
         ensures future { IfOk result (λ numbers. IsFuture (kepts self.now.steps) number numbers.items) }
         ensures in_order { AreInCausalOrder (kepts self.now.steps) }
@@ -148,8 +148,8 @@ impl<'a, B: Allocator> Journal<'a, B> {
         )
     }
 
-    /// Makes room for this step of this node. After an `Ok` the next `keep` of such a step isn't refused. Room that was
-    /// made before stays.
+    /// Makes room for a step of the kind of `step` at `node` (see `Room`): after an `Ok`, the next `keep` of a step of
+    /// this kind isn't refused. Room that was made before stays.
     pub fn make_room(&mut self, node: u16, step: &Step<&'a B>) -> Result<(), Oom>
         requires { node < self.old.nodes }
         ensures nodes { self.new.nodes ≡ self.old.nodes }
@@ -163,7 +163,8 @@ impl<'a, B: Allocator> Journal<'a, B> {
         Ok(())
     }
 
-    /// Appends a step with its inverse. Where memory is refused both come back, and the journal is unchanged.
+    /// Appends a step with its inverse; after that no room counts as made. If memory is refused, step and inverse come
+    /// back, and the journal is unchanged.
     pub fn keep(
         &mut self,
         number: u64,
@@ -200,7 +201,7 @@ impl<'a, B: Allocator> Journal<'a, B> {
         Ok(())
     }
 
-    /// Lends the inverse of a step, if the step remains.
+    /// Lends the inverse of step `number`; `None` if the step doesn't remain.
     pub fn lend(&mut self, number: u64) -> Option<Inverse<&'a B>>
         requires { AreAllHeld self.old.steps }
         ensures value { option_map plain_inverse result ≡ inverse_of (find_held self.old.steps number) }
@@ -209,7 +210,7 @@ impl<'a, B: Allocator> Journal<'a, B> {
         self.slots.lend(number)
     }
 
-    /// Ends a loan: puts the inverse beside its step again.
+    /// Ends a loan: puts the inverse beside step `number` again.
     pub fn put_back(&mut self, number: u64, inverse: Inverse<&'a B>)
         requires { IsLent self.old.steps number }
         ensures { self.new ≡ record self.old { steps = with_inverse self.old.steps number (Some (plain_inverse inverse.entry)) } }
@@ -217,7 +218,7 @@ impl<'a, B: Allocator> Journal<'a, B> {
         self.slots.put_back(number, inverse);
     }
 
-    /// Ends a loan: takes out the step, from which nothing follows. Every other step stays with its inverse.
+    /// Ends a loan: takes out step `number`, from which nothing follows. Every other step keeps its inverse.
     pub fn take_out(&mut self, number: u64)
         requires lent { IsLent self.old.steps number }
         requires free { first_consequence (kepts self.old.steps) number ≡ None }

@@ -1,10 +1,13 @@
 //! The journal of a cluster: the steps that remain, each with its inverse, and which of them follow from which.
 //!
-//! It stands on `node_core` (steps and inverses as values; what a step delivers and whether it sends), and knows nothing of
-//! nodes and what they hold. In the order to read them: `kept`, a step with its number; `held`, a kept step with its inverse;
-//! `numbers`, rising lists of numbers; `slots`, the held steps by number; `steps`, a walk over them; `causes`, the index of
-//! what one node's steps caused, and `edits` of the indices of all nodes; `room`, the coming steps for which there is room;
-//! `future`, what follows from a step; `journal`; `laws`.
+//! The crate stands on `node_core` (steps and inverses as values; what a step delivers and whether it sends), and it
+//! names the plain types of the crates below. It knows nothing of nodes and what they hold.
+//!
+//! The modules in reading order: `kept`, a step with its number; `held`, a kept step with its inverse; `numbers`,
+//! rising lists of numbers; `slots`, the held steps by number; `steps`, a walk over them; `causes`, the index of one
+//! node, with its steps and the deliveries of its messages; `room`, the kinds of steps for which room is made ahead;
+//! `edits`, edits of the slots and of all indices; `future`, what follows from a step; `journal`, the type; `laws`, of
+//! loans and of futures.
 #![tactic(auto)]
 
 mod causes;

@@ -1,8 +1,8 @@
-//! Rising lists of numbers, in which a number is found by halving.
+//! Rising lists of numbers, and binary searches in them.
 ghost use Rattle.std.specs.Prelude.{◌≡◌};
 ghost use Rattle.journal_core.specs.Numbers.{Rises, first_above, least, place_of};
 
-/// The place of a number, from 0.
+/// The place of `number` in the list, counted from 0; `None` if it isn't there.
 pub(crate) fn place(numbers: &[u64], number: u64) -> Option<usize>
     requires { Rises numbers.now }
     ensures { result ≡ place_of numbers.now number }
@@ -17,7 +17,7 @@ pub(crate) fn place(numbers: &[u64], number: u64) -> Option<usize>
     Some(place)
 }
 
-/// The first number that is above this one.
+/// The first number of the list above `number`; `None` if there is none.
 pub(crate) fn first_above(numbers: &[u64], number: u64) -> Option<u64>
     requires { Rises numbers.now }
     ensures { result ≡ first_above number numbers.now }
@@ -30,10 +30,11 @@ pub(crate) fn first_above(numbers: &[u64], number: u64) -> Option<u64>
     }
 }
 
-/// The lesser of two numbers, where there are two.
+/// The lesser of the two numbers; if either is `None`, the other one.
 pub(crate) fn least(one: Option<u64>, other: Option<u64>) -> Option<u64>
     ensures { result ≡ least one other }
 {
+    // form: `min`, spelled out for the proof
     match (one, other) {
         (Some(a), Some(b)) => Some(if b < a { b } else { a }),
         (Some(a), None) => Some(a),

@@ -1,4 +1,4 @@
-//! `Slots`: the held steps by rising number. One is taken out where it stands, and no other moves.
+//! `Slots`: the held steps by rising number. A step is taken out where it stands, and no other step moves.
 ghost use Rattle.std.specs.Prelude.{◌≡◌, ◌≤◌, ◌++◌, ◌∷◌, [], ◌<◌, ◌+◌, false, None, Some, OnOk, OnErr, option_copied, option_map, slice_get};
 ghost use Rattle.std.specs.Prelude.{length, slice_set, vec_len, vec_capacity};
 ghost use Rattle.node_core.specs.Inverses.{plain_inverse};
@@ -13,15 +13,15 @@ use node_core::{Inverse, Oom};
 use std::alloc::Allocator;
 use std::marker::Model;
 
-/// The held steps by rising number, each in a slot of its own. The slot of a step that is taken out stays empty, unless it
-/// is the last one.
+/// The held steps by rising number, each in a slot of its own. The slot of a step that is taken out stays empty; empty
+/// slots at the end are removed.
 ///
 /// A contract sees the steps, and for how many more there is room.
 #[derive(Drop)]
 pub(crate) struct Slots<'a, B: Allocator> {
     numbers: Vec<u64, &'a B>,
     slots: Vec<Option<Held<'a, B>>, &'a B>,
-    // how many of the slots have a step
+    /// How many of the slots have a step.
     count: usize,
 }
 
@@ -60,7 +60,8 @@ impl<'a, B: Allocator> Slots<'a, B> {
         self.count
     }
 
-    /// The step at this place, from 0. It takes one read if no slot is empty, and a walk otherwise.
+    /// The step at `place`, counted from 0; `None` past the last. It takes one read if no slot is empty, and a walk
+    /// otherwise.
     pub(crate) fn at(&self, place: usize) -> Option<&Held<'a, B>>
         ensures { option_copied result ≡ slice_get self.now.steps place }
     {
@@ -78,7 +79,7 @@ impl<'a, B: Allocator> Slots<'a, B> {
         Steps::of(self.slots.as_slice())
     }
 
-    /// The step of this number.
+    /// The step of this number; `None` if it isn't there.
     pub(crate) fn find(&self, number: u64) -> Option<&Held<'a, B>>
         ensures { option_copied result ≡ find_held self.now.steps number }
     {
@@ -98,19 +99,20 @@ impl<'a, B: Allocator> Slots<'a, B> {
         self.slots.reserve(1)
     }
 
-    /// Appends a step.
+    /// Appends a step for which there is room.
     pub(crate) fn push(&mut self, held: Held<'a, B>)
         requires room { 0 < self.old.room }
         requires above { IsAboveAll held.kept.number self.old.steps }
         ensures { self.new.steps ≡ self.old.steps ++ held.entry ∷ [] }
     {
+        // form: no slot at the end is empty; trimming again spares an invariant that says so
         trim(&mut self.numbers, &mut self.slots);
         self.numbers.push_reserved(held.number());
         self.slots.push_reserved(Some(held));
         self.count += 1;
     }
 
-    /// Lends the inverse of a step, if the step remains.
+    /// Lends the inverse of the step of this number; `None` if the step doesn't remain or its inverse is lent.
     pub(crate) fn lend(&mut self, number: u64) -> Option<Inverse<&'a B>>
         ensures value { option_map plain_inverse result ≡ inverse_of (find_held self.old.steps number) }
         ensures steps { self.new.steps ≡ with_inverse self.old.steps number None }
@@ -122,7 +124,7 @@ impl<'a, B: Allocator> Slots<'a, B> {
         lend_in(&mut self.slots[place])
     }
 
-    /// Puts an inverse beside a step.
+    /// Puts an inverse beside the step of this number. If no such step remains, the inverse is dropped.
     pub(crate) fn put_back(&mut self, number: u64, inverse: Inverse<&'a B>)
         ensures steps { self.new.steps ≡ with_inverse self.old.steps number (Some (plain_inverse inverse.entry)) }
         ensures room { self.new.room ≡ self.old.room }
@@ -133,7 +135,7 @@ impl<'a, B: Allocator> Slots<'a, B> {
         put_in(&mut self.slots[place], inverse);
     }
 
-    /// Takes a step out of its slot. No other moves.
+    /// Takes the step of this number out of its slot, if the step remains. No other step moves.
     pub(crate) fn take_out(&mut self, number: u64)
         ensures steps { self.new.steps ≡ without_held self.old.steps number }
         ensures room { self.old.room ≤ self.new.room }
@@ -146,6 +148,7 @@ impl<'a, B: Allocator> Slots<'a, B> {
     }
 }
 
+/// Lends the inverse of the step in the slot; `None` if the slot is empty or the inverse is lent.
 fn lend_in<'a, B: Allocator>(slot: &mut Option<Held<'a, B>>) -> Option<Inverse<&'a B>>
     ensures value { option_map plain_inverse result ≡ inverse_of slot.old }
     ensures after { slot.new ≡ lent_in None slot.old }
@@ -156,6 +159,7 @@ fn lend_in<'a, B: Allocator>(slot: &mut Option<Held<'a, B>>) -> Option<Inverse<&
     }
 }
 
+/// Puts the inverse beside the step in the slot; if the slot is empty, the inverse is dropped.
 fn put_in<'a, B: Allocator>(slot: &mut Option<Held<'a, B>>, inverse: Inverse<&'a B>)
     ensures { slot.new ≡ lent_in (Some (plain_inverse inverse.entry)) slot.old }
 {
@@ -164,18 +168,19 @@ fn put_in<'a, B: Allocator>(slot: &mut Option<Held<'a, B>>, inverse: Inverse<&'a
     }
 }
 
-/// Empties a slot, and says how many steps it had.
+/// Empties the slot, and says how many steps it had, 0 or 1.
 fn take_from<'a, B: Allocator>(slot: &mut Option<Held<'a, B>>) -> usize
     ensures count { result ≡ count_in slot.old }
     ensures after { slot.new ≡ None }
 {
     let taken = slot.take();
     let count = usize::from(taken.is_some());
+    // form: drop before exit
     drop(taken);
     count
 }
 
-/// The step in the slot at this place.
+/// The step in the slot at `place`, counted from 0, where no slot is empty; `None` past the end.
 fn slot_at<'x, 'a, B: Allocator>(
     slots: &'x [Option<Held<'a, B>>],
     place: usize,
@@ -190,13 +195,14 @@ fn slot_at<'x, 'a, B: Allocator>(
     }
 }
 
-/// The step at this place among the steps in the slots.
+/// The step at `place`, counted from 0, of those in the slots; `None` past the last.
 fn step_at<'x, 'a, B: Allocator>(
     slots: &'x [Option<Held<'a, B>>],
     place: usize,
 ) -> Option<&'x Held<'a, B>>
     ensures { option_copied result ≡ slice_get (steps_in slots.now) place }
 {
+    // form: a count by hand, for the proof
     let mut left = place;
     for slot in slots {
         if let Some(held) = slot {
@@ -218,7 +224,7 @@ fn is_last_empty<'a, B: Allocator>(slots: &[Option<Held<'a, B>>]) -> bool
     }
 }
 
-/// Takes away the empty slots at the end.
+/// Removes the empty slots at the end, with their numbers.
 fn trim<'a, B: Allocator>(
     numbers: &mut Vec<u64, &'a B>,
     slots: &mut Vec<Option<Held<'a, B>>, &'a B>,

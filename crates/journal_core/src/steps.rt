@@ -62,7 +62,7 @@ impl<'x, 'a, B: Allocator> Iterator for Steps<'x, 'a, B> {
     }
 }
 
-/// The next step in the slots.
+/// The next step in the slots; `None` at the end. Empty slots are passed over.
 fn next_step<'x, 'a, B: Allocator>(
     slots: &mut slice::Iter<'x, Option<Held<'a, B>>>,
 ) -> Option<&'x Held<'a, B>>

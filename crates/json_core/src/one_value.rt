@@ -1,4 +1,4 @@
-//! The next JSON value of a reader, as `serde_json` has it.
+//! Reads the next JSON value of a reader, as a value of `serde_json`.
 ghost use Rattle.std.specs.Prelude.{◌≡◌, ◌≢◌, ◌<◌, ◌≤◌, ◌∷◌, length, Some, None, Err, IfOk, IfSome, OnOk, option_map};
 ghost use Rattle.json.specs.Json.{value, items, members};
 ghost use Rattle.json.specs.Print.{IsNumber, IsPrintable};
@@ -15,7 +15,8 @@ use json::{Reader, Token};
 use serde_json::{Map, Value};
 use std::alloc::Global;
 
-/// The whole number that the text writes in digits alone, if it fits into 64 bits.
+/// The whole number that the text spells. `None` if the text isn't digits alone, or the number doesn't fit into 64
+/// bits.
 fn whole_number(text: &str) -> Option<u64>
     ensures { IfSome result (λ whole. number_of text.now ≡ Some (unsigned whole)) }
 {
@@ -26,6 +27,7 @@ fn whole_number(text: &str) -> Option<u64>
     Numeral::scan(digits).to_u64()
 }
 
+/// The JSON number that the text spells; `Shape` if it is too great for a float.
 fn number_from(heap: Global, text: &str) -> Result<Value, Unread>
     requires { IsNumber text.now }
     ensures ok { IfOk result (λ v. option_map number (number_of text.now) ≡ Some (view v)) }
@@ -41,7 +43,7 @@ fn number_from(heap: Global, text: &str) -> Result<Value, Unread>
     }
 }
 
-/// The next value. Arrays and objects may nest `depth` deep.
+/// Reads the next value, in which arrays and objects may nest `depth` deep. `Shape` if no such value comes next.
 #[cycle(read)]
 pub fn value_of(heap: Global, reader: &mut Reader<'_>, depth: usize) -> Result<Value, Unread>
     ensures ok { IfOk result (λ v. converted of_json (value depth reader.old) ≡ Some (view v, reader.new)) }
@@ -52,7 +54,8 @@ pub fn value_of(heap: Global, reader: &mut Reader<'_>, depth: usize) -> Result<V
     value_from(heap, token, reader, depth)
 }
 
-/// The value that begins with this token.
+/// Reads the value whose first token, `token`, has been read. Arrays and objects may nest `depth` deep in it. `Shape`
+/// if no such value begins with `token`.
 #[cycle(read)]
 pub fn value_from(
     heap: Global,
@@ -86,7 +89,7 @@ pub fn value_from(
     }
 }
 
-/// The items up to the bracket that closes the array.
+/// Reads the items up to the bracket that closes the array, and the bracket. Each item may nest `depth` deep.
 #[cycle(read)]
 fn items_of(heap: Global, reader: &mut Reader<'_>, depth: usize) -> Result<Vec<Value>, Unread>
     ensures ok { IfOk result (λ v. converted of_items (items (value depth) (length reader.old) reader.old)
@@ -95,6 +98,7 @@ fn items_of(heap: Global, reader: &mut Reader<'_>, depth: usize) -> Result<Vec<V
     ensures err { result ≡ Err Shape → converted of_items (items (value depth) (length reader.old) reader.old) ≡ None }
 {
     let mut found = Vec::new(heap);
+    // form: the proof names the loop
     'items: while !reader.take_end_array() {
         let item = value_of(heap, reader, depth)?;
         found.push(item)?;
@@ -102,7 +106,8 @@ fn items_of(heap: Global, reader: &mut Reader<'_>, depth: usize) -> Result<Vec<V
     Ok(found)
 }
 
-/// The members up to the brace that closes the object.
+/// Reads the members up to the brace that closes the object, and the brace. The value of each may nest `depth` deep. Of
+/// members with the same name the last one counts.
 #[cycle(read)]
 fn members_of(
     heap: Global,
@@ -115,6 +120,7 @@ fn members_of(
     ensures err { result ≡ Err Shape → converted (λ ms. of_members ms no_members) (members (value depth) (length reader.old) reader.old) ≡ None }
 {
     let mut found = Map::new(heap);
+    // form: the proof names the loop
     'members: while let Some(name) = reader.next_key()? {
         let key = String::from_str(heap, name)?;
         let member = value_of(heap, reader, depth)?;

@@ -1,16 +1,16 @@
-//! `Unread`: why a value can't be had from a text, or isn't what the text should have.
+//! `Unread`: why a value can't be read from a text, or isn't what the text should have.
 ghost use Rattle.std.specs.Prelude.{◌≡◌};
 ghost use Rattle.json_core.specs.declared.unread.Unread.TheVariants.{Memory, Shape};
 
 use json::Invalid;
 use std::alloc::{AllocError, AllocFailed};
 
-/// Why a part of a text could not be read.
+/// Why a part of a text couldn't be read.
 #[derive(Clone, Copy, Debug, PartialEq, Eq)]
 pub enum Unread {
     /// A request for memory was refused.
     Memory,
-    /// It doesn't have the form that it should have.
+    /// The part doesn't have the form that it should have.
     Shape,
 }
 

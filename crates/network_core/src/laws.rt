@@ -12,54 +12,61 @@ ghost use Rattle.network_core.specs.Rows.{OnlineRowsLaw, RowsLaw};
 ghost use Rattle.network_core.specs.Seen.{SameReplicaLaw, SeenLaw};
 ghost use Rattle.network_core.specs.Settling.{LengthLaw, NextDeliveryLaw, QuietLaw, SettleLaw};
 
-/// A delivery can pass a join, a leave, an update, a status of a known name, a broadcast and a request of its node.
+/// A delivery at a node can be exchanged with another step of the node, and the node's replica becomes the same either
+/// way. The other step is a join, a leave, a leave all, an update, a broadcast, a request, or an up or a down of a name
+/// that the node knows.
 pub fn own_law()
     ensures { OwnLaw }
 {}
 
-/// Steps that make no more entries than a node may hold never fill one.
+/// If the steps make no more entries than a node may hold, none of them is refused as `EntriesFull`.
 pub fn never_full_law()
     ensures { NeverFullLaw }
 {}
 
-/// An easy step of a node can be moved before the deliveries at its node and the steps of other nodes that stand before
-/// it.
+/// An easy step (see `is_easy` of `network_rules`) can be moved to the front of the steps before it, if each of these
+/// is a delivery at the easy step's node or a step of another node. The exception is a move after which a step is
+/// refused as `EntriesFull`.
 pub fn easy_law()
     ensures in_runs { EagerLaw }
     ensures in_network_runs { EagerStepLaw }
 {}
 
-/// Clusters that are alike in what matters stay so, and refuse the same steps.
+/// Clusters that are alike in the dots that matter refuse the same steps, `EntriesFull` apart, and are alike again
+/// after each step that both take.
 pub fn alike_law()
     ensures step { StepLaw }
     ensures steps { StepsLaw }
 {}
 
-/// Each entry in a run was made by a join or an update of its node, at a dot that the node's own steps give. So the
-/// recorded run tells which entries there can be.
+/// Each entry in a run of the network was made by a join or an update of the node that its dot names. The dot follows
+/// from that node's own steps, which are those of the recorded run. So the recorded run tells which entries there can
+/// be.
 pub fn made_law()
     ensures made { MadeLaw }
     ensures wanted { WantedLaw }
     ensures fresh { FreshLaw }
 {}
 
-/// The dots that nodes have seen are those that the own steps of the recorded run give. Replicas that are the same in
-/// these dots are the same.
+/// The dots that nodes have seen at the end of a run are among those that the nodes' own steps give. If a node's
+/// replicas at the ends of two runs of the network are the same in all dots that the recorded run gives, they are the
+/// same.
 pub fn seen_law()
     ensures seen { SeenLaw }
     ensures same { SameReplicaLaw }
 {}
 
-/// Replicas that are the same in the dots of a topic and a key show the same rows of these, also in their online lists.
+/// Replicas that are the same in the dots of a topic and a key show the same rows with that topic and key: in the order
+/// of the dots, and in their online lists.
 pub fn rows_law()
     ensures shown { RowsLaw }
     ensures online { OnlineRowsLaw }
 {}
 
 /// In each run of the network, what matters after a step comes from what matters before it. So one beginning of a run
-/// serves for another, if the same is left to be done and the clusters are alike. A delivery that brings nothing which
-/// matters can come first, and so can the next step of a node at which nothing more is delivered, if its message is
-/// there.
+/// serves for another if the same steps are still to be taken and the clusters are alike. A recorded delivery that
+/// hasn't come yet can come first if it is accepted and brings nothing that matters. The next step of a node at which
+/// nothing more is delivered can come first, too, if it is accepted.
 pub fn cone_law()
     ensures passes { ConeLaw }
     ensures stands { StandsLaw }
@@ -67,19 +74,20 @@ pub fn cone_law()
     ensures alone { AloneLaw }
 {}
 
-/// If each node took the same steps, clusters in which the dots that matter stand alike are alike.
+/// If each node took the same steps, deliveries apart, in two clusters, and the dots that matter stand the same in
+/// both, the clusters are alike.
 pub fn keys_law()
     ensures { StandAlikeLaw }
 {}
 
-/// When all that can come from a beginning of runs of the network ends in outcomes that were found; and how long such
-/// runs are.
+/// Tells when every run of the network with a given beginning ends in an outcome that was found, and how long a run of
+/// the network can be.
 pub fn settle_law()
     ensures settled { SettleLaw }
     ensures length { LengthLaw }
 {}
 
-/// Which deliveries of a message at a node are left.
+/// Tells which deliveries of a message at a node may still come.
 pub fn next_law()
     ensures quiet { QuietLaw }
     ensures next { NextDeliveryLaw }

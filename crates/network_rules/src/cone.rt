@@ -1,4 +1,5 @@
-//! `Cone`: which names matter where: in what a node has seen, after each number of its own steps, and in a message.
+//! `Cone`: which names matter at a node once it has taken 0, 1, 2 and so on of its own steps, and which matter in each
+//! message. A name matters where its dots can decide what the end of a run shows to the question.
 ghost use Rattle.std.specs.Prelude.{◌≡◌, ◌<◌, ℕ, List, map, suc, true, IsTrue, Some, slice_get};
 ghost use Rattle.std.specs.FinSet.{contains};
 ghost use Rattle.std.specs.List.{AllByRecursion};
@@ -17,10 +18,10 @@ use dots_core::{Dot, NameSet};
 use std::alloc::Allocator;
 use std::marker::Model;
 
-/// For each node a list of sets of names.
+/// For each node a list of sets of names. (Not rows of an online list.)
 pub type Rows<A> = Vec<Vec<NameSet, A>, A>;
 
-/// The dots that are asked for, and which names matter where.
+/// The dots that a question is about, and which names matter for them, at nodes and in messages.
 #[derive(Drop)]
 pub struct Cone<'a, B: Allocator> {
     dots: Vec<Dot, &'a B>,
@@ -41,7 +42,7 @@ impl<'a, B: Allocator> Model for Cone<'a, B> {
     ghost view = { λ c. record { dots = c.dots.items; matters = map (λ row. row.items) c.matters.items; carries = map (λ row. row.items) c.carries.items } };
 }
 
-/// The names at a place of a row, or at its last one.
+/// The names at `place` in the row; those at its last place if the row is shorter; all names if it is empty.
 fn in_row(row: &[NameSet], place: usize) -> NameSet
     ensures { result ≡ in_row (Some row.now) place }
 {
@@ -54,7 +55,7 @@ fn in_row(row: &[NameSet], place: usize) -> NameSet
     }
 }
 
-/// The names at a place of a node's row; all, where there is no row.
+/// Like `in_row`, for the row of `node`; all names if the node has no row.
 fn names_at<A: Allocator>(rows: &[Vec<NameSet, A>], node: usize, place: usize) -> NameSet
     ensures { result ≡ names_at (map (λ row. row.items) rows.now) node place }
 {
@@ -64,7 +65,9 @@ fn names_at<A: Allocator>(rows: &[Vec<NameSet, A>], node: usize, place: usize) -
     }
 }
 
-/// The names among those carried that a step sends from what its node has.
+/// Of the names `carried`, which matter in the message that a step sends, those whose dots the step takes from what its
+/// node has seen. For an extract these are the ones that it names, for an answer all of `carried`, and for other steps
+/// none.
 pub fn said<A: Allocator>(step: &Step<A>, carried: NameSet) -> NameSet
     ensures { (q : ℕ) → contains carried q ≡ true → says (plain step.now) q ≡ true → contains result q ≡ true }
 {
@@ -79,39 +82,45 @@ pub fn said<A: Allocator>(step: &Step<A>, carried: NameSet) -> NameSet
 }
 
 impl<'a, B: Allocator> Cone<'a, B> {
-    /// The dots that are asked for.
+    /// The dots that the question is about.
     pub fn dots(&self) -> &[Dot]
         ensures { result.now ≡ self.now.dots }
     {
         self.dots.as_slice()
     }
 
-    /// The names that matter to a node after `taken` of its own steps.
+    /// The names that matter to a node once it has taken `taken` of its own steps; all names if the cone has no row of
+    /// the node.
     pub fn matter(&self, node: u16, taken: usize) -> NameSet
         ensures { result ≡ matter self.now node taken }
     {
         names_at(self.matters.as_slice(), node as usize, taken)
     }
 
-    /// The names that matter in a message of a node, by its number from 1.
+    /// The names that matter in the node's message with this number, counted from 1; all names if the cone has no row
+    /// of the node.
     pub fn carried(&self, node: u16, number: u64) -> NameSet
         ensures { result ≡ carried self.now node number }
     {
         names_at(
             self.carries.as_slice(),
             node as usize,
+            // form: saturating spares a requirement
             number.saturating_sub(1) as usize,
         )
     }
 
-    /// Whether each set of a row has all names of the next one.
+    /// Whether the names that matter to a node never grow along its own steps: each set of names has all names of the
+    /// next one.
     fn falls(&self) -> bool
         ensures { IsTrue result → (n p : ℕ) → Within (matter self.now n (suc p)) (matter self.now n p) }
     {
         are_falling(self.matters.as_slice())
     }
 
-    /// Whether the cone leaves nothing out at this step.
+    /// Whether the cone leaves out no name at this step. At a delivery, the names that matter to the node before its
+    /// first own step must matter in the message. At an own step, the names that matter in the step's message, and
+    /// whose dots the step takes from what the node has seen (see `said`), must matter to the node before the step.
     fn keeps_at<A: Allocator>(&self, kept: &Kept<A>, rank: Rank) -> bool
         ensures { IsTrue result → KeepsAt self.now kept.now rank }
     {
@@ -126,9 +135,10 @@ impl<'a, B: Allocator> Cone<'a, B> {
         }
     }
 
-    /// As `keeps_at`, for the step at a place.
+    /// Like `keeps_at`, but for the step at `place`; true if there is no such step, or it has no rank.
     fn keeps_place<A: Allocator>(&self, steps: &[Kept<A>], ranks: &[Rank], place: usize) -> bool
-        ensures { IsTrue result → (k : PlainKept) (x : PlainRank) → slice_get steps.now place ≡ Some k → slice_get ranks.now place ≡ Some x → KeepsAt self.now k x }
+        ensures { IsTrue result → (k : PlainKept) (x : PlainRank) → slice_get steps.now place ≡ Some k → slice_get ranks.now place ≡ Some x
+            → KeepsAt self.now k x }
     {
         let Some(kept) = steps.get(place) else {
             return true;
@@ -139,9 +149,10 @@ impl<'a, B: Allocator> Cone<'a, B> {
         self.keeps_at(kept, *rank)
     }
 
-    /// Whether the cone leaves nothing out at any of the steps.
+    /// Whether the cone leaves out no name at any of the steps (see `keeps_at`).
     fn keeps_all<A: Allocator>(&self, steps: &[Kept<A>], ranks: &[Rank]) -> bool
-        ensures { IsTrue result → (place : ℕ) (k : PlainKept) (x : PlainRank) → slice_get steps.now place ≡ Some k → slice_get ranks.now place ≡ Some x → KeepsAt self.now k x }
+        ensures { IsTrue result → (place : ℕ) (k : PlainKept) (x : PlainRank) → slice_get steps.now place ≡ Some k
+            → slice_get ranks.now place ≡ Some x → KeepsAt self.now k x }
     {
         for place in 0..steps.len() {
             if !self.keeps_place(steps, ranks, place) {
@@ -151,21 +162,22 @@ impl<'a, B: Allocator> Cone<'a, B> {
         true
     }
 
-    /// Whether the cone leaves nothing out.
+    /// Whether the cone leaves out no name that matters: `falls` and `keeps_all` are true of it.
     fn is_closed<A: Allocator>(&self, steps: &[Kept<A>], ranks: &[Rank]) -> bool
         ensures { IsTrue result → IsClosed steps.now ranks.now self.now }
     {
         self.falls() && self.keeps_all(steps, ranks)
     }
 
-    /// Whether all dots that are asked for matter to this node after `taken` of its own steps.
+    /// Whether all dots that the question is about matter to this node after `taken` of its own steps.
     fn is_asked(&self, node: u16, taken: usize) -> bool
         ensures { IsTrue result → IsAsked self.now node taken }
     {
         have_all(self.dots(), self.matter(node, taken))
     }
 
-    /// As `is_asked`, for a node after all its own steps, if the question is about the node.
+    /// Whether all dots that the question is about matter to this node after all its own steps. True if the question is
+    /// about another node.
     fn is_asked_at(&self, turns: &[Turn], asked: Option<u16>, node: u16) -> bool
         ensures { IsTrue result → IsAskedAt turns.now asked node self.now }
     {
@@ -175,7 +187,7 @@ impl<'a, B: Allocator> Cone<'a, B> {
         self.is_asked(node, recorded(turns, node))
     }
 
-    /// As `is_asked_at`, for each of the first `count` nodes.
+    /// Whether `is_asked_at` is true of each of the first `count` nodes.
     fn are_asked(&self, turns: &[Turn], count: u16, asked: Option<u16>) -> bool
         ensures { IsTrue result → AreAllAsked turns.now count asked self.now }
     {
@@ -188,7 +200,7 @@ impl<'a, B: Allocator> Cone<'a, B> {
     }
 }
 
-/// Whether the question is about this node: about it alone, or about all.
+/// Whether a question about the node `asked`, or about all nodes if `asked` is `None`, is about the node `number`.
 fn asks(asked: Option<u16>, number: u16) -> bool
     ensures { result ≡ asks asked number }
 {
@@ -198,7 +210,8 @@ fn asks(asked: Option<u16>, number: u16) -> bool
     }
 }
 
-/// How many steps of the turn at this place were recorded.
+/// How many steps of the turn at `place` were recorded; 0 if there is no such turn. The turn of a node's own steps is
+/// at the place with the node's number.
 fn recorded(turns: &[Turn], place: u16) -> usize
     ensures { (t : PlainTurn) → slice_get turns.now place ≡ Some t → result ≡ t.recorded }
 {
@@ -220,7 +233,7 @@ fn have_all(dots: &[Dot], names: NameSet) -> bool
     true
 }
 
-/// Whether each row is falling.
+/// Whether each row falls (see `is_falling`).
 fn are_falling<A: Allocator>(rows: &[Vec<NameSet, A>]) -> bool
     ensures { IsTrue result → (n p : ℕ) → Within (names_at (map (λ row. row.items) rows.now) n (suc p)) (names_at (map (λ row. row.items) rows.now) n p) }
 {
@@ -232,7 +245,7 @@ fn are_falling<A: Allocator>(rows: &[Vec<NameSet, A>]) -> bool
     true
 }
 
-/// Whether each set of names has all that the next one has.
+/// Whether the row falls: each set of names has all names of the next one.
 fn is_falling(row: &[NameSet]) -> bool
     ensures { IsTrue result → (p : ℕ) → Within (in_row (Some row.now) (suc p)) (in_row (Some row.now) p) }
 {
@@ -244,8 +257,9 @@ fn is_falling(row: &[NameSet]) -> bool
     true
 }
 
-/// The cone of these dots, with the names that were found to matter at the end of the node that is asked about, or of
-/// all. If they leave something out, all names matter.
+/// The cone of `dots`, from the names that a search found to matter at nodes (`matters`) and in messages (`carries`).
+/// The search isn't trusted: unless `is_closed` and `are_asked` are true of what it found, the cone has all names
+/// everywhere. `asked` is the node that the question is about; `None` stands for all of the first `count` nodes.
 pub fn cone_of<'a, B: Allocator>(
     steps: &[Kept<&'a B>],
     dots: Vec<Dot, &'a B>,
@@ -275,6 +289,7 @@ pub fn cone_of<'a, B: Allocator>(
         matters,
         carries,
     } = cone;
+    // form: drop before exit
     drop(matters);
     drop(carries);
     Cone {

@@ -1,4 +1,4 @@
-//! Steps that can be taken first without missing an outcome, by the present cluster.
+//! Steps that can be taken first, at the present cluster, without missing an outcome.
 ghost use Rattle.std.specs.Prelude.{◌≡◌, ◌==◌, false, true, IsTrue};
 ghost use Rattle.std.specs.FinSet.{contains};
 ghost use Rattle.node_core.specs.Operations.{plain, Up};
@@ -13,10 +13,12 @@ use dots_core::{Dot, NameSet};
 use payload_core::Payload;
 use std::alloc::Allocator;
 
-/// Whether a step concerns only its node's own entries, its delta and names that it knows.
+/// Whether the step is easy: a join, a leave, a leave all, an update, a broadcast, a request, a down, or an up of a
+/// name that the node knows. Such a step concerns only the node's own entries, its delta and the names that it knows.
 pub fn is_easy<'a, B: Allocator>(cluster: &Cluster<'a, B>, node: u16, step: &Step<&'a B>) -> bool
     ensures { IsTrue result → IsEasyAt cluster.now node (plain step.now) }
 {
+    // form: each arm is a case of the proof
     match step {
         Step::Join {
             pid: _,
@@ -44,7 +46,7 @@ pub fn is_easy<'a, B: Allocator>(cluster: &Cluster<'a, B>, node: u16, step: &Ste
     }
 }
 
-/// Whether a node knows a name.
+/// Whether a node knows a name; false if there is no such node.
 fn knows<'a, B: Allocator>(cluster: &Cluster<'a, B>, node: u16, name: u16) -> bool
     ensures { IsTrue result → IsEasyAt cluster.now node (Up name) }
 {
@@ -54,14 +56,15 @@ fn knows<'a, B: Allocator>(cluster: &Cluster<'a, B>, node: u16, name: u16) -> bo
     }
 }
 
-/// Whether a message brings nothing of this dot that matters. The node's own dots are no news to it.
+/// Whether `message` brings the node `own`, which takes it, no news of `dot`: the dot is the node's own, or has a name
+/// that isn't among `names`, or isn't in the message.
 fn is_no_news<A: Allocator>(dot: Dot, message: &Payload<A>, names: NameSet, own: u16) -> bool
     ensures { IsTrue result → (dot.name == own) ≡ false → contains names dot.name ≡ true → contains message.now.seen dot ≡ false }
 {
     dot.name == own || !names.has(dot.name) || !message.seen().contains(dot)
 }
 
-/// Whether the message brings none of the dots of these names that are asked for.
+/// Whether `is_no_news` is true of each of `dots`.
 fn brings_none<A: Allocator>(dots: &[Dot], message: &Payload<A>, names: NameSet, own: u16) -> bool
     ensures { IsTrue result → BringsNone dots.now names own message.now }
 {
@@ -73,7 +76,9 @@ fn brings_none<A: Allocator>(dots: &[Dot], message: &Payload<A>, names: NameSet,
     true
 }
 
-/// Whether another delivery of this turn was recorded, its message is there, and it would change nothing that matters.
+/// Whether the delivery of message `number` of `sender` at `node` brings no news of a dot that matters there (see
+/// `is_no_news`), and so would change nothing that matters. `turn` is the place of the delivery's turn. False if the
+/// message wasn't sent, there is no such turn, or all its recorded deliveries came.
 pub fn is_idle<'a, B: Allocator>(
     cluster: &Cluster<'a, B>,
     cone: &Cone<'a, B>,

@@ -1,4 +1,4 @@
-//! `Key`: what decides what can come of a state.
+//! `Key`, by which states are compared: from two states with the same key the same outcomes can follow.
 ghost use Rattle.std.specs.Prelude.{◌≡◌, ◌++◌, IfOk, OnOk, Some, length, option_map, slice_get};
 ghost use Rattle.std.specs.Option.{option_copied};
 ghost use Rattle.node_core.specs.Operations.{plain};
@@ -16,10 +16,11 @@ use node_core::Oom;
 use payload_core::{EntrySet, Payload};
 use std::alloc::Allocator;
 
-/// How often each turn came, and how the dots that matter stand, at nodes and in messages.
+/// How often each turn came, and then how the dots that matter stand, first at nodes and then in the messages of
+/// extracts and answers.
 pub type Key<A> = Vec<usize, A>;
 
-/// How a dot stands: 1 where it has its entry, 2 where its entry went, 0 where it was not seen.
+/// The standing of a dot: 0 unseen, 1 live, 2 gone.
 fn standing<A: Allocator>(seen: &DotSet<A>, entries: &EntrySet<A>, dot: Dot) -> usize
     ensures { result ≡ standing_in seen.now entries.now.map dot }
 {
@@ -52,7 +53,7 @@ fn in_message<A: Allocator>(message: Option<&Payload<A>>, dot: Dot) -> usize
     }
 }
 
-/// The message of a node, by its number, if it was sent.
+/// The node's message with this number; `None` if there is no such node or the message wasn't sent.
 pub fn message_of<'x, 'a, B: Allocator>(
     cluster: &'x Cluster<'a, B>,
     node: u16,
@@ -63,7 +64,8 @@ pub fn message_of<'x, 'a, B: Allocator>(
     cluster.node(node)?.outbox().get(number)
 }
 
-/// Appends how a dot stands at a node, if it matters there. A node's own dots follow from its own steps.
+/// Appends how `dot` stands at the node `number`, unless the dot is that node's own or has a name that isn't among
+/// `names`. (How a node's own dots stand follows from its own steps.)
 fn put_at_node<'a, B: Allocator>(
     key: &mut Key<&'a B>,
     dot: Dot,
@@ -79,7 +81,7 @@ fn put_at_node<'a, B: Allocator>(
     Ok(())
 }
 
-/// Appends how the dots of these names stand at a node.
+/// Appends how each of `dots` stands at the node `number`, if the dot's name is among `names` and isn't the node's own.
 fn put_node<'a, B: Allocator>(
     key: &mut Key<&'a B>,
     dots: &[Dot],
@@ -95,7 +97,7 @@ fn put_node<'a, B: Allocator>(
     Ok(())
 }
 
-/// Appends how a dot stands in a message, if it matters.
+/// Appends how `dot` stands in the message `number` of `node`, if the dot's name is among `names`.
 fn put_in_message<'a, B: Allocator>(
     key: &mut Key<&'a B>,
     dot: Dot,
@@ -112,7 +114,7 @@ fn put_in_message<'a, B: Allocator>(
     Ok(())
 }
 
-/// Appends how the dots of these names stand in a message.
+/// Appends how each of `dots` whose name is among `names` stands in the message `number` of `node`.
 fn put_message<'a, B: Allocator>(
     key: &mut Key<&'a B>,
     dots: &[Dot],
@@ -129,10 +131,11 @@ fn put_message<'a, B: Allocator>(
     Ok(())
 }
 
-/// Whether a step sends what its node has.
+/// Whether the step sends dots that its node has seen, its own or not: an extract or an answer.
 fn sends_held<A: Allocator>(step: &Step<A>) -> bool
     ensures { result ≡ sends_held (plain step.now) }
 {
+    // form: each arm is a case of the proof
     match step {
         Step::Extract { names: _ } => true,
         Step::Answer {
@@ -143,7 +146,7 @@ fn sends_held<A: Allocator>(step: &Step<A>) -> bool
     }
 }
 
-/// Appends how the dots that matter stand at the nodes.
+/// Appends how the dots that matter stand at each of the first `count` nodes.
 fn put_nodes<'a, B: Allocator>(
     key: &mut Key<&'a B>,
     cone: &Cone<'a, B>,
@@ -160,7 +163,8 @@ fn put_nodes<'a, B: Allocator>(
     Ok(())
 }
 
-/// Appends how the dots that matter stand in the message that a step sent, if the step came.
+/// Appends how the dots that matter stand in the message that the step `kept` sent. Appends nothing if the step is
+/// neither an extract nor an answer, or hasn't come.
 fn put_sent<'a, B: Allocator>(
     key: &mut Key<&'a B>,
     cone: &Cone<'a, B>,
@@ -178,7 +182,7 @@ fn put_sent<'a, B: Allocator>(
     Ok(())
 }
 
-/// As `put_sent`, if the rank of the step is known.
+/// Like `put_sent`, but appends nothing if the step has no rank.
 fn put_place<'a, B: Allocator>(
     key: &mut Key<&'a B>,
     cone: &Cone<'a, B>,
@@ -187,7 +191,8 @@ fn put_place<'a, B: Allocator>(
     rank: Option<&Rank>,
     counts: &[usize],
 ) -> Result<(), Oom>
-    ensures { OnOk result (key.new.items ≡ key.old.items ++ answers cluster.now (sent_queries cone.now counts.now (Some kept.now) (option_map (λ r. r.now) rank.entry))) }
+    ensures { OnOk result (key.new.items ≡ key.old.items ++ answers cluster.now
+        (sent_queries cone.now counts.now (Some kept.now) (option_map (λ r. r.now) rank.entry))) }
 {
     match rank {
         Some(rank) => put_sent(key, cone, cluster, counts, kept, *rank),
@@ -195,7 +200,8 @@ fn put_place<'a, B: Allocator>(
     }
 }
 
-/// Appends how the dots that matter stand in the messages.
+/// Appends how the dots that matter stand in the messages of those extracts and answers among `steps` that came (see
+/// `put_sent`).
 fn put_messages<'a, B: Allocator>(
     key: &mut Key<&'a B>,
     cone: &Cone<'a, B>,
@@ -204,7 +210,8 @@ fn put_messages<'a, B: Allocator>(
     ranks: &[Rank],
     counts: &[usize],
 ) -> Result<(), Oom>
-    ensures { OnOk result (key.new.items ≡ key.old.items ++ answers cluster.now (queries_of_messages cone.now steps.now ranks.now counts.now (length steps.now))) }
+    ensures { OnOk result (key.new.items ≡ key.old.items ++ answers cluster.now
+        (queries_of_messages cone.now steps.now ranks.now counts.now (length steps.now))) }
 {
     for place in 0..steps.len() {
         put_place(key, cone, cluster, &steps[place], ranks.get(place), counts)?;
@@ -212,7 +219,8 @@ fn put_messages<'a, B: Allocator>(
     Ok(())
 }
 
-/// The key of a state.
+/// The key of the state in which each turn has come as often as `counts` says, and whose cluster is `cluster`. `count`
+/// is the number of nodes.
 pub fn key_of<'a, B: Allocator>(
     cone: &Cone<'a, B>,
     cluster: &Cluster<'a, B>,

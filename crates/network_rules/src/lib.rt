@@ -1,9 +1,10 @@
-//! The rules of runs of the network: what may come next, what can be taken first, which names matter where, and what decides
-//! what can come of a state. A walk over such runs asks each of them.
+//! The rules of runs of the network: which steps may come next, which can be taken first, which names matter where, and
+//! the key of a state, which decides what can follow it. A walk over such runs asks these rules.
 //!
-//! In the order to read them: `turn`, whose step or delivery a step is; `next`, what may come next; `names` and `cone`, which
-//! names matter where; `key`, what decides what can come of a state; `first`, what can be taken first; `path`, the run of an
-//! outcome.
+//! The crate stands on `network_core` (what holds of such runs) and on `bench_core` (clusters), and names the plain
+//! types of the crates below. The modules in reading order: `turn`, the turns to which steps belong; `next`, what may
+//! come next; `names`, sets of names; `cone`, which names matter where; `key`, the key of a state; `first`, what can be
+//! taken first; `path`, the run of an outcome.
 #![tactic(auto)]
 
 mod cone;

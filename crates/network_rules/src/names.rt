@@ -1,4 +1,5 @@
-//! Sets of names, name by name.
+//! Sets of names: the set of all, the names that two sets have in common, and whether one set is within another.
+//! Each is found in a loop over the 32 names.
 ghost use Rattle.std.specs.Prelude.{◌≡◌, ◌<◌, ℕ, IsTrue, true, if◌then◌else◌};
 ghost use Rattle.std.specs.FinSet.{contains};
 ghost use Rattle.std.specs.FinSet as set;
@@ -17,7 +18,7 @@ pub fn all_names() -> NameSet
     names
 }
 
-/// The names, with this one if `wanted`.
+/// `names`, to which `name` is added if `wanted`.
 fn with_if(names: NameSet, name: u16, wanted: bool) -> NameSet
     requires { name < 32 }
     ensures { result ≡ (if wanted then set.insert names name else names) }
@@ -31,13 +32,15 @@ pub(crate) fn common(one: NameSet, other: NameSet) -> NameSet
 {
     let mut names = NameSet::empty();
     for name in 0..32u16 {
+        // form: `&` has no branch that the proof would go through
         names = with_if(names, name, one.has(name) & other.has(name));
     }
+    // form: hands out what the value keeps
     one.names_law();
     names
 }
 
-/// Whether the other has all names of the first.
+/// Whether `other` has all names of `one`.
 pub(crate) fn is_within(one: NameSet, other: NameSet) -> bool
     ensures { IsTrue result → (n : ℕ) → contains one n ≡ true → contains other n ≡ true }
 {
@@ -46,6 +49,7 @@ pub(crate) fn is_within(one: NameSet, other: NameSet) -> bool
             return false;
         }
     }
+    // form: hands out what the value keeps
     one.names_law();
     true
 }

@@ -1,18 +1,18 @@
-//! What may come next, by how often each turn came.
+//! Which steps may come next, given how often each turn came: how many steps of the turn were taken.
 ghost use Rattle.std.specs.Prelude.{◌≡◌, ◌≤◌, IsTrue, nat_le, nat_lt, true};
 ghost use Rattle.std.specs.Option.{is_some};
 ghost use Rattle.network_rules.specs.Turns.{count_at, extra, is_end, is_next, is_next_by, is_whole, is_whole_by, missing, AreSpent};
 
 use crate::turn::{Rank, Turn};
 
-/// How often the turn at this place came.
+/// How often the turn at `place` came; 0 if there is no such turn.
 pub fn count_at(counts: &[usize], place: usize) -> usize
     ensures { result ≡ count_at counts.now place }
 {
     counts.get(place).copied().unwrap_or(0)
 }
 
-/// Whether at most `most` deliveries came beyond those that were recorded.
+/// Whether at most `most` steps came beyond the recorded ones. (Only deliveries can.)
 fn few_extra(turns: &[Turn], counts: &[usize], most: usize) -> bool
     ensures { result ≡ nat_le (extra turns.now counts.now 0) most }
 {
@@ -27,7 +27,7 @@ fn few_extra(turns: &[Turn], counts: &[usize], most: usize) -> bool
     true
 }
 
-/// Whether at most `most` deliveries are missing.
+/// Whether at most `most` of the recorded steps are missing. If all own steps came, the missing ones are deliveries.
 fn few_missing(turns: &[Turn], counts: &[usize], most: usize) -> bool
     ensures { result ≡ nat_le (missing turns.now counts.now 0) most }
 {
@@ -44,15 +44,15 @@ fn few_missing(turns: &[Turn], counts: &[usize], most: usize) -> bool
     true
 }
 
-/// Whether a delivery may come again.
+/// Whether a delivery may come a second time: fewer than `again` have done so.
 fn may_repeat(turns: &[Turn], counts: &[usize], again: usize) -> bool
     ensures { result ≡ nat_lt (extra turns.now counts.now 0) again }
 {
     again > 0 && few_extra(turns, counts, again - 1)
 }
 
-/// Whether a turn is whole: all own steps of its node came, or its delivery came at most twice as often as it was
-/// recorded.
+/// Whether a turn may end with this count. A turn of own steps may if all of them came, a turn of deliveries if at most
+/// twice as many came as were recorded.
 fn is_whole_by(turn: Turn, count: usize) -> bool
     ensures { result ≡ is_whole_by turn.delivers turn.recorded count }
 {
@@ -62,7 +62,7 @@ fn is_whole_by(turn: Turn, count: usize) -> bool
     }
 }
 
-/// Whether each turn is whole.
+/// Whether `is_whole_by` is true of each turn.
 fn is_whole(turns: &[Turn], counts: &[usize]) -> bool
     ensures { result ≡ is_whole turns.now counts.now 0 }
 {
@@ -74,14 +74,17 @@ fn is_whole(turns: &[Turn], counts: &[usize]) -> bool
     true
 }
 
-/// Whether a run may end here, since all that must come has come.
+/// Whether a run may end here: all own steps came, at most `lost` recorded deliveries are missing, and at most `again`
+/// deliveries came a second time.
 pub fn is_end(turns: &[Turn], counts: &[usize], lost: usize, again: usize) -> bool
     ensures { result ≡ is_end turns.now counts.now lost again }
 {
     is_whole(turns, counts) && few_missing(turns, counts, lost) && few_extra(turns, counts, again)
 }
 
-/// Whether a step is the next of its turn, where `before` steps of the turn stand before it and `count` came.
+/// Whether a step of `turn` may come next, if `before` recorded steps of the turn stand before it and `count` steps of
+/// the turn came. The first recorded step that hasn't come may. Once all recorded deliveries of the turn came, the
+/// first of them stands for each delivery that comes again, as long as one may.
 fn is_next_by(
     turns: &[Turn],
     counts: &[usize],
@@ -106,7 +109,7 @@ fn is_next_by(
     }
 }
 
-/// Whether the step at this place may come next.
+/// Whether the step at `place` may come next; false if the step has no rank, or the rank's turn isn't among `turns`.
 pub fn is_next(turns: &[Turn], ranks: &[Rank], counts: &[usize], again: usize, place: usize) -> bool
     ensures { result ≡ is_next turns.now ranks.now counts.now again place }
 {
@@ -126,7 +129,8 @@ pub fn is_next(turns: &[Turn], ranks: &[Rank], counts: &[usize], again: usize, p
     )
 }
 
-/// Whether nothing more of this turn is delivered at this node.
+/// Whether no delivery of this turn can still come to `node`: the turn is another node's, or one of own steps, or all
+/// its recorded deliveries came and `again` is 0.
 fn is_spent(turn: Turn, count: usize, again: usize, node: u16) -> bool
     ensures { IsTrue result → turn.node ≡ node → is_some turn.delivers ≡ true → (again ≡ 0) × (turn.recorded ≤ count) }
 {
@@ -139,7 +143,7 @@ fn is_spent(turn: Turn, count: usize, again: usize, node: u16) -> bool
     again == 0 && turn.recorded <= count
 }
 
-/// Whether nothing more is delivered at this node.
+/// Whether `is_spent` is true of each turn, so that nothing more is delivered at this node.
 pub fn are_spent(turns: &[Turn], counts: &[usize], again: usize, node: u16) -> bool
     ensures { IsTrue result → AreSpent turns.now counts.now again node }
 {

@@ -1,10 +1,10 @@
-//! The places of a run's steps among the recorded ones.
+//! A path: the places of a run's steps among the recorded steps.
 ghost use Rattle.std.specs.Prelude.{◌≡◌, ◌++◌, ◌∷◌, [], IfOk, OnOk};
 
 use node_core::Oom;
 use std::alloc::Allocator;
 
-/// Appends a step to the path, by its place.
+/// Appends the place of a step to the path.
 pub fn extend<A: Allocator>(path: &mut Vec<usize, A>, place: usize) -> Result<(), Oom>
     ensures { OnOk result (path.new.items ≡ path.old.items ++ place ∷ []) }
 {
@@ -12,7 +12,7 @@ pub fn extend<A: Allocator>(path: &mut Vec<usize, A>, place: usize) -> Result<()
     Ok(())
 }
 
-/// The run of an outcome: the whole path.
+/// A copy of the path, which is the run of an outcome.
 pub fn run_of<'a, B: Allocator>(path: &[usize], alloc: &'a B) -> Result<Vec<usize, &'a B>, Oom>
     ensures { IfOk result (λ run. run.items ≡ path.now) }
 {

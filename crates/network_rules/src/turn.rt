@@ -1,4 +1,5 @@
-//! `Turn`: what may come next, a node's next own step or one more delivery; and `Rank`: where a step stands among those of its turn.
+//! `Turn`: a node's own steps, or the deliveries of one message at a node; and `Rank`: where a step stands among those
+//! of its turn.
 ghost use Rattle.std.specs.Prelude.{◌≡◌};
 ghost use Rattle.node_core.specs.Operations.{plain};
 ghost use Rattle.network_rules.specs.Turns.{delivery_of, is_of, same_message};
@@ -6,18 +7,18 @@ ghost use Rattle.network_rules.specs.Turns.{delivery_of, is_of, same_message};
 use bench_core::{Kept, Step};
 use std::alloc::Allocator;
 
-/// A node's own steps, or the deliveries of one message at one node.
+/// A node's own steps, or the deliveries of one message at the node.
 #[derive(Clone, Copy)]
 pub struct Turn {
     pub node: u16,
-    /// The message that is delivered, by its sender and number; `None` where the steps are the node's own.
+    /// The sender and number of the message that is delivered; `None` if the steps are the node's own.
     pub delivers: Option<(u16, u64)>,
-    /// How many of them were recorded.
+    /// How many steps of the turn were recorded.
     pub recorded: usize,
 }
 
 /// For a recorded step: the place of its turn, how many steps of that turn stand before it, and the number of the
-/// message that it sends, if it sends one.
+/// message that it sends. A step that sends none has the number of its node's next message.
 #[derive(Clone, Copy)]
 pub struct Rank {
     pub turn: usize,
@@ -25,7 +26,7 @@ pub struct Rank {
     pub number: u64,
 }
 
-/// The message that a step delivers, unless the step is an answer.
+/// The sender and number of the message that a step delivers. `None` also for an answer, which counts as an own step.
 pub fn delivery<A: Allocator>(step: &Step<A>) -> Option<(u16, u64)>
     ensures { result ≡ delivery_of (plain step.now) }
 {
@@ -35,10 +36,11 @@ pub fn delivery<A: Allocator>(step: &Step<A>) -> Option<(u16, u64)>
     }
 }
 
-/// Whether both are the same message, or neither is one.
+/// Whether both are the same message, or both are `None`.
 fn same_message(one: Option<(u16, u64)>, other: Option<(u16, u64)>) -> bool
     ensures { result ≡ same_message one other }
 {
+    // form: the proof goes along these patterns, where `==` would do
     match one {
         None => other.is_none(),
         Some((sender, number)) => match other {

@@ -9,16 +9,16 @@ use std::alloc::Allocator;
 /// What one step of a node destroyed: with it `Node::give_back` takes the step back (Danos and Krivine: causal undo).
 #[derive(Drop)]
 pub enum Inverse<A: Allocator> {
-    /// The step changed the replica.
+    /// The step changed the replica, and this is the change.
     Change(Change<A>),
-    /// The step sent the delta, as the last message.
+    /// The step sent the delta, which is the last message.
     Broadcast,
-    /// The step sent the last message, which wasn't the delta: an extract, a request or an answer.
+    /// The step sent the last message, and that wasn't the delta: an extract, a request or an answer.
     Sent,
 }
 
 impl<A: Allocator> Inverse<A> {
-    /// The change of the replica, if the step made one; else the step sent a message.
+    /// The change of the replica; `None` if the step sent a message instead.
     pub fn change(&self) -> Option<&Change<A>>
         ensures { option_map (λ c. plain_change c.now) result ≡ change_of (plain_inverse self.now) }
     {

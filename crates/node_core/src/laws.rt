@@ -3,13 +3,13 @@
 //! A crate above uses a law by calling its function.
 ghost use Rattle.node_core.specs.Laws.{ChangeOfLaw, OneWayBackLaw};
 
-/// From one node, one inverse leads back to at most one node.
+/// From one node an inverse leads back to at most one node.
 pub fn way_back_law()
     ensures { OneWayBackLaw }
 {}
 
-/// The change of an inverse leads back as the inverse does. Where the inverse has no change, entries and view stay the
-/// same.
+/// If an inverse leads from one node back to another, its change leads from the replica of the one back to the replica
+/// of the other. If the inverse has no change, both nodes have the same entries and the same view.
 pub fn change_law()
     ensures { ChangeOfLaw }
 {}

@@ -1,9 +1,10 @@
-//! One presence node: a replica with an outbox of numbered messages. A step takes it forward, and the step's inverse
-//! record takes it back.
+//! One presence node: a replica with an outbox of numbered messages. A step takes the node forward, and the step's
+//! inverse takes it back.
 //!
-//! It stands on `replica_core` (the replica and its changes), `payload_core` (words, messages, outboxes) and `dots_core`
-//! (sets of names). In the order to read them: `step` and `step_fault`; `meter`, which counts the steps that were taken;
-//! `inverse`, what leads back from one; `node`; `laws`.
+//! The crate stands on `replica_core` (the replica and its changes), `payload_core` (words, messages, outboxes) and
+//! `dots_core` (sets of names). The modules in reading order: `step`, what a node does; `step_fault`, why it refuses a
+//! step; `meter`, which counts the steps that were taken; `inverse`, what leads back from a step; `node`; `laws`, of
+//! the way back.
 #![tactic(auto)]
 
 mod inverse;

@@ -1,4 +1,4 @@
-//! `Node`: a replica with an outbox, its steps, and the way back.
+//! `Node`: a replica with an outbox, which takes steps, and takes them back.
 ghost use Rattle.std.specs.Prelude.{◌≡◌, ◌↔◌, ◌<◌, ◌≢◌, ◌+◌, IsTrue, IsOk, IfOk, IfErr, OnOk, OnErr, Ok, Err, None, Some, option_map};
 ghost use Rattle.replica_core.specs.Changes.{plain_change};
 ghost use Rattle.replica_core.specs.Limits.{AreNodeLimits};
@@ -47,7 +47,7 @@ impl<'a, B: Allocator> Node<'a, B> {
         &self.replica
     }
 
-    /// The messages that it sent, by number.
+    /// The messages that the node sent, numbered from 1.
     pub fn outbox(&self) -> &Outbox<'a, B>
         ensures messages { result.now.messages ≡ self.now.outbox }
         ensures limit { result.now.limit ≡ self.now.replica.limits.messages }
@@ -66,11 +66,12 @@ impl<'a, B: Allocator> Node<'a, B> {
     pub fn node_law(&self)
         ensures { IsNode self.now }
     {
+        // form: the proof reads the field here
         let _ = &self.outbox;
     }
 
-    /// Takes back the last step by its inverse. Where memory is refused the node is unchanged, and the inverse comes
-    /// back. It needs no memory for a step that sent a message, nor for a join, an up and a down.
+    /// Takes back the last step by its inverse. If memory is refused, the node is unchanged, and the inverse comes
+    /// back. To take back a send, a join, an up or a down needs no memory.
     pub fn give_back(&mut self, inverse: Inverse<&'a B>) -> Result<(), (Inverse<&'a B>, Oom)>
         requires { LeadsSomewhere (plain_inverse inverse) self.old }
         ensures ok { OnOk result (GivesBack (plain_inverse inverse.entry) self.old self.new) }
@@ -126,6 +127,7 @@ impl<'a, B: Allocator> Node<'a, B> {
         ensures { result ≡ opening_node own limits }
     {
         let replica = Replica::opening(alloc, own, limits);
+        // form: hands out what the replica keeps
         replica.replica_law();
         Node {
             replica,
@@ -133,7 +135,7 @@ impl<'a, B: Allocator> Node<'a, B> {
         }
     }
 
-    /// A second node with the same replica and the same messages.
+    /// A copy of the node.
     pub fn try_copy(&self) -> Result<Node<'a, B>, Oom>
         ensures { IfOk result (λ copy. copy ≡ self.now) }
     {
@@ -143,6 +145,7 @@ impl<'a, B: Allocator> Node<'a, B> {
         })
     }
 
+    /// Takes a join. A refused step, here and below, leaves the node unchanged.
     fn join(
         &mut self,
         pid: u64,
@@ -153,6 +156,7 @@ impl<'a, B: Allocator> Node<'a, B> {
         ensures { Takes self.old (Join (record { pid = pid; topic = topic.now; key = key.now; metadata = metadata.now })) None result self.new }
     {
         let change = self.replica.join(pid, topic, key, metadata)?;
+        // form: hands out what the replica keeps
         self.replica.replica_law();
         Ok(Inverse::Change(change))
     }
@@ -166,6 +170,7 @@ impl<'a, B: Allocator> Node<'a, B> {
         ensures { Takes self.old (Leave pid topic.now key.now) None result self.new }
     {
         let change = self.replica.leave(pid, topic, key)?;
+        // form: hands out what the replica keeps
         self.replica.replica_law();
         Ok(Inverse::Change(change))
     }
@@ -174,6 +179,7 @@ impl<'a, B: Allocator> Node<'a, B> {
         ensures { Takes self.old (LeaveAll pid) None result self.new }
     {
         let change = self.replica.leave_all(pid)?;
+        // form: hands out what the replica keeps
         self.replica.replica_law();
         Ok(Inverse::Change(change))
     }
@@ -188,10 +194,12 @@ impl<'a, B: Allocator> Node<'a, B> {
         ensures { Takes self.old (Update (record { pid = pid; topic = topic.now; key = key.now; metadata = metadata.now })) None result self.new }
     {
         let change = self.replica.update(pid, topic, key, metadata)?;
+        // form: hands out what the replica keeps
         self.replica.replica_law();
         Ok(Inverse::Change(change))
     }
 
+    /// Sends the delta. Room for the message is made before the delta is taken out.
     fn broadcast(&mut self) -> Result<Inverse<&'a B>, StepFault>
         ensures { Takes self.old Broadcast None result self.new }
     {
@@ -207,6 +215,7 @@ impl<'a, B: Allocator> Node<'a, B> {
         Ok(Inverse::Broadcast)
     }
 
+    /// Sends what the replica has of these names. `OutboxFull` comes before `OutOfMemory`.
     fn extract(&mut self, names: NameSet) -> Result<Inverse<&'a B>, StepFault>
         ensures { Takes self.old (Extract names) None result self.new }
     {
@@ -219,6 +228,8 @@ impl<'a, B: Allocator> Node<'a, B> {
         Ok(Inverse::Sent)
     }
 
+    /// Merges `message`. `OwnMessage` if `sender` is the node itself, `NoSuchMessage` if `message` is `None`, and
+    /// `IsRequest` if `message` is a request. Then come the faults of the replica.
     fn deliver(
         &mut self,
         sender: u16,
@@ -227,6 +238,7 @@ impl<'a, B: Allocator> Node<'a, B> {
     ) -> Result<Inverse<&'a B>, StepFault>
         ensures { Takes self.old (Deliver sender number) (option_map (λ m. m.now) message.entry) result self.new }
     {
+        // form: the parameter `number` is for the contract alone
         if sender == self.replica.own() {
             return Err(StepFault::OwnMessage);
         }
@@ -237,10 +249,12 @@ impl<'a, B: Allocator> Node<'a, B> {
             return Err(StepFault::IsRequest);
         }
         let change = self.replica.merge(message)?;
+        // form: hands out what the replica keeps
         self.replica.replica_law();
         Ok(Inverse::Change(change))
     }
 
+    /// Sends a request for the names that the replica knows.
     fn request(&mut self) -> Result<Inverse<&'a B>, StepFault>
         ensures { Takes self.old Request None result self.new }
     {
@@ -252,6 +266,9 @@ impl<'a, B: Allocator> Node<'a, B> {
         Ok(Inverse::Sent)
     }
 
+    /// Sends what the replica has of the names for which `message` asks. `OwnMessage` if `sender` is the node itself,
+    /// `NoSuchMessage` if `message` is `None`, and `NotRequest` if `message` isn't a request. Then come the faults of
+    /// `extract`.
     fn answer(
         &mut self,
         sender: u16,
@@ -260,6 +277,7 @@ impl<'a, B: Allocator> Node<'a, B> {
     ) -> Result<Inverse<&'a B>, StepFault>
         ensures { Takes self.old (Answer sender number) (option_map (λ m. m.now) message.entry) result self.new }
     {
+        // form: the parameter `number` is for the contract alone
         if sender == self.replica.own() {
             return Err(StepFault::OwnMessage);
         }
@@ -277,6 +295,7 @@ impl<'a, B: Allocator> Node<'a, B> {
         ensures { Takes self.old (Up name) None result self.new }
     {
         let change = self.replica.up(name)?;
+        // form: hands out what the replica keeps
         self.replica.replica_law();
         Ok(Inverse::Change(change))
     }
@@ -286,6 +305,7 @@ impl<'a, B: Allocator> Node<'a, B> {
         ensures { Takes self.old (Down name) None result self.new }
     {
         let change = self.replica.down(name)?;
+        // form: hands out what the replica keeps
         self.replica.replica_law();
         Ok(Inverse::Change(change))
     }
@@ -295,10 +315,12 @@ impl<'a, B: Allocator> Node<'a, B> {
         ensures { Takes self.old (Permdown name) None result self.new }
     {
         let change = self.replica.permdown(name)?;
+        // form: hands out what the replica keeps
         self.replica.replica_law();
         Ok(Inverse::Change(change))
     }
 
+    /// Takes the step, with the message that it names. It doesn't count the step; its caller `take` does.
     fn step(
         &mut self,
         step: &Step<&'a B>,
@@ -333,10 +355,10 @@ impl<'a, B: Allocator> Node<'a, B> {
         }
     }
 
-    /// Takes the step forward, and gives the inverse that leads back. `message` is the one that a delivery or an answer
-    /// names, or `None` where there is none; other steps ignore it. The faults come in this order: `OwnMessage`,
-    /// `NoSuchMessage`, `NotRequest`, `IsRequest`, those of the replica, `OutboxFull`. `OutOfMemory` comes where a
-    /// request for memory was refused.
+    /// Takes a step, and gives the inverse that leads back. `meter` counts the step if it is taken. `message` is the
+    /// message that a delivery or an answer names, or `None` if there is no such message; other steps ignore it. The
+    /// faults come in this order: `OwnMessage`, `NoSuchMessage`, `NotRequest`, `IsRequest`, those of the replica,
+    /// `OutboxFull`. `OutOfMemory` comes wherever a request for memory is refused.
     pub fn take(
         &mut self,
         step: &Step<&'a B>,

@@ -7,68 +7,68 @@ use dots_core::NameSet;
 use payload_core::{Oom, Word};
 use std::alloc::Allocator;
 
-/// What one node does.
+/// What one node does. `pid` is the number of a process at that node.
 #[derive(Drop)]
 pub enum Step<A: Allocator> {
-    /// Tracks a process, a number of the node, under a topic and a key.
+    /// Tracks the process under the topic and the key.
     Join {
         pid: u64,
         topic: Word<A>,
         key: Word<A>,
         metadata: Word<A>,
     },
-    /// Tracks the process no longer under the topic and the key.
+    /// No longer tracks the process under the topic and the key.
     Leave {
         pid: u64,
         topic: Word<A>,
         key: Word<A>,
     },
-    /// Tracks the process no longer at all.
+    /// No longer tracks the process under any topic and key.
     LeaveAll {
         pid: u64,
     },
-    /// Gives the process, as it is tracked under the topic and the key, other metadata.
+    /// Gives the process other metadata under the topic and the key.
     Update {
         pid: u64,
         topic: Word<A>,
         key: Word<A>,
         metadata: Word<A>,
     },
-    /// Sends the delta as a message, and empties it.
+    /// Sends the delta, which is then empty.
     Broadcast,
-    /// Sends all that the node has seen and holds of these names. The delta stays.
+    /// Sends the seen dots and the entries of these names. The delta stays.
     Extract {
         names: NameSet,
     },
-    /// Merges a message of another node, by its number in that node's outbox, from 1.
+    /// Merges a message of another node, by its number in that node's outbox, counted from 1.
     Deliver {
         sender: u16,
         number: u64,
     },
     /// Sends a request for what others have of the names that the node knows. The delta stays.
     Request,
-    /// Delivers a request of another node, by its number in that node's outbox, and sends all that the node has seen and
-    /// holds of the names that it asks for. The delta stays.
+    /// Delivers a request of another node, by its number in that node's outbox, counted from 1. Sends the seen dots and
+    /// the entries of the names that the request asks for. The delta stays.
     Answer {
         sender: u16,
         number: u64,
     },
-    /// Another name is up, and known from now on.
+    /// Makes another name known and up.
     Up {
         name: u16,
     },
-    /// Another name, a known one, is down.
+    /// Makes another known name down.
     Down {
         name: u16,
     },
-    /// Forgets another name, a known one that is down: holds nothing more of it, and no longer knows it.
+    /// Forgets another known name that is down: its dots, its entries and its status.
     Permdown {
         name: u16,
     },
 }
 
 impl<A: Allocator> Step<A> {
-    /// Whether both ask the same.
+    /// Whether both steps ask for the same.
     pub fn same(&self, other: &Self) -> bool
         ensures { IsTrue result ↔ (plain self.now ≡ plain other.now) }
     {
@@ -104,6 +104,7 @@ impl<A: Allocator> Step<A> {
         }
     }
 
+    /// Whether the step is a join of this process, topic, key and metadata.
     fn is_join(&self, pid: u64, topic: &Word<A>, key: &Word<A>, metadata: &Word<A>) -> bool
         ensures { IsTrue result ↔ (plain self.now ≡ Join (record { pid = pid; topic = topic.now; key = key.now; metadata = metadata.now })) }
     {
@@ -123,6 +124,7 @@ impl<A: Allocator> Step<A> {
         }
     }
 
+    /// Whether the step is a leave of this process, topic and key.
     fn is_leave(&self, pid: u64, topic: &Word<A>, key: &Word<A>) -> bool
         ensures { IsTrue result ↔ (plain self.now ≡ Leave pid topic.now key.now) }
     {
@@ -136,6 +138,7 @@ impl<A: Allocator> Step<A> {
         }
     }
 
+    /// Whether the step is an update of this process, topic, key and metadata.
     fn is_update(&self, pid: u64, topic: &Word<A>, key: &Word<A>, metadata: &Word<A>) -> bool
         ensures { IsTrue result ↔ (plain self.now ≡ Update (record { pid = pid; topic = topic.now; key = key.now; metadata = metadata.now })) }
     {
@@ -155,6 +158,7 @@ impl<A: Allocator> Step<A> {
         }
     }
 
+    /// Whether the step is a delivery of this message.
     fn is_deliver(&self, sender: u16, number: u64) -> bool
         ensures { IsTrue result ↔ (plain self.now ≡ Deliver sender number) }
     {
@@ -167,6 +171,7 @@ impl<A: Allocator> Step<A> {
         }
     }
 
+    /// Whether the step is an answer to this message.
     fn is_answer(&self, sender: u16, number: u64) -> bool
         ensures { IsTrue result ↔ (plain self.now ≡ Answer sender number) }
     {
@@ -179,7 +184,8 @@ impl<A: Allocator> Step<A> {
         }
     }
 
-    /// The sender and the number of the message that the step delivers.
+    /// The sender and the number of the message that the step delivers; `None` for other steps. An answer delivers the
+    /// request that it answers.
     pub fn delivers(&self) -> Option<(u16, u64)>
         ensures { result ≡ delivers (plain self.now) }
     {
@@ -205,6 +211,7 @@ impl<A: Allocator> Step<A> {
     pub fn names_below(&self, count: u16) -> bool
         ensures { result ≡ list_all (λ name. nat_lt name count) (named_in (plain self.now)) }
     {
+        // form: each arm is a case of the proof
         match self {
             Step::Join { .. } | Step::Leave { .. } | Step::LeaveAll { .. } => true,
             Step::Update { .. } | Step::Broadcast | Step::Request => true,

@@ -3,8 +3,8 @@ use payload_core::{Oom, OutboxFault};
 use replica_core::ReplicaFault;
 use thiserror::Error;
 
-/// Why a node refuses a step. `OwnMessage`, `NoSuchMessage`, `NotRequest` and `IsRequest` are looked for first, then the
-/// causes of the replica in their order, then `OutboxFull`.
+/// Why a node refuses a step. `OwnMessage`, `NoSuchMessage`, `NotRequest` and `IsRequest` are looked for first, then
+/// the causes of the replica in their order, then `OutboxFull`. `OutOfMemory` comes wherever memory is refused.
 #[derive(Clone, Copy, Debug, PartialEq, Eq, Error)]
 pub enum StepFault {
     /// The name is the node's own.
@@ -19,7 +19,7 @@ pub enum StepFault {
     /// An own entry has this process, topic and key.
     #[error("AlreadyTracked")]
     AlreadyTracked,
-    /// No own entry has the process, topic and key of the step, or its process alone if it leaves all.
+    /// No own entry has the process, topic and key of the step; of a leave all, none has its process.
     #[error("NotTracked")]
     NotTracked,
     /// The delta has no dot.
@@ -37,10 +37,10 @@ pub enum StepFault {
     /// The sender has no message of this number.
     #[error("NoSuchMessage")]
     NoSuchMessage,
-    /// The message that is to be answered is no request.
+    /// The message to be answered isn't a request.
     #[error("NotRequest")]
     NotRequest,
-    /// The message that is to be delivered is a request.
+    /// The message to be delivered is a request.
     #[error("IsRequest")]
     IsRequest,
     /// The outbox holds as many messages as it may.

@@ -1,7 +1,7 @@
 //! `Mark`: what an order needs to know of a step.
 
-/// A step of a run, by its place from 0: its node, the message that it delivers or answers, by sender and number, and whether it
-/// sends one.
+/// A step of a run: its place in the run, counted from 0; its node; the sender and number of the message that it
+/// delivers or answers, if any; and whether it sends a message.
 #[derive(Clone, Copy, Debug, PartialEq, Eq)]
 pub struct Mark {
     pub place: usize,

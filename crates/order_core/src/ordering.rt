@@ -1,7 +1,8 @@
-//! The order: at each turn the first step that can come next. If each message is sent before it comes, the steps stay as they
-//! stand.
+//! Finds an order of steps: the first step that can come next is taken, again and again. If the given steps deliver no
+//! message before it is sent, their order stays.
 //!
-//! For each node it keeps the next step and the number of messages sent, and looks at these alone.
+//! For each node the search keeps the place of the node's next step, and the number of messages that the node has sent.
+//! It chooses among the next steps of the nodes.
 ghost use Rattle.std.specs.Prelude.{◌≡◌, ◌<◌, ◌≤◌, ℕ, [], Some, IfOk, drop, length, option_map, slice_get, true};
 ghost use Rattle.order_core.specs.declared.mark.Mark.{Mark as PlainMark};
 ghost use Rattle.order_core.specs.Marks.{order_of_marks};
@@ -11,14 +12,15 @@ use crate::mark::Mark;
 use node_core::Oom;
 use std::alloc::Allocator;
 
-/// Where a node stands: the place of its next step, and how many messages it sent. The place is past the last where none is left.
+/// Where a node stands: the place of its next step, and how many messages it has sent. If it has no step left, the
+/// place is the number of all steps.
 #[derive(Clone, Copy)]
 struct Stand {
     next: usize,
     sent: usize,
 }
 
-/// One more than the greatest node.
+/// One more than the greatest node of a mark; 0 without marks.
 fn count_nodes(marks: &[Mark]) -> usize
     ensures { (i : ℕ) (m : PlainMark) → slice_get marks.now i ≡ Some m → m.node < result }
 {
@@ -29,7 +31,7 @@ fn count_nodes(marks: &[Mark]) -> usize
     count
 }
 
-/// The place of the first step of this node from a place on, or the place past the last.
+/// The place of the node's first step at or behind `from`; the number of all steps if there is none.
 fn place_from(marks: &[Mark], node: usize, from: usize) -> usize
     requires { from ≤ length marks.now }
     ensures { result ≡ first_of node from (drop from marks.now) }
@@ -42,7 +44,7 @@ fn place_from(marks: &[Mark], node: usize, from: usize) -> usize
     marks.len()
 }
 
-/// Where the nodes stand before the first step.
+/// Where each node stands before the first step.
 fn stands_of<A: Allocator>(alloc: A, marks: &[Mark]) -> Result<Vec<Stand, A>, Oom>
     ensures begins { IfOk result (λ stands. AreStands marks.now [] stands.items) }
     ensures all_left { IfOk result (λ stands. left (next_at marks.now stands.items) 0 marks.now ≡ marks.now) }
@@ -59,7 +61,7 @@ fn stands_of<A: Allocator>(alloc: A, marks: &[Mark]) -> Result<Vec<Stand, A>, Oo
     Ok(stands)
 }
 
-/// Whether the message was sent, if the step has one.
+/// Whether the message `delivers` was sent; true if it is `None`.
 fn was_sent(stands: &[Stand], delivers: Option<(u16, u64)>) -> bool
     ensures { result ≡ was_sent stands.now delivers }
 {
@@ -72,7 +74,7 @@ fn was_sent(stands: &[Stand], delivers: Option<(u16, u64)>) -> bool
     }
 }
 
-/// Whether a step stands at this place, whose message was sent.
+/// Whether there is a step at `place`, and the message that it delivers, if any, was sent.
 fn is_ready(marks: &[Mark], stands: &[Stand], place: usize) -> bool
     ensures { result ≡ is_ready stands.now (slice_get marks.now place) }
 {
@@ -82,7 +84,8 @@ fn is_ready(marks: &[Mark], stands: &[Stand], place: usize) -> bool
     }
 }
 
-/// The least place of a next step that can come, or the place past the last.
+/// The least place of a step that is ready (see `is_ready`) and the next one of its node; the number of all steps if
+/// there is none.
 fn next_place(marks: &[Mark], stands: &[Stand]) -> usize
     ensures { IsFirstReady marks.now stands.now result }
 {
@@ -95,7 +98,7 @@ fn next_place(marks: &[Mark], stands: &[Stand]) -> usize
     least
 }
 
-/// Whether each message is sent before it comes, if the steps come as they stand.
+/// Whether each message is sent before it is delivered if the steps come in the order in which they stand.
 fn is_behind<A: Allocator>(alloc: A, marks: &[Mark]) -> Result<bool, Oom>
     ensures { IfOk result (λ behind. behind ≡ true → order_of_marks marks.now ≡ Some marks.now) }
 {
@@ -114,7 +117,8 @@ fn is_behind<A: Allocator>(alloc: A, marks: &[Mark]) -> Result<bool, Oom>
     Ok(true)
 }
 
-/// An order of the steps, if they have one.
+/// Copies of the marks, in an order that keeps the order of each node's own steps, and in which no message is delivered
+/// before it is sent. `None` if there is no such order.
 pub fn order<A: Allocator + Copy>(alloc: A, marks: &[Mark]) -> Result<Option<Vec<Mark, A>>, Oom>
     ensures { IfOk result (λ found. option_map (λ v. v.items) found ≡ order_of_marks marks.now) }
 {

@@ -1,6 +1,6 @@
-//! What stands on a page before its script runs.
+//! What stands on each page before its script runs.
 
-/// What stands on a page before its script runs.
+/// What stands on each page before its script runs, up to the still picture.
 pub const BODY: &str =
     r#"<p id="wait">The script of this page did not run. With scripts off the run follows here.</p>
 <main hidden>

@@ -1,7 +1,7 @@
 //! What stands between the parts of a page.
 
-/// Before the style. The digests of the policy are those of the script, of the style and of the picture's style, so a
-/// browser takes no other.
+/// What stands before the style. The policy names the digests of the script, of the style and of the picture's style,
+/// so a browser takes no others.
 pub const HEAD: &str = r#"<!doctype html>
 <html lang="en">
 <meta charset="utf-8">
@@ -10,20 +10,20 @@ pub const HEAD: &str = r#"<!doctype html>
 <title>presence_bench</title>
 <style>"#;
 
-/// Between the style and the body.
+/// What stands between the style and the body.
 pub const BODY_BEGINS: &str = "</style>\n";
 
-/// Between the body and the still picture.
+/// What stands between the body and the still picture.
 pub const STILL_BEGINS: &str = "<noscript>";
 
-/// Between the still picture and the report.
+/// What stands between the still picture and the report.
 pub const REPORT_BEGINS: &str = "<pre>";
 
-/// Between the report and the data.
+/// What stands between the report and the data.
 pub const RUN_BEGINS: &str = "</pre></noscript>\n<script type=\"application/json\" id=\"run\">";
 
-/// Between the data and the script.
+/// What stands between the data and the script.
 pub const SCRIPT_BEGINS: &str = "</script>\n<script>";
 
-/// After the script.
+/// What stands after the script.
 pub const TAIL: &str = "</script>\n</html>\n";

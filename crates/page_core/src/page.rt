@@ -1,4 +1,4 @@
-//! The text of a page.
+//! Writes the text of a page.
 ghost use Rattle.std.specs.Prelude.{◌≡◌, ◌++◌, OnOk};
 ghost use Rattle.page_core.specs.Page.{escaped, escaped_byte, page_after, page_before, page_text, report_text};
 
@@ -10,7 +10,7 @@ use crate::script::SCRIPT;
 use crate::style::STYLE;
 use std::alloc::{AllocError, Allocator};
 
-/// A byte of a text as HTML writes it.
+/// Appends a byte, escaped where HTML needs it.
 #[tactic(auto, unfolding(crate::specs::Page::escaped_byte))]
 fn put_byte<A: Allocator>(page: &mut Vec<u8, A>, byte: u8) -> Result<(), AllocError>
     ensures { OnOk result (page.new.items ≡ page.old.items ++ escaped_byte byte) }
@@ -28,7 +28,7 @@ fn put_byte<A: Allocator>(page: &mut Vec<u8, A>, byte: u8) -> Result<(), AllocEr
     Ok(())
 }
 
-/// A text as HTML writes it.
+/// Appends a text, escaped where HTML needs it.
 #[tactic(auto, unfolding(crate::specs::Page::escaped))]
 fn put_escaped<A: Allocator>(page: &mut Vec<u8, A>, text: &[u8]) -> Result<(), AllocError>
     ensures { OnOk result (page.new.items ≡ page.old.items ++ escaped text.now) }
@@ -39,14 +39,14 @@ fn put_escaped<A: Allocator>(page: &mut Vec<u8, A>, text: &[u8]) -> Result<(), A
     Ok(())
 }
 
-/// A text as it is.
+/// Appends a text unchanged.
 fn put_text<A: Allocator>(page: &mut Vec<u8, A>, text: &str) -> Result<(), AllocError>
     ensures { OnOk result (page.new.items ≡ page.old.items ++ text.now) }
 {
     page.extend_from_slice(text.as_bytes())
 }
 
-/// The page up to the still picture.
+/// Appends what all pages have in common up to the still picture.
 fn put_before<A: Allocator>(page: &mut Vec<u8, A>) -> Result<(), AllocError>
     ensures { OnOk result (page.new.items ≡ page.old.items ++ page_before) }
 {
@@ -58,7 +58,7 @@ fn put_before<A: Allocator>(page: &mut Vec<u8, A>) -> Result<(), AllocError>
     Ok(())
 }
 
-/// The page from the end of the data on.
+/// Appends the page from the end of the data on.
 fn put_after<A: Allocator>(page: &mut Vec<u8, A>) -> Result<(), AllocError>
     ensures { OnOk result (page.new.items ≡ page.old.items ++ page_after) }
 {
@@ -68,7 +68,7 @@ fn put_after<A: Allocator>(page: &mut Vec<u8, A>) -> Result<(), AllocError>
     Ok(())
 }
 
-/// The report, between the still picture and the data.
+/// Appends the report, and what stands around it between the still picture and the data.
 #[tactic(auto, unfolding(crate::specs::Page::report_text))]
 fn put_report<A: Allocator>(page: &mut Vec<u8, A>, report: &[u8]) -> Result<(), AllocError>
     ensures { OnOk result (page.new.items ≡ page.old.items ++ report_text report.now) }
@@ -78,7 +78,7 @@ fn put_report<A: Allocator>(page: &mut Vec<u8, A>, report: &[u8]) -> Result<(), 
     put_text(page, RUN_BEGINS)
 }
 
-/// Appends the page of a run, made of its still picture (HTML), its report (any text) and its data.
+/// Appends the page of a run, made of its still picture (HTML), its report (any text) and its data (JSON without `<`).
 pub fn put_page<A: Allocator>(
     page: &mut Vec<u8, A>,
     still: &[u8],

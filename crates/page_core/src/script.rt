@@ -1,6 +1,8 @@
-//! The script of a page. It applies what the data says, follows edges and lays out; it knows no rule of a replica.
+//! The script of a page. It applies what the data says, follows the edges between steps and lays out the page; it knows
+//! no rule of a replica.
 
-/// The script of a page. It applies what the data says, follows edges and lays out; it knows no rule of a replica.
+/// The script of a page. It applies what the data says, follows the edges between steps and lays out the page; it knows
+/// no rule of a replica.
 pub const SCRIPT: &str = r##""use strict";
 (() => {
 const $ = id => document.getElementById(id);

@@ -1,4 +1,4 @@
-//! `EntrySet`, the live entries by their dots.
+//! `EntrySet`, live entries by their dots.
 ghost use Rattle.std.specs.Prelude.{◌≡◌, ◌↔◌, ◌==◌, ◌+◌, ◌^◌, ◌<◌, ◌≤◌, IfErr, IfOk, IsOk, IsTrue, OnErr, OnOk, is_some, slice_get};
 ghost use Rattle.std.specs.FinMap as fin;
 ghost use Rattle.std.specs.FinSet as set;
@@ -17,8 +17,8 @@ use entry_core::{Entry, Handle, Word};
 use std::alloc::Allocator;
 use std::marker::Model;
 
-/// Live entries by their dots, with room for more. An index may find those of one name by process, topic and key; a
-/// copy has no index.
+/// Live entries by their dots, with room for more. An index may find the entries of one name by process, topic and key;
+/// a copy of the set has no index.
 #[derive(Drop)]
 pub struct EntrySet<A: Allocator> {
     by_dot: EntriesByDot<A>,
@@ -40,7 +40,7 @@ impl<A: Allocator> Model for EntrySet<A> {
 }
 
 impl<A: Allocator> EntrySet<A> {
-    /// How many entries it has.
+    /// How many entries the set has.
     pub fn len(&self) -> usize
         ensures len { result ≡ fin.len self.now.map }
         ensures small { result < 2 ^ 63 }
@@ -48,28 +48,29 @@ impl<A: Allocator> EntrySet<A> {
         self.by_dot.len()
     }
 
-    /// Whether it has no entry.
+    /// Whether the set has no entry.
     pub fn is_empty(&self) -> bool
         ensures { IsTrue result ↔ (self.now.map ≡ fin.empty) }
     {
         self.by_dot.is_empty()
     }
 
-    /// The entry of the dot, in a logarithm of comparisons.
+    /// The entry of the dot, found by a binary search; `None` if there is none.
     pub fn get(&self, dot: Dot) -> Option<&Entry<A>>
         ensures { option_copied result ≡ option_map (entry_of dot) (fin.get self.now.map dot) }
     {
         self.by_dot.get(dot)
     }
 
-    /// The entry at a place, counted from 0 by rising dot.
+    /// The entry at `place`, counted from 0 by rising dot, found by a walk; `None` past the last.
     pub fn at(&self, place: usize) -> Option<&Entry<A>>
         ensures { option_copied result ≡ option_map (λ e. entry_of e.0 e.1) (slice_get (fin.entries self.now.map) place) }
     {
         self.by_dot.at(place)
     }
 
-    /// The place of the first entry whose dot is not below this one, or the end, in a logarithm of comparisons.
+    /// The place of the first entry whose dot is not below `dot`, found by a walk; the number of entries if there is
+    /// none.
     pub fn first_from(&self, dot: Dot) -> usize
         ensures { IsPlaceFrom dot (fin.entries self.now.map) result }
     {
@@ -83,15 +84,16 @@ impl<A: Allocator> EntrySet<A> {
         self.by_dot.walk()
     }
 
-    /// A walk over the entries of a name by rising clock. It passes over those of other names.
+    /// A walk over the entries of the name by rising clock. It passes over the other names' blocks.
     pub fn walk_of(&self, name: u16) -> Walk<'_, A>
         ensures { result ≡ listed (entries_of_names (λ n. n == name) self.now.map) }
     {
         self.by_dot.walk_of(name)
     }
 
-    /// The dot of the least clock among those of a name that are tracked as this process, topic and key. It is found at
-    /// once if the index is of the name and there is at most one.
+    /// The name's dot of least clock whose entry tracks this process under this topic and key; `None` if there is none.
+    /// An index of the name finds the dot by one look-up. Without such an index, or if several entries have had the
+    /// mark of this process, topic and key, this walks over the name's entries.
     pub fn find(&self, name: u16, pid: u64, topic: &Word<A>, key: &Word<A>) -> Option<Dot>
         ensures { result ≡ slice_get (dots_of name (is_tracked_as pid topic.now key.now) self.now.map) 0 }
     {
@@ -102,7 +104,7 @@ impl<A: Allocator> EntrySet<A> {
         }
     }
 
-    /// The dot, if its entry is of the name and tracked as this process, topic and key.
+    /// `dot`, if it is of this name and its entry tracks this process under this topic and key; otherwise `None`.
     fn tracked_at(
         &self,
         dot: Dot,
@@ -121,7 +123,8 @@ impl<A: Allocator> EntrySet<A> {
         }
     }
 
-    /// Takes out the entry of the dot, in a logarithm of comparisons. The room never falls.
+    /// Takes out the entry of the dot, found by a binary search; `None` if there is none. It takes no memory, and the
+    /// room never falls.
     pub fn remove(&mut self, dot: Dot) -> Option<Entry<A>>
         ensures entry { result ≡ option_map (entry_of dot) (fin.get self.old.map dot) }
         ensures map { self.new.map ≡ fin.remove self.old.map dot }
@@ -132,7 +135,7 @@ impl<A: Allocator> EntrySet<A> {
         Some(entry)
     }
 
-    /// Drops the entry of the dot, and says whether there was one. It takes no memory, and copies nothing. The room
+    /// Drops the entry of the dot, and says whether there was one. It takes no memory and copies nothing, and the room
     /// never falls.
     pub fn discard(&mut self, dot: Dot) -> bool
         ensures was { result ≡ is_some (fin.get self.old.map dot) }
@@ -178,8 +181,8 @@ impl<A: Allocator + Copy> EntrySet<A> {
         }
     }
 
-    /// After an `Ok`, `count` inserts succeed. The entries stay, and so does the room that was made before, also where
-    /// memory is refused.
+    /// Makes room: after an `Ok`, `count` inserts succeed. The entries stay, and so does the room that was made before,
+    /// even if memory is refused.
     pub fn make_room(&mut self, count: usize) -> Result<(), Oom>
         ensures map { self.new.map ≡ self.old.map }
         ensures room_stays { self.old.room ≤ self.new.room }
@@ -190,7 +193,8 @@ impl<A: Allocator + Copy> EntrySet<A> {
         self.by_mark.make_room(count, self.by_dot.allocator())
     }
 
-    /// Inserts a new entry, in a logarithm of comparisons. Where memory is refused, the entry comes back.
+    /// Inserts a new entry. If room was made, it asks for no memory. Otherwise the entry comes back if memory is
+    /// refused, or if the set has too many entries. The index notes the entry first, and forgets one that comes back.
     pub fn insert(&mut self, entry: Entry<A>) -> Result<(), (Entry<A>, Oom)>
         requires { fin.get self.old.map entry.dot ≡ None }
         ensures ok { OnOk result (self.new.map ≡ fin.insert self.old.map entry.dot (presence_of entry)) }
@@ -213,20 +217,22 @@ impl<A: Allocator + Copy> EntrySet<A> {
         }
     }
 
-    /// The allocator of its lists.
+    /// The allocator of the set's lists.
     pub fn allocator(&self) -> A {
         self.by_dot.allocator()
     }
 
-    /// A handle of the dot's entry.
+    /// A handle of the dot's entry; `None` if there is none. An entry that may be shared is shared once more, and any
+    /// other is copied. An `Err` means that the count of an entry's copies is at its limit, or that memory for a copy
+    /// was refused.
     pub fn handle(&self, dot: Dot) -> Result<Option<Handle<A>>, Oom>
         ensures { IfOk result (λ handle. handle ≡ option_map (entry_of dot) (fin.get self.now.map dot)) }
     {
         self.by_dot.handle(dot)
     }
 
-    /// Takes out the entry of the dot as a handle, which others share where they have it too. The room never falls. A refusal
-    /// changes nothing.
+    /// Takes out the entry of the dot, as a handle: moved, or shared if other sets share its block's list. `Ok(None)`
+    /// if there is no such entry. The room never falls. An `Err` changes nothing.
     pub fn take(&mut self, dot: Dot) -> Result<Option<Handle<A>>, Oom>
         ensures entry { IfOk result (λ taken. taken ≡ option_map (entry_of dot) (fin.get self.old.map dot)) }
         ensures map { OnOk result (self.new.map ≡ fin.remove self.old.map dot) }
@@ -240,7 +246,9 @@ impl<A: Allocator + Copy> EntrySet<A> {
         Ok(Some(entry))
     }
 
-    /// Inserts a new entry, which others may have. It may be refused memory even where room was made.
+    /// Inserts a new entry, which other sets may share. Memory may be refused even if room was made; then the entry is
+    /// dropped, and the set has the same entries as before. The index notes the entry first, and forgets it again if
+    /// memory is refused.
     pub fn put(&mut self, entry: Handle<A>) -> Result<(), Oom>
         requires { fin.get self.old.map entry.dot ≡ None }
         ensures ok { OnOk result (self.new.map ≡ fin.insert self.old.map entry.dot (presence_of entry)) }
@@ -258,7 +266,7 @@ impl<A: Allocator + Copy> EntrySet<A> {
         }
     }
 
-    /// Inserts a new entry, which others may have and for which room was made.
+    /// Inserts a new entry, which other sets may share and for which room was made.
     pub fn put_ready(&mut self, entry: Handle<A>)
         requires absent { fin.get self.old.map entry.dot ≡ None }
         requires room { 0 < self.old.room }
@@ -268,14 +276,17 @@ impl<A: Allocator + Copy> EntrySet<A> {
         self.by_dot.put_ready(entry);
     }
 
-    /// Handles of the entries of these names that weren't seen, by rising dot.
+    /// Handles, by rising dot, of the entries that join when a message with this set is delivered to a store that has
+    /// seen the dots `seen`. These are the entries of `names` whose dots aren't in `seen`.
     pub fn joining(&self, seen: &DotSet<A>, names: NameSet) -> Result<Vec<Handle<A>, A>, Oom>
         ensures { IfOk result (λ joining. pairs joining.items ≡ fin.entries (fin.retain_keys self.now.map (is_new (set.contains names) seen.now))) }
     {
         self.by_dot.joining(seen, names)
     }
 
-    /// The dots of the entries of these names that a message has seen and doesn't have, rising.
+    /// The dots, rising, of the entries that leave this set when a message with the dots `seen` and the entries
+    /// `message` is delivered. These are the entries of `names` whose dots are in `seen` and have no entry in
+    /// `message`.
     pub fn leaving(
         &self,
         message: &EntrySet<A>,
@@ -287,7 +298,7 @@ impl<A: Allocator + Copy> EntrySet<A> {
         self.by_dot.leaving(&message.by_dot, seen, names)
     }
 
-    /// The entries of these names.
+    /// A set of the entries of these names, without an index.
     pub fn only(&self, names: NameSet) -> Result<EntrySet<A>, Oom>
         ensures { IfOk result (λ part. part.map ≡ entries_of_names (set.contains names) self.now.map) }
     {
@@ -296,14 +307,14 @@ impl<A: Allocator + Copy> EntrySet<A> {
         Ok(EntrySet { by_dot, by_mark })
     }
 
-    /// The dots of a name's entries that are of this process, by rising clock. It goes once over all entries.
+    /// The dots of the name's entries that track this process, by rising clock. It walks over the name's entries.
     pub fn dots_of_process(&self, name: u16, pid: u64) -> Result<Vec<Dot, A>, Oom>
         ensures { IfOk result (λ dots. dots.items ≡ dots_of name (λ p. p.pid == pid) self.now.map) }
     {
         self.by_dot.dots_of_process(name, pid)
     }
 
-    /// A set with the same entries.
+    /// A copy of the set, without an index.
     pub fn try_copy(&self) -> Result<EntrySet<A>, Oom>
         ensures { IfOk result (λ copy. copy.map ≡ self.now.map) }
     {

@@ -1,15 +1,15 @@
-//! The mark of a process, a topic and a key: a number that is the same where these are, and nearly always differs where they
-//! differ.
+//! The mark of a process, a topic and a key: a number, the same for the same three, and nearly always a different one
+//! for any other three.
 ghost use Rattle.std.specs.Prelude.{◌≡◌};
 ghost use Rattle.payload_core.specs.Marks.{mark_of, mixed, mixed_all};
 
 use entry_core::Word;
 use std::alloc::Allocator;
 
-/// An odd number that spreads each byte over the bits above it.
+/// An odd number: multiplied by it, a byte spreads over the bits above.
 const FACTOR: u64 = 1_099_511_628_211;
 
-/// The mark of what is tracked. A 0, which stands in no word, marks the end of the topic.
+/// The mark of a process under a topic and a key. A byte 0, which no word has, is mixed in between topic and key.
 pub fn mark<A: Allocator>(pid: u64, topic: &Word<A>, key: &Word<A>) -> u64
     ensures { result ≡ mark_of pid topic.now key.now }
 {
@@ -24,7 +24,7 @@ fn mix(mark: u64, number: u64) -> u64
     mark.wrapping_mul(FACTOR).wrapping_add(number)
 }
 
-/// The mark with these bytes mixed in.
+/// The mark `start` with these bytes mixed in.
 fn mix_all(start: u64, bytes: &[u8]) -> u64
     ensures { result ≡ mixed_all start bytes.now }
 {

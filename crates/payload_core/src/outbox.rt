@@ -10,7 +10,7 @@ use std::alloc::Allocator;
 use std::marker::Model;
 use thiserror::Error;
 
-/// Why a message is not pushed.
+/// Why a push was refused.
 #[derive(Clone, Copy, Debug, PartialEq, Eq, Error)]
 pub enum OutboxFault {
     /// The outbox holds as many messages as it may.
@@ -29,7 +29,8 @@ impl From<Oom> for OutboxFault {
     }
 }
 
-/// The messages of a node, numbered from 1 in the order in which they were sent, and at most a limit of them.
+/// The messages of a node, numbered from 1 in the order in which they were sent. There are never more than `limit` of
+/// them.
 #[derive(Drop)]
 pub struct Outbox<'a, B: Allocator> {
     limit: u64,
@@ -61,7 +62,7 @@ impl<'a, B: Allocator> Outbox<'a, B> {
         }
     }
 
-    /// How many messages it holds, which is the number of the last one.
+    /// How many messages the outbox holds, which is the number of the last one; 0 if there is none.
     pub fn len(&self) -> usize
         ensures len { result ≡ length self.now.messages }
         ensures within { length self.now.messages ≤ self.now.limit }
@@ -69,21 +70,21 @@ impl<'a, B: Allocator> Outbox<'a, B> {
         self.messages.len()
     }
 
-    /// Whether it holds no message.
+    /// Whether the outbox holds no message.
     pub fn is_empty(&self) -> bool
         ensures { IsTrue result ↔ (self.now.messages ≡ []) }
     {
         self.messages.is_empty()
     }
 
-    /// Whether it holds as many messages as it may.
+    /// Whether the outbox holds as many messages as it may.
     pub fn is_full(&self) -> bool
         ensures { IsTrue result ↔ (self.now.limit ≤ length self.now.messages) }
     {
         self.limit <= self.len() as u64
     }
 
-    /// The message of a number, counted from 1.
+    /// The message with this number, counted from 1; `None` if there is none.
     pub fn get(&self, number: u64) -> Option<&Payload<&'a B>>
         ensures { option_copied result ≡ numbered self.now.messages number }
     {
@@ -93,7 +94,7 @@ impl<'a, B: Allocator> Outbox<'a, B> {
         }
     }
 
-    /// Takes out the last message; its number is free again. The room never falls.
+    /// Takes out the last message, whose number is free again; `None` if there is none. The room never falls.
     pub fn pop(&mut self) -> Option<Payload<&'a B>>
         ensures found { IsSome result ↔ (0 < length self.old.messages) }
         ensures messages { self.old.messages ≡ self.new.messages ++ option_to_list result }
@@ -103,8 +104,8 @@ impl<'a, B: Allocator> Outbox<'a, B> {
         self.messages.pop()
     }
 
-    /// After an `Ok` one push is not refused memory. The messages stay, and so does the room that was made before, also
-    /// where memory is refused.
+    /// Makes room: after an `Ok`, the next push isn't refused memory. The messages stay, and so does the room that was
+    /// made before, even if memory is refused.
     pub fn make_room(&mut self) -> Result<(), Oom>
         ensures messages { self.new.messages ≡ self.old.messages }
         ensures limit { self.new.limit ≡ self.old.limit }
@@ -114,7 +115,8 @@ impl<'a, B: Allocator> Outbox<'a, B> {
         self.messages.reserve(1)
     }
 
-    /// Puts a message after the others, and gives its number. A fault gives the message back: `OutboxFull` comes first.
+    /// Puts the message after the others, and gives its number. A fault gives the message back; `OutboxFull` comes
+    /// before `OutOfMemory`.
     pub fn push(&mut self, payload: Payload<&'a B>) -> Result<u64, (Payload<&'a B>, OutboxFault)>
         ensures number { IfOk result (λ number. number ≡ length self.old.messages + 1) }
         ensures ok { OnOk result (self.new.messages ≡ self.old.messages ++ payload.entry ∷ []) }
@@ -142,6 +144,7 @@ impl<'a, B: Allocator> Outbox<'a, B> {
         if self.limit != other.limit || self.len() != other.len() {
             return false;
         }
+        // form: a loop, for the proof
         for (place, message) in self.messages.iter().enumerate() {
             if !message.same(&other.messages[place]) {
                 return false;
@@ -150,7 +153,7 @@ impl<'a, B: Allocator> Outbox<'a, B> {
         true
     }
 
-    /// An outbox with the same limit and the same messages.
+    /// A copy of the outbox, with its limit.
     pub fn try_copy(&self) -> Result<Outbox<'a, B>, Oom>
         ensures limit { IfOk result (λ copy. copy.limit ≡ self.now.limit) }
         ensures messages { IfOk result (λ copy. copy.messages ≡ self.now.messages) }

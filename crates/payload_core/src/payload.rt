@@ -7,8 +7,8 @@ use dots_core::{DotSet, NameSet, Oom};
 use std::alloc::Allocator;
 use std::marker::Model;
 
-/// A message: its sender, the dots that it has seen, and the live entries among them. A request has the names that it
-/// asks for, and neither dots nor entries. A contract sees these as one `Message`.
+/// A message: its sender, the dots that the message speaks of, and the live entries among them. A request has the
+/// names that it asks for, and neither dots nor entries. A contract sees both kinds as one `Message`.
 #[derive(Drop)]
 pub struct Payload<A: Allocator> {
     sender: u16,
@@ -30,7 +30,8 @@ impl<A: Allocator> Model for Payload<A> {
 }
 
 impl<A: Allocator> Payload<A> {
-    /// The message of these parts; its entries' room is forgotten. It takes no memory.
+    /// A message with these dots and entries, which isn't a request. It takes no memory. A contract doesn't see the
+    /// room of its entries.
     pub fn new(sender: u16, seen: DotSet<A>, entries: EntrySet<A>) -> Payload<A>
         requires { AreSeen seen entries.map }
         ensures { result ≡ store_message sender seen entries.map }
@@ -43,7 +44,7 @@ impl<A: Allocator> Payload<A> {
         }
     }
 
-    /// The number of the node that sent it.
+    /// The number of the node that sent the message.
     pub fn sender(&self) -> u16
         ensures { result ≡ self.now.sender }
     {
@@ -58,7 +59,7 @@ impl<A: Allocator> Payload<A> {
         self.asked
     }
 
-    /// The dots that are seen.
+    /// The dots that the message speaks of.
     pub fn seen(&self) -> &DotSet<A>
         ensures { result.now ≡ self.now.seen }
     {
@@ -99,7 +100,7 @@ impl<A: Allocator> Payload<A> {
             && ask_alike(self.asked, other.asked)
     }
 
-    /// A message with the same parts.
+    /// A copy of the message.
     pub fn try_copy(&self) -> Result<Payload<A>, Oom>
     where
         A: Copy,
@@ -117,7 +118,7 @@ impl<A: Allocator> Payload<A> {
 }
 
 impl<A: Allocator + Copy> Payload<A> {
-    /// The request of a node that asks for these names. It takes no memory.
+    /// The request of `sender`, which asks for these names. It takes no memory.
     pub fn request(alloc: A, sender: u16, names: NameSet) -> Payload<A>
         ensures { result ≡ request_message sender names }
     {

@@ -1,4 +1,4 @@
-//! `TrackIndex`: where an entry of one name with a mark stands.
+//! `TrackIndex`: finds the dot of an entry by its mark, among the entries of one name.
 ghost use Rattle.std.specs.Prelude.{◌≡◌, ◌≢◌, ◌+◌, ◌<◌, ◌≤◌, IsOk, OnOk, ℕ};
 ghost use Rattle.dots_core.specs.declared.dot.Dot.{Dot};
 ghost use Rattle.std.specs.HashMap.{spare};
@@ -18,15 +18,17 @@ use std::marker::Model;
 pub enum Holder {
     /// At this dot alone.
     One(Dot),
-    /// At any of several dots.
+    /// Several entries have had the mark. Which of them are still in the set isn't known.
     Several,
 }
 
-/// What is known of each mark. It stands on the heap, so that a set that needs none stays small.
+/// For each mark, where the entries with it stand. An index boxes this map, so that an entry set without an index stays
+/// small.
 type Holders<A> = HashMap<u64, Holder, BuildHasherDefault<FoldHasher>, A>;
 
-/// What is known of each mark among the entries of one name, or of no name. A mark that it doesn't have belongs to no
-/// entry of the name. It knows nothing of other names. It takes no memory before room is made.
+/// Where the entries of one name stand, by their marks. A mark that the index doesn't have belongs to no entry of the
+/// index's name. An index of no name knows nothing, and `holder` always gives `Several`. An index takes no memory
+/// before room is made.
 #[derive(Drop)]
 pub struct TrackIndex<A: Allocator> {
     name: Option<u16>,
@@ -42,11 +44,15 @@ impl<A: Allocator> Model for TrackIndex<A> {
 
     ghost coded = { track_index_code };
 
-    ghost view = { λ x. record { name = x.name; holders = in_box [] (λ h. h.value.entries) x.holders; room = (if is_some x.name then in_box 0 (λ h. spare h.value) x.holders else 2 ^ 64) } };
+    ghost view = { λ x. record {
+      name = x.name;
+      holders = in_box [] (λ h. h.value.entries) x.holders;
+      room = (if is_some x.name then in_box 0 (λ h. spare h.value) x.holders else 2 ^ 64);
+    } };
 }
 
 impl<A: Allocator> TrackIndex<A> {
-    /// An index of this name, which has no entries yet. It takes no memory.
+    /// An index of this name, without entries yet. It takes no memory.
     pub fn of(name: u16) -> TrackIndex<A> {
         TrackIndex {
             name: Some(name),
@@ -54,7 +60,7 @@ impl<A: Allocator> TrackIndex<A> {
         }
     }
 
-    /// An index of no name, whatever entries there are. It takes no memory.
+    /// An index of no name, which is right whatever entries there are. It takes no memory.
     pub fn of_none() -> TrackIndex<A>
         ensures { (name mark : ℕ) (dot : Dot) → Holds (holder_of result name mark) dot }
     {
@@ -64,7 +70,7 @@ impl<A: Allocator> TrackIndex<A> {
         }
     }
 
-    /// Whether it is of this name.
+    /// Whether the index is of this name.
     pub fn is_of(&self, name: u16) -> bool
         ensures { result ≡ is_of self.now.name name }
     {
@@ -74,7 +80,8 @@ impl<A: Allocator> TrackIndex<A> {
         }
     }
 
-    /// What is known of a mark among the entries of a name.
+    /// Where the name's entries with this mark stand: `None` if no entry has the mark, and `Several` if the index isn't
+    /// of the name.
     pub fn holder(&self, name: u16, mark: u64) -> Option<Holder>
         ensures { result ≡ holder_of self.now name mark }
     {
@@ -87,7 +94,7 @@ impl<A: Allocator> TrackIndex<A> {
         }
     }
 
-    /// Notes that the entry left its dot. The room never falls.
+    /// If the entry is of the index's name, notes that it left its dot. The room never falls.
     pub fn remove(&mut self, entry: &Entry<A>)
         ensures others { (n m : ℕ) (d : Dot) → d ≢ entry.now.dot → Holds (holder_of self.old n m) d → Holds (holder_of self.new n m) d }
         ensures room { self.old.room ≤ self.new.room }
@@ -96,6 +103,7 @@ impl<A: Allocator> TrackIndex<A> {
             return;
         }
         let mark = mark(entry.pid, &entry.topic, &entry.key);
+        // form: taken out for the edit, and put back
         if let Some(mut holders) = self.holders.take() {
             take_out(&mut holders, mark, entry.dot);
             self.holders = Some(holders);
@@ -104,7 +112,8 @@ impl<A: Allocator> TrackIndex<A> {
 }
 
 impl<A: Allocator + Copy> TrackIndex<A> {
-    /// After an `Ok` there is room for `count` more.
+    /// Makes room: after an `Ok`, `count` more entries can be added. What the index knows stays, even if memory is
+    /// refused.
     pub fn make_room(&mut self, count: usize, alloc: A) -> Result<(), Oom>
         ensures stays { (n m : ℕ) (d : Dot) → Holds (holder_of self.old n m) d → Holds (holder_of self.new n m) d }
         ensures room_stays { self.old.room ≤ self.new.room }
@@ -114,6 +123,7 @@ impl<A: Allocator + Copy> TrackIndex<A> {
         if self.name.is_none() || count == 0 {
             return Ok(());
         }
+        // form: taken out for the edit, and put back
         let mut holders = match self.holders.take() {
             Some(holders) => holders,
             None => Box::new(alloc, HashMap::new(alloc))?,
@@ -123,7 +133,7 @@ impl<A: Allocator + Copy> TrackIndex<A> {
         made
     }
 
-    /// Notes that the entry came to its dot.
+    /// If the entry is of the index's name, notes that it came to its dot. Room must have been made.
     pub fn add(&mut self, entry: &Entry<A>)
         requires { 0 < self.old.room }
         ensures added { Holds (holder_of self.new entry.now.dot.name (mark_of entry.now.pid entry.now.topic entry.now.key)) entry.now.dot }
@@ -134,6 +144,7 @@ impl<A: Allocator + Copy> TrackIndex<A> {
             return;
         }
         let mark = mark(entry.pid, &entry.topic, &entry.key);
+        // form: taken out for the edit, and put back
         if let Some(mut holders) = self.holders.take() {
             put_in(&mut holders, mark, entry.dot);
             self.holders = Some(holders);
@@ -141,7 +152,7 @@ impl<A: Allocator + Copy> TrackIndex<A> {
     }
 }
 
-/// What is known of a mark among these holders.
+/// Where the entries with this mark stand, by these holders; `None` if no entry has the mark.
 fn holder_in<A: Allocator>(holders: &Holders<A>, mark: u64) -> Option<Holder>
     ensures { result ≡ held_as holders.now.entries mark }
 {
@@ -151,7 +162,7 @@ fn holder_in<A: Allocator>(holders: &Holders<A>, mark: u64) -> Option<Holder>
     }
 }
 
-/// Notes that an entry with this mark left the dot.
+/// Notes that an entry with this mark left the dot. If several entries have had the mark, nothing changes.
 fn take_out<A: Allocator>(holders: &mut Holders<A>, mark: u64, dot: Dot)
     ensures others { (m : ℕ) (d : Dot) → d ≢ dot → Holds (held_as holders.old.entries m) d → Holds (held_as holders.new.entries m) d }
     ensures room { spare holders.old ≤ spare holders.new }
@@ -163,7 +174,7 @@ fn take_out<A: Allocator>(holders: &mut Holders<A>, mark: u64, dot: Dot)
     }
 }
 
-/// Notes that an entry with this mark came to the dot.
+/// Notes that an entry with this mark came to the dot. If the mark has a holder already, the holder becomes `Several`.
 fn put_in<A: Allocator + Copy>(holders: &mut Holders<A>, mark: u64, dot: Dot)
     requires { 0 < spare holders.old }
     ensures added { Holds (held_as holders.new.entries mark) dot }
@@ -175,6 +186,7 @@ fn put_in<A: Allocator + Copy>(holders: &mut Holders<A>, mark: u64, dot: Dot)
     } else {
         Holder::One(dot)
     };
+    // form: the checker asks for the type of the result here
     let put: Result<_, _> = holders.insert(mark, holder);
     drop(put.unwrap());
 }

@@ -1,5 +1,5 @@
-//! The program: it reads its words, plays the script or the saved session on standard input on a bench, and writes its report,
-//! or its session, to standard output.
+//! The program: it does what its words ask for with standard input, which has a script, a saved session or logs, and
+//! prints to standard output.
 //!
 //! All of that stands in `program_core`, and what words choose in `command_line`.
 #![tactic(auto)]

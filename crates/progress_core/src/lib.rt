@@ -1,7 +1,8 @@
-//! Who watches how far long work has come, and who prints it as lines.
+//! Watches how far long work has come, and prints that as lines.
 //!
-//! It stands on `stream_core` alone. In the order to read them: `work`, how far work has come; `watch`, who watches it; `line`,
-//! it as a line; `pace`, when a line is due; `teller`, who prints lines; `fakes`, a clock for tests.
+//! It stands on `stream_core` alone. The modules in reading order: `work`, how far work has come; `watch`, who watches
+//! it; `line`, the line that says how far it has come; `pace`, when a line is due; `teller`, who prints lines; `fakes`,
+//! a clock for tests.
 #![tactic(auto)]
 
 mod fakes;

@@ -1,11 +1,11 @@
-//! How far work has come, as a line.
+//! The line that says how far work has come.
 ghost use Rattle.std.specs.Prelude.{◌≡◌, ◌++◌, IfOk, OnOk, string_bytes};
 ghost use Rattle.progress_core.specs.Lines.{tried_line, walked_line};
 
 use crate::work::{Tried, Walked};
 use std::alloc::{AllocError, Allocator};
 
-/// `presence_bench: T of N changes tried`.
+/// Appends `presence_bench: DONE of ALL changes tried`, with the numbers of `work`, and a line feed.
 #[tactic(auto, unfolding(crate::specs::Lines::tried_line))]
 fn put_tried<A: Allocator>(text: &mut String<A>, work: Tried) -> Result<(), AllocError>
     ensures { OnOk result (string_bytes text.new ≡ string_bytes text.old ++ tried_line work) }
@@ -23,7 +23,8 @@ pub(crate) fn tried_line<A: Allocator>(alloc: A, work: Tried) -> Result<String<A
     Ok(text)
 }
 
-/// `presence_bench: S states, O outcomes, L steps left`.
+/// Appends `presence_bench: STATES states, OUTCOMES outcomes, LEFT steps left`, with the numbers of `work`, and a line
+/// feed.
 #[tactic(auto, unfolding(crate::specs::Lines::walked_line))]
 fn put_walked<A: Allocator>(text: &mut String<A>, work: Walked) -> Result<(), AllocError>
     ensures { OnOk result (string_bytes text.new ≡ string_bytes text.old ++ walked_line work) }

@@ -1,14 +1,17 @@
 //! `Pace`: when a line is due.
 use std::time::{Clock, Instant};
 
-/// How many calls pass before the clock is looked at again.
+/// How many calls pass between two looks at the clock.
 const PASSED: u32 = 15;
 
-/// When a line was due last, or when work began. If the clock couldn't be read then, there is none, and no line is due.
+/// Tells when a line is due: at most one a second.
 #[derive(Drop)]
 pub(crate) struct Pace<'t, C> {
     clock: &'t C,
+    /// When a line was due last, or when work began. `None` if the clock couldn't be read when work began; then no line
+    /// is ever due.
     last: Option<Instant>,
+    /// How many calls there were since the last look at the clock.
     calls: u32,
 }
 
@@ -21,8 +24,8 @@ impl<'t, C: Clock> Pace<'t, C> {
         }
     }
 
-    /// Whether a second has passed since a line was due, or since the beginning. A look at the clock takes longer than
-    /// some work, so only each sixteenth call takes one.
+    /// Whether a second has passed since a line was last due, or since the beginning; no if the clock can't be read. A
+    /// look at the clock takes longer than some work, so only each sixteenth call takes one, and the others say no.
     pub(crate) fn is_due(&mut self) -> bool {
         if self.calls < PASSED {
             self.calls += 1;

@@ -1,4 +1,4 @@
-//! `Teller`: prints as lines how far work has come.
+//! `Teller`: prints lines that say how far work has come.
 ghost use Rattle.std.specs.Prelude.{◌≡◌};
 ghost use Rattle.progress_core.specs.Lines.{Puts};
 
@@ -11,14 +11,14 @@ use std::io::Write;
 use std::time::Clock;
 use stream_core::write_out;
 
-/// Prints as lines how far work has come: at most one a second, and none in the first. Once a line can't be written it
-/// prints no more; a line that can't be made is left out.
+/// Prints lines that say how far work has come: at most one a second, and none in the first. After a line that couldn't
+/// be written it prints no more; a line for which there is no memory is left out.
 #[derive(Drop)]
 pub struct Teller<'t, C, E> {
     heap: Global,
     pace: Pace<'t, C>,
     pub errors: &'t mut E,
-    /// Whether each line so far went out.
+    /// Whether lines are still printed: `true` until one can't be written.
     pub able: bool,
 }
 
@@ -33,7 +33,7 @@ fn put<E: Write>(errors: &mut E, line: &[u8]) -> bool
 }
 
 impl<'t, C: Clock, E: Write> Teller<'t, C, E> {
-    /// A teller that has printed nothing yet. Seconds count from now on.
+    /// A teller that has printed nothing yet. Seconds are counted from now on.
     pub fn new(heap: Global, clock: &'t C, errors: &'t mut E) -> Self
         ensures same_reference { result.errors.ghost_name ≡ errors.entry.ghost_name }
         ensures kept { result.errors.now ≡ errors.old }

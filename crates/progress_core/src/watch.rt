@@ -1,8 +1,8 @@
-//! `Watch`: watches how far work has come.
+//! `Watch`: is told how far work has come.
 ghost use Rattle.progress_core.specs.Watches.{Watched};
 
-/// Watches how far work has come, at each piece of it. Its relation says how it may change from one time to a later
-/// one.
+/// A watcher that is told how far work has come, as a `P`, after each piece of the work. `told` says how the watcher
+/// may change from any time to a later one.
 pub trait Watch<P: Copy> {
     ghost told: { Self → Self → Type 0 };
 
@@ -10,7 +10,7 @@ pub trait Watch<P: Copy> {
         ensures { Watched told self.old self.new };
 }
 
-/// Tells nobody.
+/// A watcher that tells nobody.
 #[derive(Clone, Copy, Debug)]
 pub struct Silent;
 

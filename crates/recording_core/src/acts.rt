@@ -15,14 +15,15 @@ use json_core::{Unread, value_of};
 use serde_json::Value;
 use std::alloc::{AllocError, Allocator, Global};
 
-/// How deep an item may nest: one less than an array that is a member of the outermost object.
+/// How deep an item of the acts may nest: one level less than their array. The array may nest 126 levels, as a member
+/// of the outermost object (`MEMBER_DEPTH` in `draft`).
 const ITEM_DEPTH: usize = 125;
 
-/// The events of a list of JSON values, up to the first value that is no event.
+/// The events that a list of JSON values stands for, up to the first value that doesn't stand for one.
 #[derive(Drop)]
 pub struct Acts<A: Allocator> {
     pub events: Vec<Event<A>>,
-    /// A value follows that is no event.
+    /// Whether a value that doesn't stand for an event follows these events.
     pub is_cut: bool,
 }
 
@@ -36,7 +37,8 @@ impl<'a, B: Allocator> Acts<&'a B> {
         }
     }
 
-    /// Adds the event that the next value stands for.
+    /// Adds the event that the next value stands for, or sets `is_cut` if it stands for none. Once `is_cut` is set,
+    /// adds nothing.
     fn add(&mut self, alloc: &'a B, value: &Value) -> Result<(), AllocError>
         ensures { OnOk result ((ds : List Data) → AreRead ds self.old.events.items self.old.is_cut
             → AreRead (ds ++ view value.now ∷ []) self.new.events.items self.new.is_cut) }
@@ -54,7 +56,7 @@ impl<'a, B: Allocator> Acts<&'a B> {
         }
     }
 
-    /// The items up to the bracket that closes the array. Each value is dropped once its event is known.
+    /// Reads the items, and the bracket that closes the array. Each value is dropped once its event is known.
     pub(crate) fn of_items(
         heap: Global,
         alloc: &'a B,
@@ -67,6 +69,7 @@ impl<'a, B: Allocator> Acts<&'a B> {
         ensures err { result ≡ Err Shape → converted of_items (items (value 125) (length reader.old) reader.old) ≡ None }
     {
         let mut acts = Acts::none(heap);
+        // form: the proof names the loop
         'items: while !reader.take_end_array() {
             let item = value_of(heap, reader, ITEM_DEPTH)?;
             acts.add(alloc, &item)?;

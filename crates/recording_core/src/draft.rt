@@ -1,4 +1,4 @@
-//! `Draft`: a session's text, read before its calls are asked.
+//! `Draft`: the text of a session as it is read, before its calls are asked.
 ghost use Rattle.std.specs.Prelude.{◌≡◌, ◌<◌, ◌∷◌, [], length, Some, None, Err, IfOk, OnOk};
 ghost use Rattle.std.specs.Bool.{MatchBool};
 ghost use Rattle.json.specs.Json.{value};
@@ -17,13 +17,13 @@ use json_core::{Unread, value_from, value_of};
 use serde_json::{Map, Value};
 use std::alloc::{Allocator, Global};
 
-/// How deep a value may nest.
+/// How deep the value of a text may nest.
 const MAX_DEPTH: usize = 127;
 
 /// How deep a member of the outermost object may nest.
 const MEMBER_DEPTH: usize = 126;
 
-/// A JSON value whose acts, where it is an object, were taken out and read as events.
+/// The JSON value of a text. If it is an object, its acts were taken out and read as events.
 #[derive(Drop)]
 pub(crate) struct Draft<A: Allocator> {
     /// The value, with an empty array in place of the array of the acts.
@@ -31,7 +31,8 @@ pub(crate) struct Draft<A: Allocator> {
     pub(crate) acts: Acts<A>,
 }
 
-/// The member at `acts`: its value, emptied where it is an array, and the events of its items.
+/// Reads the value of the member `acts`. If the value is an array, its items become events, and an empty array takes
+/// its place.
 fn acts_member<'a, B: Allocator>(
     heap: Global,
     alloc: &'a B,
@@ -54,7 +55,8 @@ fn acts_member<'a, B: Allocator>(
     }
 }
 
-/// The value of the member of this name. If it is that of the acts, its events replace those read before.
+/// Reads the value of the member `name`. If the name is `acts`, the events of the value replace those in the parameter
+/// `acts`, and the value has an empty array instead.
 fn member<'a, B: Allocator>(
     heap: Global,
     alloc: &'a B,
@@ -77,7 +79,8 @@ fn member<'a, B: Allocator>(
     }
 }
 
-/// Puts the members up to the brace that closes the outermost object into `found`, and the events of their acts into `acts`.
+/// Reads the members, and the brace that closes the outermost object. Puts the members into `found`, and the events of
+/// the member `acts` into `acts`.
 fn read_members<'a, B: Allocator>(
     found: &mut Map<String, Value>,
     acts: &mut Acts<&'a B>,
@@ -92,6 +95,7 @@ fn read_members<'a, B: Allocator>(
         × IsDraft d (object (members_view found.new.entries)) acts.new.events.items acts.new.is_cut) }
     ensures err { result ≡ Err Shape → converted of_json (value 127 (begin_object ∷ reader.old)) ≡ None }
 {
+    // form: the proof names the loop
     'members: while let Some(name) = reader.next_key()? {
         let key = String::from_str(heap, name)?;
         let value = member(heap, alloc, reader, name, acts)?;
@@ -100,7 +104,7 @@ fn read_members<'a, B: Allocator>(
     Ok(())
 }
 
-/// The members up to the brace that closes the outermost object.
+/// Reads the outermost object, from behind the brace that opens it through the one that closes it.
 fn members_of<'a, B: Allocator>(
     heap: Global,
     alloc: &'a B,
@@ -119,6 +123,7 @@ fn members_of<'a, B: Allocator>(
             acts,
         }),
         Err(fault) => {
+            // form: drop before exit
             drop(found);
             drop(acts);
             Err(fault)
@@ -126,7 +131,8 @@ fn members_of<'a, B: Allocator>(
     }
 }
 
-/// The next value of the reader.
+/// Reads the next value of the reader as a draft. The caller calls it at the beginning of the text, and tests that
+/// nothing comes after the value.
 fn next_draft<'a, B: Allocator>(
     heap: Global,
     alloc: &'a B,
@@ -145,7 +151,7 @@ fn next_draft<'a, B: Allocator>(
     }
 }
 
-/// The JSON value of the text.
+/// The draft of the text; `Shape` if the text isn't JSON.
 pub(crate) fn draft_of<'a, B: Allocator>(
     heap: Global,
     alloc: &'a B,

@@ -9,6 +9,7 @@ use json_core::{Unread, ends_at, number_in};
 use serde_json::{Map, Value};
 use std::alloc::{Allocator, Global};
 
+/// The whole number under `version`; `None` if there is none.
 pub(crate) fn version_of(value: &Value) -> Option<u64>
     ensures { result ≡ version_of (view value.now) }
 {
@@ -61,8 +62,8 @@ fn are_keys(first: &str, second: &str, third: &str, fourth: &str) -> bool
     first == "acts" && second == "limits" && third == "nodes" && fourth == "version"
 }
 
-/// The values at `acts`, `limits` and `nodes`, if these and `version` are the keys. A map gives its keys in their
-/// order.
+/// The values of the members `acts`, `limits` and `nodes`, if these and `version` are all that there are; else `Shape`.
+/// A map gives its keys in rising order.
 #[tactic(auto, unfolding(crate::specs::Decoding::values_at))]
 fn values_at(members: &Map<String, Value>) -> Result<(&Value, &Value, &Value), Unread>
     ensures { Gives (λ v. (view v.0.now, view v.1.now, view v.2.now)) result (values_at (members_view members.now.entries)) }
@@ -86,13 +87,15 @@ fn values_at(members: &Map<String, Value>) -> Result<(&Value, &Value, &Value), U
     Ok((acts, limits, nodes))
 }
 
-/// What a session opens its bench with.
+/// What a session's bench is opened with.
 #[derive(Drop)]
 pub(crate) struct Parts<A: Allocator> {
     pub(crate) limits: Limits,
     pub(crate) names: Names<A>,
 }
 
+/// The limits and the names of a session, if its head has all four members and no other, each in its form; else
+/// `Shape`.
 #[tactic(auto, unfolding(crate::specs::Decoding::parts_at))]
 pub(crate) fn parts_at<'a, B: Allocator>(
     heap: Global,

@@ -17,8 +17,8 @@ use bench_core::{Limits, Names};
 use json_core::Unread;
 use std::alloc::{Allocator, Global};
 
-/// What a session's text says: what its bench is opened with, and the calls that the bench recorded, up to the first act
-/// that is no event.
+/// What a session's text says: what its bench is opened with, and the calls that the bench recorded, up to the first
+/// act that doesn't stand for one.
 #[derive(Drop)]
 pub struct Recording<A: Allocator> {
     pub version: Version,
@@ -27,7 +27,8 @@ pub struct Recording<A: Allocator> {
     pub acts: Acts<A>,
 }
 
-/// What a text that was read says, if its head is a session's.
+/// What the text of this draft says. If its head isn't a session's: `BadVersion` for a whole number under `version`
+/// that isn't a version, and `BadShape` with act 0 for anything else.
 fn recording_of<'a, B: Allocator>(
     heap: Global,
     alloc: &'a B,
@@ -35,7 +36,8 @@ fn recording_of<'a, B: Allocator>(
 ) -> Result<Recording<&'a B>, SessionFault>
     ensures ok { IfOk result (λ r. (d : Data) → IsDraft d (view draft.entry.head) draft.entry.acts.events.items draft.entry.acts.is_cut →
         Tells d (number_of r.version) (record { limits = r.limits; names = r.names }) r.acts.events.items r.acts.is_cut) }
-    ensures err { IfErr result (λ fault. (d : Data) → IsDraft d (view draft.entry.head) draft.entry.acts.events.items draft.entry.acts.is_cut → IsRefused d fault) }
+    ensures err { IfErr result (λ fault. (d : Data) → IsDraft d (view draft.entry.head) draft.entry.acts.events.items draft.entry.acts.is_cut
+        → IsRefused d fault) }
 {
     let Some(number) = version_of(&draft.head) else {
         return Err(SessionFault::BadShape { act: 0 });
@@ -55,7 +57,7 @@ fn recording_of<'a, B: Allocator>(
     }
 }
 
-/// Reads the text in these bytes, before its calls are asked.
+/// Reads the text in these bytes; `NotJson` if they aren't JSON.
 fn read<'a, B: Allocator>(
     heap: Global,
     alloc: &'a B,
@@ -75,10 +77,10 @@ fn read<'a, B: Allocator>(
     }
 }
 
-/// What the text of a session says, of either version, before its calls are asked. It refuses what `load` refuses for
-/// the text or its head, in that order. It doesn't look whether the acts are events of their version and get their
-/// replies: who asks them does. Each act's JSON is dropped once its event is known. JSON values and the list of events
-/// take their memory from the global heap.
+/// Reads what the text of a session says, of either version, before its calls are asked. It refuses a text that isn't
+/// JSON, or whose head isn't a session's, with the fault that `load` of `session_core` gives. It doesn't check that the
+/// acts are events of their version and get their replies: whoever asks them does. Each act's JSON is dropped once its
+/// event is known. JSON values and the list of events take their memory from the global heap.
 pub fn read_session<'a, B: Allocator>(
     heap: Global,
     alloc: &'a B,

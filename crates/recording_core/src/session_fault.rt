@@ -1,16 +1,16 @@
 //! `SessionFault`: why a text gives no bench.
 use thiserror::Error;
 
-/// Why a text gives no bench. Acts are numbered from 1, and 0 stands for the session's head.
+/// Why a text gives no bench. Acts are numbered from 1; 0 stands for the session's head.
 #[derive(Clone, Copy, Debug, PartialEq, Eq, Error)]
 pub enum SessionFault {
-    /// The bytes are no JSON.
+    /// The bytes aren't JSON.
     #[error("NotJson")]
     NotJson,
-    /// The head or this act is not of a session's form.
+    /// The head, or this act, doesn't have the form that it has in a session.
     #[error("BadShape at act {act}")]
     BadShape { act: u64 },
-    /// There is no such version.
+    /// The number under `version` is neither 1 nor 2.
     #[error("BadVersion")]
     BadVersion,
     /// The bench, asked this act, gives another reply or doesn't record it.

@@ -1,4 +1,4 @@
-//! `Version`, the form of a session's text.
+//! `Version`: the form of a session's text.
 ghost use Rattle.std.specs.Prelude.{◌≡◌, MatchOption};
 ghost use Rattle.bench_core.specs.Acts.{plain_act};
 ghost use Rattle.recording_core.specs.Versions.{IsVersion, is_first_action, is_first_reply, number_of, tells};
@@ -7,20 +7,22 @@ use bench_core::{Act, Event, Fault, Reply};
 use node_core::Step;
 use std::alloc::Allocator;
 
-/// The version of a session's text. Version 1 has no requests and no answers, and neither of the two refusals that only
-/// these meet.
+/// The version of a session's text. Version 1 has no requests and no answers, and neither of the refusals
+/// `NotRequest` (of an answer) and `IsRequest` (of a delivery of a request).
 #[derive(Clone, Copy)]
 pub enum Version {
     First,
     Second,
 }
 
+/// Whether a text of version 1 can have the act.
 fn is_first_act<A: Allocator>(act: &Act<A>) -> bool
     ensures { result ≡ is_first_action (plain_act act.now) }
 {
     !matches!(act, Act::Do(Step::Request | Step::Answer { .. }))
 }
 
+/// Whether a text of version 1 can have the reply.
 fn is_first_reply(reply: Reply) -> bool
     ensures { result ≡ is_first_reply reply }
 {
@@ -28,7 +30,7 @@ fn is_first_reply(reply: Reply) -> bool
 }
 
 impl Version {
-    /// The version of this number, if there is one.
+    /// The version with this number; `None` if there is none.
     pub(crate) fn of_number(number: u64) -> Option<Version>
         ensures { MatchOption result (¬ IsVersion number) (λ version. number_of version ≡ number) }
     {

@@ -7,7 +7,7 @@ use payload_core::Oom;
 use report_core::act;
 use std::alloc::Allocator;
 
-/// Makes a recorded act again on another bench, and prints it.
+/// Makes a recorded act on `bench`, which isn't the bench that recorded it, and appends what the act prints.
 #[tactic(auto, unfolding(crate::specs::Report::command_text, crate::specs::Report::after_command))]
 fn event<'a, B: Allocator>(
     alloc: &'a B,
@@ -21,7 +21,8 @@ fn event<'a, B: Allocator>(
     act(alloc, text, bench, event.actor, &event.act)
 }
 
-/// Makes the recorded acts again on another bench, and prints them.
+/// Makes the acts of `history` in turn on `bench`, which isn't the bench that recorded them, and appends what the acts
+/// print.
 #[tactic(auto, unfolding(crate::specs::Report::commands_text))]
 fn events<'a, B: Allocator>(
     text: &mut String<&'a B>,
@@ -39,7 +40,7 @@ fn events<'a, B: Allocator>(
     Ok(())
 }
 
-/// What the recorded acts of a bench print when another plays them from the opening.
+/// What the recorded acts of a bench print when a new bench with the same names and limits makes them.
 #[tactic(auto, unfolding(crate::specs::Report::history_text, crate::specs::Report::report_of))]
 fn told_again<'a, B: Allocator>(bench: &Bench<'a, B>, alloc: &'a B) -> Result<Vec<u8, &'a B>, Oom>
     ensures { IfOk result (λ report. report.items ≡ history_text bench.now) }
@@ -48,17 +49,19 @@ fn told_again<'a, B: Allocator>(bench: &Bench<'a, B>, alloc: &'a B) -> Result<Ve
     let mut again = Bench::new(alloc, names, bench.limits())?;
     let mut text = String::new(alloc);
     let told = events(&mut text, &mut again, bench.history(), alloc);
+    // form: drop before exit
     drop(again);
     told?;
     Ok(text.into_bytes())
 }
 
-/// What the recorded acts of a bench print in a script that is played from the opening.
+/// What the recorded acts of a bench print when a new bench with the same names and limits makes them.
 pub fn report_history<'a, B: Allocator>(
     alloc: &'a B,
     bench: &Bench<'a, B>,
 ) -> Result<Vec<u8, &'a B>, Oom>
     ensures { IfOk result (λ report. report.items ≡ history_text bench.now) }
 {
+    // form: only moves the allocator, which comes last inside
     told_again(bench, alloc)
 }

@@ -1,4 +1,4 @@
-//! `Prompt`: the lines of a script one by one, each answered before the next is read.
+//! `Prompt`: takes the lines of a script one by one, each answered before the next is read.
 ghost use Rattle.std.specs.Prelude.{◌≡◌, ◌≢◌, OnOk, IfErr, option_copied, option_map, string_bytes};
 ghost use Rattle.grammar_core.specs.Answers.{Gives};
 ghost use Rattle.run_core.specs.Prompts.{asked, new_prompt, opened, taken};
@@ -14,7 +14,7 @@ use std::alloc::Allocator;
 use std::marker::Model;
 use std::mem::replace;
 
-/// Who may act, and the bench, once the nodes are named.
+/// Who may act, and the bench; both are `None` until the nodes are named.
 #[derive(Drop)]
 pub struct Prompt<'a, B: Allocator> {
     alloc: &'a B,
@@ -47,14 +47,14 @@ impl<'a, B: Allocator> Prompt<'a, B> {
         }
     }
 
-    /// The bench, once the nodes are named.
+    /// The bench; `None` until the nodes are named.
     pub fn bench(&self) -> Option<&Bench<'a, B>>
         ensures { option_copied result ≡ self.now.machine }
     {
         self.bench.as_ref()
     }
 
-    /// The names of the consoles, once the nodes are named.
+    /// The names of the consoles: empty before a `consoles` line, and `None` until the nodes are named.
     pub fn consoles(&self) -> Option<&TextSet<&'a B>>
         ensures { option_copied result ≡ option_map (λ cast. cast.consoles) self.now.cast }
     {
@@ -64,7 +64,7 @@ impl<'a, B: Allocator> Prompt<'a, B> {
         }
     }
 
-    /// Opens the bench, once the nodes are named.
+    /// Opens the bench, if the nodes are named and it isn't open.
     fn open(&mut self) -> Result<(), Oom>
         ensures { OnOk result (self.new ≡ record self.old { machine = opened self.old.limits self.old.cast self.old.machine }) }
     {
@@ -76,11 +76,12 @@ impl<'a, B: Allocator> Prompt<'a, B> {
         };
         let names = cast.nodes().try_copy()?;
         let bench = Bench::new(self.alloc, names, self.limits)?;
+        // form: an assignment would drop the old value field by field
         drop(self.bench.replace(bench));
         Ok(())
     }
 
-    /// Does these lines on the bench, if it is open, and prints what they print.
+    /// Carries out these lines on the bench, if it is open, and appends what they print.
     fn ask(&mut self, text: &mut String<&'a B>, lines: &[Line<&'a B>]) -> Result<(), Oom>
         ensures { OnOk result ((self.new, string_bytes text.new) ≡
             asked self.old.limits self.old.cast self.old.machine (string_bytes text.old) (commands_of (plain_lines lines.now))) }
@@ -91,7 +92,7 @@ impl<'a, B: Allocator> Prompt<'a, B> {
         }
     }
 
-    /// Opens the bench, if the nodes are named, does these lines on it, and prints what they print.
+    /// Opens the bench, if the nodes are named, carries out these lines on it, and appends what they print.
     fn obey(&mut self, text: &mut String<&'a B>, lines: &[Line<&'a B>]) -> Result<(), Oom>
         ensures { OnOk result ((self.new, string_bytes text.new) ≡
             asked self.old.limits self.old.cast (opened self.old.limits self.old.cast self.old.machine) (string_bytes text.old)
@@ -101,24 +102,28 @@ impl<'a, B: Allocator> Prompt<'a, B> {
         self.ask(text, lines)
     }
 
-    /// Reads a line, does what it asks, and appends what that prints; or gives the line's fault. A fault other than
-    /// want of memory changes nothing.
+    /// Reads a line, does what it asks, and appends what the line prints; or gives the line's fault. A fault other than
+    /// `OutOfMemory` changes nothing.
     #[tactic(auto, unfolding(crate::specs::Prompts::taken))]
     pub fn take(&mut self, text: &mut String<&'a B>, line: &[u8]) -> Result<(), FaultKind>
         ensures answer { Gives (λ _. (self.new, string_bytes text.new)) result (taken self.old (string_bytes text.old) line.now) }
         ensures kept { IfErr result (λ kind. kind ≢ OutOfMemory → self.new ≡ self.old) }
         ensures unprinted { IfErr result (λ kind. kind ≢ OutOfMemory → string_bytes text.new ≡ string_bytes text.old) }
     {
+        // form: taken out for the edit, and put back
         let mut reading = Reading {
             cast: self.cast.take(),
             lines: Vec::new(self.alloc),
         };
+        // 0: the number of the line isn't used
         let answer = read_line(self.alloc, &mut reading, 0, line);
         let Reading { cast, lines } = reading;
+        // form: an assignment would drop the old value field by field
         drop(replace(&mut self.cast, cast));
         match answer {
             Ok(()) => {
                 let obeyed = self.obey(text, &lines);
+                // form: drop before exit
                 drop(lines);
                 Ok(obeyed?)
             }

@@ -1,4 +1,4 @@
-//! A script played on a bench, with its report.
+//! Plays a script on a bench, and gives its report.
 ghost use Rattle.std.specs.Prelude.{◌≡◌, ◌++◌, OnOk, IfOk, string_bytes};
 ghost use Rattle.run_core.specs.Report.{command_text, after_command, commands_text, after_commands, commands_of, played, report_of};
 ghost use Rattle.grammar_core.specs.Scripts.{plain_command, plain_lines, plain_script};
@@ -9,7 +9,7 @@ use payload_core::Oom;
 use report_core::{act, node, put_dots, put_journal, show, unwind, why};
 use std::alloc::Allocator;
 
-/// Does a command, and prints what it prints.
+/// Carries out a command on the bench, and appends its part of the report to the text.
 #[tactic(auto, unfolding(crate::specs::Report::command_text, crate::specs::Report::after_command))]
 pub fn command<'a, B: Allocator>(
     text: &mut String<&'a B>,
@@ -30,7 +30,7 @@ pub fn command<'a, B: Allocator>(
     }
 }
 
-/// Does what the lines ask, and prints what they print.
+/// Carries out the commands of the lines in turn, and appends their parts of the report to the text.
 #[tactic(auto, unfolding(crate::specs::Report::commands_text, crate::specs::Report::after_commands))]
 pub fn lines<'a, B: Allocator>(
     text: &mut String<&'a B>,
@@ -47,14 +47,14 @@ pub fn lines<'a, B: Allocator>(
     Ok(())
 }
 
-/// A bench that a script was played on, and its report.
+/// The bench on which a script was played, and the report.
 #[derive(Drop)]
 pub struct Played<'a, B: Allocator> {
     pub bench: Bench<'a, B>,
     pub report: Vec<u8, &'a B>,
 }
 
-/// Plays a script from an opening bench with these limits.
+/// Plays a script on a new bench with these limits.
 #[tactic(auto, unfolding(crate::specs::Report::played, crate::specs::Report::report_of))]
 pub fn run_script<'a, B: Allocator>(
     alloc: &'a B,
@@ -68,6 +68,7 @@ pub fn run_script<'a, B: Allocator>(
     let mut bench = Bench::new(alloc, names, limits)?;
     let mut text = String::new(alloc);
     if let Err(oom) = lines(&mut text, &mut bench, grammar_core::lines(script), alloc) {
+        // form: drop before exit
         drop(bench);
         return Err(oom);
     }

@@ -1,8 +1,10 @@
-//! Scripts: from their bytes to their reports, from a reader to a writer.
+//! Plays scripts: from their bytes to their reports, from a reader to a writer.
 //!
-//! The parts of the crates below that its users need can be named here: `grammar_core`'s scripts, `run_core`'s way to run one
-//! on a bench, `stream_core`'s way to read input and write a report, and a reader and a writer that fail, for tests. In the
-//! order to read them: `play_fault`, why a play ends early; `playing`, a script from a reader to a writer.
+//! It stands on `grammar_core` (scripts as they are read), `run_core` (scripts run on a bench) and `stream_core` (whole
+//! inputs, all bytes to a writer), and names the plain types of the crates below. It exports again what its users need
+//! of these three, `stream_core`'s reader and writer that fail among them, which are for tests.
+//!
+//! The modules in reading order: `play_fault`, why a play ends early; `playing`, a script from a reader to a writer.
 #![tactic(auto)]
 
 mod play_fault;

@@ -5,13 +5,13 @@ use thiserror::Error;
 /// Why a play ended early.
 #[derive(Clone, Copy, Debug, PartialEq, Eq, Error)]
 pub enum PlayFault {
-    /// The first fault of the input, want of memory apart.
+    /// The first fault of the input, other than `OutOfMemory`.
     #[error("{0}")]
     Script(ScriptFault),
     /// A read failed.
     #[error("read fault")]
     ReadFault,
-    /// Exactly the first `written` bytes of the report went out.
+    /// A write failed or took nothing. Exactly the first `written` bytes of the report went out.
     #[error("write fault")]
     WriteFault { written: usize },
     /// A request for memory was refused.

@@ -1,4 +1,4 @@
-//! A script played from a reader to a writer.
+//! Plays a script from a reader to a writer.
 ghost use Rattle.std.specs.Prelude.{◌≡◌, OnOk, IfErr};
 ghost use Rattle.std.specs.Io.KnownBytes.{IsAtEnd};
 ghost use Rattle.script_core.specs.Play.{EndsAt, FailsAs, KeepsBefore, TellsMemory};
@@ -13,8 +13,9 @@ use std::marker::Brand;
 use std::sync::ledger::{Blank, Ledger};
 use stream_core::{InputFault, Steps, read_all, write_out};
 
-/// Reads the whole input, plays it as a script on a bench with these limits, and then writes the report. It writes
-/// nothing before the whole report is ready. `steps` counts the calls of `read`; `play` is for callers that count none.
+/// Reads the whole input, plays it as a script on a new bench with these limits, and then writes the report. It writes
+/// nothing before the whole report is ready. `steps` counts the calls of `read`; callers that don't need the count use
+/// `play`.
 pub fn play_counted<B: Allocator, R: Read, W: Write, L: Ledger>(
     alloc: &B,
     reader: &mut R,
@@ -40,6 +41,7 @@ pub fn play_counted<B: Allocator, R: Read, W: Write, L: Ledger>(
         Err(InputFault::OutOfMemory) => return Err(PlayFault::OutOfMemory),
     };
     let parsed = parse_script(alloc, &input);
+    // form: drop before exit
     drop(input);
     let script = match parsed {
         Ok(script) => script,
@@ -61,7 +63,7 @@ pub fn play_counted<B: Allocator, R: Read, W: Write, L: Ledger>(
     }
 }
 
-/// `play_counted` with a count of its own, which it drops.
+/// Like `play_counted`, but makes the count itself, from `blank`, and drops it.
 fn play_from<B: Allocator, R: Read, W: Write, L: Ledger>(
     alloc: &B,
     reader: &mut R,
@@ -81,7 +83,7 @@ fn play_from<B: Allocator, R: Read, W: Write, L: Ledger>(
     play_counted(alloc, reader, writer, limits, &mut steps)
 }
 
-/// As `play_counted`, for callers that count no calls of `read`.
+/// Like `play_counted`, for callers that don't need the count of the calls of `read`.
 pub fn play<B: Allocator, R: Read, W: Write>(
     alloc: &B,
     reader: &mut R,

@@ -1,12 +1,13 @@
-//! A reader and a writer for tests, which fail in mid-stream. Their contracts show their bytes, so what clauses say of known
-//! bytes holds of them.
+//! A reader and a writer for tests, which may fail in mid-stream. Their contracts show their bytes, so that a clause
+//! about a stream's bytes says something of them.
 ghost use Rattle.std.specs.Prelude.{◌≡◌, false, true, []};
 
 use std::alloc::Global;
 use std::io;
 use std::io::{ErrorKind, Read, Write};
 
-/// Gives its bytes, as many at each call as are asked for, and then the end or a fault.
+/// A reader that gives its bytes, as many at each call as are asked for, and then ends or fails. It may fail at the
+/// first call, too.
 #[derive(Drop)]
 pub struct FakeReader<'a> {
     rest: &'a [u8],
@@ -46,7 +47,7 @@ impl<'a> FakeReader<'a> {
         }
     }
 
-    /// A reader that fails once, and would then give the bytes and end.
+    /// A reader that fails at the first call, and then gives the bytes and ends.
     pub fn failing_once(bytes: &'a [u8]) -> FakeReader<'a>
         ensures rest { result.rest.now ≡ bytes.now }
         ensures fails_first { result.fails_first ≡ true }
@@ -61,7 +62,7 @@ impl<'a> FakeReader<'a> {
         }
     }
 
-    /// How often it was read.
+    /// How many calls of `read` there were, failed ones too.
     pub fn calls(&self) -> usize
         ensures { result ≡ self.now.calls }
     {
@@ -75,6 +76,7 @@ impl Read for FakeReader<'_> {
     ghost remaining = { λ reader. Some reader.rest.now };
 
     fn read(&mut self, buf: &mut [u8]) -> io::Result<usize> {
+        // form: saturating spares a requirement
         self.calls = self.calls.saturating_add(1);
         if self.fails_first {
             self.fails_first = false;
@@ -91,7 +93,8 @@ impl Read for FakeReader<'_> {
     }
 }
 
-/// Takes `room` bytes in all, at most `most` at a call, and then fails.
+/// A writer that takes `room` bytes, at most `most` at a call, and then fails. If `recovers`, it fails once, and then
+/// has room for all further bytes; else it fails at each later call. A call without bytes fails, too.
 #[derive(Drop)]
 pub struct FakeWriter {
     taken: Vec<u8>,
@@ -114,7 +117,7 @@ impl FakeWriter {
         }
     }
 
-    /// A writer that takes at most `most` bytes at a call, and never fails.
+    /// A writer that takes at most `most` bytes at a call, and has room for all.
     pub fn taking(alloc: Global, most: usize) -> FakeWriter
         ensures taken { result.taken.items ≡ [] }
         ensures most { result.most ≡ most }
@@ -127,7 +130,7 @@ impl FakeWriter {
         }
     }
 
-    /// A writer that takes `room` bytes, fails once, and would then take all others.
+    /// A writer that takes `room` bytes, fails once, and then takes all others.
     pub fn failing_once(alloc: Global, room: usize) -> FakeWriter
         ensures taken { result.taken.items ≡ [] }
         ensures room { result.room ≡ room }
@@ -141,7 +144,7 @@ impl FakeWriter {
         }
     }
 
-    /// What went out.
+    /// The bytes that were taken.
     pub fn taken(&self) -> &[u8]
         ensures { result.now ≡ self.now.taken.items }
     {

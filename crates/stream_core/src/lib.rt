@@ -1,9 +1,9 @@
-//! What the crates above read and write with: all bytes of a reader or its first ones, its next line, and all bytes to a
-//! writer.
+//! What the crates above read and write with: all bytes of a reader or its first ones, its next line, and all bytes to
+//! a writer.
 //!
-//! It uses std alone, and `thiserror` for the texts of faults. In the order to read them: `stream_fault`, why bytes could not
-//! be read or written; `steps`, how often a reader was read; `streams`, whole inputs and outputs; `lines`, one line after
-//! another; `fakes`, a reader and a writer that fail, for tests.
+//! It uses std, and `thiserror` for the texts of faults. The modules in reading order: `stream_fault`, why bytes
+//! couldn't be read or written; `steps`, how often a reader was read; `streams`, whole inputs and outputs; `lines`, one
+//! line after another; `fakes`, a reader and a writer for tests, which may fail.
 #![tactic(auto)]
 
 mod fakes;

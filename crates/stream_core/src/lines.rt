@@ -1,4 +1,4 @@
-//! The next line of a reader. It keeps only the beginning of a line that is longer than is asked for.
+//! Reads the next line of a reader. Of a line that is too long, only the beginning is kept.
 ghost use Rattle.std.specs.Prelude.{◌≡◌, ◌∷◌, [], ◌<◌, ◌≤◌, IfErr, IfOk, IfSome, OnErr, option_map, vec_items, vec_len};
 ghost use Rattle.std.specs.Io.KnownBytes.{Consumes, IsAtEnd, Keeps};
 ghost use Rattle.stream_core.specs.NextLines.{IsEndless, IsNext, TakesLine, TakesPart};
@@ -11,7 +11,7 @@ use std::alloc::Allocator;
 use std::io::Read;
 use std::sync::ledger::Ledger;
 
-/// Takes in the next byte, or none at the end of the input. A failed read isn't tried again.
+/// Reads the next byte; `None` at the end of the input. A failed read isn't tried again.
 fn next_byte<R: Read, L: Ledger>(
     reader: &mut R,
     steps: &mut Steps<L>,
@@ -31,9 +31,9 @@ fn next_byte<R: Read, L: Ledger>(
     }
 }
 
-/// Takes in the next line, and gives it without its line feed; `None` at the end of the input. It gives the first
-/// `most` bytes of a longer line. `TooLong` is for a line with more bytes than a number can count. `steps` counts the
-/// calls of `read`.
+/// Reads the next line, and gives it without its line feed; `None` at the end of the input. Of a line with more than
+/// `most` bytes it gives the first `most`. `TooLong` comes only for a line with at least `u64::MAX` bytes. After a
+/// fault the part of the line that was read is lost. `steps` counts the calls of `read`.
 pub fn next_line<A: Allocator, R: Read, L: Ledger>(
     alloc: A,
     reader: &mut R,
@@ -50,6 +50,7 @@ pub fn next_line<A: Allocator, R: Read, L: Ledger>(
     ensures failed { FailsAs result steps.old steps.new }
 {
     let mut line = Vec::new(alloc);
+    // form: counted, so that the loop ends
     for _turn in 0..u64::MAX {
         let Some(byte) = next_byte(reader, steps)? else {
             if line.is_empty() {

@@ -1,4 +1,5 @@
-//! `Steps`: how often a reader was read, for contracts alone. It takes no bytes, and counting has no code.
+//! `Steps`: counts how often a reader was read, for contracts alone. The count takes no memory, and counting runs no
+//! code.
 ghost use Rattle.std.specs.Prelude.{◌≡◌, ◌+◌, IfErr};
 ghost use Rattle.std.specs.Io.{ReadsAtMost};
 ghost use Rattle.std.specs.Io.KnownBytes.{ReadConsumes};
@@ -10,7 +11,8 @@ use std::io::Read;
 use std::marker::Model;
 use std::sync::ledger::{Blank, Book, Ledger, Share};
 
-/// How many calls of `read` were made, and how many of them failed. Only `read_once` moves it on.
+/// How many calls of `read` were made, and how many of them failed, both booked in the ledger `L`. Only `read_once`
+/// adds to them.
 #[derive(Drop)]
 pub struct Steps<L: Ledger> {
     book: Book<L>,
@@ -30,7 +32,8 @@ impl<L: Ledger> Model for Steps<L> {
 }
 
 impl<L: Ledger> Steps<L> {
-    /// A count before the first call. The ledger has two parts, one of them for calls that fail.
+    /// A count before the first call. The ledger of `blank` has two parts: one for calls that succeed, one for calls
+    /// that fail.
     pub fn new(blank: Blank) -> Steps<L>
         requires name { blank.name ≡ L.name }
         requires parts { blank.parts ≡ L.parts }
@@ -62,7 +65,7 @@ impl<L: Ledger> Steps<L> {
     }
 }
 
-/// Makes one call of `read`, and counts it. This crate reads by nothing else.
+/// Makes one call of `read`, and counts it. Nothing else in this crate reads.
 pub fn read_once<R: Read, L: Ledger>(
     reader: &mut R,
     buffer: &mut [u8],

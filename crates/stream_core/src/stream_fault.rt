@@ -1,14 +1,14 @@
-//! Why bytes could not be read or written.
+//! Why bytes couldn't be read or written.
 use std::alloc::{AllocError, AllocFailed};
 use thiserror::Error;
 
-/// Why input could not be taken in.
+/// Why input couldn't be read.
 #[derive(Clone, Copy, Debug, PartialEq, Eq, Error)]
 pub enum InputFault {
     /// A read failed. It isn't tried again.
     #[error("read fault")]
     ReadFault,
-    /// There are more bytes than the limit, or than a number can count.
+    /// The input has more bytes than the limit, or a line has at least `u64::MAX` bytes.
     #[error("TooLong")]
     TooLong,
     /// A request for memory was refused.

@@ -1,4 +1,5 @@
-//! All bytes of a reader, and all bytes to a writer. A failed read or write isn't tried again.
+//! Reads all bytes of a reader up to a limit, and writes all bytes to a writer. A failed read or write isn't tried
+//! again.
 ghost use Rattle.std.specs.Prelude.{◌≡◌, ◌≢◌, ◌+◌, ◌<◌, ◌≤◌, length, take, Err, IfOk, IfErr, OnOk};
 ghost use Rattle.stream_core.specs.Steps.{FailsAs};
 ghost use Rattle.std.specs.Io.KnownBytes.{Appends, IsAtEnd};
@@ -11,10 +12,10 @@ use std::io::{Read, Write};
 use std::marker::Brand;
 use std::sync::ledger::{Blank, Ledger};
 
-/// How many bytes one read asks for, at most.
+/// How many bytes one read asks for at most.
 const CHUNK: usize = 4096;
 
-/// The first `most` bytes of the input, or all if it has fewer. `steps` counts the calls of `read`.
+/// The first `most` bytes of the input, or the whole input if it has fewer. `steps` counts the calls of `read`.
 pub fn read_front<A: Allocator, R: Read, L: Ledger>(
     alloc: A,
     reader: &mut R,
@@ -44,8 +45,8 @@ pub fn read_front<A: Allocator, R: Read, L: Ledger>(
     Ok(bytes)
 }
 
-/// The whole input, if it has at most `limit` bytes; so it asks for one byte past the limit. `steps` counts the calls
-/// of `read`; `read_input` is for callers that count none.
+/// The whole input, or `TooLong` if it has more than `limit` bytes. To tell, it asks for one byte past the limit.
+/// `steps` counts the calls of `read`; callers that don't need the count use `read_input`.
 pub fn read_all<A: Allocator, R: Read, L: Ledger>(
     alloc: A,
     reader: &mut R,
@@ -68,7 +69,7 @@ pub fn read_all<A: Allocator, R: Read, L: Ledger>(
     Ok(bytes)
 }
 
-/// `read_all` with a count of its own, which it drops.
+/// Like `read_all`, but makes the count itself, from `blank`, and drops it.
 fn read_from<A: Allocator, R: Read, L: Ledger>(
     alloc: A,
     reader: &mut R,
@@ -89,7 +90,7 @@ fn read_from<A: Allocator, R: Read, L: Ledger>(
     read_all(alloc, reader, limit, &mut steps)
 }
 
-/// As `read_all`, for callers that count no calls.
+/// Like `read_all`, for callers that don't need the count of the calls of `read`.
 pub fn read_input<A: Allocator, R: Read>(
     alloc: A,
     reader: &mut R,
@@ -105,7 +106,7 @@ pub fn read_input<A: Allocator, R: Read>(
     read_from::<A, R, Brand>(alloc, reader, limit, Blank::new(2))
 }
 
-/// Writes all bytes. A write that takes nothing is a failed one.
+/// Writes all bytes. A write that takes nothing counts as failed.
 pub fn write_out<W: Write>(writer: &mut W, bytes: &[u8]) -> Result<(), WriteFault>
     ensures ok { OnOk result (Appends (W.contents writer.old) (W.contents writer.new) bytes.now) }
     ensures short { IfErr result (λ fault. fault.written < length bytes.now) }

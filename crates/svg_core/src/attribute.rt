@@ -7,7 +7,7 @@ ghost use Rattle.svg_core.specs.Values.{value_text, plain_attribute, plain_attri
 use crate::escape::{put_escaped, put_number};
 use std::alloc::{AllocError, Allocator};
 
-/// The value of an attribute.
+/// The value of an attribute. A text is escaped when it is written.
 #[derive(Clone, Copy)]
 pub enum Value<'a> {
     Text(&'a str),
@@ -27,7 +27,7 @@ fn put_value<A: Allocator>(text: &mut String<A>, value: &Value) -> Result<(), Al
     }
 }
 
-/// ` NAME="VALUE"`.
+/// Appends ` NAME="VALUE"`.
 fn put_attribute<A: Allocator>(
     text: &mut String<A>,
     attribute: &Attribute,
@@ -41,7 +41,7 @@ fn put_attribute<A: Allocator>(
     text.push_str("\"")
 }
 
-/// The attributes, each with a space before it.
+/// Appends the attributes, each after a space.
 #[tactic(auto, unfolding(crate::specs::Trees::attributes_text))]
 pub fn put_attributes<A: Allocator>(
     text: &mut String<A>,

@@ -1,4 +1,4 @@
-//! Elements, and their ends.
+//! Appends elements, and their ends.
 ghost use Rattle.std.specs.Prelude.{◌≡◌, ◌++◌, OnOk, string_bytes};
 ghost use Rattle.svg_core.specs.Trees.{end_text, leaf, opening_text, text_of};
 ghost use Rattle.svg_core.specs.Values.{plain_attributes};
@@ -7,7 +7,7 @@ use crate::attribute::{Attribute, put_attributes};
 use crate::escape::put_escaped;
 use std::alloc::{AllocError, Allocator};
 
-/// `<TAG NAME="VALUE" ..>`.
+/// Appends the beginning of an element: `<TAG NAME="VALUE" ..>`.
 #[tactic(auto, unfolding(crate::specs::Trees::opening_text, crate::specs::Trees::start_text))]
 pub fn put_start<A: Allocator>(
     text: &mut String<A>,
@@ -21,7 +21,7 @@ pub fn put_start<A: Allocator>(
     text.push_str(">")
 }
 
-/// `</TAG>`.
+/// Appends the end of an element: `</TAG>`.
 #[tactic(auto, unfolding(crate::specs::Trees::end_text))]
 pub fn put_end<A: Allocator>(text: &mut String<A>, tag: &str) -> Result<(), AllocError>
     ensures { OnOk result (string_bytes text.new ≡ string_bytes text.old ++ end_text tag.now) }
@@ -29,7 +29,7 @@ pub fn put_end<A: Allocator>(text: &mut String<A>, tag: &str) -> Result<(), Allo
     write!(text, "</{tag}>")
 }
 
-/// An element that holds a text.
+/// Appends a whole element whose content is the text `words`, escaped.
 #[tactic(auto, unfolding(crate::specs::Trees::text_of))]
 pub fn put_leaf<A: Allocator>(
     text: &mut String<A>,

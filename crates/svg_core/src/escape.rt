@@ -1,17 +1,17 @@
-//! Texts as they stand in XML.
+//! Appends texts as they stand in XML.
 ghost use Rattle.std.specs.Prelude.{◌≡◌, ◌++◌, OnOk, string_bytes, decimal};
 ghost use Rattle.svg_core.specs.Escapes.{escape, escaped, is_plain, stand_in};
 
 use std::alloc::{AllocError, Allocator};
 
-/// Whether the byte stands for itself.
+/// Whether the byte stands for itself in XML.
 fn is_plain(byte: u8) -> bool
     ensures { result ≡ is_plain byte }
 {
     matches!(byte, b'\n' | b' '..=b'~') && !matches!(byte, b'"' | b'&' | b'\'' | b'<' | b'>')
 }
 
-/// What stands for a byte that doesn't stand for itself.
+/// What stands for a byte that doesn't stand for itself: an entity of XML, or `?`.
 fn stand_in(byte: u8) -> &'static str
     ensures { result.now ≡ stand_in byte }
 {
@@ -35,7 +35,8 @@ fn put_byte<A: Allocator>(text: &mut String<A>, byte: u8) -> Result<(), AllocErr
     }
 }
 
-/// The words as they stand in XML. A byte that is no ASCII, or a control, becomes `?`.
+/// Appends the words as they stand in XML. Each byte that is a control, other than a line feed, or isn't ASCII becomes
+/// `?`.
 #[tactic(auto, unfolding(crate::specs::Escapes::escaped))]
 pub fn put_escaped<A: Allocator>(text: &mut String<A>, words: &str) -> Result<(), AllocError>
     ensures { OnOk result (string_bytes text.new ≡ string_bytes text.old ++ escaped words.now) }
@@ -47,7 +48,7 @@ pub fn put_escaped<A: Allocator>(text: &mut String<A>, words: &str) -> Result<()
     Ok(())
 }
 
-/// The digits of a number, which stand for themselves.
+/// Appends the digits of a number, which need no escape.
 #[tactic(auto, using(crate::proofs::Plain::escaped_decimal))]
 pub fn put_number<A: Allocator>(text: &mut String<A>, number: u64) -> Result<(), AllocError>
     ensures { OnOk result (string_bytes text.new ≡ string_bytes text.old ++ escaped (decimal number)) }

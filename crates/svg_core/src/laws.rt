@@ -1,7 +1,8 @@
-//! The law of texts of trees, as the contract of a function that does nothing.
+//! The law of an element's text, as the contract of a function that does nothing.
 ghost use Rattle.svg_core.specs.Grammar.{DocumentLaw};
 
-/// The text of an element whose tags and attributes have names is a document of XML, whatever its texts and values are.
+/// The text of an element is a document of XML if its tags and attributes have names that XML allows, whatever its
+/// texts and values are.
 pub fn document_law()
     ensures { DocumentLaw }
 {}

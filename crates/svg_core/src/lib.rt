@@ -1,7 +1,7 @@
-//! Trees of SVG elements as text, appended to a growing text.
+//! Appends trees of SVG elements to a growing text.
 //!
-//! It uses std alone. In the order to read them: `escape`, texts as they stand in XML; `attribute`, the attributes of an
-//! element; `element`, whole elements and their ends; `laws`, that the text of an element is a document.
+//! It uses std alone. The modules in reading order: `escape`, texts as they stand in XML; `attribute`, the attributes
+//! of an element; `element`, whole elements and their ends; `laws`, that the text of an element is a document.
 #![tactic(auto)]
 
 mod attribute;

@@ -1,7 +1,7 @@
-//! An allocator for the tests of this workspace: it hands each request on to an inner one, counts it and its bytes, and
-//! refuses the n-th request, or all from the n-th on, as a test asks.
+//! An allocator for the tests of this workspace. It counts each request and its bytes, and hands the request on to an
+//! inner allocator, or refuses it. A test asks that the n-th request alone be refused, or all from the n-th on.
 //!
-//! It uses std alone. Only tests use it; those of its own stand in `layer_tests`.
+//! The crate uses std alone. Only tests use it; its own tests stand in `layer_tests`.
 #![tactic(auto)]
 
 ghost use Rattle.std.specs.Prelude.{◌≡◌};
@@ -9,8 +9,8 @@ ghost use Rattle.std.specs.Prelude.{◌≡◌};
 use std::alloc::{AllocError, Allocator};
 use std::sync::atomic::{AtomicU64, Ordering};
 
-/// How many requests were made since the count last began at 0, how many bytes they asked for, and the numbers of the
-/// first and the last request to refuse. Requests are numbered from 1, so a last of 0 refuses none. The fields are
+/// How many requests were made since the count last started anew, how many bytes they asked for, and the numbers of the
+/// first and the last request to refuse. Requests are numbered from 1, so a `last` of 0 refuses none. The fields are
 /// atomic, since threads share them.
 #[derive(Drop)]
 struct Requests {
@@ -20,8 +20,8 @@ struct Requests {
     last: AtomicU64,
 }
 
-/// An allocator that a test lends as `&heap`, which is itself an allocator, and `Copy`. A request is one call of
-/// `allocate`, also by a collection that grows. An empty collection makes none.
+/// An allocator that a test passes on as `&heap`: the reference is an allocator, too, and is `Copy`. A request is one
+/// call of `allocate`. A collection that grows makes one, and an empty collection makes none.
 pub struct Refusing<B: Allocator> {
     inner: B,
     requests: Requests,
@@ -45,17 +45,17 @@ impl<B: Allocator> Refusing<B> {
         }
     }
 
-    /// Counts from 0 again, and refuses nothing from now on.
+    /// Starts the count anew, and refuses nothing from now on.
     pub fn refuse_none(&self) {
         self.refuse(0, 0);
     }
 
-    /// Counts from 0 again, and refuses the request with this number alone.
+    /// Starts the count anew, and refuses the request with this number, counted from 1, alone.
     pub fn refuse_only(&self, number: u64) {
         self.refuse(number, number);
     }
 
-    /// Counts from 0 again, and refuses the request with this number and each later one.
+    /// Starts the count anew, and refuses the request with this number, counted from 1, and each later one.
     pub fn refuse_from(&self, number: u64) {
         self.refuse(number, u64::MAX);
     }
@@ -67,12 +67,12 @@ impl<B: Allocator> Refusing<B> {
         self.requests.last.store(last, Ordering::SeqCst);
     }
 
-    /// How many requests were made, refused ones too, since the count last began at 0.
+    /// How many requests were made since the count last started anew, refused ones too.
     pub fn requests(&self) -> u64 {
         self.requests.made.load(Ordering::SeqCst)
     }
 
-    /// How many bytes these requests asked for.
+    /// How many bytes the requests asked for since the count last started anew, refused ones too.
     pub fn bytes(&self) -> u64 {
         self.requests.bytes.load(Ordering::SeqCst)
     }
@@ -87,9 +87,10 @@ impl<B: Allocator> Drop for Refusing<B> {
     }
 }
 
-// Counts one more request, of `size` bytes, and says whether it is refused.
+/// Counts one more request, of `size` bytes, and says whether it is refused.
 fn is_refused(requests: &Requests, size: usize) -> bool {
     requests.bytes.fetch_add(size as u64, Ordering::SeqCst);
+    // form: saturating spares a requirement
     let number = requests
         .made
         .fetch_add(1, Ordering::SeqCst)
@@ -99,6 +100,7 @@ fn is_refused(requests: &Requests, size: usize) -> bool {
     first <= number && number <= last
 }
 
+// safe because `inner` is an allocator: all memory comes from `inner`, and goes back to it
 unsafe impl<B: Allocator> Allocator for Refusing<B> {
     ghost dealloc_token = { λ heap ty ptr. B.dealloc_token heap.inner ty ptr };
 

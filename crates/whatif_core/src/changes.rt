@@ -1,4 +1,4 @@
-//! All changes that a run has.
+//! All changes that can be made to a run.
 ghost use Rattle.std.specs.Prelude.{◌≡◌, ◌≤◌, ◌<◌, ◌+◌, ◌++◌, IfOk, OnOk, length};
 ghost use Rattle.change_core.specs.Changes.{change_at, changes, changes_by, changes_of, changes_to, if_change, reach};
 
@@ -9,7 +9,8 @@ use std::alloc::Allocator;
 
 type Changes<A> = Vec<Change, A>;
 
-/// How far from a place a change of this kind can reach, in a run of `count` steps.
+/// How many distances from `place` a change of this kind can have in a run of `count` steps: back to the first step for
+/// `Before`, on to the last step for the other kinds. Distance 0 is the step's own place.
 fn reach(count: usize, kind: Kind, place: usize) -> usize
     requires { place < count }
     ensures { result ≡ reach count kind place }
@@ -20,12 +21,14 @@ fn reach(count: usize, kind: Kind, place: usize) -> usize
     }
 }
 
-/// The change at this distance.
+/// The change of this kind of the step at `place`. Its `beside` is the place at this distance: back from `place` for
+/// `Before`, and on from it for the other kinds.
 fn change_at(count: usize, kind: Kind, place: usize, distance: usize) -> Change
     requires place { place < count }
     requires distance { distance < reach count kind place }
     ensures { result ≡ change_at kind place distance }
 {
+    // form: the parameter `count` is for the contract alone
     let beside = match kind {
         Kind::Before => place - distance,
         _ => place + distance,
@@ -37,7 +40,7 @@ fn change_at(count: usize, kind: Kind, place: usize, distance: usize) -> Change
     }
 }
 
-/// Appends the change, if the run has it.
+/// Appends the change, if it can be made to the run of these steps.
 fn put_if<W: Allocator, A: Allocator>(
     found: &mut Changes<A>,
     steps: &[Kept<W>],
@@ -51,7 +54,7 @@ fn put_if<W: Allocator, A: Allocator>(
     Ok(())
 }
 
-/// Appends the changes of one kind of the step at this place, nearest first.
+/// Appends the changes of one kind of the step at `place`, the nearest first.
 fn put_by<W: Allocator, A: Allocator>(
     found: &mut Changes<A>,
     steps: &[Kept<W>],
@@ -67,7 +70,7 @@ fn put_by<W: Allocator, A: Allocator>(
     Ok(())
 }
 
-/// Appends the changes of the step at this place.
+/// Appends the changes of the step at `place`, kind after kind.
 #[tactic(auto, unfolding(change_core::specs::Changes::changes_of))]
 fn put_of<W: Allocator, A: Allocator>(
     found: &mut Changes<A>,
@@ -84,7 +87,7 @@ fn put_of<W: Allocator, A: Allocator>(
     put_by(found, steps, Kind::Again, place)
 }
 
-/// All changes that the run of these steps has: by step, by kind, the nearest first.
+/// All changes that can be made to the run of these steps: step after step, then kind after kind, the nearest first.
 #[tactic(auto, unfolding(change_core::specs::Changes::changes))]
 pub(crate) fn changes<W: Allocator, A: Allocator>(
     steps: &[Kept<W>],

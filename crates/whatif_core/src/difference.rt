@@ -1,4 +1,5 @@
-//! `Difference`: changes of one step and kind that lead to the same rows; and `Tally`, the count of the changes so far.
+//! `Difference`: changes of the same step and kind that lead to the same rows; and `Tally`, the count of the changes
+//! that were tried.
 ghost use Rattle.std.specs.Prelude.{◌≡◌, ◌<◌, ◌+◌, ◌==◌, ◌&&◌, OnOk, option_map};
 ghost use Rattle.whatif_core.specs.Differences.{are_same, counted, is_with, nearest_change, nothing, place_with, told_too};
 
@@ -8,13 +9,13 @@ use payload_core::Oom;
 use std::alloc::Allocator;
 use std::marker::Model;
 
-/// The changes of one step and kind that lead to the same rows.
+/// Changes of the same step and kind that lead to the same rows.
 #[derive(Drop)]
 pub struct Difference<A: Allocator> {
     pub kind: Kind,
-    /// The place of the step among those that remain, from 0.
+    /// The place of the step among those that remain, counted from 0.
     pub place: usize,
-    /// The places beside which the step comes, nearest first; its own place where it is left out.
+    /// The places beside which the step comes, nearest first; only its own place if it is left out.
     pub besides: Vec<usize, A>,
     pub rows: Vec<OnlineRow<A>, A>,
 }
@@ -28,12 +29,13 @@ impl<A: Allocator> Model for Difference<A> {
 }
 
 impl<A: Allocator> Difference<A> {
-    /// The change beside the nearest place.
+    /// The first of the changes: the one beside the nearest place.
     pub fn nearest(&self) -> Change
         ensures { result ≡ nearest_change self.now }
     {
         let beside = match self.besides.first() {
             Some(beside) => *beside,
+            // form: there is a first one; the 0 spares a requirement
             None => 0,
         };
         Change {
@@ -44,7 +46,7 @@ impl<A: Allocator> Difference<A> {
     }
 }
 
-/// Of the changes so far: how many are possible, how many make a difference, and the differences that they make.
+/// What the changes tried so far come to: how many are possible, how many make a difference, and the differences.
 #[derive(Drop)]
 pub(crate) struct Tally<A: Allocator> {
     pub(crate) possible: usize,
@@ -60,7 +62,7 @@ impl<A: Allocator> Model for Tally<A> {
     ghost view = { λ t. record { possible = t.possible; differ = t.differ; told = t.told.items } };
 }
 
-/// Whether the rows are the same.
+/// Whether both lists have the same rows.
 fn are_same<A: Allocator>(rows: &[OnlineRow<A>], others: &[OnlineRow<A>]) -> bool
     ensures { result ≡ are_same rows.now others.now }
 {
@@ -71,12 +73,13 @@ fn are_same<A: Allocator>(rows: &[OnlineRow<A>], others: &[OnlineRow<A>]) -> boo
 fn is_with<A: Allocator>(told: &Difference<A>, change: Change, rows: &[OnlineRow<A>]) -> bool
     ensures { result ≡ is_with told.now change rows.now }
 {
+    // form: the contract compares ranks of kinds
     told.place == change.place
         && told.kind.rank() == change.kind.rank()
         && are_same(told.rows.as_slice(), rows)
 }
 
-/// The place of the first difference to which the change belongs.
+/// The place of the first difference to which the change belongs; `None` if there is none.
 fn place_with<A: Allocator>(
     told: &[Difference<A>],
     change: Change,
@@ -92,7 +95,8 @@ fn place_with<A: Allocator>(
     None
 }
 
-/// Adds a change to the difference to which it belongs, or appends a new one.
+/// Adds a change to the difference in `told` to which it belongs; if it belongs to none, appends a new difference with
+/// these rows.
 fn put_with<A: Allocator + Copy>(
     told: &mut Vec<Difference<A>, A>,
     change: Change,
@@ -102,6 +106,7 @@ fn put_with<A: Allocator + Copy>(
     ensures { OnOk result (told.new.items ≡ told_too told.old.items change rows.items) }
 {
     if let Some(place) = place_with(told.as_slice(), change, rows.as_slice()) {
+        // form: drop before exit
         drop(rows);
         return Ok(told[place].besides.push(change.beside)?);
     }
@@ -117,7 +122,7 @@ fn put_with<A: Allocator + Copy>(
 }
 
 impl<A: Allocator + Copy> Tally<A> {
-    /// The tally before any change.
+    /// The tally before the first change.
     pub(crate) fn new(alloc: A) -> Self
         ensures { result ≡ nothing }
     {
@@ -128,7 +133,8 @@ impl<A: Allocator + Copy> Tally<A> {
         }
     }
 
-    /// Counts a change by the rows that it leads to, if it is possible.
+    /// Counts a change that leads to `rows`, and adds it to the differences if `rows` isn't the same as `before`.
+    /// `None` stands for a change that isn't possible, which isn't counted.
     pub(crate) fn count(
         &mut self,
         before: &[OnlineRow<A>],
@@ -145,6 +151,7 @@ impl<A: Allocator + Copy> Tally<A> {
         };
         self.possible += 1;
         if are_same(rows.as_slice(), before) {
+            // form: drop before exit
             drop(rows);
             return Ok(());
         }

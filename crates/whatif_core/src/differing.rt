@@ -22,17 +22,19 @@ use std::alloc::Allocator;
 pub struct Differences<A: Allocator> {
     /// The rows that the node shows at the end of the recorded run.
     pub before: Vec<OnlineRow<A>, A>,
-    /// How many changes there are.
+    /// How many changes can be made to the run.
     pub tried: usize,
-    /// How many of them are possible.
+    /// How many of the changes tried are possible.
     pub possible: usize,
-    /// How many of these make a difference.
+    /// How many of the possible changes make a difference.
     pub differ: usize,
-    /// The changes that make a difference, by step, by kind, nearest first.
+    /// The changes that make a difference, together if they are of the same step and kind and lead to the same rows:
+    /// step after step, then kind after kind, the nearest first.
     pub told: Vec<Difference<A>, A>,
 }
 
-/// Counts these changes of the bench's steps by where they lead. It tells the watcher of each change that it has tried.
+/// Counts each of the changes `tried` in the tally, by the rows to which it leads. After each it tells `watch` how many
+/// were tried.
 fn count_all<'a, B: Allocator, W: Watch<Tried>>(
     tally: &mut Tally<&'a B>,
     search: &mut Search<'a, B>,
@@ -54,6 +56,7 @@ fn count_all<'a, B: Allocator, W: Watch<Tried>>(
     ensures tally { OnOk result (tally.new ≡ tally_of bench.now (record { node = node; topic = topic.now; key = key.now })) }
     ensures watched { Watched W.told watch.old watch.new }
 {
+    // form: the parameter `bench` is for the contract alone
     for place in 0..tried.len() {
         let change = tried[place];
         let rows = search.rows_after(steps, change, node, topic, key, alloc)?;
@@ -66,7 +69,7 @@ fn count_all<'a, B: Allocator, W: Watch<Tried>>(
     Ok(())
 }
 
-/// The changes among these that make a difference.
+/// The tally of these changes.
 fn tally_of<'a, B: Allocator, W: Watch<Tried>>(
     bench: &Bench<'a, B>,
     steps: &[Kept<&'a B>],
@@ -99,6 +102,7 @@ fn tally_of<'a, B: Allocator, W: Watch<Tried>>(
         alloc,
         watch,
     );
+    // form: drop before exit
     drop(search);
     if counted.is_err() {
         drop(tally);
@@ -107,9 +111,9 @@ fn tally_of<'a, B: Allocator, W: Watch<Tried>>(
     Ok(tally)
 }
 
-/// The changes of the remaining steps that make a difference to the rows of this topic and key at the node, each with
-/// the rows that it leads to. (It plays each single change of what a node did in an order in which no message comes
-/// before it is sent.) It tells the watcher how many changes it has tried.
+/// Finds the changes of the remaining steps that make a difference to the rows with this topic and key at the node,
+/// with the rows to which they lead. Each single change is played in an order in which no message comes before it is
+/// sent, if there is one. `watch` is told how many changes were tried.
 pub fn whatif<'a, B: Allocator, W: Watch<Tried>>(
     bench: &Bench<'a, B>,
     node: u16,
@@ -126,6 +130,7 @@ pub fn whatif<'a, B: Allocator, W: Watch<Tried>>(
     ensures exactly { IfOk result (λ it. AreExactly bench.now (record { node = node; topic = topic.now; key = key.now }) it.told.items) }
     ensures watched { Watched W.told watch.old watch.new }
 {
+    // form: hands out a law, for the proof
     exact_law();
     let steps = copied(bench.remaining(), alloc)?;
     let before = rows_before(bench, node, topic, key, alloc)?;
@@ -141,6 +146,7 @@ pub fn whatif<'a, B: Allocator, W: Watch<Tried>>(
         alloc,
         watch,
     );
+    // form: drop before exit
     drop(steps);
     let Tally {
         possible,

@@ -7,8 +7,8 @@ ghost use Rattle.whatif_core.specs.Differences.{tally_of};
 ghost use Rattle.whatif_core.specs.Exact.{AreAllChanges, AreExactly, ToldRunsLaw};
 ghost use Rattle.change_core.specs.Questions.{Question};
 
-/// `changes` gives all changes of a run, and `whatif` exactly those that make a difference; with each of these the run
-/// has an order.
+/// `changes` gives all changes that can be made to a run, and `whatif` exactly those that make a difference. A run with
+/// a change that makes a difference has an order.
 pub fn exact_law()
     ensures changes { (ks : List Kept) → AreAllChanges ks (changes ks) }
     ensures exactly { (m : Machine) (q : Question) → AreExactly m q (tally_of m q).told }

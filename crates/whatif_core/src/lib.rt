@@ -1,10 +1,10 @@
-//! What would have made a difference: each single change of what the nodes did, each in its order, with which a node would show
-//! other rows of a topic and key.
+//! What would have made a difference: the single changes of a run after which a node would show other rows with a topic
+//! and key. A run is what each node did, in its order.
 //!
-//! It stands on `change_core`, which says where a changed run leads, on `bench_core`, whose steps are changed, and on
-//! `progress_core`, whose watcher hears how many changes were tried. In the order to read them: `changes`, all changes that a
-//! run has; `difference`, changes that lead to the same rows, and `differing`, all that make a difference. `laws` says what
-//! holds.
+//! The crate stands on `change_core`, which says where a changed run leads, on `bench_core`, whose steps are changed,
+//! and on `progress_core`, whose watcher hears how many changes were tried. It names the plain types of the crates
+//! below. The modules in reading order: `changes`, all changes that can be made to a run; `difference`, changes that
+//! lead to the same rows; `differing`, all changes that make a difference; `laws`, what holds of these.
 #![tactic(auto)]
 
 mod changes;

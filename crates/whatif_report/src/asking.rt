@@ -1,4 +1,4 @@
-//! What would have made a difference, asked for by words.
+//! Answers what would have made a difference, for a question in words.
 ghost use Rattle.std.specs.Prelude.{◌≡◌, IfErr, IfOk, length, option_map, string_bytes};
 ghost use Rattle.payload_core.specs.Messages.{numbered};
 ghost use Rattle.whatif_core.specs.Differences.{nearest_change};
@@ -16,7 +16,7 @@ use std::alloc::Allocator;
 use whatif_core::laws::exact_law;
 use whatif_core::{Change, Difference, run_with, whatif};
 
-/// The question what would have made a difference to the presences of this topic and key at the node of this name.
+/// Asks what would have made a difference to the rows with this topic and key at the node of this name.
 #[derive(Clone, Copy, Debug, PartialEq, Eq)]
 pub struct Question<'q> {
     pub node: &'q str,
@@ -24,7 +24,9 @@ pub struct Question<'q> {
     pub key: &'q str,
 }
 
-/// What would have made a difference, as a text: each single change of what the nodes did that changes the rows asked for, and how.
+/// What would have made a difference, as a text: the single changes of what the nodes did after which the node shows
+/// other rows, with the rows that go and come. Changes of the same step and kind with the same rows are told together.
+/// `NoSuchNode` if no node has the name, `NoWord` if the topic or the key isn't a word.
 pub fn whatif_asked<'a, B: Allocator, W: Watch<Tried>>(
     alloc: &'a B,
     bench: &Bench<'a, B>,
@@ -43,7 +45,7 @@ pub fn whatif_asked<'a, B: Allocator, W: Watch<Tried>>(
     Ok(tell(bench, node, &topic, &key, alloc, watch)?)
 }
 
-/// The change with this number in the text, from 1.
+/// The nearest of the changes that have this number in the text, counted from 1; `None` if none has.
 fn change_at<A: Allocator>(told: &[Difference<A>], number: u64) -> Option<Change>
     ensures { result ≡ option_map nearest_change (numbered told.now number) }
 {
@@ -56,7 +58,7 @@ fn change_at<A: Allocator>(told: &[Difference<A>], number: u64) -> Option<Change
     }
 }
 
-/// The run with this change, as a script.
+/// The run with this change, as a script. The change must be one with which the run has an order.
 fn script_with<'a, B: Allocator>(
     bench: &Bench<'a, B>,
     change: Change,
@@ -68,6 +70,7 @@ fn script_with<'a, B: Allocator>(
     match run_with(bench, change, alloc)? {
         Some(run) => {
             let text = script_of(bench.names(), run.as_slice(), alloc);
+            // form: drop before exit
             drop(run);
             text
         }
@@ -75,7 +78,8 @@ fn script_with<'a, B: Allocator>(
     }
 }
 
-/// The run with the change that has this number in the text, as a script that plays it.
+/// The run with the nearest of the changes that have this number in the text, as a script that plays it.
+/// `NoSuchChange` if there are none.
 pub fn run_with_change<'a, B: Allocator, W: Watch<Tried>>(
     alloc: &'a B,
     bench: &Bench<'a, B>,
@@ -87,6 +91,7 @@ pub fn run_with_change<'a, B: Allocator, W: Watch<Tried>>(
     ensures refused { IfErr result (RefusesRun bench.now question.entry number) }
     ensures watched { Watched W.told watch.old watch.new }
 {
+    // form: hands out a law, for the proof
     exact_law();
     let Some(node) = bench.names().number_of(question.node) else {
         return Err(WhatifFault::NoSuchNode);
@@ -96,6 +101,7 @@ pub fn run_with_change<'a, B: Allocator, W: Watch<Tried>>(
     let found = whatif(bench, node, &topic, &key, alloc, watch)?;
     let changes = found.told.len();
     let change = change_at(found.told.as_slice(), number);
+    // form: drop before exit
     drop(found);
     match change {
         Some(change) => Ok(script_with(bench, change, alloc)?),

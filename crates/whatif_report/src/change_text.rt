@@ -1,4 +1,4 @@
-//! The text of one change, and of the rows that it takes away and brings.
+//! The text of a difference, with the rows that its changes take away and bring.
 ghost use Rattle.std.specs.Prelude.{◌≡◌, ◌++◌, IfOk, OnOk, Some, nat_lt, string_bytes};
 ghost use Rattle.diff_core.specs.Diffs.{alone};
 ghost use Rattle.diff_core.specs.Rows.{is_among};
@@ -12,7 +12,7 @@ use report_core::{put_act, put_lines};
 use std::alloc::Allocator;
 use whatif_core::{Difference, Kind};
 
-/// `NUMBER NODE VERB ..`.
+/// Appends the step as `NUMBER NODE VERB ..`: its number, and then its line in a script.
 fn put_kept<A: Allocator, N: Allocator, W: Allocator>(
     text: &mut String<A>,
     names: &Names<N>,
@@ -25,7 +25,7 @@ fn put_kept<A: Allocator, N: Allocator, W: Allocator>(
     put_act(text, names, kept.node, &kept.step)
 }
 
-/// The step at this place.
+/// Appends the step at `place`, if there is one, as `put_kept` does.
 #[tactic(auto, unfolding(crate::specs::Texts::step_words))]
 fn put_step<'a, A: Allocator, N: Allocator, B: Allocator>(
     journal: &Journal<'a, B>,
@@ -41,7 +41,7 @@ fn put_step<'a, A: Allocator, N: Allocator, B: Allocator>(
     }
 }
 
-/// The word of a kind.
+/// The word for a kind, and a space.
 fn kind_word(kind: Kind) -> &'static str
     ensures { result.now ≡ kind_word kind }
 {
@@ -53,7 +53,7 @@ fn kind_word(kind: Kind) -> &'static str
     }
 }
 
-/// Before or behind which step it comes, if it comes beside one.
+/// Appends ` before ` or ` behind ` and the step at `beside`; nothing for a kind that leaves the step out.
 fn put_side<'a, A: Allocator, N: Allocator, B: Allocator>(
     journal: &Journal<'a, B>,
     text: &mut String<A>,
@@ -76,7 +76,7 @@ fn put_side<'a, A: Allocator, N: Allocator, B: Allocator>(
     }
 }
 
-/// ` places K`, if there are several places.
+/// Appends ` places K`, where K is `count`, if `count` is above 1.
 fn put_places<A: Allocator>(text: &mut String<A>, count: usize) -> Result<(), Oom>
     ensures { OnOk result (string_bytes text.new ≡ string_bytes text.old ++ places_words count) }
 {
@@ -86,7 +86,8 @@ fn put_places<A: Allocator>(text: &mut String<A>, count: usize) -> Result<(), Oo
     Ok(())
 }
 
-/// `change N KIND NUMBER NODE VERB ..`.
+/// Appends `change N KIND NUMBER NODE VERB ..`, where N is `number`, the difference's number in the text, and KIND is
+/// the word for its kind.
 #[tactic(auto, unfolding(crate::specs::Texts::changed_words))]
 fn put_changed<'a, A: Allocator, N: Allocator, B: Allocator>(
     journal: &Journal<'a, B>,
@@ -102,7 +103,8 @@ fn put_changed<'a, A: Allocator, N: Allocator, B: Allocator>(
     put_step(journal, text, names, difference.place)
 }
 
-/// `change N KIND NUMBER NODE VERB ..`, and where it comes.
+/// Appends the line of a difference: `change N KIND NUMBER NODE VERB ..`; then, for a step that is moved or comes
+/// again, before or behind which step; then, if there are several such places, how many.
 #[tactic(auto, unfolding(crate::specs::Texts::change_line))]
 fn put_line<'a, A: Allocator, N: Allocator, B: Allocator>(
     journal: &Journal<'a, B>,
@@ -125,7 +127,7 @@ fn put_line<'a, A: Allocator, N: Allocator, B: Allocator>(
     Ok(text.push_str("\n")?)
 }
 
-/// Whether the row is one of these.
+/// Whether the row is among these rows.
 fn is_among<A: Allocator>(rows: &[OnlineRow<A>], row: &OnlineRow<A>) -> bool
     ensures { result ≡ is_among rows.now row.now }
 {
@@ -137,7 +139,7 @@ fn is_among<A: Allocator>(rows: &[OnlineRow<A>], row: &OnlineRow<A>) -> bool
     false
 }
 
-/// Copies of the rows that aren't among the others.
+/// Copies of the rows that aren't among `others`.
 fn rows_alone<A: Allocator + Copy>(
     alloc: A,
     rows: &[OnlineRow<A>],
@@ -154,7 +156,7 @@ fn rows_alone<A: Allocator + Copy>(
     Ok(found)
 }
 
-/// One change, and the rows that it takes away and brings.
+/// Appends the text of a difference: its line, and the rows that its changes take away and bring.
 #[tactic(auto, unfolding(crate::specs::Texts::difference_text))]
 pub(crate) fn put_difference<'a, A: Allocator, N: Allocator, B: Allocator>(
     journal: &Journal<'a, B>,
@@ -165,7 +167,8 @@ pub(crate) fn put_difference<'a, A: Allocator, N: Allocator, B: Allocator>(
     difference: &Difference<&'a B>,
     alloc: &'a B,
 ) -> Result<(), Oom>
-    ensures { OnOk result (string_bytes text.new ≡ string_bytes text.old ++ difference_text names.now (kepts journal.now.steps) before.now number difference.now) }
+    ensures { OnOk result (string_bytes text.new ≡ string_bytes text.old ++ difference_text names.now (kepts journal.now.steps) before.now number
+        difference.now) }
 {
     put_line(journal, text, names, number, difference)?;
     let gone = rows_alone(alloc, before, difference.rows.as_slice())?;

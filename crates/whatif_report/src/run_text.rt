@@ -7,7 +7,7 @@ use payload_core::Oom;
 use std::alloc::Allocator;
 use transcript_core::{put_nodes_line, put_step_line};
 
-/// A line for each step.
+/// Appends a line for each step.
 #[tactic(auto, unfolding(transcript_core::specs::Runs::step_lines))]
 fn put_steps<A: Allocator, N: Allocator, W: Allocator>(
     text: &mut String<A>,
@@ -22,7 +22,7 @@ fn put_steps<A: Allocator, N: Allocator, W: Allocator>(
     Ok(())
 }
 
-/// `nodes NAME ..`, and each step on a line.
+/// Appends the line `nodes NAME ..`, and each step on a line.
 #[tactic(auto, unfolding(transcript_core::specs::Runs::run_text))]
 fn put_run<A: Allocator, N: Allocator, W: Allocator>(
     text: &mut String<A>,

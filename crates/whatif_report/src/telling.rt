@@ -17,7 +17,7 @@ use report_core::{name_at, put_rows};
 use std::alloc::Allocator;
 use whatif_core::{Difference, Differences, whatif};
 
-/// `whatif NODE TOPIC KEY`.
+/// Appends `whatif NODE TOPIC KEY`.
 #[tactic(auto, unfolding(crate::specs::Texts::asked_words))]
 fn put_asked<A: Allocator, N: Allocator, W: Allocator>(
     text: &mut String<A>,
@@ -34,7 +34,7 @@ fn put_asked<A: Allocator, N: Allocator, W: Allocator>(
     Ok(write!(text, "whatif {node} {topic} {key}")?)
 }
 
-/// ` tried T possible P differ D`.
+/// Appends ` tried T possible P differ D`, the three counts, and a line feed.
 #[tactic(auto, unfolding(crate::specs::Texts::counts_words))]
 fn put_counts<A: Allocator>(
     text: &mut String<A>,
@@ -47,7 +47,7 @@ fn put_counts<A: Allocator>(
     Ok(writeln!(text, " tried {tried} possible {possible} differ {differ}")?)
 }
 
-/// `whatif NODE TOPIC KEY tried T possible P differ D`.
+/// Appends `whatif NODE TOPIC KEY tried T possible P differ D`, and a line feed.
 #[tactic(auto, unfolding(crate::specs::Texts::head_line))]
 fn put_head<A: Allocator, N: Allocator, W: Allocator>(
     text: &mut String<A>,
@@ -64,7 +64,7 @@ fn put_head<A: Allocator, N: Allocator, W: Allocator>(
     put_counts(text, found.tried, found.possible, found.differ)
 }
 
-/// Each change that makes a difference, numbered from 1.
+/// Appends the text of each difference, numbered from 1.
 fn put_differences<'a, A: Allocator, N: Allocator, B: Allocator>(
     journal: &Journal<'a, B>,
     text: &mut String<A>,
@@ -81,7 +81,7 @@ fn put_differences<'a, A: Allocator, N: Allocator, B: Allocator>(
     Ok(())
 }
 
-/// The text of these differences.
+/// Appends the whole text: the head, the rows before, and each difference.
 fn put_found<'a, A: Allocator, B: Allocator>(
     bench: &Bench<'a, B>,
     text: &mut String<A>,
@@ -110,7 +110,7 @@ fn put_found<'a, A: Allocator, B: Allocator>(
     )
 }
 
-/// What would have made a difference to the rows of this topic and key at the node, as a text.
+/// What would have made a difference to the rows with this topic and key at the node, as a text.
 pub(crate) fn tell<'a, B: Allocator, W: Watch<Tried>>(
     bench: &Bench<'a, B>,
     node: u16,
@@ -125,6 +125,7 @@ pub(crate) fn tell<'a, B: Allocator, W: Watch<Tried>>(
     let found = whatif(bench, node, topic, key, alloc, watch)?;
     let mut text = String::new(alloc);
     let put = put_found(bench, &mut text, node, topic, key, &found, alloc);
+    // form: drop before exit
     drop(found);
     put?;
     Ok(text)

@@ -10,10 +10,10 @@ pub enum WhatifFault {
     /// No node has this name.
     #[error("NoSuchNode")]
     NoSuchNode,
-    /// The text is no word, so nothing is tracked under it.
+    /// The topic or the key isn't a word, so nothing is tracked under it.
     #[error("NoWord")]
     NoWord,
-    /// There are `changes` changes, and none has the number that was asked for.
+    /// The text has `changes` changes, and none has the number that was asked for.
     #[error("NoSuchChange, there are {changes}")]
     NoSuchChange { changes: usize },
     /// A request for memory was refused.
