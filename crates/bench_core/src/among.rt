@@ -29,8 +29,8 @@ pub(crate) trait Member {
         ensures { takes before.now self.old after.now step.now meter.old.count result self.new meter.new.count };
 }
 
-/// Takes a step of the member at `place`, which is edited in place. The step may read the other members, and `meter`
-/// may count it.
+/// Takes a step of the member at `place`, and changes that member alone. The step may read the other members, and
+/// `meter` may count it.
 pub(crate) fn step_at<M: Member>(
     members: &mut [M],
     place: usize,

@@ -382,9 +382,9 @@ impl<'a, B: Allocator> Bench<'a, B> {
         numbers.len()
     }
 
-    /// Undoes a step and all that follows from it, greatest number first. Each is an undo that the actor asks for, as
-    /// any actor may. (Danos and Krivine: what follows from a step goes back before it.) The unwind is refused like
-    /// `why`, and then does and records nothing. If an undo is refused memory, the undos before it stand.
+    /// Undoes a step and all that follows from it, greatest number first, and records each undo as one that `actor`
+    /// asked for. Any actor may ask. (Danos and Krivine: what follows from a step goes back before the step does.) If
+    /// `why` gives a fault, nothing is done or recorded. If an undo is refused memory, the undos before it stand.
     pub fn unwind(&mut self, actor: u16, number: u64) -> Unwound<&'a B>
         ensures answer { IsUnwound self.old.state number result }
         ensures undone { AreUndone self.old actor (undone_by result) self.new }

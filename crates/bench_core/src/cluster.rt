@@ -57,7 +57,7 @@ impl<'a, B: Allocator> Member for Node<'a, B> {
     }
 }
 
-/// Takes a step at node `actor`, which is edited in place. `meter` counts the step if it is taken.
+/// Takes a step at node `actor`, and changes that node alone. `meter` counts the step if it is taken.
 fn step_node<'a, B: Allocator>(
     nodes: &mut Vec<Node<'a, B>, &'a B>,
     actor: u16,
@@ -155,7 +155,7 @@ impl<'a, B: Allocator> Cluster<'a, B> {
     }
 
     /// Takes a step at this node, and gives the inverse that leads the cluster back. `UnknownNode` if `node`, or a node
-    /// that the step names, isn't in the cluster.
+    /// that the step names, isn't in the cluster; other faults are the node's. A refused step changes nothing.
     pub fn step(&mut self, node: u16, step: &Step<&'a B>) -> Result<Inverse<&'a B>, Fault>
         ensures taken { OnOk result (cluster_step self.old node (plain step.now) ≡ Ok self.new) }
         ensures refused { IfErr result (λ fault. fault ≢ OutOfMemory → cluster_step self.old node (plain step.now) ≡ Err fault) }

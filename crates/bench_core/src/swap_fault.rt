@@ -14,7 +14,7 @@ pub enum SwapFault {
     /// A request for memory was refused.
     #[error("OutOfMemory")]
     OutOfMemory,
-    /// The swap at this place of the list, counted from 1, isn't a swap of independent steps.
+    /// Swap `at` of the list, counted from 1, has no two steps to exchange, or they aren't independent.
     #[error("BadSwap at {at}")]
     BadSwap { at: usize },
     /// The swaps lead to other steps than those of the second bench.

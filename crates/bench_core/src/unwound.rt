@@ -1,4 +1,4 @@
-//! `Unwound`: how an unwind ended, the undo of a step and of all that follows from it.
+//! `Unwound`: how an unwind ended.
 use crate::fault::Fault;
 use std::alloc::Allocator;
 
@@ -7,7 +7,7 @@ use std::alloc::Allocator;
 pub enum Unwound<A: Allocator> {
     /// The step and all that follows from it were taken back, greatest number first.
     Done(Vec<u64, A>),
-    /// Nothing was done, and nothing is recorded.
+    /// Nothing was done or recorded, because of this fault.
     Refused(Fault),
     /// An undo was refused memory. These steps were taken back before it: the first of those that `Done` would name,
     /// perhaps none.

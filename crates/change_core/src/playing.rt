@@ -17,8 +17,8 @@ use payload_core::{Oom, Word};
 use std::alloc::Allocator;
 use std::marker::Model;
 
-/// How many steps are played to see whether a run meets the second known run that is tried; for the first known run one
-/// step is played. Most runs meet one of the two at once; most of those that meet none within a few dozen steps never
+/// `find_known` plays up to this many steps to see whether a run meets the second known run that it tries, and one step
+/// for the first. Most runs meet one of the two at once; most of those that meet none within a few dozen steps never
 /// do.
 const FAR: usize = 64;
 
@@ -77,8 +77,8 @@ fn common_end(places: &[usize], others: &[usize]) -> usize
     most
 }
 
-/// Plays up to `far` of the steps at `places` on both walks, until their clusters are the same, and says whether they
-/// became so. The clusters are compared only before step 0, 1, 3, 7 and so on of these, and not after the last. False
+/// Plays up to `far` of the steps at `places` on both walks, until it finds the walks' clusters to be the same, and
+/// says whether it did. It compares them only before step 0, 1, 3, 7 and so on of these, and not after the last. False
 /// also if a walk refuses a step.
 fn meet_on<'a, B: Allocator>(
     here: &mut Walk<'a, B>,
@@ -220,8 +220,8 @@ impl<'a, B: Allocator> Search<'a, B> {
     }
 
     /// Looks for a known run with the same end as `run`, which is given by the places of its steps: true stands for the
-    /// last run, false for the recorded one. `None` if neither was found to end the same, though it may. Notes in
-    /// `prefers_last` which of the two the next run is expected to end like.
+    /// last run, false for the recorded one. `None` if neither was found to have this end, though one may have it.
+    /// Notes in `prefers_last` which of the two the next run is expected to end like.
     fn find_known(&mut self, steps: &[Kept<&'a B>], run: &[usize]) -> Result<Option<bool>, Oom>
         requires { AreWalks steps.now self.old }
         ensures { IfOk result (Finds steps.now run.now self.old self.new) }
@@ -271,8 +271,8 @@ impl<'a, B: Allocator> Search<'a, B> {
         Ok(Some(rows))
     }
 
-    /// Like `own_rows`, but first looks for a known run that ends the same. If one is found, its
-    /// rows are copied, and the run isn't played to its end.
+    /// Like `own_rows`, but first looks for a known run that ends the same. If there is one, copies its rows, and
+    /// doesn't play the run to its end.
     fn rows_of(
         &mut self,
         steps: &[Kept<&'a B>],
@@ -293,7 +293,8 @@ impl<'a, B: Allocator> Search<'a, B> {
     }
 
     /// The rows with this topic and key at the node, at the end of the run with this change; `None` if that run isn't
-    /// possible. A possible run becomes the last one.
+    /// possible. A possible run becomes the last one. After a refused request for memory the search can't be used
+    /// again.
     pub fn rows_after(
         &mut self,
         steps: &[Kept<&'a B>],

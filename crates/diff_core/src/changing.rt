@@ -47,7 +47,7 @@ fn put_found<'x, A: Allocator + Copy>(
     }
 }
 
-/// The rows of the entries that left in the call of `change`, those whose name is known and up.
+/// The rows of the entries that left in the call of `change` and whose name is known and up in `after`.
 fn rows_left<'x, A: Allocator + Copy>(
     alloc: A,
     change: &'x Change<A>,
@@ -64,7 +64,7 @@ fn rows_left<'x, A: Allocator + Copy>(
     Ok(rows)
 }
 
-/// The rows of the entries that joined in the call of `change`, those whose name is known and up.
+/// The rows of the entries that joined in the call of `change` and whose name is known and up in `after`.
 fn rows_joined<'x, A: Allocator + Copy>(
     alloc: A,
     change: &Change<A>,
@@ -126,7 +126,7 @@ fn given<'x, A: Allocator + Copy>(
 }
 
 /// The rows that the last call of the replica `after` took out of its online list, in order. `change` is the change of
-/// that call. It reads what the call touched, or all entries of the name if a name went down.
+/// that call. Reads the entries that left, or all entries of the name that went down.
 pub fn rows_taken<'x, A: Allocator + Copy>(
     alloc: A,
     change: &'x Change<A>,
@@ -141,7 +141,7 @@ pub fn rows_taken<'x, A: Allocator + Copy>(
 }
 
 /// The rows that the last call of the replica `after` put into its online list, in order. `change` is the change of
-/// that call. It reads what the call touched, or all entries of the name if a name came up.
+/// that call. Reads the entries that joined, or all entries of the name that came up.
 pub fn rows_given<'x, A: Allocator + Copy>(
     alloc: A,
     change: &Change<A>,
@@ -169,7 +169,7 @@ fn copies<'x, A: Allocator + Copy>(
     Ok(found)
 }
 
-/// A list of one row, the copy of this row, which borrows from no entry.
+/// A list with a copy of this row alone. The copy borrows from no entry.
 fn one_copy<'x, A: Allocator + Copy>(
     alloc: A,
     row: &EntryRow<'x, A>,

@@ -4,8 +4,8 @@
 //! the crates below; it knows nothing of nodes, steps and clusters.
 //!
 //! The modules in reading order: `online_row`, what is shown of a live entry; `listing`, the online list; `row_diff`
-//! and `comparing`, how two lists differ; `entry_row`, a borrowed entry seen as its row; `few_rows`, the rows that a
-//! call put into the list or took out of it, if they are one at most; `changing`, how a call changed the list;
+//! and `comparing`, how two lists differ; `entry_row`, a borrowed entry seen as its row; `few_rows`, the row that a
+//! call put into the list or took out of it, if there is one at most; `changing`, how a call changed the list;
 //! `netting`, what several changes come to; `laws`, what holds of lists and their differences.
 #![tactic(auto)]
 

@@ -35,8 +35,8 @@ fn behind_first<'x, A: Allocator>(rows: &'x [OnlineRow<A>]) -> &'x [OnlineRow<A>
     }
 }
 
-/// Copies of the rows that are left over when each of `others` has taken one row equal to it away from `rows`, if there
-/// is an equal row. Both lists must be sorted; one pass goes over them.
+/// Copies of the rows that remain when each of `others` cancels one equal row of `rows`, if there is one. Both lists
+/// must be sorted; one pass goes over them.
 fn rows_beyond<A: Allocator + Copy>(
     alloc: A,
     rows: &[OnlineRow<A>],

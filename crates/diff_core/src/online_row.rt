@@ -33,7 +33,7 @@ impl<A: Allocator> Model for OnlineRow<A> {
 }
 
 impl<A: Allocator> OnlineRow<A> {
-    /// The row of an entry.
+    /// The row of an entry, with copies of its words.
     pub fn of(entry: &Entry<A>) -> Result<OnlineRow<A>, Oom>
     where
         A: Copy,

@@ -1,4 +1,4 @@
-//! Reads the act that a JSON list asks.
+//! Reads the act that a JSON list asks for.
 ghost use Rattle.std.specs.Prelude.{◌≡◌};
 ghost use Rattle.serde_json.specs.View.{view};
 ghost use Rattle.bench_core.specs.Acts.{plain_act};
@@ -34,7 +34,7 @@ fn back_at<A: Allocator>(list: &Value) -> Result<Act<A>, Unread>
     Ok(Act::Back(node))
 }
 
-/// The act that the list asks, by its first word: `do`, `undo` or `back`. `Shape` if it asks none.
+/// The act that the list asks for, by its first word: `do`, `undo` or `back`. `Shape` if it asks for none.
 #[tactic(auto, unfolding(crate::specs::Decoding::act_at))]
 pub(crate) fn act_at<'a, B: Allocator>(alloc: &'a B, list: &Value) -> Result<Act<&'a B>, Unread>
     ensures { Gives plain_act result (act_at (view list.now)) }

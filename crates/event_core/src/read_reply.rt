@@ -46,8 +46,8 @@ fn consequence_at(list: &Value) -> Result<Fault, Unread>
     Ok(Fault::HasConsequence { step, held_by })
 }
 
-/// The fault of a refusal, by its number. 16 is `HasConsequence`; the number of the step and that of its consequence
-/// follow. `Shape` for any other list.
+/// The fault of a refusal, by the number behind `no`. Behind 16, `HasConsequence`, the list has the numbers of the step
+/// and of its consequence. `Shape` for any other list.
 #[tactic(auto, unfolding(crate::specs::Decoding::fault_at))]
 fn fault_at(list: &Value) -> Result<Fault, Unread>
     ensures { Gives (λ f. f) result (fault_at (view list.now)) }

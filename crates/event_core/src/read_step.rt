@@ -1,4 +1,4 @@
-//! Reads the step that a JSON list asks, after the word `do`.
+//! Reads the step that a JSON list asks for after the word `do`.
 ghost use Rattle.std.specs.Prelude.{◌≡◌, option_map};
 ghost use Rattle.serde_json.specs.View.{view, items_view};
 ghost use Rattle.dots_core.specs.Names.{Names};
@@ -239,7 +239,7 @@ fn tracking_at<'a, B: Allocator>(
     }
 }
 
-/// The step that the list asks, by its verb, the second word. `Shape` if it asks none.
+/// The step that the list asks for, by its verb, the second word. `Shape` if it asks for none.
 #[tactic(auto, unfolding(crate::specs::Decoding::step_at))]
 pub(crate) fn step_at<'a, B: Allocator>(alloc: &'a B, list: &Value) -> Result<Step<&'a B>, Unread>
     ensures { Gives plain result (step_at (view list.now)) }

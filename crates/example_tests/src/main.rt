@@ -50,7 +50,7 @@ impl Counts {
         if case.line == 0 {
             return Ok(());
         }
-        // form: it saturates, which spares a requirement
+        // form: saturating spares a requirement
         self.all = self.all.saturating_add(1);
         if !comes_out(rt, threads, file, case)? {
             self.differing = self.differing.saturating_add(1);
@@ -59,7 +59,7 @@ impl Counts {
     }
 
     fn add(&mut self, counts: &Counts) {
-        // form: it saturates, which spares a requirement
+        // form: saturating spares a requirement
         self.all = self.all.saturating_add(counts.all);
         self.differing = self.differing.saturating_add(counts.differing);
     }
@@ -92,7 +92,7 @@ fn run_file<T: Threads + Wait + Sync>(
     let mut case = Case::new(rt.alloc());
     let mut number = 0u64;
     for line in text.lines() {
-        // form: a counter that saturates, which spares a requirement
+        // form: saturating spares a requirement
         number = number.saturating_add(1);
         if line.starts_with("$ ") {
             counts.run(rt, threads, file, &case)?;

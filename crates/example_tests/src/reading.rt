@@ -1,5 +1,5 @@
-//! Takes a line of a file into its case. A line is a mark, a space and a text; empty lines and the mark `#` are
-//! skipped. A line of another form ends the run.
+//! Takes a line of a file into its case. A line is a mark, a space and a text. Empty lines and lines with the mark `#`
+//! give nothing. A line of another form is an error, which ends the program.
 use crate::case::Case;
 use bench_core::Limits;
 use std::io::ErrorKind;
@@ -17,7 +17,7 @@ fn number(text: &str) -> io::Result<usize> {
     }
 }
 
-/// Appends bytes that are spelled by two hexadecimal digits each.
+/// Appends the bytes that `spelled` has as hexadecimal numbers, with a space between them.
 fn put_bytes(bytes: &mut Vec<u8>, spelled: &str) -> io::Result<()> {
     for digits in spelled.split(' ') {
         let Ok(byte) = u8::from_str_radix(digits, 16) else {

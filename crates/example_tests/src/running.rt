@@ -45,13 +45,13 @@ fn run_case<T: Threads + Wait + Sync>(rt: &HostRuntime, threads: &T, case: &Case
     }
 }
 
-/// The number of the first line in which the two texts differ, and that line of each. A missing line is given as
-/// `nothing`; if all lines are the same, the one of `other` is given as `another end`.
+/// The number of the first line in which the two texts differ, and that line of each, or `nothing` for a missing line.
+/// If all lines are the same, it is the number past the last line, with `nothing` and `another end`.
 fn first_difference<'a>(one: &'a str, other: &'a str) -> (u64, &'a str, &'a str) {
     let mut number = 0u64;
     let mut others = other.lines();
     for line in one.lines() {
-        // form: a counter that saturates, which spares a requirement
+        // form: saturating spares a requirement
         number = number.saturating_add(1);
         let other = others.next().unwrap_or("nothing");
         if line != other {

@@ -168,7 +168,7 @@ fn put_dot<'a, A: Allocator, B: Allocator>(
     Ok(writeln!(text, "dot {name} {clock}")?)
 }
 
-/// Appends the line of the node's last status step about the presence's name, if one remains.
+/// Appends the line of the node's last up, down or permanently down of the presence's name, if one remains.
 #[tactic(auto, unfolding(crate::specs::Explanations::status_text))]
 fn put_status<'a, A: Allocator, B: Allocator>(
     bench: &Bench<'a, B>,
@@ -326,10 +326,10 @@ fn put_explanation<'a, A: Allocator, B: Allocator>(
 }
 
 /// Tells why the presences of a topic and key are online at a node, or why not: each presence that a remaining step
-/// made, in the order of these steps. Of a presence it tells the step that made it, and its dot; the step by which the
-/// presence left at its own node, if it did; how it stands at the node, with the steps that brought it there or lost
-/// it; the node's last status step about its name, if one remains; and, if the presence left and is still live at the
-/// node, why the removal didn't come.
+/// made, in the order of these steps. Of each the text has the step that made it, and its dot; the step by which it
+/// left at its own node, if it did; how it stands at the node, with the steps that tell why; the node's last up, down
+/// or permanently down of the presence's name, if one remains; and, if the presence left and is still live at the node,
+/// why its removal didn't come.
 #[tactic(auto, unfolding(crate::specs::Explanations::explanation))]
 pub fn explain<'a, B: Allocator>(
     bench: &Bench<'a, B>,

@@ -24,7 +24,7 @@ pub enum Verdict {
     Down,
     /// The presence's dot is gone at the node, by a delivery or by a step of the node itself.
     Removed,
-    /// The presence left at its own node, and the node that is asked about hasn't seen its dot.
+    /// The presence left at its own node, and its dot is unseen at the node that is asked about.
     Left,
     /// The node had seen the presence, and forgot all dots of the presence's name.
     Forgotten,

@@ -14,7 +14,7 @@ pub fn opened<'a, B: Allocator>(bench: &Bench<'a, B>, alloc: &'a B) -> Result<Be
     Bench::new(alloc, names, bench.limits())
 }
 
-/// Asks the step of the bench `asked`. Refused memory is an error; any other reply is passed over.
+/// Asks the step of the bench `asked`. Refused memory is an error; any other reply is ignored.
 #[tactic(auto, unfolding(crate::specs::Tracks::after_step, report_core::specs::ActTexts::after_act))]
 pub fn ask<'a, B: Allocator>(asked: &mut Bench<'a, B>, kept: &Kept<&'a B>) -> Result<(), Oom>
     ensures { OnOk result (asked.new ≡ after_step asked.old kept.now) }

@@ -206,7 +206,8 @@ fn dots_of_nodes<'a, B: Allocator>(
     dots
 }
 
-/// The dots that a question is about.
+/// The dots that a question is about: those of all entries with its topic and key that the steps make, or else all own
+/// dots that the nodes have seen at the end.
 pub(crate) fn dots_of<'a, B: Allocator>(
     steps: &[Kept<&'a B>],
     count: u16,

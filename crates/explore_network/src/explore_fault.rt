@@ -6,11 +6,11 @@ use node_core::Oom;
 /// Why an exploration gives no outcomes.
 #[derive(Clone, Copy, Debug, PartialEq, Eq)]
 pub enum ExploreFault {
-    /// The walk had kept as many states as it may, and reached another. It had found `outcomes` outcomes.
+    /// The walk would have to keep more states than it may. It had found `outcomes` outcomes.
     TooManyStates { outcomes: usize },
     /// The joins and updates make more entries than a node may hold, so some order might be refused (`EntriesFull`).
     MayFill,
-    /// A run could have more than 3,000 steps.
+    /// The remaining steps, and the number of deliveries that may come a second time, are more than 3,000 together.
     TooManySteps,
     OutOfMemory,
 }

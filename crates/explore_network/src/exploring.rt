@@ -240,9 +240,9 @@ fn explore_plan<'a, B: Allocator, W: Watch<Walked>>(
 }
 
 /// Finds all outcomes of what the network could have made of the steps that remain, with up to `lost` deliveries
-/// missing and up to `again` that come a second time. The walk may keep `most` states (`TooManyStates` if it needs
-/// more), and tells `watch` how far it has come. `MayFill` is looked for first and then `TooManySteps`, both before the
-/// walk begins.
+/// missing and up to `again` that come a second time; the outcome of the recorded run comes first. The walk may keep
+/// `most` states (`TooManyStates` if it needs more), and tells `watch` how far it has come. `MayFill` is looked for
+/// first and then `TooManySteps`, both before the walk begins.
 pub fn explore<'a, B: Allocator, W: Watch<Walked>>(
     bench: &Bench<'a, B>,
     question: &Question<&'a B>,

@@ -27,7 +27,7 @@ fn is_alone<'a, B: Allocator>(
     are_spent(plan.turns(), counts, plan.again(), kept.node)
 }
 
-/// Whether this step, if it may come next, can be taken first without missing an outcome.
+/// True only if this step, if it may come next, can be taken first without missing an outcome.
 fn goes_first<'a, B: Allocator>(
     plan: &Plan<'a, B>,
     cluster: &Cluster<'a, B>,
@@ -70,8 +70,7 @@ fn can_go_first<'a, B: Allocator>(
     goes_first(plan, cluster, counts, kept, *rank)
 }
 
-/// The place of the first step that may come next and can be taken first without missing an outcome; `None` if there is
-/// none.
+/// The place of the first step that may come next and goes first (see `goes_first`); `None` if there is none.
 pub(crate) fn first<'a, B: Allocator>(
     plan: &Plan<'a, B>,
     cluster: &Cluster<'a, B>,

@@ -31,7 +31,7 @@ pub(crate) fn played<'a, B: Allocator>(
     Ok(cluster)
 }
 
-/// Makes the step at `place` of `steps`, at its node of the cluster. Nothing changes if the step is refused or there is
+/// Takes the step at `place` of `steps`, at its node of the cluster. Nothing changes if the step is refused or there is
 /// no such step.
 pub(crate) fn play<'a, B: Allocator>(
     cluster: &mut Cluster<'a, B>,
@@ -54,7 +54,7 @@ pub(crate) fn play<'a, B: Allocator>(
     }
 }
 
-/// Makes the step at its node of the cluster, and gives the inverse. `None` if the step is refused; then nothing
+/// Takes the step at its node of the cluster, and gives the inverse. `None` if the step is refused; then nothing
 /// changed.
 pub(crate) fn ask<'a, B: Allocator>(
     cluster: &mut Cluster<'a, B>,

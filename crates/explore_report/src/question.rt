@@ -25,7 +25,7 @@ pub enum About<'q> {
 }
 
 /// Asks what the network could have made of the steps that remain, with up to `lost` deliveries missing and up to
-/// `again` that come a second time. At most `states` states are kept.
+/// `again` that come a second time. The walk may keep at most `states` states.
 #[derive(Clone, Copy, Debug, PartialEq, Eq)]
 pub struct Question<'q> {
     pub about: About<'q>,

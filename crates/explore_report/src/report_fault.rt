@@ -15,14 +15,13 @@ pub enum ReportFault {
     /// The topic or the key isn't a word, so nothing is tracked under it.
     #[error("NoWord")]
     NoWord,
-    /// The walk had kept `states` states, which is all that it may, and reached another. It had found `outcomes`
-    /// outcomes.
+    /// The walk would have to keep more than `states` states. It had found `outcomes` outcomes.
     #[error("TooManyStates, more than {states}, outcomes so far {outcomes}")]
     TooManyStates { states: usize, outcomes: usize },
     /// The joins and updates make more entries than a node may hold, so some order might be refused (`EntriesFull`).
     #[error("MayFill")]
     MayFill,
-    /// A run could have more than 3,000 steps.
+    /// The remaining steps, and the number of deliveries that may come a second time, are more than 3,000 together.
     #[error("TooManySteps, more than 3000")]
     TooManySteps,
     /// There are `outcomes` outcomes, and none has the number that was asked for.

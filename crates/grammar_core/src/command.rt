@@ -19,7 +19,7 @@ use std::alloc::Allocator;
 /// What a line of a script asks. Nodes and actors are numbers.
 #[derive(Drop)]
 pub enum Command<A: Allocator> {
-    /// An act of this actor.
+    /// An act that this actor asks for.
     Call(u16, Act<A>),
     /// The undo, by this actor, of the step with this number and of all that follows from it.
     Unwind(u16, u64),
@@ -96,8 +96,8 @@ fn journal_of<A: Allocator>(words: &[&str]) -> Result<Command<A>, FaultKind>
     Ok(Command::Journal)
 }
 
-/// Reads a line behind the `nodes` line, from its first word, `first`, and the words `rest` behind that one. `Twice` if
-/// `first` is `nodes` again; a `consoles` line doesn't come here.
+/// Reads a line behind the `nodes` line: `first` is its first word, `rest` the words behind that one. `Twice` if
+/// `first` is `nodes` or `consoles`; `add_consoles` reads a `consoles` line.
 #[tactic(auto, unfolding(crate::specs::Grammar::command_by))]
 pub fn command_of<A: Allocator + Copy>(
     alloc: A,

@@ -16,22 +16,22 @@ use crate::words::{first_line, put_words};
 use smallvec::SmallVec;
 use std::alloc::Allocator;
 
-/// The most bytes of a script.
+/// The most bytes that a script may have.
 pub const LONGEST_SCRIPT: usize = 1_048_576;
 
-/// The most bytes of a line, without its line feed.
+/// The most bytes that a line may have, without its line feed.
 pub const LONGEST_LINE: usize = 4096;
 
-/// What a script has given up to the line that was read last: in `cast` who may act, `None` until the `nodes` line was
-/// read; in `lines` the commands.
+/// A script as far as it was read: `cast` says who may act, and is `None` until the `nodes` line was read; `lines` has
+/// the commands.
 #[derive(Drop)]
 pub struct Reading<A: Allocator> {
     pub cast: Option<Cast<A>>,
     pub lines: Vec<Line<A>, A>,
 }
 
-/// Reads a significant line, which has words and isn't a comment, into `reading`, from its first word, `first`, and the
-/// words `rest` behind that one. A fault leaves `reading` unchanged.
+/// Reads a significant line, which has words and isn't a comment, into `reading`: `first` is its first word, `rest` the
+/// words behind that one. A fault leaves `reading` unchanged.
 #[tactic(auto, unfolding(crate::specs::Grammar::with_words_by))]
 fn read_significant<A: Allocator + Copy>(
     alloc: A,

@@ -87,7 +87,7 @@ fn has_digits(bytes: &[u8]) -> bool
     bytes.iter().all(|byte| byte.is_ascii_digit())
 }
 
-/// Whether `digits` are 1 to 20 decimal digits, with no zero in front of another digit.
+/// Whether `digits` are 1 to 20 decimal digits, with no leading zero but for `0` itself.
 fn is_numeral(digits: &[u8]) -> bool
     ensures { result ≡ is_numeral digits.now }
 {
@@ -100,8 +100,8 @@ fn is_numeral(digits: &[u8]) -> bool
     has_digits(digits)
 }
 
-/// The number that `digits` spell. `None` if they aren't 1 to 20 decimal digits, if a zero stands in front of another
-/// digit, or if the number doesn't fit into 64 bits.
+/// The number that `digits` spell. `None` if they aren't 1 to 20 decimal digits, if they have a leading zero (but for
+/// `0` itself), or if the number doesn't fit into 64 bits.
 pub fn number_of(digits: &str) -> Option<u64>
     ensures { result ≡ number_of digits.now }
 {

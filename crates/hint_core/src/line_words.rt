@@ -18,7 +18,7 @@ fn is_text(line: &[u8]) -> bool
     line.iter().all(|byte| (0x20..=0x7e).contains(byte))
 }
 
-/// The line as text; `None` if it isn't text.
+/// The line as text; `None` if a byte of it is outside 0x20 to 0x7E.
 pub(crate) fn text_of(line: &[u8]) -> Option<&str>
     ensures { option_copied result ≡ (if is_text line.now then Some line.now else None) }
 {

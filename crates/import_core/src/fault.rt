@@ -11,13 +11,13 @@ use thiserror::Error;
 /// What is wrong with a line, or with the whole input. `docs/FORMATS.md` has the order in which faults are looked for.
 #[derive(Clone, Copy, Debug, PartialEq, Eq, Error)]
 pub enum FaultKind {
-    /// The line or the script has more bytes than it may.
+    /// The line or the script has more bytes than it may have.
     #[error("TooLong")]
     TooLong,
     /// The line isn't JSON, or nests too deep.
     #[error("NotJson")]
     NotJson,
-    /// The line isn't an event: a key is missing or of a wrong kind, or the event is unknown.
+    /// The line isn't an event: a key is missing or its value is of a wrong kind, or the event is unknown.
     #[error("BadEvent")]
     BadEvent,
     /// The line names a node beyond the 32 that there may be.

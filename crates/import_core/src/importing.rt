@@ -105,8 +105,8 @@ fn order_of<A: Allocator + Copy>(
 }
 
 /// The notes of the input's events, with the tables in which their texts have numbers, and the nearest order; or the
-/// first fault. If `lenient`, each delivery and answer whose message no line sends is left out, then those whose
-/// message only a line that was left out sends, and so on.
+/// first fault. If `lenient`, leaves out each delivery and answer whose message no line sends, then those whose message
+/// no line sends but one that was left out, and so on.
 pub fn imported<A: Allocator + Copy>(
     heap: Global,
     alloc: A,

@@ -1,14 +1,14 @@
-//! `NoteFault`: why no step stands for an event.
+//! `NoteFault`: why an event has no note.
 ghost use Rattle.std.specs.Prelude.{◌≡◌};
 ghost use Rattle.import_core.specs.declared.note_fault.NoteFault.TheVariants.{OutOfMemory};
 
 use dots_core::Oom;
 use thiserror::Error;
 
-/// Why no step stands for an event.
+/// Why an event has no note.
 #[derive(Clone, Copy, Debug, PartialEq, Eq, Error)]
 pub enum NoteFault {
-    /// There are more than 32 nodes.
+    /// With this event the logs name more than 32 nodes.
     #[error("TooManyNodes")]
     TooManyNodes,
     #[error("OutOfMemory")]

@@ -21,7 +21,7 @@ use log_core::{LogLine, line_at, value_of_line};
 use std::alloc::{Allocator, Global};
 
 /// A note of an event: the number of its line, what an order needs to know of the event, the step that stands for it,
-/// if there is one, and the rows that it lists. Messages have the numbers of the tables, not those of an outbox.
+/// if there is one, and the rows that the event lists. Messages have the numbers of the tables, not those of an outbox.
 #[derive(Drop)]
 pub struct Noted<A: Allocator> {
     pub number: u64,

@@ -88,8 +88,8 @@ fn taken_from<A: Allocator + Copy>(
     Ok((sender, message as u64))
 }
 
-/// The nodes with these names, of which new ones get numbers in the tables. Values that aren't texts are passed over;
-/// an event has no such values.
+/// The nodes with these names. A new node gets the next number. Values that aren't texts are passed over; an event has
+/// no such values.
 fn nodes_for<A: Allocator + Copy>(
     tables: &mut Tables<A>,
     names: &[Value],
@@ -148,7 +148,7 @@ fn update_for<A: Allocator + Copy>(
     })
 }
 
-/// The step that stands for a change of the node's own presences; `None` for other events.
+/// The step that stands for a join, an update, a leave or a leave all; `None` for other events.
 fn own_step_for<A: Allocator + Copy>(
     heap: Global,
     alloc: A,

@@ -14,8 +14,8 @@ use serde_json::Value;
 use spelling_core::{LONGEST, word_of};
 use std::alloc::{Allocator, Global};
 
-/// The texts of nodes, of processes, of messages with their senders, and of the values whose words are cut. Each has a
-/// number, counted from 0, in the order of first sight.
+/// The texts of nodes, of processes, of messages with their senders, and of the values whose words are cut. Each text
+/// has a number among those of its kind, counted from 0 in the order of first sight.
 #[derive(Drop)]
 pub struct Tables<A: Allocator> {
     pub nodes: TextSet<A>,

@@ -63,8 +63,7 @@ fn put_unsent<A: Allocator>(text: &mut String<A>, node: u16) -> Result<(), Oom>
     Ok(text.push_str(",\"unsent\":true")?)
 }
 
-/// Plays the step of an event on the bench, and notes in `numbers` what the step sent, as `play` does. The reply plays
-/// no part here.
+/// Plays the step of an event on the bench, and notes in `numbers` what the step sent, as `play` does. Drops the reply.
 #[tactic(auto, unfolding(import_report::specs::Events::after_step))]
 fn ask<'a, B: Allocator>(
     bench: &mut Bench<'a, B>,

@@ -34,7 +34,7 @@ pub struct Shown<'a, B: Allocator> {
 }
 
 /// The keys of a page's data that tell of the logs: `names` has the nodes' own names, `pids` the values of processes,
-/// `cut` the values of words that were cut, and `events` the text `entries`.
+/// `cut` the values whose words were cut, and `events` the text `entries`.
 #[tactic(auto, unfolding(crate::specs::Keys::keys_text))]
 fn keys_text<A: Allocator + Copy>(
     alloc: A,

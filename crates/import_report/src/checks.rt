@@ -147,7 +147,7 @@ fn check_step<'a, B: Allocator>(
 }
 
 /// Checks an event. Plays its step, and appends the step's refusal, if it is refused; or appends that the step can't be
-/// asked. If the event is a list, compares it with the bench's list, appends where the two part, and notes in
+/// asked. If the event lists rows, compares its list with the bench's, appends where the two part, and notes in
 /// `agreements` whether they agree.
 #[tactic(auto, unfolding(crate::specs::Checks::IsEventChecked, crate::specs::Events::after_event))]
 fn check_event<'a, B: Allocator>(

@@ -13,8 +13,7 @@ use std::alloc::Allocator;
 pub const NUMBERED: &str =
     "n0 n1 n2 n3 n4 n5 n6 n7 n8 n9 n10 n11 n12 n13 n14 n15 n16 n17 n18 n19 n20 n21 n22 n23 n24 n25 n26 n27 n28 n29 n30 n31";
 
-/// The word. If it is a keyword with which a script line may begin, such as `show`, it can't be a node's name, and the
-/// empty text stands for it.
+/// `word`, or the empty text if `word` is a keyword such as `show`, which can't be a node's name.
 #[tactic(auto, unfolding(grammar_core::specs::Grammar::keyword_of, grammar_core::specs::Grammar::unreserved))]
 fn unreserved(word: &str) -> &str
     ensures { result.now ≡ unreserved word.now }

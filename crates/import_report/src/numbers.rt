@@ -18,8 +18,8 @@ fn number_at(numbers: &[u64], message: u64) -> Option<u64>
     if number == 0 { None } else { Some(number) }
 }
 
-/// The step as it is asked of the bench, with the message's number in the outbox; `None` if that message wasn't sent,
-/// or if an extract names no node.
+/// The step to ask of the bench: a delivery or an answer gets the number that its message has in the sender's outbox.
+/// `None` if the bench didn't send that message, or if an extract names no node.
 pub fn asked<A: Allocator + Copy>(step: &Step<A>, numbers: &[u64]) -> Result<Option<Step<A>>, Oom>
     ensures { IfOk result (λ s. option_map plain s ≡ asked numbers.now (plain step.now)) }
 {
@@ -49,7 +49,7 @@ pub fn asked<A: Allocator + Copy>(step: &Step<A>, numbers: &[u64]) -> Result<Opt
     }
 }
 
-/// How many messages the node sent; 0 if there is no such node.
+/// How many messages the outbox of the node with this number has; 0 if there is no such node.
 fn outbox_length<'a, B: Allocator>(bench: &Bench<'a, B>, number: u16) -> u64
     ensures { result ≡ outbox_length (node_of bench.now number) }
 {

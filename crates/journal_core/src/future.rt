@@ -112,8 +112,8 @@ fn start<'a, B: Allocator>(
     Ok(bounds)
 }
 
-/// The numbers of step `number` and of all that follows from it, least first. `bounds` are those at the start, and are
-/// lowered on the way.
+/// The numbers of step `number` and of all that follows from it, least first. `bounds` come from `start`, and `gather`
+/// lowers them.
 fn gather<'a, B: Allocator>(
     slots: &Slots<'a, B>,
     causes: &[Causes<'a, B>],

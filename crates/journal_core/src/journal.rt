@@ -148,8 +148,8 @@ impl<'a, B: Allocator> Journal<'a, B> {
         )
     }
 
-    /// Makes room for a step of the kind of `step` at `node` (see `Room`): after an `Ok`, the next `keep` of a step of
-    /// this kind isn't refused. Room that was made before stays.
+    /// Makes room for a step of the kind of `step` at `node` (see `Room`): after an `Ok`, the next `keep` isn't refused
+    /// if its step is of this kind. Room that was made before stays.
     pub fn make_room(&mut self, node: u16, step: &Step<&'a B>) -> Result<(), Oom>
         requires { node < self.old.nodes }
         ensures nodes { self.new.nodes ≡ self.old.nodes }

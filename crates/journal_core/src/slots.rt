@@ -112,7 +112,7 @@ impl<'a, B: Allocator> Slots<'a, B> {
         self.count += 1;
     }
 
-    /// Lends the inverse of the step of this number; `None` if the step doesn't remain or its inverse is lent.
+    /// Lends the inverse of the step of this number; `None` if the step doesn't remain or its inverse is lent already.
     pub(crate) fn lend(&mut self, number: u64) -> Option<Inverse<&'a B>>
         ensures value { option_map plain_inverse result ≡ inverse_of (find_held self.old.steps number) }
         ensures steps { self.new.steps ≡ with_inverse self.old.steps number None }
@@ -148,7 +148,7 @@ impl<'a, B: Allocator> Slots<'a, B> {
     }
 }
 
-/// Lends the inverse of the step in the slot; `None` if the slot is empty or the inverse is lent.
+/// Lends the inverse of the step in the slot; `None` if the slot is empty or the inverse is lent already.
 fn lend_in<'a, B: Allocator>(slot: &mut Option<Held<'a, B>>) -> Option<Inverse<&'a B>>
     ensures value { option_map plain_inverse result ≡ inverse_of slot.old }
     ensures after { slot.new ≡ lent_in None slot.old }

@@ -128,7 +128,7 @@ fn begins_in_order<'a>(rows: &Rows<'a>) -> bool {
 }
 
 /// Compares the lists with the first, second, .. request for memory refused, until no refusal is met. Gives how many
-/// requests were refused.
+/// requests were refused, or 40 if each of the first 39 was.
 fn refused_in_turn<'a>(a: &Rows<'a>, b: &Rows<'a>, heap: &'a Heap, rt: &impl Abort) -> u64
     requires a { AreInOrder a.now.items }
     requires b { AreInOrder b.now.items }

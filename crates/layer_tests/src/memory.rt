@@ -236,7 +236,7 @@ const FULL: &[Full] = &[
     },
 ];
 
-/// Makes the calls with all memory refused: each meets this fault, and asks for no memory.
+/// Makes the calls with all memory refused. Each must be refused with this fault, and ask for no memory.
 fn are_free<'a>(
     bench: &mut Bench<'a, Heap>,
     calls: &[(u16, Act<&'a Heap>)],
@@ -313,8 +313,8 @@ fn run_unknown<'a>(bench: &mut Bench<'a, Heap>, calls: &[(u16, Act<&'a Heap>)]) 
     }
 }
 
-/// Calls that name no node are refused in a run, and recorded while there is a place. If memory for the list of replies
-/// is refused, the run does nothing.
+/// A run of calls refuses those that name a node which the bench doesn't have, and records them while there is a place.
+/// If memory for the list of replies is refused, the run does nothing.
 fn unknown_is_refused<'a>(heap: &'a Heap, rt: &impl Abort) {
     let calls = unknown();
     let mut bench = opened("nodes a b", limits_of([6, 1, 1, 1], rt), heap, rt);

@@ -56,7 +56,7 @@ struct Case {
 }
 
 /// The cases in turn: an up changes nothing at another node; an up comes before or after a delivery; a message is lost;
-/// a leave is delivered before its sender is known, and the join only then, so that the join stays; the same with a
+/// a leave is delivered before its sender is known, and the join afterwards, so that the join stays; the same with a
 /// delivery that comes again; an answer brings what was missed to the node that asked, and not to another.
 const CASES: &[Case] = &[
     Case {

@@ -142,7 +142,8 @@ fn taken_back<'a>(
 }
 
 /// Takes the step at a copy of the node, and takes it back with the first, second, .. request for memory refused, each
-/// at a copy of its own, until no refusal is met. Gives how many requests were refused.
+/// at a copy of its own, until no refusal is met. Gives how many requests were refused, or 50 if each of the first 49
+/// was.
 fn refusals<'a>(
     node: &Node<'a, Heap>,
     other: &Node<'a, Heap>,

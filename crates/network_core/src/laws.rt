@@ -24,9 +24,8 @@ pub fn never_full_law()
     ensures { NeverFullLaw }
 {}
 
-/// An easy step (see `is_easy` of `network_rules`) can be moved to the front of the steps before it, if each of these
-/// is a delivery at the easy step's node or a step of another node. The exception is a move after which a step is
-/// refused as `EntriesFull`.
+/// An easy step (see `is_easy` of `network_rules`) can be moved before any steps directly before it, if each of these
+/// is a delivery at the easy step's node or a step of another node, unless a step is then refused as `EntriesFull`.
 pub fn easy_law()
     ensures in_runs { EagerLaw }
     ensures in_network_runs { EagerStepLaw }
@@ -63,10 +62,11 @@ pub fn rows_law()
     ensures online { OnlineRowsLaw }
 {}
 
-/// In each run of the network, what matters after a step comes from what matters before it. So one beginning of a run
-/// serves for another if the same steps are still to be taken and the clusters are alike. A recorded delivery that
-/// hasn't come yet can come first if it is accepted and brings nothing that matters. The next step of a node at which
-/// nothing more is delivered can come first, too, if it is accepted.
+/// In each run of the network, what matters after a step comes from what matters before it. If the recorded run makes
+/// no more entries than a node may hold, one beginning of a run serves for another if the same steps are still to be
+/// taken and the clusters are alike; and a delivery that has come less often than it was recorded can come first if it
+/// is accepted and brings nothing that matters. The next step of a node at which nothing more is delivered can come
+/// first, too, if it is accepted.
 pub fn cone_law()
     ensures passes { ConeLaw }
     ensures stands { StandsLaw }
@@ -80,14 +80,18 @@ pub fn keys_law()
     ensures { StandAlikeLaw }
 {}
 
-/// Tells when every run of the network with a given beginning ends in an outcome that was found, and how long a run of
-/// the network can be.
+/// Every run of the network with a given beginning ends in an outcome that was found, if that is so behind a step that
+/// can come first; or for another beginning that serves for this one; or behind each step that can come next, and at
+/// the end of the beginning itself, if a run may end there. A run of the network has at most as many steps as the
+/// recorded run, and one more for each delivery that may come a second time.
 pub fn settle_law()
     ensures settled { SettleLaw }
     ensures length { LengthLaw }
 {}
 
-/// Tells which deliveries of a message at a node may still come.
+/// A delivery that comes next was recorded, and came less than twice as often as it was recorded; less often than it
+/// was recorded, if none may come a second time. If all recorded deliveries at a node came, and none may come a second
+/// time, nothing more is delivered there.
 pub fn next_law()
     ensures quiet { QuietLaw }
     ensures next { NextDeliveryLaw }

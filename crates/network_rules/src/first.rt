@@ -78,7 +78,7 @@ fn brings_none<A: Allocator>(dots: &[Dot], message: &Payload<A>, names: NameSet,
 
 /// Whether the delivery of message `number` of `sender` at `node` brings no news of a dot that matters there (see
 /// `is_no_news`), and so would change nothing that matters. `turn` is the place of the delivery's turn. False if the
-/// message wasn't sent, there is no such turn, or all its recorded deliveries came.
+/// message wasn't sent, there is no such turn, or all recorded deliveries of the turn came.
 pub fn is_idle<'a, B: Allocator>(
     cluster: &Cluster<'a, B>,
     cone: &Cone<'a, B>,

@@ -1,5 +1,4 @@
 //! Sets of names: the set of all, the names that two sets have in common, and whether one set is within another.
-//! Each is found in a loop over the 32 names.
 ghost use Rattle.std.specs.Prelude.{◌≡◌, ◌<◌, ℕ, IsTrue, true, if◌then◌else◌};
 ghost use Rattle.std.specs.FinSet.{contains};
 ghost use Rattle.std.specs.FinSet as set;

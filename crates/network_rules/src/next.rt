@@ -129,8 +129,8 @@ pub fn is_next(turns: &[Turn], ranks: &[Rank], counts: &[usize], again: usize, p
     )
 }
 
-/// Whether no delivery of this turn can still come to `node`: the turn is another node's, or one of own steps, or all
-/// its recorded deliveries came and `again` is 0.
+/// True only if no delivery of this turn can still come to `node`: the turn is another node's, or one of own steps, or
+/// all its recorded deliveries came and `again` is 0.
 fn is_spent(turn: Turn, count: usize, again: usize, node: u16) -> bool
     ensures { IsTrue result → turn.node ≡ node → is_some turn.delivers ≡ true → (again ≡ 0) × (turn.recorded ≤ count) }
 {

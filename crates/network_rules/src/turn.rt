@@ -7,7 +7,7 @@ ghost use Rattle.network_rules.specs.Turns.{delivery_of, is_of, same_message};
 use bench_core::{Kept, Step};
 use std::alloc::Allocator;
 
-/// A node's own steps, or the deliveries of one message at the node.
+/// A node's own steps, which are all but its deliveries, or the deliveries of one message at the node.
 #[derive(Clone, Copy)]
 pub struct Turn {
     pub node: u16,

@@ -199,7 +199,7 @@ impl<'a, B: Allocator> Node<'a, B> {
         Ok(Inverse::Change(change))
     }
 
-    /// Sends the delta. Room for the message is made before the delta is taken out.
+    /// Sends the delta, which is then empty. `NothingToSend` comes before `OutboxFull`, and that before `OutOfMemory`.
     fn broadcast(&mut self) -> Result<Inverse<&'a B>, StepFault>
         ensures { Takes self.old Broadcast None result self.new }
     {

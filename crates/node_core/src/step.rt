@@ -68,7 +68,7 @@ pub enum Step<A: Allocator> {
 }
 
 impl<A: Allocator> Step<A> {
-    /// Whether both steps ask for the same.
+    /// Whether both are the same step, with equal numbers, words and names.
     pub fn same(&self, other: &Self) -> bool
         ensures { IsTrue result ↔ (plain self.now ≡ plain other.now) }
     {

@@ -4,7 +4,7 @@ use replica_core::ReplicaFault;
 use thiserror::Error;
 
 /// Why a node refuses a step. `OwnMessage`, `NoSuchMessage`, `NotRequest` and `IsRequest` are looked for first, then
-/// the causes of the replica in their order, then `OutboxFull`. `OutOfMemory` comes wherever memory is refused.
+/// the faults of the replica in their order, then `OutboxFull`. `OutOfMemory` comes wherever memory is refused.
 #[derive(Clone, Copy, Debug, PartialEq, Eq, Error)]
 pub enum StepFault {
     /// The name is the node's own.
@@ -19,7 +19,7 @@ pub enum StepFault {
     /// An own entry has this process, topic and key.
     #[error("AlreadyTracked")]
     AlreadyTracked,
-    /// No own entry has the process, topic and key of the step; of a leave all, none has its process.
+    /// No own entry has the process, topic and key of the step, or, for a leave all, the process.
     #[error("NotTracked")]
     NotTracked,
     /// The delta has no dot.

@@ -3,8 +3,8 @@
 //! A crate above uses a law by calling its function.
 ghost use Rattle.order_core.specs.Laws.{BehindLaw, FoundRunLaw, MarksLaw, OrderOfLaw, OrderRunsLaw, SameOwnLaw};
 
-/// What each node did, in its order, decides how a run ends. If one order of these steps runs, so does each other order
-/// in which no message comes before it is sent, and both end the same.
+/// In a run no message comes before it is sent. What each node did, in its order, decides how a run ends. If one order
+/// of these steps runs, so does each other order in which no message comes before it is sent, and both end the same.
 pub fn order_law()
     ensures behind { BehindLaw }
     ensures order_runs { OrderRunsLaw }

@@ -1,4 +1,4 @@
-//! Finds an order of steps: the first step that can come next is taken, again and again. If the given steps deliver no
+//! Finds an order of steps: it takes the first step that can come next, again and again. If the given steps deliver no
 //! message before it is sent, their order stays.
 //!
 //! For each node the search keeps the place of the node's next step, and the number of messages that the node has sent.
@@ -61,7 +61,7 @@ fn stands_of<A: Allocator>(alloc: A, marks: &[Mark]) -> Result<Vec<Stand, A>, Oo
     Ok(stands)
 }
 
-/// Whether the message `delivers` was sent; true if it is `None`.
+/// Whether the message that `delivers` names was sent; true if it names none.
 fn was_sent(stands: &[Stand], delivers: Option<(u16, u64)>) -> bool
     ensures { result ≡ was_sent stands.now delivers }
 {

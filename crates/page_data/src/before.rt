@@ -20,8 +20,8 @@ pub struct Before<'a, B: Allocator> {
     /// What the call's step reads, as keys of the call's JSON object; empty if the call is an undo or a back, or its
     /// actor isn't a node.
     pub reads: String<&'a B>,
-    /// The node that the call asks to change: of a step the actor, even an actor that isn't a node. `None` if the call
-    /// is an undo or a back, and there is no step to take back.
+    /// The node that the call asks to change. For a step it is the actor, even one that isn't a node; for an undo or a
+    /// back it is the node of the step to take back, or `None` if there is no such step.
     pub node: Option<u16>,
     /// How the step that the call asks to take back had changed the online list of its node. No rows if the call is a
     /// step, or if it will be refused.
@@ -40,8 +40,8 @@ fn node_undone<'a, B: Allocator>(bench: &Bench<'a, B>, number: Option<u64>) -> O
     }
 }
 
-/// The node that a call asks to change: the actor, if the act is a step, and else the node of the step to be taken
-/// back. `None` if there is no step to take back.
+/// The node that a call asks to change: the actor, if the act is a step, and else the node of the step to take back.
+/// `None` if there is no step to take back.
 #[tactic(auto, unfolding(crate::specs::Asked::asked_node))]
 fn asked_node<'a, B: Allocator>(bench: &Bench<'a, B>, actor: u16, act: &Act<&'a B>) -> Option<u16>
     ensures { result ≡ asked_node bench.now actor (plain_act act.now) }

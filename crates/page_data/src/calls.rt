@@ -199,8 +199,8 @@ fn put_refused<'a, B: Allocator>(
     put_held(text, fault)
 }
 
-/// Makes an act on the bench, and appends the reply and what the act changed. `before` was made of the bench just
-/// before the act.
+/// Makes a call on the bench, and appends the reply and what the call changed. `before` must be what `Before::of` gave
+/// just before the call.
 fn put_outcome<'a, B: Allocator>(
     text: &mut String<&'a B>,
     bench: &mut Bench<'a, B>,
@@ -247,7 +247,7 @@ fn put_asked<'a, B: Allocator>(
     put_text_key(text, "line", line.as_str())
 }
 
-/// Makes an act on the bench, and appends the JSON object that tells of it.
+/// Makes a call on the bench, and appends the JSON object that tells of it.
 #[tactic(auto, unfolding(crate::specs::PageData::call_text))]
 fn put_act<'a, B: Allocator>(
     text: &mut String<&'a B>,

@@ -89,7 +89,7 @@ pub fn seen_in<'a, A: Allocator, B: Allocator>(
     }
 }
 
-/// What was seen of a name: what `before` has at its place, or else that the name is unknown and without dots.
+/// The `Seen` of a name in `before`; past the end of `before`, that of an unknown name without dots.
 fn seen_at(before: &[Seen], name: u16) -> Seen
     ensures { result ≡ seen_at before.now name }
 {
@@ -119,7 +119,7 @@ fn put_change<A: Allocator>(
     Ok(())
 }
 
-/// `NAME,STATUS,CLOCK,MORE` of each of the first `count` names of which the replica has seen anything else than
+/// `NAME,STATUS,CLOCK,MORE` of each of the first `count` names for which what the replica has seen differs from what
 /// `before` says, as a list of numbers.
 fn changes_of<A: Allocator, R: Allocator>(
     replica: &Replica<R>,
@@ -138,8 +138,8 @@ fn changes_of<A: Allocator, R: Allocator>(
     Ok(numbers)
 }
 
-/// `NAME,STATUS,CLOCK,MORE` of each of the first `count` names of which a node has seen anything else than `before`
-/// says, as a list of numbers; empty without a node.
+/// `NAME,STATUS,CLOCK,MORE` of each of the first `count` names for which what the node has seen differs from what
+/// `before` says, as a list of numbers; empty without a node.
 pub fn changes_in<'a, A: Allocator, B: Allocator>(
     node: Option<&Node<'a, B>>,
     before: &[Seen],

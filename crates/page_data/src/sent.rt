@@ -63,7 +63,8 @@ pub fn clocks_standing<A: Allocator + Copy, R: Allocator>(
     Ok(numbers)
 }
 
-/// Appends the name as a number, unless `clock` and `more` are both 0, which says that the name has no dots.
+/// Appends the name as a number, unless its context clock (`clock`) and the length of its cloud (`more`) are both 0,
+/// which says that the name has no dots.
 fn put_name_if<A: Allocator>(
     numbers: &mut Vec<u64, A>,
     name: u16,

@@ -68,9 +68,9 @@ fn put_arrival<'a, B: Allocator>(
     }
 }
 
-/// Appends what a step reads before it is taken: as `prev` the number of its node's last remaining step, if there is
-/// one, and as `from`, if it delivers a message, the number of the step that sent this. For a delivery it also appends
-/// what the delivery changes and what the node misses.
+/// Appends what a step reads before it is taken: `prev`, the number of its node's last remaining step, if there is one;
+/// and `from`, if the step delivers a message, the number of the step that sent this message. For a delivery it also
+/// appends what the delivery changes and what the node misses.
 #[tactic(auto, unfolding(crate::specs::PageData::reads_keys))]
 pub fn put_reads<'a, B: Allocator>(
     text: &mut String<&'a B>,
@@ -89,7 +89,8 @@ pub fn put_reads<'a, B: Allocator>(
     put_arrival(text, bench, actor, step, alloc)
 }
 
-/// Appends, of a broadcast, the clocks of the dots of `name` in its message: `live` with their entries, `gone` without.
+/// Appends the clocks of the dots of `name` in a broadcast's message: as `live` those of dots with entries, as `gone`
+/// those of dots without.
 fn put_broadcast<'a, B: Allocator>(
     text: &mut String<&'a B>,
     message: &Payload<&'a B>,
@@ -105,8 +106,8 @@ fn put_broadcast<'a, B: Allocator>(
     put_numbers_key(text, "gone", &gone)
 }
 
-/// Appends what `message`, which `step` sent, carries: for a broadcast the clocks of the message's dots, and else the
-/// names of these dots.
+/// Appends what `message`, which `step` sent, carries: for a broadcast the clocks of the dots of `name` in it, and else
+/// the names below `count` of which it has dots.
 fn put_carried<'a, B: Allocator>(
     text: &mut String<&'a B>,
     step: &Step<&'a B>,

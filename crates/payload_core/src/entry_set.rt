@@ -17,8 +17,8 @@ use entry_core::{Entry, Handle, Word};
 use std::alloc::Allocator;
 use std::marker::Model;
 
-/// Live entries by their dots, with room for more. An index may find the entries of one name by process, topic and key;
-/// a copy of the set has no index.
+/// Live entries by their dots, with room for more. A set may have an index, which finds the entries of one name by
+/// process, topic and key; a copy of the set has none.
 #[derive(Drop)]
 pub struct EntrySet<A: Allocator> {
     by_dot: EntriesByDot<A>,
@@ -84,7 +84,7 @@ impl<A: Allocator> EntrySet<A> {
         self.by_dot.walk()
     }
 
-    /// A walk over the entries of the name by rising clock. It passes over the other names' blocks.
+    /// A walk over the entries of the name by rising clock. It skips the other names' entries, a block at a time.
     pub fn walk_of(&self, name: u16) -> Walk<'_, A>
         ensures { result ≡ listed (entries_of_names (λ n. n == name) self.now.map) }
     {
@@ -92,8 +92,8 @@ impl<A: Allocator> EntrySet<A> {
     }
 
     /// The name's dot of least clock whose entry tracks this process under this topic and key; `None` if there is none.
-    /// An index of the name finds the dot by one look-up. Without such an index, or if several entries have had the
-    /// mark of this process, topic and key, this walks over the name's entries.
+    /// An index of the name finds the dot by one look-up. Without such an index, or once several of the name's entries
+    /// had the mark of this process, topic and key at the same time, the call walks over the name's entries.
     pub fn find(&self, name: u16, pid: u64, topic: &Word<A>, key: &Word<A>) -> Option<Dot>
         ensures { result ≡ slice_get (dots_of name (is_tracked_as pid topic.now key.now) self.now.map) 0 }
     {
@@ -232,7 +232,8 @@ impl<A: Allocator + Copy> EntrySet<A> {
     }
 
     /// Takes out the entry of the dot, as a handle: moved, or shared if other sets share its block's list. `Ok(None)`
-    /// if there is no such entry. The room never falls. An `Err` changes nothing.
+    /// if there is no such entry. The room never falls. An `Err` changes nothing: the count of an entry's copies is at
+    /// its limit, or memory was refused.
     pub fn take(&mut self, dot: Dot) -> Result<Option<Handle<A>>, Oom>
         ensures entry { IfOk result (λ taken. taken ≡ option_map (entry_of dot) (fin.get self.old.map dot)) }
         ensures map { OnOk result (self.new.map ≡ fin.remove self.old.map dot) }
@@ -246,9 +247,9 @@ impl<A: Allocator + Copy> EntrySet<A> {
         Ok(Some(entry))
     }
 
-    /// Inserts a new entry, which other sets may share. Memory may be refused even if room was made; then the entry is
-    /// dropped, and the set has the same entries as before. The index notes the entry first, and forgets it again if
-    /// memory is refused.
+    /// Inserts a new entry, which other sets may share. If memory is refused, even though room was made, or if the set
+    /// has too many entries, the entry is dropped, and the set has the same entries as before. The index notes the
+    /// entry first, and forgets one that is dropped.
     pub fn put(&mut self, entry: Handle<A>) -> Result<(), Oom>
         requires { fin.get self.old.map entry.dot ≡ None }
         ensures ok { OnOk result (self.new.map ≡ fin.insert self.old.map entry.dot (presence_of entry)) }

@@ -1,7 +1,7 @@
 //! What nodes send each other: messages, the sets of entries in them, and the outboxes that keep messages.
 //!
-//! The crates above see an entry set as a finite map, and an outbox as a list, each with its room. How these are kept
-//! they don't see. This crate uses `dots_core`, `entry_core` and `block_core`; it knows nothing of replicas and steps.
+//! The crates above see an entry set as a finite map, and an outbox as a list, each with its room. They don't see how
+//! these are kept. This crate uses `dots_core`, `entry_core` and `block_core`; it knows nothing of replicas and steps.
 //!
 //! The modules in reading order: `mark`, a number for a process, a topic and a key; `track_index`, which finds the
 //! entries of one name by their marks; `entry_set`, live entries by dot; `payload`, a message; `outbox`, the messages

@@ -6,10 +6,10 @@ ghost use Rattle.payload_core.specs.Marks.{mark_of, mixed, mixed_all};
 use entry_core::Word;
 use std::alloc::Allocator;
 
-/// An odd number: multiplied by it, a byte spreads over the bits above.
+/// An odd number. Multiplying by it spreads a byte over the higher bits.
 const FACTOR: u64 = 1_099_511_628_211;
 
-/// The mark of a process under a topic and a key. A byte 0, which no word has, is mixed in between topic and key.
+/// The mark of a process under a topic and a key. Between topic and key it mixes in a byte 0, which no word has.
 pub fn mark<A: Allocator>(pid: u64, topic: &Word<A>, key: &Word<A>) -> u64
     ensures { result ≡ mark_of pid topic.now key.now }
 {

@@ -30,8 +30,8 @@ impl<A: Allocator> Model for Payload<A> {
 }
 
 impl<A: Allocator> Payload<A> {
-    /// A message with these dots and entries, which isn't a request. It takes no memory. A contract doesn't see the
-    /// room of its entries.
+    /// A message with these dots and entries, which isn't a request. It takes no memory. Contracts don't see the
+    /// room of `entries`.
     pub fn new(sender: u16, seen: DotSet<A>, entries: EntrySet<A>) -> Payload<A>
         requires { AreSeen seen entries.map }
         ensures { result ≡ store_message sender seen entries.map }

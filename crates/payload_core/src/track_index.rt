@@ -13,20 +13,20 @@ use std::collections::HashMap;
 use std::hash::{BuildHasherDefault, FoldHasher};
 use std::marker::Model;
 
-/// Where the entries with a mark stand.
+/// Where the entries with a mark are.
 #[derive(Clone, Copy)]
 pub enum Holder {
     /// At this dot alone.
     One(Dot),
-    /// Several entries have had the mark. Which of them are still in the set isn't known.
+    /// Several entries had the mark at the same time. Which of them are still in the set isn't known.
     Several,
 }
 
-/// For each mark, where the entries with it stand. An index boxes this map, so that an entry set without an index stays
+/// For each mark, where the entries with it are. An index boxes this map, so that an entry set without an index stays
 /// small.
 type Holders<A> = HashMap<u64, Holder, BuildHasherDefault<FoldHasher>, A>;
 
-/// Where the entries of one name stand, by their marks. A mark that the index doesn't have belongs to no entry of the
+/// Where the entries of one name are, by their marks. A mark that the index doesn't have belongs to no entry of the
 /// index's name. An index of no name knows nothing, and `holder` always gives `Several`. An index takes no memory
 /// before room is made.
 #[derive(Drop)]
@@ -80,7 +80,7 @@ impl<A: Allocator> TrackIndex<A> {
         }
     }
 
-    /// Where the name's entries with this mark stand: `None` if no entry has the mark, and `Several` if the index isn't
+    /// Where the name's entries with this mark are: `None` if no entry has the mark, and `Several` if the index isn't
     /// of the name.
     pub fn holder(&self, name: u16, mark: u64) -> Option<Holder>
         ensures { result ≡ holder_of self.now name mark }
@@ -152,7 +152,7 @@ impl<A: Allocator + Copy> TrackIndex<A> {
     }
 }
 
-/// Where the entries with this mark stand, by these holders; `None` if no entry has the mark.
+/// Where the entries with this mark are, by these holders; `None` if no entry has the mark.
 fn holder_in<A: Allocator>(holders: &Holders<A>, mark: u64) -> Option<Holder>
     ensures { result ≡ held_as holders.now.entries mark }
 {
@@ -162,7 +162,7 @@ fn holder_in<A: Allocator>(holders: &Holders<A>, mark: u64) -> Option<Holder>
     }
 }
 
-/// Notes that an entry with this mark left the dot. If several entries have had the mark, nothing changes.
+/// Notes that an entry with this mark left the dot. A mark that has `Several` keeps it.
 fn take_out<A: Allocator>(holders: &mut Holders<A>, mark: u64, dot: Dot)
     ensures others { (m : ℕ) (d : Dot) → d ≢ dot → Holds (held_as holders.old.entries m) d → Holds (held_as holders.new.entries m) d }
     ensures room { spare holders.old ≤ spare holders.new }

@@ -7,7 +7,7 @@ use thiserror::Error;
 /// Why nothing is drawn.
 #[derive(Clone, Copy, Debug, PartialEq, Eq, Error)]
 pub enum DrawFault {
-    /// No node has this name.
+    /// No node has the name that is asked about.
     #[error("NoSuchNode")]
     NoSuchNode,
     /// The topic or the key isn't a word, so nothing is tracked under it.

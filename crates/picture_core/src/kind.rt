@@ -20,7 +20,7 @@ pub enum Kind {
 }
 
 impl Kind {
-    /// The kind of a step with this standing.
+    /// The kind of a step or a message with this `Standing`.
     pub fn of(standing: Standing) -> Kind
         ensures { result ≡ kind_of standing }
     {

@@ -33,7 +33,7 @@ impl<A: Allocator> Model for Asked<A> {
 }
 
 /// A change of a node's lane: the row at which the node begins or stops listing what is asked about. It has nothing to
-/// do with the turns of a run.
+/// do with the turns in which `order_core` finds an order.
 #[derive(Clone, Copy, Debug, PartialEq, Eq)]
 pub struct Turn {
     pub row: u32,

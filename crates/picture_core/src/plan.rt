@@ -20,7 +20,7 @@ fn pitch(nodes: u32) -> u64
     }
 }
 
-/// How many places there are on each side of a lane at which messages come down.
+/// How many places each side of a lane has for messages to come down.
 #[tactic(auto, unfolding(crate::specs::Plans::slots))]
 fn slots(nodes: u32) -> u64
     ensures is { result ≡ slots nodes }

@@ -110,7 +110,7 @@ pub fn put_message_of<'a, A: Allocator, B: Allocator>(
     }
 }
 
-/// How a call looks: by how its step stands, if the call took one, and else by its reply.
+/// How a call looks: by whether its step remains and is painted, if the call took one, and else by its reply.
 #[tactic(auto, unfolding(crate::specs::Rows::looks))]
 fn looks(steps: &[Drawn], reply: Reply) -> Kind
     ensures { result ≡ looks steps.now reply }

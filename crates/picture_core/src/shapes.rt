@@ -107,7 +107,7 @@ fn put_name_at<A: Allocator>(text: &mut String<A>, place: &str, name: &str) -> R
     )
 }
 
-/// Appends the name of a node above its lane.
+/// Appends the name of a node above its lane, which begins `height` units down.
 #[tactic(auto, unfolding(crate::specs::Shapes::lane_name))]
 pub fn put_lane_name<'a, A: Allocator, B: Allocator>(
     text: &mut String<A>,

@@ -8,7 +8,7 @@ use bench_core::{Bench, Journal, Reply};
 use payload_core::Oom;
 use std::alloc::Allocator;
 
-/// How a step that was taken stands.
+/// Whether a step that was taken remains, and whether it is painted.
 #[derive(Clone, Copy, Debug, PartialEq, Eq)]
 pub enum Standing {
     /// The step remains.
@@ -35,7 +35,7 @@ impl Drawn {
 }
 
 impl Standing {
-    /// The standing of a message whose send is `sent` and whose delivery is `self`: taken back if the delivery is,
+    /// The `Standing` of a message whose send is `sent` and whose delivery is `self`: taken back if the delivery is,
     /// painted if both are, and else remaining.
     pub fn of_message(self, sent: Standing) -> Standing
         ensures { result ≡ of_message self sent }
@@ -57,7 +57,7 @@ fn is_painted(painted: &[u64], number: u64) -> bool
     painted.iter().any(|n| *n == number)
 }
 
-/// The standing of the step with this number, which was taken.
+/// Whether the step with this number, which was taken, remains, and whether it is painted.
 #[tactic(auto, unfolding(crate::specs::Standings::standing_of))]
 fn standing_of<'a, B: Allocator>(
     remaining: &Journal<'a, B>,

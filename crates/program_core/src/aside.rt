@@ -26,7 +26,7 @@ impl Aside {
         }
     }
 
-    /// Makes the hint for a session that was refused with this fault, if that is because it isn't JSON.
+    /// Makes the hint for a session that was refused since it isn't JSON; for any other fault it makes none.
     pub(crate) fn of_session(&mut self, bytes: &[u8], fault: SessionFault) {
         if fault != SessionFault::NotJson {
             return;

@@ -40,7 +40,7 @@ pub enum Fault {
     /// Why a text isn't a session. It is never `OutOfMemory`.
     #[error("session: {0}")]
     Session(SessionFault),
-    /// An input has more bytes than a session may have.
+    /// A session has more bytes than is allowed.
     #[error("session: TooLong")]
     LongSession,
     /// Why the events of logs are refused. It is never `OutOfMemory`.

@@ -65,7 +65,7 @@ fn put_left<A: Allocator>(text: &mut String<A>, left_out: &[u64]) -> Result<(), 
     Ok(())
 }
 
-/// If `full`, appends a line that tells of the full history.
+/// If `full`, appends a line that says that the history is full.
 #[tactic(auto, unfolding(crate::specs::Imported::full_line))]
 fn put_full<A: Allocator>(text: &mut String<A>, full: bool) -> Result<(), Oom>
     ensures { OnOk result (string_bytes text.new ≡ string_bytes text.old ++ full_line full) }
@@ -76,7 +76,7 @@ fn put_full<A: Allocator>(text: &mut String<A>, full: bool) -> Result<(), Oom>
     Ok(text.push_str("presence_bench: the history is full: later steps are not in it\n")?)
 }
 
-/// Writes to `errors` a line for each line that was left out, and one more if `full`, the history is full. A failed
+/// Writes to `errors` a line for each line that was left out, and one more if the history is full (`full`). A failed
 /// write isn't a fault.
 fn tell_missing<A: Allocator, E: Write>(
     alloc: A,
@@ -116,8 +116,8 @@ pub struct Made<A: Allocator> {
     pub full: bool,
 }
 
-/// Whether the history of the bench has no place for one more step: a step needs two, one for its call and one for
-/// itself.
+/// Whether the bench has fewer than two free places, so that it can't take one more step: a step needs a place for its
+/// call and one for itself.
 fn is_full<'a, B: Allocator>(bench: &Bench<'a, B>) -> bool
     ensures { result ≡ is_full bench.now }
 {

@@ -149,7 +149,7 @@ pub fn read_run<'a, B: Allocator, R: Read, L: Ledger>(
         Ok(input) => input,
         Err(InputFault::ReadFault) => return Err(Fault::ReadFault),
         Err(InputFault::OutOfMemory) => return Err(Fault::OutOfMemory),
-        // `read_front` has no limit that it could refuse
+        // `read_front` cuts a long input off, and doesn't refuse it
         Err(InputFault::TooLong) => unreachable!(),
     };
     if begins_object(&input) {

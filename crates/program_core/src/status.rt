@@ -267,7 +267,7 @@ pub fn program_counted<
 }
 
 /// Like `program_counted`, but makes the count itself, from `blank`, and drops it. The words stand behind a second
-/// reference, since what is passed with a count must have a size.
+/// reference, since beside a `Blank` a reference must be to a type that is `Sized`.
 fn program_from<
     S: AsStr,
     B: Allocator + Sync,

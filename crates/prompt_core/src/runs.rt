@@ -181,8 +181,8 @@ fn put_told_sent<'a, B: Allocator>(
     put_sent_at(bench, alloc, answer, number, node)
 }
 
-/// Appends what a line with the first word `first` and then `words` prints of the run; the fault `kind`, if no line of
-/// the prompt's own begins so.
+/// Appends what a line with the first word `first` and then `words` prints of the run; the fault `kind`, if `first` is
+/// none of `:draw`, `:steps`, `:script` and `:sent`.
 #[tactic(auto, unfolding(crate::specs::Answers::run_word))]
 pub fn put_run<'a, B: Allocator>(
     prompt: &Prompt<'a, B>,

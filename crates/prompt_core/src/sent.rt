@@ -14,8 +14,7 @@ use report_core::{name_at, node, put_act};
 use std::alloc::Allocator;
 use transcript_core::is_sent_by;
 
-/// Moves `steps` on behind the next sending step of `node`, and gives that step; `None` if no further step of `node`
-/// sends.
+/// Moves `steps` past the next send of `node`, and gives that step; `None` if `steps` has no further one.
 fn next_sent<'x, 'a, B: Allocator>(
     steps: &mut Steps<'x, 'a, B>,
     node: u16,

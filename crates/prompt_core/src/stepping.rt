@@ -65,9 +65,9 @@ fn answer_each<'a, B: Allocator, R: Read, W: Write, E: Write, L: Ledger>(
 
 /// Reads line by line, and answers each line before it reads the next, to the end of the input or a line that is
 /// `:quit`. A line that a script can have is carried out as in a script. The prompt's own lines are answered; `:help`
-/// prints `help`. Any other line is answered by its fault, and changes nothing. If `has_signs`, it shows the number of
-/// the next step on `errors` before it reads a line, until that can't be written. `steps` counts the calls of `read`;
-/// callers that need neither the count nor signs use `step`.
+/// prints `help`. Any other line is answered by its fault, and changes nothing. If `has_signs`, shows the number of the
+/// next step on `errors` before each line, until it can't be written. `steps` counts the calls of `read`; callers that
+/// need neither the count nor signs use `step`.
 pub fn step_counted<B: Allocator, R: Read, W: Write, E: Write, L: Ledger>(
     heap: Global,
     alloc: &B,
@@ -107,8 +107,8 @@ pub fn step_counted<B: Allocator, R: Read, W: Write, E: Write, L: Ledger>(
     ended
 }
 
-/// Like `step_counted`, but shows no signs, makes the count itself, from `blank`, and drops it. The help stands behind
-/// a second reference, since what is passed with a count must have a size.
+/// Like `step_counted`, but shows no signs, makes the count itself, from `blank`, and drops it. `help` is a reference
+/// to a reference, since what is passed along with a count must have a known size.
 fn step_from<B: Allocator, R: Read, W: Write, L: Ledger>(
     heap: Global,
     alloc: &B,

@@ -3,8 +3,8 @@ use bench_core::{Act, Reply};
 use std::alloc::Allocator;
 use std::marker::Model;
 
-/// What a call was, what was answered, and at which place the history has it. Lines and places are numbered from 1.
-/// There is no place if the call wasn't recorded.
+/// A call with its reply, and the place of its event in the history; no place if the call wasn't recorded. Lines and
+/// places are numbered from 1.
 #[derive(Drop)]
 pub struct Receipt<A: Allocator> {
     pub actor: u16,

@@ -88,7 +88,7 @@ pub struct Known<'a, B: Allocator> {
     pub limits: Limits,
 }
 
-/// Vouches for a race, or says why it can't: `OutOfMemory` or else `LogsDisagree`.
+/// `Ok` if the race can be vouched for; otherwise why not: `OutOfMemory`, or else `LogsDisagree`.
 #[tactic(auto, using(crate::proofs::Interleaving::agrees_interleave, crate::proofs::Replies::agrees_replies))]
 fn vouch<'a, B: Allocator>(
     before: &Known<'a, B>,

@@ -1,4 +1,4 @@
-//! The parts of a session's head: its version, its names and its limits.
+//! What a session's head says, which is all but its acts: version, names and limits.
 ghost use Rattle.std.specs.Prelude.{◌≡◌, map};
 ghost use Rattle.serde_json.specs.View.{view, items_view, members_view};
 ghost use Rattle.json_core.specs.Decoded.{Gives};
@@ -94,8 +94,8 @@ pub(crate) struct Parts<A: Allocator> {
     pub(crate) names: Names<A>,
 }
 
-/// The limits and the names of a session, if its head has all four members and no other, each in its form; else
-/// `Shape`.
+/// The limits and the names of a session; `Shape` unless its head has the four members and no other, each in its form.
+/// Only that of `version` isn't checked here.
 #[tactic(auto, unfolding(crate::specs::Decoding::parts_at))]
 pub(crate) fn parts_at<'a, B: Allocator>(
     heap: Global,

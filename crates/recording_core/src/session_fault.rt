@@ -7,7 +7,7 @@ pub enum SessionFault {
     /// The bytes aren't JSON.
     #[error("NotJson")]
     NotJson,
-    /// The head, or this act, doesn't have the form that it has in a session.
+    /// The head, or this act, doesn't have the form that it has in a session, or the version has no such act.
     #[error("BadShape at act {act}")]
     BadShape { act: u64 },
     /// The number under `version` is neither 1 nor 2.

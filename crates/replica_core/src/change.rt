@@ -25,9 +25,9 @@ pub enum Change<A: Allocator> {
     Update(Left<A>),
     /// The name, and its status before, if it was known.
     Up { name: u16, before: Option<Status> },
-    /// The name, and its status before: a name that goes down was known.
+    /// The name, and its status before, which is never `None`: a name that goes down was known.
     Down { name: u16, before: Option<Status> },
-    /// The name, which was down, and what was held of it.
+    /// The name, which was down, and the dots and entries that the replica held of it.
     Permdown { name: u16, forgotten: Forgotten<A> },
     /// The dots whose entries joined, the entries that left, and the old parts of the names whose dots changed.
     Deliver(Delivered<A>),

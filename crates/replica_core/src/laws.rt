@@ -37,8 +37,8 @@ pub fn back_law()
     ensures { BackLaw }
 {}
 
-/// The change of a call tells what the call moved: the entries that left, the dots that joined, and the name that is up
-/// from then on, or no more.
+/// The change of a call tells what the call moved: the entries that left, the dots that joined, and the name that came
+/// up or is up no more.
 #[tactic(auto, using(crate::proofs::Moves::moves_hold))]
 pub fn moves_law()
     ensures { MovesLaw }

@@ -5,10 +5,10 @@
 //! own. It stands on `store_core` (a store with its delta), `payload_core` (words, entries, messages) and `dots_core`
 //! (sets of dots), and it names the plain types of the crates below. It knows nothing of outboxes, steps and clusters.
 //!
-//! The modules in reading order: `node_limits`, how much a node may hold; `status`, up or down; `view`, what is known
-//! of the names; `replica_fault`, why a call is refused; `change`, what a call destroyed; `replica`, and below it a
-//! module for each kind of call: `joins`, `leaves`, `process_leaves`, `updates`, `deliveries`, `statuses`, `deltas`;
-//! and `undone`, which takes a call back by its change; `laws`.
+//! The modules in reading order: `node_limits`, how much a node may hold; `status`, up or down; `view`, which names the
+//! replica knows, and which are up; `replica_fault`, why a call is refused; `change`, what a call destroyed; `replica`,
+//! and below it a module for each kind of call: `joins`, `leaves`, `process_leaves`, `updates`, `deliveries`,
+//! `statuses`, `deltas`; and `undone`, which takes a call back by its change; `laws`.
 #![tactic(auto)]
 
 mod change;

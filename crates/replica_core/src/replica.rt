@@ -1,4 +1,4 @@
-//! `Replica`: what one node has seen, holds, knows of the others' names, and has not sent yet.
+//! `Replica`: what one node has seen and holds, which names it knows, and what it has not sent yet.
 //!
 //! This module has the type and what is read of it. Below it are a module for each kind of call, and `undone`, which
 //! takes a call back by its change. A broadcast, which takes the delta out, is taken back in `deltas`.
@@ -29,10 +29,10 @@ use std::alloc::Allocator;
 use std::marker::Model;
 use store_core::DeltaStore;
 
-/// The replica of one node (Phoenix.Tracker.State, as sets; its dots are those of RR-8083). It has the dots that it has
-/// seen and the live entries among them, the statuses of the names that it knows, and the delta. The delta has the own
-/// dots that calls touched since the delta was last taken, with the live entries among these dots. A seen dot without
-/// an entry was removed.
+/// The replica of one node (Phoenix.Tracker.State, as sets; its dots are those of RR-8083). It has its own name and its
+/// limits, the dots that it has seen and the live entries among them, the statuses of the names that it knows, and the
+/// delta. The delta has the own dots that calls touched since the delta was last taken, with the live entries among
+/// these dots. A seen dot without an entry was removed.
 ///
 /// A contract sees the `Replica` of the definitions. A refused call leaves the replica unchanged.
 #[derive(Drop)]
@@ -121,7 +121,7 @@ impl<A: Allocator> Replica<A> {
         !self.stores.delta_seen().is_empty()
     }
 
-    /// Whether the two have the same name, limits, dots, entries, statuses and delta. It takes no memory.
+    /// Whether both have the same own name, limits, dots, entries, statuses and delta. It takes no memory.
     pub fn same(&self, other: &Replica<A>) -> bool
         ensures { IsTrue result ↔ (self.now ≡ other.now) }
     {
@@ -182,7 +182,7 @@ impl<A: Allocator + Copy> Replica<A> {
         }
     }
 
-    /// A copy of the replica.
+    /// A copy of the replica, without the store's index of own entries.
     pub fn try_copy(&self) -> Result<Replica<A>, Oom>
         ensures { IfOk result (λ copy. copy ≡ self.now) }
     {

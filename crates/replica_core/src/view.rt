@@ -81,7 +81,7 @@ impl View {
         self.up = self.up.without(name);
     }
 
-    /// Forgets the name.
+    /// Forgets the name. If it isn't known, nothing changes.
     pub fn forget(&mut self, name: u16)
         requires { name < 32 }
         ensures { self.new ≡ fin.remove self.old name }

@@ -143,8 +143,8 @@ fn put_step_undone<A: Allocator, N: Allocator, R: Allocator>(
     end(text, &line)
 }
 
-/// Makes an act, and appends its reply and how it changed the online list of its node. If it undoes a step, `undone`
-/// says how that step had changed the list.
+/// Makes an act, and appends its reply and how it changed the online list of the node whose step it took or took back.
+/// If it undoes a step, `undone` says how that step had changed the list.
 fn put_come_to<'a, B: Allocator>(
     text: &mut String<&'a B>,
     bench: &mut Bench<'a, B>,
@@ -167,7 +167,7 @@ fn put_come_to<'a, B: Allocator>(
     }
 }
 
-/// Makes an act, and appends its reply and how it changed the online list of its node.
+/// Makes an act, and appends its reply and how it changed the online list of the node whose step it took or took back.
 pub fn act<'a, B: Allocator>(
     alloc: &'a B,
     text: &mut String<&'a B>,

@@ -1,5 +1,5 @@
-//! What is printed of a bench: acts and what they changed of online lists, unwinds, steps, lists and sets of dots. What
-//! is printed is appended to a text.
+//! What is printed of a bench: acts and how they changed online lists, unwinds, steps, lists and sets of dots. Here, to
+//! print is to append to a text.
 //!
 //! It stands on `bench_core` (the machine) and `diff_core` (online lists), and on the kit's `arrayvec` and `itoa`:
 //! short texts and digits that take no memory. It names the plain types of the crates below, and cites laws of

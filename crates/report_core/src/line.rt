@@ -1,4 +1,4 @@
-//! `Line`: the end of a text, gathered in place, so that many short parts are appended to the text at once.
+//! `Line`: the end of a text, gathered in place, so that many short pieces are appended to the text at once.
 ghost use Rattle.std.specs.Prelude.{◌≡◌, ◌+◌, ◌≤◌, [], ◌++◌, OnOk, codes, decimal, length, string_bytes};
 ghost use Rattle.arrayvec.specs.ArrayString.{array_string_len};
 ghost use Rattle.report_core.specs.Rows.{parts_text, reply_line};
@@ -39,7 +39,7 @@ fn flush<A: Allocator>(text: &mut String<A>, line: &mut Line) -> Result<(), Oom>
     Ok(())
 }
 
-/// Appends a part to the line, if there is room. Else appends the line and then the part to the text, and empties the
+/// Appends `part` to the line, if there is room. Else appends the line and then `part` to the text, and empties the
 /// line.
 #[inline(always)]
 pub(crate) fn put_part<A: Allocator>(

@@ -147,8 +147,8 @@ fn undo_one<'a, B: Allocator>(
     add_at(moved, node, step)
 }
 
-/// Undoes the steps with these numbers in turn, which must be possible, and gives for each node how that changed its
-/// online list.
+/// Undoes the steps with these numbers in turn, which must be possible, and gives for each node the rows that left and
+/// joined its online list in these undos.
 pub fn undo_each<'a, B: Allocator>(
     bench: &mut Bench<'a, B>,
     actor: u16,

@@ -14,7 +14,7 @@ use std::alloc::Allocator;
 use std::marker::Model;
 use std::mem::replace;
 
-/// Who may act, and the bench; both are `None` until the nodes are named.
+/// Who may act, and the bench. Both are `None` until the nodes are named, and the bench while memory for it is refused.
 #[derive(Drop)]
 pub struct Prompt<'a, B: Allocator> {
     alloc: &'a B,
@@ -47,7 +47,7 @@ impl<'a, B: Allocator> Prompt<'a, B> {
         }
     }
 
-    /// The bench; `None` until the nodes are named.
+    /// The bench; `None` until the nodes are named, and while memory for it is refused.
     pub fn bench(&self) -> Option<&Bench<'a, B>>
         ensures { option_copied result ≡ self.now.machine }
     {

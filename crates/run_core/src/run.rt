@@ -9,7 +9,7 @@ use payload_core::Oom;
 use report_core::{act, node, put_dots, put_journal, show, unwind, why};
 use std::alloc::Allocator;
 
-/// Carries out a command on the bench, and appends its part of the report to the text.
+/// Carries out a command on the bench, and appends what the command prints to the text.
 #[tactic(auto, unfolding(crate::specs::Report::command_text, crate::specs::Report::after_command))]
 pub fn command<'a, B: Allocator>(
     text: &mut String<&'a B>,
@@ -30,7 +30,7 @@ pub fn command<'a, B: Allocator>(
     }
 }
 
-/// Carries out the commands of the lines in turn, and appends their parts of the report to the text.
+/// Carries out the commands of the lines in turn, and appends what they print to the text.
 #[tactic(auto, unfolding(crate::specs::Report::commands_text, crate::specs::Report::after_commands))]
 pub fn lines<'a, B: Allocator>(
     text: &mut String<&'a B>,

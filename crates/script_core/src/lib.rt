@@ -2,7 +2,7 @@
 //!
 //! It stands on `grammar_core` (scripts as they are read), `run_core` (scripts run on a bench) and `stream_core` (whole
 //! inputs, all bytes to a writer), and names the plain types of the crates below. It exports again what its users need
-//! of these three, `stream_core`'s reader and writer that fail among them, which are for tests.
+//! of these three, and for tests the reader and the writer of `stream_core` that fail.
 //!
 //! The modules in reading order: `play_fault`, why a play ends early; `playing`, a script from a reader to a writer.
 #![tactic(auto)]

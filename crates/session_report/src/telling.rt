@@ -27,7 +27,7 @@ fn has_reply<'a, B: Allocator>(history: &History<'a, B>, place: usize, reply: Re
 }
 
 /// Asks the event's call, appends what it prints, and says whether the bench gave the reply that the event has, and
-/// recorded it.
+/// recorded the call.
 #[tactic(auto, unfolding(run_core::specs::Report::command_text, run_core::specs::Report::after_command))]
 fn tell_next<'a, B: Allocator>(
     text: &mut String<&'a B>,

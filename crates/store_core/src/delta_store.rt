@@ -3,13 +3,13 @@
 //! It has the own name, the dots that were seen, the live entries among them, and the delta. The delta has the own dots
 //! that edits touched since the delta was last taken, with the live entries among these dots. A contract sees the plain
 //! `DeltaStore`, two stores of dots and entries. `IsDeltaStore` says what each `DeltaStore` keeps, so that no edit
-//! requires it. These are its clauses: Seen dots are valid, and the own ones are those with the clocks from 1 to the
-//! own clock. An entry's dot was seen. The delta's dots are own and were seen, and its entries are live. So the fresh
-//! dot is new to the store and to the delta, and neither has an own dot above the last one. A method that takes an edit
-//! back requires one thing: that the edit can be taken back (`CanBeRestored` and its like).
+//! requires it. These are its clauses: The own name is below 32. Seen dots are valid, and the own ones are those with
+//! the clocks from 1 to the own clock. An entry's dot was seen. The delta's dots are own and were seen, and its entries
+//! are live. So the fresh dot is new to the store and to the delta, and neither has an own dot above the last one. A
+//! method that takes an edit back requires that the edit can be taken back (`CanBeRestored` and its like).
 //!
-//! Each edit is a method, in the module of its kind. As long as memory may be refused, the method calls functions that
-//! edit single fields. An entry may then stand in the delta alone, which no `DeltaStore` may have.
+//! Each edit is a method, in the module of its kind. In the middle of an edit an entry may stand in the delta alone,
+//! which no `DeltaStore` may have. So the method calls functions that take single fields, and not the `DeltaStore`.
 ghost use Rattle.std.specs.Prelude.{◌≡◌, ◌↔◌, ◌<◌, ◌≤◌, IfOk, IsTrue};
 ghost use Rattle.store_core.specs.DeltaStores.{empty, fresh, last, own_clock};
 
@@ -18,7 +18,7 @@ use payload_core::EntrySet;
 use std::alloc::Allocator;
 use std::marker::Model;
 
-/// The dots that were seen, with the live entries among them, and the delta of the own name.
+/// The own name, the dots that were seen with the live entries among them, and the delta.
 #[derive(Drop)]
 pub struct DeltaStore<A: Allocator> {
     pub(crate) own: u16,

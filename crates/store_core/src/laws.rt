@@ -14,8 +14,8 @@ pub fn order_law()
     ensures { OrderLaw }
 {}
 
-/// After a merge each dot of the names has the greater of two standings: its old one, and the one in the store that is
-/// merged in (0 unseen, 1 live, 2 gone). Each other dot keeps its standing.
+/// After a merge of some names each dot of these names has the greater of two standings: its old one, and the one in
+/// the store that is merged in (0 unseen, 1 live, 2 gone). Each other dot keeps its standing.
 #[tactic(auto, using(crate::proofs::StoreMerges::standing_holds))]
 pub fn standing_law()
     ensures { StandingLaw }

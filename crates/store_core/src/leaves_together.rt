@@ -21,8 +21,8 @@ use std::alloc::Allocator;
 
 impl<A: Allocator + Copy> DeltaStore<A> {
     /// Takes out the own entries at these dots, also from the delta, which gains these dots and a fresh one for each.
-    /// The fresh dots are seen, too. What was destroyed is returned, for `restore_each`. An `Err` changes nothing. A
-    /// copy of the delta's dots is edited, so that all that may be refused comes first.
+    /// The fresh dots are seen, too. What was destroyed is returned, for `restore_each`. An `Err` changes nothing. The
+    /// call edits a copy of the delta's dots, so that nothing must be put back if memory is refused.
     pub fn leave_each(&mut self, dots: &[Dot]) -> Result<Vec<Left<A>, A>, Oom>
         requires own { AreOwn dots.now self.old }
         requires free { own_clock self.old + length dots.now ≤ 1000000000 }
@@ -48,9 +48,9 @@ impl<A: Allocator + Copy> DeltaStore<A> {
         Ok(lefts)
     }
 
-    /// Takes back leaves that were made together: puts back the entries that left, in the delta, too, if they stood
-    /// there, and removes as many of the last own dots. If memory is refused, `lefts` comes back, and nothing changes.
-    /// Like `leave_each`, it edits a copy of the delta's dots.
+    /// Takes back leaves that were made together: puts back the entries that left, in the delta those that it had, and
+    /// removes one of the last own dots for each. The delta loses the dots of these entries that it didn't have before
+    /// the leaves. If memory is refused, `lefts` comes back, and nothing changes. It copies the delta's dots.
     pub fn restore_each(&mut self, lefts: Vec<Left<A>, A>) -> Result<(), (Vec<Left<A>, A>, Oom)>
         requires { CanAllBeRestored lefts.items self.old }
         ensures ok { OnOk result (self.new ≡ with_lefts lefts.items self.old) }
@@ -103,7 +103,7 @@ fn lefts_at<A: Allocator + Copy>(
     Ok(found)
 }
 
-/// A copy of `seen` with `dots`, and with as many dots of `name`: those whose clocks follow `clock`.
+/// A copy of `seen` with `dots` and, for each of these, a further dot of `name`, with the clocks that follow `clock`.
 fn copy_with<A: Allocator + Copy>(
     seen: &DotSet<A>,
     dots: &[Dot],
@@ -155,8 +155,8 @@ fn see_next<A: Allocator>(
     Ok(())
 }
 
-/// Takes the entries of `found` out of `entries`. It moves those that were there into `lefts`, an empty list with room
-/// for them, and gives `lefts`.
+/// Takes the entries of `found` out of `entries`. It moves each `Left` whose entry was there into `lefts`, an empty
+/// list with room for all of `found`, and returns `lefts`.
 fn take_lefts<A: Allocator>(
     entries: &mut EntrySet<A>,
     found: Vec<Left<A>, A>,
@@ -197,8 +197,8 @@ fn put_lefts_back<A: Allocator + Copy>(
     Ok(())
 }
 
-/// A copy of `seen` without the dots of the name whose clocks follow `clock`, as many as there are `lefts`. The dots of
-/// the entries that left are taken out, too, unless the delta had them before.
+/// A copy of the delta's `seen` without the dots of the name whose clocks follow `clock`, one for each of `lefts`, and
+/// without the dots of those entries that left whose dots the delta didn't have before.
 fn copy_without<A: Allocator + Copy>(
     seen: &DotSet<A>,
     name: u16,

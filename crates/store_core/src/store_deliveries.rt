@@ -55,14 +55,16 @@ impl<A: Allocator> Model for Delivered<A> {
 }
 
 impl<A: Allocator + Copy> DeltaStore<A> {
-    /// Handles of the message's entries of these names that join, by rising dot.
+    /// Handles of the message's entries that join, by rising dot: those of these names at dots that the store hasn't
+    /// seen.
     pub fn joining(&self, message: &Payload<A>, names: NameSet) -> Result<Vec<Handle<A>, A>, Oom>
         ensures { IfOk result (λ joining. pairs joining.items ≡ fin.entries (arrivals (set.contains names) (store_of message.now) self.now.store)) }
     {
         message.entries().joining(&self.seen, names)
     }
 
-    /// The dots of the store's entries of these names that leave by the message, rising.
+    /// The dots of the store's entries that leave, rising: those of these names whose dots the message has without an
+    /// entry.
     pub fn leaving(&self, message: &Payload<A>, names: NameSet) -> Result<Vec<Dot, A>, Oom>
         ensures { IfOk result (λ leaving. leaving.items ≡ fin.keys (departures (set.contains names) (store_of message.now) self.now.store)) }
     {
@@ -70,10 +72,10 @@ impl<A: Allocator + Copy> DeltaStore<A> {
             .leaving(message.entries(), message.seen(), names)
     }
 
-    /// Merges what the message has of these names. Puts in `joining`, adds the message's dots to the seen ones, and at
-    /// last takes out the entries at `leaving`, which needs no memory. `joining` and `leaving` are what the methods
-    /// `joining` and `leaving` answered. The delta stays. What was destroyed is returned, for `undeliver`. An `Err`
-    /// changes nothing.
+    /// Merges what the message has of these names: puts in `joining`, adds the message's dots of these names to the
+    /// seen ones, and takes out the entries at `leaving`. `joining` and `leaving` are what the methods `joining` and
+    /// `leaving` answered for the same message and names. The delta stays. What was destroyed is returned, for
+    /// `undeliver`. An `Err` changes nothing.
     pub fn merge(
         &mut self,
         message: &Payload<A>,

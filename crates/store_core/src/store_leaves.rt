@@ -86,7 +86,8 @@ impl<A: Allocator + Copy> DeltaStore<A> {
     }
 
     /// Takes a leave or an update back: removes the last own dot, with its entry if it has one, and puts back the entry
-    /// that left. If memory is refused, `left` comes back, and nothing changes.
+    /// that left, also into the delta if the delta had it. The delta loses the entry's dot if it didn't have the dot
+    /// before. If memory is refused, `left` comes back, and nothing changes.
     pub fn restore(&mut self, left: Left<A>) -> Result<(), (Left<A>, Oom)>
         requires { CanBeRestored left self.old }
         ensures ok { OnOk result (self.new ≡ with_left left self.old) }

@@ -38,8 +38,8 @@ pub(crate) fn actor_name<'t, N: Allocator, C: Allocator>(
     console_at(consoles, actor as usize - nodes.len())
 }
 
-/// How many consoles there must be, if there are `nodes` nodes, for `actor` to be a node's or a console's number;
-/// `count` if that is more.
+/// How many consoles must stand beside `nodes` nodes so that `actor` is the number of a node or a console; `count` if
+/// that is more.
 fn with_actor(nodes: usize, count: usize, actor: u16) -> usize
     ensures { result ≡ with_actor nodes count actor }
 {
@@ -48,7 +48,7 @@ fn with_actor(nodes: usize, count: usize, actor: u16) -> usize
     if count < needed { needed } else { count }
 }
 
-/// How many consoles the recorded calls need: up to the last one that asked something.
+/// How many consoles the recorded calls need: up to the one with the greatest number that asked something.
 fn console_count<'a, B: Allocator>(nodes: usize, history: &History<'a, B>) -> usize
     ensures { result ≡ console_count nodes history.now }
 {
@@ -102,8 +102,8 @@ fn named_consoles<A: Allocator + Copy, N: Allocator>(
     Ok(consoles)
 }
 
-/// Names for the consoles of a bench, up to the last one that asked something: `c1`, `c2` .., without those that a node
-/// has. The bench knows its consoles by number alone.
+/// Names for the consoles of a bench, up to the one with the greatest number that asked something: `c1`, `c2` ..,
+/// without those that a node has, and none behind `c48`. The bench knows its consoles by number alone.
 #[tactic(auto, unfolding(crate::specs::Actors::free_consoles))]
 pub fn free_consoles<'a, B: Allocator>(
     alloc: &'a B,

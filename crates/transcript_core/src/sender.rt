@@ -8,7 +8,7 @@ ghost use Rattle.transcript_core.specs.Senders.{is_sent};
 use bench_core::{Journal, Kept, Step};
 use std::alloc::Allocator;
 
-/// Whether a step is a sending step of `node`.
+/// Whether a step is a send of `node`.
 pub fn is_sent_by<A: Allocator>(kept: &Kept<A>, node: u16) -> bool
     ensures { result ≡ is_sent kept.now node }
 {
@@ -36,8 +36,8 @@ pub fn sender_of<'a, B: Allocator>(journal: &Journal<'a, B>, node: u16, message:
     None
 }
 
-/// The number of the remaining step that sent what `step` delivers; `None` if `step` delivers nothing, or the sending
-/// step doesn't remain.
+/// The number of the remaining step that sent the message which `step` delivers; `None` if `step` delivers none, or no
+/// such step remains.
 pub fn source_of<'a, B: Allocator, W: Allocator>(
     journal: &Journal<'a, B>,
     step: &Step<W>,

@@ -1,5 +1,5 @@
-//! `Difference`: changes of the same step and kind that lead to the same rows; and `Tally`, the count of the changes
-//! that were tried.
+//! `Difference`: changes of the same step and kind that lead to the same rows; and `Tally`, what the changes tried so
+//! far come to.
 ghost use Rattle.std.specs.Prelude.{◌≡◌, ◌<◌, ◌+◌, ◌==◌, ◌&&◌, OnOk, option_map};
 ghost use Rattle.whatif_core.specs.Differences.{are_same, counted, is_with, nearest_change, nothing, place_with, told_too};
 

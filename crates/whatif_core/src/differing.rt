@@ -20,7 +20,7 @@ use std::alloc::Allocator;
 /// What would have made a difference.
 #[derive(Drop)]
 pub struct Differences<A: Allocator> {
-    /// The rows that the node shows at the end of the recorded run.
+    /// The rows with the topic and key that the node shows at the end of the recorded run.
     pub before: Vec<OnlineRow<A>, A>,
     /// How many changes can be made to the run.
     pub tried: usize,

@@ -78,8 +78,8 @@ fn script_with<'a, B: Allocator>(
     }
 }
 
-/// The run with the nearest of the changes that have this number in the text, as a script that plays it.
-/// `NoSuchChange` if there are none.
+/// The run with the nearest of the changes that have this number in the text, as a script that plays it. `NoSuchNode`
+/// and `NoWord` as in `whatif_asked`, and else `NoSuchChange` if no change has the number.
 pub fn run_with_change<'a, B: Allocator, W: Watch<Tried>>(
     alloc: &'a B,
     bench: &Bench<'a, B>,

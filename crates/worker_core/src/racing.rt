@@ -45,10 +45,11 @@ fn asked<'a, B: Allocator + Sync, G: Gate + Sync, R: Threads + Wait + Sync>(
     (shared.into_inner(), told)
 }
 
-/// Asks the bench the lines: each actor's in their order, on a thread for that actor. Then compares what the workers
-/// tell with the history. Lines are numbered from 1. `UnknownActor` and then `NoRoom` come before anything is done;
-/// after `WorkerRefused` no line was asked; `OutOfMemory` may come before the workers start or after; `LogsDisagree`
-/// comes last. All that is promised holds if `race` returns.
+/// Asks the bench the lines, each actor's in their order on a thread of its own, and compares what the workers tell
+/// with the history. Actors are numbered from 0, and lines from 1. The bench comes back with a fault, too.
+/// `UnknownActor` and then `NoRoom` come before anything is done; after `WorkerRefused` no line was asked;
+/// `OutOfMemory` may come before the workers start or after; `LogsDisagree` comes last. All that is promised holds if
+/// `race` returns.
 pub fn race<'a, B: Allocator + Sync, G: Gate + Sync, R: Threads + Wait + Sync>(
     rt: &R,
     alloc: &'a B,

@@ -10,7 +10,8 @@ use std::thread;
 use std::thread::{JoinHandle, Scope, Threads};
 
 // form: over any act and receipt, as a thread's closure gets no proof if its types name the bench's lifetime
-/// What workers share under a lock; `race` shares the bench. Asked the act of an actor's line, it gives a receipt.
+/// What workers share under a lock: in `race`, the bench. `ask_line` asks it the act of an actor's line, and gives the
+/// receipt.
 pub(crate) trait Shared<L, T> {
     fn ask_line(&mut self, actor: u16, number: u64, act: L) -> T;
 }
@@ -66,8 +67,8 @@ fn ask_alone<L, T, S: Shared<L, T>, R: Wait>(
     bench.ask_line(actor, number, act)
 }
 
-/// Asks each line that it takes from the slot's channel, until the channel is closed and empty. Gives the receipts, for
-/// which the slot has room; if one were lost, `agree` would miss it.
+/// Asks each line that it takes from the slot's channel, between the two calls of the gate, until the channel is closed
+/// and empty. Gives the receipts, for which the slot has room; if one were lost, `agree` would be false.
 fn work<L: Drop, T: Drop, A: Allocator + Clone, S: Shared<L, T>, G: Gate, R: Wait>(
     rt: &R,
     shared: &Mutex<S>,
@@ -258,8 +259,8 @@ fn prepared_for<L: Drop, T: Drop, A: Allocator + Copy>(
     Ok(prepared)
 }
 
-/// Sends each line to its worker, with its number, counted from 1. If a line were lost, `agree` would miss its receipt.
-/// The channels are dropped at the end, so the workers know that no more lines come.
+/// Sends each line to its worker, with its number, counted from 1. If a line were lost, its receipt would be missing,
+/// and `agree` false. The channels are dropped at the end, so the workers know that no more lines come.
 fn send_all<L: Drop, A: Allocator + Clone, R: Wait>(
     rt: &R,
     channels: Channels<L, A>,

@@ -33,7 +33,7 @@ impl<A: Allocator + Copy> Replica<A> {
     }
 }
 
-/// The dots of the process's own entries, by rising clock.
+/// The dots of the replica's own entries of this process, by rising clock.
 fn dots_of_process<A: Allocator + Copy>(replica: &Replica<A>, pid: u64) -> Result<Vec<Dot, A>, Oom>
     ensures dots { IfOk result (λ leaving. leaving.items ≡ dots_of_process replica.now pid) }
     ensures own { IfOk result (λ leaving. AreOwnSeen leaving.items replica.now) }

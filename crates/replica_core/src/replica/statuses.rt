@@ -52,8 +52,8 @@ impl<A: Allocator> Replica<A> {
         self.view.put(name, before);
     }
 
-    /// Puts back `forgotten`, the dots and entries that were held of the name, which is then down. If memory is
-    /// refused, `forgotten` comes back, and nothing changes.
+    /// Puts back `forgotten`, the dots and entries that the replica held of the name, and makes the name known and
+    /// down. If memory is refused, `forgotten` comes back, and nothing changes.
     pub(super) fn remember(
         &mut self,
         name: u16,

@@ -20,7 +20,8 @@ impl Gate for Idle {
 }
 
 /// A gate that lets lines pass in a given order: it holds a line until the line before it in that order has passed. It
-/// counts its calls for each line, and its calls that name another actor than the line's, and notes whether it gave up.
+/// counts how often it is called for each line, and how often with another actor than the line's, and notes whether it
+/// gave up.
 #[derive(Drop)]
 pub struct InOrder<R> {
     rt: R,

@@ -26,7 +26,7 @@ fn memory_explains<'a>(refused: (RaceFault, Bench<'a, Heap>)) -> bool {
 
 /// Races with request `number` for memory refused, and says whether there was such a request. If the race is refused,
 /// there must have been such a request, and `memory_explains` must hold. Otherwise the race is vouched for: there was
-/// no such request, or the refused room had been made before.
+/// no such request, or the race went on without that memory.
 fn refused<R: Threads + Wait + Abort + Sync>(rt: &R, heap: &Heap, number: u64) -> bool {
     let lines = lines_of(heap, UNDONE_BESIDE, rt);
     let bench = open(heap, 100, rt);
@@ -70,8 +70,8 @@ impl<'a, B: Allocator> Shared<(u16, Act<&'a B>), Receipt<&'a B>> for Bench<'a, B
     }
 }
 
-/// Asks the lines, numbered from `from + 1` on, each under its own hold of the lock. Appends their receipts to
-/// `receipts`.
+/// Asks the lines, numbered from `from + 1` on, and takes the lock anew for each. Gives `receipts` with their receipts
+/// appended.
 fn ask_many<L: Drop, T: Drop, A: Allocator + Copy, S: Shared<L, T>, R: Wait + Abort>(
     rt: &R,
     shared: &Mutex<S>,
