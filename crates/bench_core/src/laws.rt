@@ -29,13 +29,13 @@ pub fn headline_law()
     ensures refused_only_for_a_named_consequence { UndoLaw }
 {}
 
-/// If the inverses lead back along the run of the remaining steps, each node's inverses, newest first, lead from its
-/// present state back to its opening.
+/// If the inverses lead back along the run of the remaining steps, each node's inverses, newest first, lead from what
+/// the node is now back to the empty node.
 pub fn chain_law()
     ensures { ChainLaw }
 {}
 
-/// Three laws of each machine that calls reach from the opening. The undos of a step's future are all made, greatest
+/// Three laws of each machine that calls lead to from the opening. The undos of a step's future are all made, greatest
 /// number first. Any undos and backs that take the step back take back its whole future. Undos that are all made don't
 /// change a node if they undo none of its steps.
 pub fn unwind_law()
@@ -60,8 +60,8 @@ pub fn delivery_law()
     ensures repeated { RepeatLaw }
 {}
 
-/// If the recorded calls of a machine that calls reach from the opening are made again, each gets its old reply and is
-/// recorded, and they lead to the same state. None of these replies is `OutOfMemory`.
+/// Let calls lead from the opening to a machine. If its recorded calls are made again from the opening, each gets its
+/// old reply and is recorded, and they lead to the same state. None of these replies is `OutOfMemory`.
 pub fn replay_law()
     ensures replayed { ReplayLaw }
     ensures no_memory { NoMemoryLaw }

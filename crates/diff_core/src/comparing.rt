@@ -8,7 +8,8 @@ use crate::row_diff::Diff;
 use payload_core::Oom;
 use std::alloc::Allocator;
 
-/// How two online lists differ. Each side of the difference takes a pass over both lists.
+/// How two online lists, both in order, differ: `left` has the rows that only `before` has, `joined` those that only
+/// `after` has. Each takes one pass over both lists.
 pub fn diff<A: Allocator + Copy>(
     alloc: A,
     before: &[OnlineRow<A>],

@@ -89,8 +89,9 @@ fn limits(spelled: &str) -> io::Result<Limits> {
     Limits::new(acts, entries, clock, messages).ok_or(no_form())
 }
 
-/// Sets what the first word of the text names. That is how much of the input is read and how it ends, whether it is a
-/// terminal, how much output goes out and how it is compared, or the limits.
+/// Sets what the first word of the text names: that a read fails at the end of the input (`fails`), that the case has
+/// only the beginning of the output (`begins`), that the input is a terminal, how many bytes the output takes (`room`),
+/// the limits, or how many bytes of the input the program gets (`front`).
 fn set(case: &mut Case, text: &str) -> io::Result<()> {
     let (name, rest) = text.split_once(' ').unwrap_or((text, ""));
     match name {

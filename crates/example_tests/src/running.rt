@@ -78,7 +78,7 @@ fn is_same(rt: &HostRuntime, place: &str, written: &[u8], expected: &[u8]) -> io
     Ok(false)
 }
 
-/// The part of the output that the case compares: all of it, or as many bytes as are expected of its beginning.
+/// The part of the output that the case compares: all of it, or, if the case `begins`, as many bytes as the case has.
 fn looked_at<'a>(case: &Case, written: &'a [u8]) -> &'a [u8] {
     if !case.begins {
         return written;

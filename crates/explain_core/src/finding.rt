@@ -85,8 +85,8 @@ impl Hop {
         matches!(self.kind, Kind::Sent) && self.standing.is_same(wanted)
     }
 
-    /// Whether the step is of this kind, and a reason why the dot doesn't stand as `wanted` at the node. For `Came` the
-    /// answer is that for `Sent`.
+    /// Whether the step is of this kind, and `missing` may name it if the dot doesn't stand as `wanted` at the node.
+    /// For `Came` the answer is that for `Sent`.
     fn is_why(&self, kind: Kind, node: u16, wanted: Standing) -> bool
         ensures { result ≡ is_why kind node wanted self.now }
     {
@@ -120,7 +120,7 @@ fn chain<A: Allocator>(alloc: A, hops: &[Hop], by: Option<u64>) -> Result<Vec<u6
     Ok(numbers)
 }
 
-/// The numbers of the steps of this kind that are reasons why the dot doesn't stand as `wanted` at the node.
+/// The numbers of the steps of this kind that `missing` may name if the dot doesn't stand as `wanted` at the node.
 fn numbers_of<A: Allocator>(
     alloc: A,
     hops: &[Hop],

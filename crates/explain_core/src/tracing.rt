@@ -69,7 +69,7 @@ fn untraced<'a, B: Allocator>(
     Ok(traced)
 }
 
-/// Follows each dot over a step, and so each track in `traced`. `asked` is the bench after the step.
+/// Follows the dot of each presence in `traced` over a step. `asked` is the bench after the step.
 fn follow_step<'a, B: Allocator>(
     asked: &Bench<'a, B>,
     traced: &mut [Traced<&'a B>],

@@ -43,7 +43,7 @@ pub struct Explored<'a, B: Allocator> {
     pub states: usize,
 }
 
-/// What a plan has besides its steps: their turns, their ranks, and which names matter where.
+/// What `parts_of` works out for a plan: the turns and ranks of its steps, and which names matter where.
 #[derive(Drop)]
 struct Parts<'a, B: Allocator> {
     turns: Vec<Turn, &'a B>,

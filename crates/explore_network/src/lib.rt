@@ -5,12 +5,12 @@
 //! of such runs), `change_core` (copies of steps), `bench_core` (benches and clusters), `diff_core` (online lists) and
 //! `progress_core` (how far the walk has come). It names the plain types of the crates below.
 //!
-//! The modules in reading order: `question`, `shown` and `outcome`, what counts as the same outcome; `turns`, of which
-//! turn each step is, and `counts`, how often each turn came; `playing`, runs that are played; `steps`, how many
-//! entries steps make, and the places of steps; `asked`, which dots a question is about, and `rounds`, which names
-//! matter where; `plan`, what all runs have in common; `table`, which states are known; `first`, the step that can be
-//! taken first; `explore_fault`, why there are no outcomes; `walk`, the walk over all runs; `exploring`, the whole
-//! search.
+//! The modules in reading order: `question`, `shown` and `outcome`, what counts as the same outcome; `turns`, the turn
+//! to which each step belongs, and `counts`, how often each turn came; `playing`, runs that are played; `steps`, how
+//! many entries steps make, and the places of steps; `asked`, which dots a question is about, and `rounds`, which names
+//! matter where; `plan`, what all runs have in common; `table`, the states that the walk is done with; `first`, the
+//! step that can be taken first; `explore_fault`, why there are no outcomes; `walk`, the walk over all runs;
+//! `exploring`, the whole search.
 #![tactic(auto)]
 
 mod asked;

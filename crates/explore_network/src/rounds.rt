@@ -50,7 +50,7 @@ fn add(names: &mut [NameSet], index: usize, more: NameSet) -> bool {
 }
 
 /// Edits `carries`: what matters to `node` before its first own step matters in message `number` of `sender`, too, as
-/// the node may take it then. Adds these names there, and says whether any is new.
+/// the node may take the message then. Adds these names there, and says whether any is new.
 fn widen_message(
     matters: &[NameSet],
     carries: &mut [NameSet],

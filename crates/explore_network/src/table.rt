@@ -1,4 +1,4 @@
-//! `Table`: the keys of the states from which all outcomes were found.
+//! `Table`: the keys of the states from which the walk has found all outcomes.
 ghost use Rattle.std.specs.Prelude.{◌≡◌, ◌⊎◌, ◌++◌, ◌∷◌, [], IsTrue, OnOk, length};
 ghost use Rattle.explore_network.specs.Keys.{IsAmong};
 
@@ -9,7 +9,7 @@ use std::alloc::Allocator;
 use std::hash::{BuildHasherDefault, FoldHasher};
 use std::marker::Model;
 
-/// The keys of the states from which all outcomes were found.
+/// The keys of the states from which the walk has found all outcomes.
 #[derive(Drop)]
 pub(crate) struct Table<'a, B: Allocator> {
     known: IndexSet<Key<&'a B>, BuildHasherDefault<FoldHasher>, &'a B>,

@@ -39,7 +39,7 @@ pub(crate) struct Walk<'a, B: Allocator> {
     pub(crate) cluster: Cluster<'a, B>,
     /// The places, among the recorded steps, of the steps that led to the cluster.
     pub(crate) path: Vec<usize, &'a B>,
-    /// The keys of the states from which all outcomes were found.
+    /// The keys of the states from which the walk has found all outcomes.
     pub(crate) settled: Table<'a, B>,
     pub(crate) outcomes: Vec<Outcome<'a, B>, &'a B>,
 }

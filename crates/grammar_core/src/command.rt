@@ -97,7 +97,7 @@ fn journal_of<A: Allocator>(words: &[&str]) -> Result<Command<A>, FaultKind>
 }
 
 /// Reads a line behind the `nodes` line: `first` is its first word, `rest` the words behind that one. `Twice` if
-/// `first` is `nodes` or `consoles`; `add_consoles` reads a `consoles` line.
+/// `first` is `nodes` or `consoles`; the caller gives a `consoles` line to `add_consoles` instead.
 #[tactic(auto, unfolding(crate::specs::Grammar::command_by))]
 pub fn command_of<A: Allocator + Copy>(
     alloc: A,

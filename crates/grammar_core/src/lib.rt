@@ -3,7 +3,7 @@
 //! It stands on `bench_core` (names and acts), and on the kit's `memchr` and `smallvec`: lines and words are found in
 //! place, and the words of most lines take no memory. It names the plain types of the crates below.
 //!
-//! The modules as data flows: `words`, the lines and words of bytes; `keyword`, the words with a meaning; `cast`, the
+//! The modules as data flows: `words`, the lines and words of bytes; `keyword`, the keywords and verbs; `cast`, the
 //! nodes and consoles; `steps` and `command`, what a line asks; `script`, a script that was read, and `parse`, which
 //! reads it; `fault`, why a script is refused.
 #![tactic(auto)]

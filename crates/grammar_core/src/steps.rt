@@ -32,8 +32,8 @@ fn number_at(digits: &str) -> Result<u64, FaultKind>
     number_of(digits).ok_or(FaultKind::BadNumber)
 }
 
-/// Reads a word as a topic, key or metadata. The word isn't empty and its bytes are visible, so its only fault is
-/// `TooLong`.
+/// Reads a word as a topic, key or metadata. The word isn't empty and its bytes are visible, so nothing but its length
+/// (`TooLong`) can be wrong with it.
 #[tactic(auto, unfolding(crate::specs::Grammar::word_at))]
 fn word_at<A: Allocator + Clone>(alloc: A, word: &str) -> Result<Word<A>, FaultKind>
     requires { IsTrue (is_visible word.now) }

@@ -91,7 +91,8 @@ fn kind_hint(line: u64, kind: FaultKind) -> Option<Hint<'static>>
     }
 }
 
-/// The hint for `line`, which isn't an event, as text with a line feed; `None` if `line` has no JSON value.
+/// The hint for `line`, which isn't an event, as text with a line feed; `None` if `line` is too long, or has no JSON
+/// value.
 fn event_hint(heap: Global, line: &[u8]) -> Result<Option<Vec<u8>>, Oom>
     ensures { IfOk result (λ hint. IsEventHint line.now (option_map (λ it. it.items) hint)) }
 {

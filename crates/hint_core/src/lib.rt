@@ -1,5 +1,5 @@
-//! What the first fault of an input means, and what to do about it, in one line. The hint is found by a look at the
-//! refused input.
+//! What the first fault of an input means, and what to do about it, in one line. To find such a hint, the crate looks
+//! at the refused input.
 //!
 //! It stands on `grammar_core` (the faults of a script, and what a line and its words are), on `import_core` and
 //! `log_core` (the faults of events, and the value of a line), on `bench_core` (what a name is), and on the kit's

@@ -118,8 +118,8 @@ fn name_place(first: &str) -> usize
     if is_reserved(first) { 1 } else { 2 }
 }
 
-/// The hint for a word that should be a name and isn't one, or that isn't the name of a node. `words` are those of the
-/// line, which stands behind the first `count` lines.
+/// The hint for a word that should be a name and isn't one, or that should name a node and doesn't. `words` are those
+/// of the line, which stands behind the first `count` lines.
 #[tactic(auto, unfolding(crate::specs::Choices::bad_name))]
 pub(crate) fn bad_name<'l>(bytes: &[u8], count: usize, words: &[&'l str]) -> Option<Hint<'l>>
     ensures { option_map plain_hint result ≡ bad_name (take count (lines_of bytes.now)) (map (λ word. word.now) words.now) }

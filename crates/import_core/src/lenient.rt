@@ -35,7 +35,7 @@ fn sent_by<A: Allocator + Copy>(
     Ok(sent)
 }
 
-/// Whether the event waits for no message, or for one that is sent.
+/// Whether the event waits for no message, or for one that is marked in `sent`.
 fn can_stay<A: Allocator>(note: &Noted<A>, sent: &[bool]) -> bool
     ensures { result ≡ has_awaited (λ m. slice_index_or sent.now m false) (note_of note.now).logged.waits }
 {

@@ -86,8 +86,8 @@ fn ask<'a, B: Allocator>(
     }
 }
 
-/// Plays an event, and appends what it tells besides its call. A list tells the rows that only the event's list or only
-/// the bench's has. A step that can't be asked (see `asked`) tells that it can't. Other steps tell nothing more.
+/// Plays an event, and appends what it tells besides its call. An event that lists rows tells those that only its list
+/// or only the bench's has. A step that can't be asked (see `asked`) tells that it can't. Other steps tell nothing.
 #[tactic(auto, unfolding(import_report::specs::Events::after_event))]
 fn put_told<'a, B: Allocator>(
     bench: &mut Bench<'a, B>,

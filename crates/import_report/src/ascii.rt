@@ -92,7 +92,7 @@ pub(crate) fn ascii_text<A: Allocator>(alloc: A, json: &str) -> Result<String<A>
     Ok(text)
 }
 
-/// What stands between the quotation marks of a JSON string in ASCII.
+/// The string as JSON in ASCII has it between quotation marks.
 pub(crate) fn string_text<A: Allocator>(alloc: A, string: &str) -> Result<String<A>, Oom>
     ensures { IfOk result (λ s. string_bytes s ≡ string_text string.now) }
 {

@@ -102,7 +102,7 @@ fn or_numbered<A: Allocator + Copy>(
 }
 
 /// The names of the nodes in the script: their own, if a `nodes` line can have all of them, or else `n0`, `n1` and so
-/// on.
+/// on. There must be 1 to 32 nodes.
 pub fn shown_names<A: Allocator + Copy>(alloc: A, nodes: &TextSet<A>) -> Result<Names<A>, Oom>
     requires some { 0 < length nodes.now }
     requires few { length nodes.now ≤ 32 }

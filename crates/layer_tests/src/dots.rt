@@ -228,8 +228,8 @@ fn each_law_can_be_called(rt: HostRuntime) {
     drop(dots);
 }
 
-/// Each of the 32 names has a dot above its context clock, also in a copy; and each but name 0 has it in what `only`
-/// gives and in a union, too.
+/// Each of the 32 names has a dot above its context clock, in the set and in a copy. An empty set, united with the set
+/// that `only` makes for all names but 0, has the same dots as that set.
 #[test]
 fn each_name_below_32_has_its_dots(rt: HostRuntime) {
     let mut dots = DotSet::new(rt.alloc());
@@ -435,7 +435,7 @@ fn a_union_takes_the_memory_of_the_set_that_grows(rt: HostRuntime) {
     drop(far);
 }
 
-/// What `only` gives takes its memory, and what it grows by, from the allocator of the set.
+/// The set that `only` makes takes its memory from the allocator of the set that it is made from, also when it grows.
 #[test]
 fn a_part_keeps_the_memory_of_its_set(rt: HostRuntime) {
     let own = Refusing::new(rt.alloc());

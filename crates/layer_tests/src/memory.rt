@@ -313,8 +313,8 @@ fn run_unknown<'a>(bench: &mut Bench<'a, Heap>, calls: &[(u16, Act<&'a Heap>)]) 
     }
 }
 
-/// A run of calls refuses those that name a node which the bench doesn't have, and records them while there is a place.
-/// If memory for the list of replies is refused, the run does nothing.
+/// `Bench::run` refuses each call that names a node which the bench doesn't have, and records it while a place is free.
+/// If memory for the list of replies is refused, `run` makes none of the calls.
 fn unknown_is_refused<'a>(heap: &'a Heap, rt: &impl Abort) {
     let calls = unknown();
     let mut bench = opened("nodes a b", limits_of([6, 1, 1, 1], rt), heap, rt);

@@ -134,7 +134,8 @@ fn entries_differ_by_dot_and_by_key(rt: HostRuntime) {
     holds!(&rt, compare(&rt, rt.alloc(), 1, "bob") == (false, false));
 }
 
-/// Whether `count` of the entries are of these names, by what `only` gives.
+/// Whether the set that `only` makes of the entries of these names has `count` entries, and is the same as `entries`
+/// just if these are all.
 fn has_only<A: Allocator + Copy>(
     rt: &impl Abort,
     entries: &EntrySet<A>,
@@ -188,7 +189,8 @@ fn takes_out<A: Allocator>(entries: &mut EntrySet<A>, dot: Dot) -> bool {
     }
 }
 
-/// What `only` gives of a set; the set's places and searches; and what a removal leaves.
+/// How many entries of a set `only` gives; at which places the entries stand; what a search finds; and what a removal
+/// leaves.
 #[test]
 fn a_set_of_entries_rises_by_dot(rt: HostRuntime) {
     let mut entries = three(&rt, rt.alloc());
@@ -246,7 +248,8 @@ fn an_insert_into_room_takes_no_memory(rt: HostRuntime) {
     drop(entries);
 }
 
-/// What `only` gives takes its list, and what it grows by, from the memory of the set. It shares the set's entries.
+/// The set that `only` makes takes the memory for its list from the allocator of the set that it is made from, also
+/// when it grows. The two sets share the entries.
 #[test]
 fn a_part_of_a_set_keeps_the_memory_of_its_set(rt: HostRuntime) {
     let own = Refusing::new(rt.alloc());

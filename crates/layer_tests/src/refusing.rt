@@ -1,4 +1,4 @@
-//! What no clause says of the allocator that these tests use: which requests are refused, and what is counted.
+//! What no clause says of the allocator that these tests use: which requests it refuses, and what it counts.
 use std::alloc::Global;
 use test_alloc::Refusing;
 

@@ -80,10 +80,10 @@ pub fn keys_law()
     ensures { StandAlikeLaw }
 {}
 
-/// Every run of the network with a given beginning ends in an outcome that was found, if that is so behind a step that
-/// can come first; or for another beginning that serves for this one; or behind each step that can come next, and at
-/// the end of the beginning itself, if a run may end there. A run of the network has at most as many steps as the
-/// recorded run, and one more for each delivery that may come a second time.
+/// When every run of the network with a given beginning ends in an outcome that was found: when this is so after one
+/// more step that can come first; or of another beginning that serves for this one; or after each step that can come
+/// next, and the beginning's own outcome was found, if a run may end there. A run of the network has at most as many
+/// steps as the recorded run, and one more for each delivery that may come a second time.
 pub fn settle_law()
     ensures settled { SettleLaw }
     ensures length { LengthLaw }

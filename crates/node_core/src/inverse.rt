@@ -9,7 +9,7 @@ use std::alloc::Allocator;
 /// What one step of a node destroyed: with it `Node::give_back` takes the step back (Danos and Krivine: causal undo).
 #[derive(Drop)]
 pub enum Inverse<A: Allocator> {
-    /// The step changed the replica, and this is the change.
+    /// The step was one call of the replica, and sent nothing. This is the change of that call.
     Change(Change<A>),
     /// The step sent the delta, which is the last message.
     Broadcast,

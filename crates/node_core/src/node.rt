@@ -320,7 +320,7 @@ impl<'a, B: Allocator> Node<'a, B> {
         Ok(Inverse::Change(change))
     }
 
-    /// Takes the step, with the message that it names. It doesn't count the step; its caller `take` does.
+    /// Takes the step, with the message that the step names. The caller, `take`, counts the step.
     fn step(
         &mut self,
         step: &Step<&'a B>,

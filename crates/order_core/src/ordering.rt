@@ -1,4 +1,4 @@
-//! Finds an order of steps: it takes the first step that can come next, again and again. If the given steps deliver no
+//! Finds an order of steps: takes the first step that can come next, again and again. If the given steps deliver no
 //! message before it is sent, their order stays.
 //!
 //! For each node the search keeps the place of the node's next step, and the number of messages that the node has sent.

@@ -305,7 +305,7 @@ fn put_drawing<'a, A: Allocator, N: Allocator, B: Allocator>(
 }
 
 /// The rows that are drawn. They begin with the row of step `from`, or of the first step after it; without `from`, with
-/// the first row. They end before the row of the first step after `to`; without `to`, behind the last row. If there is
+/// the first row. They end before the row of the first step after `to`; without `to`, after the last row. If there is
 /// no such step, the end of the history stands in place of its row.
 #[tactic(auto, unfolding(crate::specs::Pictures::range_of))]
 pub fn range_of<'a, B: Allocator>(bench: &Bench<'a, B>, from: Option<u64>, to: Option<u64>) -> Range

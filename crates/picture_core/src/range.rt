@@ -73,7 +73,7 @@ pub fn first_row<'a, B: Allocator>(history: &History<'a, B>, from: Option<u64>) 
     }
 }
 
-/// The row behind the last one that is drawn: that of the first step after `to`. Without `to`, or if there is no such
+/// The row after the last one that is drawn: that of the first step after `to`. Without `to`, or if there is no such
 /// step, it is the end of the history.
 pub fn last_row<'a, B: Allocator>(history: &History<'a, B>, to: Option<u64>) -> usize
     ensures is { result ≡ last_row history.now to }

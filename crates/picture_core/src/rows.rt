@@ -54,8 +54,8 @@ fn put_between<'a, A: Allocator, B: Allocator>(
     )
 }
 
-/// Appends the message that a step delivers, if it delivers one. `to` is the row and the node of the step, and
-/// `remaining` are the steps that remained before that step.
+/// Appends the message that a step delivers, if it delivers one and the range shows the message. `to` is the row and
+/// the node of the step, and `remaining` are the steps that remained before that step.
 #[tactic(auto, using(crate::proofs::Texts::nothing_end), unfolding(crate::specs::Rows::message_to))]
 fn put_message_to<'a, A: Allocator, B: Allocator>(
     remaining: &Journal<'a, B>,
@@ -80,8 +80,8 @@ fn put_message_to<'a, A: Allocator, B: Allocator>(
     put_between(text, nodes, steps, range, to, number, sender, source, alloc)
 }
 
-/// Appends the message that the step of a recorded call delivers; nothing if the call took no step, or its step
-/// delivers nothing. `remaining` are the steps that remained before the call.
+/// Appends the message that the step of a recorded call delivers. Appends nothing if the call took no step, its step
+/// delivers nothing, or the range doesn't show the message. `remaining` are the steps that remained before the call.
 #[tactic(auto, using(crate::proofs::Texts::nothing_end), unfolding(crate::specs::Rows::message_of))]
 pub fn put_message_of<'a, A: Allocator, B: Allocator>(
     remaining: &Journal<'a, B>,

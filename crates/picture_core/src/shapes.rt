@@ -327,7 +327,7 @@ pub fn put_mark<'a, A: Allocator, B: Allocator>(
     }
 }
 
-/// Appends the number of a step, in its row in front of the lanes.
+/// Appends the number of a step, in its row, left of the lanes.
 #[tactic(auto, unfolding(crate::specs::Shapes::number_label, svg_core::specs::Trees::text_of))]
 pub fn put_number_label<A: Allocator>(
     text: &mut String<A>,
@@ -349,7 +349,7 @@ pub fn put_number_label<A: Allocator>(
     put_end(text, "text")
 }
 
-/// Appends the words of a call, in its row behind the lanes.
+/// Appends the words of a call, in its row, right of the lanes.
 #[tactic(auto, unfolding(crate::specs::Shapes::words_label))]
 pub fn put_words_label<A: Allocator>(
     text: &mut String<A>,

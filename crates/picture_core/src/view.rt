@@ -24,8 +24,8 @@ pub struct Presence<'q> {
 pub struct View<'q> {
     /// The step whose future is painted. Nothing is painted if this is `None`, or the step doesn't remain.
     pub why: Option<u64>,
-    /// The picture begins with the row of this step, or of the first step after it; if this is `None`, with the first
-    /// row.
+    /// The picture begins with the row of this step, or of the first step after it; it has no rows if there is no such
+    /// step. If this is `None`, it begins with the first row.
     pub from: Option<u64>,
     /// The picture ends before the row of the first step after this one; if this is `None`, or there is no such step,
     /// with the last row.
@@ -110,7 +110,7 @@ pub fn draw<'a, B: Allocator>(
     Ok(text.into_bytes())
 }
 
-/// The picture of a whole run, with no step painted and no lane thick.
+/// The picture of all calls that a bench recorded, with no step painted and no lane thick.
 #[tactic(auto, unfolding(crate::specs::Views::whole_picture))]
 pub fn draw_whole<'a, B: Allocator>(
     alloc: &'a B,

@@ -11,7 +11,7 @@ use std::alloc::Allocator;
 use transcript_core::put_call;
 
 /// Appends the words for a reply after two spaces: `undone N` with the number of the step, or `no` and the fault. For a
-/// step that was taken it appends nothing, as the step's number stands in front of the row.
+/// step that was taken it appends nothing, as the step's number stands in the row, left of the lanes.
 fn put_reply_words<A: Allocator>(text: &mut String<A>, reply: Reply) -> Result<(), Oom>
     ensures { OnOk result (string_bytes text.new ≡ string_bytes text.old ++ reply_words reply) }
 {

@@ -52,7 +52,7 @@ pub enum Fault {
     /// A check found that the bench and the real nodes part. The whole text went out.
     #[error("the bench and the real nodes part")]
     Differs,
-    /// Why a race may not begin, or why it can't be vouched for afterwards. It is never `OutOfMemory`.
+    /// Why a race didn't begin, or can't be vouched for afterwards. It is never `OutOfMemory`.
     #[error("race: {0}")]
     Race(RaceFault),
     /// Why there is no exploration. It is never `OutOfMemory`.
@@ -89,8 +89,8 @@ pub enum Fault {
 
 impl Fault {
     /// The status with which this fault ends the program. It is 1 if the input or what was asked is refused, 3 if a
-    /// stream failed, 4 if memory was refused, and 5 if a race can't be vouched for. It is 6 if a check found a
-    /// difference, or an act or an unwind was refused in a strict run.
+    /// stream failed, 4 if memory was refused, and 5 if a worker couldn't be started, or a race can't be vouched for.
+    /// It is 6 if a check found a difference, or an act or an unwind was refused in a strict run.
     pub fn status(self) -> u8
         ensures { result ≡ fault_status self }
     {

@@ -19,7 +19,7 @@ fn question_of<'w>(chosen: command_line::Question<'w>) -> Question<'w>
     }
 }
 
-/// The changes that would have made a difference; or, given the number of a `change`, the run with that change as a
+/// The changes that would have made a difference; or, given the number of a `change`, the run with that change, as a
 /// script.
 pub fn tell_whatif<'a, B: Allocator, W: Watch<Tried>>(
     alloc: &'a B,

@@ -9,7 +9,7 @@ pub enum PromptFault {
     /// A read failed.
     #[error("read fault")]
     ReadFault,
-    /// A write failed, or took nothing.
+    /// A write or a flush failed, or a write took nothing.
     #[error("write fault")]
     WriteFault,
     /// There are at least `u64::MAX - 1` lines, or a line has at least `u64::MAX` bytes.

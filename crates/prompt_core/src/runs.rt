@@ -14,7 +14,7 @@ use run_core::Prompt;
 use std::alloc::Allocator;
 use transcript_core::{bench_steps, calls_text};
 
-/// Appends the picture of the run; `NoNodes` before the nodes are named.
+/// Appends the picture of the run, and a line feed; `NoNodes` before the nodes are named.
 fn put_picture<'a, B: Allocator>(
     prompt: &Prompt<'a, B>,
     alloc: &'a B,

@@ -31,8 +31,8 @@ fn sign<'a, B: Allocator>(prompt: &Prompt<'a, B>, alloc: &'a B) -> Result<String
     Ok(format!(in alloc; "{number}> ")?)
 }
 
-/// Writes the sign to `errors`, if `is_shown`, and says whether it went out whole; no, too, if `is_shown` is false, or
-/// memory for the sign was refused. After a no `answer_each` shows no further sign.
+/// Writes the sign to `errors` and flushes it, if `is_shown`, and gives `true` if that succeeded. Gives `false` if it
+/// failed, memory for the sign was refused, or `is_shown` is `false`; then `answer_each` shows no further sign.
 pub fn show_sign<'a, B: Allocator, E: Write>(
     prompt: &Prompt<'a, B>,
     alloc: &'a B,

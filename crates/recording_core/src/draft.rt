@@ -55,8 +55,8 @@ fn acts_member<'a, B: Allocator>(
     }
 }
 
-/// Reads the value of the member `name`. If the name is `acts`, the events of the value replace those in the parameter
-/// `acts`, and the value has an empty array instead.
+/// Reads the value of the member `name`. If the name is `acts`, reads it as `acts_member` does, and puts its events in
+/// place of those in the parameter `acts`.
 fn member<'a, B: Allocator>(
     heap: Global,
     alloc: &'a B,
@@ -80,7 +80,7 @@ fn member<'a, B: Allocator>(
 }
 
 /// Reads the members, and the brace that closes the outermost object. Puts the members into `found`, and the events of
-/// the member `acts` into `acts`.
+/// the member `acts` into `acts`; both must be empty.
 fn read_members<'a, B: Allocator>(
     found: &mut Map<String, Value>,
     acts: &mut Acts<&'a B>,
@@ -151,7 +151,7 @@ fn next_draft<'a, B: Allocator>(
     }
 }
 
-/// The draft of the text; `Shape` if the text isn't JSON.
+/// The draft of the text; `Shape` if the text isn't JSON, or nests too deep.
 pub(crate) fn draft_of<'a, B: Allocator>(
     heap: Global,
     alloc: &'a B,

@@ -95,7 +95,7 @@ pub(crate) struct Parts<A: Allocator> {
 }
 
 /// The limits and the names of a session; `Shape` unless its head has the four members and no other, each in its form.
-/// Only that of `version` isn't checked here.
+/// The value of `version` may be anything here: the caller checks it.
 #[tactic(auto, unfolding(crate::specs::Decoding::parts_at))]
 pub(crate) fn parts_at<'a, B: Allocator>(
     heap: Global,

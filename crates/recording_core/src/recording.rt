@@ -57,7 +57,7 @@ fn recording_of<'a, B: Allocator>(
     }
 }
 
-/// Reads the text in these bytes; `NotJson` if they aren't JSON.
+/// Reads the text in these bytes; `NotJson` if they aren't JSON, or nest too deep.
 fn read<'a, B: Allocator>(
     heap: Global,
     alloc: &'a B,

@@ -4,7 +4,7 @@ use thiserror::Error;
 /// Why a text gives no bench. Acts are numbered from 1; 0 stands for the session's head.
 #[derive(Clone, Copy, Debug, PartialEq, Eq, Error)]
 pub enum SessionFault {
-    /// The bytes aren't JSON.
+    /// The bytes aren't JSON, or nest too deep.
     #[error("NotJson")]
     NotJson,
     /// The head, or this act, doesn't have the form that it has in a session, or the version has no such act.

@@ -77,7 +77,7 @@ fn come_to<'a, B: Allocator>(
 }
 
 /// Makes an act, and gives the reply and how the act changed the online list of the node whose step it took or took
-/// back. How an undone step had changed the list is found before the undo.
+/// back.
 pub fn ask<'a, B: Allocator>(
     alloc: &'a B,
     bench: &mut Bench<'a, B>,

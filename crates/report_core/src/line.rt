@@ -100,7 +100,7 @@ fn put_whole<A: Allocator>(text: &mut String<A>, parts: &Parts) -> Result<(), Oo
 }
 
 /// Appends `TOPIC KEY NODE/PID META` and a line feed to the line, if there is room. Else appends the line and then
-/// these to the text, and empties the line.
+/// these to the text, and empties the line. Topic, key and metadata must have at most 200 bytes each.
 pub(crate) fn put_parts<A: Allocator>(
     text: &mut String<A>,
     line: &mut Line,

@@ -84,7 +84,7 @@ fn none_moved<'a, B: Allocator>(
 }
 
 /// Adds to `moved`, at the place of `node`, the undo of a step that had changed the node's list by `step`, and gives
-/// `moved` back. Adds nothing if `node` is `None`.
+/// `moved` back. Adds nothing if `node` is `None`, or `moved` has no such place.
 fn add_at<'a, B: Allocator>(
     moved: Vec<Moved<'a, B>, &'a B>,
     node: Option<u16>,

@@ -82,7 +82,7 @@ fn put_name<A: Allocator, N: Allocator>(
     Ok(())
 }
 
-/// Appends the names of the set `chosen` by rising number, each after a space.
+/// Appends the names of the set `chosen` by rising number, each after a space. Numbers that no node has are left out.
 fn put_names<A: Allocator, N: Allocator>(
     text: &mut String<A>,
     names: &Names<N>,

@@ -14,7 +14,8 @@ use std::alloc::Allocator;
 use std::marker::Model;
 use std::mem::replace;
 
-/// Who may act, and the bench. Both are `None` until the nodes are named, and the bench while memory for it is refused.
+/// Who may act, and the bench. Both are `None` until the nodes are named. After that the bench is `None` only while
+/// memory for it is refused.
 #[derive(Drop)]
 pub struct Prompt<'a, B: Allocator> {
     alloc: &'a B,

@@ -1,4 +1,4 @@
-//! The names of those who act: nodes, and consoles, for which a session has no names.
+//! The names of those who act: nodes and consoles. A session has no names for its consoles.
 ghost use Rattle.std.specs.Prelude.{◌≡◌, IfOk, OnOk, map};
 ghost use Rattle.report_core.specs.Rows.{name_at};
 ghost use Rattle.transcript_core.specs.Actors.{actor_name, console_count, console_words, free_consoles, named_consoles, with_actor, with_free};

@@ -113,7 +113,7 @@ fn first_from<'a, B: Allocator>(
     Ok(None)
 }
 
-/// The first line of a script that is refused when the script is played with these limits; `None` if no line is.
+/// The refusal of the first line that is refused when the script is played with these limits; `None` if no line is.
 #[tactic(auto, unfolding(crate::specs::Refusals::first_refused))]
 pub fn first_refused<'a, B: Allocator>(
     alloc: &'a B,

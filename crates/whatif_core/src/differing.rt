@@ -112,8 +112,8 @@ fn tally_of<'a, B: Allocator, W: Watch<Tried>>(
 }
 
 /// Finds the changes of the remaining steps that make a difference to the rows with this topic and key at the node,
-/// with the rows to which they lead. Each single change is played in an order in which no message comes before it is
-/// sent, if there is one. `watch` is told how many changes were tried.
+/// with the rows to which they lead. A change is possible if the changed steps have an order in which no message comes
+/// before it is sent, and in which each step is accepted. Tells `watch` how many changes were tried.
 pub fn whatif<'a, B: Allocator, W: Watch<Tried>>(
     bench: &Bench<'a, B>,
     node: u16,

@@ -28,7 +28,7 @@ fn copied<A: Allocator + Copy>(
     Ok(copies)
 }
 
-/// Lets workers ask copies of the lines on the bench, and gives the bench back with what the workers tell.
+/// Lets workers ask the bench copies of the lines, and gives the bench back with what the workers tell.
 fn asked<'a, B: Allocator + Sync, G: Gate + Sync, R: Threads + Wait + Sync>(
     rt: &R,
     alloc: &'a B,

@@ -9,7 +9,7 @@ use std::sync::{Mutex, Wait};
 use std::thread;
 use std::thread::{JoinHandle, Scope, Threads};
 
-// form: over any act and receipt, as a thread's closure gets no proof if its types name the bench's lifetime
+// form: generic over act and receipt, as a thread's closure gets no proof if its types name the bench's lifetime
 /// What workers share under a lock: in `race`, the bench. `ask_line` asks it the act of an actor's line, and gives the
 /// receipt.
 pub(crate) trait Shared<L, T> {

@@ -267,8 +267,8 @@ fn raced_in_turn<'a, R: Threads + Wait + Clock + Abort + Sync + Copy>(
     raced(heap, UNDONE_BESIDE, 3, &gate, rt)
 }
 
-/// Whether altered receipts of a race in the order of its lines agree with its history, and whether they do with the
-/// histories before and after it exchanged.
+/// Races the lines of `UNDONE_BESIDE` in their order, and alters the receipts. Says whether they agree with the
+/// histories before and after the race, and whether they do if the two histories are exchanged.
 fn agree_altered<R: Threads + Wait + Clock + Abort + Sync + Copy>(
     rt: &R,
     heap: &Global,
