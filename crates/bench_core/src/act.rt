@@ -29,7 +29,7 @@ impl<A: Allocator> Act<A> {
         }
     }
 
-    /// A copy of the act.
+    /// A copy of the act. Only the copy of a step may take memory.
     pub fn try_copy(&self) -> Result<Self, Oom>
     where
         A: Copy,

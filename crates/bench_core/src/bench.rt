@@ -88,7 +88,7 @@ impl<'a, B: Allocator> Model for Bench<'a, B> {
 }
 
 impl<'a, B: Allocator> Bench<'a, B> {
-    /// A fresh bench of empty nodes.
+    /// A bench with these names and limits, whose nodes are empty; no call is recorded yet.
     pub fn new(alloc: &'a B, names: Names<&'a B>, limits: Limits) -> Result<Self, Oom>
         ensures { IfOk result (λ b. b ≡ opening_machine names.entry limits) }
     {
@@ -112,7 +112,7 @@ impl<'a, B: Allocator> Bench<'a, B> {
         })
     }
 
-    /// The names of the nodes.
+    /// The names of the nodes, by node number.
     pub fn names(&self) -> &Names<&'a B>
         ensures { result.now ≡ self.now.names }
     {
@@ -126,14 +126,14 @@ impl<'a, B: Allocator> Bench<'a, B> {
         self.limits
     }
 
-    /// The recorded calls.
+    /// The recorded calls, oldest first, each with its reply.
     pub fn history(&self) -> &History<'a, B>
         ensures { result.now ≡ self.now.state.history }
     {
         &self.history
     }
 
-    /// The steps that remain.
+    /// The steps that remain, by rising number, each with its inverse.
     pub fn remaining(&self) -> &Journal<'a, B>
         ensures steps { kepts result.now.steps ≡ self.now.state.remaining }
         ensures nodes { result.now.nodes ≡ length self.now.names }
@@ -160,7 +160,7 @@ impl<'a, B: Allocator> Bench<'a, B> {
         self.journal.inverse(number)
     }
 
-    /// How many steps were ever taken.
+    /// How many steps were ever taken, counting those that were taken back: the greatest number given so far.
     pub fn meter(&self) -> u64
         ensures { result ≡ given self.now.state.history }
     {
@@ -175,7 +175,6 @@ impl<'a, B: Allocator> Bench<'a, B> {
         let _ = &self.journal;
     }
 
-    /// The allocator that the bench uses.
     pub(crate) fn allocator(&self) -> &'a B {
         self.cluster.allocator()
     }

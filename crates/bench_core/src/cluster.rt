@@ -141,7 +141,6 @@ impl<'a, B: Allocator> Cluster<'a, B> {
         true
     }
 
-    /// The allocator that the cluster uses.
     pub(crate) fn allocator(&self) -> &'a B {
         *self.nodes.allocator()
     }

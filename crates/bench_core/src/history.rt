@@ -30,7 +30,6 @@ impl<A: Allocator> Model for Event<A> {
 }
 
 impl<A: Allocator + Copy> Event<A> {
-    /// A copy of the event.
     fn try_copy(&self) -> Result<Self, Oom>
         ensures { IfOk result (λ copy. copy ≡ self.now) }
     {
@@ -84,7 +83,7 @@ impl<'a, B: Allocator> History<'a, B> {
         self.events.get(place)
     }
 
-    /// A copy of the history.
+    /// A copy of the history, made with the same allocator.
     pub fn try_copy(&self) -> Result<Self, Oom>
         ensures { IfOk result (λ copy. copy ≡ self.now) }
     {
@@ -100,7 +99,7 @@ impl<'a, B: Allocator> History<'a, B> {
         Ok(History { events })
     }
 
-    /// Records a call with this reply, after the others.
+    /// Records a call with this reply, after the others. If memory is refused, nothing is recorded.
     pub(crate) fn record(&mut self, actor: u16, act: &Act<&'a B>, reply: Reply) -> Result<(), Oom>
         ensures ok { OnOk result (self.new ≡ note actor (plain_act act.now) reply self.old) }
         ensures err { OnErr result (self.new ≡ self.old) }

@@ -13,7 +13,7 @@ pub fn loop_law()
 {}
 
 /// The middle law: at each point of a run, a node is what its own steps up to that point give, with the messages that
-/// its deliveries name. A step without direct consequences can be left out of a run, and then its node alone changes,
+/// these steps deliver. A step without direct consequences can be left out of a run, and then its node alone changes,
 /// to what it was just before the step.
 pub fn middle_law()
     ensures own_run { OwnRunLaw }

@@ -5,7 +5,7 @@ ghost use Rattle.bench_core.specs.declared.swap_fault.SwapFault.TheVariants.{Out
 use dots_core::Oom;
 use thiserror::Error;
 
-/// Why `same_cluster` doesn't answer `Ok`, in the order in which the causes are looked for.
+/// Why `same_cluster` doesn't answer `Ok`, in the order in which it looks for the causes.
 #[derive(Clone, Copy, Debug, PartialEq, Eq, Error)]
 pub enum SwapFault {
     /// The names or the limits differ.

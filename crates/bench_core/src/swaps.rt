@@ -38,7 +38,7 @@ fn noted<A: Allocator>(kept: &Kept<A>, place: usize, sent: &mut [u64]) -> Movabl
     }
 }
 
-/// What a swap needs to know of each step of the journal, in their order.
+/// What a swap needs to know of each step of the journal, in the journal's order. The steps are of nodes below `nodes`.
 fn movables<'a, B: Allocator>(
     journal: &Journal<'a, B>,
     nodes: usize,
@@ -72,8 +72,8 @@ fn swap(steps: &mut [Movable], place: u64) -> bool
     true
 }
 
-/// Makes these swaps in `steps` in turn, up to the first bad one, and gives its place in the list, counted from 1;
-/// `None` if no swap is bad.
+/// Makes these swaps in `steps` in turn, up to the first bad one, and gives the bad one's place in `places`, counted
+/// from 1; `None` if no swap is bad.
 fn first_bad(steps: &mut [Movable], places: &[u64]) -> Option<usize>
     ensures none { result ≡ None → after_swaps (exchanged may_swap) 1 steps.old places.now ≡ Ok steps.new }
     ensures bad { IfSome result (λ at. after_swaps (exchanged may_swap) 1 steps.old places.now ≡ Err (BadSwap at)) }

@@ -31,7 +31,7 @@ pub struct Change {
 }
 
 impl Kind {
-    /// The number of this kind in the order of kinds, counted from 0.
+    /// The place of this kind in the order in which the kinds are declared above, counted from 0.
     pub fn rank(self) -> u8
         ensures { result ≡ rank self }
     {

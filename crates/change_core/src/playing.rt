@@ -101,9 +101,9 @@ fn meet_on<'a, B: Allocator>(
     Ok(false)
 }
 
-/// Plays `run` on the walk `here` and `known` on `there`, each up to the place from which on their steps are the same,
-/// and then up to `far` more steps on both. Says whether `meet_on` found the walks' clusters to be the same. False also
-/// if a step is refused.
+/// Plays `run` on the walk `here` and `known` on `there`, each up to the end that both runs have in common, and then up
+/// to `far` steps of that end on both. Says whether `meet_on` found the walks' clusters to be the same. False also if a
+/// step is refused.
 fn meet<'a, B: Allocator>(
     here: &mut Walk<'a, B>,
     there: &mut Walk<'a, B>,
@@ -185,7 +185,7 @@ impl<'a, B: Allocator> Search<'a, B> {
     }
 
     /// Plays `run`, which is given by the places of its steps, side by side with the last run if `is_last`, and else
-    /// with the recorded one (see `meet`). Says whether their clusters were found to be the same within `far` steps.
+    /// with the recorded one. Says whether `meet` found the two clusters to be the same within `far` steps.
     fn meets(
         &mut self,
         steps: &[Kept<&'a B>],

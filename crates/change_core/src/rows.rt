@@ -18,7 +18,7 @@ fn is_of<A: Allocator>(row: &OnlineRow<A>, topic: &Word<A>, key: &Word<A>) -> bo
     row.topic == *topic && row.key == *key
 }
 
-/// Copies of the rows with this topic and key.
+/// Copies of the rows with this topic and key, in the order of `rows`.
 fn rows_of<A: Allocator + Copy>(
     alloc: A,
     rows: &[OnlineRow<A>],
@@ -85,7 +85,6 @@ pub fn rows_before<'a, B: Allocator>(
     rows_in(bench.node(node), node, topic, key, alloc)
 }
 
-/// Copies of rows.
 pub(crate) fn copied_rows<A: Allocator + Copy>(
     rows: &[OnlineRow<A>],
     alloc: A,

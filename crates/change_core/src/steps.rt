@@ -22,7 +22,7 @@ fn copy_of<A: Allocator + Copy>(kept: &Kept<A>) -> Result<Kept<A>, Oom>
     })
 }
 
-/// Copies of the steps that remain.
+/// Copies of the steps that remain, by rising number.
 pub fn copied<'a, B: Allocator>(journal: &Journal<'a, B>, alloc: &'a B) -> Result<Steps<&'a B>, Oom>
     ensures { IfOk result (λ copies. copies.items ≡ kepts journal.now.steps) }
 {

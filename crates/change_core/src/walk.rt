@@ -80,7 +80,7 @@ impl<'a, B: Allocator> Walk<'a, B> {
         &self.cluster
     }
 
-    /// How many steps were taken.
+    /// How many steps led to the cluster; those that were taken back don't count.
     fn len(&self) -> usize
         ensures { result ≡ length self.now.taken }
     {

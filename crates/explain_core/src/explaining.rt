@@ -17,7 +17,7 @@ use payload_core::{Oom, Word};
 use report_core::{name_at, put_act};
 use std::alloc::Allocator;
 
-/// The most presences that are followed in one walk over the steps.
+/// How many presences one walk over the steps follows at the most.
 const FOLLOWED_TOGETHER: usize = 512;
 
 impl Verdict {
@@ -70,7 +70,7 @@ fn put_step<'a, A: Allocator, B: Allocator>(
     }
 }
 
-/// Like `put_step`, but appends nothing without a number.
+/// Like `put_step`, but appends nothing if `number` is `None`.
 fn put_step_if<'a, A: Allocator, B: Allocator>(
     bench: &Bench<'a, B>,
     text: &mut String<A>,
@@ -208,7 +208,7 @@ fn put_removal<'a, A: Allocator, B: Allocator>(
     }
 }
 
-/// Appends the text for the presence with this track.
+/// Appends what `explain` tells of one presence, that of `making`, whose dot has this track.
 #[tactic(auto, unfolding(crate::specs::Explanations::tracked_text))]
 fn put_tracked<'a, A: Allocator, B: Allocator>(
     bench: &Bench<'a, B>,
@@ -230,7 +230,7 @@ fn put_tracked<'a, A: Allocator, B: Allocator>(
     put_removal(bench, text, node, making.dot, track, alloc)
 }
 
-/// Appends the text for each of these presences.
+/// Appends what `explain` tells of each of these presences.
 fn put_traced<'a, A: Allocator, B: Allocator>(
     bench: &Bench<'a, B>,
     text: &mut String<A>,
@@ -248,7 +248,7 @@ fn put_traced<'a, A: Allocator, B: Allocator>(
     Ok(())
 }
 
-/// Appends the text for each of these presences. Their tracks are followed together, in one walk over the steps.
+/// Appends what `explain` tells of each of these presences. One walk over the steps follows all their tracks.
 fn put_some<'a, A: Allocator, B: Allocator>(
     bench: &Bench<'a, B>,
     text: &mut String<A>,
@@ -268,7 +268,8 @@ fn put_some<'a, A: Allocator, B: Allocator>(
     put
 }
 
-/// Appends the text for each presence. Up to 512 are followed at a time, so that their tracks take little memory.
+/// Appends what `explain` tells of each presence. It follows up to 512 at a time, so that their tracks take little
+/// memory.
 #[tactic(auto, unfolding(crate::specs::Explanations::making_texts))]
 fn put_makings<'a, A: Allocator, B: Allocator>(
     bench: &Bench<'a, B>,

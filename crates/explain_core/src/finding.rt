@@ -15,7 +15,8 @@ use payload_core::Oom;
 use std::alloc::Allocator;
 use std::marker::Model;
 
-/// How a presence stands at a node, and why. The last four verdicts are also told of the removal of a presence.
+/// How a presence stands at a node, and why. The last four verdicts can also say why the removal of a presence didn't
+/// come to the node.
 #[derive(Clone, Copy, Debug, PartialEq, Eq)]
 pub enum Verdict {
     /// The presence is in the node's online list.
@@ -52,7 +53,7 @@ impl<A: Allocator> Model for Finding<A> {
 }
 
 impl Hop {
-    /// Whether this is the step with the number `target`, and it sent or delivered the dot.
+    /// Whether this is the step with the number `target`, and it sent the dot, or brought the dot to its node.
     fn is_link(&self, target: Option<u64>) -> bool
         ensures { result ≡ is_link target self.now }
     {

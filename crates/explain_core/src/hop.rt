@@ -11,7 +11,8 @@ pub enum Kind {
     Sent,
     /// The step delivered a message that has the dot, and so the dot came to stand at the node as in the message.
     Came,
-    /// The step delivered a message that has the dot, but the node didn't know the dot's name and kept nothing of it.
+    /// The step delivered a message that has the dot, but the node didn't know the dot's name, so the dot stands at the
+    /// node as before.
     Missed,
     /// The step took the dot's name permanently down, so the step's node forgot the dot.
     Forgot,

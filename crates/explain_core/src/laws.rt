@@ -1,7 +1,7 @@
 //! The laws of explanations, as contracts of functions that do nothing.
 //!
 //! A track is what an explanation is made of: how a dot stands at each node, since which step, and what each step did
-//! to it.
+//! to the dot.
 ghost use Rattle.explain_core.specs.Laws.{ChainLaw, StandingLaw, StepLaw, UndeliveredLaw, UnsentLaw};
 
 /// The steps that an explanation names for a presence that is online, down or removed are a chain. The last is the step

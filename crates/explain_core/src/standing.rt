@@ -73,7 +73,8 @@ pub fn standing_at<'a, B: Allocator>(bench: &Bench<'a, B>, node: u16, dot: Dot) 
     standing_in(replica.seen(), replica.entries(), dot)
 }
 
-/// How a dot stands in a message. Asks first whether the dot was seen, which is cheaper.
+/// How a dot stands in a message. Asks first whether the message has the dot at all, which is cheaper than a search for
+/// its entry.
 fn standing_told<A: Allocator>(message: &Payload<A>, dot: Dot) -> Standing
     ensures { result ≡ standing_told (Some message.now) dot }
 {

@@ -36,7 +36,7 @@ use std::alloc::Allocator;
 /// The most steps that a run may have. The walk goes one call of `visit` deeper at each step.
 const MOST_STEPS: u128 = 3000;
 
-/// The outcomes that were found, and how many states were kept.
+/// The outcomes that a walk found, and how many states it kept.
 #[derive(Drop)]
 pub struct Explored<'a, B: Allocator> {
     pub outcomes: Vec<Outcome<'a, B>, &'a B>,
@@ -241,8 +241,8 @@ fn explore_plan<'a, B: Allocator, W: Watch<Walked>>(
 
 /// Finds all outcomes of what the network could have made of the steps that remain, with up to `lost` deliveries
 /// missing and up to `again` that come a second time; the outcome of the recorded run comes first. The walk may keep
-/// `most` states (`TooManyStates` if it needs more), and tells `watch` how far it has come. `MayFill` is looked for
-/// first and then `TooManySteps`, both before the walk begins.
+/// `most` states (`TooManyStates` if it needs more), and tells `watch` how far it has come. It looks for
+/// `MayFill` first and then for `TooManySteps`, both before the walk begins.
 pub fn explore<'a, B: Allocator, W: Watch<Walked>>(
     bench: &Bench<'a, B>,
     question: &Question<&'a B>,

@@ -12,7 +12,7 @@ use bench_core::{Cluster, Kept};
 use network_rules::{Rank, are_spent, delivery, is_easy, is_idle, is_next};
 use std::alloc::Allocator;
 
-/// Whether the own step `kept` is easy, or nothing more is delivered at its node.
+/// Whether `kept`, a step that isn't a delivery, is easy (see `is_easy`), or no delivery can come to its node any more.
 fn is_alone<'a, B: Allocator>(
     plan: &Plan<'a, B>,
     cluster: &Cluster<'a, B>,

@@ -24,8 +24,8 @@ fn union(one: NameSet, other: NameSet) -> NameSet {
 }
 
 // The rounds keep their sets of names in two flat lists, `matters` and `carries`, each with a row of `width` sets for
-// each node. A row of `matters` has a set for each number of own steps that the node has taken, and a row of `carries`
-// one for each of its messages.
+// each node. A row of `matters` has a set for each number of own steps (all but deliveries) that the node has taken,
+// and a row of `carries` one for each message of the node.
 
 /// The index of the set at `place` in a node's row. It saturates, which spares a requirement about sizes.
 fn index(width: usize, node: u16, place: usize) -> usize {
@@ -49,8 +49,8 @@ fn add(names: &mut [NameSet], index: usize, more: NameSet) -> bool {
     is_news
 }
 
-/// Edits `carries`: what matters to `node` before its first own step matters in message `number` of `sender`, too, as
-/// the node may take the message then. Adds these names there, and says whether any is new.
+/// Adds the names that matter to `node` before its first own step to the set in `carries` of message `number` of
+/// `sender`, as the node may take the message then. Says whether any of them is new in that set.
 fn widen_message(
     matters: &[NameSet],
     carries: &mut [NameSet],
@@ -65,8 +65,8 @@ fn widen_message(
     add(carries, index(width, sender, place), names)
 }
 
-/// Edits `matters`: what matters after an own step, or is taken into its message (see `said`), matters before the step,
-/// too. Adds these names there, and says whether any is new.
+/// Adds to the set in `matters` before the own step `kept` the names that matter to the node after it, and those that
+/// the step takes into its message (see `said`). Says whether any of them is new in that set.
 fn widen_node<A: Allocator>(
     matters: &mut [NameSet],
     carries: &[NameSet],
@@ -82,7 +82,7 @@ fn widen_node<A: Allocator>(
     add(matters, here, union(behind, sent))
 }
 
-/// Carries the names that matter back over one step: over a delivery into `carries`, over an own step into `matters`.
+/// Carries the names that matter back over one step: over a delivery into `carries`, over another step into `matters`.
 /// Says whether any of these names is new there.
 fn widen<A: Allocator>(
     matters: &mut [NameSet],
@@ -171,7 +171,7 @@ fn row<'a, B: Allocator>(
     Ok(row)
 }
 
-/// The names that matter to each node: a set before its own steps, and one after each of them.
+/// The names that matter to each node: a set before the node's own steps, and one after each of them.
 fn rows_of_nodes<'a, B: Allocator>(
     matters: &[NameSet],
     width: usize,

@@ -20,7 +20,7 @@ fn is_of<A: Allocator>(row: &OnlineRow<A>, topic: &Word<A>, key: &Word<A>) -> bo
     row.topic == *topic && row.key == *key
 }
 
-/// Copies of the rows with this topic and key.
+/// Copies of the rows with this topic and key, in the order of `rows`.
 fn rows_of<A: Allocator + Copy>(
     alloc: A,
     rows: &[OnlineRow<A>],
@@ -57,7 +57,7 @@ pub fn rows_in<'a, B: Allocator>(
     rows
 }
 
-/// Whether both lists have the same rows.
+/// Whether both lists have the same rows in the same order.
 fn same_rows<A: Allocator>(rows: &[OnlineRow<A>], others: &[OnlineRow<A>]) -> bool
     ensures { result ≡ same_rows rows.now others.now }
 {

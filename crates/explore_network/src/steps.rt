@@ -31,7 +31,7 @@ fn makes<A: Allocator>(step: &Step<A>) -> bool
     }
 }
 
-/// How many of the steps make an entry, as a count over the list.
+/// How many of the steps make an entry.
 fn count_made<A: Allocator>(steps: &[Kept<A>]) -> usize
     ensures { result ≡ count_by (λ k. makes k.step) steps.now }
 {

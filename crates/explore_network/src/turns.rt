@@ -1,5 +1,5 @@
-//! The turns of a run, and the rank of each step in its turn. A turn is a node's own steps, or the deliveries of one
-//! message at one node (`network_rules::Turn`).
+//! The turns of a run, and the rank of each step in its turn. A turn is a node's own steps (all but deliveries), or
+//! the deliveries of one message at one node (`network_rules::Turn`).
 ghost use Rattle.std.specs.Prelude.{◌≡◌, ◌+◌, ◌<◌, ◌≤◌, ◌^◌, IfOk, OnOk, length};
 ghost use Rattle.journal_core.specs.Journals.{sent_by};
 ghost use Rattle.explore_network.specs.Turns.{count_of, noted, own_turns, place_of, rank_of, ranks_of, turn_of, turns_of};

@@ -78,7 +78,7 @@ pub(crate) fn outcome_of<'a, B: Allocator>(
     Ok(Outcome::new(run, cluster))
 }
 
-/// Like `tell`, but adds nothing if a run may not end here.
+/// Like `tell`, but adds nothing if a run may not end with these counts.
 fn tell_end<'a, B: Allocator>(
     tour: &Tour<'a, '_, B>,
     walk: &mut Walk<'a, B>,

@@ -30,21 +30,21 @@ impl<A: Allocator> Model for Cast<A> {
 }
 
 impl<A: Allocator> Cast<A> {
-    /// The names of the nodes.
+    /// The names of the nodes, by number.
     pub fn nodes(&self) -> &Names<A>
         ensures { result.now ≡ self.now.nodes }
     {
         &self.nodes
     }
 
-    /// The names of the consoles.
+    /// The names of the consoles, in the order of their line; empty before that line.
     pub fn consoles(&self) -> &TextSet<A>
         ensures { result.now ≡ self.now.consoles }
     {
         &self.consoles
     }
 
-    /// How many nodes and consoles there are.
+    /// How many nodes and consoles there are, together.
     pub fn len(&self) -> u16
         ensures { result ≡ length self.now.nodes + length self.now.consoles }
     {
@@ -92,7 +92,8 @@ fn node_names<A: Allocator + Copy>(alloc: A, words: &[&str]) -> Result<Names<A>,
     Ok(Names::new(alloc, &words)?)
 }
 
-/// Reads the first significant line, `nodes NAME ..`. `NoNodes` if its first word isn't `nodes`.
+/// Reads the line `nodes NAME ..`, the first that has words and isn't a comment. `NoNodes` if `first`, its first word,
+/// isn't `nodes`.
 #[tactic(auto, unfolding(crate::specs::Grammar::opening))]
 pub fn opening<A: Allocator + Copy>(
     alloc: A,

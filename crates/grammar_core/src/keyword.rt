@@ -1,5 +1,5 @@
-//! The words that the script language itself defines: keywords and verbs. The length of a word is compared first, since
-//! at most two keywords and at most four verbs have the same length.
+//! The words that the script language itself defines: keywords and verbs. `keyword_of` and `verb_of` compare lengths
+//! first, since at most two keywords and at most four verbs have the same length.
 ghost use Rattle.std.specs.Prelude.{◌≡◌};
 ghost use Rattle.grammar_core.specs.Grammar.{keyword_of, verb_of, is_for_consoles};
 

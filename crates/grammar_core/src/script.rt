@@ -25,21 +25,21 @@ pub struct Script<A: Allocator> {
     pub(crate) lines: Vec<Line<A>, A>,
 }
 
-/// The names of the nodes.
+/// The names of the nodes, by number.
 pub fn node_names<A: Allocator>(script: &Script<A>) -> &Names<A>
     ensures { result.now ≡ (plain_script script.now).cast.nodes }
 {
     script.cast.nodes()
 }
 
-/// The names of the consoles.
+/// The names of the consoles, in the order of their line; none if the script has no such line.
 pub fn console_names<A: Allocator>(script: &Script<A>) -> &TextSet<A>
     ensures { result.now ≡ (plain_script script.now).cast.consoles }
 {
     script.cast.consoles()
 }
 
-/// The commands with their line numbers, in order.
+/// The commands with their line numbers, in the order of the lines.
 pub fn lines<A: Allocator>(script: &Script<A>) -> &[Line<A>]
     ensures { plain_lines result.now ≡ (plain_script script.now).lines }
 {

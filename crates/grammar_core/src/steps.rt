@@ -81,7 +81,7 @@ fn presence_with<A: Allocator + Copy>(
     })
 }
 
-/// Reads `PID TOPIC KEY META`.
+/// Reads a presence, `PID TOPIC KEY META`. `WrongCount` unless there are four words.
 #[tactic(auto, unfolding(crate::specs::Grammar::presence_of))]
 fn presence_of<A: Allocator + Copy>(alloc: A, args: &[&str]) -> Result<Presence<A>, FaultKind>
     requires { IsTrue (list_all is_visible (map (λ word. word.now) args.now)) }

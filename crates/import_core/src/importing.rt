@@ -36,7 +36,7 @@ fn lines_of<A: Allocator>(alloc: A, bytes: &[u8]) -> Result<Vec<&[u8], A>, Oom>
     bytes.split(|byte| *byte == b'\n').collect(alloc)
 }
 
-/// What an order needs to know of each event.
+/// What an order needs to know of each event, in the order of `notes`.
 fn logged<A: Allocator + Copy>(alloc: A, notes: &[Noted<A>]) -> Result<Vec<Logged, A>, Oom>
     ensures { IfOk result (λ logged. logged.items ≡ logged_of (map note_of notes.now)) }
 {
@@ -106,7 +106,7 @@ fn order_of<A: Allocator + Copy>(
 
 /// The notes of the input's events, with the tables in which their texts have numbers, and the nearest order; or the
 /// first fault. If `lenient`, leaves out each delivery and answer whose message no line sends, then those whose message
-/// no line sends but one that was left out, and so on.
+/// only lines send that were left out, and so on.
 pub fn imported<A: Allocator + Copy>(
     heap: Global,
     alloc: A,

@@ -43,7 +43,8 @@ fn awaited<A: Allocator>(step: &Option<Step<A>>) -> Option<usize>
     }
 }
 
-/// The note of an event. New texts get numbers in the tables.
+/// The note of an event. In the tables, new nodes, processes and messages, and new values whose words must be cut, get
+/// numbers.
 fn note_for<A: Allocator + Copy>(
     heap: Global,
     alloc: A,
@@ -93,7 +94,7 @@ fn note_of_event<A: Allocator + Copy>(
     Ok(note)
 }
 
-/// The note of a line; `None` if the line is blank. New texts get numbers in the tables.
+/// The note of a line; `None` if the line is blank. The tables change as in `note_for`.
 fn note_of_line<A: Allocator + Copy>(
     heap: Global,
     alloc: A,
@@ -124,7 +125,7 @@ fn add<A: Allocator + Copy>(notes: &mut Vec<Noted<A>, A>, note: Noted<A>) -> Res
     Ok(())
 }
 
-/// Appends the note of a line, unless the line is blank. New texts get numbers in the tables.
+/// Appends the note of a line, unless the line is blank. The tables change as in `note_for`.
 fn add_line<A: Allocator + Copy>(
     heap: Global,
     alloc: A,
@@ -146,8 +147,8 @@ fn add_line<A: Allocator + Copy>(
     Ok(())
 }
 
-/// The notes of all lines, which are numbered from 1; or the fault of the first line that has one. New texts get
-/// numbers in the tables.
+/// The notes of all lines, which are numbered from 1; or the fault of the first line that has one. The tables
+/// change as in `note_for`.
 pub(crate) fn noted_all<A: Allocator + Copy>(
     heap: Global,
     alloc: A,

@@ -1,4 +1,5 @@
-//! An event as a step. A text that the tables don't have yet gets a number in them.
+//! An event as a step. In the tables, new nodes, processes and messages, and new values whose words must be cut, get
+//! numbers.
 ghost use Rattle.std.specs.Prelude.{◌≡◌, ◌∷◌, [], ℕ, Err, IfOk, IfSome, OnOk, is_some, not};
 ghost use Rattle.std.specs.FinSet as set;
 ghost use Rattle.serde_json.specs.View.{view, items_view};
@@ -27,7 +28,8 @@ pub(crate) struct Presence<A: Allocator> {
     pub metadata: Word<A>,
 }
 
-/// The number of the process, and the words of a presence. New texts get numbers in the tables.
+/// The number of the process, and the words of a presence. In the tables, a process that is new, and a new value whose
+/// word must be cut, get numbers.
 pub(crate) fn presence_for<A: Allocator + Copy>(
     heap: Global,
     alloc: A,
@@ -259,7 +261,8 @@ fn status_for<A: Allocator + Copy>(
     }
 }
 
-/// The step that stands for an event; `None` for an event that lists rows. New texts get numbers in the tables.
+/// The step that stands for an event; `None` for an event that lists rows. In the tables, new nodes,
+/// processes and messages that the event takes, and new values whose words must be cut, get numbers.
 pub(crate) fn step_for<A: Allocator + Copy>(
     heap: Global,
     alloc: A,

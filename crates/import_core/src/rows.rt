@@ -15,8 +15,8 @@ use log_core::{LogEvent, Row, row_at};
 use serde_json::Value;
 use std::alloc::{Allocator, Global};
 
-/// A listed row as one of the bench, with clock 0, since a real node lists no clocks. New texts get numbers in the
-/// tables.
+/// A listed row as one of the bench, with clock 0, since a real node lists no clocks. In the tables, a new node,
+/// a new process, and a new value whose word must be cut, get numbers.
 fn row_for<A: Allocator + Copy>(
     heap: Global,
     alloc: A,
@@ -50,8 +50,8 @@ fn add_row<A: Allocator + Copy>(
     Ok(())
 }
 
-/// The listed rows as rows of the bench. Values that aren't rows are passed over; an event has no such values. New
-/// texts get numbers in the tables.
+/// The listed rows as rows of the bench. Values that aren't rows are passed over; an event has no such values. The
+/// tables change as in `row_for`.
 fn rows_for<A: Allocator + Copy>(
     heap: Global,
     alloc: A,
@@ -73,7 +73,7 @@ fn rows_for<A: Allocator + Copy>(
     Ok(rows)
 }
 
-/// The rows that an event lists, as rows of the bench; none if it lists none. New texts get numbers in the tables.
+/// The rows that an event lists, as rows of the bench; none if it lists none. The tables change as in `row_for`.
 pub(crate) fn listed_for<A: Allocator + Copy>(
     heap: Global,
     alloc: A,

@@ -180,7 +180,7 @@ impl<'a, B: Allocator> Causes<'a, B> {
         drop(self.deliveries.pop());
     }
 
-    /// Takes step `number` out of the deliveries of the message at `place`.
+    /// Takes step `number` out of the deliveries of the message at `place`, if the step is among them.
     pub(crate) fn undeliver(&mut self, place: usize, number: u64)
         requires { place < length self.old.deliveries }
         ensures own { self.new.own ≡ self.old.own }

@@ -190,8 +190,8 @@ pub(crate) fn keep<'a, B: Allocator>(
     add_step(causes, room.node as usize, number, room.sends);
 }
 
-/// Takes the step of this number, from which nothing follows, out of the slots and the indices, if it remains. All room
-/// stays.
+/// Takes the step of this number, from which nothing follows, out of the slots and the indices, if it remains. Room
+/// that was made stays.
 pub(crate) fn take_out<'a, B: Allocator>(
     slots: &mut Slots<'a, B>,
     causes: &mut Vec<Causes<'a, B>, &'a B>,

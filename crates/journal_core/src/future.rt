@@ -159,7 +159,7 @@ fn gather_back<'a, B: Allocator>(
 }
 
 /// The numbers of step `number` and of all that follows from it, greatest first; none if the step doesn't remain. For
-/// each of these steps it makes a binary search in each node's index.
+/// each of these steps it makes a binary search in each node's index, and one for each delivery of the step's message.
 pub(crate) fn future<'a, B: Allocator>(
     slots: &Slots<'a, B>,
     causes: &[Causes<'a, B>],

@@ -86,7 +86,7 @@ impl<'a, B: Allocator> Journal<'a, B> {
         }
     }
 
-    /// A walk over the steps that remain, in order.
+    /// A walk over the steps that remain, by rising number.
     pub fn steps(&self) -> Steps<'_, 'a, B>
         ensures { result ≡ kepts self.now.steps }
     {
@@ -148,8 +148,8 @@ impl<'a, B: Allocator> Journal<'a, B> {
         )
     }
 
-    /// Makes room for a step of the kind of `step` at `node` (see `Room`): after an `Ok`, the next `keep` isn't refused
-    /// if its step is of this kind. Room that was made before stays.
+    /// Makes room for a step like `step` at `node`. After an `Ok`, the next `keep` isn't refused if its step is of this
+    /// node, delivers what `step` delivers, and sends a message just if `step` does. Room that was made before stays.
     pub fn make_room(&mut self, node: u16, step: &Step<&'a B>) -> Result<(), Oom>
         requires { node < self.old.nodes }
         ensures nodes { self.new.nodes ≡ self.old.nodes }
@@ -201,7 +201,7 @@ impl<'a, B: Allocator> Journal<'a, B> {
         Ok(())
     }
 
-    /// Lends the inverse of step `number`; `None` if the step doesn't remain.
+    /// Lends the inverse of step `number`; `None` if the step doesn't remain. No other inverse may be lent meanwhile.
     pub fn lend(&mut self, number: u64) -> Option<Inverse<&'a B>>
         requires { AreAllHeld self.old.steps }
         ensures value { option_map plain_inverse result ≡ inverse_of (find_held self.old.steps number) }

@@ -1,7 +1,7 @@
 //! The journal of a cluster: the steps that remain, each with its inverse, and which of them follow from which.
 //!
 //! The crate stands on `node_core` (steps and inverses as values; what a step delivers and whether it sends), and it
-//! names the plain types of the crates below. It knows nothing of nodes and what they hold.
+//! names the plain types of the crates below. It knows nodes by their numbers alone, and nothing of what they hold.
 //!
 //! The modules in reading order: `kept`, a step with its number; `held`, a kept step with its inverse; `numbers`,
 //! rising lists of numbers; `slots`, the held steps by number; `steps`, a walk over them; `causes`, the index of one

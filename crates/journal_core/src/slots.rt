@@ -99,7 +99,7 @@ impl<'a, B: Allocator> Slots<'a, B> {
         self.slots.reserve(1)
     }
 
-    /// Appends a step for which there is room.
+    /// Appends a step for which there is room, and whose number is above all others.
     pub(crate) fn push(&mut self, held: Held<'a, B>)
         requires room { 0 < self.old.room }
         requires above { IsAboveAll held.kept.number self.old.steps }

@@ -1,5 +1,5 @@
-//! `Cone`: which names matter at a node once it has taken 0, 1, 2 and so on of its own steps, and which matter in each
-//! message. A name matters where its dots can decide what the end of a run shows to the question.
+//! `Cone`: which names matter at a node once it has taken 0, 1, 2 and so on of its own steps (all but deliveries), and
+//! which matter in each message. A name matters where its dots can decide what the end of a run shows to the question.
 ghost use Rattle.std.specs.Prelude.{◌≡◌, ◌<◌, ℕ, List, map, suc, true, IsTrue, Some, slice_get};
 ghost use Rattle.std.specs.FinSet.{contains};
 ghost use Rattle.std.specs.List.{AllByRecursion};
@@ -66,8 +66,8 @@ fn names_at<A: Allocator>(rows: &[Vec<NameSet, A>], node: usize, place: usize) -
 }
 
 /// Of the names `carried`, which matter in the message that a step sends, those whose dots the step takes from what its
-/// node has seen. For an extract these are the ones that it names, for an answer all of `carried`, and for other steps
-/// none.
+/// node has seen. For an extract these are those of `carried` that the extract names, for an answer all of `carried`, and
+/// for other steps none.
 pub fn said<A: Allocator>(step: &Step<A>, carried: NameSet) -> NameSet
     ensures { (q : ℕ) → contains carried q ≡ true → says (plain step.now) q ≡ true → contains result q ≡ true }
 {

@@ -131,7 +131,7 @@ fn put_message<'a, B: Allocator>(
     Ok(())
 }
 
-/// Whether the step sends dots that its node has seen, its own or not: an extract or an answer.
+/// Whether the step sends dots that its node has seen, the node's own or not: an extract or an answer.
 fn sends_held<A: Allocator>(step: &Step<A>) -> bool
     ensures { result ≡ sends_held (plain step.now) }
 {

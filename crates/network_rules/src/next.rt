@@ -84,8 +84,8 @@ pub fn is_end(turns: &[Turn], counts: &[usize], lost: usize, again: usize) -> bo
 
 /// Whether a step of `turn` may come next, if `before` recorded steps of the turn stand before it and `count` steps of
 /// the turn came. The first recorded step that hasn't come may. Once all recorded deliveries of the turn came, the
-/// first of them may, in place of any that comes a second time, while fewer than `again` deliveries have done so, and
-/// not yet all of the turn.
+/// first of them may come again, and stands for each of them, as all deliver the same message. But fewer than `again`
+/// deliveries of all turns must have come a second time, and not yet all of this turn.
 fn is_next_by(
     turns: &[Turn],
     counts: &[usize],

@@ -19,11 +19,11 @@ use std::alloc::Allocator;
 #[derive(Drop)]
 pub struct Acted<A: Allocator> {
     pub reply: Reply,
-    /// How the act changed the online list of the node whose step it took or took back. No rows if it was refused.
+    /// How the act changed the online list of the node whose step it took or took back. No rows if the act was refused.
     pub change: Diff<A>,
 }
 
-/// Makes an act on the bench, and gives the reply. `OutOfMemory` is an error, not a reply.
+/// Makes an act on the bench, and gives the reply. The reply `OutOfMemory` comes back as an error.
 pub fn answer<'a, B: Allocator>(
     bench: &mut Bench<'a, B>,
     actor: u16,

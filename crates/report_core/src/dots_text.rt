@@ -32,7 +32,7 @@ pub fn cloud_of<A: Allocator>(dots: &DotSet<A>, name: u16) -> &[u64]
     dots.cloud_of(name)
 }
 
-/// `up`, `down` or `unknown`.
+/// `up` or `down`; `unknown` for `None`.
 #[tactic(auto, unfolding(crate::specs::Dots::status_text))]
 fn status_text(status: Option<Status>) -> &'static str
     ensures { result.now ≡ status_text status }

@@ -22,7 +22,7 @@ pub(crate) struct Parts<'t> {
     pub(crate) metadata: &'t str,
 }
 
-/// Appends the line to the text.
+/// Appends the line to the text, and leaves the line as it is.
 pub(crate) fn end<A: Allocator>(text: &mut String<A>, line: &Line) -> Result<(), Oom>
     ensures { OnOk result (string_bytes text.new ≡ string_bytes text.old ++ line.now.bytes) }
 {

@@ -21,8 +21,8 @@ use payload_core::Oom;
 use std::alloc::Allocator;
 use std::marker::Model;
 
-/// The rows that left the online list of a node in several undos, and those that joined it, each as often as it did. A
-/// contract sees both.
+/// The rows that left the online list of a node in several undos, and those that joined it, each row as often as it
+/// left or joined. A contract sees both.
 #[derive(Drop)]
 pub struct Moved<'a, B: Allocator> {
     left: Vec<OnlineRow<&'a B>, &'a B>,

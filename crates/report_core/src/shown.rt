@@ -30,7 +30,7 @@ impl<'a, B: Allocator> Model for Listed<'a, B> {
 }
 
 impl<'a, B: Allocator> Listed<'a, B> {
-    /// The online list with these rows.
+    /// The online list with these rows, which must be in order.
     fn new(rows: Vec<OnlineRow<&'a B>, &'a B>) -> Self
         requires { AreInOrder rows.items }
         ensures { result ≡ rows.entry.items }
@@ -47,7 +47,7 @@ impl<'a, B: Allocator> Listed<'a, B> {
         }
     }
 
-    /// The rows of the list.
+    /// The rows of the list, in order.
     pub fn rows(&self) -> &[OnlineRow<&'a B>]
         ensures rows { result.now ≡ self.now }
         ensures in_order { AreInOrder self.now }

@@ -36,7 +36,7 @@ fn put_refusal<'a, B: Allocator>(text: &mut String<&'a B>, fault: Fault) -> Resu
     put_reply(text, Reply::Refused(fault))
 }
 
-/// Appends the future of a step, or why there is none.
+/// Appends the line `future N ..` of a step, or the refusal if the step doesn't remain.
 #[tactic(auto, unfolding(crate::specs::ActTexts::why_text))]
 pub fn why<'a, B: Allocator>(
     text: &mut String<&'a B>,

@@ -36,7 +36,7 @@ impl<'a, B: Allocator> Model for Prompt<'a, B> {
 }
 
 impl<'a, B: Allocator> Prompt<'a, B> {
-    /// A prompt whose first significant line must name the nodes.
+    /// A prompt without nodes: the first line that has words and isn't a comment must name them.
     pub fn new(alloc: &'a B, limits: Limits) -> Prompt<'a, B>
         ensures { result ≡ new_prompt limits }
     {
@@ -65,7 +65,7 @@ impl<'a, B: Allocator> Prompt<'a, B> {
         }
     }
 
-    /// Opens the bench, if the nodes are named and it isn't open.
+    /// Opens the bench, if the nodes are named and the bench isn't open yet.
     fn open(&mut self) -> Result<(), Oom>
         ensures { OnOk result (self.new ≡ record self.old { machine = opened self.old.limits self.old.cast self.old.machine }) }
     {

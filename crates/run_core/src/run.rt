@@ -47,14 +47,15 @@ pub fn lines<'a, B: Allocator>(
     Ok(())
 }
 
-/// The bench on which a script was played, and the report.
+/// The bench as a play of a script left it, and the report of the play.
 #[derive(Drop)]
 pub struct Played<'a, B: Allocator> {
     pub bench: Bench<'a, B>,
     pub report: Vec<u8, &'a B>,
 }
 
-/// Plays a script on a new bench with these limits.
+/// Plays a script on a new bench with these limits. What the bench refuses stands in the report; only refused memory is
+/// an error.
 #[tactic(auto, unfolding(crate::specs::Report::played, crate::specs::Report::report_of))]
 pub fn run_script<'a, B: Allocator>(
     alloc: &'a B,

@@ -31,7 +31,7 @@ fn asks_at<'a, B: Allocator>(history: &History<'a, B>, place: usize, line: &Line
     }
 }
 
-/// Whether the lines ask for the recorded calls, all of them and no others.
+/// Whether the lines ask for the recorded calls in their order, all of them and no others.
 fn ask_calls<'a, B: Allocator>(history: &History<'a, B>, lines: &[Line<&'a B>]) -> bool
     ensures { IsTrue result ↔ (commands_of (plain_lines lines.now) ≡ map call_of history.now) }
 {
@@ -43,7 +43,7 @@ fn ask_calls<'a, B: Allocator>(history: &History<'a, B>, lines: &[Line<&'a B>]) 
     lines.len() == history.len()
 }
 
-/// Whether the script names the nodes of the bench, and asks for its recorded calls.
+/// Whether the script names the nodes of the bench, and asks for the bench's recorded calls and nothing else.
 fn asks<'a, B: Allocator>(bench: &Bench<'a, B>, script: &Script<&'a B>) -> bool
     ensures { IsTrue result ↔ Asks bench.now (plain_script script.now) }
 {

@@ -71,7 +71,7 @@ fn put_cast<A: Allocator, N: Allocator, C: Allocator>(
     put_consoles(text, consoles)
 }
 
-/// Appends the line of a recorded call.
+/// Appends the line of a recorded call, and a line feed.
 fn put_event<A: Allocator, N: Allocator, C: Allocator, W: Allocator>(
     text: &mut String<A>,
     nodes: &Names<N>,

@@ -100,7 +100,7 @@ fn put_undone<A: Allocator, N: Allocator, C: Allocator>(
     Ok(text.push_str(actor_name(nodes, consoles, actor))?)
 }
 
-/// Appends who took the step back; nothing if nobody did.
+/// Appends that `taker` took the step back; nothing if `taker` is `None`.
 fn put_taker<A: Allocator, N: Allocator, C: Allocator>(
     text: &mut String<A>,
     nodes: &Names<N>,

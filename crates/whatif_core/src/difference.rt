@@ -15,7 +15,7 @@ pub struct Difference<A: Allocator> {
     pub kind: Kind,
     /// The place of the step among those that remain, counted from 0.
     pub place: usize,
-    /// The places beside which the step comes, nearest first; only its own place if it is left out.
+    /// The places beside which the step comes, nearest first; only the step's own place if the step is left out.
     pub besides: Vec<usize, A>,
     pub rows: Vec<OnlineRow<A>, A>,
 }
@@ -62,7 +62,7 @@ impl<A: Allocator> Model for Tally<A> {
     ghost view = { λ t. record { possible = t.possible; differ = t.differ; told = t.told.items } };
 }
 
-/// Whether both lists have the same rows.
+/// Whether both lists have the same rows in the same order.
 fn are_same<A: Allocator>(rows: &[OnlineRow<A>], others: &[OnlineRow<A>]) -> bool
     ensures { result ≡ are_same rows.now others.now }
 {
@@ -122,7 +122,7 @@ fn put_with<A: Allocator + Copy>(
 }
 
 impl<A: Allocator + Copy> Tally<A> {
-    /// The tally before the first change.
+    /// The tally before the first change: both counts are 0, and there is no difference.
     pub(crate) fn new(alloc: A) -> Self
         ensures { result ≡ nothing }
     {

@@ -33,8 +33,8 @@ pub struct Differences<A: Allocator> {
     pub told: Vec<Difference<A>, A>,
 }
 
-/// Counts each of the changes `tried` in the tally, by the rows to which it leads. After each it tells `watch` how many
-/// were tried.
+/// Finds the rows to which each of the changes `tried` leads, and counts the change in the tally by these rows. Tells
+/// `watch` after each change how many were tried.
 fn count_all<'a, B: Allocator, W: Watch<Tried>>(
     tally: &mut Tally<&'a B>,
     search: &mut Search<'a, B>,
@@ -69,7 +69,8 @@ fn count_all<'a, B: Allocator, W: Watch<Tried>>(
     Ok(())
 }
 
-/// The tally of these changes.
+/// Tries the changes `tried` in turn on a new search, and gives how many are possible, how many make a difference to
+/// the rows `before`, and the differences. Tells `watch` after each change how many were tried.
 fn tally_of<'a, B: Allocator, W: Watch<Tried>>(
     bench: &Bench<'a, B>,
     steps: &[Kept<&'a B>],
