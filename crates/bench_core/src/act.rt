@@ -5,7 +5,7 @@ ghost use Rattle.bench_core.specs.Acts.{plain_act};
 use node_core::{Oom, Step};
 use std::alloc::Allocator;
 
-/// What a bench is asked.
+/// What one call asks of a bench: a step, or to take a step back.
 #[derive(Drop)]
 pub enum Act<A: Allocator> {
     /// A step of the node that asks.

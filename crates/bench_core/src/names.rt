@@ -117,8 +117,8 @@ impl<A: Allocator> Names<A> {
 }
 
 impl<A: Allocator + Copy> Names<A> {
-    /// The names in this order, or their first fault. `new` looks at their count first, and then at each text in turn:
-    /// whether it is a name, and then whether it is new.
+    /// The texts as names, in their order, or the first fault. `new` looks first at how many texts there are, and then
+    /// at each text in turn: whether it is a name, and then whether it is new.
     pub fn new(alloc: A, texts: &[&str]) -> Result<Names<A>, NamesFault>
         ensures gives { GivesUnless NamesFault.OutOfMemory (λ names. names) result (names_of (map (λ text. text.now) texts.now)) }
         ensures texts { IfOk result (λ names. names ≡ map (λ text. text.now) texts.now) }

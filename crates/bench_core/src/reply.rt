@@ -3,7 +3,7 @@ ghost use Rattle.std.specs.Prelude.{◌≡◌, ◌↔◌, IsTrue};
 
 use crate::fault::Fault;
 
-/// What a bench answers.
+/// What a bench answers to one call.
 #[derive(Clone, Copy, Debug, PartialEq, Eq)]
 pub enum Reply {
     /// The step was taken, and has this number. Numbers rise from 1 and are never used again.

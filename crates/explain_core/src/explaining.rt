@@ -268,8 +268,8 @@ fn put_some<'a, A: Allocator, B: Allocator>(
     put
 }
 
-/// Appends what `explain` tells of each presence. It follows up to 512 at a time, so that their tracks take little
-/// memory.
+/// Appends what `explain` tells of each presence. Follows up to 512 presences at a time, so that their tracks take
+/// little memory.
 #[tactic(auto, unfolding(crate::specs::Explanations::making_texts))]
 fn put_makings<'a, A: Allocator, B: Allocator>(
     bench: &Bench<'a, B>,

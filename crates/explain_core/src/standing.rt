@@ -7,7 +7,7 @@ use dots_core::{Dot, DotSet};
 use payload_core::{EntrySet, Payload};
 use std::alloc::Allocator;
 
-/// How a dot stands.
+/// How a dot stands at a node or in a message.
 #[derive(Clone, Copy, Debug, PartialEq, Eq)]
 pub enum Standing {
     /// The dot wasn't seen, or was forgotten.

@@ -65,8 +65,8 @@ fn widen_message(
     add(carries, index(width, sender, place), names)
 }
 
-/// Adds to the set in `matters` before the own step `kept` the names that matter to the node after it, and those that
-/// the step takes into its message (see `said`). Says whether any of them is new in that set.
+/// Adds the names that matter to the node after the own step `kept`, and those that the step takes into its message
+/// (see `said`), to the set in `matters` before the step. Says whether any of them is new in that set.
 fn widen_node<A: Allocator>(
     matters: &mut [NameSet],
     carries: &[NameSet],

@@ -106,7 +106,7 @@ fn order_of<A: Allocator + Copy>(
 
 /// The notes of the input's events, with the tables in which their texts have numbers, and the nearest order; or the
 /// first fault. If `lenient`, leaves out each delivery and answer whose message no line sends, then those whose message
-/// only lines send that were left out, and so on.
+/// only left-out lines send, and so on.
 pub fn imported<A: Allocator + Copy>(
     heap: Global,
     alloc: A,

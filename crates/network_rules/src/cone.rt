@@ -66,8 +66,8 @@ fn names_at<A: Allocator>(rows: &[Vec<NameSet, A>], node: usize, place: usize) -
 }
 
 /// Of the names `carried`, which matter in the message that a step sends, those whose dots the step takes from what its
-/// node has seen. For an extract these are those of `carried` that the extract names, for an answer all of `carried`, and
-/// for other steps none.
+/// node has seen. For an extract these are those of `carried` that the extract names, for an answer all of `carried`,
+/// and for other steps none.
 pub fn said<A: Allocator>(step: &Step<A>, carried: NameSet) -> NameSet
     ensures { (q : ℕ) → contains carried q ≡ true → says (plain step.now) q ≡ true → contains result q ≡ true }
 {

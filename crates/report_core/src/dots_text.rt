@@ -10,7 +10,7 @@ use payload_core::Oom;
 use replica_core::{Replica, Status};
 use std::alloc::Allocator;
 
-/// The context clock of a name.
+/// The context clock of a name, which must be below 32.
 pub fn clock_of<A: Allocator>(dots: &DotSet<A>, name: u16) -> u64
     requires name { name < 32 }
     requires valid { AreValid dots.now }
@@ -21,7 +21,7 @@ pub fn clock_of<A: Allocator>(dots: &DotSet<A>, name: u16) -> u64
     dots.clock_of(name)
 }
 
-/// The cloud of a name, by rising clock.
+/// The cloud of a name, which must be below 32, by rising clock.
 pub fn cloud_of<A: Allocator>(dots: &DotSet<A>, name: u16) -> &[u64]
     requires name { name < 32 }
     requires valid { AreValid dots.now }

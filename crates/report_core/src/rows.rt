@@ -1,4 +1,5 @@
-//! Appends rows, how two lists differ, replies and numbers of steps to a text.
+//! Appends rows, how two lists differ, replies and numbers of steps to a text. Where a function takes a `line` beside
+//! the text, the line holds the text's end, not yet appended (see `Line`).
 ghost use Rattle.std.specs.Prelude.{◌≡◌, ◌++◌, OnOk, string_bytes};
 ghost use Rattle.report_core.specs.Rows.{name_at, row_text, row_line, row_lines, change_lines, is_no_change, changed_text, online_text};
 ghost use Rattle.report_core.specs.Rows.{reply_line, spaced_numbers, future_line, undone_lines};

@@ -1,4 +1,5 @@
-//! How a step changed the online list of its node, found by the inverse of the step.
+//! How a step changed the online list of its node, found by the inverse of the step. Where a function takes a `line`
+//! beside the text, the line holds the text's end, not yet appended (see `Line`).
 ghost use Rattle.std.specs.Prelude.{◌≡◌, ◌++◌, IfOk, None, OnOk, [], codes, string_bytes};
 ghost use Rattle.node_core.specs.Inverses.{plain_inverse, LeadsSomewhere};
 ghost use Rattle.journal_core.specs.Journals.{first_consequence};
