@@ -42,6 +42,7 @@ fn explored<'a, B: Allocator, W: Watch<Walked>>(
 }
 
 /// What the network could have made of the remaining steps, as a text: each outcome, with a run that leads there.
+/// `NoSuchNode` and `NoWord` come before the walk.
 pub fn explore_asked<'a, B: Allocator, W: Watch<Walked>>(
     alloc: &'a B,
     bench: &Bench<'a, B>,
@@ -72,7 +73,8 @@ fn outcome_at<'l, 'a, B: Allocator>(
     outcomes.get(place as usize)
 }
 
-/// The run of the outcome with this number in the text, as a script that plays it. `NoSuchOutcome` if there is none.
+/// The run of the outcome with this number in the text, as a script that plays it. `NoSuchOutcome` if no
+/// outcome has that number.
 pub fn run_of_outcome<'a, B: Allocator, W: Watch<Walked>>(
     alloc: &'a B,
     bench: &Bench<'a, B>,

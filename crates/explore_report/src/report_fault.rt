@@ -9,13 +9,13 @@ use thiserror::Error;
 /// Why there is no text.
 #[derive(Clone, Copy, Debug, PartialEq, Eq, Error)]
 pub enum ReportFault {
-    /// No node has this name.
+    /// No node has the name that is asked about.
     #[error("NoSuchNode")]
     NoSuchNode,
     /// The topic or the key isn't a word, so nothing is tracked under it.
     #[error("NoWord")]
     NoWord,
-    /// The walk would have to keep more than `states` states. It had found `outcomes` outcomes.
+    /// The walk would have to keep more than `states` states. Up to then it had found `outcomes` outcomes.
     #[error("TooManyStates, more than {states}, outcomes so far {outcomes}")]
     TooManyStates { states: usize, outcomes: usize },
     /// The joins and updates make more entries than a node may hold, so some order might be refused (`EntriesFull`).

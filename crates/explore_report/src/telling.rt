@@ -118,7 +118,7 @@ fn put_explored<'a, B: Allocator>(
     put_outcomes(bench, text, question, outcomes, alloc)
 }
 
-/// The text of all that was found.
+/// The text of what was found: the head, and each outcome.
 pub(crate) fn tell<'a, B: Allocator>(
     bench: &Bench<'a, B>,
     question: &Question<&'a B>,

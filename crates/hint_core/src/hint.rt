@@ -152,7 +152,7 @@ fn put_letter<A: Allocator + Copy>(
     )
 }
 
-/// Appends the text of a hint.
+/// Appends the text of a hint, without `hint: ` before it and the line feed behind it.
 fn put_body<A: Allocator + Copy>(alloc: A, line: &mut Vec<u8, A>, hint: Hint<'_>) -> Result<(), Oom>
     ensures { OnOk result (line.new.items ≡ line.old.items ++ body (plain_hint hint.entry)) }
 {

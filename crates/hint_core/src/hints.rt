@@ -15,8 +15,8 @@ use crate::words_hint::{bad_number, no_nodes, not_allowed, unknown_word, wrong_c
 use grammar_core::{FaultKind, ScriptFault};
 use std::alloc::Allocator;
 
-/// The hint for the line `line` with the fault `kind`; `None` if there is none. `number` is the number of the line,
-/// which stands behind the first `count` lines of `bytes`.
+/// The hint for the line `line` with the fault `kind`; `None` if that fault has no hint. `number` is the number of the
+/// line, which stands behind the first `count` lines of `bytes`.
 #[tactic(auto, unfolding(crate::specs::Choices::hint_of_line))]
 fn hint_of_line<'l>(
     number: u64,
@@ -43,7 +43,7 @@ fn hint_of_line<'l>(
     }
 }
 
-/// The hint for a fault of the whole input; `None` if there is none.
+/// The hint for a fault of the whole input; `None` if a fault of this kind has no hint.
 #[tactic(auto, unfolding(crate::specs::Choices::hint_of_whole))]
 fn hint_of_whole(bytes: &[u8], kind: FaultKind) -> Option<Hint<'static>>
     ensures { option_map plain_hint result ≡ hint_of_whole bytes.now kind }
@@ -86,7 +86,7 @@ fn wants_memory(kind: FaultKind) -> bool
     matches!(kind, FaultKind::OutOfMemory)
 }
 
-/// The hint for the first fault of a script; `None` if there is none.
+/// The hint for the first fault of a script; `None` if that fault has no hint.
 #[tactic(auto, unfolding(crate::specs::Choices::hint_of))]
 fn hint_of(bytes: &[u8], fault: ScriptFault) -> Option<Hint<'_>>
     ensures { option_map plain_hint result ≡ hint_of bytes.now fault }
@@ -105,7 +105,8 @@ fn hint_of(bytes: &[u8], fault: ScriptFault) -> Option<Hint<'_>>
     hint_at(bytes, fault.line, fault.kind)
 }
 
-/// The hint for a script that was refused with this fault, as a line with its line feed; `None` if there is none.
+/// The hint for a script that was refused with this fault, as a line with its line feed; `None` if the fault
+/// has no hint.
 pub fn script_hint<A: Allocator + Copy>(
     alloc: A,
     bytes: &[u8],

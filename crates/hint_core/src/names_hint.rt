@@ -110,8 +110,8 @@ fn no_node<'l>(bytes: &[u8], count: usize, words: &[&'l str]) -> &'l str
     ""
 }
 
-/// At which place of a line, counted from 0, the words begin that should name nodes: 1 if the line's first word,
-/// `first`, is a reserved one, and else 2, behind an actor's verb.
+/// The place, counted from 0, of a line's first word that should name a node: 1 if the line begins with a reserved word
+/// (`first`), and else 2, behind an actor's verb.
 fn name_place(first: &str) -> usize
     ensures { result ≡ name_place first.now }
 {

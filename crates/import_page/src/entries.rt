@@ -37,8 +37,8 @@ fn put_time<A: Allocator>(text: &mut String<A>, time: &Option<String>) -> Result
     }
 }
 
-/// Appends `{"line":L,"time":"TIME"`, where L is `number`, with no `time` if the line has none, and with a comma before
-/// it unless `place` is 0.
+/// Appends `{"line":L,"time":"TIME"`, where L is `number`, with no `time` if the line has none, and with a comma in
+/// front unless `place` is 0.
 #[tactic(auto, unfolding(crate::specs::Entries::head_text))]
 fn put_head<A: Allocator>(
     text: &mut String<A>,
@@ -86,8 +86,9 @@ fn ask<'a, B: Allocator>(
     }
 }
 
-/// Plays an event, and appends what it tells besides its call. An event that lists rows tells those that only its list
-/// or only the bench's has. A step that can't be asked (see `asked`) tells that it can't. Other steps tell nothing.
+/// Plays an event, and appends what the event tells besides its call. An event that lists rows tells the rows that only
+/// its list has, and those that only the bench's has. A step that can't be asked (see `asked`) tells that. Other steps
+/// tell nothing.
 #[tactic(auto, unfolding(import_report::specs::Events::after_event))]
 fn put_told<'a, B: Allocator>(
     bench: &mut Bench<'a, B>,

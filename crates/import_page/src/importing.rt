@@ -98,7 +98,7 @@ fn played<'a, B: Allocator>(
     }
 }
 
-/// The bench and the keys of an import.
+/// The bench on which the events of an import were played, and the keys that tell of the logs.
 fn shown_of<'a, B: Allocator>(
     heap: Global,
     alloc: &'a B,

@@ -25,7 +25,7 @@ fn put_ascii<A: Allocator>(text: &mut String<A>, c: char) -> Result<(), Oom>
     Ok(text.push(c)?)
 }
 
-/// Appends one hexadecimal digit.
+/// Appends `value` as a hexadecimal digit.
 fn put_digit<A: Allocator>(text: &mut String<A>, value: u32) -> Result<(), Oom>
     requires { value < 16 }
     ensures { OnOk result (string_bytes text.new ≡ string_bytes text.old ++ hex_digit value ∷ []) }
@@ -81,7 +81,7 @@ fn put_string_char<A: Allocator>(text: &mut String<A>, c: char) -> Result<(), Oo
     put_char(text, c)
 }
 
-/// This JSON text, in ASCII.
+/// This JSON text, with each character escaped that is neither a visible byte nor a space.
 pub(crate) fn ascii_text<A: Allocator>(alloc: A, json: &str) -> Result<String<A>, Oom>
     ensures { IfOk result (λ s. string_bytes s ≡ ascii_text json.now) }
 {

@@ -70,8 +70,8 @@ pub fn rows_at<'a, B: Allocator>(
     }
 }
 
-/// Compares the list that a real node listed (in `note`) with the bench's list of that node. Appends where the two
-/// lists part, and says whether they agree.
+/// Compares the list that a real node listed (in `note`) with the bench's list of that node, whatever the clocks.
+/// Appends where the two lists part, and says whether they agree.
 fn check_list<'a, B: Allocator>(
     bench: &Bench<'a, B>,
     text: &mut String<&'a B>,

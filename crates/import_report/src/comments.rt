@@ -16,7 +16,7 @@ use std::alloc::Allocator;
 /// The most bytes of a text in a comment.
 const LONGEST_TOLD: usize = 4000;
 
-/// The text; if it has more than 4,000 bytes, its first 4,000 and `..`.
+/// The text, which must be ASCII; if it has more than 4,000 bytes, its first 4,000 and `..`.
 fn shortened<A: Allocator>(alloc: A, text: &str) -> Result<String<A>, Oom>
     requires { is_text text.now ≡ true }
     ensures { IfOk result (λ s. string_bytes s ≡ shortened text.now) }

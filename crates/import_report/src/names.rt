@@ -55,7 +55,7 @@ fn texts_as_words<'t, A: Allocator + Copy>(
     Ok(words)
 }
 
-/// The first `count` of these words.
+/// The first `count` of these words, which must be as many or more.
 fn first_words<'s, 't>(words: &'s [&'t str], count: usize) -> &'s [&'t str]
     requires { count ≤ length words.now }
     ensures { result.now ≡ take count words.now }
@@ -63,7 +63,7 @@ fn first_words<'s, 't>(words: &'s [&'t str], count: usize) -> &'s [&'t str]
     &words[..count]
 }
 
-/// The names `n0`, `n1` and so on, `count` of them.
+/// The names `n0`, `n1` and so on, `count` of them; `count` is 1 to 32.
 fn numbered_names<A: Allocator + Copy>(alloc: A, count: usize) -> Result<Names<A>, Oom>
     requires some { 0 < count }
     requires few { count ≤ 32 }

@@ -19,7 +19,7 @@ fn number_at(numbers: &[u64], message: u64) -> Option<u64>
 }
 
 /// The step to ask of the bench: a delivery or an answer gets the number that its message has in the sender's outbox.
-/// `None` if the bench didn't send that message, or if an extract names no node.
+/// `None` if the sender didn't send that message on the bench, or if an extract names no node. Other steps are copied.
 pub fn asked<A: Allocator + Copy>(step: &Step<A>, numbers: &[u64]) -> Result<Option<Step<A>>, Oom>
     ensures { IfOk result (λ s. option_map plain s ≡ asked numbers.now (plain step.now)) }
 {

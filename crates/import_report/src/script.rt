@@ -88,7 +88,8 @@ fn put_head<'a, B: Allocator>(
     put_comments(alloc, text, names, tables)
 }
 
-/// Makes the script of the events in this order, by playing them on a bench with these names and limits.
+/// Makes the script of the events in this order, by playing them on a bench with these names and limits. `order` has
+/// their places in `notes`; `told` is as for `put_lines`.
 #[tactic(auto, unfolding(crate::specs::Scripts::script_text))]
 pub(crate) fn script_of<'a, B: Allocator>(
     alloc: &'a B,

@@ -17,8 +17,8 @@ use std::alloc::Allocator;
 /// What must be known of a bench before a call.
 #[derive(Drop)]
 pub struct Before<'a, B: Allocator> {
-    /// What the call's step reads, as keys of the call's JSON object; empty if the call is an undo or a back, or its
-    /// actor isn't a node.
+    /// What the call's step reads (see `put_reads`), as keys of the call's JSON object; empty if the call is an undo or
+    /// a back, or its actor isn't a node.
     pub reads: String<&'a B>,
     /// The node that the call asks to change. For a step it is the actor, even one that isn't a node; for an undo or a
     /// back it is the node of the step to take back, or `None` if there is no such step.
@@ -67,8 +67,8 @@ fn node_if<'x, 'a, B: Allocator>(
     }
 }
 
-/// What the call's step reads, as keys of the call's JSON object; empty if the call is an undo or a back, or the actor
-/// isn't a node.
+/// What the call's step reads (see `put_reads`), as keys of the call's JSON object; empty if the call is an undo or a
+/// back, or the actor isn't a node.
 fn reads<'a, B: Allocator>(
     bench: &Bench<'a, B>,
     actor: u16,
@@ -88,7 +88,7 @@ fn reads<'a, B: Allocator>(
 }
 
 impl<'a, B: Allocator> Before<'a, B> {
-    /// What must be known of the bench before this call.
+    /// Gathers what must be known of the bench before this call, and leaves the bench unchanged.
     pub fn of(
         bench: &Bench<'a, B>,
         actor: u16,

@@ -271,7 +271,7 @@ fn put_act<'a, B: Allocator>(
 }
 
 /// Makes the recorded call at `place`, counted from 0, on the bench, and appends its JSON object, after a comma unless
-/// it is the first.
+/// `place` is 0.
 pub fn put_event<'a, B: Allocator>(
     text: &mut String<&'a B>,
     bench: &mut Bench<'a, B>,

@@ -46,7 +46,7 @@ fn put_clocks<A: Allocator>(clocks: &mut Vec<u64, A>, last: u64) -> Result<(), O
     Ok(())
 }
 
-/// The clocks of a name's dots: those from 1 to its context clock, and its cloud.
+/// The clocks of a name's dots in `seen`, rising: those from 1 to the name's context clock, and the name's cloud.
 #[tactic(auto, unfolding(crate::specs::Carried::clocks_of))]
 pub fn clocks_of<A: Allocator, R: Allocator>(
     seen: &DotSet<R>,
@@ -64,7 +64,7 @@ pub fn clocks_of<A: Allocator, R: Allocator>(
     Ok(clocks)
 }
 
-/// How many clocks the cloud of a name has.
+/// How many clocks the cloud of a name has in `seen`.
 #[tactic(auto, unfolding(crate::specs::Carried::more_of))]
 pub fn more_of<R: Allocator>(seen: &DotSet<R>, name: u16) -> u64
     requires { name < 32 }
@@ -75,7 +75,7 @@ pub fn more_of<R: Allocator>(seen: &DotSet<R>, name: u16) -> u64
     cloud_of(seen, name).len() as u64
 }
 
-/// The context clock of a name.
+/// The context clock of a name in `seen`; 0 if the name's dot with clock 1 isn't there.
 pub fn last_of<R: Allocator>(seen: &DotSet<R>, name: u16) -> u64
     requires { name < 32 }
     ensures { result ≡ clock_of seen.now name }

@@ -98,8 +98,8 @@ fn run_text<'a, B: Allocator>(
     Ok(text)
 }
 
-/// The data of the page of a bench: its recorded calls as JSON, made again on a new bench with the same names and
-/// limits. `consoles` has the names of the consoles. No `<` stands in the data.
+/// The data of the page of a bench, as JSON: the names of nodes and consoles (`consoles`), and what the page tells of
+/// each recorded call, made again on a new bench with the same names and limits. No `<` stands in the data.
 #[tactic(auto, unfolding(crate::specs::PageData::page_data))]
 pub fn page_data<'a, B: Allocator>(
     alloc: &'a B,

@@ -52,7 +52,7 @@ fn put_char<A: Allocator>(text: &mut String<A>, c: char) -> Result<(), Oom>
     Ok(text.push(c)?)
 }
 
-/// Appends what stands between the quotation marks of a string.
+/// Appends the characters of `string`, each as `put_char` does.
 #[tactic(auto, unfolding(crate::specs::Json::string_chars))]
 fn put_chars<A: Allocator>(text: &mut String<A>, string: &str) -> Result<(), Oom>
     ensures { OnOk result (string_bytes text.new ≡ string_bytes text.old ++ string_chars string.now) }
@@ -63,7 +63,7 @@ fn put_chars<A: Allocator>(text: &mut String<A>, string: &str) -> Result<(), Oom
     Ok(())
 }
 
-/// Appends a string with its quotation marks.
+/// Appends `string` as a JSON string: in quotation marks, with the escapes that `put_char` writes.
 #[tactic(auto, unfolding(crate::specs::Json::string_text))]
 pub fn put_string<A: Allocator>(text: &mut String<A>, string: &str) -> Result<(), Oom>
     ensures { OnOk result (string_bytes text.new ≡ string_bytes text.old ++ string_text string.now) }

@@ -19,14 +19,14 @@ pub fn change_law()
     ensures { ChangeLaw }
 {}
 
-/// The rows that left and joined a node's online list during a sequence of calls lead from its list before these calls
-/// to its list after them.
+/// The rows that left and joined a node's online list during a sequence of calls lead from the list before these calls
+/// to the list after them.
 pub fn rows_law()
     ensures { RowsLaw }
 {}
 
-/// Applied in order to what a node had seen before a sequence of calls, the `dots` of these calls lead to what it has
-/// seen after them.
+/// Applied in order to what a node had seen before a sequence of calls, the `dots` of these calls lead to what the
+/// node has seen after them.
 pub fn dots_law()
     ensures { DotsLaw }
 {}

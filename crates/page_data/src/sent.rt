@@ -16,7 +16,7 @@ fn stands_so<R: Allocator>(message: &Payload<R>, name: u16, wanted: u64, clock: 
     standing_told(message, Dot { name, clock }) == wanted
 }
 
-/// Appends the clock, if it is wanted.
+/// Appends `clock`, if `is_wanted`.
 fn put_clock_if<A: Allocator>(
     numbers: &mut Vec<u64, A>,
     clock: u64,

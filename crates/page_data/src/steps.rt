@@ -107,7 +107,7 @@ fn put_broadcast<'a, B: Allocator>(
 }
 
 /// Appends what `message`, which `step` sent, carries: for a broadcast the clocks of the dots of `name` in it, and else
-/// the names below `count` of which it has dots.
+/// the names below `count` of which the message has dots.
 fn put_carried<'a, B: Allocator>(
     text: &mut String<&'a B>,
     step: &Step<&'a B>,
@@ -242,8 +242,8 @@ fn put_made<'a, B: Allocator>(
     }
 }
 
-/// Appends what a step gave, after it was taken: what it sent and made, and how the node's own presences stand from
-/// then on. `bench` is the bench after the step; `diff` says how the step changed the node's online list.
+/// Appends what a step gave, after it was taken: what it sent and made, and which of the node's own presences came or
+/// went by it. `bench` is the bench after the step; `diff` says how the step changed the node's online list.
 #[tactic(auto, unfolding(crate::specs::PageData::gives_keys))]
 pub fn put_gives<'a, B: Allocator>(
     text: &mut String<&'a B>,

@@ -31,7 +31,7 @@ impl Kind {
         }
     }
 
-    /// The class of SVG that shapes of this kind have.
+    /// The value of the attribute `class` for shapes and words of this kind.
     pub fn class(self) -> &'static str
         ensures { result.now ≡ class_of self }
     {

@@ -42,8 +42,8 @@ pub fn with_length(longest: u32, bytes: usize) -> u32
     if longest < bytes { bytes } else { longest }
 }
 
-/// Appends a call's row to the rows of `layers`, and notes there how long its words are. `changed` is the node that the
-/// call changed.
+/// Appends a call's row to the rows of `layers`, and notes there how long the row's words are. `changed` is the node
+/// that the call changed.
 #[tactic(auto, unfolding(crate::specs::Rows::row_told))]
 fn put_drawn<'a, N: Allocator, B: Allocator>(
     names: &Names<N>,
@@ -217,8 +217,8 @@ fn put_events<'a, B: Allocator>(
     Ok(())
 }
 
-/// What is drawn of the calls that a bench recorded: the rows in `range`, the messages that it shows, and every change
-/// of the lanes. To draw the calls it makes them again on a new bench.
+/// What is drawn of the calls that a bench recorded: the rows in `range`, the messages that `range` shows, and every
+/// change of the lanes. To draw the calls, this makes them again on a new bench.
 #[tactic(auto, unfolding(crate::specs::Pictures::messages, crate::specs::Pictures::rows, crate::specs::Pictures::longest, crate::specs::Pictures::turns))]
 pub fn layers_of<'a, B: Allocator>(
     bench: &Bench<'a, B>,

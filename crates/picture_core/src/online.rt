@@ -119,7 +119,7 @@ fn push_turn<A: Allocator>(
 }
 
 /// Appends a change of the node's lane, if the call in this row made the node begin or stop listing what is asked
-/// about. It looks through the online list only if a row of that topic and key left or joined. `bench` is the bench
+/// about. The node's online list is made only if a row of that topic and key left or joined. `bench` is the bench
 /// after the call.
 fn note_change<'a, B: Allocator, W: Allocator>(
     bench: &Bench<'a, B>,
@@ -197,8 +197,8 @@ fn put_end<A: Allocator>(path: &mut String<A>, listing: bool, last: u32) -> Resu
 }
 
 /// The thick parts of a node's lane, as a path. The pen goes to where the node begins listing what is asked about, and
-/// draws to where it stops or, if it doesn't stop, to where row `last` begins. Parts outside the drawn rows are cut off
-/// by the `viewBox`.
+/// draws to where the node stops listing that or, if the node doesn't stop, to where row `last` begins. Parts outside
+/// the drawn rows are cut off by the `viewBox`.
 pub fn bar_path<'a, B: Allocator>(
     turns: &[Turn],
     nodes: u32,

@@ -38,7 +38,7 @@ text.back{fill:#555;stroke:none}\
 circle.refused{fill:white;stroke:#c01818}\
 text.refused{fill:#c01818}";
 
-/// Appends the style of the picture.
+/// Appends `STYLE`, in an element.
 #[tactic(auto, unfolding(crate::specs::Pictures::style, crate::specs::Pictures::style_text))]
 fn put_style<A: Allocator>(text: &mut String<A>) -> Result<(), Oom>
     ensures { OnOk result (string_bytes text.new ≡ string_bytes text.old ++ text_of style) }
@@ -46,7 +46,7 @@ fn put_style<A: Allocator>(text: &mut String<A>) -> Result<(), Oom>
     put_leaf(text, "style", &[], STYLE)
 }
 
-/// Appends the white ground of the picture.
+/// Appends a white rectangle as large as the picture, on which all else stands.
 #[tactic(auto, unfolding(crate::specs::Pictures::ground))]
 fn put_ground<A: Allocator>(text: &mut String<A>) -> Result<(), Oom>
     ensures { OnOk result (string_bytes text.new ≡ string_bytes text.old ++ text_of ground) }
@@ -82,7 +82,7 @@ fn longest_name<N: Allocator>(names: &Names<N>) -> u32
     longest
 }
 
-/// How high the names above the lanes are.
+/// The height of the space above the lanes, where the names stand.
 #[tactic(auto, unfolding(crate::specs::Pictures::head_height))]
 fn head_height<N: Allocator>(names: &Names<N>) -> u64
     ensures is { result ≡ head_height names.now }
@@ -108,7 +108,7 @@ fn put_names<'a, A: Allocator, N: Allocator, B: Allocator>(
     Ok(())
 }
 
-/// Appends the lanes of the nodes.
+/// Appends the lane of each node, from the beginning of row `range.first` to that of row `range.last`.
 fn put_lanes<'a, A: Allocator, N: Allocator, B: Allocator>(
     text: &mut String<A>,
     names: &Names<N>,
@@ -202,7 +202,7 @@ fn put_opening_of<A: Allocator>(
     )?)
 }
 
-/// Appends the beginning of a picture of this size, which shows the plane from its top.
+/// Appends the beginning of a picture of this size, which shows the plane from 0 down.
 fn put_opening<'a, A: Allocator, B: Allocator>(
     text: &mut String<A>,
     width: u64,
@@ -276,7 +276,7 @@ fn height(range: Range) -> u64
     20 * u64::from(range.last.saturating_sub(range.first))
 }
 
-/// Appends the picture with these layers.
+/// Appends the picture: the names, the thick parts of lanes, the lanes, and `layers` over them.
 fn put_drawing<'a, A: Allocator, N: Allocator, B: Allocator>(
     text: &mut String<A>,
     names: &Names<N>,
@@ -354,7 +354,8 @@ pub fn painted_of<'a, B: Allocator>(
     }
 }
 
-/// The picture of the rows in the range, with the steps in `painted` painted.
+/// The picture of the rows in the range, with the steps in `painted` painted, and with lanes thick where their nodes
+/// list what `asked` asks about.
 pub fn picture<'a, B: Allocator>(
     bench: &Bench<'a, B>,
     consoles: &TextSet<&'a B>,

@@ -122,7 +122,7 @@ fn looks(steps: &[Drawn], reply: Reply) -> Kind
     }
 }
 
-/// The node of the step whose undo an act asks for; `None` if the act asks for no undo, or its step doesn't remain.
+/// The node of the step whose undo an act asks for; `None` if the act asks for no undo, or the step doesn't remain.
 pub fn node_undone<'a, B: Allocator>(bench: &Bench<'a, B>, act: &Act<&'a B>) -> Option<u16>
     ensures { result ≡ node_undone bench.now (asked_undo bench.now (plain_act act.now)) }
 {

@@ -18,7 +18,7 @@ fn put_heading<A: Allocator>(text: &mut String<A>, title: &str) -> Result<(), Oo
     put_leaf(text, "title", &[], title)
 }
 
-/// Appends an element with a title.
+/// Appends an element that has a `title` element, and nothing else in it.
 fn put_titled<A: Allocator>(
     text: &mut String<A>,
     tag: &str,
@@ -33,7 +33,7 @@ fn put_titled<A: Allocator>(
     put_end(text, tag)
 }
 
-/// Appends a path of this class.
+/// Appends a `path` element of this class, whose `d` is `path`.
 fn put_path<A: Allocator>(text: &mut String<A>, class: &str, path: &str) -> Result<(), Oom>
     ensures { OnOk result (string_bytes text.new ≡ string_bytes text.old ++ text_of (path_of class.now path.now)) }
 {
@@ -48,7 +48,7 @@ fn put_path<A: Allocator>(text: &mut String<A>, class: &str, path: &str) -> Resu
     )
 }
 
-/// Appends a path of this class with a title.
+/// Like `put_path`, but with a `title` element in it.
 fn put_titled_path<A: Allocator>(
     text: &mut String<A>,
     class: &str,
@@ -372,7 +372,7 @@ pub fn put_words_label<A: Allocator>(
     )
 }
 
-/// Appends the thick parts of a lane.
+/// Appends the thick parts of a lane; `path` goes along them.
 #[tactic(auto, unfolding(crate::specs::Shapes::bar))]
 pub fn put_bar<A: Allocator>(text: &mut String<A>, path: &str) -> Result<(), Oom>
     ensures { OnOk result (string_bytes text.new ≡ string_bytes text.old ++ text_of (bar path.now)) }

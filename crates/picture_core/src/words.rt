@@ -66,7 +66,7 @@ pub fn words_of<'a, B: Allocator, N: Allocator, C: Allocator>(
     Ok(words)
 }
 
-/// The call as a line of a script, and what it printed.
+/// The call as a line of a script and, from the next line on, what the call printed.
 #[tactic(auto, unfolding(crate::specs::Words::title_told))]
 pub fn title_of<'a, B: Allocator, N: Allocator, C: Allocator>(
     names: &Names<N>,

@@ -6,7 +6,8 @@ use session_core::SessionFault;
 use std::alloc::Global;
 use std::io::Write;
 
-/// The hint that is printed after the line of a fault; `None` if the fault has no hint, or memory for it was refused.
+/// The hint that is printed after the line of a fault; `None` if the fault has no hint, or memory for the hint was
+/// refused.
 #[derive(Drop)]
 pub struct Aside {
     heap: Global,
@@ -26,7 +27,7 @@ impl Aside {
         }
     }
 
-    /// Makes the hint for a session that was refused since it isn't JSON; for any other fault it makes none.
+    /// Makes the hint for a session that isn't JSON; for any other fault, makes none.
     pub(crate) fn of_session(&mut self, bytes: &[u8], fault: SessionFault) {
         if fault != SessionFault::NotJson {
             return;

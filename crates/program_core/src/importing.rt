@@ -132,7 +132,7 @@ fn is_full<'a, B: Allocator>(bench: &Bench<'a, B>) -> bool
         < 2
 }
 
-/// The script of the events.
+/// The script of the events; if `lines`, with comments that tell the events' line numbers in the logs.
 fn make_script<'a, B: Allocator>(
     heap: Global,
     alloc: &'a B,

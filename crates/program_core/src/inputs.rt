@@ -128,7 +128,7 @@ fn play_bytes<'a, B: Allocator>(
 }
 
 /// Reads the input, which is a session or a script, and gives its run. If the input is refused, `aside` gets the hint,
-/// if there is one. `limits` are for the bench of a script; a session has its limits in it. `steps` counts the calls of
+/// if there is one. `limits` are for the bench of a script; a session has its own. `steps` counts the calls of
 /// `read`.
 pub fn read_run<'a, B: Allocator, R: Read, L: Ledger>(
     heap: Global,

@@ -37,7 +37,7 @@ fn page_around<'a, B: Allocator>(
     Ok(page)
 }
 
-/// The page of a run.
+/// The page of a run, without further keys in the page's data.
 fn page_of<'a, B: Allocator>(alloc: &'a B, run: &Run<'a, B>) -> Result<Vec<u8, &'a B>, Oom>
     ensures { IfOk result (λ page. page.items ≡ page_of run.now.bench run.now.consoles) }
 {

@@ -33,7 +33,7 @@ fn presence_of<'w>(question: Question<'w>) -> Presence<'w>
     }
 }
 
-/// The view that was chosen to be drawn.
+/// What was chosen to be drawn, as `picture_core` takes it.
 fn view_of<'w>(drawing: Drawing<'w>) -> View<'w>
     ensures { result ≡ view_of drawing.entry }
 {

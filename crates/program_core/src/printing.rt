@@ -31,7 +31,7 @@ use std::sync::ledger::Ledger;
 use std::thread::Threads;
 use std::time::Clock;
 
-/// Writes the text.
+/// Writes the whole text; `WriteFault` says how many of its bytes went out.
 pub(crate) fn print<W: Write>(writer: &mut W, text: &[u8]) -> Result<(), Fault>
     ensures { EndsAsText text.now result (W.contents writer.old) (W.contents writer.new) }
 {
@@ -227,7 +227,7 @@ fn explore_bench<B: Allocator, R: Read, W: Write, L: Ledger, C: Clock, E: Write>
     print(writer, text.as_bytes())
 }
 
-/// Does what was chosen. At a prompt it answers each line before it reads the next. Else it reads the whole input, and
+/// Does what was chosen. At a prompt it answers each line before it reads the next. Else it reads the input first, and
 /// writes nothing before the whole text is ready. `limits` are those of the bench, unless the input is a session, which
 /// has its own. JSON, hints and lines on how far work has come take their memory from `heap`; benches and all other
 /// texts take theirs from `alloc`. `steps` counts the calls of `read`. On `errors` it writes only what is missing from

@@ -93,7 +93,7 @@ fn session_of<'a, B: Allocator>(heap: Global, bench: &Bench<'a, B>) -> Result<Te
     }
 }
 
-/// Plays a script, and gives what is printed of it in this form.
+/// Plays a script, and gives what is printed of the play in this form.
 fn played_text<'a, B: Allocator>(
     heap: Global,
     alloc: &'a B,

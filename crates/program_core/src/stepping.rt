@@ -25,8 +25,8 @@ fn help() -> &'static str
     LANGUAGE
 }
 
-/// Answers the lines of a script one by one, each before the next is read. On a terminal it shows a sign before it
-/// reads a line.
+/// Reads the input line by line, and answers each line before it reads the next. On a terminal it shows a sign before
+/// it reads a line.
 pub fn step_script<B: Allocator, R: Read, W: Write, E: Write, L: Ledger>(
     heap: Global,
     alloc: &B,

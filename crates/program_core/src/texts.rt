@@ -23,7 +23,7 @@ use std::sync::ledger::Ledger;
 /// The most bytes of a session, and of the events of logs.
 pub const LONGEST_SESSION: usize = 67_108_864;
 
-/// The script that the input spells. If it is refused, `aside` gets the hint, if there is one.
+/// The script that the input spells. If the input is refused, `aside` gets the hint, if there is one.
 pub fn read_script<'a, B: Allocator, R: Read, L: Ledger>(
     alloc: &'a B,
     reader: &mut R,

@@ -24,7 +24,7 @@ fn kind_name(kind: FaultKind) -> &'static str
     }
 }
 
-/// Appends a text to an answer.
+/// Appends the bytes of `text` to `answer`.
 pub fn put_text<A: Allocator>(answer: &mut Vec<u8, A>, text: &str) -> Result<(), Oom>
     ensures { OnOk result (answer.new.items ≡ answer.old.items ++ text.now) }
 {

@@ -215,8 +215,9 @@ fn is_first(kind: FaultKind) -> bool
     matches!(kind, FaultKind::UnknownWord | FaultKind::NoNodes)
 }
 
-/// Appends the answer to a line that a script would refuse with the fault `kind`. If the line is one of the prompt's
-/// own, the answer is what it asks for, and else the fault. If `is_first` holds of `kind`, the line must be text.
+/// Appends the answer to a line that a script would refuse with the fault `kind`. If `is_first` holds of `kind`, the
+/// line must be text, and if the line is one of the prompt's own, the answer is what it asks for. Else the answer is
+/// the fault.
 #[tactic(auto, unfolding(crate::specs::Answers::own_answer))]
 pub fn put_own<'a, B: Allocator>(
     prompt: &Prompt<'a, B>,

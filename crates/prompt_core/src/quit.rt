@@ -14,7 +14,7 @@ fn are_quits(line: &[u8]) -> bool
         .all(|word| word == b":quit".as_slice())
 }
 
-/// How many words the line has.
+/// How many words the line has, with spaces between them.
 fn word_count(line: &[u8]) -> usize
     ensures { result ≡ length (words_of line.now) }
 {
@@ -23,7 +23,7 @@ fn word_count(line: &[u8]) -> usize
         .count()
 }
 
-/// Whether the line's only word is `:quit`, and the line isn't too long. It asks for no memory.
+/// Whether the line's only word is `:quit`, and the line isn't too long. Asks for no memory.
 #[tactic(auto, unfolding(crate::specs::Answers::is_quit))]
 pub fn is_quit(line: &[u8]) -> bool
     ensures { result ≡ is_quit line.now }

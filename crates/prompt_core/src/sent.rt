@@ -14,7 +14,7 @@ use report_core::{name_at, node, put_act};
 use std::alloc::Allocator;
 use transcript_core::is_sent_by;
 
-/// Moves `steps` past the next send of `node`, and gives that step; `None` if `steps` has no further one.
+/// Moves `steps` past the next send of `node`, and gives that step; `None` if no such send is left.
 fn next_sent<'x, 'a, B: Allocator>(
     steps: &mut Steps<'x, 'a, B>,
     node: u16,

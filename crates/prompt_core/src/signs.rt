@@ -31,8 +31,9 @@ fn sign<'a, B: Allocator>(prompt: &Prompt<'a, B>, alloc: &'a B) -> Result<String
     Ok(format!(in alloc; "{number}> ")?)
 }
 
-/// Writes the sign to `errors` and flushes it, if `is_shown`, and gives `true` if that succeeded. Gives `false` if it
-/// failed, memory for the sign was refused, or `is_shown` is `false`; then `answer_each` shows no further sign.
+/// If `is_shown`, writes the sign to `errors`, flushes `errors`, and gives `true`. Gives `false` if `is_shown` is
+/// `false`, memory for the sign was refused, or the write or the flush failed; then `answer_each` shows no further
+/// sign.
 pub fn show_sign<'a, B: Allocator, E: Write>(
     prompt: &Prompt<'a, B>,
     alloc: &'a B,

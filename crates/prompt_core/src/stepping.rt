@@ -66,8 +66,8 @@ fn answer_each<'a, B: Allocator, R: Read, W: Write, E: Write, L: Ledger>(
 /// Reads line by line, and answers each line before it reads the next, to the end of the input or a line that is
 /// `:quit`. A line that a script can have is carried out as in a script. The prompt's own lines are answered; `:help`
 /// prints `help`. Any other line is answered by its fault, and changes nothing. If `has_signs`, shows the number of the
-/// next step on `errors` before each line, until it can't be written. `steps` counts the calls of `read`; callers that
-/// need neither the count nor signs use `step`.
+/// next step on `errors` before it reads a line, until `show_sign` fails once. `steps` counts the calls of `read`;
+/// callers that need neither the count nor signs use `step`.
 pub fn step_counted<B: Allocator, R: Read, W: Write, E: Write, L: Ledger>(
     heap: Global,
     alloc: &B,

@@ -45,7 +45,7 @@ fn answers<'a, B: Allocator>(
         && event.reply.same(receipt.reply)
 }
 
-/// Whether `receipts` answers the actor's lines: it has a receipt for each line and no other, in the order of the
+/// Whether `receipts` answers the actor's lines: the list has a receipt for each line and no other, in the order of the
 /// lines, at rising places past `start`, and `after` has at each place the event that the receipt tells of.
 fn are_answered<'a, B: Allocator>(
     after: &History<'a, B>,

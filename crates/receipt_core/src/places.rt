@@ -31,8 +31,8 @@ fn named_places<A: Allocator + Copy>(
     Ok(all)
 }
 
-/// Whether each of these places, counted from 1, has an unset mark in `marks`, and no place comes twice. The loop sets
-/// the mark of each place that it passes.
+/// Whether no place comes twice, and each place, counted from 1, has a mark in `marks` that isn't set at the beginning.
+/// The loop sets the mark of each place that it passes.
 fn are_fresh<A: Allocator>(mut marks: Vec<bool, A>, places: &[u64]) -> bool
     ensures { IsTrue result ↔ Fresh marks.items places.now }
 {

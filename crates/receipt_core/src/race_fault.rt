@@ -5,13 +5,14 @@ ghost use Rattle.receipt_core.specs.Races.{fault_of_workers};
 use payload_core::Oom;
 use thiserror::Error;
 
-/// Why a race may not begin (`UnknownActor`, `NoRoom`), or why it can't be vouched for afterwards.
+/// Why a race may not begin (`UnknownActor`, `NoRoom`), asked no line (`WorkerRefused`), or can't be vouched for
+/// afterwards (`LogsDisagree`); `OutOfMemory` may be any of these.
 #[derive(Clone, Copy, Debug, PartialEq, Eq, Error)]
 pub enum RaceFault {
     /// A line's actor isn't one of the actors.
     #[error("UnknownActor")]
     UnknownActor,
-    /// There are fewer than twice as many free places as lines.
+    /// The bench has fewer free places than twice the number of lines.
     #[error("NoRoom")]
     NoRoom,
     /// A worker couldn't be started.
@@ -44,7 +45,7 @@ impl From<Oom> for WorkersFault {
 }
 
 impl WorkersFault {
-    /// The same fault as one of the race.
+    /// The `RaceFault` of the same name.
     pub fn of_race(self) -> RaceFault
         ensures { result ≡ fault_of_workers self }
     {

@@ -24,8 +24,8 @@ pub struct Question<'q> {
     pub key: &'q str,
 }
 
-/// What would have made a difference, as a text: the single changes of what the nodes did after which the node shows
-/// other rows, with the rows that go and come. Changes of the same step and kind with the same rows are told together.
+/// What would have made a difference, as a text: each single change after which the node lists other rows of the topic
+/// and key, with the rows that go and come. Changes of the same step and kind with the same rows are told together.
 /// `NoSuchNode` if no node has the name, `NoWord` if the topic or the key isn't a word.
 pub fn whatif_asked<'a, B: Allocator, W: Watch<Tried>>(
     alloc: &'a B,

@@ -87,7 +87,7 @@ fn put_places<A: Allocator>(text: &mut String<A>, count: usize) -> Result<(), Oo
 }
 
 /// Appends `change N KIND NUMBER NODE VERB ..`, where N is `number`, the difference's number in the text, and KIND is
-/// the word for its kind.
+/// the word for the difference's kind.
 #[tactic(auto, unfolding(crate::specs::Texts::changed_words))]
 fn put_changed<'a, A: Allocator, N: Allocator, B: Allocator>(
     journal: &Journal<'a, B>,
@@ -127,7 +127,6 @@ fn put_line<'a, A: Allocator, N: Allocator, B: Allocator>(
     Ok(text.push_str("\n")?)
 }
 
-/// Whether the row is among these rows.
 fn is_among<A: Allocator>(rows: &[OnlineRow<A>], row: &OnlineRow<A>) -> bool
     ensures { result ≡ is_among rows.now row.now }
 {
@@ -139,7 +138,7 @@ fn is_among<A: Allocator>(rows: &[OnlineRow<A>], row: &OnlineRow<A>) -> bool
     false
 }
 
-/// Copies of the rows that aren't among `others`.
+/// Copies of the rows that aren't among `others`, in the order of `rows`.
 fn rows_alone<A: Allocator + Copy>(
     alloc: A,
     rows: &[OnlineRow<A>],

@@ -35,7 +35,7 @@ fn put_run<A: Allocator, N: Allocator, W: Allocator>(
     put_steps(text, names, run)
 }
 
-/// The run as a script.
+/// The run as a script: the line `nodes NAME ..`, and a line for each step.
 pub(crate) fn script_of<A: Allocator, N: Allocator, W: Allocator>(
     names: &Names<N>,
     run: &[Kept<W>],

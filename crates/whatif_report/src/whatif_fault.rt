@@ -7,7 +7,7 @@ use thiserror::Error;
 /// Why there is no text.
 #[derive(Clone, Copy, Debug, PartialEq, Eq, Error)]
 pub enum WhatifFault {
-    /// No node has this name.
+    /// No node has the name that is asked about.
     #[error("NoSuchNode")]
     NoSuchNode,
     /// The topic or the key isn't a word, so nothing is tracked under it.

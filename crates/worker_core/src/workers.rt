@@ -10,8 +10,8 @@ use std::thread;
 use std::thread::{JoinHandle, Scope, Threads};
 
 // form: generic over act and receipt, as a thread's closure gets no proof if its types name the bench's lifetime
-/// What workers share under a lock: in `race`, the bench. `ask_line` asks it the act of an actor's line, and gives the
-/// receipt.
+/// What workers share under a lock: in `race`, the bench. `ask_line` asks `self` the act of an actor's line, and gives
+/// the receipt.
 pub(crate) trait Shared<L, T> {
     fn ask_line(&mut self, actor: u16, number: u64, act: L) -> T;
 }
@@ -93,7 +93,7 @@ fn work<L: Drop, T: Drop, A: Allocator + Clone, S: Shared<L, T>, G: Gate, R: Wai
     receipts
 }
 
-/// Starts a worker on its slot.
+/// Starts a worker that asks the lines of `slot`; `WorkerRefused` if no thread can be started for it.
 fn start<
     's,
     E,
@@ -115,8 +115,8 @@ fn start<
         .map_err(|_| WorkersFault::WorkerRefused)
 }
 
-/// Starts a worker at each slot, and appends it to `workers`, or `None` for an actor without a slot. `WorkerRefused` at
-/// the first that can't be started; none is started after it.
+/// Starts a worker at each slot, and appends the worker to `workers`, or `None` for an actor without a slot.
+/// `WorkerRefused` at the first that can't be started; none is started after it.
 fn start_all<
     's,
     E,
@@ -259,8 +259,8 @@ fn prepared_for<L: Drop, T: Drop, A: Allocator + Copy>(
     Ok(prepared)
 }
 
-/// Sends each line to its worker, with its number, counted from 1. If a line were lost, its receipt would be missing,
-/// and `agree` false. The channels are dropped at the end, so the workers know that no more lines come.
+/// Sends each line to its worker, with the line's number, counted from 1. If a line were lost, its receipt would be
+/// missing, and `agree` false. The channels are dropped at the end, so the workers know that no more lines come.
 fn send_all<L: Drop, A: Allocator + Clone, R: Wait>(
     rt: &R,
     channels: Channels<L, A>,
