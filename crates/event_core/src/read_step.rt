@@ -25,7 +25,7 @@ struct Presence<A: Allocator> {
     metadata: Word<A>,
 }
 
-/// The process, topic, key and metadata behind the verb; `Shape` if one is missing or more follows.
+/// The process, topic, key and metadata behind the verb; `Shape` unless just these follow, each in its form.
 #[tactic(auto, unfolding(crate::specs::Decoding::presence_at))]
 fn presence_at<'a, B: Allocator>(alloc: &'a B, list: &Value) -> Result<Presence<&'a B>, Unread>
     ensures { Gives (λ p. record { pid = p.pid; topic = p.topic; key = p.key; metadata = p.metadata }) result (presence_at (view list.now)) }
@@ -146,7 +146,8 @@ fn extract_at<A: Allocator>(list: &Value) -> Result<Step<A>, Unread>
     Ok(Step::Extract { names })
 }
 
-/// The sender and the number of the message of a delivery or an answer; `Shape` if one is missing or more follows.
+/// The sender and the number of the message that a delivery or an answer names. `Shape` unless just these two follow
+/// the verb, each in its form.
 #[tactic(auto, unfolding(crate::specs::Decoding::sent_at))]
 fn sent_at(list: &Value) -> Result<(u16, u64), Unread>
     ensures { Gives (λ message. message) result (sent_at (view list.now)) }
@@ -173,7 +174,7 @@ fn answer_at<A: Allocator>(list: &Value) -> Result<Step<A>, Unread>
     Ok(Step::Answer { sender, number })
 }
 
-/// The name of an up, a down or a permanently down; `Shape` if it is missing or more follows.
+/// The name of an up, a down or a permanently down; `Shape` unless just a whole number below 65,536 follows the verb.
 #[tactic(auto, unfolding(crate::specs::Decoding::name_at))]
 fn name_at(list: &Value) -> Result<u16, Unread>
     ensures { Gives (λ n. n) result (name_at (view list.now)) }

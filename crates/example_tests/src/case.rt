@@ -8,7 +8,7 @@ pub struct Case {
     pub heap: Global,
     /// The number of the line with which the case begins in its file; 0 as long as no case has begun.
     pub line: u64,
-    /// The words after the program's name.
+    /// The words that the program gets, without its name.
     pub words: Vec<String>,
     pub input: Vec<u8>,
     /// Whether the case has an input of its own, and not that of the case before.

@@ -1,10 +1,11 @@
-//! Runs the cases of `data/cases/` on the program, gives it words and streams, and compares its output, its errors and
-//! its status with what each case says. Given a file, it prints the report of the script in it.
+//! Runs the cases of `data/cases/`: gives the program (`presence_bench`) words and streams, and compares its output,
+//! its errors and its status with what each case says. Given a file, `example_tests` prints the report of the script in
+//! that file.
 //!
-//! It stands on `program_core` (the program), `script_core` (a script's report, and streams for tests), `progress_core`
-//! (a clock for tests) and `bench_core` (limits). `data/README.md` has the form of a case. The modules in reading
-//! order: `case`, what a case has; `reading`, what a line of a file gives its case; `running`, whether a case comes out
-//! as it says; here, all cases.
+//! The crate stands on `program_core` (the program), `script_core` (a script's report, and streams for tests),
+//! `progress_core` (a clock for tests) and `bench_core` (limits). `data/README.md` has the form of a case. The modules
+//! in reading order: `case`, what a case has; `reading`, what a line of a file gives its case; `running`, whether a
+//! case comes out as it says; here, all cases.
 #![tactic(auto)]
 
 mod case;
@@ -65,7 +66,7 @@ impl Counts {
     }
 }
 
-/// Reads a line of a file into `case`. If that fails, it prints where the line stands, and gives the error.
+/// Reads a line of a file into `case`. If that fails, prints where the line stands, and gives the error.
 fn take_line(
     rt: &HostRuntime,
     case: &mut Case,
@@ -116,7 +117,7 @@ fn run_files<T: Threads + Wait + Sync>(rt: &HostRuntime, threads: &T) -> io::Res
     Ok(counts.differing == 0)
 }
 
-/// Plays the script in this file, prints its report, and says whether that went well.
+/// Plays the script in this file and prints its report. Says whether the whole report was printed; a fault isn't told.
 fn prints(rt: &HostRuntime, path: &str) -> io::Result<bool> {
     let script = fs::read(rt, path)?;
     let mut reader = FakeReader::ending(&script);
@@ -125,7 +126,8 @@ fn prints(rt: &HostRuntime, path: &str) -> io::Result<bool> {
     Ok(answer.is_ok())
 }
 
-/// Does what the words after the program's name ask for, and says whether that went well.
+/// Prints the report of the script in the file that the first word of the command line names, or runs all cases if
+/// there is no word. Says whether that went well.
 fn ends_well<T: Threads + Wait + Sync>(rt: &HostRuntime, threads: &T) -> io::Result<bool> {
     let mut words = env::args(rt)?.skip(1);
     match words.next() {

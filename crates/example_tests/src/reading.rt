@@ -1,11 +1,12 @@
-//! Takes a line of a file into its case. A line is a mark, a space and a text. Empty lines and lines with the mark `#`
-//! give nothing. A line of another form is an error, which ends the program.
+//! Takes a line of a file into its case. A line is a mark, a space and a text, or a mark alone, whose text is then
+//! empty. Lines without a mark and lines with the mark `#` give nothing. A line of another form is an error, which ends
+//! `example_tests`.
 use crate::case::Case;
 use bench_core::Limits;
 use std::io::ErrorKind;
 use std::{fs, io};
 
-/// The error for a line that has none of the forms.
+/// The error for a line whose mark or text has none of the forms.
 fn no_form() -> io::Error {
     io::Error::from(ErrorKind::InvalidData)
 }
@@ -58,8 +59,8 @@ fn put(rt: &HostRuntime, bytes: &mut Vec<u8>, form: &str, text: &str) -> io::Res
     Ok(())
 }
 
-/// Replaces the case's part, where it first stands in the input, by this text. An error if the input isn't UTF-8 or
-/// doesn't have the part.
+/// Replaces the case's part, where it first stands in the input, by this text; a second replacement goes on from the
+/// first. An error if the input isn't UTF-8 or doesn't have the part.
 fn replace(case: &mut Case, by: &str) -> io::Result<()> {
     let Ok(text) = str::from_utf8(case.whole_input()) else {
         return Err(no_form());

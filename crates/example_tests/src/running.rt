@@ -65,7 +65,7 @@ fn first_difference<'a>(one: &'a str, other: &'a str) -> (u64, &'a str, &'a str)
     )
 }
 
-/// Whether the stream has the expected bytes. If not, it prints the first line that differs.
+/// Whether the bytes that were written are those expected. If not, prints the first line that differs, after `place`.
 fn is_same(rt: &HostRuntime, place: &str, written: &[u8], expected: &[u8]) -> io::Result<bool> {
     if written == expected {
         return Ok(true);
@@ -86,7 +86,7 @@ fn looked_at<'a>(case: &Case, written: &'a [u8]) -> &'a [u8] {
     written.get(..case.output.len()).unwrap_or(written)
 }
 
-/// Whether the case comes out as it says. If not, it prints the case's file and line, and what differs.
+/// Whether the case comes out as it says. If not, prints the case's file and line, and what differs.
 pub fn comes_out<T: Threads + Wait + Sync>(
     rt: &HostRuntime,
     threads: &T,

@@ -266,7 +266,8 @@ fn is_made<'a>(
     answer.is_ok()
 }
 
-/// A case: the dots of a set, an edit of it, how many of its requests for memory can be refused, and the dots after it.
+/// A case: the dots of a set, an edit of the set, how many of the edit's requests for memory can be refused, and the
+/// dots after the edit.
 type Refusal = (&'static [(u16, u64)], Edit, u64, &'static [(u16, u64)]);
 
 const REFUSALS: [Refusal; 3] = [
@@ -291,7 +292,7 @@ const REFUSALS: [Refusal; 3] = [
 ];
 
 /// Makes the edit with its first, second, .. request for memory refused, until no refusal is met. Each refusal must
-/// leave the set as it was. Gives how many requests were refused.
+/// leave the set unchanged. Gives how many requests were refused.
 fn refused_in_turn<'a>(
     dots: &mut DotSet<&'a Heap>,
     far: &DotSet<&'a Heap>,
@@ -382,7 +383,8 @@ fn what_grows_no_cloud_takes_no_memory(rt: HostRuntime) {
 }
 
 /// Of name 0, inserts the dot that closes the gap, and the one after the last; then takes out the name's part, and puts
-/// it back. Copies the dots of no names, which gives the empty set. Says whether all of that went as it should.
+/// it back. Copies the dots of no names. Says whether both dots were new, the set was empty without the part, the copy
+/// is empty, and the context clock of name 0 is 5 at the end.
 fn grows_its_context<A: Allocator + Copy>(rt: &impl Abort, dots: &mut DotSet<A>) -> bool {
     let fills = puts_in(rt, dots, Dot { name: 0, clock: 2 });
     let goes_on = puts_in(rt, dots, Dot { name: 0, clock: 5 });
@@ -410,7 +412,7 @@ fn takes_again<A: Allocator + Copy>(
     was_there && is_new && dots.same(same)
 }
 
-/// Inserts 20 dots of the name 1, with a gap below them.
+/// Inserts the dots of name 1 with the clocks from 11 to 30, each of which must be new.
 fn grows_its_cloud<A: Allocator>(rt: &impl Abort, dots: &mut DotSet<A>) {
     for clock in 11..=30u8 {
         let clock = u64::from(clock);

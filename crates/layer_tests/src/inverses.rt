@@ -22,8 +22,8 @@ struct Stood {
     in_delta: bool,
 }
 
-/// What is kept of a step of the first node. Names and dots of other nodes are the last node's; dots are given by their
-/// clocks.
+/// What is kept of a step of the first node. Names and dots of other nodes are the last node's. Dots and entries are
+/// given by their clocks, and old parts by their context clocks.
 #[derive(Clone, Copy)]
 enum Told {
     Join,

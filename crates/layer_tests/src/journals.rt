@@ -20,7 +20,7 @@ fn opened<'a>(heap: &'a Heap, rt: &impl Abort) -> Journal<'a, Heap>
     Journal::new(heap, 2).expect(rt, "a journal")
 }
 
-/// The inverse of a step that some node took.
+/// The inverse of an up.
 fn inverse<'a>(heap: &'a Heap, rt: &impl Abort) -> Inverse<&'a Heap> {
     let limits = NodeLimits {
         entries: 10,
@@ -86,7 +86,7 @@ fn lends_and_takes_out<'a>(journal: &mut Journal<'a, Heap>, number: u64, rt: &im
     journal.take_out(number);
 }
 
-/// Whether step 1, of node 0, is the first of the journal.
+/// Whether the journal begins with step 1, of node 0.
 fn has_first<'a>(journal: &Journal<'a, Heap>) -> bool {
     match (journal.at(0), journal.find(1)) {
         (Some(first), Some(found)) => first.number == 1 && found.node == 0,
@@ -115,8 +115,8 @@ fn makes_room<'a>(journal: &mut Journal<'a, Heap>) -> bool
     is_made && journal.make_room(1, &Step::Up { name: 0 }).is_ok()
 }
 
-/// A step for which room was made is kept without memory, and a loan takes none, in whichever of its two ways it ends.
-/// Room that was made for a step stays while room is made for another.
+/// A step for which room was made is kept without memory. A loan takes none, whether the inverse is put back, or is
+/// dropped and its step taken out. Room that was made for a step stays while room is made for another.
 #[test]
 fn a_step_with_room_and_its_loans_take_no_memory(rt: HostRuntime) {
     let heap = Refusing::new(rt.alloc());
@@ -129,7 +129,7 @@ fn a_step_with_room_and_its_loans_take_no_memory(rt: HostRuntime) {
     drop(journal);
 }
 
-/// Without room, a step that is refused memory comes back.
+/// Without room, a journal that is refused memory keeps no step.
 #[test]
 fn a_step_that_is_refused_memory_is_not_kept(rt: HostRuntime) {
     let heap = Refusing::new(rt.alloc());

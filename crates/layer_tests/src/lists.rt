@@ -147,7 +147,8 @@ fn refused_in_turn<'a>(a: &Rows<'a>, b: &Rows<'a>, heap: &'a Heap, rt: &impl Abo
     40
 }
 
-/// Compares the lists of the two nodes.
+/// Plays the script. The lists of its two nodes must be `AT_A` and `AT_B`, and differ by `AT_A_ALONE` and `AT_B_ALONE`.
+/// Then each request for memory of this comparison is refused in turn.
 fn compares<'a>(script: &str, heap: &'a Heap, rt: &impl Abort) {
     let bench = played(script, Limits::usual(), heap, rt);
     let a = list_of(&bench, 0, heap, rt);
@@ -179,7 +180,7 @@ fn counts_of<'a>(one: &Rows<'a>, other: &Rows<'a>, heap: &'a Heap) -> Option<(us
     Some(counts)
 }
 
-/// Compares the lists of the first two nodes of a large bench.
+/// Plays the script of `wide`. The first node must list 131 rows, the second 65 of these.
 fn compares_large<'a>(script: &str, heap: &'a Heap, rt: &impl Abort) {
     let bench = played(script, Limits::usual(), heap, rt);
     let a = list_of(&bench, 0, heap, rt);

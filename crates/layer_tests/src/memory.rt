@@ -112,7 +112,8 @@ fn is_refused<'a>(
     is_refused
 }
 
-/// Makes each of the calls like `is_refused`, with this refusal. Says whether a call was refused memory.
+/// Makes each of the calls like `is_refused`, with this refusal of the call's own requests. Says whether a call was
+/// refused memory.
 fn ask_refused<'a>(
     pair: &mut Pair<'a>,
     calls: &Calls<'a>,
@@ -131,7 +132,7 @@ fn ask_refused<'a>(
     is_met
 }
 
-/// The nodes of `SCRIPT`.
+/// A script that has the nodes of `SCRIPT`, and no act.
 const NODES: &str = "nodes a b";
 
 /// Makes the calls, those of `SCRIPT`, on two new benches like `ask_refused`, and says whether a call was refused
@@ -168,8 +169,8 @@ fn a_call_that_is_refused_memory_changes_nothing(rt: HostRuntime) {
     holds!(&rt, 0 < most && most < 99);
 }
 
-/// A case: the limits of a bench; a script after which fewer than two places are free for a step, or none for a record;
-/// acts that the bench then refuses; and the fault of each.
+/// A case: the limits of a bench; a script after which at most one place is free; acts that the bench then refuses; and
+/// the fault of each.
 struct Full {
     limits: [u64; 4],
     script: &'static str,

@@ -135,7 +135,7 @@ fn entries_differ_by_dot_and_by_key(rt: HostRuntime) {
 }
 
 /// Whether the set that `only` makes of the entries of these names has `count` entries, and is the same as `entries`
-/// just if these are all.
+/// if and only if `count` is the length of `entries`.
 fn has_only<A: Allocator + Copy>(
     rt: &impl Abort,
     entries: &EntrySet<A>,
@@ -152,7 +152,7 @@ fn has_only<A: Allocator + Copy>(
 /// The places of three entries, by rising dot, each with the name and the clock of its dot.
 const PLACES: [(usize, u16, u64); 3] = [(0, 0, 5), (1, 0, 9), (2, 31, 1)];
 
-/// Whether the entries stand at the places of `PLACES`.
+/// Whether the entries are three, and stand at the places of `PLACES`.
 fn rise_by_dot<A: Allocator>(entries: &EntrySet<A>) -> bool {
     for (place, name, clock) in PLACES {
         let dot = Dot { name, clock };

@@ -105,7 +105,7 @@ fn reads_bench<'a>(bench: &Bench<'a, Heap>, rt: &impl Abort) {
     reads_history(bench.history(), rt);
 }
 
-/// Reads the first two nodes.
+/// Reads the outbox and the replica of the first node, and the replica of the second.
 fn reads_nodes<'a>(bench: &Bench<'a, Heap>, rt: &impl Abort) {
     let a = bench.node(0).expect(rt, "a node");
     let b = bench.node(1).expect(rt, "a node");

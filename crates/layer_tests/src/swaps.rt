@@ -154,7 +154,7 @@ const SWAPS: &[Swaps] = &[
 ];
 
 /// Asks `same_cluster` with its first, second, .. request for memory refused alone, until no refusal is met. Gives its
-/// answer, and how many requests were refused.
+/// answer, and how many requests were refused; `OutOfMemory` and 9 if each of the first 9 was.
 fn answer_of<'a>(
     one: &Bench<'a, Heap>,
     other: &Bench<'a, Heap>,

@@ -1,6 +1,7 @@
 //! The laws of runs of the network, as contracts of functions that do nothing.
 //!
-//! A crate above uses a law by calling its function.
+//! A crate above uses a law by calling its function. The caller chooses which dots matter, to each node and in each
+//! message: laws that speak of such dots hold for any choice, unless they say otherwise.
 ghost use Rattle.network_core.specs.AlikeSteps.{StepLaw, StepsLaw};
 ghost use Rattle.network_core.specs.Cones.{AloneLaw, ConeLaw, IdleLaw, StandsLaw};
 ghost use Rattle.network_core.specs.EasySteps.{EagerLaw, EagerStepLaw};
@@ -31,8 +32,8 @@ pub fn easy_law()
     ensures in_network_runs { EagerStepLaw }
 {}
 
-/// Clusters that are alike in the dots that matter refuse the same steps, `EntriesFull` apart, and are alike again
-/// after each step that both take.
+/// If what matters after a step comes from what matters before it, clusters that are alike in the dots that matter
+/// refuse the same steps, `EntriesFull` apart, and are alike again after each step that both take.
 pub fn alike_law()
     ensures step { StepLaw }
     ensures steps { StepsLaw }
@@ -62,11 +63,11 @@ pub fn rows_law()
     ensures online { OnlineRowsLaw }
 {}
 
-/// In each run of the network, what matters after a step comes from what matters before it. If the recorded run makes
-/// no more entries than a node may hold, one beginning of a run serves for another if the same steps are still to be
-/// taken and the clusters are alike; and a delivery that has come less often than it was recorded can come first if it
-/// is accepted and brings nothing that matters. The next step of a node at which nothing more is delivered can come
-/// first, too, if it is accepted.
+/// If what matters after a step of the recorded run comes from what matters before the step, so it is in each run of
+/// the network. If, besides, the recorded run makes no more entries than a node may hold, one beginning of a run serves
+/// for another if the same steps are still to be taken and the clusters are alike; and a delivery that has come less
+/// often than it was recorded can come first if it is accepted and brings nothing that matters. The next step of a node
+/// at which nothing more is delivered can always come first, if it is accepted.
 pub fn cone_law()
     ensures passes { ConeLaw }
     ensures stands { StandsLaw }
@@ -80,10 +81,10 @@ pub fn keys_law()
     ensures { StandAlikeLaw }
 {}
 
-/// When every run of the network with a given beginning ends in an outcome that was found: when this is so after one
-/// more step that can come first; or of another beginning that serves for this one; or after each step that can come
-/// next, and the beginning's own outcome was found, if a run may end there. A run of the network has at most as many
-/// steps as the recorded run, and one more for each delivery that may come a second time.
+/// Every run of the network with a given beginning ends in an outcome that was found, if that holds after one more step
+/// that can come first; or if it holds of another beginning that serves for this one; or if it holds after each step
+/// that can come next, and the beginning's own outcome was found or no run may end there. A run of the network has at
+/// most as many steps as the recorded run, and one more for each delivery that may come a second time.
 pub fn settle_law()
     ensures settled { SettleLaw }
     ensures length { LengthLaw }

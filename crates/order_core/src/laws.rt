@@ -18,7 +18,7 @@ pub fn found_law()
     ensures found_run { FoundRunLaw }
 {}
 
-/// The order of marks is the order of the steps that they stand for.
+/// The order found for the marks of steps is the order found for the steps themselves.
 pub fn marks_law()
     ensures { MarksLaw }
 {}

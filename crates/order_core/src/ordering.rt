@@ -44,7 +44,7 @@ fn place_from(marks: &[Mark], node: usize, from: usize) -> usize
     marks.len()
 }
 
-/// Where each node stands before the first step.
+/// Where each node stands before the first step, by the node's number.
 fn stands_of<A: Allocator>(alloc: A, marks: &[Mark]) -> Result<Vec<Stand, A>, Oom>
     ensures begins { IfOk result (λ stands. AreStands marks.now [] stands.items) }
     ensures all_left { IfOk result (λ stands. left (next_at marks.now stands.items) 0 marks.now ≡ marks.now) }
@@ -118,7 +118,7 @@ fn is_behind<A: Allocator>(alloc: A, marks: &[Mark]) -> Result<bool, Oom>
 }
 
 /// Copies of the marks, in an order that keeps the order of each node's own steps, and in which no message is delivered
-/// before it is sent. `None` if there is no such order.
+/// before it is sent; in the given order if that is such an order. `None` if there is none.
 pub fn order<A: Allocator + Copy>(alloc: A, marks: &[Mark]) -> Result<Option<Vec<Mark, A>>, Oom>
     ensures { IfOk result (λ found. option_map (λ v. v.items) found ≡ order_of_marks marks.now) }
 {

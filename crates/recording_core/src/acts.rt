@@ -56,7 +56,8 @@ impl<'a, B: Allocator> Acts<&'a B> {
         }
     }
 
-    /// Reads the items, and the bracket that closes the array. Each value is dropped once its event is known.
+    /// Reads the items of an array, from behind the bracket that opens it through the one that closes it. Each item's
+    /// JSON is dropped once its event is known.
     pub(crate) fn of_items(
         heap: Global,
         alloc: &'a B,

@@ -23,7 +23,8 @@ const MAX_DEPTH: usize = 127;
 /// How deep a member of the outermost object may nest.
 const MEMBER_DEPTH: usize = 126;
 
-/// The JSON value of a text. If it is an object, its acts were taken out and read as events.
+/// The JSON value of a text, or of the text's member `acts`. If the acts are an array, its items were taken out, and
+/// read as events.
 #[derive(Drop)]
 pub(crate) struct Draft<A: Allocator> {
     /// The value, with an empty array in place of the array of the acts.
@@ -55,8 +56,8 @@ fn acts_member<'a, B: Allocator>(
     }
 }
 
-/// Reads the value of the member `name`. If the name is `acts`, reads it as `acts_member` does, and puts its events in
-/// place of those in the parameter `acts`.
+/// Reads the value of the member `name`. If the name is `acts`, reads the value as `acts_member` does, and puts its
+/// events in place of those in the parameter `acts`; else leaves that parameter as it is.
 fn member<'a, B: Allocator>(
     heap: Global,
     alloc: &'a B,
@@ -80,7 +81,7 @@ fn member<'a, B: Allocator>(
 }
 
 /// Reads the members, and the brace that closes the outermost object. Puts the members into `found`, and the events of
-/// the member `acts` into `acts`; both must be empty.
+/// the member `acts` into `acts`; both must be empty. Of members with one name the last counts.
 fn read_members<'a, B: Allocator>(
     found: &mut Map<String, Value>,
     acts: &mut Acts<&'a B>,

@@ -12,7 +12,8 @@ use dots_core::Oom;
 use recording_core::{Acts, Recording, SessionFault, Version, read_session};
 use std::alloc::{Allocator, Global};
 
-/// Asks the bench the event's call, and says whether it gave the reply that the event has, and recorded the call.
+/// Asks the bench the event's call, and says whether the bench gave the event's reply and recorded the call. `Oom` if
+/// the bench refuses the call as `OutOfMemory`.
 fn records_next<'a, B: Allocator>(
     bench: &mut Bench<'a, B>,
     event: &Event<&'a B>,
@@ -30,8 +31,8 @@ fn records_next<'a, B: Allocator>(
     Ok(false)
 }
 
-/// Asks the call of act `number`, and compares the reply. `BadShape` if a text of this version can't have the call;
-/// `Disagrees` if the bench gives another reply, or doesn't record the call.
+/// Asks the call of act `number`, and compares the reply. `BadShape`, before the call is asked, if a text of this
+/// version can't have the call or its reply; `Disagrees` if the bench gives another reply, or doesn't record the call.
 fn take_event<'a, B: Allocator>(
     bench: &mut Bench<'a, B>,
     event: &Event<&'a B>,
@@ -50,8 +51,8 @@ fn take_event<'a, B: Allocator>(
     }
 }
 
-/// Asks the calls of the acts, in order. If a value that isn't an event follows them, `BadShape` with its number comes
-/// once they are all asked.
+/// Asks the calls of the events in `acts`, in order, up to the first fault. If a value that isn't an event follows the
+/// events, that value's `BadShape` comes after all other faults.
 fn take_events<'a, B: Allocator>(
     bench: &mut Bench<'a, B>,
     acts: &Acts<&'a B>,
@@ -73,12 +74,12 @@ fn take_events<'a, B: Allocator>(
 }
 
 /// The bench of a session, of either version: it is opened with the session's names and limits, and asked its calls in
-/// order. The bench has to give each reply that is in the text, and to record it. If an object has two equal keys, the
-/// last one counts. The refusals come in this order: `NotJson`; `BadShape {act: 0}` if there is no whole number at
-/// `version`; `BadVersion` if that is neither 1 nor 2; `BadShape {act: 0}` for the rest of the head; then, act by act,
-/// `BadShape` before `Disagrees`. Only the second version has requests, answers and the refusals that come of these.
-/// Each act's JSON is dropped once its event is known. JSON values and the list of events take their memory from the
-/// global heap.
+/// order. The bench has to give each reply that is in the text, and to record the call. If an object has two equal
+/// keys, the last one counts. The refusals come in this order: `NotJson`; `BadShape {act: 0}` if there is no whole
+/// number at `version`; `BadVersion` if that is neither 1 nor 2; `BadShape {act: 0}` for the rest of the head; then,
+/// act by act, `BadShape` before `Disagrees`. Only the second version has requests, answers and the refusals that come
+/// of these. Each act's JSON is dropped once its event is known. JSON values and the list of events take their memory
+/// from the global heap.
 pub fn load<'a, B: Allocator>(
     heap: Global,
     alloc: &'a B,

@@ -26,8 +26,8 @@ fn has_reply<'a, B: Allocator>(history: &History<'a, B>, place: usize, reply: Re
     }
 }
 
-/// Asks the event's call, appends what it prints, and says whether the bench gave the reply that the event has, and
-/// recorded the call.
+/// Asks the event's call, appends what the call prints, and says whether the bench gave the event's reply and recorded
+/// the call.
 #[tactic(auto, unfolding(run_core::specs::Report::command_text, run_core::specs::Report::after_command))]
 fn tell_next<'a, B: Allocator>(
     text: &mut String<&'a B>,
@@ -44,9 +44,9 @@ fn tell_next<'a, B: Allocator>(
     Ok(has_reply(bench.history(), place, event.reply))
 }
 
-/// Asks the call of act `number`, appends what it prints, and compares the reply. `BadShape`, before the call is asked,
-/// if a text of this version can't have the call; `Disagrees` if the bench gives another reply, or doesn't record the
-/// call.
+/// Asks the call of act `number`, appends what the call prints, and compares the reply. `BadShape`, before the call is
+/// asked, if a text of this version can't have the call or its reply; `Disagrees` if the bench gives another reply, or
+/// doesn't record the call.
 fn tell_event<'a, B: Allocator>(
     text: &mut String<&'a B>,
     bench: &mut Bench<'a, B>,
@@ -69,8 +69,8 @@ fn tell_event<'a, B: Allocator>(
     }
 }
 
-/// Asks the calls of the acts, in order, and appends what they print. If a value that isn't an event follows them,
-/// `BadShape` with its number comes once they are all asked.
+/// Asks the calls of the events in `acts`, in order, up to the first fault, and appends what the calls print. If a
+/// value that isn't an event follows the events, that value's `BadShape` comes after all other faults.
 fn tell_events<'a, B: Allocator>(
     text: &mut String<&'a B>,
     bench: &mut Bench<'a, B>,

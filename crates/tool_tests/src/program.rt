@@ -196,7 +196,7 @@ at b
 - r alice a/1 phone
 ";
 
-/// A session with a step of each kind, two refusals and a back.
+/// A session with a step of each kind, a delivery and an undo that are refused, and a back.
 const EVERY_ACT: &str = concat!(
     r#"{"acts":[[0,["do","join",1,"r","alice","phone"],["ok",1]],"#,
     r#"[0,["do","join",1,"s","bob","desk"],["ok",2]],"#,

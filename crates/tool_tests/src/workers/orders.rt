@@ -290,15 +290,15 @@ fn altered_receipts_disagree(rt: HostRuntime) {
     }
 }
 
-/// A fresh bench on which a console has asked to undo this number.
+/// A fresh bench on which a console has asked to undo step `number`, which is refused and recorded.
 fn asked_to_undo<'a>(heap: &'a Global, number: u64, rt: &impl Abort) -> Bench<'a, Global> {
     let mut bench = open(heap, 100, rt);
     drop(ask(&mut bench, 2, 1, Act::Undo(number)));
     bench
 }
 
-/// Whether the receipts of `left` agree with its history, if the history before is that of a fresh bench on which a
-/// console asked to undo `number`.
+/// Whether the receipts of `left` account for what the history of its bench has beyond that of a fresh bench on which a
+/// console asked to undo step `number`.
 fn agrees_after_undo<'a>(
     left: &Left<'a, Global>,
     number: u64,
@@ -311,8 +311,9 @@ fn agrees_after_undo<'a>(
     agrees
 }
 
-/// Asks a fresh bench to undo `asked`, and then races the lines of `UNDONE_BESIDE` on it. Says whether the receipts
-/// account for what its history has beyond that of a fresh bench on which a console asked to undo `other`.
+/// Asks a fresh bench to undo step `asked`, and then races the lines of `UNDONE_BESIDE` on it. Says whether the
+/// receipts account for what its history has beyond that of a fresh bench on which a console asked to undo step
+/// `other`.
 fn agrees_after<R: Threads + Wait + Abort + Sync>(
     rt: &R,
     heap: &Global,

@@ -99,8 +99,8 @@ pub fn agrees<'a, B: Allocator>(
     agrees.expect(rt, "memory")
 }
 
-/// Whether the receipts of `left` account for what its history has beyond that of a fresh bench; and whether they do
-/// with the two histories exchanged.
+/// Whether the receipts of `left` account for what the history of its bench has beyond that of a fresh bench; and
+/// whether they do with the two histories exchanged.
 pub fn agree_with_none<'a, B: Allocator>(
     left: &Left<'a, B>,
     script: &str,
@@ -161,8 +161,8 @@ fn have_lengths<A: Allocator>(lists: &[Vec<Receipt<A>, A>], lengths: &[usize]) -
     are_so
 }
 
-/// Whether what a race left has a receipt for each line, the receipts agree with its history, and the nodes are those
-/// that this history gives.
+/// Whether what a race of `DELIVERED` left has a receipt for each line, the receipts agree with the bench's history,
+/// and the nodes are those that this history gives.
 fn are_vouched_for<'a, B: Allocator>(left: &Left<'a, B>, heap: &'a B, rt: &impl Abort) -> bool {
     agree_with_none(left, DELIVERED, heap, rt) == (true, false)
         && have_lengths(&left.1, &[2, 2, 0])
@@ -231,7 +231,7 @@ fn a_race_is_refused_before_it_begins(rt: HostRuntime) {
     }
 }
 
-/// Asks the act of the bench, and gives the reply and the place that the receipt tells.
+/// Asks the bench the act, and gives the reply and the place that the receipt has.
 fn told<'a, B: Allocator>(
     bench: &mut Bench<'a, B>,
     actor: u16,
@@ -253,7 +253,7 @@ const TOLD: [(Reply, Option<u64>); 4] = [
     (Reply::Refused(Fault::NoSuchStep), None),
 ];
 
-/// The acts of the two joins.
+/// The two joins of `TWO_JOINS`, in their order.
 fn two_joins<'a>(heap: &'a Global, rt: &impl Abort) -> (Act<&'a Global>, Act<&'a Global>) {
     let mut lines = lines_of(heap, TWO_JOINS, rt);
     let (_, second) = lines.pop().expect(rt, "a line");
