@@ -242,7 +242,7 @@ pub fn live_copies<A: Allocator + Copy>(
     Ok(list)
 }
 
-/// A new list with handles of the same entries.
+/// A new list with one more handle of each entry, in the same order.
 fn copies<A: Allocator + Copy>(entries: &[Handle<A>], alloc: A) -> Result<Vec<Handle<A>, A>, Oom>
     ensures { IfOk result (λ list. list.items ≡ entries.now) }
 {
