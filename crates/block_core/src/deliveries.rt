@@ -115,8 +115,8 @@ fn push_leaving<A: Allocator>(
     Ok(next)
 }
 
-/// The dots of our entries that leave, rising. Each has one of `names`, is in `seen` (the dots that the message speaks
-/// of), and has no entry in `message`.
+/// The dots of our entries that leave, rising. Each dot has one of `names`, is in `seen` (the dots that the message
+/// speaks of), and has no entry in `message`.
 pub fn leaving<A: Allocator + Copy>(
     blocks: &[Block<A>],
     message: &[Block<A>],

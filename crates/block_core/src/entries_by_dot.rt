@@ -343,8 +343,8 @@ impl<A: Allocator> EntriesByDot<A> {
         }
     }
 
-    /// Inserts a new entry, in memory that it asks for. The entry comes back if memory is refused, or if the set has
-    /// `TOO_MANY` entries.
+    /// Inserts a new entry, and asks for the entry's memory. The entry comes back if memory is refused, or if the set
+    /// has `TOO_MANY` entries.
     fn insert_asking(&mut self, entry: Entry<A>) -> Result<(), Entry<A>>
     where
         A: Copy,
