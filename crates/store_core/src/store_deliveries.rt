@@ -55,16 +55,16 @@ impl<A: Allocator> Model for Delivered<A> {
 }
 
 impl<A: Allocator + Copy> DeltaStore<A> {
-    /// Handles of the message's entries that join, by rising dot. Each has one of `names`, and a dot that the store
-    /// hasn't seen.
+    /// Handles of the message's entries that join, by rising dot: the entries of `names` at dots that the store hasn't
+    /// seen.
     pub fn joining(&self, message: &Payload<A>, names: NameSet) -> Result<Vec<Handle<A>, A>, Oom>
         ensures { IfOk result (λ joining. pairs joining.items ≡ fin.entries (arrivals (set.contains names) (store_of message.now) self.now.store)) }
     {
         message.entries().joining(&self.seen, names)
     }
 
-    /// The dots of the store's entries that leave, rising. Each has one of `names`, and the message has it without an
-    /// entry.
+    /// The dots of the store's entries that leave, rising. Each dot has one of `names`, and the message has the dot, but
+    /// no entry at it.
     pub fn leaving(&self, message: &Payload<A>, names: NameSet) -> Result<Vec<Dot, A>, Oom>
         ensures { IfOk result (λ leaving. leaving.items ≡ fin.keys (departures (set.contains names) (store_of message.now) self.now.store)) }
     {
