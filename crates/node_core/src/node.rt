@@ -135,7 +135,7 @@ impl<'a, B: Allocator> Node<'a, B> {
         }
     }
 
-    /// A copy of the node. Its store has no index of own entries.
+    /// A copy of the node. The copy's store has no index of own entries.
     pub fn try_copy(&self) -> Result<Node<'a, B>, Oom>
         ensures { IfOk result (λ copy. copy ≡ self.now) }
     {
