@@ -53,7 +53,7 @@ impl<'a, B: Allocator> Slots<'a, B> {
         }
     }
 
-    /// How many steps there are.
+    /// How many steps the slots have; empty slots don't count.
     pub(crate) fn len(&self) -> usize
         ensures { result ≡ length self.now.steps }
     {
