@@ -63,8 +63,8 @@ impl<A: Allocator + Copy> DeltaStore<A> {
         message.entries().joining(&self.seen, names)
     }
 
-    /// The dots of the store's entries that leave, rising. Each dot has one of `names`, and the message has the dot, but
-    /// no entry at it.
+    /// The dots of the store's entries that leave, rising. Each dot has one of `names`, and the message has the dot
+    /// without an entry.
     pub fn leaving(&self, message: &Payload<A>, names: NameSet) -> Result<Vec<Dot, A>, Oom>
         ensures { IfOk result (λ leaving. leaving.items ≡ fin.keys (departures (set.contains names) (store_of message.now) self.now.store)) }
     {
