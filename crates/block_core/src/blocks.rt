@@ -340,7 +340,7 @@ fn put<A: Allocator>(blocks: &mut Row<A>, at: usize, block: Block<A>)
     put.unwrap();
 }
 
-/// How many entries the blocks have.
+/// How many live entries the blocks have together.
 pub fn count_in<A: Allocator>(blocks: &[Block<A>]) -> usize
     requires { length (joined blocks.now) ≤ 2 ^ 62 }
     ensures { result ≡ length (joined blocks.now) }

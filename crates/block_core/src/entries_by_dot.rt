@@ -123,7 +123,7 @@ impl<A: Allocator> EntriesByDot<A> {
         Walk::over(&self.blocks, None)
     }
 
-    /// A walk over the entries of the name by rising clock. It passes over the other names' blocks.
+    /// A walk over the entries of the name by rising clock. It looks at every block, and skips those of other names.
     pub fn walk_of(&self, name: u16) -> Walk<'_, A>
         ensures { result ≡ listed (entries_of_names (λ n. n == name) self.now.map) }
     {
@@ -343,8 +343,8 @@ impl<A: Allocator> EntriesByDot<A> {
         }
     }
 
-    /// Inserts a new entry, in memory that it asks for. The entry comes back if memory is refused, or if the set has
-    /// `TOO_MANY` entries.
+    /// Inserts a new entry, and asks for the entry's memory. The entry comes back if memory is refused, or if the set
+    /// has `TOO_MANY` entries.
     fn insert_asking(&mut self, entry: Entry<A>) -> Result<(), Entry<A>>
     where
         A: Copy,

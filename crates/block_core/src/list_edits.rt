@@ -42,7 +42,7 @@ pub fn take_handle<A: Allocator>(
     }
 }
 
-/// A handle of the entry at `place`.
+/// One more handle of the entry at `place`.
 fn share_at<A: Allocator>(entries: &[Handle<A>], place: usize, alloc: A) -> Result<Handle<A>, Oom>
     requires { place < length entries.now }
     ensures { IfOk result (λ e. Some e ≡ slice_get entries.now place) }
@@ -61,7 +61,7 @@ pub fn let_go<A: Allocator>(items: &mut EntryList<A>, place: usize)
     }
 }
 
-/// A copy of the entry at `place`.
+/// A copy of the entry at `place`, whose words are all stored inline. It takes no memory.
 fn copy_at<A: Allocator>(entries: &[Handle<A>], place: usize) -> Entry<A>
     requires within { place < length entries.now }
     requires short { AreShort entries.now }

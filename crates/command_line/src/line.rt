@@ -201,7 +201,8 @@ fn options_of<'a>(matches: &ArgMatches<'a>) -> Result<Options, &'static str>
     })
 }
 
-/// Whether the subcommand can print in this form.
+/// Whether the subcommand can print in this form: an import as a script and, without `--check`, as a session or a page;
+/// a race as a report or a session; any other subcommand in each form but a page.
 fn can_print(command: Subcommand<'_>, form: Form) -> bool
     ensures { result ≡ can_print command.entry form }
 {
@@ -320,7 +321,8 @@ fn spelled<'a, S: AsStr>(alloc: Global, words: &'a [S]) -> Result<Choice<'a>, Er
     choice
 }
 
-/// The choice that the words before a last word `-` spell; `None` if there is no such word, or they spell no choice.
+/// The choice that the words before a last word `-` spell; `None` if the last word isn't `-`, or the words before it
+/// spell no choice. An `Err` means that memory was refused.
 fn spelled_before<'a, S: AsStr>(alloc: Global, words: &'a [S]) -> Result<Option<Choice<'a>>, Error>
     ensures some { IfOk result (λ choice. IfSome choice (SpellsBefore (map S.text words.entry.now))) }
     ensures none { IfOk result (λ choice. IfNone choice (NeedsLast (map S.text words.entry.now))) }

@@ -18,7 +18,7 @@ use payload_core::{Entry, Oom};
 use replica_core::{Change, Replica};
 use std::alloc::Allocator;
 
-/// Appends the row of an entry if its name is known and up.
+/// Appends the row of an entry; nothing if the entry's name isn't known and up.
 fn put_row<'x, A: Allocator + Copy>(
     rows: &mut Vec<EntryRow<'x, A>, A>,
     replica: &Replica<A>,

@@ -28,14 +28,14 @@ impl<'x, A: Allocator> Model for EntryRow<'x, A> {
 }
 
 impl<'x, A: Allocator> EntryRow<'x, A> {
-    /// The row of an entry.
+    /// The row of an entry, which borrows the entry and copies nothing.
     pub(crate) fn of(entry: &'x Entry<A>) -> EntryRow<'x, A>
         ensures { result ≡ row_of (pair_of entry.now) }
     {
         EntryRow { entry }
     }
 
-    /// Appends the row of an entry.
+    /// Appends the row of an entry to `rows`; the row borrows the entry and copies nothing.
     pub(crate) fn put(rows: &mut Vec<EntryRow<'x, A>, A>, entry: &'x Entry<A>) -> Result<(), Oom>
         ensures { OnOk result (rows.new.items ≡ rows.old.items ++ row_of (pair_of entry.now) ∷ []) }
     {

@@ -64,7 +64,7 @@ impl<A: Allocator> OnlineRow<A> {
         }
     }
 
-    /// Appends the row of an entry.
+    /// Appends the row of an entry to `rows`, with copies of the entry's words.
     pub(crate) fn put(rows: &mut Vec<OnlineRow<A>, A>, entry: &Entry<A>) -> Result<(), Oom>
     where
         A: Copy,

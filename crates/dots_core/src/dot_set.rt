@@ -79,7 +79,7 @@ impl<A: Allocator> DotSet<A> {
         }
     }
 
-    /// The context clock of the name.
+    /// The context clock of the name: 0 if the set lacks the name's dot with the clock 1.
     pub fn clock_of(&self, name: u16) -> u64
         requires { name < 32 }
         ensures { IsContext self.now name result }
@@ -88,7 +88,7 @@ impl<A: Allocator> DotSet<A> {
         part.clock
     }
 
-    /// The cloud of the name.
+    /// The cloud of the name: its clocks above the context clock, rising.
     pub fn cloud_of(&self, name: u16) -> &[u64]
         requires { name < 32 }
         ensures { IsCloudOf self.now name result.now }
@@ -214,7 +214,7 @@ impl<A: Allocator> DotSet<A> {
         Ok(chosen)
     }
 
-    /// A copy of the set.
+    /// A copy of the set. The clouds alone take memory.
     pub fn try_copy(&self) -> Result<DotSet<A>, Oom>
     where
         A: Copy,

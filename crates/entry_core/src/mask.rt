@@ -1,4 +1,4 @@
-//! Masks: 64 clocks as the bits of a number. A clock's bit has the clock's remainder by 64 as its number.
+//! Masks: 64 clocks as the bits of a number. The bit of a clock has the number `clock % 64`.
 ghost use Rattle.std.specs.Prelude.{◌≡◌, ◌%◌, ◌<◌, ◌&&◌, ℕ, not};
 ghost use Rattle.entry_core.specs.Masks.{IsWith, IsWithout, has_bit};
 

@@ -106,7 +106,7 @@ impl<A: Allocator> Word<A> {
         Ok(Word { text })
     }
 
-    /// The text of the word.
+    /// The text of the word, which may be inline or shared; nothing is copied.
     pub fn as_str(&self) -> &str
         ensures text { result.now ≡ self.now }
         ensures word { IsTrue (is_word self.now) }

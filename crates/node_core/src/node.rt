@@ -40,7 +40,7 @@ impl<'a, B: Allocator> Model for Node<'a, B> {
 }
 
 impl<'a, B: Allocator> Node<'a, B> {
-    /// The replica of the node.
+    /// The node's replica, without the messages that the node sent.
     pub fn replica(&self) -> &Replica<&'a B>
         ensures { result.now ≡ self.now.replica }
     {
@@ -135,7 +135,7 @@ impl<'a, B: Allocator> Node<'a, B> {
         }
     }
 
-    /// A copy of the node.
+    /// A copy of the node. The copy's store has no index of own entries.
     pub fn try_copy(&self) -> Result<Node<'a, B>, Oom>
         ensures { IfOk result (λ copy. copy ≡ self.now) }
     {

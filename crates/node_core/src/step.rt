@@ -221,7 +221,8 @@ impl<A: Allocator> Step<A> {
         }
     }
 
-    /// A copy of the step.
+    /// A copy of the step, which shares the bytes of long words. It takes no memory; an `Err` means that the count of a
+    /// word's copies is at its limit.
     pub fn try_copy(&self) -> Result<Self, Oom>
     where
         A: Copy,

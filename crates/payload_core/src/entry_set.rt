@@ -84,7 +84,7 @@ impl<A: Allocator> EntrySet<A> {
         self.by_dot.walk()
     }
 
-    /// A walk over the entries of the name by rising clock. It skips the other names' entries, a block at a time.
+    /// A walk over the entries of the name by rising clock. It looks at every block, and skips those of other names.
     pub fn walk_of(&self, name: u16) -> Walk<'_, A>
         ensures { result ≡ listed (entries_of_names (λ n. n == name) self.now.map) }
     {
@@ -299,7 +299,7 @@ impl<A: Allocator + Copy> EntrySet<A> {
         self.by_dot.leaving(&message.by_dot, seen, names)
     }
 
-    /// A set of the entries of these names, without an index.
+    /// A set of the entries of these names, with neither index nor room.
     pub fn only(&self, names: NameSet) -> Result<EntrySet<A>, Oom>
         ensures { IfOk result (λ part. part.map ≡ entries_of_names (set.contains names) self.now.map) }
     {
@@ -315,7 +315,7 @@ impl<A: Allocator + Copy> EntrySet<A> {
         self.by_dot.dots_of_process(name, pid)
     }
 
-    /// A copy of the set, without an index.
+    /// A copy of the set, with neither index nor room.
     pub fn try_copy(&self) -> Result<EntrySet<A>, Oom>
         ensures { IfOk result (λ copy. copy.map ≡ self.now.map) }
     {

@@ -100,7 +100,7 @@ impl<A: Allocator> Payload<A> {
             && ask_alike(self.asked, other.asked)
     }
 
-    /// A copy of the message.
+    /// A copy of the message. The copy's entry set has neither index nor room.
     pub fn try_copy(&self) -> Result<Payload<A>, Oom>
     where
         A: Copy,

@@ -34,7 +34,7 @@ pub enum Change<A: Allocator> {
 }
 
 impl<A: Allocator> Change<A> {
-    /// How many entries left.
+    /// How many entries the call made leave.
     pub fn left_len(&self) -> usize
         ensures { result ≡ length (left_by (plain_change self.now)) }
     {

@@ -78,14 +78,14 @@ impl<A: Allocator> Replica<A> {
         self.stores.entries()
     }
 
-    /// The dots of the delta.
+    /// The own dots that calls touched since the delta was last taken.
     pub fn delta_seen(&self) -> &DotSet<A>
         ensures { result.now ≡ self.now.delta.seen }
     {
         self.stores.delta_seen()
     }
 
-    /// The entries of the delta.
+    /// The live entries among the delta's dots.
     pub fn delta_entries(&self) -> &EntrySet<A>
         ensures { result.now.map ≡ self.now.delta.entries }
     {

@@ -12,7 +12,7 @@ pub enum ReplicaFault {
     /// The name is not known.
     #[error("NotKnown")]
     NotKnown,
-    /// The name is up.
+    /// The name to be forgotten is up.
     #[error("NotDown")]
     NotDown,
     /// An own entry has this process, topic and key.

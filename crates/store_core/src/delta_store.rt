@@ -70,14 +70,14 @@ impl<A: Allocator> DeltaStore<A> {
         &self.entries
     }
 
-    /// The dots of the delta.
+    /// The own dots that edits touched since the delta was last taken.
     pub fn delta_seen(&self) -> &DotSet<A>
         ensures { result.now ≡ self.now.delta.seen }
     {
         &self.delta_seen
     }
 
-    /// The entries of the delta.
+    /// The live entries among the delta's dots.
     pub fn delta_entries(&self) -> &EntrySet<A>
         ensures { result.now.map ≡ self.now.delta.entries }
     {

@@ -198,7 +198,7 @@ fn put_lefts_back<A: Allocator + Copy>(
 }
 
 /// A copy of the delta's `seen` without the dots of the name whose clocks follow `clock`, one for each of `lefts`, and
-/// without the dots of those entries that left whose dots the delta didn't have before.
+/// without the dot of each entry that left, unless the delta had that dot before.
 fn copy_without<A: Allocator + Copy>(
     seen: &DotSet<A>,
     name: u16,

@@ -1,5 +1,5 @@
-//! A reader and a writer for tests, which may fail in mid-stream. Their contracts show their bytes, so that a clause
-//! about a stream's bytes says something of them.
+//! A reader and a writer for tests, which may fail in mid-stream. Contracts see the bytes of both. Of a stream whose
+//! bytes contracts don't see, clauses about bytes say nothing.
 ghost use Rattle.std.specs.Prelude.{◌≡◌, false, true, []};
 
 use std::alloc::Global;
