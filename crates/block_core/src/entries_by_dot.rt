@@ -263,8 +263,8 @@ impl<A: Allocator> EntriesByDot<A> {
     }
 
     /// Takes out the entry of the dot, as a handle: moved, or shared if other sets share its block's list. `Ok(None)`
-    /// if there is no such entry. An `Err` changes nothing: the count of an entry's copies is at its limit, or memory
-    /// to copy an entry that handles can't share was refused. The room never falls.
+    /// if there is no such entry. It is an `Err`, and nothing changes, if the count of an entry's copies is at its
+    /// limit, or if memory is refused for the copy of an entry that handles can't share. The room never falls.
     pub fn take(&mut self, dot: Dot) -> Result<Option<Handle<A>>, Oom>
     where
         A: Copy,

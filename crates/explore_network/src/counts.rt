@@ -1,4 +1,5 @@
-//! How often each turn came.
+//! How many steps of each turn have been taken. A turn is a node's own steps (all but deliveries), or the deliveries of
+//! one message at one node (`network_rules::Turn`).
 ghost use Rattle.std.specs.Prelude.{◌≡◌, ◌<◌, ◌+◌, ◌^◌, ◌++◌, ◌∷◌, [], List, IfOk, length};
 ghost use Rattle.journal_core.specs.Journals.{Kept as PlainKept};
 ghost use Rattle.explore_network.specs.Turns.{count_of, counts_of};

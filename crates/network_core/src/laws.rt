@@ -13,8 +13,8 @@ ghost use Rattle.network_core.specs.Rows.{OnlineRowsLaw, RowsLaw};
 ghost use Rattle.network_core.specs.Seen.{SameReplicaLaw, SeenLaw};
 ghost use Rattle.network_core.specs.Settling.{LengthLaw, NextDeliveryLaw, QuietLaw, SettleLaw};
 
-/// A delivery at a node can be exchanged with another step of the node, and the node's replica becomes the same either
-/// way. The other step is a join, a leave, a leave all, an update, a broadcast, a request, or an up or a down of a name
+/// Unless a step is refused as `EntriesFull`, a delivery at a node can be exchanged with another step of the node, and
+/// the node's replica becomes the same either way. The other step is a join, a leave, a leave all, an update, a broadcast, a request, or an up or a down of a name
 /// that the node knows.
 pub fn own_law()
     ensures { OwnLaw }

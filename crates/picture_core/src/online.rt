@@ -100,8 +100,8 @@ fn rows_at<'a, B: Allocator>(
     }
 }
 
-/// Appends a change of the node's lane, unless the node listed what is asked about both before (`was`) and `now`, or
-/// neither time.
+/// Appends a change of the node's lane if the node began or stopped listing what is asked about, that is, if `was` and
+/// `now` differ.
 fn push_turn<A: Allocator>(
     turns: &mut Vec<Turn, A>,
     row: u32,

@@ -218,7 +218,7 @@ fn put_unsent_back<A: Allocator + Copy>(
     Ok(())
 }
 
-/// Takes out the dot of the entry that left, unless the delta had it before.
+/// Takes the dot of the entry that left out of `seen`, the delta's dots, unless the delta had the dot before the leave.
 pub(crate) fn unsee<A: Allocator>(seen: &mut DotSet<A>, left: &Left<A>) -> Result<(), Oom>
     requires { IsValid left.now.entry.dot }
     ensures ok { OnOk result (seen.new ≡ dots_before left.now.in_delta left.now.entry.dot seen.old) }

@@ -1,5 +1,5 @@
-//! A reader and a writer for tests, which may fail in mid-stream. Contracts see the bytes of both. Of a stream whose
-//! bytes contracts don't see, clauses about bytes say nothing.
+//! A reader and a writer for tests, which may fail in mid-stream. Contracts see the bytes of both. There are other
+//! streams, whose bytes no contract sees; clauses about bytes say nothing of those.
 ghost use Rattle.std.specs.Prelude.{◌≡◌, false, true, []};
 
 use std::alloc::Global;
