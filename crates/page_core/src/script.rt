@@ -29,7 +29,8 @@ function spoken(line) {
   return [named(node), verb, ...rest.map(/^(join|update|leave)/.test(verb) ? (w, k) => k ? value(w) : process(w) : named)].join(" ");
 }
 calls.forEach(c => { c.verb = c.line.split(" ")[1]; if (events) c.line = spoken(c.line); });
-// Each event in its order: one that is no call is a row, too. A full bench recorded no more calls.
+// Puts the events of the logs into `calls` in their order, also those that are no calls. An event for which a full bench
+// recorded no call is left out.
 if (events) {
   const asked = calls.splice(0);
   for (const { line, time, node, online } of events) {
@@ -269,7 +270,7 @@ function lay() {
   paint("base", items);
 }
 
-// What was looked for
+// What the reader looks for: the text, the presences that it finds, and what is shown of the run
 let query = "", found = new Set(), touching = new Set(), bars = [], why = -1;
 let only = false, past = false, future = false, tab = "online";
 const usual = new Set(order.map(topicKey)).size > 40;
@@ -300,7 +301,7 @@ function look(text) {
   $("only").disabled = !found.size;
   if (!found.size) { only = false; why = -1; }
 }
-// at the cursor: a presence's last hop at a node, and the last change of its list
+// up to the cursor: a presence's last hop at a node, and the last call that changed whether the node lists it
 const hop = (p, n) => stood(p, n, cur);
 const change = (p, n) => listed[p].findLast(h => h[1] === n && h[0] <= cur)?.[0];
 function chain(p, n) {
@@ -323,7 +324,7 @@ function closure(i, ahead) {
   return set;
 }
 
-// The step, beside
+// What is told of the step at the cursor, beside the picture
 const title = text => el("h3", "", text);
 function link(i) {
   const a = el("a", gone[i] < END ? "gone" : "", `${calls[i].step || "\u00b7"} ${calls[i].line}`);
@@ -483,7 +484,7 @@ function below() {
     path("lane", tab === "seen" ? "" : nodes.map((_, n) => down(n)).join("")), ...[...items].map(([cls, d]) => path(cls, d)), ...texts));
 }
 
-// The whole run, small
+// The whole run as a small picture
 let still = null, due = false; // the run without the cursor
 function small(fresh) {
   if (fresh) still = null;
@@ -583,7 +584,7 @@ function seek(dir, test) {
   if (dir < 0 && test === any) go(-1);
 }
 
-// The link
+// The part of the page's address behind `#`: `hash` writes into it what is shown, and `load` reads it.
 let timer = 0;
 function hash(i, n = why, text = query) {
   const w = words_of(text).map(encodeURIComponent), out = [calls[i]?.step ? "step=" + calls[i].step : "call=" + (i + 1)];
@@ -655,7 +656,7 @@ const any = () => true;
 const here = c => { const n = calls[cur]?.node ?? 0; return n < 0 || c.node === n; };
 const changed = c => [...c.minus, ...c.plus].some(p => !found.size || found.has(p));
 const trouble = c => c.notes.some(x => !/undone|all/.test(x));
-// why at the next node; or find what the step changed
+// If nothing is looked for, looks for what the step changed; else asks why at the next node, or at the one before.
 const ask = dir => {
   const c = calls[cur], p = c && [...c.minus, ...c.plus][0];
   if (!found.size && p !== undefined) find(topicKey(p), c.node);
@@ -696,7 +697,7 @@ $("time").onscroll = () => small();
 onresize = matchMedia("(prefers-color-scheme:dark)").onchange = () => small(true);
 onhashchange = load;
 
-// Once
+// What is put on the page once, when it is opened
 const size = [many(N, "node"), many(at.filter(i => i >= 0).length, "step"), many(presences.length, "presence"), ...events ? [many(calls.filter(c => c.online).length, "list")] : []].join(", ");
 document.title += ": " + size;
 $("sum").append(size);
