@@ -18,9 +18,8 @@ use std::alloc::{Allocator, Global};
 use std::marker::Model;
 use std::mem;
 
-/// A finite set of dots. It has a `Part` for each of the 32 names in an array of its own, and asks for memory only for
-/// clouds: an empty set takes none. The value is large, some 1,300 bytes if its allocator is a reference: avoid moving
-/// it.
+/// A finite set of dots. It holds a `Part` for each of the 32 names in place, and asks for memory only for clouds, so
+/// an empty set takes none. The value is large, some 1,300 bytes if its allocator is a reference: avoid moving it.
 #[derive(Drop)]
 pub struct DotSet<A: Allocator = Global> {
     parts: [Part<A>; 32],
