@@ -54,9 +54,9 @@ pub fn joining<A: Allocator + Copy>(
     Ok(joining)
 }
 
-/// Passes over blocks from `at` on whose entries were all seen, and gives the place where it stops. It passes over the
-/// blocks that have the name of the block at `at` and stand before the block of that name's context clock in `seen`;
-/// over none if no block stands at `at`, or one with the base 0.
+/// Passes over blocks from `at` on whose entries were all seen, and gives the place where it stops. The blocks that it
+/// passes over have the name of the block at `at`, and stand before the block into which the name's context clock in
+/// `seen` falls. It passes over none if no block stands at `at`, or one with the base 0.
 fn next_new<A: Allocator>(
     message: &[Block<A>],
     at: usize,
