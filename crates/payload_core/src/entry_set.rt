@@ -232,8 +232,8 @@ impl<A: Allocator + Copy> EntrySet<A> {
     }
 
     /// Takes out the entry of the dot, as a handle: moved, or shared if other sets share its block's list. `Ok(None)`
-    /// if there is no such entry. The room never falls. An `Err` changes nothing: the count of an entry's copies is at
-    /// its limit, or memory was refused.
+    /// if there is no such entry. It is an `Err`, and nothing changes, if the count of an entry's copies is at its
+    /// limit, or if memory is refused for the copy of an entry that handles can't share. The room never falls.
     pub fn take(&mut self, dot: Dot) -> Result<Option<Handle<A>>, Oom>
         ensures entry { IfOk result (λ taken. taken ≡ option_map (entry_of dot) (fin.get self.old.map dot)) }
         ensures map { OnOk result (self.new.map ≡ fin.remove self.old.map dot) }
@@ -247,8 +247,8 @@ impl<A: Allocator + Copy> EntrySet<A> {
         Ok(Some(entry))
     }
 
-    /// Inserts a new entry, which other sets may share. If memory is refused, even though room was made, or if the set
-    /// has too many entries, the entry is dropped, and the set has the same entries as before. The index notes the
+    /// Inserts a new entry, which other sets may share. Memory may be refused although room was made. Then, or if the
+    /// set has too many entries, the entry is dropped, and the set has the same entries as before. The index notes the
     /// entry first, and forgets one that is dropped.
     pub fn put(&mut self, entry: Handle<A>) -> Result<(), Oom>
         requires { fin.get self.old.map entry.dot ≡ None }
