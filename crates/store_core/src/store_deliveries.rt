@@ -167,8 +167,8 @@ fn changes<A: Allocator>(seen: &DotSet<A>, other: &DotSet<A>, names: NameSet, na
     names.has(name) && !seen.has_all_of(other, name)
 }
 
-/// Inserts a further handle of each entry in `joining`, and then the dots of `other` that have one of `names`; if
-/// memory is refused, nothing.
+/// Inserts a further handle of each entry in `joining` into `entries`, and the dots of `other` that have one of `names`
+/// into `seen`. If memory is refused, neither changes.
 fn put_joining<A: Allocator + Copy>(
     entries: &mut EntrySet<A>,
     seen: &mut DotSet<A>,

@@ -26,8 +26,8 @@ impl<A: Allocator> DeltaStore<A> {
 }
 
 impl<A: Allocator + Copy> DeltaStore<A> {
-    /// Puts an entry of this process, topic, key and metadata at the fresh dot, also into the delta. An `Err` changes
-    /// nothing.
+    /// Puts an entry of this process, topic, key and metadata at the fresh dot into the store and into the delta, and
+    /// the dot into the seen dots of both. An `Err` changes nothing.
     pub fn join(
         &mut self,
         pid: u64,

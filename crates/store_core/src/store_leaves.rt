@@ -85,9 +85,9 @@ impl<A: Allocator + Copy> DeltaStore<A> {
         Ok(left)
     }
 
-    /// Takes a leave or an update back: removes the last own dot, with its entry if it has one, and puts back the entry
-    /// that left, also into the delta if the delta had it. The delta loses the entry's dot if it didn't have the dot
-    /// before. If memory is refused, `left` comes back, and nothing changes.
+    /// Takes a leave or an update back: removes the last own dot, with its entry if it has one, also from the delta,
+    /// and puts back the entry that left, also into the delta if the delta had it. The delta loses the dot of the entry
+    /// that left if it didn't have the dot before. If memory is refused, `left` comes back, and nothing changes.
     pub fn restore(&mut self, left: Left<A>) -> Result<(), (Left<A>, Oom)>
         requires { CanBeRestored left self.old }
         ensures ok { OnOk result (self.new ≡ with_left left self.old) }
@@ -152,8 +152,8 @@ fn take_unsent<A: Allocator>(entries: &mut EntrySet<A>, dot: Dot, left: &Left<A>
     }
 }
 
-/// Inserts a further handle of the new entry into the delta's `entries`, and both its dot and `dot`, that of the old
-/// entry, into the delta's `seen`; if memory is refused, none of these.
+/// Inserts a further handle of `entry`, the new entry, into the delta's `entries`, and the new entry's dot and `dot`,
+/// the old entry's, into the delta's `seen`. If memory is refused, neither changes.
 fn put_unsent<A: Allocator + Copy>(
     entries: &mut EntrySet<A>,
     seen: &mut DotSet<A>,
