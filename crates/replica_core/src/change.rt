@@ -15,7 +15,7 @@ use store_core::{Delivered, Forgotten, Left};
 /// What one call of a replica destroyed: `Replica::undo` takes the call back with it (Danos and Krivine: causal undo).
 #[derive(Drop)]
 pub enum Change<A: Allocator> {
-    /// Nothing: the last own dot is that of the join.
+    /// A join destroys nothing, and its dot is the last own dot.
     Join,
     /// The entry that left, and what the delta had at its dot.
     Leave(Left<A>),

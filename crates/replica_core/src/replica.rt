@@ -153,6 +153,7 @@ impl<A: Allocator> Replica<A> {
         self.stores.own_clock() + more as u64 > self.limits.clock
     }
 
+    /// Whether this many entries are more than the limit.
     fn are_too_many(&self, entries: usize) -> bool
         ensures { result ≡ are_too_many self.now entries }
     {

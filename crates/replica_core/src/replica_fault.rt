@@ -18,7 +18,7 @@ pub enum ReplicaFault {
     /// An own entry has this process, topic and key.
     #[error("AlreadyTracked")]
     AlreadyTracked,
-    /// No own entry has the process, topic and key of the call; of a leave all, none has its process.
+    /// No own entry has the process, topic and key of the call, or, for a leave all, the process.
     #[error("NotTracked")]
     NotTracked,
     /// The delta has no dot.

@@ -13,9 +13,9 @@ use payload_core::Payload;
 use std::alloc::Allocator;
 
 impl<A: Allocator> Replica<A> {
-    /// Takes back a broadcast: puts a message of the replica back as its delta, which must have been empty. It takes no
-    /// memory. If `take_delta` gave the message just before, `laws::delta_law` says that the replica is again what it
-    /// was before that call.
+    /// Takes back a broadcast: puts a message of the replica back as the replica's delta, which must be empty. It takes
+    /// no memory. If `take_delta` gave the message just before, `laws::delta_law` says that the replica is again what
+    /// it was before that call.
     pub fn give_delta(&mut self, payload: Payload<A>)
         requires { CanBeDelta payload self.old }
         ensures { self.new ≡ with_delta payload self.old }

@@ -27,6 +27,7 @@ impl<A: Allocator> Replica<A> {
         None
     }
 
+    /// Whether an own entry has this process, topic and key.
     fn is_tracked(&self, pid: u64, topic: &Word<A>, key: &Word<A>) -> bool
         ensures { result ≡ is_tracked self.now pid topic.now key.now }
     {
