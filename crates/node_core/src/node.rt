@@ -95,6 +95,7 @@ impl<'a, B: Allocator> Node<'a, B> {
         }
     }
 
+    /// Takes back a step that was one call of the replica, by the change of that call.
     fn undo(&mut self, change: Change<&'a B>) -> Result<(), (Change<&'a B>, Oom)>
         requires { LeadsSomewhere (OfChange (plain_change change)) self.old }
         ensures ok { OnOk result (GivesBack (OfChange (plain_change change.entry)) self.old self.new) }
@@ -105,6 +106,7 @@ impl<'a, B: Allocator> Node<'a, B> {
         self.replica.undo(change)
     }
 
+    /// Takes back a broadcast: takes the last message out of the outbox, and makes it the delta again.
     fn take_back_delta(&mut self)
         requires { LeadsSomewhere OfBroadcast self.old }
         ensures { GivesBack OfBroadcast self.old self.new }
@@ -113,6 +115,7 @@ impl<'a, B: Allocator> Node<'a, B> {
         self.replica.give_delta(payload);
     }
 
+    /// Takes back a step that sent no delta but another message: takes the last message out of the outbox.
     fn take_back_message(&mut self)
         requires { LeadsSomewhere OfSent self.old }
         ensures { GivesBack OfSent self.old self.new }

@@ -262,6 +262,7 @@ impl<A: Allocator> Step<A> {
 }
 
 impl<A: Allocator + Copy> Step<A> {
+    /// A join of this process, with copies of these words.
     fn join_of(pid: u64, topic: &Word<A>, key: &Word<A>, metadata: &Word<A>) -> Result<Step<A>, Oom>
         ensures { IfOk result (λ step. plain step ≡ Join (record { pid = pid; topic = topic.now; key = key.now; metadata = metadata.now })) }
     {
@@ -273,6 +274,7 @@ impl<A: Allocator + Copy> Step<A> {
         })
     }
 
+    /// A leave of this process, with copies of these words.
     fn leave_of(pid: u64, topic: &Word<A>, key: &Word<A>) -> Result<Step<A>, Oom>
         ensures { IfOk result (λ step. plain step ≡ Leave pid topic.now key.now) }
     {
@@ -283,6 +285,7 @@ impl<A: Allocator + Copy> Step<A> {
         })
     }
 
+    /// An update of this process, with copies of these words.
     fn update_of(
         pid: u64,
         topic: &Word<A>,
