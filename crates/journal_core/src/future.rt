@@ -96,7 +96,7 @@ fn lower<'a, B: Allocator>(
     lower_all(slots, causes[node].deliveries_of(number), bounds);
 }
 
-/// The bounds at the start: just below `number` for `node`, and `None` for the others.
+/// The bounds of `nodes` nodes at the start: just below `number` for `node`, and `None` for the others.
 fn start<'a, B: Allocator>(
     alloc: &'a B,
     nodes: usize,

@@ -215,6 +215,7 @@ fn step_at<'x, 'a, B: Allocator>(
     None
 }
 
+/// Whether the last slot is empty; `false` if there is no slot.
 fn is_last_empty<'a, B: Allocator>(slots: &[Option<Held<'a, B>>]) -> bool
     ensures { result ≡ ends_empty slots.now }
 {
