@@ -78,8 +78,8 @@ impl<A: Allocator> OnlineRow<A> {
         Ok(rows.push(row)?)
     }
 
-    /// Whether both rows have the same fields. It asks for no memory. Its contract says that the values are equal; that
-    /// of `==` says only that neither comes before the other.
+    /// Whether both rows have the same fields. It asks for no memory. Its contract says that the values are equal; the
+    /// contract of `==` says only that neither comes before the other.
     pub fn same(&self, other: &OnlineRow<A>) -> bool
         ensures { IsTrue result ↔ (self.now ≡ other.now) }
     {
