@@ -47,7 +47,7 @@ pub enum Subcommand<'w> {
         strict: bool,
     },
     /// Makes a script from the events of logs. With `check` it tells instead where the bench and the real nodes part.
-    /// With `lines` a comment with the event's line number in the logs stands before the line of each event. With
+    /// With `lines` the line of each event stands below a comment with the event's line number in the logs. With
     /// `lenient` it leaves out, round by round, each event that takes a message which none of the rest sends.
     Import {
         check: bool,

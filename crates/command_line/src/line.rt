@@ -51,8 +51,8 @@ fn about_of<'a>(matches: &ArgMatches<'a>) -> Option<About<'a>>
     Some(About::Presence(Question { node, topic, key }))
 }
 
-/// The presences for which a picture's lanes are thick: `Some(None)` if `about` is the cluster, and `None` if `about`
-/// is a node alone or `None`.
+/// The presences for which a picture's lanes are thick. `Some(None)` if `about` is the cluster: no lane is thick then.
+/// `None` if `about` is a node alone or `None`: no picture is about these.
 fn online_of<'a>(about: Option<About<'a>>) -> Option<Option<Question<'a>>>
     ensures some { IfSome result (IsOnline about.entry) }
     ensures none { IfNone result (AsksOtherwise about.entry) }
