@@ -11,10 +11,10 @@ const own = names || plain, N = own.length, ROW = 20, CHUNK = 20, END = Infinity
 
 const many = (k, word) => `${k} ${word}${k === 1 ? "" : "s"}`;
 
-// No text ends its row, or turns it round.
+// Escapes each character that would end a row or turn its text round.
 const safe = text => text.replace(/[\p{C}\u2028\u2029]/gu, c => `\\u{${c.codePointAt().toString(16)}}`);
 const quoted = text => safe(/^[^\s"\p{C}]+$/u.test(text) ? text : JSON.stringify(text)), nodes = own.map(quoted);
-// Of logs a word stands for a value: bytes as `%XX`, or `%=` and a text; a cut one ends with `~` and a number.
+// In a run from logs a word spells a value: a string, or `%=` and JSON, with bytes as `%XX`; cut, it ends in `~NUMBER`.
 const ofJson = json => json[0] === '"' ? quoted(JSON.parse(json)) : safe(json);
 const brief = (text, mark) => { const c = [...text.slice(0, 200)]; return c.length > 80 ? c.slice(0, 79).join("") + "\u2026" + mark : text; };
 function value(word) {
@@ -29,8 +29,8 @@ function spoken(line) {
   return [named(node), verb, ...rest.map(/^(join|update|leave)/.test(verb) ? (w, k) => k ? value(w) : process(w) : named)].join(" ");
 }
 calls.forEach(c => { c.verb = c.line.split(" ")[1]; if (events) c.line = spoken(c.line); });
-// Puts the events of the logs into `calls` in their order, also those that are no calls. An event for which a full bench
-// recorded no call is left out.
+// Puts the events of the logs into `calls` in their order, also those that are no calls. An event for which a full
+// bench recorded no call is left out.
 if (events) {
   const asked = calls.splice(0);
   for (const { line, time, node, online } of events) {
@@ -41,7 +41,7 @@ if (events) {
   }
 }
 
-// What is looked up once. A place is that of a call in `calls`, from 0.
+// What is worked out once. A place is the index of a call in `calls`.
 const places = [...calls.keys()];
 const at = []; // of a step: its place
 const gone = calls.map(() => END); // by place: where it was taken back
@@ -206,7 +206,7 @@ function words(c) {
   return w;
 }
 
-// `shown`: the places with a row; `line`: a place's row, or that of the next one shown
+// `shown` has the places with a row, and `line` the row of each place, or of the next place that has one.
 let shown, line, chunks = [], arrows, marks;
 const Y = i => line[i] * ROW + ROW / 2, bottom = () => shown.length * ROW, isShown = i => shown[line[i]] === i;
 const rowOf = i => $("c" + (i + 1));
