@@ -36,7 +36,7 @@ fn inverse<'a>(heap: &'a Heap, rt: &impl Abort) -> Inverse<&'a Heap> {
     inverse
 }
 
-/// Keeps the step as number 1 of node 0. It must be kept.
+/// Keeps the step as number 1 of node 0. The journal must not refuse it.
 fn keeps<'a>(
     journal: &mut Journal<'a, Heap>,
     step: Step<&'a Heap>,

@@ -183,9 +183,9 @@ const HELD: Fault = Fault::HasConsequence {
     held_by: 2,
 };
 
-/// The cases in turn. One free place is too few for a step. No free place: a step; undos of numbers that were never
-/// given; a back of a node without steps; an undo of a step with a consequence; an undo that was made already; and a
-/// back after an undo. The last case has a limit of 1 on acts, so two places are never free.
+/// The cases in turn: with one place free, which is too few, steps; with no place free, a step, undos of numbers that
+/// were never given, a back of a node without steps, an undo of a step with a consequence, an undo that was made
+/// already, and a back after an undo. The last case has a limit of 1 on acts, so two places are never free.
 const FULL: &[Full] = &[
     Full {
         limits: [3, 10, 10, 10],

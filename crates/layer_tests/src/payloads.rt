@@ -189,8 +189,8 @@ fn takes_out<A: Allocator>(entries: &mut EntrySet<A>, dot: Dot) -> bool {
     }
 }
 
-/// How many entries of a set `only` gives; at which places the entries stand; what a search finds; and what a removal
-/// leaves.
+/// Tests how many entries of a set `only` gives, at which places the entries stand, what a search finds, and what a
+/// removal leaves.
 #[test]
 fn a_set_of_entries_rises_by_dot(rt: HostRuntime) {
     let mut entries = three(&rt, rt.alloc());
