@@ -235,7 +235,7 @@ impl<A: Allocator> DotSet<A> {
         self.parts[usize::from(name)].try_copy()
     }
 
-    /// Takes out the name's dots, and returns the context clock and cloud that it had.
+    /// Takes out the name's dots, and returns the name's context clock and cloud from before.
     pub fn drop_name(&mut self, name: u16) -> Part<A>
     where
         A: Copy,
