@@ -37,7 +37,7 @@ pub fn both(one: u64, other: u64) -> u64
     one & other
 }
 
-/// How many bits of the mask are set below that of `clock`. No contract says so: a caller checks the place that it
+/// How many bits of the mask are set below the bit of `clock`. No contract says so: a caller checks the place that it
 /// gets.
 pub fn rank(mask: u64, clock: u64) -> usize {
     (mask & ((1 << (clock % 64)) - 1)).count_ones() as usize
