@@ -123,7 +123,8 @@ impl<A: Allocator> EntriesByDot<A> {
         Walk::over(&self.blocks, None)
     }
 
-    /// A walk over the entries of the name by rising clock. It looks at every block, and skips those of other names.
+    /// A walk over the entries of the name by rising clock. It looks at every block, and skips the blocks of other
+    /// names.
     pub fn walk_of(&self, name: u16) -> Walk<'_, A>
         ensures { result ≡ listed (entries_of_names (λ n. n == name) self.now.map) }
     {
