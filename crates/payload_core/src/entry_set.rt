@@ -84,7 +84,8 @@ impl<A: Allocator> EntrySet<A> {
         self.by_dot.walk()
     }
 
-    /// A walk over the entries of the name by rising clock. It looks at every block, and skips those of other names.
+    /// A walk over the entries of the name by rising clock. It looks at every block, and skips the blocks of other
+    /// names.
     pub fn walk_of(&self, name: u16) -> Walk<'_, A>
         ensures { result ≡ listed (entries_of_names (λ n. n == name) self.now.map) }
     {
