@@ -190,7 +190,7 @@ fn put_joining<A: Allocator + Copy>(
     Ok(())
 }
 
-/// Sets the dots of each part's name to those of the part.
+/// Replaces the dots of each name in `parts` by the dots of the name's part.
 fn set_parts<A: Allocator>(seen: &mut DotSet<A>, parts: Vec<OldPart<A>, A>)
     ensures { seen.new ≡ with_parts parts.items seen.old }
 {
