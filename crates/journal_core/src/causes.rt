@@ -10,7 +10,7 @@ use smallvec::SmallVec;
 use std::alloc::Allocator;
 use std::marker::Model;
 
-/// For one node: the rising numbers of its steps; those of its sending steps; and for each sending step the rising
+/// For one node: the rising numbers of its steps, and of its sending steps; and for each sending step the rising
 /// numbers of the steps that deliver its message.
 #[derive(Drop)]
 pub(crate) struct Causes<'a, B: Allocator> {
