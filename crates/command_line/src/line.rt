@@ -20,7 +20,7 @@ use clap::{ArgMatches, Command, Error};
 use std::alloc::{AllocError, Global};
 use std::convert::AsStr;
 
-/// How many different states are kept at most, unless an option says otherwise.
+/// How many different states an exploration keeps at most, if `--states` isn't given.
 const MOST_STATES: u64 = 100_000;
 
 /// The question that NODE, TOPIC and KEY make; `None` if one of them isn't given.

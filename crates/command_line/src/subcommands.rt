@@ -16,7 +16,7 @@ use crate::help::{
 use clap::{Arg, ArgAction, Command};
 use std::alloc::{AllocError, Global};
 
-/// A line or a subcommand, unless memory was refused.
+/// A line or a subcommand; an `Err` means that memory was refused.
 type Built<'a> = Result<Command<'a>, AllocError>;
 
 /// The option `--as`, which names a form. `forms` is its help.
