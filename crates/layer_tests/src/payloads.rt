@@ -115,7 +115,7 @@ fn words_are_ordered_by_their_bytes(rt: HostRuntime) {
     }
 }
 
-/// Whether the entry of `alice` at the clock 1 is the same as that of `key` at `clock`, and whether the entry of
+/// Whether the entry of `alice` at the clock 1 is the same as the entry of `key` at `clock`, and whether the entry of
 /// `alice` is tracked under `key`.
 fn compare<A: Allocator + Copy>(rt: &impl Abort, alloc: A, clock: u64, key: &str) -> (bool, bool) {
     let alice = entry(rt, alloc, 0, 1, "alice");
