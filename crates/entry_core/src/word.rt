@@ -77,6 +77,7 @@ impl<A: Allocator> Model for Word<A> {
     ghost invariant = { λ w. IsPlaced w.text × IsTrue (is_word (text_bytes w.text)) };
 }
 
+/// Whether each of the bytes may stand in a word.
 fn has_word_bytes(bytes: &[u8]) -> bool
     ensures { result ≡ list_all is_word_byte bytes.now }
 {
