@@ -78,7 +78,7 @@ fn held<A: Allocator>(entry: Entry<A>, alloc: A) -> Result<Handle<A>, Oom>
     }
 }
 
-/// Inserts a further handle of the entry: shared if the entry may be shared, and else a copy.
+/// Inserts into `entries` a further handle of `entry`: shared if the entry may be shared, and else a copy.
 pub(crate) fn put_shared<A: Allocator + Copy>(
     entries: &mut EntrySet<A>,
     entry: &Handle<A>,

@@ -230,7 +230,7 @@ pub(crate) fn unsee<A: Allocator>(seen: &mut DotSet<A>, left: &Left<A>) -> Resul
     Ok(())
 }
 
-/// Inserts a further handle of `entry`, if that isn't `None`.
+/// Inserts into `entries` a further handle of `entry`, if that isn't `None`.
 pub(crate) fn put_back<A: Allocator + Copy>(
     entries: &mut EntrySet<A>,
     entry: &Option<Handle<A>>,
@@ -245,7 +245,7 @@ pub(crate) fn put_back<A: Allocator + Copy>(
     }
 }
 
-/// Takes out the entry at the dot of `entry`, if that isn't `None`. It takes no memory.
+/// Takes the entry at the dot of `entry` out of `entries`, if `entry` isn't `None`. It takes no memory.
 pub(crate) fn take_back<A: Allocator>(entries: &mut EntrySet<A>, entry: &Option<Handle<A>>)
     ensures { entries.new.map ≡ taken entry.now entries.old.map }
 {
