@@ -26,7 +26,8 @@ impl<A: Allocator> Replica<A> {
 }
 
 impl<A: Allocator + Copy> Replica<A> {
-    /// Takes out the delta as a message. It takes no memory. `NothingToSend` if the delta has no dot.
+    /// Takes out the delta as a message, and leaves an empty delta. It takes no memory. `NothingToSend` if the delta
+    /// has no dot.
     pub fn take_delta(&mut self) -> Result<Payload<A>, ReplicaFault>
         ensures message { IfOk result (λ payload. payload ≡ delta_message self.old) }
         ensures taken { OnOk result (self.new ≡ without_delta self.old) }
