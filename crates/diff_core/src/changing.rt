@@ -18,7 +18,7 @@ use payload_core::{Entry, Oom};
 use replica_core::{Change, Replica};
 use std::alloc::Allocator;
 
-/// Appends the row of an entry; nothing if the entry's name isn't known and up.
+/// Appends the row of an entry to `rows`; nothing if the entry's name isn't known and up.
 fn put_row<'x, A: Allocator + Copy>(
     rows: &mut Vec<EntryRow<'x, A>, A>,
     replica: &Replica<A>,
@@ -32,8 +32,8 @@ fn put_row<'x, A: Allocator + Copy>(
     Ok(())
 }
 
-/// Appends the row of the entry that the replica has at `dot`; nothing if it has none there, or the dot's name isn't
-/// known and up.
+/// Appends the row of the entry that the replica has at `dot` to `rows`; nothing if the replica has none there, or the
+/// dot's name isn't known and up.
 fn put_found<'x, A: Allocator + Copy>(
     rows: &mut Vec<EntryRow<'x, A>, A>,
     replica: &'x Replica<A>,
