@@ -106,6 +106,7 @@ fn keeps_and_lends<'a>(journal: &mut Journal<'a, Heap>, inverse: Inverse<&'a Hea
     holds!(rt, journal.len() == 0 && journal.find(1).is_none());
 }
 
+/// Makes room for a broadcast of node 0, and then for an up of node 1. Says whether memory sufficed for both.
 fn makes_room<'a>(journal: &mut Journal<'a, Heap>) -> bool
     requires { journal.old.nodes ≡ 2 }
     ensures nodes { journal.new.nodes ≡ 2 }
