@@ -19,7 +19,7 @@ pub enum Change<A: Allocator> {
     Join,
     /// The entry that left, and what the delta had at its dot.
     Leave(Left<A>),
-    /// For each entry of the process that left, by rising dot: the entry, and what the delta had at its dot.
+    /// For each entry that left, by rising dot: the entry, and what the delta had at its dot.
     LeaveAll(Vec<Left<A>, A>),
     /// The old entry, and what the delta had at its dot.
     Update(Left<A>),
