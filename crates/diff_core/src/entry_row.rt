@@ -11,8 +11,8 @@ use std::alloc::Allocator;
 use std::cmp::Ordering;
 use std::marker::Model;
 
-/// A live entry that stands for its row. It is borrowed, so its words aren't copied. A contract sees the row, and the
-/// order is that of `OnlineRow`.
+/// A live entry that stands for its row. It is borrowed, so its words aren't copied. A contract sees the row. These
+/// rows are ordered like those of type `OnlineRow`.
 #[derive(Drop)]
 pub struct EntryRow<'x, A: Allocator> {
     entry: &'x Entry<A>,
