@@ -29,7 +29,7 @@ fn form_option<'a>(alloc: Global, forms: &'a str) -> Arg<'a>
         .help(forms)
 }
 
-/// An option that takes a number.
+/// The option `--NAME`, which takes a number. `about` is its help.
 fn number_option<'a>(alloc: Global, name: &'a str, about: &'a str) -> Arg<'a>
     ensures { HasRule (number_rule name.entry.now) result }
 {
@@ -39,7 +39,7 @@ fn number_option<'a>(alloc: Global, name: &'a str, about: &'a str) -> Arg<'a>
         .help(about)
 }
 
-/// An option without a value.
+/// The option `--NAME`, which has no value. `about` is its help.
 fn flag_option<'a>(alloc: Global, name: &'a str, about: &'a str) -> Arg<'a>
     ensures { HasRule (flag_rule name.entry.now) result }
 {
@@ -49,14 +49,14 @@ fn flag_option<'a>(alloc: Global, name: &'a str, about: &'a str) -> Arg<'a>
         .help(about)
 }
 
-/// A word that must be given.
+/// A word that must be given. `name` is what the help calls it, and `about` its help.
 fn word_place<'a>(alloc: Global, name: &'a str, about: &'a str) -> Arg<'a>
     ensures { HasRule (word_rule name.entry.now) result }
 {
     Arg::new(alloc, name).required(true).help(about)
 }
 
-/// A word that may be left out.
+/// A word that may be left out. `name` is what the help calls it, and `about` its help.
 fn optional_place<'a>(alloc: Global, name: &'a str, about: &'a str) -> Arg<'a>
     ensures { HasRule (optional_rule name.entry.now) result }
 {
@@ -93,7 +93,8 @@ fn with_end<'a>(command: Built<'a>, end: &'a str) -> Built<'a>
     Ok(command?.after_help(end))
 }
 
-/// A subcommand that takes neither options nor words; `with_arg` adds them.
+/// A subcommand that takes neither options nor words; `with_arg` adds them. `about` is its help, and `usage` says how
+/// to write it.
 fn bare_subcommand<'a>(alloc: Global, name: &'a str, about: &'a str, usage: &'a str) -> Built<'a>
     ensures { IfOk result (HasShape (new_app name.entry.now)) }
 {
