@@ -13,7 +13,7 @@ pub fn word<A: Allocator + Clone>(rt: &impl Abort, alloc: A, text: &str) -> Word
     Word::new(alloc, text).expect(rt, "a word")
 }
 
-/// An entry of process 7 under the topic `room`.
+/// An entry of process 7 under the topic `room` and this key, at the dot of this name and clock.
 fn entry<A: Allocator + Copy>(
     rt: &impl Abort,
     alloc: A,
