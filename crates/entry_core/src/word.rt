@@ -1,4 +1,5 @@
-//! `Word`, the text of a topic, a key or metadata: up to 14 bytes are stored inline, longer ones are shared.
+//! `Word`, the text of a topic, a key or metadata. A text of up to 14 bytes is stored inline, and copies share a longer
+//! one.
 ghost use Rattle.std.specs.Prelude.{◌≡◌, ◌↔◌, ◌≤◌, Err, false, length, refl, take, IfOk, IsTrue, Some};
 ghost use Rattle.std.specs.Cmp.{partial_equiv_from_equiv};
 ghost use Rattle.std.specs.Cmp.Lexicographic.{slice_cmp, nat_list_cmp_total, nat_list_eq_equiv, texts_po, texts_ties};
@@ -163,7 +164,7 @@ impl<A: Allocator> Word<A> {
     }
 
     /// A copy of the word. A word of more than 14 bytes shares its bytes with the copy. It takes no memory; an `Err`
-    /// means that the count of such copies is at its limit.
+    /// means that the count of the copies that share these bytes is at its limit.
     pub fn try_copy(&self) -> Result<Word<A>, Oom>
         ensures { IfOk result (λ copy. copy ≡ self.now) }
     {
