@@ -49,21 +49,21 @@ impl<A: Allocator> Model for DeltaStore<A> {
 }
 
 impl<A: Allocator> DeltaStore<A> {
-    /// The own name.
+    /// The name of the replica whose store this is.
     pub fn own(&self) -> u16
         ensures { result ≡ self.now.own }
     {
         self.own
     }
 
-    /// The dots that were seen.
+    /// The dots that were seen, of all names.
     pub fn seen(&self) -> &DotSet<A>
         ensures { result.now ≡ self.now.store.seen }
     {
         &self.seen
     }
 
-    /// The live entries.
+    /// The live entries, each at a dot that was seen.
     pub fn entries(&self) -> &EntrySet<A>
         ensures { result.now.map ≡ self.now.store.entries }
     {
