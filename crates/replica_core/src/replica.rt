@@ -57,7 +57,7 @@ impl<A: Allocator> Model for Replica<A> {
 }
 
 impl<A: Allocator> Replica<A> {
-    /// The own name.
+    /// The replica's own name.
     pub fn own(&self) -> u16
         ensures { result ≡ self.now.own }
     {
@@ -71,7 +71,7 @@ impl<A: Allocator> Replica<A> {
         self.stores.seen()
     }
 
-    /// The live entries.
+    /// The live entries of all names, up or down.
     pub fn entries(&self) -> &EntrySet<A>
         ensures { result.now.map ≡ self.now.store.entries }
     {
