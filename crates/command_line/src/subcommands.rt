@@ -79,7 +79,7 @@ fn with_command<'a>(line: Built<'a>, subcommand: Built<'a>) -> Built<'a>
 }
 
 /// Like `with_command`, but for a subcommand that was built without being refused memory.
-// form: one way out in each
+// form: one way out in each of the two
 fn with_built<'a>(line: Built<'a>, subcommand: Command<'a>) -> Built<'a>
     ensures { (app other : App) → IfOk line.entry (HasShape app) → HasShape other subcommand.entry → IfOk result (HasShape (with_subcommand app other.top)) }
 {
