@@ -49,9 +49,9 @@ impl<A: Allocator + Copy> DeltaStore<A> {
     }
 
     /// Takes back leaves that were made together: puts back the entries that left, and into the delta those that the
-    /// delta had. For each of them it removes one of the last own dots, also from the delta. The delta loses those dots
-    /// of these entries that it didn't have before the leaves. If memory is refused, `lefts` comes back, and nothing
-    /// changes. The call copies the delta's dots.
+    /// delta had. For each entry that left it removes one of the last own dots, also from the delta. The delta loses
+    /// the dots of these entries that the delta didn't have before the leaves. If memory is refused, `lefts` comes
+    /// back, and nothing changes. The call copies the delta's dots.
     pub fn restore_each(&mut self, lefts: Vec<Left<A>, A>) -> Result<(), (Vec<Left<A>, A>, Oom)>
         requires { CanAllBeRestored lefts.items self.old }
         ensures ok { OnOk result (self.new ≡ with_lefts lefts.items self.old) }

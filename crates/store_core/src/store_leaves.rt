@@ -87,7 +87,8 @@ impl<A: Allocator + Copy> DeltaStore<A> {
 
     /// Takes a leave or an update back: removes the last own dot, with its entry if it has one, also from the delta,
     /// and puts back the entry that left, also into the delta if the delta had it. The delta loses the dot of the entry
-    /// that left if it didn't have the dot before. If memory is refused, `left` comes back, and nothing changes.
+    /// that left if the delta didn't have that dot before. If memory is refused, `left` comes back, and nothing
+    /// changes.
     pub fn restore(&mut self, left: Left<A>) -> Result<(), (Left<A>, Oom)>
         requires { CanBeRestored left self.old }
         ensures ok { OnOk result (self.new ≡ with_left left self.old) }
