@@ -14,19 +14,22 @@ ghost use Rattle.network_core.specs.Seen.{SameReplicaLaw, SeenLaw};
 ghost use Rattle.network_core.specs.Settling.{LengthLaw, NextDeliveryLaw, QuietLaw, SettleLaw};
 
 /// Unless a step is refused as `EntriesFull`, a delivery at a node can be exchanged with another step of the node, and
-/// the node's replica becomes the same either way. The other step is a join, a leave, a leave all, an update, a broadcast, a request, or an up or a down of a name
-/// that the node knows.
+/// the node's replica becomes the same either way. The other step is a join, a leave, a leave all, an update, a
+/// broadcast, a request, or an up or a down of a name that the node knows.
 pub fn own_law()
     ensures { OwnLaw }
 {}
 
-/// If the steps make no more entries than a node may hold, none of them is refused as `EntriesFull`.
+/// If steps make no more entries together than a node may hold, none of them is refused as `EntriesFull`, in whatever
+/// order they come.
 pub fn never_full_law()
     ensures { NeverFullLaw }
 {}
 
 /// An easy step (see `is_easy` of `network_rules`) can be moved before any steps directly before it, if each of these
-/// is a delivery at the easy step's node or a step of another node, unless a step is then refused as `EntriesFull`.
+/// is a delivery at the easy step's node or a step of another node, unless a step is then refused as `EntriesFull`. So
+/// where a run of the network makes no more entries than a node may hold, a node's next step other than a delivery can
+/// come at once if it is easy, and some such run ends in the same cluster.
 pub fn easy_law()
     ensures in_runs { EagerLaw }
     ensures in_network_runs { EagerStepLaw }
@@ -63,11 +66,12 @@ pub fn rows_law()
     ensures online { OnlineRowsLaw }
 {}
 
-/// If what matters after a step of the recorded run comes from what matters before the step, so it is in each run of
-/// the network. If, besides, the recorded run makes no more entries than a node may hold, one beginning of a run serves
-/// for another if the same steps are still to be taken and the clusters are alike; and a delivery that has come less
-/// often than it was recorded can come first if it is accepted and brings nothing that matters. The next step of a node
-/// at which nothing more is delivered can always come first, if it is accepted.
+/// If what matters after each step of the recorded run comes from what matters before the step, the same is true of
+/// each run of the network. If, besides, the recorded run makes no more entries than a node may hold, one beginning of
+/// a run serves for another if the same steps are still to be taken and the clusters are alike: for each run with the
+/// other beginning, a run with this one ends in an alike cluster. In the same way a delivery that has come less often
+/// than it was recorded can come first if it is accepted and brings nothing that matters. The next step of a node at
+/// which nothing more is delivered can always come first, if it is accepted.
 pub fn cone_law()
     ensures passes { ConeLaw }
     ensures stands { StandsLaw }
