@@ -241,8 +241,8 @@ fn explore_plan<'a, B: Allocator, W: Watch<Walked>>(
 
 /// Finds all outcomes of what the network could have made of the steps that remain, with up to `lost` deliveries
 /// missing and up to `again` that come a second time; the outcome of the recorded run comes first. The walk may keep
-/// `most` states (`TooManyStates` if it needs more), and tells `watch` how far it has come. Before the
-/// walk begins, `explore` looks for `MayFill` first and then for `TooManySteps`.
+/// `most` states (`TooManyStates` if it needs more), and tells `watch` how far it has come. Before the walk begins,
+/// `explore` looks for `MayFill` first and then for `TooManySteps`.
 pub fn explore<'a, B: Allocator, W: Watch<Walked>>(
     bench: &Bench<'a, B>,
     question: &Question<&'a B>,
