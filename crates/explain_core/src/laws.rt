@@ -19,8 +19,8 @@ pub fn standing_law()
 {}
 
 /// Each step of a track is a remaining step of its node that did what the track says. In the message of a send or a
-/// delivery the dot stands as the track says, and a delivery reads the step that sent its message. A step that forgot
-/// the dot took the dot's name permanently down.
+/// delivery the dot stands as the track says, and the step that a delivery read from is the one that sent its message.
+/// A step that forgot the dot took the dot's name permanently down.
 pub fn step_law()
     ensures { StepLaw }
 {}
