@@ -115,7 +115,7 @@ fn start<
         .map_err(|_| WorkersFault::WorkerRefused)
 }
 
-/// Starts a worker at each slot, and appends the worker to `workers`, or `None` for an actor without a slot.
+/// Starts a worker for each slot, and appends the worker to `workers`, or `None` for an actor without a slot.
 /// `WorkerRefused` at the first that can't be started; none is started after it.
 fn start_all<
     's,
