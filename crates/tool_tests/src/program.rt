@@ -411,7 +411,7 @@ fn long_work_tells_how_far_it_has_come(rt: HostRuntime) {
     }
 }
 
-/// How many replies to steps the report has: lines that end with ` ok`, and refusals.
+/// How many lines of the report tell of a step that was taken (they end with ` ok`) or of a refusal.
 fn replies_of(report: &[u8]) -> usize {
     let report = str::from_utf8(report).unwrap_or("");
     let is_reply = |line: &&str| line.ends_with(" ok") || line.starts_with("no ");
