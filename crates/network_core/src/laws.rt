@@ -28,8 +28,9 @@ pub fn never_full_law()
 
 /// An easy step (see `is_easy` of `network_rules`) can be moved before any steps directly before it, if each of these
 /// is a delivery at the easy step's node or a step of another node, unless a step is then refused as `EntriesFull`. So
-/// where a run of the network makes no more entries than a node may hold, a node's next step other than a delivery can
-/// come at once if it is easy, and some such run ends in the same cluster.
+/// in a run of the network that makes no more entries than a node may hold, a node's next step other than a delivery
+/// can come at once if it is easy: some run of the network with the same beginning and then this step ends in the same
+/// cluster.
 pub fn easy_law()
     ensures in_runs { EagerLaw }
     ensures in_network_runs { EagerStepLaw }
