@@ -111,7 +111,8 @@ fn is_next_by(
     }
 }
 
-/// Whether the step at `place` may come next; false if the step has no rank, or the rank's turn isn't among `turns`.
+/// Whether the step at `place` may come next, if up to `again` deliveries may come a second time. False if the step has
+/// no rank, or the rank's turn isn't among `turns`.
 pub fn is_next(turns: &[Turn], ranks: &[Rank], counts: &[usize], again: usize, place: usize) -> bool
     ensures { result ≡ is_next turns.now ranks.now counts.now again place }
 {
