@@ -168,7 +168,8 @@ fn put_dot<'a, A: Allocator, B: Allocator>(
     Ok(writeln!(text, "dot {name} {clock}")?)
 }
 
-/// Appends the line of the node's last up, down or permanently down of the presence's name, if one remains.
+/// Appends the line of the node's last up, down or permanently down of the presence's name, if one remains. `statuses`
+/// has the numbers of such steps by name (see `last_statuses`).
 #[tactic(auto, unfolding(crate::specs::Explanations::status_text))]
 fn put_status<'a, A: Allocator, B: Allocator>(
     bench: &Bench<'a, B>,

@@ -1,4 +1,4 @@
-//! What a step did to a dot.
+//! `Hop`: what a step did to a dot; and `Stand`: how a dot stands at a node, and since which step.
 ghost use Rattle.std.specs.Prelude.{◌≡◌};
 ghost use Rattle.explain_core.specs.Tracks.{is_sender};
 
