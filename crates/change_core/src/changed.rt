@@ -130,7 +130,8 @@ pub(crate) fn all_places<W: Allocator, A: Allocator>(
     Ok(places)
 }
 
-/// The run with this change, as places of steps, in the order that `order` finds; `None` if there is no order.
+/// The run with this change, as places of steps, in the order that `order` finds; `None` if each order delivers some
+/// message before it is sent.
 pub(crate) fn places_with<W: Allocator, A: Allocator + Copy>(
     steps: &[Kept<W>],
     change: Change,
