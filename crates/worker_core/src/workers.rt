@@ -147,7 +147,8 @@ fn start_all<
     Ok(workers)
 }
 
-/// Waits for the workers, and takes their receipts. An actor without a worker has an empty list.
+/// Waits for the workers, and appends the list of each one's receipts to `lists`; an empty list for an actor without a
+/// worker.
 fn join_all<T: Drop, A: Allocator + Copy, R: Threads>(
     rt: &R,
     alloc: A,
