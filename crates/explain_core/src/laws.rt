@@ -12,8 +12,8 @@ pub fn chain_law()
     ensures { ChainLaw }
 {}
 
-/// At each node a presence stands as a track says, and has stood so since a remaining step of that node, or from the
-/// beginning.
+/// At each node a presence stands as its track says. If the track names a step since which it stands so, that step
+/// remains and is one of the node.
 pub fn standing_law()
     ensures { StandingLaw }
 {}
