@@ -1,6 +1,6 @@
 //! Why words choose nothing; what the program does if it can't write, or is refused memory; what it tells of long work;
-//! and a race, with the status of its faults, `OutOfMemory` apart. What words choose, what the program prints and its
-//! other statuses are cases of `example_tests`.
+//! a race; and with which status the program ends at each fault of a race but `OutOfMemory`. What words choose, what
+//! the program prints and its other statuses are cases of `example_tests`.
 use clap::error::ErrorKind;
 use command_line::choice;
 use program_core::{Fault, program, run};
