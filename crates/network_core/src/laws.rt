@@ -1,7 +1,7 @@
 //! The laws of runs of the network, as contracts of functions that do nothing.
 //!
 //! A crate above uses a law by calling its function. The caller chooses which dots matter, to each node and in each
-//! message: laws that speak of such dots hold for any choice, unless they say otherwise.
+//! message. A law that speaks of such dots holds for any choice, or says for which.
 ghost use Rattle.network_core.specs.AlikeSteps.{StepLaw, StepsLaw};
 ghost use Rattle.network_core.specs.Cones.{AloneLaw, ConeLaw, IdleLaw, StandsLaw};
 ghost use Rattle.network_core.specs.EasySteps.{EagerLaw, EagerStepLaw};
@@ -27,9 +27,9 @@ pub fn never_full_law()
 {}
 
 /// An easy step (see `is_easy` of `network_rules`) can be moved before any steps directly before it, if each of these
-/// is a delivery at the easy step's node or a step of another node, unless a step is then refused as `EntriesFull`. So
-/// in a run of the network that makes no more entries than a node may hold, a node's next step other than a delivery
-/// can come at once if it is easy: some run of the network with the same beginning and then this step ends in the same
+/// is a delivery at the easy step's node or a step of another node, and no step is then refused as `EntriesFull`. So in
+/// a run of the network that makes no more entries than a node may hold, a node's next step other than a delivery can
+/// come at once if it is easy: some run of the network with the same beginning and then this step ends in the same
 /// cluster.
 pub fn easy_law()
     ensures in_runs { EagerLaw }
