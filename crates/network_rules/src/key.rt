@@ -64,8 +64,8 @@ pub fn message_of<'x, 'a, B: Allocator>(
     cluster.node(node)?.outbox().get(number)
 }
 
-/// Appends how `dot` stands at the node `number`, unless the dot is that node's own or has a name that isn't among
-/// `names`. (How a node's own dots stand follows from its own steps.)
+/// Appends how `dot` stands at the node `number`, if the dot's name is among `names` and isn't the node's own. (How a
+/// node's own dots stand follows from its own steps.)
 fn put_at_node<'a, B: Allocator>(
     key: &mut Key<&'a B>,
     dot: Dot,

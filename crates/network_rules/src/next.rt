@@ -52,8 +52,8 @@ fn may_repeat(turns: &[Turn], counts: &[usize], again: usize) -> bool
     again > 0 && few_extra(turns, counts, again - 1)
 }
 
-/// Whether a run may end when `count` steps of this turn came. In a turn of own steps, all of them must have come; in a
-/// turn of deliveries, at most twice as many as were recorded.
+/// Whether this turn lets a run end after `count` of the turn's steps came. In a turn of own steps, all of them must
+/// have come; in a turn of deliveries, at most twice as many as were recorded.
 fn is_whole_by(turn: Turn, count: usize) -> bool
     ensures { result ≡ is_whole_by turn.delivers turn.recorded count }
 {
