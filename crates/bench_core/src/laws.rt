@@ -36,8 +36,8 @@ pub fn chain_law()
 {}
 
 /// Three laws of each machine that calls lead to from the opening. The undos of a step's future are all made, greatest
-/// number first. Any undos and backs that take the step back take back its whole future. Undos that are all made don't
-/// change a node if they undo none of its steps.
+/// number first. If undos and backs are all made, and the step doesn't remain after them, none of its future remains.
+/// Undos that are all made don't change a node if they undo none of its steps.
 pub fn unwind_law()
     ensures future { UndoneInTurnLaw }
     ensures least { LeastLaw }
