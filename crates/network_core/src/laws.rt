@@ -53,15 +53,15 @@ pub fn made_law()
 {}
 
 /// The dots that nodes have seen at the end of a run are among those that the nodes' own steps give. If a node's
-/// replicas at the ends of two runs of the network are the same in all dots that the recorded run gives, they are the
-/// same.
+/// replicas at the ends of two runs of the network differ at most in dots that the recorded run doesn't give, they are
+/// the same.
 pub fn seen_law()
     ensures seen { SeenLaw }
     ensures same { SameReplicaLaw }
 {}
 
-/// Replicas that are the same in the dots of a topic and a key show the same rows with that topic and key: in the order
-/// of the dots, and in their online lists.
+/// If two replicas differ at most in dots at which neither has an entry of a topic and a key, they show the same rows
+/// with that topic and key, both in the order of the dots and in their online lists.
 pub fn rows_law()
     ensures shown { RowsLaw }
     ensures online { OnlineRowsLaw }
@@ -86,10 +86,12 @@ pub fn keys_law()
     ensures { StandAlikeLaw }
 {}
 
-/// Every run of the network with a given beginning ends in an outcome that was found, if that holds after one more step
-/// that can come first; or if it holds of another beginning that serves for this one; or if it holds after each step
-/// that can come next, and the beginning's own outcome was found or no run may end there. A run of the network has at
-/// most as many steps as the recorded run, and one more for each delivery that may come a second time.
+/// Let the recorded run make no more entries than a node may hold, let what matters after each of its steps come from
+/// what matters before the step, and of two alike ends let either both or neither count as found. Then every run of the
+/// network with a given beginning ends in an outcome that was found, if that holds after one more step that can come
+/// first; or if it holds of another beginning that serves for this one; or if it holds after each step that can come
+/// next, and the beginning's own outcome was found or no run may end there. A run of the network has at most as many
+/// steps as the recorded run, and one more for each delivery that may come a second time.
 pub fn settle_law()
     ensures settled { SettleLaw }
     ensures length { LengthLaw }
