@@ -9,7 +9,7 @@ use network_rules::{Turn, count_at};
 use node_core::Oom;
 use std::alloc::Allocator;
 
-/// How often a turn has come after the step `kept`, if it had come `count` times before the step.
+/// How many steps of `turn` have been taken after the step `kept`, if `count` of them had been taken before it.
 fn count_with<A: Allocator>(turn: Turn, kept: &Kept<A>, count: usize) -> usize
     ensures { (w : List PlainKept) → count ≡ count_of turn w → length w + 1 < 2 ^ 64 → result ≡ count_of turn (w ++ kept.now ∷ []) }
 {
@@ -21,7 +21,7 @@ fn count_with<A: Allocator>(turn: Turn, kept: &Kept<A>, count: usize) -> usize
     }
 }
 
-/// How often each turn has come after the step `kept`, given the counts before the step.
+/// How many steps of each turn have been taken after the step `kept`, given the counts before it.
 pub(crate) fn counted<'a, B: Allocator>(
     kept: &Kept<&'a B>,
     turns: &[Turn],

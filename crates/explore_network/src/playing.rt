@@ -72,7 +72,8 @@ pub(crate) fn ask<'a, B: Allocator>(
     }
 }
 
-/// Takes the node's last step back by its inverse. If a request for memory is refused, the inverse is dropped.
+/// Takes the node's last step back by its inverse. If memory is refused, the cluster doesn't change, and the inverse is
+/// dropped.
 pub(crate) fn lead_back<'a, B: Allocator>(
     cluster: &mut Cluster<'a, B>,
     node: u16,

@@ -297,8 +297,8 @@ fn asked_to_undo<'a>(heap: &'a Global, number: u64, rt: &impl Abort) -> Bench<'a
     bench
 }
 
-/// Whether the receipts of `left` account for what the history of its bench has beyond that of a fresh bench on which a
-/// console asked to undo step `number`.
+/// Whether the receipts of `left` agree with the history of its bench, if the history before the race is given as that
+/// of a fresh bench which a console asked to undo step `number`.
 fn agrees_after_undo<'a>(
     left: &Left<'a, Global>,
     number: u64,
