@@ -103,9 +103,9 @@ fn named_consoles<A: Allocator + Copy, N: Allocator>(
     Ok(consoles)
 }
 
-/// Names for the consoles of a bench, which knows its consoles by number alone: the first of `c1` to `c48` that no node
-/// has, as many as there are consoles up to the last by number that asked something. If too few are free, it gives all
-/// that are.
+/// Names for the consoles of a bench, which knows its consoles by number alone. Up to the console with the greatest
+/// number that asked something, each gets the next name of `c1` to `c48` that no node has. If too few names are free,
+/// the last consoles get none.
 #[tactic(auto, unfolding(crate::specs::Actors::free_consoles))]
 pub fn free_consoles<'a, B: Allocator>(
     alloc: &'a B,
