@@ -110,8 +110,8 @@ fn no_node<'l>(bytes: &[u8], count: usize, words: &[&'l str]) -> &'l str
     ""
 }
 
-/// The place, counted from 0, of a line's first word that should name a node: 1 if the line begins with a reserved word
-/// (`first`), and else 2, behind an actor's verb.
+/// The place, counted from 0, of the first word that should name a node, in a line that begins with the word `first`:
+/// 1 if that is a reserved word, and else 2, behind an actor's verb.
 fn name_place(first: &str) -> usize
     ensures { result ≡ name_place first.now }
 {
