@@ -19,7 +19,7 @@ fn mark<A: Allocator>(sent: &mut Vec<bool, A>, sends: Option<usize>)
     }
 }
 
-/// For each message, by number, whether one of the events sends it.
+/// For each of the `messages` messages, by number, whether one of the events sends it.
 fn sent_by<A: Allocator + Copy>(
     alloc: A,
     notes: &[Noted<A>],
