@@ -124,7 +124,7 @@ fn put_lanes<'a, A: Allocator, N: Allocator, B: Allocator>(
     Ok(())
 }
 
-/// Appends the thick parts of a node's lane, if the node is asked about.
+/// Appends the thick parts of a node's lane, down to where row `last` begins, if the node is asked about.
 #[tactic(auto, using(crate::proofs::Texts::nothing_end))]
 fn put_bar_at<'a, A: Allocator, B: Allocator>(
     text: &mut String<A>,
@@ -147,7 +147,7 @@ fn put_bar_at<'a, A: Allocator, B: Allocator>(
     put_bar(text, &path)
 }
 
-/// Appends the thick parts of the lanes of the nodes that are asked about.
+/// Appends the thick parts of the lanes of the nodes that are asked about, down to where row `last` begins.
 fn put_bars<'a, A: Allocator, N: Allocator, B: Allocator>(
     text: &mut String<A>,
     names: &Names<N>,

@@ -181,7 +181,7 @@ fn path_between<'a, B: Allocator>(
 }
 
 /// The path of a message: along the row of its send, down beside the lane of the node that takes it, and to the mark of
-/// the delivery. `from` and `to` are each a row and a node.
+/// the delivery. `from` and `to` are each a row and a node; `source` is the number of the step that sent the message.
 fn message_path<'a, B: Allocator>(
     nodes: u32,
     from: (u32, u32),
