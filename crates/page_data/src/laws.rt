@@ -20,13 +20,13 @@ pub fn change_law()
 {}
 
 /// The rows that left and joined a node's online list during a sequence of calls lead from the list before these calls
-/// to the list after them, if the bench was in a state that calls lead to.
+/// to the list after them, if the bench had come to its state by calls.
 pub fn rows_law()
     ensures { RowsLaw }
 {}
 
 /// Applied in order to what a node had seen before a sequence of calls, the `dots` of these calls lead to what the
-/// node has seen after them, if the bench was in a state that calls lead to.
+/// node has seen after them, if the bench had come to its state by calls.
 pub fn dots_law()
     ensures { DotsLaw }
 {}
