@@ -173,7 +173,7 @@ fn put_changes<'a, B: Allocator>(
     put_whatif(bench, alloc, answer, number, question)
 }
 
-/// Appends the answer to a line with these words, which a script would refuse with the fault `kind`.
+/// Appends the answer to a line that has these words, and that a script would refuse with the fault `kind`.
 #[tactic(auto, unfolding(crate::specs::Answers::worded))]
 fn put_worded<'a, B: Allocator>(
     prompt: &Prompt<'a, B>,
