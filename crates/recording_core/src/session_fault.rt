@@ -7,7 +7,8 @@ pub enum SessionFault {
     /// The bytes aren't JSON, or nest too deep.
     #[error("NotJson")]
     NotJson,
-    /// The head, or this act, doesn't have the form that it has in a session, or the version has no such act or reply.
+    /// The head, or this act, doesn't have the form that it has in a session, or a text of the version can't have the
+    /// act or its reply.
     #[error("BadShape at act {act}")]
     BadShape { act: u64 },
     /// The number under `version` is neither 1 nor 2.
