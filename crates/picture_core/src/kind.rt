@@ -4,7 +4,7 @@ ghost use Rattle.picture_core.specs.Shapes.{class_of, kind_of};
 
 use crate::standing::Standing;
 
-/// How a call looks, or a message.
+/// How a call or a message looks. A message has one of the first three kinds.
 #[derive(Clone, Copy, Debug, PartialEq, Eq)]
 pub enum Kind {
     /// A step that remains.
