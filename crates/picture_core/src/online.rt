@@ -53,6 +53,7 @@ impl<A: Allocator> Asked<A> {
     }
 }
 
+/// Whether the row has the topic and key that are asked about.
 fn is_asked<A: Allocator, R: Allocator>(asked: &Asked<A>, row: &OnlineRow<R>) -> bool
     ensures { result ≡ is_asked asked.now row.now }
 {
