@@ -18,6 +18,7 @@ fn names_actors(first: &str) -> bool
     first == "nodes" || first == "consoles"
 }
 
+/// The hint for a name that stands a second time; `None` if `word` is empty.
 fn again<'l>(word: &'l str) -> Option<Hint<'l>>
     ensures { option_map plain_hint result ≡ again word.now }
 {
