@@ -1,5 +1,5 @@
-//! An event as a step. In the tables, new nodes, processes and messages, and new values whose words must be cut, get
-//! numbers.
+//! The step that stands for an event. In the tables, new nodes, processes and messages, and new values whose words must
+//! be cut, get numbers.
 ghost use Rattle.std.specs.Prelude.{◌≡◌, ◌∷◌, [], ℕ, Err, IfOk, IfSome, OnOk, is_some, not};
 ghost use Rattle.std.specs.FinSet as set;
 ghost use Rattle.serde_json.specs.View.{view, items_view};

@@ -28,6 +28,7 @@ pub struct Drawn {
 }
 
 impl Drawn {
+    /// What stands in for a step that was never taken.
     const NOTHING: Drawn = Drawn {
         row: 0,
         standing: Standing::Undone,

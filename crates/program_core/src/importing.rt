@@ -105,9 +105,9 @@ fn fault_of(fault: ImportFault) -> Fault
     }
 }
 
-/// What is printed of the events, in `text`. `differs`: a check found where the bench and the real nodes part, and the
-/// text tells it. `left_out`: the numbers of the lines that were left out. `full`: the history of the bench in the text
-/// is full, so later steps may be missing; it is `false` for a script and for a check.
+/// What is printed of the events, in `text`. `differs` says whether a check found that the bench and the real nodes
+/// part. `left_out` has the numbers of the lines that were left out. `full` says whether the history of the bench in
+/// the text is full, so that later steps may be missing; it is `false` for a script and for a check.
 #[derive(Drop)]
 pub struct Made<A: Allocator> {
     pub text: Text<A>,
