@@ -264,8 +264,9 @@ impl<A: Allocator> EntriesByDot<A> {
     }
 
     /// Takes out the entry of the dot, as a handle: moved, or shared if other sets share its block's list. `Ok(None)`
-    /// if there is no such entry. From a shared list an entry may fail to be taken, and then nothing changes: if as many
-    /// handles share it as may, or if it can't be shared and memory for a copy of it is refused. The room never falls.
+    /// if there is no such entry. From a shared list an entry may fail to be taken, and then nothing changes: if as
+    /// many handles share it as may, or if it can't be shared and memory for a copy of it is refused. The room never
+    /// falls.
     pub fn take(&mut self, dot: Dot) -> Result<Option<Handle<A>>, Oom>
     where
         A: Copy,

@@ -97,9 +97,9 @@ pub fn settle_law()
     ensures length { LengthLaw }
 {}
 
-/// A delivery that comes next in a run was recorded. Before it the run has fewer such deliveries than twice the recorded
-/// ones, and fewer than the recorded ones if none may come a second time. If the run has all recorded deliveries at a
-/// node, and none may come a second time, nothing more is delivered there.
+/// A delivery that comes next in a run was recorded. Before it the run has fewer such deliveries than twice the
+/// recorded ones, and fewer than the recorded ones if none may come a second time. If the run has all recorded
+/// deliveries at a node, and none may come a second time, nothing more is delivered there.
 pub fn next_law()
     ensures quiet { QuietLaw }
     ensures next { NextDeliveryLaw }

@@ -522,7 +522,7 @@ function shrink() {
   fill("--sel", 0, $("time").scrollTop / ROW * f, w, (h - top) / ROW * f);
 }
 
-// Shows the cursor, the call `cur`, in each part of the page; `marked` and `faded` are the elements that are so for it now.
+// Shows the cursor, the call `cur`, in each part of the page; `marked` and `faded` are the elements that are so for it
 let marked = [], faded = [];
 function show(scroll) {
   marked.forEach(e => { e.classList.remove("here"); e.removeAttribute("aria-selected"); });
