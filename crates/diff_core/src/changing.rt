@@ -216,10 +216,10 @@ fn joined_rows<A: Allocator + Copy>(
 /// How the last call of the replica `after` changed its online list: the rows that left and those that joined, each
 /// side in order. `change` is the change of that call. Reads what the call touched, or all entries of a name that the
 /// call put up or down.
-pub fn changed<A: Allocator + Copy>(
+pub fn changed<'call, A: Allocator + Copy>(
     alloc: A,
-    change: &Change<A>,
-    after: &Replica<A>,
+    change: &'call Change<A>,
+    after: &'call Replica<A>,
 ) -> Result<Diff<A>, Oom>
     requires { ChangeLeadsSomewhere (plain_change change.now) after.now }
     ensures left { IfOk result (λ diff. diff.left.items ≡ alone (online_of (back (plain_change change.now) after.now)) (online_of after.now)) }

@@ -80,7 +80,7 @@ impl<A: Allocator> OnlineRow<A> {
 
     /// Whether both rows have the same fields. It asks for no memory. Its contract says that the values are equal; the
     /// contract of `==` says only that neither comes before the other.
-    pub fn same(&self, other: &OnlineRow<A>) -> bool
+    pub fn same<'call>(&'call self, other: &'call OnlineRow<A>) -> bool
         ensures { IsTrue result ↔ (self.now ≡ other.now) }
     {
         self.topic.same(&other.topic)

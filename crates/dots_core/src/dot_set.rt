@@ -125,7 +125,7 @@ impl<A: Allocator> DotSet<A> {
 
     /// Whether the set has each dot of `name` that `other` has. Each clock in the cloud of `other` above this set's
     /// context clock takes a binary search.
-    pub fn has_all_of(&self, other: &DotSet<A>, name: u16) -> bool
+    pub fn has_all_of<'call>(&'call self, other: &'call DotSet<A>, name: u16) -> bool
         requires { name < 32 }
         ensures { IsTrue result ↔ HasAllOf name self.now other.now }
     {

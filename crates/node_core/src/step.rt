@@ -69,7 +69,7 @@ pub enum Step<A: Allocator> {
 
 impl<A: Allocator> Step<A> {
     /// Whether both are the same step, with equal numbers, words and names.
-    pub fn same(&self, other: &Self) -> bool
+    pub fn same<'call>(&'call self, other: &'call Self) -> bool
         ensures { IsTrue result ↔ (plain self.now ≡ plain other.now) }
     {
         match self {

@@ -73,7 +73,7 @@ impl<A: Allocator> Change<A> {
 
     /// The dot at `place`, counted from 0, of those that joined, by rising dot; `None` past the last. `after` is the
     /// replica as the call left it.
-    pub fn joined_at(&self, place: usize, after: &Replica<A>) -> Option<Dot>
+    pub fn joined_at<'call>(&'call self, place: usize, after: &'call Replica<A>) -> Option<Dot>
         ensures { result ≡ slice_get (joined_by (plain_change self.now) after.now) place }
     {
         match self {

@@ -122,7 +122,7 @@ impl<A: Allocator> Replica<A> {
     }
 
     /// Whether both have the same own name, limits, dots, entries, statuses and delta. It takes no memory.
-    pub fn same(&self, other: &Replica<A>) -> bool
+    pub fn same<'call>(&'call self, other: &'call Replica<A>) -> bool
         ensures { IsTrue result ↔ (self.now ≡ other.now) }
     {
         self.limits == other.limits

@@ -15,7 +15,10 @@ impl<A: Allocator + Copy> Replica<A> {
     /// the message at a dot of these names joins if the replica hasn't seen the dot. An entry of the replica at such a
     /// dot leaves if the message has the dot without an entry. The replica has then seen the message's dots of these
     /// names. `EntriesFull` if there would be more entries than the limit.
-    pub fn merge(&mut self, message: &Payload<A>) -> Result<Change<A>, ReplicaFault>
+    pub fn merge<'call>(
+        &'call mut self,
+        message: &'call Payload<A>,
+    ) -> Result<Change<A>, ReplicaFault>
         requires { message.now.asked ≡ None }
         ensures merged { OnOk result (self.new ≡ merged message.now self.old) }
         ensures greater_standings { OnOk result (TakesGreaterStandings message.now self.old self.new) }
