@@ -340,15 +340,17 @@ fn a_request_gives_its_names(rt: HostRuntime) {
     holds!(&rt, matches!(asked, Some(asked) if asked.same(names)));
 }
 
-/// Takes out the last message, and says whether it has seen node 0's dot with this clock; `false` if there is no
-/// message.
+/// Whether the message has node 0's dot with this clock.
+fn has_clock<'a>(message: Payload<&'a Heap>, clock: u64) -> bool {
+    let has_clock = message.seen().contains(Dot { name: 0, clock });
+    drop(message);
+    has_clock
+}
+
+/// Takes out the last message, and says whether it has node 0's dot with this clock; `false` if there is no message.
 fn pops<'a>(outbox: &mut Outbox<'a, Heap>, clock: u64) -> bool {
     match outbox.pop() {
-        Some(last) => {
-            let is_this = last.seen().contains(Dot { name: 0, clock });
-            drop(last);
-            is_this
-        }
+        Some(last) => has_clock(last, clock),
         None => false,
     }
 }
@@ -370,7 +372,7 @@ fn pushes<'a>(
     let answer = match outbox.push(message) {
         Ok(number) => Ok(number),
         Err((given_back, fault)) => {
-            drop(given_back);
+            holds!(rt, has_clock(given_back, clock));
             Err(fault)
         }
     };
