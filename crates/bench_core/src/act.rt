@@ -18,7 +18,7 @@ pub enum Act<A: Allocator> {
 
 impl<A: Allocator> Act<A> {
     /// Whether both acts ask for the same.
-    pub fn same(&self, other: &Self) -> bool
+    pub fn same<'call>(&'call self, other: &'call Self) -> bool
         ensures { IsTrue result ↔ (plain_act self.now ≡ plain_act other.now) }
     {
         match (self, other) {

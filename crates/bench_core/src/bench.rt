@@ -209,8 +209,8 @@ impl<'a, B: Allocator> Bench<'a, B> {
         }
     }
 
-    /// Refuses the act with this fault, and records the refusal if a place is free. If memory for the record is
-    /// refused, the reply is `OutOfMemory`.
+    /// Refuses the act with this fault, and records the refusal if the limit on acts allows one more call. If memory
+    /// for the record is refused, the reply is `OutOfMemory`.
     fn refuse(&mut self, actor: u16, act: &Act<&'a B>, fault: Fault) -> Reply
         requires refused { reply_to (config_of self.old) self.old.state actor (plain_act act.now) ≡ Refused fault }
         requires recorded { fault ≢ HistoryFull }
@@ -226,9 +226,10 @@ impl<'a, B: Allocator> Bench<'a, B> {
         reply
     }
 
-    /// Takes `step`, the step of `act`, at node `actor`. Room in the journal, the record of the call and a copy of the
-    /// step come first, so nothing can be refused once the step is taken. The record has `OutOfMemory` as its reply
-    /// until the true reply replaces it; if memory is refused, the record is taken out again.
+    /// Takes `step`, the step of `act`, at node `actor`, or refuses the act. Room in the journal, the record of the
+    /// call and a copy of the step come first, so nothing can be refused once the step is taken. The record has
+    /// `OutOfMemory` as its reply until the true reply replaces it; if memory is refused, the record is taken out
+    /// again.
     fn take(&mut self, actor: u16, act: &Act<&'a B>, step: &Step<&'a B>) -> Reply
         requires { plain_act act.now ≡ Do (plain step.now) }
         ensures { AnswersAs self.old actor (plain_act act.now) result self.new }

@@ -6,8 +6,8 @@ ghost use Rattle.bench_core.specs.Replays.{NoMemoryLaw, ReplayLaw};
 ghost use Rattle.bench_core.specs.Unwinds.{LeastLaw, OthersLaw, UndoneInTurnLaw};
 ghost use Rattle.bench_core.specs.Laws.{ChainLaw, ExchangeLaw, LoopLaw, MiddleLaw, OneEntryLaw, OwnRunLaw, PlacesLaw, RepeatLaw, SwapLaw};
 
-/// The loop law: a step at the end of a journal has no direct consequence, and taking it out gives the journal before
-/// it.
+/// The loop law: if a journal runs, its last step has no direct consequence, and taking that step out of the journal
+/// gives the journal before it.
 pub fn loop_law()
     ensures { LoopLaw }
 {}
@@ -36,8 +36,8 @@ pub fn chain_law()
 {}
 
 /// Three laws of each machine that calls lead to from the opening. The undos of a step's future are all made, greatest
-/// number first. Any undos and backs that take the step back take back its whole future. Undos that are all made don't
-/// change a node if they undo none of its steps.
+/// number first. If undos and backs are all made, and the step doesn't remain after them, none of its future remains.
+/// Undos that are all made don't change a node if they undo none of its steps.
 pub fn unwind_law()
     ensures future { UndoneInTurnLaw }
     ensures least { LeastLaw }
@@ -61,7 +61,7 @@ pub fn delivery_law()
 {}
 
 /// Let calls lead from the opening to a machine. If its recorded calls are made again from the opening, each gets its
-/// old reply and is recorded, and they lead to the same state. None of these replies is `OutOfMemory`.
+/// old reply and is recorded, and they lead to the same state. The machine itself never replies `OutOfMemory`.
 pub fn replay_law()
     ensures replayed { ReplayLaw }
     ensures no_memory { NoMemoryLaw }

@@ -130,9 +130,9 @@ fn are_of_one_kind<'a, B: Allocator>(one: &Bench<'a, B>, other: &Bench<'a, B>) -
 }
 
 /// `Ok` if the names and limits are equal, and these swaps lead from the remaining steps of `one` to those of `other`,
-/// whatever their numbers; then the clusters are equal. Otherwise the first fault, in the order of `SwapFault`. Place
-/// `i` stands for the exchange of the steps at places `i` and `i + 1`, counted from 1: their nodes must differ, and
-/// neither may deliver what the other sent. (Causal equivalence, after Danos and Krivine.)
+/// whatever their numbers; then the clusters are equal. Otherwise the first fault, in the order of `SwapFault`. An `i`
+/// in `places` stands for the exchange of the steps at places `i` and `i + 1`, counted from 1. The nodes of these two
+/// must differ, and neither step may deliver what the other sent. (Causal equivalence, after Danos and Krivine.)
 pub fn same_cluster<'a, B: Allocator>(
     one: &Bench<'a, B>,
     other: &Bench<'a, B>,

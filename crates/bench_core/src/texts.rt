@@ -1,4 +1,4 @@
-//! A set of texts with their numbers: the one module of this crate that names `indexmap`.
+//! `TextSet`: a set of texts with their numbers. No other module of this crate names `indexmap`.
 ghost use Rattle.std.specs.Prelude.{◌≡◌, ◌↔◌, [], ◌∷◌, ◌++◌, ◌<◌, ◌^◌, length, slice_get, option_copied, not, IsTrue, IfOk, OnErr, if◌then◌else◌};
 ghost use Rattle.std.specs.List.{list_any};
 ghost use Rattle.std.specs.Str.{bytes_eq};

@@ -72,7 +72,7 @@ impl<A: Allocator> Block<A> {
         (self.name, self.base) < (name, base)
     }
 
-    /// Whether the block is that of this name and base.
+    /// Whether the block has this name and this base.
     pub fn is(&self, name: u16, base: u64) -> bool
         ensures { IsTrue result ↔ (key self.now ≡ dot name base) }
     {

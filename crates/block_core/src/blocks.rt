@@ -171,7 +171,7 @@ pub fn let_go<A: Allocator>(blocks: &mut Row<A>, at: usize, dot: Dot) -> bool
     was
 }
 
-/// Takes out the block at `at`, if it is empty.
+/// Takes the block at `at` out of the list, if the block has no live entry.
 fn drop_empty<A: Allocator>(blocks: &mut Row<A>, at: usize)
     requires rises { RisingBlocks blocks.old.items }
     requires within { AllByRecursion IsWithin blocks.old.items }
@@ -186,7 +186,8 @@ fn drop_empty<A: Allocator>(blocks: &mut Row<A>, at: usize)
     }
 }
 
-/// Inserts a new entry. If memory is refused, the entry comes back.
+/// Inserts a new entry into its block, or into a new block if there is none yet. If memory is refused, the entry comes
+/// back.
 pub fn put_in<A: Allocator + Copy>(blocks: &mut Row<A>, entry: Handle<A>) -> Result<(), Handle<A>>
     requires are { AreBlocks blocks.old.items }
     requires new { fin.get (set_map blocks.old.items) entry.dot ≡ None }
@@ -340,7 +341,7 @@ fn put<A: Allocator>(blocks: &mut Row<A>, at: usize, block: Block<A>)
     put.unwrap();
 }
 
-/// How many entries the blocks have.
+/// How many live entries the blocks have together.
 pub fn count_in<A: Allocator>(blocks: &[Block<A>]) -> usize
     requires { length (joined blocks.now) ≤ 2 ^ 62 }
     ensures { result ≡ length (joined blocks.now) }

@@ -54,9 +54,9 @@ pub fn joining<A: Allocator + Copy>(
     Ok(joining)
 }
 
-/// Passes over blocks from `at` on whose entries were all seen, and gives the place where it stops. It stops at `at` if
-/// there is no block, or one with the base 0. Otherwise it passes over the blocks of the same name that stand before
-/// the block of the name's context clock in `seen`.
+/// Passes over blocks from `at` on whose entries were all seen, and gives the place where it stops. The blocks that it
+/// passes over have the name of the block at `at`, and stand before the block into which the name's context clock in
+/// `seen` falls. It passes over none if no block stands at `at`, or one with the base 0.
 fn next_new<A: Allocator>(
     message: &[Block<A>],
     at: usize,
@@ -115,8 +115,8 @@ fn push_leaving<A: Allocator>(
     Ok(next)
 }
 
-/// The dots of our entries that leave, rising: those of `names` that the message speaks of (they are in `seen`) and for
-/// which it has no entry.
+/// The dots of our entries that leave, rising. Each dot has one of `names`, is in `seen` (the dots that the message
+/// speaks of), and has no entry in `message`.
 pub fn leaving<A: Allocator + Copy>(
     blocks: &[Block<A>],
     message: &[Block<A>],
@@ -140,8 +140,8 @@ pub fn leaving<A: Allocator + Copy>(
 }
 
 /// The place of our first block from `at` on that may have an entry which leaves; the number of our blocks if there is
-/// none. It passes over blocks that are alike in ours and, from `hint` on, in the message's, and then over blocks
-/// without a dot that the message speaks of.
+/// none. It first passes over our blocks that are like the message's blocks from `hint` on, one beside the other, and
+/// then over blocks without a dot of `names` that the message speaks of.
 fn next_gone<A: Allocator>(
     blocks: &[Block<A>],
     at: usize,

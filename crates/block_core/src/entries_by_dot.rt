@@ -123,7 +123,8 @@ impl<A: Allocator> EntriesByDot<A> {
         Walk::over(&self.blocks, None)
     }
 
-    /// A walk over the entries of the name by rising clock. It passes over the other names' blocks.
+    /// A walk over the entries of the name by rising clock. It looks at every block, and skips the blocks of other
+    /// names.
     pub fn walk_of(&self, name: u16) -> Walk<'_, A>
         ensures { result ≡ listed (entries_of_names (λ n. n == name) self.now.map) }
     {
@@ -263,8 +264,9 @@ impl<A: Allocator> EntriesByDot<A> {
     }
 
     /// Takes out the entry of the dot, as a handle: moved, or shared if other sets share its block's list. `Ok(None)`
-    /// if there is no such entry. An `Err` changes nothing: the count of an entry's copies is at its limit, or memory
-    /// to copy an entry that handles can't share was refused. The room never falls.
+    /// if there is no such entry. From a shared list an entry may fail to be taken, and then nothing changes: if as
+    /// many handles share it as may, or if it can't be shared and memory for a copy of it is refused. The room never
+    /// falls.
     pub fn take(&mut self, dot: Dot) -> Result<Option<Handle<A>>, Oom>
     where
         A: Copy,
@@ -343,8 +345,8 @@ impl<A: Allocator> EntriesByDot<A> {
         }
     }
 
-    /// Inserts a new entry, in memory that it asks for. The entry comes back if memory is refused, or if the set has
-    /// `TOO_MANY` entries.
+    /// Inserts a new entry, and asks for the entry's memory. The entry comes back if memory is refused, or if the set
+    /// has `TOO_MANY` entries.
     fn insert_asking(&mut self, entry: Entry<A>) -> Result<(), Entry<A>>
     where
         A: Copy,

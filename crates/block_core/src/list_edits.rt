@@ -42,7 +42,7 @@ pub fn take_handle<A: Allocator>(
     }
 }
 
-/// A handle of the entry at `place`.
+/// One more handle of the entry at `place`.
 fn share_at<A: Allocator>(entries: &[Handle<A>], place: usize, alloc: A) -> Result<Handle<A>, Oom>
     requires { place < length entries.now }
     ensures { IfOk result (λ e. Some e ≡ slice_get entries.now place) }
@@ -50,7 +50,7 @@ fn share_at<A: Allocator>(entries: &[Handle<A>], place: usize, alloc: A) -> Resu
     entries[place].try_share(alloc)
 }
 
-/// Drops the entry at `place`, unless others share the list.
+/// Drops the entry at `place`. If others share the list, nothing changes.
 pub fn let_go<A: Allocator>(items: &mut EntryList<A>, place: usize)
     requires { place < length items.old }
     ensures { (items.new ≡ remove items.old place) ⊎ (items.new ≡ items.old) }
@@ -61,7 +61,7 @@ pub fn let_go<A: Allocator>(items: &mut EntryList<A>, place: usize)
     }
 }
 
-/// A copy of the entry at `place`.
+/// A copy of the entry at `place`, whose words are all stored inline. It takes no memory.
 fn copy_at<A: Allocator>(entries: &[Handle<A>], place: usize) -> Entry<A>
     requires within { place < length entries.now }
     requires short { AreShort entries.now }
@@ -124,9 +124,9 @@ fn spare_list<A: Allocator>(entry: Handle<A>, spare: Spare<A>) -> EntryList<A>
     EntryList::of_own(spare.with(entry))
 }
 
-/// Puts in an entry whose dot isn't live. A spare in `spare` is taken out, and the entries of the list move into its
-/// memory. Without a spare the entry goes into the list itself or, if the list refuses it, into a copy of the live
-/// entries, which then is the list. If memory is refused, the entry comes back.
+/// Puts an entry whose dot isn't live into the list. A spare in `spare` is taken out, and the entries of the list are
+/// moved or copied into its memory. Without a spare the entry goes into the list itself or, if the list refuses it,
+/// into a copy of the live entries, which then is the list. If memory is refused, the entry comes back.
 pub fn put_in<A: Allocator + Copy>(
     items: &mut EntryList<A>,
     live: u64,
@@ -218,7 +218,7 @@ fn put_in_copy<A: Allocator + Copy>(
     }
 }
 
-/// Puts the entry among those of `list`, and makes an `EntryList` of them. If memory is refused, the entry comes back.
+/// Inserts `entry` into `list`, and makes an `EntryList` of `list`. If memory is refused, the entry comes back.
 fn listed_with<A: Allocator>(
     mut list: Vec<Handle<A>, A>,
     live: u64,

@@ -1,4 +1,4 @@
-//! The steps of a run with a change made to them, as marks, and an order of these.
+//! The steps of a run with a change made to them, as marks, and an order of these marks.
 ghost use Rattle.std.specs.Prelude.{◌≡◌, ◌≤◌, ◌<◌, ◌+◌, ◌++◌, ℕ, IfOk, OnOk, Some, length, map, option_map, slice_get};
 ghost use Rattle.std.specs.List.{flat_map, AllByRecursion};
 ghost use Rattle.order_core.specs.Orders.{order_of};
@@ -130,7 +130,8 @@ pub(crate) fn all_places<W: Allocator, A: Allocator>(
     Ok(places)
 }
 
-/// The run with this change, as places of steps, in the order that `order` finds; `None` if there is no order.
+/// The run with this change, as places of steps, in the order that `order` finds; `None` if each order delivers some
+/// message before it is sent.
 pub(crate) fn places_with<W: Allocator, A: Allocator + Copy>(
     steps: &[Kept<W>],
     change: Change,

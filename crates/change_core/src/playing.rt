@@ -78,8 +78,8 @@ fn common_end(places: &[usize], others: &[usize]) -> usize
 }
 
 /// Plays up to `far` of the steps at `places` on both walks, until it finds the walks' clusters to be the same, and
-/// says whether it did. It compares them only before step 0, 1, 3, 7 and so on of these, and not after the last. False
-/// also if a walk refuses a step.
+/// says whether it did. `meet_on` compares the clusters only before step 0, 1, 3, 7 and so on, and not after the last.
+/// False also if a walk refuses a step.
 fn meet_on<'a, B: Allocator>(
     here: &mut Walk<'a, B>,
     there: &mut Walk<'a, B>,

@@ -11,7 +11,8 @@ use order_core::order;
 use payload_core::Oom;
 use std::alloc::Allocator;
 
-/// The run of these steps with a change, in the order that `order` finds; `None` if there is no order.
+/// The run of these steps with a change, in the order that `order` finds; `None` if each order delivers some message
+/// before it is sent.
 fn run_of<'a, B: Allocator>(
     steps: &[Kept<&'a B>],
     change: Change,

@@ -110,7 +110,8 @@ impl<'a, B: Allocator> Walk<'a, B> {
         }
     }
 
-    /// Takes the last step back, if there is one. If a request for memory is refused, the step's inverse is dropped.
+    /// Takes the last step back, if there is one. If a request for memory is refused, the cluster keeps the step, but
+    /// the walk has neither the step nor its inverse any more.
     fn back(&mut self) -> Result<(), Oom>
         requires { IsSomeWalk self.old }
         ensures less { OnOk result (self.new.taken ≡ take (length self.old.taken - 1) self.old.taken) }

@@ -25,7 +25,7 @@ pub struct Drawing<'w> {
     /// Lanes are thick where their nodes list presences under this topic and key: the lane of the node that is named,
     /// or each lane if the name is `-`.
     pub online: Option<Question<'w>>,
-    /// The step whose future is painted.
+    /// The number of the step whose future is painted.
     pub why: Option<u64>,
     /// The number of the first step that is drawn.
     pub from: Option<u64>,
@@ -47,7 +47,7 @@ pub enum Subcommand<'w> {
         strict: bool,
     },
     /// Makes a script from the events of logs. With `check` it tells instead where the bench and the real nodes part.
-    /// With `lines` a comment with the event's line number in the logs stands before the line of each event. With
+    /// With `lines` the line of each event stands below a comment with the event's line number in the logs. With
     /// `lenient` it leaves out, round by round, each event that takes a message which none of the rest sends.
     Import {
         check: bool,
@@ -107,11 +107,11 @@ pub struct Choice<'w> {
 pub struct Options {
     /// Whether `--strict` is given; then a refused act or unwind is a fault.
     pub strict: bool,
-    /// The step of `--why`.
+    /// The number that `--why` gives: the step whose future is painted.
     pub why: Option<u64>,
-    /// The step of `--from`, the first that is drawn.
+    /// The number that `--from` gives: the first step that is drawn.
     pub from: Option<u64>,
-    /// The step of `--to`, the last that is drawn.
+    /// The number that `--to` gives: the last step that is drawn.
     pub to: Option<u64>,
     /// How many deliveries `--lost` allows to be missing.
     pub lost: Option<u64>,

@@ -20,7 +20,7 @@ use clap::{ArgMatches, Command, Error};
 use std::alloc::{AllocError, Global};
 use std::convert::AsStr;
 
-/// How many different states are kept at most, unless an option says otherwise.
+/// How many different states an exploration keeps at most, if `--states` isn't given.
 const MOST_STATES: u64 = 100_000;
 
 /// The question that NODE, TOPIC and KEY make; `None` if one of them isn't given.
@@ -51,8 +51,8 @@ fn about_of<'a>(matches: &ArgMatches<'a>) -> Option<About<'a>>
     Some(About::Presence(Question { node, topic, key }))
 }
 
-/// The presences for which a picture's lanes are thick: `Some(None)` if `about` is the cluster, and `None` if `about`
-/// is a node alone or `None`.
+/// The presences for which a picture's lanes are thick. `Some(None)` if `about` is the cluster: no lane is thick then.
+/// `None` if `about` is a node alone or `None`: no picture is about these.
 fn online_of<'a>(about: Option<About<'a>>) -> Option<Option<Question<'a>>>
     ensures some { IfSome result (IsOnline about.entry) }
     ensures none { IfNone result (AsksOtherwise about.entry) }
@@ -201,7 +201,8 @@ fn options_of<'a>(matches: &ArgMatches<'a>) -> Result<Options, &'static str>
     })
 }
 
-/// Whether the subcommand can print in this form.
+/// Whether the subcommand can print in this form: an import as a script and, without `--check`, as a session or a page;
+/// a race as a report or a session; any other subcommand in each form but a page.
 fn can_print(command: Subcommand<'_>, form: Form) -> bool
     ensures { result ≡ can_print command.entry form }
 {
@@ -320,7 +321,8 @@ fn spelled<'a, S: AsStr>(alloc: Global, words: &'a [S]) -> Result<Choice<'a>, Er
     choice
 }
 
-/// The choice that the words before a last word `-` spell; `None` if there is no such word, or they spell no choice.
+/// The choice that the words before a last word `-` spell; `None` if the last word isn't `-`, or the words before it
+/// spell no choice. An `Err` means that memory was refused.
 fn spelled_before<'a, S: AsStr>(alloc: Global, words: &'a [S]) -> Result<Option<Choice<'a>>, Error>
     ensures some { IfOk result (λ choice. IfSome choice (SpellsBefore (map S.text words.entry.now))) }
     ensures none { IfOk result (λ choice. IfNone choice (NeedsLast (map S.text words.entry.now))) }

@@ -1,7 +1,7 @@
 //! The line that `clap` reads: the subcommands with their options and words.
 //!
-//! A function that adds to a line or a subcommand takes it as a `Built`, and passes on that memory was refused for it.
-//! So a function that builds one in several calls has one way out.
+//! A function that adds to a line or a subcommand takes it as a `Built`, and passes on an `Err`. So a function that
+//! builds a line or a subcommand in several calls has one way out.
 ghost use Rattle.std.specs.Prelude.{◌≡◌, ℕ, IfOk, codes};
 ghost use Rattle.clap.specs.Words.{App, Rule, new_app, with_rule, with_subcommand};
 ghost use Rattle.command_line.specs.Line.{HasRule, HasShape, about_app, app, as_rule, bare_app, draw_app, explain_app, explore_app, flag_rule, import_app, load_app, number_rule, optional_rule, page_app, play_app, question_app, race_app, step_app, strict_app, whatif_app, word_rule};
@@ -16,7 +16,7 @@ use crate::help::{
 use clap::{Arg, ArgAction, Command};
 use std::alloc::{AllocError, Global};
 
-/// A line or a subcommand, unless memory was refused.
+/// A line or a subcommand; an `Err` means that memory was refused.
 type Built<'a> = Result<Command<'a>, AllocError>;
 
 /// The option `--as`, which names a form. `forms` is its help.
@@ -29,7 +29,7 @@ fn form_option<'a>(alloc: Global, forms: &'a str) -> Arg<'a>
         .help(forms)
 }
 
-/// An option that takes a number.
+/// The option `--NAME`, which takes a number. `about` is its help.
 fn number_option<'a>(alloc: Global, name: &'a str, about: &'a str) -> Arg<'a>
     ensures { HasRule (number_rule name.entry.now) result }
 {
@@ -39,7 +39,7 @@ fn number_option<'a>(alloc: Global, name: &'a str, about: &'a str) -> Arg<'a>
         .help(about)
 }
 
-/// An option without a value.
+/// The option `--NAME`, which has no value. `about` is its help.
 fn flag_option<'a>(alloc: Global, name: &'a str, about: &'a str) -> Arg<'a>
     ensures { HasRule (flag_rule name.entry.now) result }
 {
@@ -49,14 +49,14 @@ fn flag_option<'a>(alloc: Global, name: &'a str, about: &'a str) -> Arg<'a>
         .help(about)
 }
 
-/// A word that must be given.
+/// A word that must be given. `name` is what the help calls it, and `about` its help.
 fn word_place<'a>(alloc: Global, name: &'a str, about: &'a str) -> Arg<'a>
     ensures { HasRule (word_rule name.entry.now) result }
 {
     Arg::new(alloc, name).required(true).help(about)
 }
 
-/// A word that may be left out.
+/// A word that may be left out. `name` is what the help calls it, and `about` its help.
 fn optional_place<'a>(alloc: Global, name: &'a str, about: &'a str) -> Arg<'a>
     ensures { HasRule (optional_rule name.entry.now) result }
 {
@@ -79,7 +79,7 @@ fn with_command<'a>(line: Built<'a>, subcommand: Built<'a>) -> Built<'a>
 }
 
 /// Like `with_command`, but for a subcommand that was built without being refused memory.
-// form: one way out in each
+// form: one way out in each of the two
 fn with_built<'a>(line: Built<'a>, subcommand: Command<'a>) -> Built<'a>
     ensures { (app other : App) → IfOk line.entry (HasShape app) → HasShape other subcommand.entry → IfOk result (HasShape (with_subcommand app other.top)) }
 {
@@ -93,7 +93,8 @@ fn with_end<'a>(command: Built<'a>, end: &'a str) -> Built<'a>
     Ok(command?.after_help(end))
 }
 
-/// A subcommand that takes neither options nor words; `with_arg` adds them.
+/// A subcommand that takes neither options nor words; `with_arg` adds them. `about` is its help, and `usage` says how
+/// to write it.
 fn bare_subcommand<'a>(alloc: Global, name: &'a str, about: &'a str, usage: &'a str) -> Built<'a>
     ensures { IfOk result (HasShape (new_app name.entry.now)) }
 {

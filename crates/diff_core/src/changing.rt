@@ -18,7 +18,7 @@ use payload_core::{Entry, Oom};
 use replica_core::{Change, Replica};
 use std::alloc::Allocator;
 
-/// Appends the row of an entry if its name is known and up.
+/// Appends the row of an entry to `rows`; nothing if the entry's name isn't known and up.
 fn put_row<'x, A: Allocator + Copy>(
     rows: &mut Vec<EntryRow<'x, A>, A>,
     replica: &Replica<A>,
@@ -32,8 +32,8 @@ fn put_row<'x, A: Allocator + Copy>(
     Ok(())
 }
 
-/// Appends the row of the entry that the replica has at `dot`; nothing if it has none there, or the dot's name isn't
-/// known and up.
+/// Appends the row of the entry that the replica has at `dot` to `rows`; nothing if the replica has none there, or the
+/// dot's name isn't known and up.
 fn put_found<'x, A: Allocator + Copy>(
     rows: &mut Vec<EntryRow<'x, A>, A>,
     replica: &'x Replica<A>,
@@ -216,10 +216,10 @@ fn joined_rows<A: Allocator + Copy>(
 /// How the last call of the replica `after` changed its online list: the rows that left and those that joined, each
 /// side in order. `change` is the change of that call. Reads what the call touched, or all entries of a name that the
 /// call put up or down.
-pub fn changed<A: Allocator + Copy>(
+pub fn changed<'call, A: Allocator + Copy>(
     alloc: A,
-    change: &Change<A>,
-    after: &Replica<A>,
+    change: &'call Change<A>,
+    after: &'call Replica<A>,
 ) -> Result<Diff<A>, Oom>
     requires { ChangeLeadsSomewhere (plain_change change.now) after.now }
     ensures left { IfOk result (λ diff. diff.left.items ≡ alone (online_of (back (plain_change change.now) after.now)) (online_of after.now)) }

@@ -10,10 +10,10 @@ use std::alloc::Allocator;
 
 /// How two online lists, both in order, differ: `left` has the rows that only `before` has, `joined` those that only
 /// `after` has. Each takes one pass over both lists.
-pub fn diff<A: Allocator + Copy>(
+pub fn diff<'call, A: Allocator + Copy>(
     alloc: A,
-    before: &[OnlineRow<A>],
-    after: &[OnlineRow<A>],
+    before: &'call [OnlineRow<A>],
+    after: &'call [OnlineRow<A>],
 ) -> Result<Diff<A>, Oom>
     requires before { AreInOrder before.now }
     requires after { AreInOrder after.now }

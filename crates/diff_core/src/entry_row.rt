@@ -11,8 +11,8 @@ use std::alloc::Allocator;
 use std::cmp::Ordering;
 use std::marker::Model;
 
-/// A live entry that stands for its row. It is borrowed, so its words aren't copied. A contract sees the row, and the
-/// order is that of `OnlineRow`.
+/// A live entry that stands for its row. It is borrowed, so its words aren't copied. A contract sees the row. These
+/// rows are ordered like those of type `OnlineRow`.
 #[derive(Drop)]
 pub struct EntryRow<'x, A: Allocator> {
     entry: &'x Entry<A>,
@@ -28,14 +28,14 @@ impl<'x, A: Allocator> Model for EntryRow<'x, A> {
 }
 
 impl<'x, A: Allocator> EntryRow<'x, A> {
-    /// The row of an entry.
+    /// The row of an entry, which borrows the entry and copies nothing.
     pub(crate) fn of(entry: &'x Entry<A>) -> EntryRow<'x, A>
         ensures { result ≡ row_of (pair_of entry.now) }
     {
         EntryRow { entry }
     }
 
-    /// Appends the row of an entry.
+    /// Appends the row of an entry to `rows`; the row borrows the entry and copies nothing.
     pub(crate) fn put(rows: &mut Vec<EntryRow<'x, A>, A>, entry: &'x Entry<A>) -> Result<(), Oom>
         ensures { OnOk result (rows.new.items ≡ rows.old.items ++ row_of (pair_of entry.now) ∷ []) }
     {

@@ -8,7 +8,7 @@ pub fn one_list_law()
     ensures { OneListLaw }
 {}
 
-/// A list doesn't differ from itself, and each side of a difference is in order.
+/// A list doesn't differ from itself. If a list is in order, so are the rows that it has and another list lacks.
 pub fn diff_law()
     ensures { DiffLaw }
 {}

@@ -60,10 +60,10 @@ fn rows_beyond<A: Allocator + Copy>(
 /// How an online list differs from what it was before several changes. `left` and `joined` are the rows that left and
 /// joined in these changes, each as often as it did, in any order. Sorts copies of these rows, and reads neither online
 /// list.
-pub fn net<A: Allocator + Copy>(
+pub fn net<'call, A: Allocator + Copy>(
     alloc: A,
-    left: &[OnlineRow<A>],
-    joined: &[OnlineRow<A>],
+    left: &'call [OnlineRow<A>],
+    joined: &'call [OnlineRow<A>],
 ) -> Result<Diff<A>, Oom>
     ensures left { IfOk result (λ net. (before after : List Row) → AreInOrder before → AreInOrder after →
         ComesTo before after left.now joined.now → net.left.items ≡ alone before after) }

@@ -64,7 +64,7 @@ impl<A: Allocator> OnlineRow<A> {
         }
     }
 
-    /// Appends the row of an entry.
+    /// Appends the row of an entry to `rows`, with copies of the entry's words.
     pub(crate) fn put(rows: &mut Vec<OnlineRow<A>, A>, entry: &Entry<A>) -> Result<(), Oom>
     where
         A: Copy,
@@ -78,9 +78,9 @@ impl<A: Allocator> OnlineRow<A> {
         Ok(rows.push(row)?)
     }
 
-    /// Whether both rows have the same fields. It asks for no memory. Its contract says that the values are equal; that
-    /// of `==` says only that neither comes before the other.
-    pub fn same(&self, other: &OnlineRow<A>) -> bool
+    /// Whether both rows have the same fields. It asks for no memory. Its contract says that the values are equal; the
+    /// contract of `==` says only that neither comes before the other.
+    pub fn same<'call>(&'call self, other: &'call OnlineRow<A>) -> bool
         ensures { IsTrue result ↔ (self.now ≡ other.now) }
     {
         self.topic.same(&other.topic)

@@ -1,9 +1,10 @@
-//! A dot: the unique stamp of one add.
+//! A dot: a replica's name with one of that replica's clocks.
 
 ghost use Rattle.std.specs.Prelude.{◌↔◌, IsTrue};
 ghost use Rattle.dots_core.specs.Dots.{IsValid};
 
-/// The stamp of one add (RR-8083, 'dots'): the number of the replica that made the add, and its clock at the time.
+/// The number of a replica, and a clock, by which the dots that this replica takes are counted from 1 (RR-8083,
+/// 'dots'). Each join, update and leave takes a fresh dot.
 #[derive(Clone, Copy, Debug, PartialEq, Eq)]
 pub struct Dot {
     pub name: u16,

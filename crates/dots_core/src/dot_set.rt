@@ -18,8 +18,8 @@ use std::alloc::{Allocator, Global};
 use std::marker::Model;
 use std::mem;
 
-/// A finite set of dots. It holds an array with a `Part` for each of the 32 names, so an empty set takes no memory. The
-/// value is large, some 1,300 bytes if its allocator is a reference: avoid moving it.
+/// A finite set of dots. It holds a `Part` for each of the 32 names in place, and asks for memory only for clouds, so
+/// an empty set takes none. The value is large, some 1,300 bytes if its allocator is a reference: avoid moving it.
 #[derive(Drop)]
 pub struct DotSet<A: Allocator = Global> {
     parts: [Part<A>; 32],
@@ -79,7 +79,7 @@ impl<A: Allocator> DotSet<A> {
         }
     }
 
-    /// The context clock of the name.
+    /// The context clock of the name: 0 if the set lacks the name's dot with the clock 1.
     pub fn clock_of(&self, name: u16) -> u64
         requires { name < 32 }
         ensures { IsContext self.now name result }
@@ -88,7 +88,7 @@ impl<A: Allocator> DotSet<A> {
         part.clock
     }
 
-    /// The cloud of the name.
+    /// The cloud of the name: its clocks above the context clock, rising.
     pub fn cloud_of(&self, name: u16) -> &[u64]
         requires { name < 32 }
         ensures { IsCloudOf self.now name result.now }
@@ -125,7 +125,7 @@ impl<A: Allocator> DotSet<A> {
 
     /// Whether the set has each dot of `name` that `other` has. Each clock in the cloud of `other` above this set's
     /// context clock takes a binary search.
-    pub fn has_all_of(&self, other: &DotSet<A>, name: u16) -> bool
+    pub fn has_all_of<'call>(&'call self, other: &'call DotSet<A>, name: u16) -> bool
         requires { name < 32 }
         ensures { IsTrue result ↔ HasAllOf name self.now other.now }
     {
@@ -214,7 +214,7 @@ impl<A: Allocator> DotSet<A> {
         Ok(chosen)
     }
 
-    /// A copy of the set.
+    /// A copy of the set. The clouds alone take memory.
     pub fn try_copy(&self) -> Result<DotSet<A>, Oom>
     where
         A: Copy,
@@ -235,7 +235,7 @@ impl<A: Allocator> DotSet<A> {
         self.parts[usize::from(name)].try_copy()
     }
 
-    /// Takes out the name's dots, and returns the context clock and cloud that it had.
+    /// Takes out the name's dots, and returns the name's context clock and cloud from before.
     pub fn drop_name(&mut self, name: u16) -> Part<A>
     where
         A: Copy,

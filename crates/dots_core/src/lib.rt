@@ -1,7 +1,7 @@
 //! Dots, and finite sets of them.
 //!
-//! A dot is the unique stamp of one add by one replica. The crates above see a set of dots as a finite set; how it is
-//! kept, as a context clock and a cloud for each name, is this crate's own business. The crate uses std alone.
+//! A dot is a replica's name with one of that replica's clocks. The crates above see a set of dots as a finite set; how
+//! it is kept, as a context clock and a cloud for each name, is this crate's own business. The crate uses std alone.
 //!
 //! The modules in reading order: `dot`; `name_set`, a set of names; `clock_bits`, clocks of a name as bits; `part`, the
 //! dots of one name; `union`, the union of two parts; `dot_set`, a set of dots; `laws`, of sets of dots.

@@ -89,6 +89,7 @@ impl NameSet {
         let _ = &self.has;
     }
 
+    /// The set of all 32 names.
     pub(crate) fn all() -> NameSet
         ensures { HasAll result }
     {

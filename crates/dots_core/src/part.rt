@@ -38,6 +38,7 @@ impl<A: Allocator> Part<A> {
         }
     }
 
+    /// Whether the part has `clock`; no part has the clock 0. Above the context clock a binary search tells.
     pub(crate) fn has(&self, clock: u64) -> bool
         ensures { result ≡ holds self.now clock }
     {
@@ -166,6 +167,7 @@ impl<A: Allocator> Part<A> {
     }
 }
 
+/// The clock of the cloud at `place`, counted from 0; `None` past the end.
 fn clock_at(cloud: &[u64], place: usize) -> Option<u64>
     ensures { result ≡ slice_get cloud.now place }
 {

@@ -8,7 +8,7 @@ use dots_core::{Dot, Oom};
 use std::alloc::Allocator;
 use std::marker::Model;
 
-/// A process, a topic, a key and metadata, under the dot that added them.
+/// A process, a topic, a key and metadata, at the dot of the join or update that added them.
 #[derive(Debug, Drop)]
 pub struct Entry<A: Allocator> {
     pub dot: Dot,

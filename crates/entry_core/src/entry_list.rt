@@ -20,8 +20,8 @@ pub enum Items<A: Allocator> {
     Shared(Arc<Vec<Handle<A>, A>, A>),
 }
 
-/// Handles of entries side by side. Copies of the list share its memory if `of` made it and all words of its entries
-/// are stored inline.
+/// Handles of entries side by side. A list that `of` made from entries whose words are all stored inline shares its
+/// memory with its copies; any other list doesn't.
 #[derive(Drop)]
 pub struct EntryList<A: Allocator> {
     items: Items<A>,
@@ -72,7 +72,7 @@ impl<A: Allocator> EntryList<A> {
         }
     }
 
-    /// The entries of the list.
+    /// The handles of the entries, in the order of the list; nothing is copied.
     pub fn as_slice(&self) -> &[Handle<A>]
         ensures { result.now ≡ self.now }
     {
@@ -242,7 +242,7 @@ pub fn live_copies<A: Allocator + Copy>(
     Ok(list)
 }
 
-/// A new list with handles of the same entries.
+/// A new list with one more handle of each entry, in the same order.
 fn copies<A: Allocator + Copy>(entries: &[Handle<A>], alloc: A) -> Result<Vec<Handle<A>, A>, Oom>
     ensures { IfOk result (λ list. list.items ≡ entries.now) }
 {

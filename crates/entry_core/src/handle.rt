@@ -71,7 +71,7 @@ impl<A: Allocator> Handle<A> {
         }
     }
 
-    /// The entry of the handle.
+    /// A reference to the entry, which may be in a box or shared; nothing is copied.
     pub fn entry(&self) -> &Entry<A>
         ensures { result.now ≡ self.now }
     {

@@ -5,9 +5,8 @@
 //! then it can always be copied. This crate stands on `dots_core` (dots).
 //!
 //! The modules in reading order: `word`; `entry`, a presence under its dot; `handle`, an entry that several lists may
-//! share; `mask`, clocks as bits; `masked`, the entries of a list whose clocks are in a mask; `spare`, memory for an
-//! insert whose requests for memory are refused; `entry_list`, entries side by side; `spot`, where the entry of a dot
-//! stands in a list.
+//! share; `mask`, clocks as bits; `masked`, the entries of a list whose clocks are in a mask; `spare`, memory that was
+//! asked for ahead of an insert; `entry_list`, entries side by side; `spot`, where the entry of a dot stands in a list.
 #![tactic(auto)]
 
 mod entry;

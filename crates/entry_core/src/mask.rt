@@ -1,4 +1,4 @@
-//! Masks: 64 clocks as the bits of a number. A clock's bit has the clock's remainder by 64 as its number.
+//! Masks: 64 clocks as the bits of a number. The bit of a clock has the number `clock % 64`.
 ghost use Rattle.std.specs.Prelude.{◌≡◌, ◌%◌, ◌<◌, ◌&&◌, ℕ, not};
 ghost use Rattle.entry_core.specs.Masks.{IsWith, IsWithout, has_bit};
 
@@ -37,7 +37,7 @@ pub fn both(one: u64, other: u64) -> u64
     one & other
 }
 
-/// How many bits of the mask are set below that of `clock`. No contract says so: a caller checks the place that it
+/// How many bits of the mask are set below the bit of `clock`. No contract says so: a caller checks the place that it
 /// gets.
 pub fn rank(mask: u64, clock: u64) -> usize {
     (mask & ((1 << (clock % 64)) - 1)).count_ones() as usize

@@ -1,4 +1,4 @@
-//! `Spare`, memory that was asked for ahead, for an insert whose requests for memory are refused.
+//! `Spare`, memory that was asked for ahead of an insert, so that the insert needs no more.
 ghost use Rattle.std.specs.Prelude.{◌≡◌, ◌<◌, ◌≤◌, ◌∷◌, [], IfOk, length, vec_capacity};
 ghost use Rattle.entry_core.specs.Lists.{AreShort};
 

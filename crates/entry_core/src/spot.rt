@@ -54,7 +54,7 @@ fn is_gap<A: Allocator>(entries: &[Handle<A>], place: usize, dot: Dot) -> bool
     is_before(entries, place, dot)
 }
 
-/// Whether the dot is above that of the entry before `place`: `true` if `place` is 0, `false` if `place` is beyond the
+/// Whether `dot` is above the dot of the entry before `place`: `true` if `place` is 0, `false` if `place` is beyond the
 /// end of the list.
 fn is_behind<A: Allocator>(entries: &[Handle<A>], place: usize, dot: Dot) -> bool
     ensures { result ≡ true → IsBehind dot entries.now place }
@@ -68,7 +68,7 @@ fn is_behind<A: Allocator>(entries: &[Handle<A>], place: usize, dot: Dot) -> boo
     }
 }
 
-/// Whether the dot is below that of the entry at `place`; `true` if there is no such entry.
+/// Whether `dot` is below the dot of the entry at `place`; `true` if there is no such entry.
 fn is_before<A: Allocator>(entries: &[Handle<A>], place: usize, dot: Dot) -> bool
     ensures { result ≡ true → IsBefore dot entries.now place }
 {

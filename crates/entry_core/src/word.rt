@@ -1,4 +1,5 @@
-//! `Word`, the text of a topic, a key or metadata: up to 14 bytes are stored inline, longer ones are shared.
+//! `Word`, the text of a topic, a key or metadata. A text of up to 14 bytes is stored inline, and copies share a longer
+//! one.
 ghost use Rattle.std.specs.Prelude.{◌≡◌, ◌↔◌, ◌≤◌, Err, false, length, refl, take, IfOk, IsTrue, Some};
 ghost use Rattle.std.specs.Cmp.{partial_equiv_from_equiv};
 ghost use Rattle.std.specs.Cmp.Lexicographic.{slice_cmp, nat_list_cmp_total, nat_list_eq_equiv, texts_po, texts_ties};
@@ -77,6 +78,7 @@ impl<A: Allocator> Model for Word<A> {
     ghost invariant = { λ w. IsPlaced w.text × IsTrue (is_word (text_bytes w.text)) };
 }
 
+/// Whether each of the bytes may stand in a word.
 fn has_word_bytes(bytes: &[u8]) -> bool
     ensures { result ≡ list_all is_word_byte bytes.now }
 {
@@ -106,7 +108,7 @@ impl<A: Allocator> Word<A> {
         Ok(Word { text })
     }
 
-    /// The text of the word.
+    /// The text of the word, which may be inline or shared; nothing is copied.
     pub fn as_str(&self) -> &str
         ensures text { result.now ≡ self.now }
         ensures word { IsTrue (is_word self.now) }
@@ -162,7 +164,7 @@ impl<A: Allocator> Word<A> {
     }
 
     /// A copy of the word. A word of more than 14 bytes shares its bytes with the copy. It takes no memory; an `Err`
-    /// means that the count of such copies is at its limit.
+    /// means that the count of the copies that share these bytes is at its limit.
     pub fn try_copy(&self) -> Result<Word<A>, Oom>
         ensures { IfOk result (λ copy. copy ≡ self.now) }
     {

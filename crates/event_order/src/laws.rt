@@ -2,8 +2,8 @@
 
 ghost use Rattle.event_order.specs.Laws.{InterleavingLaw, NearestLaw, OneNearestLaw, NoOrderLaw};
 
-/// An order is an interleaving: each event comes once, the events of a node come in their order, and an event comes
-/// after the send of the message that it waits for.
+/// The orders are exactly the interleavings: each event comes once, the events of a node come in their order, and an
+/// event comes after the send of the message that it waits for.
 pub fn interleaving_law()
     ensures { InterleavingLaw }
 {}

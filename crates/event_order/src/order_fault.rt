@@ -17,6 +17,7 @@ pub enum OrderFault {
     /// The event at this place is the first of those that wait forever.
     #[error("Circle at {at}")]
     Circle { at: usize },
+    /// Memory was refused.
     #[error("OutOfMemory")]
     OutOfMemory,
 }

@@ -1,4 +1,4 @@
-//! What a case gives the program, and what must come.
+//! What a case gives the program, and what the program must write and end with.
 use bench_core::Limits;
 use std::alloc::Global;
 

@@ -168,7 +168,8 @@ fn put_dot<'a, A: Allocator, B: Allocator>(
     Ok(writeln!(text, "dot {name} {clock}")?)
 }
 
-/// Appends the line of the node's last up, down or permanently down of the presence's name, if one remains.
+/// Appends the line of the node's last up, down or permanently down of the presence's name, if one remains. `statuses`
+/// has the numbers of such steps by name (see `last_statuses`).
 #[tactic(auto, unfolding(crate::specs::Explanations::status_text))]
 fn put_status<'a, A: Allocator, B: Allocator>(
     bench: &Bench<'a, B>,
@@ -184,7 +185,8 @@ fn put_status<'a, A: Allocator, B: Allocator>(
     put_step_if(bench, text, "status", status)
 }
 
-/// Appends why the removal didn't come, if the presence left at its own node and is still live at `node`.
+/// Appends why the presence's removal didn't come to `node`, if the presence left at its own node and is still live at
+/// `node`.
 #[tactic(auto, unfolding(crate::specs::Explanations::removal_text, crate::specs::Explanations::finding_text))]
 fn put_removal<'a, A: Allocator, B: Allocator>(
     bench: &Bench<'a, B>,

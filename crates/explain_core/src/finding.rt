@@ -53,7 +53,7 @@ impl<A: Allocator> Model for Finding<A> {
 }
 
 impl Hop {
-    /// Whether this is the step with the number `target`, and sent the dot, or brought the dot to the step's node.
+    /// Whether this step has the number `target`, and either sent the dot or brought it to the step's node.
     fn is_link(&self, target: Option<u64>) -> bool
         ensures { result ≡ is_link target self.now }
     {

@@ -1,4 +1,4 @@
-//! What a step did to a dot.
+//! `Hop`: what a step did to a dot; and `Stand`: how a dot stands at a node, and since which step.
 ghost use Rattle.std.specs.Prelude.{◌≡◌};
 ghost use Rattle.explain_core.specs.Tracks.{is_sender};
 
@@ -28,8 +28,9 @@ pub struct Hop {
     pub standing: Standing,
     /// The number of the message that the step sent; 0 for other steps.
     pub message: u64,
-    /// The number of the step that made what this step read: the send of the message that a delivery took, or else the
-    /// step since which the dot had stood at the node as it stood before this step. `None` if there is no such step.
+    /// The number of the step that made what this step read. A delivery read a message, which its send made. Any other
+    /// step read how the dot stood at the node before it, and the step since which the dot stood so made that. `None`
+    /// if there is no such step.
     pub reads: Option<u64>,
 }
 

@@ -12,15 +12,15 @@ pub fn chain_law()
     ensures { ChainLaw }
 {}
 
-/// At each node a presence stands as a track says, and has stood so since a remaining step of that node, or from the
-/// beginning.
+/// At each node a presence stands as its track says. If the track names a step since which it stands so, that step
+/// remains and is one of the node.
 pub fn standing_law()
     ensures { StandingLaw }
 {}
 
 /// Each step of a track is a remaining step of its node that did what the track says. In the message of a send or a
-/// delivery the dot stands as the track says, and a delivery reads the step that sent its message. A step that forgot
-/// the dot took the dot's name permanently down.
+/// delivery the dot stands as the track says, and the step that a delivery read from is the one that sent its message.
+/// A step that forgot the dot took the dot's name permanently down.
 pub fn step_law()
     ensures { StepLaw }
 {}

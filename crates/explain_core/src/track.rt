@@ -85,7 +85,7 @@ fn sent_hop<A: Allocator>(
 }
 
 /// The hop of a delivery: the dot stands as `told` in the message, stood as `before` at the node, and stands there as
-/// `now`. `None` if the delivery neither brought the dot nor missed it.
+/// `now`. `None` if the dot stands at the node as before, and the node doesn't miss it in the message.
 fn delivered_hop<A: Allocator>(
     kept: &Kept<A>,
     before: Stand,

@@ -102,7 +102,7 @@ fn put_all_asked<'a, B: Allocator>(
     Ok(())
 }
 
-/// The dots of all entries with this topic and key that the steps make.
+/// The dots of all entries with this topic and key that the steps make on `count` empty nodes.
 fn dots_of_presences<'a, B: Allocator>(
     steps: &[Kept<&'a B>],
     count: u16,
@@ -186,7 +186,7 @@ fn own_dots<'a, B: Allocator>(
     Ok(dots)
 }
 
-/// The own dots that the nodes have seen at the end of the steps.
+/// The own dots that the nodes have seen at the end of the steps, which are taken on `count` empty nodes.
 fn dots_of_nodes<'a, B: Allocator>(
     steps: &[Kept<&'a B>],
     count: u16,
@@ -207,7 +207,7 @@ fn dots_of_nodes<'a, B: Allocator>(
 }
 
 /// The dots that a question is about: those of all entries with its topic and key that the steps make, or else all own
-/// dots that the nodes have seen at the end.
+/// dots that the nodes have seen at the end. `count` is the number of nodes.
 pub(crate) fn dots_of<'a, B: Allocator>(
     steps: &[Kept<&'a B>],
     count: u16,

@@ -51,7 +51,7 @@ struct Parts<'a, B: Allocator> {
     cone: Cone<'a, B>,
 }
 
-/// Works out the turns, ranks and cone of these steps.
+/// Works out the turns, ranks and cone of these steps, for this question. `count` is the number of nodes.
 fn parts_of<'a, B: Allocator>(
     steps: &[Kept<&'a B>],
     count: u16,
@@ -82,7 +82,8 @@ fn parts_of<'a, B: Allocator>(
     Ok(Parts { turns, ranks, cone })
 }
 
-/// The plan for these steps, which make no more entries than a node may hold.
+/// The plan for these steps, which make no more entries than a node may hold. `count` is the number of nodes; `lost`,
+/// `again` and `most` are those of `explore`.
 fn plan_of<'a, B: Allocator>(
     steps: Steps<&'a B>,
     count: u16,
@@ -241,8 +242,8 @@ fn explore_plan<'a, B: Allocator, W: Watch<Walked>>(
 
 /// Finds all outcomes of what the network could have made of the steps that remain, with up to `lost` deliveries
 /// missing and up to `again` that come a second time; the outcome of the recorded run comes first. The walk may keep
-/// `most` states (`TooManyStates` if it needs more), and tells `watch` how far it has come. Before the
-/// walk begins, `explore` looks for `MayFill` first and then for `TooManySteps`.
+/// `most` states (`TooManyStates` if it needs more), and tells `watch` how far it has come. Before the walk begins,
+/// `explore` looks for `MayFill` first and then for `TooManySteps`.
 pub fn explore<'a, B: Allocator, W: Watch<Walked>>(
     bench: &Bench<'a, B>,
     question: &Question<&'a B>,

@@ -1,4 +1,5 @@
-//! The step that can be taken first without missing an outcome.
+//! The step that can come before all others that may come next, so that the walk misses no outcome if it goes on with
+//! this step alone.
 ghost use Rattle.std.specs.Prelude.{◌≡◌, ◌⊎◌, IsTrue, IfSome};
 ghost use Rattle.explore_network.specs.Easy.{CanGoFirst, GoesFirst};
 ghost use Rattle.explore_network.specs.Plans.{IsPlan};
@@ -27,7 +28,7 @@ fn is_alone<'a, B: Allocator>(
     are_spent(plan.turns(), counts, plan.again(), kept.node)
 }
 
-/// True only if this step, if it may come next, can be taken first without missing an outcome.
+/// True only if the walk, where this step may come next, misses no outcome when it goes on with this step alone.
 fn goes_first<'a, B: Allocator>(
     plan: &Plan<'a, B>,
     cluster: &Cluster<'a, B>,

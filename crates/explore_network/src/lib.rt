@@ -6,11 +6,11 @@
 //! `progress_core` (how far the walk has come). It names the plain types of the crates below.
 //!
 //! The modules in reading order: `question`, `shown` and `outcome`, what counts as the same outcome; `turns`, the turn
-//! to which each step belongs, and `counts`, how often each turn came; `playing`, runs that are played; `steps`, how
-//! many entries steps make, and the places of steps; `asked`, which dots a question is about, and `rounds`, which names
-//! matter where; `plan`, what all runs have in common; `table`, the states that the walk is done with; `first`, the
-//! step that can be taken first; `explore_fault`, why there are no outcomes; `walk`, the walk over all runs;
-//! `exploring`, the whole search.
+//! to which each step belongs, and `counts`, how many steps of each turn came; `playing`, runs that are played;
+//! `steps`, how many entries steps make, and the places of steps; `asked`, which dots a question is about, and
+//! `rounds`, which names matter where; `plan`, what all runs have in common; `table`, the states that the walk is done
+//! with; `first`, the step that can be taken first; `explore_fault`, why there are no outcomes; `walk`, the walk over
+//! all runs; `exploring`, the whole search.
 #![tactic(auto)]
 
 mod asked;

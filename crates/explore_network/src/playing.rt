@@ -11,7 +11,7 @@ use bench_core::{Cluster, Fault, Inverse, Kept, NodeLimits};
 use node_core::Oom;
 use std::alloc::Allocator;
 
-/// Plays the steps at the places of `path`, from empty nodes on, and gives the cluster at the end. A step that is
+/// Plays the steps at the places of `path` on `count` empty nodes, and gives the cluster at the end. A step that is
 /// refused is passed over, and so is a place without a step.
 pub(crate) fn played<'a, B: Allocator>(
     steps: &[Kept<&'a B>],
@@ -72,7 +72,8 @@ pub(crate) fn ask<'a, B: Allocator>(
     }
 }
 
-/// Takes the node's last step back by its inverse. If a request for memory is refused, the inverse is dropped.
+/// Takes the node's last step back by its inverse. If memory is refused, the cluster doesn't change, and the inverse is
+/// dropped.
 pub(crate) fn lead_back<'a, B: Allocator>(
     cluster: &mut Cluster<'a, B>,
     node: u16,

@@ -171,7 +171,8 @@ fn row<'a, B: Allocator>(
     Ok(row)
 }
 
-/// The names that matter to each node: a set before the node's own steps, and one after each of them.
+/// The names that matter to each of the first `count` nodes: a set before the node's own steps, and one after each of
+/// them.
 fn rows_of_nodes<'a, B: Allocator>(
     matters: &[NameSet],
     width: usize,
@@ -188,7 +189,7 @@ fn rows_of_nodes<'a, B: Allocator>(
     Ok(rows)
 }
 
-/// The names that matter in messages: for each node a set for each message that it sends.
+/// The names that matter in messages: for each of the first `count` nodes a set for each message that it sends.
 fn rows_of_messages<'a, B: Allocator>(
     steps: &[Kept<&'a B>],
     carries: &[NameSet],
@@ -210,7 +211,8 @@ struct Found<A: Allocator> {
     carries: Rows<A>,
 }
 
-/// Makes the rounds, and gives what they find.
+/// Makes the rounds for a question about the node `asked`, or about all nodes if `asked` is `None`, and gives what they
+/// find. `count` is the number of nodes.
 fn rows_found<'a, B: Allocator>(
     steps: &[Kept<&'a B>],
     turns: &[Turn],
@@ -230,7 +232,8 @@ fn rows_found<'a, B: Allocator>(
     Ok(Found { matters, carries })
 }
 
-/// The cone of these dots, for a question about the node `asked`, or about all nodes if `asked` is `None`.
+/// The cone of these dots, for a question about the node `asked`, or about all nodes if `asked` is `None`. `count` is
+/// the number of nodes.
 pub(crate) fn cone_for<'a, B: Allocator>(
     steps: &[Kept<&'a B>],
     dots: Vec<Dot, &'a B>,

@@ -77,7 +77,8 @@ fn own_turns<'a, B: Allocator>(
     Ok(turns)
 }
 
-/// All turns: first those of own steps, by node, and then those of deliveries, by the place of their first step.
+/// All turns: first those of own steps, one for each of the first `count` nodes, and then those of deliveries, by the
+/// place of their first step.
 pub(crate) fn turns_of<'a, B: Allocator>(
     steps: &[Kept<&'a B>],
     count: u16,

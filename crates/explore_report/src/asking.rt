@@ -73,8 +73,8 @@ fn outcome_at<'l, 'a, B: Allocator>(
     outcomes.get(place as usize)
 }
 
-/// The run of the outcome with this number in the text, as a script that plays it. `NoSuchOutcome` if no
-/// outcome has that number.
+/// The run of the outcome with this number in the text, as a script that plays it. `NoSuchOutcome` if no outcome has
+/// that number.
 pub fn run_of_outcome<'a, B: Allocator, W: Watch<Walked>>(
     alloc: &'a B,
     bench: &Bench<'a, B>,

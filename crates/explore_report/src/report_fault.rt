@@ -1,4 +1,4 @@
-//! `ReportFault`: why there is no text.
+//! `ReportFault`: why a question gets no text, or an outcome no script.
 ghost use Rattle.std.specs.Prelude.{◌≡◌};
 ghost use Rattle.explore_report.specs.Faults.{fault_of_explore};
 
@@ -6,7 +6,7 @@ use explore_network::ExploreFault;
 use payload_core::{Oom, WordFault};
 use thiserror::Error;
 
-/// Why there is no text.
+/// Why a question gets no text, or an outcome no script.
 #[derive(Clone, Copy, Debug, PartialEq, Eq, Error)]
 pub enum ReportFault {
     /// No node has the name that is asked about.

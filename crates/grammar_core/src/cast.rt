@@ -37,7 +37,7 @@ impl<A: Allocator> Cast<A> {
         &self.nodes
     }
 
-    /// The names of the consoles, in the order of their line; empty before that line.
+    /// The names of the consoles, in the order of the `consoles` line; empty until that line is read.
     pub fn consoles(&self) -> &TextSet<A>
         ensures { result.now ≡ self.now.consoles }
     {
@@ -92,8 +92,8 @@ fn node_names<A: Allocator + Copy>(alloc: A, words: &[&str]) -> Result<Names<A>,
     Ok(Names::new(alloc, &words)?)
 }
 
-/// Reads the line `nodes NAME ..`, the first that has words and isn't a comment. `NoNodes` if `first`, its first word,
-/// isn't `nodes`.
+/// Reads the line `nodes NAME ..`, the first that has words and isn't a comment. `NoNodes` if `first`, the line's first
+/// word, isn't `nodes`; `names` are the words behind it.
 #[tactic(auto, unfolding(crate::specs::Grammar::opening))]
 pub fn opening<A: Allocator + Copy>(
     alloc: A,

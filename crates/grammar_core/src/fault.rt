@@ -16,7 +16,7 @@ pub enum FaultKind {
     /// A script, a line, a topic, a key or metadata has more bytes than it may have.
     #[error("TooLong")]
     TooLong,
-    /// The first significant line doesn't begin with `nodes`, or no line is significant.
+    /// The first line that has words and isn't a comment doesn't begin with `nodes`, or there is no such line.
     #[error("NoNodes")]
     NoNodes,
     /// A second `nodes` or `consoles` line, a name that was given before, or a node that an extract names twice.

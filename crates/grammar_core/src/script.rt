@@ -32,7 +32,7 @@ pub fn node_names<A: Allocator>(script: &Script<A>) -> &Names<A>
     script.cast.nodes()
 }
 
-/// The names of the consoles, in the order of their line; none if the script has no such line.
+/// The names of the consoles, in the order of the `consoles` line; none if the script has no such line.
 pub fn console_names<A: Allocator>(script: &Script<A>) -> &TextSet<A>
     ensures { result.now ≡ (plain_script script.now).cast.consoles }
 {

@@ -1,4 +1,4 @@
-//! The form of a line.
+//! The form that a line should have: which words, in which order.
 ghost use Rattle.std.specs.Prelude.{◌≡◌};
 ghost use Rattle.hint_core.specs.Forms.{actor_form, form};
 

@@ -18,6 +18,7 @@ fn names_actors(first: &str) -> bool
     first == "nodes" || first == "consoles"
 }
 
+/// The hint for a name that stands a second time; `None` if `word` is empty.
 fn again<'l>(word: &'l str) -> Option<Hint<'l>>
     ensures { option_map plain_hint result ≡ again word.now }
 {
@@ -110,8 +111,8 @@ fn no_node<'l>(bytes: &[u8], count: usize, words: &[&'l str]) -> &'l str
     ""
 }
 
-/// The place, counted from 0, of a line's first word that should name a node: 1 if the line begins with a reserved word
-/// (`first`), and else 2, behind an actor's verb.
+/// The place, counted from 0, of the first word that should name a node, in a line that begins with the word `first`:
+/// 1 if that is a reserved word, and else 2, behind an actor's verb.
 fn name_place(first: &str) -> usize
     ensures { result ≡ name_place first.now }
 {

@@ -80,6 +80,7 @@ fn fault_of<A: Allocator>(notes: &[Noted<A>], fault: OrderFault) -> ImportFault
 }
 
 /// The order of these events that is nearest to the input; or why there is none. `NoNodes` if there are no events.
+/// `messages` is how many messages the tables have.
 fn order_of<A: Allocator + Copy>(
     alloc: A,
     notes: &[Noted<A>],

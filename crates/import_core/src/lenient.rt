@@ -1,4 +1,5 @@
 //! Leaves out deliveries and answers whose messages no line sends, for logs that begin in the middle of an incident.
+//! `messages` is how many messages the tables have.
 ghost use Rattle.std.specs.Prelude.{◌≡◌, ◌<◌, ◌++◌, ◌∷◌, [], ◌==◌, ◌||◌, ℕ, not, length, map, slice_index_or, false, IfOk, IfSome, OnOk};
 ghost use Rattle.std.specs.List.{AllByRecursion};
 ghost use Rattle.import_core.specs.Lenient.{IsLenient, Stay, gone, has_awaited, is_message, is_sent, lines_gone, staying};

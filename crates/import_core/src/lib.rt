@@ -1,4 +1,5 @@
-//! From the events of logs to notes of the events, and an order in which a bench can play them.
+//! From the events of logs to a note of each, with the step that stands for the event, and to an order in which a bench
+//! can play them.
 //!
 //! The crate stands on `log_core` for what a line says, on `event_order` for the order of events, on `spelling_core`
 //! for words, on `diff_core` for rows, and on `bench_core` for steps and sets of texts. It names the plain types of the

@@ -1,5 +1,5 @@
-//! An event as a step. In the tables, new nodes, processes and messages, and new values whose words must be cut, get
-//! numbers.
+//! The step that stands for an event. In the tables, new nodes, processes and messages, and new values whose words must
+//! be cut, get numbers.
 ghost use Rattle.std.specs.Prelude.{◌≡◌, ◌∷◌, [], ℕ, Err, IfOk, IfSome, OnOk, is_some, not};
 ghost use Rattle.std.specs.FinSet as set;
 ghost use Rattle.serde_json.specs.View.{view, items_view};
@@ -261,8 +261,8 @@ fn status_for<A: Allocator + Copy>(
     }
 }
 
-/// The step that stands for an event; `None` for an event that lists rows. In the tables, new nodes,
-/// processes and messages that the event takes, and new values whose words must be cut, get numbers.
+/// The step that stands for an event; `None` for an event that lists rows. New nodes and processes get numbers in the
+/// tables, and so do a new message that the event delivers and new values whose words must be cut.
 pub(crate) fn step_for<A: Allocator + Copy>(
     heap: Global,
     alloc: A,

@@ -1,4 +1,4 @@
-//! All lines of a script.
+//! Makes the script of an import, and the bench on which its lines were played.
 ghost use Rattle.std.specs.Prelude.{◌≡◌, ◌++◌, ◌<◌, ◌≤◌, ◌^◌, IfOk, OnOk, length, map, replicate, string_bytes};
 ghost use Rattle.std.specs.List.{All};
 ghost use Rattle.import_core.specs.Imports.{note_at};

@@ -1,4 +1,4 @@
-//! `Causes`: the index of one node: its steps, and which steps deliver its messages.
+//! `Causes`, the index of one node: its steps, and which steps deliver its messages.
 ghost use Rattle.std.specs.Prelude.{◌≡◌, ℕ, ◌≤◌, ◌++◌, ◌∷◌, [], ◌<◌, ◌+◌, ◌-◌, None, Some, OnOk, OnErr, length, take};
 ghost use Rattle.smallvec.specs.SmallVec.{HasRoomFor};
 ghost use Rattle.journal_core.specs.Numbers.{Rises, first_above, last, all_but};
@@ -10,7 +10,7 @@ use smallvec::SmallVec;
 use std::alloc::Allocator;
 use std::marker::Model;
 
-/// For one node: the rising numbers of its steps; those of its sending steps; and for each sending step the rising
+/// For one node: the rising numbers of its steps, and of its sending steps; and for each sending step the rising
 /// numbers of the steps that deliver its message.
 #[derive(Drop)]
 pub(crate) struct Causes<'a, B: Allocator> {
@@ -158,7 +158,7 @@ impl<'a, B: Allocator> Causes<'a, B> {
         self.deliveries[place].push_reserved(number);
     }
 
-    /// Takes out the last step, which sent nothing.
+    /// Takes the last step, which sent nothing, out of the index.
     pub(crate) fn pop(&mut self)
         ensures own { self.new.own ≡ take (length self.old.own - 1) self.old.own }
         ensures sent { self.new.sent ≡ self.old.sent }
@@ -168,7 +168,7 @@ impl<'a, B: Allocator> Causes<'a, B> {
         self.own.pop();
     }
 
-    /// Takes out the last step, which sent a message, and its message.
+    /// Takes the last step, which sent a message, and its message out of the index.
     pub(crate) fn pop_sending(&mut self)
         ensures own { self.new.own ≡ take (length self.old.own - 1) self.old.own }
         ensures sent { self.new.sent ≡ take (length self.old.sent - 1) self.old.sent }

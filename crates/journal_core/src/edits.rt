@@ -127,7 +127,7 @@ pub(crate) fn drop_delivery<'a, B: Allocator>(
 }
 
 /// Makes room for a step of the kind `room`: its slot, and its places in the index of its node. If the step delivers a
-/// message that was sent, also a place among that message's deliveries.
+/// message that was sent, it also makes a place among that message's deliveries.
 pub(crate) fn make_all_room<'a, B: Allocator>(
     slots: &mut Slots<'a, B>,
     causes: &mut Vec<Causes<'a, B>, &'a B>,

@@ -1,6 +1,6 @@
 //! The future of a step: the step, its direct consequences, theirs, and so on. One pass over the steps, by rising
-//! number, gathers it. Each node has a bound, which says which of the node's steps are reached: all above the bound, or
-//! none if the bound is `None`.
+//! number, gathers it. Each node has a bound, which says which of the node's steps are reached, which is to say found
+//! to follow so far: all above the bound, or none if the bound is `None`.
 ghost use Rattle.std.specs.Prelude.{◌≡◌, ◌<◌, ◌-◌, ◌&&◌, replicate, nat_lt, IfOk, OnOk, OnErr, length, Some, None, [], option_map, option_copied};
 ghost use Rattle.std.specs.Prelude.{slice_set};
 ghost use Rattle.journal_core.specs.Journals.{AreInCausalOrder, find_number, first_number, NumbersRise};
@@ -96,7 +96,7 @@ fn lower<'a, B: Allocator>(
     lower_all(slots, causes[node].deliveries_of(number), bounds);
 }
 
-/// The bounds at the start: just below `number` for `node`, and `None` for the others.
+/// The bounds of `nodes` nodes at the start: just below `number` for `node`, and `None` for the others.
 fn start<'a, B: Allocator>(
     alloc: &'a B,
     nodes: usize,

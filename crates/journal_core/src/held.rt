@@ -62,6 +62,7 @@ impl<'a, B: Allocator> Held<'a, B> {
         self.kept.node
     }
 
+    /// Gives the inverse out; `None` if it is lent already.
     pub(crate) fn lend(&mut self) -> Option<Inverse<&'a B>>
         ensures value { option_map plain_inverse result ≡ self.old.inverse }
         ensures after { self.new ≡ record { kept = self.old.kept; inverse = None } }
@@ -69,6 +70,7 @@ impl<'a, B: Allocator> Held<'a, B> {
         self.inverse.take()
     }
 
+    /// Puts the inverse beside the step. If one is there, it is dropped.
     pub(crate) fn put_back(&mut self, inverse: Inverse<&'a B>)
         ensures { self.new ≡ record { kept = self.old.kept; inverse = Some (plain_inverse inverse.entry) } }
     {

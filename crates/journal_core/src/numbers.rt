@@ -2,7 +2,7 @@
 ghost use Rattle.std.specs.Prelude.{◌≡◌};
 ghost use Rattle.journal_core.specs.Numbers.{Rises, first_above, least, place_of};
 
-/// The place of `number` in the list, counted from 0; `None` if it isn't there.
+/// The place of `number` in a rising list, counted from 0; `None` if the list doesn't have the number.
 pub(crate) fn place(numbers: &[u64], number: u64) -> Option<usize>
     requires { Rises numbers.now }
     ensures { result ≡ place_of numbers.now number }
@@ -17,7 +17,7 @@ pub(crate) fn place(numbers: &[u64], number: u64) -> Option<usize>
     Some(place)
 }
 
-/// The first number of the list above `number`; `None` if there is none.
+/// The first number above `number` in a rising list; `None` if there is none.
 pub(crate) fn first_above(numbers: &[u64], number: u64) -> Option<u64>
     requires { Rises numbers.now }
     ensures { result ≡ first_above number numbers.now }

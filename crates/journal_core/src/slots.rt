@@ -53,7 +53,7 @@ impl<'a, B: Allocator> Slots<'a, B> {
         }
     }
 
-    /// How many steps there are.
+    /// How many steps the slots have; empty slots don't count.
     pub(crate) fn len(&self) -> usize
         ensures { result ≡ length self.now.steps }
     {
@@ -79,7 +79,7 @@ impl<'a, B: Allocator> Slots<'a, B> {
         Steps::of(self.slots.as_slice())
     }
 
-    /// The step of this number; `None` if it isn't there.
+    /// The step of this number; `None` if no step with the number remains.
     pub(crate) fn find(&self, number: u64) -> Option<&Held<'a, B>>
         ensures { option_copied result ≡ find_held self.now.steps number }
     {
@@ -215,6 +215,7 @@ fn step_at<'x, 'a, B: Allocator>(
     None
 }
 
+/// Whether the last slot is empty; `false` if there is no slot.
 fn is_last_empty<'a, B: Allocator>(slots: &[Option<Held<'a, B>>]) -> bool
     ensures { result ≡ ends_empty slots.now }
 {

@@ -1,7 +1,7 @@
 //! Reads the JSON values of a text one after another, as values of `serde_json`.
 //!
-//! Stands on the kit's `json`, whose reader gives a text's tokens, on its `serde_json`, whose values take their memory
-//! from the global heap, and on its `fast_float`, which reads a whole number in place. The modules in reading order:
+//! Stands on three crates of the kit: `json`, whose reader gives a text's tokens; `serde_json`, whose values take their
+//! memory from the global heap; and `fast_float`, which reads a whole number in place. The modules in reading order:
 //! `unread`, why a value can't be read; `one_value`, the next value of a reader; `places`, what stands at a place of a
 //! list.
 #![tactic(auto)]

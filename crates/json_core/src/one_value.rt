@@ -106,8 +106,8 @@ fn items_of(heap: Global, reader: &mut Reader<'_>, depth: usize) -> Result<Vec<V
     Ok(found)
 }
 
-/// Reads the members up to the brace that closes the object, and the brace. The value of each may nest `depth` deep. Of
-/// members with the same name the last one counts.
+/// Reads the members up to the brace that closes the object, and the brace. The value of each may nest `depth` deep. If
+/// several members have the same name, the last one counts.
 #[cycle(read)]
 fn members_of(
     heap: Global,

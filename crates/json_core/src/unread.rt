@@ -1,4 +1,4 @@
-//! `Unread`: why a value can't be read from a text, or isn't what the text should have.
+//! `Unread`: why a part of a text couldn't be read.
 ghost use Rattle.std.specs.Prelude.{◌≡◌};
 ghost use Rattle.json_core.specs.declared.unread.Unread.TheVariants.{Memory, Shape};
 

@@ -31,7 +31,7 @@ fn bytes_of<'a>(
     heap.bytes()
 }
 
-/// How many bytes a copy of the node asks for.
+/// How many bytes a copy of the first node asks for.
 fn bytes_of_copy<'a>(bench: &Bench<'a, Heap>, heap: &'a Heap, rt: &impl Abort) -> u64 {
     let node = bench.node(0).expect(rt, "a node");
     heap.refuse_none();
@@ -40,7 +40,8 @@ fn bytes_of_copy<'a>(bench: &Bench<'a, Heap>, heap: &'a Heap, rt: &impl Abort) -
     heap.bytes()
 }
 
-/// Plays the script, then a join and its undo. These must ask for less than a tenth of the bytes of a copy of the node.
+/// Plays the script, then a join and its undo. These must ask for less than a tenth of the bytes that a copy of the
+/// node asks for.
 fn plays<'a>(script: &str, heap: &'a Heap, rt: &impl Abort) {
     let calls = calls_of(JOIN_AND_UNDO, heap, rt);
     let mut bench = played(script, Limits::usual(), heap, rt);

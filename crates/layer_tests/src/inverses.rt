@@ -58,6 +58,7 @@ fn is_left<A: Allocator>(left: &Left<A>, told: Stood) -> bool {
         && *in_delta == told.in_delta
 }
 
+/// Whether the entries that left are those of `told`, in its order.
 fn are_left<A: Allocator>(lefts: &[Left<A>], told: &[Stood]) -> bool {
     lefts.len() == told.len()
         && lefts
@@ -71,6 +72,7 @@ fn is_there(dot: Dot, clock: u64) -> bool {
     dot.name == LAST && dot.clock == clock
 }
 
+/// Whether these are the last node's dots with these clocks, in the same order.
 fn are_dots(dots: &[Dot], clocks: &[u64]) -> bool {
     dots.len() == clocks.len()
         && dots
@@ -79,6 +81,7 @@ fn are_dots(dots: &[Dot], clocks: &[u64]) -> bool {
             .all(|(dot, clock)| is_there(*dot, *clock))
 }
 
+/// Whether these are entries at the last node's dots with these clocks, in the same order.
 fn are_entries<A: Allocator>(entries: &[Handle<A>], clocks: &[u64]) -> bool {
     entries.len() == clocks.len()
         && entries
@@ -96,6 +99,7 @@ fn are_parts<A: Allocator>(parts: &[OldPart<A>], clocks: &[u64]) -> bool {
         })
 }
 
+/// Whether what is kept of the delivery is what `told` says.
 fn is_delivered<A: Allocator>(delivered: &Delivered<A>, told: Told) -> bool {
     let Delivered {
         joined,
@@ -113,6 +117,7 @@ fn is_delivered<A: Allocator>(delivered: &Delivered<A>, told: Told) -> bool {
     are_dots(joined, dots) && are_entries(left, entries) && are_parts(parts, clocks)
 }
 
+/// Whether what is kept of the forgotten name is what `told` says.
 fn is_forgotten<A: Allocator>(forgotten: &Forgotten<A>, told: Told) -> bool {
     let Forgotten { part, entries } = forgotten;
     let Told::Permdown {
@@ -296,6 +301,8 @@ fn keeps<'a>(bench: &Bench<'a, Heap>, number: u64, told: Told) -> bool {
     }
 }
 
+/// The bench must keep what `KEPT` says of each step of the first node, and must have no other steps but the first
+/// `FIRST`.
 fn keeps_each<'a>(bench: &Bench<'a, Heap>, rt: &impl Abort) {
     for (place, told) in KEPT.iter().enumerate() {
         let number = (place + FIRST + 1) as u64;

@@ -36,7 +36,7 @@ fn inverse<'a>(heap: &'a Heap, rt: &impl Abort) -> Inverse<&'a Heap> {
     inverse
 }
 
-/// Keeps the step as number 1 of node 0. It must be kept.
+/// Keeps the step as number 1 of node 0. The journal must not refuse it.
 fn keeps<'a>(
     journal: &mut Journal<'a, Heap>,
     step: Step<&'a Heap>,
@@ -106,6 +106,7 @@ fn keeps_and_lends<'a>(journal: &mut Journal<'a, Heap>, inverse: Inverse<&'a Hea
     holds!(rt, journal.len() == 0 && journal.find(1).is_none());
 }
 
+/// Makes room for a broadcast of node 0, and then for an up of node 1. Says whether memory sufficed for both.
 fn makes_room<'a>(journal: &mut Journal<'a, Heap>) -> bool
     requires { journal.old.nodes ≡ 2 }
     ensures nodes { journal.new.nodes ≡ 2 }

@@ -183,9 +183,9 @@ const HELD: Fault = Fault::HasConsequence {
     held_by: 2,
 };
 
-/// The cases in turn. One free place is too few for a step. No free place: a step; undos of numbers that were never
-/// given; a back of a node without steps; an undo of a step with a consequence; an undo that was made already; and a
-/// back after an undo. The last case has a limit of 1 on acts, so two places are never free.
+/// The cases in turn: with one place free, which is too few, steps; with no place free, a step, undos of numbers that
+/// were never given, a back of a node without steps, an undo of a step with a consequence, an undo that was made
+/// already, and a back after an undo. The last case has a limit of 1 on acts, so two places are never free.
 const FULL: &[Full] = &[
     Full {
         limits: [3, 10, 10, 10],
@@ -301,12 +301,15 @@ fn unknown<'a>() -> [(u16, Act<&'a Heap>); 6] {
     ]
 }
 
-/// Whether the bench runs the calls and refuses each as `UnknownNode`.
-fn run_unknown<'a>(bench: &mut Bench<'a, Heap>, calls: &[(u16, Act<&'a Heap>)]) -> bool {
+/// Whether the bench runs the calls with these replies.
+fn run_gives<'a>(
+    bench: &mut Bench<'a, Heap>,
+    calls: &[(u16, Act<&'a Heap>)],
+    expected: &[Reply],
+) -> bool {
     match bench.run(calls) {
         Ok(replies) => {
-            let expected = [Reply::Refused(Fault::UnknownNode); 6];
-            let are_expected = replies.as_slice() == expected.as_slice();
+            let are_expected = replies.as_slice() == expected;
             drop(replies);
             are_expected
         }
@@ -323,7 +326,8 @@ fn unknown_is_refused<'a>(heap: &'a Heap, rt: &impl Abort) {
     holds!(rt, bench.run(&calls).err().is_some());
     holds!(rt, bench.history().len() == 0);
     heap.refuse_none();
-    holds!(rt, run_unknown(&mut bench, &calls));
+    let expected = [Reply::Refused(Fault::UnknownNode); 6];
+    holds!(rt, run_gives(&mut bench, &calls, &expected));
     holds!(rt, bench.history().len() == 6);
     are_free(&mut bench, &calls, Fault::UnknownNode, heap, rt);
     drop(calls);
@@ -334,4 +338,26 @@ fn unknown_is_refused<'a>(heap: &'a Heap, rt: &impl Abort) {
 fn a_number_that_is_no_nodes_is_refused(rt: HostRuntime) {
     let heap = Refusing::new(rt.alloc());
     unknown_is_refused(&heap, &rt);
+}
+
+/// `Bench::run` gives the reply of each of its calls, in their order, and records each.
+#[test]
+fn a_run_gives_each_reply(rt: HostRuntime) {
+    let heap = Refusing::new(rt.alloc());
+    let mut bench = opened("nodes a b", limits_of([6, 1, 1, 1], &rt), &heap, &rt);
+    let names = NameSet::empty().with(5);
+    let calls = [
+        (7, Act::Do(Step::Broadcast)),
+        (0, Act::Do(Step::Up { name: 5 })),
+        (0, Act::Do(Step::Extract { names })),
+        (0, Act::Back(2)),
+        (40, Act::Undo(1)),
+    ];
+    let unknown = Reply::Refused(Fault::UnknownNode);
+    let missing = Reply::Refused(Fault::NoSuchStep);
+    let expected = [unknown, unknown, unknown, unknown, missing];
+    holds!(&rt, run_gives(&mut bench, &calls, &expected));
+    holds!(&rt, bench.history().len() == 5);
+    drop(calls);
+    drop(bench);
 }

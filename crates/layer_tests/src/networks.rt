@@ -150,6 +150,7 @@ const STANDINGS: &[Standings] = &[
     },
 ];
 
+/// The question for the rows of topic `r` and this key at a node.
 fn presence<'a>(node: u16, key: &str, heap: &'a Heap, rt: &impl Abort) -> Question<&'a Heap> {
     let topic = Word::new(heap, "r").expect(rt, "a topic");
     let key = Word::new(heap, key).expect(rt, "a key");

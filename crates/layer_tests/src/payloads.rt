@@ -13,7 +13,7 @@ pub fn word<A: Allocator + Clone>(rt: &impl Abort, alloc: A, text: &str) -> Word
     Word::new(alloc, text).expect(rt, "a word")
 }
 
-/// An entry of process 7 under the topic `room`.
+/// An entry of process 7 under the topic `room` and this key, at the dot of this name and clock.
 fn entry<A: Allocator + Copy>(
     rt: &impl Abort,
     alloc: A,
@@ -115,7 +115,7 @@ fn words_are_ordered_by_their_bytes(rt: HostRuntime) {
     }
 }
 
-/// Whether the entry of `alice` at the clock 1 is the same as that of `key` at `clock`, and whether the entry of
+/// Whether the entry of `alice` at the clock 1 is the same as the entry of `key` at `clock`, and whether the entry of
 /// `alice` is tracked under `key`.
 fn compare<A: Allocator + Copy>(rt: &impl Abort, alloc: A, clock: u64, key: &str) -> (bool, bool) {
     let alice = entry(rt, alloc, 0, 1, "alice");
@@ -189,8 +189,8 @@ fn takes_out<A: Allocator>(entries: &mut EntrySet<A>, dot: Dot) -> bool {
     }
 }
 
-/// How many entries of a set `only` gives; at which places the entries stand; what a search finds; and what a removal
-/// leaves.
+/// Tests how many entries of a set `only` gives, at which places the entries stand, what a search finds, and what a
+/// removal leaves.
 #[test]
 fn a_set_of_entries_rises_by_dot(rt: HostRuntime) {
     let mut entries = three(&rt, rt.alloc());
@@ -340,15 +340,17 @@ fn a_request_gives_its_names(rt: HostRuntime) {
     holds!(&rt, matches!(asked, Some(asked) if asked.same(names)));
 }
 
-/// Takes out the last message, and says whether it has seen node 0's dot with this clock; `false` if there is no
-/// message.
+/// Whether the message has node 0's dot with this clock.
+fn has_clock<'a>(message: Payload<&'a Heap>, clock: u64) -> bool {
+    let has_clock = message.seen().contains(Dot { name: 0, clock });
+    drop(message);
+    has_clock
+}
+
+/// Takes out the last message, and says whether it has node 0's dot with this clock; `false` if there is no message.
 fn pops<'a>(outbox: &mut Outbox<'a, Heap>, clock: u64) -> bool {
     match outbox.pop() {
-        Some(last) => {
-            let is_this = last.seen().contains(Dot { name: 0, clock });
-            drop(last);
-            is_this
-        }
+        Some(last) => has_clock(last, clock),
         None => false,
     }
 }
@@ -370,7 +372,7 @@ fn pushes<'a>(
     let answer = match outbox.push(message) {
         Ok(number) => Ok(number),
         Err((given_back, fault)) => {
-            drop(given_back);
+            holds!(rt, has_clock(given_back, clock));
             Err(fault)
         }
     };

@@ -10,7 +10,7 @@ use replica_core::{Replica, Status, laws};
 use std::process::Abort;
 use test_alloc::Refusing;
 
-/// Reads a set of at least 65 entries, among them that of the dot of node 0 with the clock 130.
+/// Reads a set of at least 65 entries; one of them is at the dot of node 0 with the clock 130.
 fn reads_entries<'a>(entries: &EntrySet<&'a Heap>, rt: &impl Abort) {
     let last = Dot {
         name: 0,

@@ -1,5 +1,5 @@
-//! Unwinds that are refused memory on the way. A second bench makes the undos that are reported, one by one; the first
-//! bench must be the same as the second after them.
+//! Unwinds that are refused memory on the way. A second bench makes the undos that are reported, one by one. Then both
+//! benches must be the same.
 use crate::benches::{Heap, Pair, are_same, played_twice};
 use crate::cases::holds_at;
 use bench_core::{Act, Bench, Fault, Limits, Reply, Unwound};

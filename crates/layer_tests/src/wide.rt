@@ -101,7 +101,7 @@ fn history_copies<'a>(history: &History<'a, Heap>, heap: &'a Heap, rt: &impl Abo
     2_000
 }
 
-/// Copies the first two nodes and the history, like `node_copies` and `history_copies`. Of each, the first try must be
+/// Copies the first two nodes and the history, like `node_copies` and `history_copies`. The first try at each must be
 /// refused, and one of the first 1,999 must succeed.
 fn copies<'a>(bench: &Bench<'a, Heap>, heap: &'a Heap, rt: &impl Abort) {
     for number in 0..2 {

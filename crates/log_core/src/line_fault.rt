@@ -10,6 +10,7 @@ pub enum LineFault {
     /// The line isn't JSON, or nests too deep.
     #[error("NotJson")]
     NotJson,
+    /// Memory was refused.
     #[error("OutOfMemory")]
     OutOfMemory,
 }

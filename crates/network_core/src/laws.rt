@@ -1,7 +1,7 @@
 //! The laws of runs of the network, as contracts of functions that do nothing.
 //!
 //! A crate above uses a law by calling its function. The caller chooses which dots matter, to each node and in each
-//! message: laws that speak of such dots hold for any choice, unless they say otherwise.
+//! message. A law that speaks of such dots holds for any choice, or says for which.
 ghost use Rattle.network_core.specs.AlikeSteps.{StepLaw, StepsLaw};
 ghost use Rattle.network_core.specs.Cones.{AloneLaw, ConeLaw, IdleLaw, StandsLaw};
 ghost use Rattle.network_core.specs.EasySteps.{EagerLaw, EagerStepLaw};
@@ -13,20 +13,24 @@ ghost use Rattle.network_core.specs.Rows.{OnlineRowsLaw, RowsLaw};
 ghost use Rattle.network_core.specs.Seen.{SameReplicaLaw, SeenLaw};
 ghost use Rattle.network_core.specs.Settling.{LengthLaw, NextDeliveryLaw, QuietLaw, SettleLaw};
 
-/// A delivery at a node can be exchanged with another step of the node, and the node's replica becomes the same either
-/// way. The other step is a join, a leave, a leave all, an update, a broadcast, a request, or an up or a down of a name
-/// that the node knows.
+/// Unless a step is refused as `EntriesFull`, a delivery at a node can be exchanged with another step of the node, and
+/// the node's replica becomes the same either way. The other step is a join, a leave, a leave all, an update, a
+/// broadcast, a request, or an up or a down of a name that the node knows.
 pub fn own_law()
     ensures { OwnLaw }
 {}
 
-/// If the steps make no more entries than a node may hold, none of them is refused as `EntriesFull`.
+/// If steps make no more entries together than a node may hold, none of them is refused as `EntriesFull`, in whatever
+/// order they come.
 pub fn never_full_law()
     ensures { NeverFullLaw }
 {}
 
 /// An easy step (see `is_easy` of `network_rules`) can be moved before any steps directly before it, if each of these
-/// is a delivery at the easy step's node or a step of another node, unless a step is then refused as `EntriesFull`.
+/// is a delivery at the easy step's node or a step of another node, and no step is then refused as `EntriesFull`. So in
+/// a run of the network that makes no more entries than a node may hold, a node's next step other than a delivery can
+/// come at once if it is easy: some run of the network with the same beginning and then this step ends in the same
+/// cluster.
 pub fn easy_law()
     ensures in_runs { EagerLaw }
     ensures in_network_runs { EagerStepLaw }
@@ -49,25 +53,26 @@ pub fn made_law()
 {}
 
 /// The dots that nodes have seen at the end of a run are among those that the nodes' own steps give. If a node's
-/// replicas at the ends of two runs of the network are the same in all dots that the recorded run gives, they are the
-/// same.
+/// replicas at the ends of two runs of the network differ at most in dots that the recorded run doesn't give, they are
+/// the same.
 pub fn seen_law()
     ensures seen { SeenLaw }
     ensures same { SameReplicaLaw }
 {}
 
-/// Replicas that are the same in the dots of a topic and a key show the same rows with that topic and key: in the order
-/// of the dots, and in their online lists.
+/// If two replicas differ at most in dots at which neither has an entry of a topic and a key, they show the same rows
+/// with that topic and key, both in the order of the dots and in their online lists.
 pub fn rows_law()
     ensures shown { RowsLaw }
     ensures online { OnlineRowsLaw }
 {}
 
-/// If what matters after a step of the recorded run comes from what matters before the step, so it is in each run of
-/// the network. If, besides, the recorded run makes no more entries than a node may hold, one beginning of a run serves
-/// for another if the same steps are still to be taken and the clusters are alike; and a delivery that has come less
-/// often than it was recorded can come first if it is accepted and brings nothing that matters. The next step of a node
-/// at which nothing more is delivered can always come first, if it is accepted.
+/// If what matters after each step of the recorded run comes from what matters before the step, the same is true of
+/// each run of the network. If, besides, the recorded run makes no more entries than a node may hold, one beginning of
+/// a run serves for another if the same steps are still to be taken and the clusters are alike: for each run with the
+/// other beginning, a run with this one ends in an alike cluster. In the same way a delivery that has come less often
+/// than it was recorded can come first if it is accepted and brings nothing that matters. The next step of a node at
+/// which nothing more is delivered can always come first, if it is accepted.
 pub fn cone_law()
     ensures passes { ConeLaw }
     ensures stands { StandsLaw }
@@ -81,18 +86,20 @@ pub fn keys_law()
     ensures { StandAlikeLaw }
 {}
 
-/// Every run of the network with a given beginning ends in an outcome that was found, if that holds after one more step
-/// that can come first; or if it holds of another beginning that serves for this one; or if it holds after each step
-/// that can come next, and the beginning's own outcome was found or no run may end there. A run of the network has at
-/// most as many steps as the recorded run, and one more for each delivery that may come a second time.
+/// Let the recorded run make no more entries than a node may hold, let what matters after each of its steps come from
+/// what matters before the step, and of two alike ends let either both or neither count as found. Then every run of the
+/// network with a given beginning ends in an outcome that was found, if that holds after one more step that can come
+/// first; or if it holds of another beginning that serves for this one; or if it holds after each step that can come
+/// next, and the beginning's own outcome was found or no run may end there. A run of the network has at most as many
+/// steps as the recorded run, and one more for each delivery that may come a second time.
 pub fn settle_law()
     ensures settled { SettleLaw }
     ensures length { LengthLaw }
 {}
 
-/// A delivery that comes next was recorded, and came less than twice as often as it was recorded; less often than it
-/// was recorded, if none may come a second time. If all recorded deliveries at a node came, and none may come a second
-/// time, nothing more is delivered there.
+/// A delivery that comes next in a run was recorded. Before it the run has fewer such deliveries than twice the
+/// recorded ones, and fewer than the recorded ones if none may come a second time. If the run has all recorded
+/// deliveries at a node, and none may come a second time, nothing more is delivered there.
 pub fn next_law()
     ensures quiet { QuietLaw }
     ensures next { NextDeliveryLaw }

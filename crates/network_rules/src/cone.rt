@@ -258,7 +258,7 @@ fn is_falling(row: &[NameSet]) -> bool
 }
 
 /// The cone of `dots`, from the names that a search found to matter at nodes (`matters`) and in messages (`carries`).
-/// The search isn't trusted: unless `is_closed` and `are_asked` are true of what it found, the cone has all names
+/// The search isn't trusted: if `is_closed` or `are_asked` is false of what it found, the cone has all names
 /// everywhere. `asked` is the node that the question is about; `None` stands for all of the first `count` nodes.
 pub fn cone_of<'a, B: Allocator>(
     steps: &[Kept<&'a B>],

@@ -1,4 +1,5 @@
-//! Steps that can be taken first, at the present cluster, without missing an outcome.
+//! Steps that can come before all others that may come next, so that a walk which goes on with one of them alone misses
+//! no outcome.
 ghost use Rattle.std.specs.Prelude.{◌≡◌, ◌==◌, false, true, IsTrue};
 ghost use Rattle.std.specs.FinSet.{contains};
 ghost use Rattle.node_core.specs.Operations.{plain, Up};

@@ -16,8 +16,8 @@ use node_core::Oom;
 use payload_core::{EntrySet, Payload};
 use std::alloc::Allocator;
 
-/// How often each turn came, and then how the dots that matter stand, first at nodes and then in the messages of
-/// extracts and answers.
+/// How many steps of each turn (see `Turn`) came, and then how the dots that matter stand, first at nodes and then in
+/// the messages of extracts and answers.
 pub type Key<A> = Vec<usize, A>;
 
 /// The standing of a dot: 0 unseen, 1 live, 2 gone.
@@ -64,8 +64,8 @@ pub fn message_of<'x, 'a, B: Allocator>(
     cluster.node(node)?.outbox().get(number)
 }
 
-/// Appends how `dot` stands at the node `number`, unless the dot is that node's own or has a name that isn't among
-/// `names`. (How a node's own dots stand follows from its own steps.)
+/// Appends how `dot` stands at the node `number`, if the dot's name is among `names` and isn't the node's own. (How a
+/// node's own dots stand follows from its own steps.)
 fn put_at_node<'a, B: Allocator>(
     key: &mut Key<&'a B>,
     dot: Dot,
@@ -219,8 +219,8 @@ fn put_messages<'a, B: Allocator>(
     Ok(())
 }
 
-/// The key of the state in which each turn has come as often as `counts` says, and whose cluster is `cluster`. `count`
-/// is the number of nodes.
+/// The key of the state in which as many steps of each turn came as `counts` says, and whose cluster is `cluster`.
+/// `count` is the number of nodes.
 pub fn key_of<'a, B: Allocator>(
     cone: &Cone<'a, B>,
     cluster: &Cluster<'a, B>,

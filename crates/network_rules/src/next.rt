@@ -1,11 +1,12 @@
-//! Which steps may come next, given how often each turn came: how many steps of the turn were taken.
+//! Which steps may come next, given how many steps of each turn came. A turn is a node's own steps, or the deliveries
+//! of one message at a node (see `Turn`).
 ghost use Rattle.std.specs.Prelude.{◌≡◌, ◌≤◌, IsTrue, nat_le, nat_lt, true};
 ghost use Rattle.std.specs.Option.{is_some};
 ghost use Rattle.network_rules.specs.Turns.{count_at, extra, is_end, is_next, is_next_by, is_whole, is_whole_by, missing, AreSpent};
 
 use crate::turn::{Rank, Turn};
 
-/// How often the turn at `place` came; 0 if there is no such turn.
+/// How many steps of the turn at `place` came; 0 if there is no such turn.
 pub fn count_at(counts: &[usize], place: usize) -> usize
     ensures { result ≡ count_at counts.now place }
 {
@@ -51,8 +52,8 @@ fn may_repeat(turns: &[Turn], counts: &[usize], again: usize) -> bool
     again > 0 && few_extra(turns, counts, again - 1)
 }
 
-/// Whether a turn may end with this count. A turn of own steps may if all of them came, a turn of deliveries if at most
-/// twice as many came as were recorded.
+/// Whether this turn lets a run end after `count` of the turn's steps came. In a turn of own steps, all of them must
+/// have come; in a turn of deliveries, at most twice as many as were recorded.
 fn is_whole_by(turn: Turn, count: usize) -> bool
     ensures { result ≡ is_whole_by turn.delivers turn.recorded count }
 {
@@ -110,7 +111,8 @@ fn is_next_by(
     }
 }
 
-/// Whether the step at `place` may come next; false if the step has no rank, or the rank's turn isn't among `turns`.
+/// Whether the step at `place` may come next, if up to `again` deliveries may come a second time. False if the step has
+/// no rank, or the rank's turn isn't among `turns`.
 pub fn is_next(turns: &[Turn], ranks: &[Rank], counts: &[usize], again: usize, place: usize) -> bool
     ensures { result ≡ is_next turns.now ranks.now counts.now again place }
 {

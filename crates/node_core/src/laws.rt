@@ -8,8 +8,8 @@ pub fn way_back_law()
     ensures { OneWayBackLaw }
 {}
 
-/// If an inverse leads from one node back to another, its change leads from the replica of the one back to the replica
-/// of the other. If the inverse has no change, both nodes have the same entries and the same view.
+/// If an inverse leads from a node back to an earlier one, the inverse's change leads from the node's replica back to
+/// the earlier node's. If the inverse has no change, both nodes have the same entries and the same view.
 pub fn change_law()
     ensures { ChangeOfLaw }
 {}

@@ -40,7 +40,7 @@ impl<'a, B: Allocator> Model for Node<'a, B> {
 }
 
 impl<'a, B: Allocator> Node<'a, B> {
-    /// The replica of the node.
+    /// The node's replica, without the messages that the node sent.
     pub fn replica(&self) -> &Replica<&'a B>
         ensures { result.now ≡ self.now.replica }
     {
@@ -95,6 +95,7 @@ impl<'a, B: Allocator> Node<'a, B> {
         }
     }
 
+    /// Takes back a step that was one call of the replica, by the change of that call.
     fn undo(&mut self, change: Change<&'a B>) -> Result<(), (Change<&'a B>, Oom)>
         requires { LeadsSomewhere (OfChange (plain_change change)) self.old }
         ensures ok { OnOk result (GivesBack (OfChange (plain_change change.entry)) self.old self.new) }
@@ -105,6 +106,7 @@ impl<'a, B: Allocator> Node<'a, B> {
         self.replica.undo(change)
     }
 
+    /// Takes back a broadcast: takes the last message out of the outbox, and makes it the delta again.
     fn take_back_delta(&mut self)
         requires { LeadsSomewhere OfBroadcast self.old }
         ensures { GivesBack OfBroadcast self.old self.new }
@@ -113,6 +115,7 @@ impl<'a, B: Allocator> Node<'a, B> {
         self.replica.give_delta(payload);
     }
 
+    /// Takes back a step that sent no delta but another message: takes the last message out of the outbox.
     fn take_back_message(&mut self)
         requires { LeadsSomewhere OfSent self.old }
         ensures { GivesBack OfSent self.old self.new }
@@ -135,7 +138,7 @@ impl<'a, B: Allocator> Node<'a, B> {
         }
     }
 
-    /// A copy of the node.
+    /// A copy of the node. The copy's store has no index of own entries.
     pub fn try_copy(&self) -> Result<Node<'a, B>, Oom>
         ensures { IfOk result (λ copy. copy ≡ self.now) }
     {

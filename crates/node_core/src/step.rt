@@ -69,7 +69,7 @@ pub enum Step<A: Allocator> {
 
 impl<A: Allocator> Step<A> {
     /// Whether both are the same step, with equal numbers, words and names.
-    pub fn same(&self, other: &Self) -> bool
+    pub fn same<'call>(&'call self, other: &'call Self) -> bool
         ensures { IsTrue result ↔ (plain self.now ≡ plain other.now) }
     {
         match self {
@@ -221,7 +221,8 @@ impl<A: Allocator> Step<A> {
         }
     }
 
-    /// A copy of the step.
+    /// A copy of the step, which shares the bytes of long words. It takes no memory; an `Err` means that the count of a
+    /// word's copies is at its limit.
     pub fn try_copy(&self) -> Result<Self, Oom>
     where
         A: Copy,
@@ -261,6 +262,7 @@ impl<A: Allocator> Step<A> {
 }
 
 impl<A: Allocator + Copy> Step<A> {
+    /// A join of this process, with copies of these words.
     fn join_of(pid: u64, topic: &Word<A>, key: &Word<A>, metadata: &Word<A>) -> Result<Step<A>, Oom>
         ensures { IfOk result (λ step. plain step ≡ Join (record { pid = pid; topic = topic.now; key = key.now; metadata = metadata.now })) }
     {
@@ -272,6 +274,7 @@ impl<A: Allocator + Copy> Step<A> {
         })
     }
 
+    /// A leave of this process, with copies of these words.
     fn leave_of(pid: u64, topic: &Word<A>, key: &Word<A>) -> Result<Step<A>, Oom>
         ensures { IfOk result (λ step. plain step ≡ Leave pid topic.now key.now) }
     {
@@ -282,6 +285,7 @@ impl<A: Allocator + Copy> Step<A> {
         })
     }
 
+    /// An update of this process, with copies of these words.
     fn update_of(
         pid: u64,
         topic: &Word<A>,

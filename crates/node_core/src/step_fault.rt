@@ -13,7 +13,7 @@ pub enum StepFault {
     /// The name is not known.
     #[error("NotKnown")]
     NotKnown,
-    /// The name is up.
+    /// The name to be forgotten is up.
     #[error("NotDown")]
     NotDown,
     /// An own entry has this process, topic and key.

@@ -3,16 +3,17 @@
 //! A crate above uses a law by calling its function.
 ghost use Rattle.order_core.specs.Laws.{BehindLaw, FoundRunLaw, MarksLaw, OrderOfLaw, OrderRunsLaw, SameOwnLaw};
 
-/// In a run no message comes before it is sent. What each node did, in its order, decides how a run ends. If one order
-/// of these steps runs, so does each other order in which no message comes before it is sent, and both end the same.
+/// In a run no message comes before it is sent. Two runs in which each node did the same, in the same order, end in the
+/// same cluster. If one order of the nodes' steps runs, so does each other order that keeps each node's own order and
+/// in which no message comes before it is sent, and it ends in the same cluster.
 pub fn order_law()
     ensures behind { BehindLaw }
     ensures order_runs { OrderRunsLaw }
     ensures same_own { SameOwnLaw }
 {}
 
-/// If there is an order of the nodes' steps in which no message comes before it is sent, `order` finds one, and the
-/// order found runs if any such order does.
+/// If there is an order of the nodes' steps that keeps each node's own order and in which no message comes before it is
+/// sent, `order` finds one. The order found runs if any such order does, and ends in the same cluster.
 pub fn found_law()
     ensures order_of { OrderOfLaw }
     ensures found_run { FoundRunLaw }

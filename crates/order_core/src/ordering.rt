@@ -1,5 +1,5 @@
-//! Finds an order of steps: takes the first step that can come next, again and again. If the given steps deliver no
-//! message before it is sent, their order stays.
+//! Finds an order of steps: again and again it takes the first of the given steps that is the next one of its node and
+//! delivers no unsent message. If the given steps deliver no message before it is sent, their order stays.
 //!
 //! For each node the search keeps the place of the node's next step, and the number of messages that the node has sent.
 //! It chooses among the next steps of the nodes.
@@ -20,7 +20,7 @@ struct Stand {
     sent: usize,
 }
 
-/// One more than the greatest node of a mark; 0 without marks.
+/// One more than the greatest node number in the marks; 0 if there are no marks.
 fn count_nodes(marks: &[Mark]) -> usize
     ensures { (i : ℕ) (m : PlainMark) → slice_get marks.now i ≡ Some m → m.node < result }
 {

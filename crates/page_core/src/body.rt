@@ -1,6 +1,7 @@
-//! What stands on each page before its script runs.
+//! The HTML with which the body of each page begins.
 
-/// What stands on each page before its script runs, up to the still picture.
+/// The HTML of a page's body up to the still picture, the same on each page. `main` stays hidden until the script has
+/// filled it.
 pub const BODY: &str =
     r#"<p id="wait">The script of this page did not run. With scripts off the run follows here.</p>
 <main hidden>

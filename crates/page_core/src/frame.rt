@@ -1,11 +1,11 @@
 //! What stands between the parts of a page.
 
-/// What stands before the style. The policy names the digests of the script, of the style and of the picture's style,
-/// so a browser takes no others.
+/// What stands before the style. Its policy names the digests of the script, the style and the picture's style, so a
+/// browser runs no other script and applies no other style.
 pub const HEAD: &str = r#"<!doctype html>
 <html lang="en">
 <meta charset="utf-8">
-<meta http-equiv="Content-Security-Policy" content="default-src 'none'; script-src 'sha256-21T0l71hAxVtdz4Ovi0lZAH5lFbVt8YY7DKcHKFhf0E='; style-src 'sha256-f+eXaAytge8XmyVWlhZ9rcXKyZ1noLmXSfayaIXKTFY=' 'sha256-q4MnRjbjrnzgSyy6+iBKwnSXtEkaPMSShdTCfpUVpwk='; base-uri 'none'; form-action 'none'">
+<meta http-equiv="Content-Security-Policy" content="default-src 'none'; script-src 'sha256-vebYC+yjbEIPhGTVszAmu8FtaAYH5JSn3NuN+8X9urM='; style-src 'sha256-f+eXaAytge8XmyVWlhZ9rcXKyZ1noLmXSfayaIXKTFY=' 'sha256-q4MnRjbjrnzgSyy6+iBKwnSXtEkaPMSShdTCfpUVpwk='; base-uri 'none'; form-action 'none'">
 <meta name="viewport" content="width=device-width,initial-scale=1">
 <title>presence_bench</title>
 <style>"#;

@@ -68,7 +68,7 @@ fn put_after<A: Allocator>(page: &mut Vec<u8, A>) -> Result<(), AllocError>
     Ok(())
 }
 
-/// Appends the report, and what stands around it between the still picture and the data.
+/// Appends all that stands between the still picture and the data: the report, escaped, and what frames the report.
 #[tactic(auto, unfolding(crate::specs::Page::report_text))]
 fn put_report<A: Allocator>(page: &mut Vec<u8, A>, report: &[u8]) -> Result<(), AllocError>
     ensures { OnOk result (page.new.items ≡ page.old.items ++ report_text report.now) }

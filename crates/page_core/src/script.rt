@@ -11,10 +11,10 @@ const own = names || plain, N = own.length, ROW = 20, CHUNK = 20, END = Infinity
 
 const many = (k, word) => `${k} ${word}${k === 1 ? "" : "s"}`;
 
-// No text ends its row, or turns it round.
+// Escapes each character that would end a row or turn its text round.
 const safe = text => text.replace(/[\p{C}\u2028\u2029]/gu, c => `\\u{${c.codePointAt().toString(16)}}`);
 const quoted = text => safe(/^[^\s"\p{C}]+$/u.test(text) ? text : JSON.stringify(text)), nodes = own.map(quoted);
-// Of logs a word stands for a value: bytes as `%XX`, or `%=` and a text; a cut one ends with `~` and a number.
+// In a run from logs a word spells a value: a string, or `%=` and JSON, with bytes as `%XX`; cut, it ends in `~NUMBER`.
 const ofJson = json => json[0] === '"' ? quoted(JSON.parse(json)) : safe(json);
 const brief = (text, mark) => { const c = [...text.slice(0, 200)]; return c.length > 80 ? c.slice(0, 79).join("") + "\u2026" + mark : text; };
 function value(word) {
@@ -29,7 +29,8 @@ function spoken(line) {
   return [named(node), verb, ...rest.map(/^(join|update|leave)/.test(verb) ? (w, k) => k ? value(w) : process(w) : named)].join(" ");
 }
 calls.forEach(c => { c.verb = c.line.split(" ")[1]; if (events) c.line = spoken(c.line); });
-// Each event in its order: one that is no call is a row, too. A full bench recorded no more calls.
+// Puts the events of the logs into `calls` in their order, also those that are no calls. An event for which a full
+// bench recorded no call is left out.
 if (events) {
   const asked = calls.splice(0);
   for (const { line, time, node, online } of events) {
@@ -40,7 +41,7 @@ if (events) {
   }
 }
 
-// What is looked up once. A place is that of a call in `calls`, from 0.
+// What is worked out once. A place is the index of a call in `calls`.
 const places = [...calls.keys()];
 const at = []; // of a step: its place
 const gone = calls.map(() => END); // by place: where it was taken back
@@ -205,7 +206,7 @@ function words(c) {
   return w;
 }
 
-// `shown`: the places with a row; `line`: a place's row, or that of the next one shown
+// `shown` has the places with a row, and `line` the row of each place, or of the next place that has one.
 let shown, line, chunks = [], arrows, marks;
 const Y = i => line[i] * ROW + ROW / 2, bottom = () => shown.length * ROW, isShown = i => shown[line[i]] === i;
 const rowOf = i => $("c" + (i + 1));
@@ -269,7 +270,7 @@ function lay() {
   paint("base", items);
 }
 
-// What was looked for
+// What the reader looks for: the text, the presences that it finds, and what is shown of the run
 let query = "", found = new Set(), touching = new Set(), bars = [], why = -1;
 let only = false, past = false, future = false, tab = "online";
 const usual = new Set(order.map(topicKey)).size > 40;
@@ -300,7 +301,7 @@ function look(text) {
   $("only").disabled = !found.size;
   if (!found.size) { only = false; why = -1; }
 }
-// at the cursor: a presence's last hop at a node, and the last change of its list
+// up to the cursor: a presence's last hop at a node, and the last call that changed whether the node lists it
 const hop = (p, n) => stood(p, n, cur);
 const change = (p, n) => listed[p].findLast(h => h[1] === n && h[0] <= cur)?.[0];
 function chain(p, n) {
@@ -323,7 +324,7 @@ function closure(i, ahead) {
   return set;
 }
 
-// The step, beside
+// What is told of the step at the cursor, beside the picture
 const title = text => el("h3", "", text);
 function link(i) {
   const a = el("a", gone[i] < END ? "gone" : "", `${calls[i].step || "\u00b7"} ${calls[i].line}`);
@@ -483,7 +484,7 @@ function below() {
     path("lane", tab === "seen" ? "" : nodes.map((_, n) => down(n)).join("")), ...[...items].map(([cls, d]) => path(cls, d)), ...texts));
 }
 
-// The whole run, small
+// The whole run as a small picture
 let still = null, due = false; // the run without the cursor
 function small(fresh) {
   if (fresh) still = null;
@@ -521,7 +522,7 @@ function shrink() {
   fill("--sel", 0, $("time").scrollTop / ROW * f, w, (h - top) / ROW * f);
 }
 
-// One cursor for all
+// Shows the cursor, the call `cur`, in each part of the page; `marked` and `faded` are the elements that are so for it
 let marked = [], faded = [];
 function show(scroll) {
   marked.forEach(e => { e.classList.remove("here"); e.removeAttribute("aria-selected"); });
@@ -583,7 +584,7 @@ function seek(dir, test) {
   if (dir < 0 && test === any) go(-1);
 }
 
-// The link
+// The part of the page's address behind `#`: `hash` writes into it what is shown, and `load` reads it.
 let timer = 0;
 function hash(i, n = why, text = query) {
   const w = words_of(text).map(encodeURIComponent), out = [calls[i]?.step ? "step=" + calls[i].step : "call=" + (i + 1)];
@@ -655,7 +656,7 @@ const any = () => true;
 const here = c => { const n = calls[cur]?.node ?? 0; return n < 0 || c.node === n; };
 const changed = c => [...c.minus, ...c.plus].some(p => !found.size || found.has(p));
 const trouble = c => c.notes.some(x => !/undone|all/.test(x));
-// why at the next node; or find what the step changed
+// If nothing is looked for, looks for what the step changed; else asks why at the next node, or at the one before.
 const ask = dir => {
   const c = calls[cur], p = c && [...c.minus, ...c.plus][0];
   if (!found.size && p !== undefined) find(topicKey(p), c.node);
@@ -696,7 +697,7 @@ $("time").onscroll = () => small();
 onresize = matchMedia("(prefers-color-scheme:dark)").onchange = () => small(true);
 onhashchange = load;
 
-// Once
+// What is put on the page once, when it is opened
 const size = [many(N, "node"), many(at.filter(i => i >= 0).length, "step"), many(presences.length, "presence"), ...events ? [many(calls.filter(c => c.online).length, "list")] : []].join(", ");
 document.title += ": " + size;
 $("sum").append(size);

@@ -1,7 +1,7 @@
-//! What the delivery of a message changes at a node: `NAME,CLOCK,STANDING` of each dot that stands otherwise after it.
-//! And what the node misses: `NAME,CLOCK,MORE` of each name that the message has dots of and the node doesn't know.
-//! NAME is the number of a name; STANDING is 0 unseen, 1 live, 2 gone. In the second form CLOCK is the name's context
-//! clock in the message, and MORE is how many clocks the name's cloud has there.
+//! What the delivery of a message changes at a node, its hops: `NAME,CLOCK,STANDING` of each dot that stands otherwise
+//! after the delivery. And what the node misses: `NAME,CLOCK,MORE` of each name that the message has dots of and the
+//! node doesn't know. NAME is the number of a name; STANDING is 0 unseen, 1 live, 2 gone. In the second form CLOCK is
+//! the name's context clock in the message, and MORE is how many clocks the name's cloud has there.
 ghost use Rattle.std.specs.Prelude.{◌≡◌, ◌++◌, ◌<◌, ◌≤◌, IfOk, OnOk, option_map};
 ghost use Rattle.std.specs.List.{flat_map};
 ghost use Rattle.store_core.specs.Stores.{store_of};

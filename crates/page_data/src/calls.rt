@@ -22,8 +22,8 @@ use report_core::{answer, node, step_diff};
 use std::alloc::Allocator;
 use transcript_core::put_call;
 
-/// Appends the dots of the rows that left and joined the online list of a node, and what changed in what the node has
-/// seen. `before` is what the node had seen before the call.
+/// Appends the dots of the rows that left and joined the online list of a node, and what the node has seen of each name
+/// for which that changed. `before` is what the node had seen before the call; `count` is the number of names.
 #[tactic(auto, unfolding(crate::specs::PageData::changed_text))]
 fn put_changed<'a, B: Allocator>(
     text: &mut String<&'a B>,
@@ -77,8 +77,8 @@ fn put_taken_head<A: Allocator>(
     Ok(text.push_str(reads)?)
 }
 
-/// Appends what the page tells of a step that was taken. `bench` is the bench after the step; `diff` says how the step
-/// changed the online list of its node.
+/// Appends what the page tells of a step that was taken. `bench` is the bench after the step; `before` is what
+/// `Before::of` gave just before it; `diff` says how the step changed the online list of its node.
 #[tactic(auto, unfolding(crate::specs::PageData::taken_text))]
 fn put_taken<'a, B: Allocator>(
     text: &mut String<&'a B>,

@@ -77,7 +77,7 @@ fn put_cast<A: Allocator, C: Allocator>(
     Ok(text.push_str("],\"calls\":[")?)
 }
 
-/// The data up to its last call.
+/// The data of a page, up to the last call. What closes the list of calls and the data is still to be appended.
 #[tactic(auto, unfolding(crate::specs::PageData::run_text))]
 fn run_text<'a, B: Allocator>(
     alloc: &'a B,
@@ -98,8 +98,9 @@ fn run_text<'a, B: Allocator>(
     Ok(text)
 }
 
-/// The data of the page of a bench, as JSON: the names of nodes and consoles (`consoles`), and what the page tells of
-/// each recorded call, made again on a new bench with the same names and limits. No `<` stands in the data.
+/// The data of the page of a bench, as JSON: the names of the nodes, the names of the consoles, which `consoles` has,
+/// and what the page tells of each recorded call. To tell it, this makes the calls again on a new bench with the same
+/// names and limits. No `<` stands in the data.
 #[tactic(auto, unfolding(crate::specs::PageData::page_data))]
 pub fn page_data<'a, B: Allocator>(
     alloc: &'a B,

@@ -20,13 +20,13 @@ pub fn change_law()
 {}
 
 /// The rows that left and joined a node's online list during a sequence of calls lead from the list before these calls
-/// to the list after them.
+/// to the list after them, if the bench had come to its state by calls.
 pub fn rows_law()
     ensures { RowsLaw }
 {}
 
 /// Applied in order to what a node had seen before a sequence of calls, the `dots` of these calls lead to what the
-/// node has seen after them.
+/// node has seen after them, if the bench had come to its state by calls.
 pub fn dots_law()
     ensures { DotsLaw }
 {}
@@ -37,7 +37,8 @@ pub fn past_law()
     ensures { PastLaw }
 {}
 
-/// Applied to how a dot stood before a delivery, the hops of the delivery give how the dot stands after it.
+/// The hops of a delivery tell of the dots of the first `count` names. Applied to how such a dot stood before the
+/// delivery, they give how the dot stands after it.
 pub fn hops_law()
     ensures { HopsLaw }
 {}

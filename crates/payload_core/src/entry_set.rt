@@ -84,7 +84,8 @@ impl<A: Allocator> EntrySet<A> {
         self.by_dot.walk()
     }
 
-    /// A walk over the entries of the name by rising clock. It skips the other names' entries, a block at a time.
+    /// A walk over the entries of the name by rising clock. It looks at every block, and skips the blocks of other
+    /// names.
     pub fn walk_of(&self, name: u16) -> Walk<'_, A>
         ensures { result ≡ listed (entries_of_names (λ n. n == name) self.now.map) }
     {
@@ -94,7 +95,13 @@ impl<A: Allocator> EntrySet<A> {
     /// The name's dot of least clock whose entry tracks this process under this topic and key; `None` if there is none.
     /// An index of the name finds the dot by one look-up. Without such an index, or once several of the name's entries
     /// had the mark of this process, topic and key at the same time, the call walks over the name's entries.
-    pub fn find(&self, name: u16, pid: u64, topic: &Word<A>, key: &Word<A>) -> Option<Dot>
+    pub fn find<'call>(
+        &'call self,
+        name: u16,
+        pid: u64,
+        topic: &'call Word<A>,
+        key: &'call Word<A>,
+    ) -> Option<Dot>
         ensures { result ≡ slice_get (dots_of name (is_tracked_as pid topic.now key.now) self.now.map) 0 }
     {
         match self.by_mark.holder(name, mark(pid, topic, key)) {
@@ -153,7 +160,7 @@ impl<A: Allocator> EntrySet<A> {
     }
 
     /// Whether both have the same entries, whatever their room. It takes no memory.
-    pub fn same(&self, other: &EntrySet<A>) -> bool
+    pub fn same<'call>(&'call self, other: &'call EntrySet<A>) -> bool
         ensures { IsTrue result ↔ (self.now.map ≡ other.now.map) }
     {
         self.by_dot.same(&other.by_dot)
@@ -232,8 +239,9 @@ impl<A: Allocator + Copy> EntrySet<A> {
     }
 
     /// Takes out the entry of the dot, as a handle: moved, or shared if other sets share its block's list. `Ok(None)`
-    /// if there is no such entry. The room never falls. An `Err` changes nothing: the count of an entry's copies is at
-    /// its limit, or memory was refused.
+    /// if there is no such entry. From a shared list an entry may fail to be taken, and then nothing changes: if as
+    /// many handles share it as may, or if it can't be shared and memory for a copy of it is refused. The room never
+    /// falls.
     pub fn take(&mut self, dot: Dot) -> Result<Option<Handle<A>>, Oom>
         ensures entry { IfOk result (λ taken. taken ≡ option_map (entry_of dot) (fin.get self.old.map dot)) }
         ensures map { OnOk result (self.new.map ≡ fin.remove self.old.map dot) }
@@ -247,8 +255,8 @@ impl<A: Allocator + Copy> EntrySet<A> {
         Ok(Some(entry))
     }
 
-    /// Inserts a new entry, which other sets may share. If memory is refused, even though room was made, or if the set
-    /// has too many entries, the entry is dropped, and the set has the same entries as before. The index notes the
+    /// Inserts a new entry, which other sets may share. Memory may be refused although room was made. Then, or if the
+    /// set has too many entries, the entry is dropped, and the set has the same entries as before. The index notes the
     /// entry first, and forgets one that is dropped.
     pub fn put(&mut self, entry: Handle<A>) -> Result<(), Oom>
         requires { fin.get self.old.map entry.dot ≡ None }
@@ -299,7 +307,7 @@ impl<A: Allocator + Copy> EntrySet<A> {
         self.by_dot.leaving(&message.by_dot, seen, names)
     }
 
-    /// A set of the entries of these names, without an index.
+    /// A set of the entries of these names, with neither index nor room.
     pub fn only(&self, names: NameSet) -> Result<EntrySet<A>, Oom>
         ensures { IfOk result (λ part. part.map ≡ entries_of_names (set.contains names) self.now.map) }
     {
@@ -315,7 +323,7 @@ impl<A: Allocator + Copy> EntrySet<A> {
         self.by_dot.dots_of_process(name, pid)
     }
 
-    /// A copy of the set, without an index.
+    /// A copy of the set, with neither index nor room.
     pub fn try_copy(&self) -> Result<EntrySet<A>, Oom>
         ensures { IfOk result (λ copy. copy.map ≡ self.now.map) }
     {

@@ -153,7 +153,7 @@ impl<'a, B: Allocator> Outbox<'a, B> {
         true
     }
 
-    /// A copy of the outbox, with its limit.
+    /// A copy of the outbox, with the same limit.
     pub fn try_copy(&self) -> Result<Outbox<'a, B>, Oom>
         ensures limit { IfOk result (λ copy. copy.limit ≡ self.now.limit) }
         ensures messages { IfOk result (λ copy. copy.messages ≡ self.now.messages) }

@@ -91,7 +91,7 @@ impl<A: Allocator> Payload<A> {
     }
 
     /// Whether both have the same sender, dots and entries, and ask for the same names or for none. It takes no memory.
-    pub fn same(&self, other: &Payload<A>) -> bool
+    pub fn same<'call>(&'call self, other: &'call Payload<A>) -> bool
         ensures { IsTrue result ↔ (self.now ≡ other.now) }
     {
         other.sender == self.sender
@@ -100,7 +100,7 @@ impl<A: Allocator> Payload<A> {
             && ask_alike(self.asked, other.asked)
     }
 
-    /// A copy of the message.
+    /// A copy of the message. The copy's entry set has neither index nor room.
     pub fn try_copy(&self) -> Result<Payload<A>, Oom>
     where
         A: Copy,

@@ -94,7 +94,7 @@ impl<A: Allocator> TrackIndex<A> {
         }
     }
 
-    /// If the entry is of the index's name, notes that it left its dot. The room never falls.
+    /// Notes that the entry left its dot; an entry of another name changes nothing. The room never falls.
     pub fn remove(&mut self, entry: &Entry<A>)
         ensures others { (n m : ℕ) (d : Dot) → d ≢ entry.now.dot → Holds (holder_of self.old n m) d → Holds (holder_of self.new n m) d }
         ensures room { self.old.room ≤ self.new.room }
@@ -133,7 +133,7 @@ impl<A: Allocator + Copy> TrackIndex<A> {
         made
     }
 
-    /// If the entry is of the index's name, notes that it came to its dot. Room must have been made.
+    /// Notes that the entry came to its dot; an entry of another name changes nothing. Room must have been made.
     pub fn add(&mut self, entry: &Entry<A>)
         requires { 0 < self.old.room }
         ensures added { Holds (holder_of self.new entry.now.dot.name (mark_of entry.now.pid entry.now.topic entry.now.key)) entry.now.dot }

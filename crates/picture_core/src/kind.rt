@@ -1,10 +1,10 @@
-//! `Kind`: how a call looks.
+//! `Kind`: how a call or a message looks.
 ghost use Rattle.std.specs.Prelude.{◌≡◌};
 ghost use Rattle.picture_core.specs.Shapes.{class_of, kind_of};
 
 use crate::standing::Standing;
 
-/// How a call looks.
+/// How a call or a message looks. A message has one of the first three kinds.
 #[derive(Clone, Copy, Debug, PartialEq, Eq)]
 pub enum Kind {
     /// A step that remains.

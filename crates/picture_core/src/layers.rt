@@ -21,9 +21,9 @@ use payload_core::Oom;
 use report_core::{Acted, ask};
 use std::alloc::Allocator;
 
-/// What is drawn of the recorded calls: the messages and the rows, which lie over the lanes; how many bytes the longest
-/// words of a row have; and the changes of the lanes. At such a change a node begins or stops listing what is asked
-/// about.
+/// What is drawn of the recorded calls: the messages and the rows, which lie over the lanes; how many bytes the words
+/// of a drawn row have at most (`longest`); and the changes of the lanes. At such a change a node begins or stops
+/// listing what is asked about.
 #[derive(Drop)]
 pub struct Layers<'a, B: Allocator> {
     pub messages: String<&'a B>,
@@ -42,8 +42,8 @@ pub fn with_length(longest: u32, bytes: usize) -> u32
     if longest < bytes { bytes } else { longest }
 }
 
-/// Appends a call's row to the rows of `layers`, and notes there how long the row's words are. `changed` is the node
-/// that the call changed.
+/// Appends a call's row to `layers.rows`, and raises `layers.longest` if the row's words are longer than that.
+/// `changed` is the node that the call changed.
 #[tactic(auto, unfolding(crate::specs::Rows::row_told))]
 fn put_drawn<'a, N: Allocator, B: Allocator>(
     names: &Names<N>,

@@ -53,6 +53,7 @@ impl<A: Allocator> Asked<A> {
     }
 }
 
+/// Whether the row has the topic and key that are asked about.
 fn is_asked<A: Allocator, R: Allocator>(asked: &Asked<A>, row: &OnlineRow<R>) -> bool
     ensures { result ≡ is_asked asked.now row.now }
 {
@@ -100,8 +101,8 @@ fn rows_at<'a, B: Allocator>(
     }
 }
 
-/// Appends a change of the node's lane, unless the node listed what is asked about both before (`was`) and `now`, or
-/// neither time.
+/// Appends a change of the node's lane if the node began or stopped listing what is asked about, that is, if `was` and
+/// `now` differ.
 fn push_turn<A: Allocator>(
     turns: &mut Vec<Turn, A>,
     row: u32,
@@ -120,7 +121,7 @@ fn push_turn<A: Allocator>(
 
 /// Appends a change of the node's lane, if the call in this row made the node begin or stop listing what is asked
 /// about. The node's online list is made only if a row of that topic and key left or joined. `bench` is the bench
-/// after the call.
+/// after the call, and `change` how the call changed the node's online list.
 fn note_change<'a, B: Allocator, W: Allocator>(
     bench: &Bench<'a, B>,
     turns: &mut Vec<Turn, &'a B>,
@@ -185,7 +186,7 @@ fn put_turn<A: Allocator>(path: &mut String<A>, nodes: u32, turn: Turn) -> Resul
     Ok(write!(path, "V{down}")?)
 }
 
-/// Appends a line to where row `last` begins, if `listing`: the node still lists what is asked about.
+/// Appends a line to where row `last` begins, if `listing`, that is, if the node still lists what is asked about.
 fn put_end<A: Allocator>(path: &mut String<A>, listing: bool, last: u32) -> Result<(), Oom>
     ensures { OnOk result (string_bytes path.new ≡ string_bytes path.old ++ end_path listing last) }
 {

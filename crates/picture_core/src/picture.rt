@@ -38,7 +38,7 @@ text.back{fill:#555;stroke:none}\
 circle.refused{fill:white;stroke:#c01818}\
 text.refused{fill:#c01818}";
 
-/// Appends `STYLE`, in an element.
+/// Appends a `style` element with the text `STYLE`.
 #[tactic(auto, unfolding(crate::specs::Pictures::style, crate::specs::Pictures::style_text))]
 fn put_style<A: Allocator>(text: &mut String<A>) -> Result<(), Oom>
     ensures { OnOk result (string_bytes text.new ≡ string_bytes text.old ++ text_of style) }
@@ -91,7 +91,7 @@ fn head_height<N: Allocator>(names: &Names<N>) -> u64
     20 + wide(longest_name(names))
 }
 
-/// Appends the names of the nodes, each above its lane.
+/// Appends the names of the nodes, each above its lane. The lanes begin `height` units down.
 fn put_names<'a, A: Allocator, N: Allocator, B: Allocator>(
     text: &mut String<A>,
     names: &Names<N>,
@@ -124,7 +124,7 @@ fn put_lanes<'a, A: Allocator, N: Allocator, B: Allocator>(
     Ok(())
 }
 
-/// Appends the thick parts of a node's lane, if the node is asked about.
+/// Appends the thick parts of a node's lane, down to where row `last` begins, if the node is asked about.
 #[tactic(auto, using(crate::proofs::Texts::nothing_end))]
 fn put_bar_at<'a, A: Allocator, B: Allocator>(
     text: &mut String<A>,
@@ -147,7 +147,7 @@ fn put_bar_at<'a, A: Allocator, B: Allocator>(
     put_bar(text, &path)
 }
 
-/// Appends the thick parts of the lanes of the nodes that are asked about.
+/// Appends the thick parts of the lanes of the nodes that are asked about, down to where row `last` begins.
 fn put_bars<'a, A: Allocator, N: Allocator, B: Allocator>(
     text: &mut String<A>,
     names: &Names<N>,
@@ -259,7 +259,7 @@ fn put_layer<A: Allocator, B: Allocator>(text: &mut String<A>, layer: &String<B>
     Ok(text.push_str(layer.as_str())?)
 }
 
-/// How wide the picture is, if the longest words of a row have `longest` bytes together.
+/// How wide the picture is. `longest` says how many bytes the words of a drawn row have at most.
 #[tactic(auto, unfolding(crate::specs::Pictures::width))]
 fn width(nodes: u32, longest: u32) -> u64
     ensures { result ≡ width nodes longest }

@@ -1,5 +1,5 @@
 //! Where things stand: a row for each call, 20 units high, and a lane for each node. Lengths are in units of the
-//! picture.
+//! picture; `nodes` is the number of nodes.
 ghost use Rattle.std.specs.Prelude.{◌≡◌, ◌≤◌};
 ghost use Rattle.picture_core.specs.Plans.{across, aside, down, pitch, slots, waits_at, wide};
 

@@ -21,7 +21,8 @@ impl Range {
         self.first <= row && row < self.last
     }
 
-    /// Whether a message from row `from` to row `to` is drawn, at least in part.
+    /// Whether a message from row `from` to row `to` begins above the end of the range, and ends in the range's first
+    /// row or below. Such a message is drawn, at least in part, if the range has any rows.
     pub fn shows(self, from: u32, to: u32) -> bool
         ensures { result ≡ is_seen self from to }
     {

@@ -110,7 +110,8 @@ pub fn put_message_of<'a, A: Allocator, B: Allocator>(
     }
 }
 
-/// How a call looks: by whether its step remains and is painted, if the call took one, and else by its reply.
+/// How a call looks: as its step's `Standing` says, if the call took a step; else `Back` if it took one back, and
+/// `Refused` if it was refused.
 #[tactic(auto, unfolding(crate::specs::Rows::looks))]
 fn looks(steps: &[Drawn], reply: Reply) -> Kind
     ensures { result ≡ looks steps.now reply }

@@ -18,7 +18,7 @@ fn put_heading<A: Allocator>(text: &mut String<A>, title: &str) -> Result<(), Oo
     put_leaf(text, "title", &[], title)
 }
 
-/// Appends an element that has a `title` element, and nothing else in it.
+/// Appends an element with nothing in it but a `title` element.
 fn put_titled<A: Allocator>(
     text: &mut String<A>,
     tag: &str,
@@ -78,7 +78,8 @@ fn upwards<'a, B: Allocator>(right: u64, down: u64, alloc: &'a B) -> Result<Stri
     Ok(place)
 }
 
-/// The value of a `transform` that puts the name of a node above its lane, to be read upwards.
+/// The value of a `transform` that puts the name of a node above its lane, which begins `height` units down. The name
+/// is to be read upwards.
 fn name_place<'a, B: Allocator>(
     nodes: u32,
     node: u32,
@@ -180,7 +181,7 @@ fn path_between<'a, B: Allocator>(
 }
 
 /// The path of a message: along the row of its send, down beside the lane of the node that takes it, and to the mark of
-/// the delivery. `from` and `to` are each a row and a node.
+/// the delivery. `from` and `to` are each a row and a node; `source` is the number of the step that sent the message.
 fn message_path<'a, B: Allocator>(
     nodes: u32,
     from: (u32, u32),

@@ -11,7 +11,7 @@ use std::alloc::Allocator;
 /// Whether a step that was taken remains, and whether it is painted.
 #[derive(Clone, Copy, Debug, PartialEq, Eq)]
 pub enum Standing {
-    /// The step remains.
+    /// The step remains, and isn't painted.
     Remains,
     /// The step remains, and is painted as a part of the future that is asked about.
     Painted,
@@ -28,6 +28,7 @@ pub struct Drawn {
 }
 
 impl Drawn {
+    /// What stands in for a step that was never taken.
     const NOTHING: Drawn = Drawn {
         row: 0,
         standing: Standing::Undone,

@@ -1,4 +1,4 @@
-//! Draws a picture that is asked for by words.
+//! Draws the picture that a `View` asks for. A `View` has node, topic and key as texts.
 ghost use Rattle.std.specs.Prelude.{◌≡◌, Some, IfErr, IfOk, option_copied};
 ghost use Rattle.svg_core.specs.Grammar.{IsDocument};
 ghost use Rattle.picture_core.specs.Views.{Asks, AsksOf, IsNoNode, IsNode, IsPicture, Refuses, whole_picture};

@@ -46,7 +46,7 @@ fn put_row_words<A: Allocator, R: Allocator>(
 }
 
 /// The words beside a call in the picture: the call as a line of a script, the words for its reply, and those for what
-/// left and joined the online list of its node.
+/// left and joined the online list of the node that the call changed.
 #[tactic(auto, unfolding(crate::specs::Words::words_told))]
 pub fn words_of<'a, B: Allocator, N: Allocator, C: Allocator>(
     names: &Names<N>,

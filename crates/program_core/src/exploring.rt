@@ -21,7 +21,8 @@ fn about_of<'w>(chosen: command_line::About<'w>) -> About<'w>
     }
 }
 
-/// The question that was chosen, as `explore_report` takes it.
+/// The question that was chosen, as `explore_report` takes it: at most `lost` deliveries are missing, at most `again`
+/// come a second time, and at most `states` states are kept.
 pub fn asked_of<'w>(
     chosen: command_line::About<'w>,
     lost: usize,

@@ -105,9 +105,9 @@ fn fault_of(fault: ImportFault) -> Fault
     }
 }
 
-/// What is printed of the events, in `text`. `differs`: a check found where the bench and the real nodes part, and the
-/// text tells it. `left_out`: the numbers of the lines that were left out. `full`: the history of the bench in the text
-/// is full, so later steps may be missing; it is `false` for a script and for a check.
+/// What is printed of the events, in `text`. `differs` says whether a check found that the bench and the real nodes
+/// part. `left_out` has the numbers of the lines that were left out. `full` says whether the history of the bench in
+/// the text is full, so that later steps may be missing; it is `false` for a script and for a check.
 #[derive(Drop)]
 pub struct Made<A: Allocator> {
     pub text: Text<A>,
@@ -280,8 +280,10 @@ fn print_made<B: Allocator, W: Write>(writer: &mut W, made: &Made<&B>) -> Result
     Ok(())
 }
 
-/// Reads the events of logs, and prints a script of them, or what else was chosen. Before it prints, it tells on
-/// `errors` which lines were left out, if any were, and that the history is full, if it is.
+/// Reads the events of logs, and prints a script of them, or what else the command line chose by `check`, `lines`,
+/// `lenient` and `form`. Before it prints, it tells on `errors` which lines were left out, if any were, and that the
+/// history is full, if it is. If the events are refused, `aside` gets the hint, if there is one. `steps` counts the
+/// calls of `read`.
 pub fn import_events<B: Allocator, R: Read, W: Write, E: Write, L: Ledger>(
     heap: Global,
     alloc: &B,

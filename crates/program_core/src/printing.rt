@@ -228,10 +228,11 @@ fn explore_bench<B: Allocator, R: Read, W: Write, L: Ledger, C: Clock, E: Write>
 }
 
 /// Does what was chosen. At a prompt it answers each line before it reads the next. Else it reads the input first, and
-/// writes nothing before the whole text is ready. `limits` are those of the bench, unless the input is a session, which
-/// has its own. JSON, hints and lines on how far work has come take their memory from `heap`; benches and all other
-/// texts take theirs from `alloc`. `steps` counts the calls of `read`. On `errors` it writes only what is missing from
-/// an import, the signs of a prompt on a terminal, and how far long work has come.
+/// writes nothing before the whole text is ready. If the input is refused, `aside` gets the hint, if there is one.
+/// `limits` are those of the bench, unless the input is a session, which has its own. JSON, hints and lines on how far
+/// work has come take their memory from `heap`; benches and all other texts take theirs from `alloc`. `steps` counts
+/// the calls of `read`. On `errors` it writes only what is missing from an import, the signs of a prompt on a terminal,
+/// and how far long work has come.
 pub fn answer<
     B: Allocator + Sync,
     T: Threads + Wait + Sync,

@@ -58,8 +58,8 @@ fn outcome<'a, B: Allocator>(
     }
 }
 
-/// The bench that a race of the script's lines leaves. `NotAllowed` if a line isn't an act. The lines of different
-/// actors may come in any order.
+/// The bench that a race of the script's lines leaves; `NotAllowed` if a line isn't an act, or else the fault of the
+/// race. The lines of different actors may come in any order.
 pub fn race_script<'a, B: Allocator + Sync, T: Threads + Wait + Sync>(
     rt: &T,
     alloc: &'a B,

@@ -148,7 +148,7 @@ fn told_text<'a, B: Allocator>(
     text
 }
 
-/// The first refused line of a script that is played; `None` if no line is refused, or the run isn't strict.
+/// The first act or unwind that is refused when the script is played; `None` if none is, or the run isn't strict.
 fn refused_line<'a, B: Allocator>(
     alloc: &'a B,
     script: &Script<&'a B>,

@@ -15,6 +15,7 @@ fn put_tried<A: Allocator>(text: &mut String<A>, work: Tried) -> Result<(), Allo
     writeln!(text, "presence_bench: {done} of {all} changes tried")
 }
 
+/// The line that `put_tried` appends, as a text of its own.
 pub(crate) fn tried_line<A: Allocator>(alloc: A, work: Tried) -> Result<String<A>, AllocError>
     ensures { IfOk result (λ text. string_bytes text ≡ tried_line work) }
 {
@@ -38,6 +39,7 @@ fn put_walked<A: Allocator>(text: &mut String<A>, work: Walked) -> Result<(), Al
     )
 }
 
+/// The line that `put_walked` appends, as a text of its own.
 pub(crate) fn walked_line<A: Allocator>(alloc: A, work: Walked) -> Result<String<A>, AllocError>
     ensures { IfOk result (λ text. string_bytes text ≡ walked_line work) }
 {

@@ -35,7 +35,7 @@ fn put_help<A: Allocator + Copy>(
     put_fault(alloc, answer, number, FaultKind::WrongCount)
 }
 
-/// Appends nothing, if no word follows `:quit`; else `WrongCount`.
+/// Appends nothing, if no word follows `:quit`, since such a line only ends a prompt; else `WrongCount`.
 fn put_quit<A: Allocator + Copy>(
     alloc: A,
     answer: &mut Vec<u8, A>,
@@ -107,8 +107,8 @@ fn put_explanation<'a, B: Allocator>(
     }
 }
 
-/// Appends the explanation that `words`, those after `:explain`, ask for; `NoNodes` before the nodes are named,
-/// `WrongCount` unless there are three words.
+/// Like `put_explanation`, for the question that `words`, those after `:explain`, ask; `NoNodes` before the nodes are
+/// named, `WrongCount` unless there are three words.
 #[tactic(auto, unfolding(crate::specs::Answers::explained))]
 fn put_explained<'a, B: Allocator>(
     prompt: &Prompt<'a, B>,
@@ -145,14 +145,14 @@ fn put_whatif<'a, B: Allocator>(
         Ok(text) => put_text(answer, text.as_str()),
         Err(WhatifFault::NoSuchNode) => put_fault(alloc, answer, number, FaultKind::BadName),
         Err(WhatifFault::NoWord) => put_fault(alloc, answer, number, FaultKind::TooLong),
-        // no change is asked for by its number
+        // `whatif_asked` asks for no change by its number
         Err(WhatifFault::NoSuchChange { changes: _ }) => unreachable!(),
         Err(WhatifFault::OutOfMemory) => Err(Oom),
     }
 }
 
-/// Appends what `words`, those after `:whatif`, ask for; `NoNodes` before the nodes are named, `WrongCount` unless
-/// there are three words.
+/// Like `put_whatif`, for the question that `words`, those after `:whatif`, ask; `NoNodes` before the nodes are named,
+/// `WrongCount` unless there are three words.
 #[tactic(auto, unfolding(crate::specs::Answers::changes))]
 fn put_changes<'a, B: Allocator>(
     prompt: &Prompt<'a, B>,
@@ -173,7 +173,7 @@ fn put_changes<'a, B: Allocator>(
     put_whatif(bench, alloc, answer, number, question)
 }
 
-/// Appends the answer to a line with these words, which a script would refuse with the fault `kind`.
+/// Appends the answer to a line that has these words, and that a script would refuse with the fault `kind`.
 #[tactic(auto, unfolding(crate::specs::Answers::worded))]
 fn put_worded<'a, B: Allocator>(
     prompt: &Prompt<'a, B>,
@@ -208,16 +208,16 @@ fn put_worded<'a, B: Allocator>(
     put_run(prompt, alloc, answer, number, kind, first, rest)
 }
 
-/// Whether the fault may be one of a line's first word, so that the line may be one of the prompt's own.
+/// Whether a line with this fault may be one of the prompt's own. A script refuses such a line with `NoNodes` before
+/// the nodes are named, and with `UnknownWord` after that.
 fn is_first(kind: FaultKind) -> bool
     ensures { result ≡ is_first kind }
 {
     matches!(kind, FaultKind::UnknownWord | FaultKind::NoNodes)
 }
 
-/// Appends the answer to a line that a script would refuse with the fault `kind`. If `is_first` holds of `kind`, the
-/// line must be text, and if the line is one of the prompt's own, the answer is what it asks for. Else the answer is
-/// the fault.
+/// Appends the answer to a line that a script would refuse with the fault `kind`: what the line asks for, if `is_first`
+/// holds of `kind` and the line is one of the prompt's own; else the fault. If `is_first` holds, the line must be text.
 #[tactic(auto, unfolding(crate::specs::Answers::own_answer))]
 pub fn put_own<'a, B: Allocator>(
     prompt: &Prompt<'a, B>,

@@ -14,7 +14,7 @@ fn are_quits(line: &[u8]) -> bool
         .all(|word| word == b":quit".as_slice())
 }
 
-/// How many words the line has, with spaces between them.
+/// How many words the line has; spaces divide them.
 fn word_count(line: &[u8]) -> usize
     ensures { result ≡ length (words_of line.now) }
 {

@@ -160,8 +160,8 @@ fn put_sent_at<'a, B: Allocator>(
     put_text(answer, &text)
 }
 
-/// Appends what `words`, those after `:sent`, ask for; `NoNodes` before the nodes are named, `WrongCount` unless there
-/// is one word.
+/// Like `put_sent_at`, for the node named by the one word in `words`, the words after `:sent`; `NoNodes` before the
+/// nodes are named, `WrongCount` unless there is one word.
 #[tactic(auto, unfolding(crate::specs::Answers::told_sent))]
 fn put_told_sent<'a, B: Allocator>(
     prompt: &Prompt<'a, B>,

@@ -30,7 +30,7 @@ fn next_sent<'x, 'a, B: Allocator>(
     None
 }
 
-/// Appends `= ` and the row of an entry.
+/// Appends a line `= TOPIC KEY NODE/PID META`, which has the row of an entry.
 #[tactic(auto, unfolding(report_core::specs::Rows::row_text))]
 fn put_entry<A: Allocator, N: Allocator, W: Allocator>(
     text: &mut String<A>,

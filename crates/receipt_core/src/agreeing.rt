@@ -149,10 +149,10 @@ pub(crate) fn account<'a, B: Allocator>(
 }
 
 /// Whether the receipts account for the events that were added to the history `before`. They do if `before` begins
-/// `after`; `after` has one event more for each line; each line's actor has a list; and no place is named twice. List
+/// `after`; `after` has one event more for each line; each line's actor has a list; no place is named twice; and list
 /// `i` of the receipts, counted from 0, has one for each line of actor `i` and no other, in order, with that line's
-/// actor, number and act. The list's places rise, all past the end of `before`, and at each `after` has the event that
-/// the receipt tells of.
+/// actor, number and act. In each list the places must rise, and stand past the end of `before`; and `after` must have
+/// at each place the event that the receipt tells of.
 pub fn agree<'a, B: Allocator>(
     alloc: &'a B,
     before: &History<'a, B>,

@@ -12,7 +12,7 @@ pub enum RaceFault {
     /// A line's actor isn't one of the actors.
     #[error("UnknownActor")]
     UnknownActor,
-    /// The bench has fewer free places than twice the number of lines.
+    /// The bench's limit on acts leaves no room for a call and a step for each line.
     #[error("NoRoom")]
     NoRoom,
     /// A worker couldn't be started.

@@ -28,7 +28,7 @@ fn are_known<A: Allocator>(lines: &[(u16, Act<A>)], actors: u16) -> bool
     true
 }
 
-/// Whether the bench has at least twice as many free places as there are lines.
+/// Whether the bench's limit on acts leaves room for a call and a step for each line.
 fn has_room<'a, B: Allocator>(bench: &Bench<'a, B>, lines: &[(u16, Act<&'a B>)]) -> bool
     ensures { result ≡ has_room bench.now (calls_of lines.now) }
 {
@@ -88,7 +88,8 @@ pub struct Known<'a, B: Allocator> {
     pub limits: Limits,
 }
 
-/// `Ok` if the race can be vouched for; otherwise why not: `OutOfMemory`, or else `LogsDisagree`.
+/// `Ok` if no call was refused memory, the receipts account for the history (see `agree`), each actor has a list of
+/// them, and the bench has its old names and limits. Otherwise `OutOfMemory`, or else `LogsDisagree`.
 #[tactic(auto, using(crate::proofs::Interleaving::agrees_interleave, crate::proofs::Replies::agrees_replies))]
 fn vouch<'a, B: Allocator>(
     before: &Known<'a, B>,

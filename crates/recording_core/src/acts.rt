@@ -37,8 +37,8 @@ impl<'a, B: Allocator> Acts<&'a B> {
         }
     }
 
-    /// Adds the event that the next value stands for, or sets `is_cut` if it stands for none. Once `is_cut` is set,
-    /// adds nothing.
+    /// Appends to `events` the event that the next value stands for, or sets `is_cut` if that value stands for none.
+    /// Once `is_cut` is set, changes nothing.
     fn add(&mut self, alloc: &'a B, value: &Value) -> Result<(), AllocError>
         ensures { OnOk result ((ds : List Data) → AreRead ds self.old.events.items self.old.is_cut
             → AreRead (ds ++ view value.now ∷ []) self.new.events.items self.new.is_cut) }

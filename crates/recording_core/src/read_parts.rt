@@ -94,8 +94,8 @@ pub(crate) struct Parts<A: Allocator> {
     pub(crate) names: Names<A>,
 }
 
-/// The limits and the names of a session; `Shape` unless its head has the four members and no other, each in its form.
-/// The value of `version` may be anything here: the caller checks it.
+/// The limits and the names of a session. `Shape` unless its head has `acts`, `limits`, `nodes` and `version` as its
+/// members and no other, the first three each in its form; the caller checks the value of `version`.
 #[tactic(auto, unfolding(crate::specs::Decoding::parts_at))]
 pub(crate) fn parts_at<'a, B: Allocator>(
     heap: Global,

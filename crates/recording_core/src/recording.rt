@@ -79,9 +79,9 @@ fn read<'a, B: Allocator>(
 
 /// Reads what the text of a session says, of either version, before its calls are asked. It refuses a text that isn't
 /// JSON, or whose head isn't a session's, with the fault that `load` of `session_core` gives. Its caller has to check
-/// that no value cut the acts short (`is_cut`), that the version has such acts, and that a bench gives their replies.
-/// Each act's JSON is dropped once its event is known. JSON values and the list of events take their memory from the
-/// global heap.
+/// that each value in the list of acts is an event (`is_cut` is false), that a text of this version can have these
+/// acts, and that a bench that is asked them gives the recorded replies. Each act's JSON is dropped once its event is
+/// known. JSON values and the list of events take their memory from the global heap.
 pub fn read_session<'a, B: Allocator>(
     heap: Global,
     alloc: &'a B,

@@ -7,13 +7,14 @@ pub enum SessionFault {
     /// The bytes aren't JSON, or nest too deep.
     #[error("NotJson")]
     NotJson,
-    /// The head, or this act, doesn't have the form that it has in a session, or the version has no such act.
+    /// The head, or this act, doesn't have the form that it has in a session, or a text of the version can't have the
+    /// act or its reply.
     #[error("BadShape at act {act}")]
     BadShape { act: u64 },
     /// The number under `version` is neither 1 nor 2.
     #[error("BadVersion")]
     BadVersion,
-    /// The bench, asked this act, gives another reply or doesn't record it.
+    /// The bench, asked this act, gives another reply or doesn't record the act.
     #[error("Disagrees at act {act}")]
     Disagrees { act: u64 },
     /// A request for memory was refused.

@@ -15,11 +15,11 @@ use store_core::{Delivered, Forgotten, Left};
 /// What one call of a replica destroyed: `Replica::undo` takes the call back with it (Danos and Krivine: causal undo).
 #[derive(Drop)]
 pub enum Change<A: Allocator> {
-    /// Nothing: the last own dot is that of the join.
+    /// A join destroys nothing, and its dot is the last own dot.
     Join,
     /// The entry that left, and what the delta had at its dot.
     Leave(Left<A>),
-    /// For each entry of the process that left, by rising dot: the entry, and what the delta had at its dot.
+    /// For each entry that left, by rising dot: the entry, and what the delta had at its dot.
     LeaveAll(Vec<Left<A>, A>),
     /// The old entry, and what the delta had at its dot.
     Update(Left<A>),
@@ -34,7 +34,7 @@ pub enum Change<A: Allocator> {
 }
 
 impl<A: Allocator> Change<A> {
-    /// How many entries left.
+    /// How many entries the call made leave.
     pub fn left_len(&self) -> usize
         ensures { result ≡ length (left_by (plain_change self.now)) }
     {
@@ -73,7 +73,7 @@ impl<A: Allocator> Change<A> {
 
     /// The dot at `place`, counted from 0, of those that joined, by rising dot; `None` past the last. `after` is the
     /// replica as the call left it.
-    pub fn joined_at(&self, place: usize, after: &Replica<A>) -> Option<Dot>
+    pub fn joined_at<'call>(&'call self, place: usize, after: &'call Replica<A>) -> Option<Dot>
         ensures { result ≡ slice_get (joined_by (plain_change self.now) after.now) place }
     {
         match self {

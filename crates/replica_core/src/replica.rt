@@ -57,7 +57,7 @@ impl<A: Allocator> Model for Replica<A> {
 }
 
 impl<A: Allocator> Replica<A> {
-    /// The own name.
+    /// The replica's own name.
     pub fn own(&self) -> u16
         ensures { result ≡ self.now.own }
     {
@@ -71,21 +71,21 @@ impl<A: Allocator> Replica<A> {
         self.stores.seen()
     }
 
-    /// The live entries.
+    /// The live entries of all names, up or down.
     pub fn entries(&self) -> &EntrySet<A>
         ensures { result.now.map ≡ self.now.store.entries }
     {
         self.stores.entries()
     }
 
-    /// The dots of the delta.
+    /// The own dots that calls touched since the delta was last taken.
     pub fn delta_seen(&self) -> &DotSet<A>
         ensures { result.now ≡ self.now.delta.seen }
     {
         self.stores.delta_seen()
     }
 
-    /// The entries of the delta.
+    /// The live entries among the delta's dots.
     pub fn delta_entries(&self) -> &EntrySet<A>
         ensures { result.now.map ≡ self.now.delta.entries }
     {
@@ -122,7 +122,7 @@ impl<A: Allocator> Replica<A> {
     }
 
     /// Whether both have the same own name, limits, dots, entries, statuses and delta. It takes no memory.
-    pub fn same(&self, other: &Replica<A>) -> bool
+    pub fn same<'call>(&'call self, other: &'call Replica<A>) -> bool
         ensures { IsTrue result ↔ (self.now ≡ other.now) }
     {
         self.limits == other.limits
@@ -153,6 +153,7 @@ impl<A: Allocator> Replica<A> {
         self.stores.own_clock() + more as u64 > self.limits.clock
     }
 
+    /// Whether this many entries are more than the limit.
     fn are_too_many(&self, entries: usize) -> bool
         ensures { result ≡ are_too_many self.now entries }
     {

@@ -12,13 +12,13 @@ pub enum ReplicaFault {
     /// The name is not known.
     #[error("NotKnown")]
     NotKnown,
-    /// The name is up.
+    /// The name to be forgotten is up.
     #[error("NotDown")]
     NotDown,
     /// An own entry has this process, topic and key.
     #[error("AlreadyTracked")]
     AlreadyTracked,
-    /// No own entry has the process, topic and key of the call; of a leave all, none has its process.
+    /// No own entry has the process, topic and key of the call, or, for a leave all, the process.
     #[error("NotTracked")]
     NotTracked,
     /// The delta has no dot.

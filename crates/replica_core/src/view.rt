@@ -90,7 +90,7 @@ impl View {
         self.up = self.up.without(name);
     }
 
-    /// Gives the name this status, or forgets it if that is `None`.
+    /// Gives the name this status, or forgets the name if `status` is `None`.
     pub fn put(&mut self, name: u16, status: Option<Status>)
         requires { name < 32 }
         ensures { self.new ≡ with_old name status self.old }

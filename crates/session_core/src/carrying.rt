@@ -26,9 +26,9 @@ fn carry_over<'a, B: Allocator>(
     }
 }
 
-/// The compact text, of the second version, for the bench of a session's text. Once loaded, the new text gives a bench
-/// with the same names, limits and recorded calls, and so with the same remaining steps and the same cluster. `carry`
-/// refuses what `load` refuses, in the same order. All memory is from the global heap.
+/// The text of the second version that `save` gives of the bench that `load` makes of these bytes. Once loaded, the new
+/// text gives a bench with the same names, limits and recorded calls, and so with the same remaining steps and the same
+/// cluster. `carry` refuses what `load` refuses, in the same order. All memory is from the global heap.
 pub fn carry(heap: Global, bytes: &[u8]) -> Result<Vec<u8>, SessionFault>
     ensures carried { IfOk result (λ text. IsCarried bytes.now text.items) }
     ensures refused { IfErr result (Refuses bytes.now) }

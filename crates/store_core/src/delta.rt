@@ -1,4 +1,4 @@
-//! What a store sends: its delta, which can be given back, and an extract.
+//! What a node sends of its store: the delta, which can be given back, and an extract.
 ghost use Rattle.std.specs.Prelude.{◌≡◌, IfOk};
 ghost use Rattle.std.specs.FinSet as set;
 ghost use Rattle.payload_core.specs.Messages.{message_of_names, store_message};

@@ -49,35 +49,35 @@ impl<A: Allocator> Model for DeltaStore<A> {
 }
 
 impl<A: Allocator> DeltaStore<A> {
-    /// The own name.
+    /// The name of the replica whose store this is.
     pub fn own(&self) -> u16
         ensures { result ≡ self.now.own }
     {
         self.own
     }
 
-    /// The dots that were seen.
+    /// The dots that were seen, of all names.
     pub fn seen(&self) -> &DotSet<A>
         ensures { result.now ≡ self.now.store.seen }
     {
         &self.seen
     }
 
-    /// The live entries.
+    /// The live entries, each at a dot that was seen.
     pub fn entries(&self) -> &EntrySet<A>
         ensures { result.now.map ≡ self.now.store.entries }
     {
         &self.entries
     }
 
-    /// The dots of the delta.
+    /// The own dots that edits touched since the delta was last taken.
     pub fn delta_seen(&self) -> &DotSet<A>
         ensures { result.now ≡ self.now.delta.seen }
     {
         &self.delta_seen
     }
 
-    /// The entries of the delta.
+    /// The live entries among the delta's dots.
     pub fn delta_entries(&self) -> &EntrySet<A>
         ensures { result.now.map ≡ self.now.delta.entries }
     {

@@ -10,7 +10,7 @@ use entry_core::Handle;
 use payload_core::EntrySet;
 use std::alloc::Allocator;
 
-/// Handles of the entries at these dots. A dot without an entry gives none.
+/// Handles of the entries at these dots, in the order of the dots. A dot without an entry gives none.
 pub(crate) fn handles_of<A: Allocator + Copy>(
     entries: &EntrySet<A>,
     dots: &[Dot],

@@ -16,7 +16,7 @@ use payload_core::EntrySet;
 use std::alloc::Allocator;
 use std::marker::Model;
 
-/// What a store held of a name: its part, and its entries.
+/// What a store held of a name: the name's context clock and cloud, and the name's entries by rising dot.
 #[derive(Drop)]
 pub struct Forgotten<A: Allocator> {
     pub part: Part<A>,

@@ -1,14 +1,14 @@
 //! The laws of deliveries, as contracts of functions that do nothing.
 ghost use Rattle.store_core.specs.Laws.{AgainLaw, OrderLaw, StandingLaw};
 
-/// If the same store is merged into another twice in a row, the second merge changes nothing.
+/// If the same names of a store are merged into another twice in a row, the second merge changes nothing.
 #[tactic(auto, using(crate::proofs::StoreMerges::again_holds))]
 pub fn again_law()
     ensures { AgainLaw }
 {}
 
-/// If two stores don't have different entries at the same dot, merging both into a third gives the same store in either
-/// order.
+/// If two stores don't have different entries at the same dot, merging the same names of both into a third gives the
+/// same store in either order.
 #[tactic(auto, using(crate::proofs::StoreMerges::order_holds))]
 pub fn order_law()
     ensures { OrderLaw }

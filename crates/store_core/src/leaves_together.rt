@@ -48,9 +48,10 @@ impl<A: Allocator + Copy> DeltaStore<A> {
         Ok(lefts)
     }
 
-    /// Takes back leaves that were made together: puts back the entries that left, in the delta those that it had, and
-    /// removes one of the last own dots for each. The delta loses the dots of these entries that it didn't have before
-    /// the leaves. If memory is refused, `lefts` comes back, and nothing changes. It copies the delta's dots.
+    /// Takes back leaves that were made together: puts back the entries that left, and into the delta those that the
+    /// delta had. For each entry that left it removes one of the last own dots, also from the delta. The delta loses
+    /// the dots of these entries that the delta didn't have before the leaves. If memory is refused, `lefts` comes
+    /// back, and nothing changes. The call copies the delta's dots.
     pub fn restore_each(&mut self, lefts: Vec<Left<A>, A>) -> Result<(), (Vec<Left<A>, A>, Oom)>
         requires { CanAllBeRestored lefts.items self.old }
         ensures ok { OnOk result (self.new ≡ with_lefts lefts.items self.old) }
@@ -198,7 +199,7 @@ fn put_lefts_back<A: Allocator + Copy>(
 }
 
 /// A copy of the delta's `seen` without the dots of the name whose clocks follow `clock`, one for each of `lefts`, and
-/// without the dots of those entries that left whose dots the delta didn't have before.
+/// without the dot of each entry that left, unless the delta had that dot before.
 fn copy_without<A: Allocator + Copy>(
     seen: &DotSet<A>,
     name: u16,
@@ -216,8 +217,8 @@ fn copy_without<A: Allocator + Copy>(
     Ok(copy)
 }
 
-/// Takes out the dots of the entries that left, unless the delta had them before. If memory is refused, some may be
-/// out.
+/// Takes the dot of each entry that left out of `seen`, the delta's dots, unless the delta had that dot before. If
+/// memory is refused, some may be out.
 fn unsee_each<A: Allocator>(seen: &mut DotSet<A>, lefts: &[Left<A>]) -> Result<(), Oom>
     requires { All (λ left. IsValid left.entry.dot) lefts.now }
     ensures { OnOk result (seen.new ≡ dots_before_each lefts.now seen.old) }

@@ -1,4 +1,4 @@
-//! `Left`: what a leave of one entry destroyed.
+//! `Left`: what a leave or an update of one entry destroyed.
 use entry_core::Handle;
 use std::alloc::Allocator;
 use std::marker::Model;

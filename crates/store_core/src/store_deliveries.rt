@@ -55,7 +55,7 @@ impl<A: Allocator> Model for Delivered<A> {
 }
 
 impl<A: Allocator + Copy> DeltaStore<A> {
-    /// Handles of the message's entries that join, by rising dot: those of these names at dots that the store hasn't
+    /// Handles of the message's entries that join, by rising dot: the entries of `names` at dots that the store hasn't
     /// seen.
     pub fn joining(&self, message: &Payload<A>, names: NameSet) -> Result<Vec<Handle<A>, A>, Oom>
         ensures { IfOk result (λ joining. pairs joining.items ≡ fin.entries (arrivals (set.contains names) (store_of message.now) self.now.store)) }
@@ -63,8 +63,8 @@ impl<A: Allocator + Copy> DeltaStore<A> {
         message.entries().joining(&self.seen, names)
     }
 
-    /// The dots of the store's entries that leave, rising: those of these names whose dots the message has without an
-    /// entry.
+    /// The dots of the store's entries that leave, rising. Each dot has one of `names`, and the message has the dot
+    /// without an entry.
     pub fn leaving(&self, message: &Payload<A>, names: NameSet) -> Result<Vec<Dot, A>, Oom>
         ensures { IfOk result (λ leaving. leaving.items ≡ fin.keys (departures (set.contains names) (store_of message.now) self.now.store)) }
     {
@@ -126,7 +126,7 @@ impl<A: Allocator + Copy> DeltaStore<A> {
     }
 }
 
-/// The dots of these entries.
+/// The dots of these entries, in the order of the entries.
 fn dots_of<A: Allocator + Copy>(entries: &[Handle<A>], alloc: A) -> Result<Vec<Dot, A>, Oom>
     ensures { IfOk result (λ dots. dots.items ≡ dots_of_pairs (pairs entries.now)) }
 {
@@ -167,8 +167,8 @@ fn changes<A: Allocator>(seen: &DotSet<A>, other: &DotSet<A>, names: NameSet, na
     names.has(name) && !seen.has_all_of(other, name)
 }
 
-/// Inserts a further handle of each entry in `joining`, and then the dots of `other` that have one of `names`; if
-/// memory is refused, nothing.
+/// Inserts a further handle of each entry in `joining` into `entries`, and the dots of `other` that have one of `names`
+/// into `seen`. If memory is refused, neither changes.
 fn put_joining<A: Allocator + Copy>(
     entries: &mut EntrySet<A>,
     seen: &mut DotSet<A>,
@@ -190,7 +190,7 @@ fn put_joining<A: Allocator + Copy>(
     Ok(())
 }
 
-/// Sets the dots of each part's name to those of the part.
+/// Replaces the dots of each name in `parts` by the dots of the name's part.
 fn set_parts<A: Allocator>(seen: &mut DotSet<A>, parts: Vec<OldPart<A>, A>)
     ensures { seen.new ≡ with_parts parts.items seen.old }
 {

@@ -26,8 +26,8 @@ impl<A: Allocator> DeltaStore<A> {
 }
 
 impl<A: Allocator + Copy> DeltaStore<A> {
-    /// Puts an entry of this process, topic, key and metadata at the fresh dot, also into the delta. An `Err` changes
-    /// nothing.
+    /// Puts an entry of this process, topic, key and metadata at the fresh dot into the store and into the delta, and
+    /// the dot into the seen dots of both. An `Err` changes nothing.
     pub fn join(
         &mut self,
         pid: u64,
@@ -78,7 +78,7 @@ fn held<A: Allocator>(entry: Entry<A>, alloc: A) -> Result<Handle<A>, Oom>
     }
 }
 
-/// Inserts a further handle of the entry: shared if the entry may be shared, and else a copy.
+/// Inserts into `entries` a further handle of `entry`: shared if the entry may be shared, and else a copy.
 pub(crate) fn put_shared<A: Allocator + Copy>(
     entries: &mut EntrySet<A>,
     entry: &Handle<A>,

@@ -85,9 +85,10 @@ impl<A: Allocator + Copy> DeltaStore<A> {
         Ok(left)
     }
 
-    /// Takes a leave or an update back: removes the last own dot, with its entry if it has one, and puts back the entry
-    /// that left, also into the delta if the delta had it. The delta loses the entry's dot if it didn't have the dot
-    /// before. If memory is refused, `left` comes back, and nothing changes.
+    /// Takes a leave or an update back: removes the last own dot, with its entry if it has one, also from the delta,
+    /// and puts back the entry that left, also into the delta if the delta had it. The delta loses the dot of the entry
+    /// that left if the delta didn't have that dot before. If memory is refused, `left` comes back, and nothing
+    /// changes.
     pub fn restore(&mut self, left: Left<A>) -> Result<(), (Left<A>, Oom)>
         requires { CanBeRestored left self.old }
         ensures ok { OnOk result (self.new ≡ with_left left self.old) }
@@ -152,8 +153,8 @@ fn take_unsent<A: Allocator>(entries: &mut EntrySet<A>, dot: Dot, left: &Left<A>
     }
 }
 
-/// Inserts a further handle of the new entry into the delta's `entries`, and both its dot and `dot`, that of the old
-/// entry, into the delta's `seen`; if memory is refused, none of these.
+/// Inserts a further handle of `entry`, the new entry, into the delta's `entries`, and the new entry's dot and `dot`,
+/// the old entry's, into the delta's `seen`. If memory is refused, neither changes.
 fn put_unsent<A: Allocator + Copy>(
     entries: &mut EntrySet<A>,
     seen: &mut DotSet<A>,
@@ -218,7 +219,7 @@ fn put_unsent_back<A: Allocator + Copy>(
     Ok(())
 }
 
-/// Takes out the dot of the entry that left, unless the delta had it before.
+/// Takes the dot of the entry that left out of `seen`, the delta's dots, unless the delta had the dot before the leave.
 pub(crate) fn unsee<A: Allocator>(seen: &mut DotSet<A>, left: &Left<A>) -> Result<(), Oom>
     requires { IsValid left.now.entry.dot }
     ensures ok { OnOk result (seen.new ≡ dots_before left.now.in_delta left.now.entry.dot seen.old) }
@@ -230,7 +231,7 @@ pub(crate) fn unsee<A: Allocator>(seen: &mut DotSet<A>, left: &Left<A>) -> Resul
     Ok(())
 }
 
-/// Inserts a further handle of `entry`, if that isn't `None`.
+/// Inserts into `entries` a further handle of `entry`, if that isn't `None`.
 pub(crate) fn put_back<A: Allocator + Copy>(
     entries: &mut EntrySet<A>,
     entry: &Option<Handle<A>>,
@@ -245,7 +246,7 @@ pub(crate) fn put_back<A: Allocator + Copy>(
     }
 }
 
-/// Takes out the entry at the dot of `entry`, if that isn't `None`. It takes no memory.
+/// Takes the entry at the dot of `entry` out of `entries`, if `entry` isn't `None`. It takes no memory.
 pub(crate) fn take_back<A: Allocator>(entries: &mut EntrySet<A>, entry: &Option<Handle<A>>)
     ensures { entries.new.map ≡ taken entry.now entries.old.map }
 {

@@ -1,5 +1,5 @@
-//! A reader and a writer for tests, which may fail in mid-stream. Their contracts show their bytes, so that a clause
-//! about a stream's bytes says something of them.
+//! A reader and a writer for tests, which may fail in mid-stream. Contracts see the bytes of both. There are other
+//! streams, whose bytes no contract sees; clauses about bytes say nothing of those.
 ghost use Rattle.std.specs.Prelude.{◌≡◌, false, true, []};
 
 use std::alloc::Global;

@@ -1,5 +1,5 @@
-//! What the crates above read and write with: all bytes of a reader or its first ones, its next line, and all bytes to
-//! a writer.
+//! What the crates above read and write with. It reads all bytes of a reader, or the first ones, or the next line, and
+//! writes all bytes to a writer.
 //!
 //! It uses std, and `thiserror` for the texts of faults. The modules in reading order: `stream_fault`, why bytes
 //! couldn't be read or written; `steps`, how often a reader was read; `streams`, whole inputs and outputs; `lines`, one

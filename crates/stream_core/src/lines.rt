@@ -1,4 +1,4 @@
-//! Reads the next line of a reader. Of a line that is too long, only the beginning is kept.
+//! Reads the next line of a reader, and keeps only the beginning of a line that is too long.
 ghost use Rattle.std.specs.Prelude.{◌≡◌, ◌∷◌, [], ◌<◌, ◌≤◌, IfErr, IfOk, IfSome, OnErr, option_map, vec_items, vec_len};
 ghost use Rattle.std.specs.Io.KnownBytes.{Consumes, IsAtEnd, Keeps};
 ghost use Rattle.stream_core.specs.NextLines.{IsEndless, IsNext, TakesLine, TakesPart};
@@ -31,8 +31,8 @@ fn next_byte<R: Read, L: Ledger>(
     }
 }
 
-/// Reads the next line, and gives it without its line feed; `None` at the end of the input. Of a line with more than
-/// `most` bytes it gives the first `most`. `TooLong` comes only for a line with at least `u64::MAX` bytes. After a
+/// Reads the next line, and gives it without its line feed; `None` at the end of the input. If the line has more than
+/// `most` bytes, it gives the first `most`. `TooLong` comes only for a line with at least `u64::MAX` bytes. After a
 /// fault the part of the line that was read is lost. `steps` counts the calls of `read`.
 pub fn next_line<A: Allocator, R: Read, L: Ledger>(
     alloc: A,

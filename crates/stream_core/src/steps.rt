@@ -50,6 +50,7 @@ impl<L: Ledger> Steps<L> {
         }
     }
 
+    /// Counts a call of `read` that succeeded.
     fn tick(&mut self)
         ensures calls { self.new.calls ≡ self.old.calls + 1 }
         ensures failed { self.new.failed ≡ self.old.failed }
@@ -57,6 +58,7 @@ impl<L: Ledger> Steps<L> {
         self.book.add(&mut self.given, 1);
     }
 
+    /// Counts a call of `read` that failed.
     fn tick_failed(&mut self)
         ensures calls { self.new.calls ≡ self.old.calls + 1 }
         ensures failed { self.new.failed ≡ self.old.failed + 1 }

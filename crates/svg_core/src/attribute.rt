@@ -18,6 +18,7 @@ pub enum Value<'a> {
 #[derive(Clone, Copy)]
 pub struct Attribute<'a>(pub &'a str, pub Value<'a>);
 
+/// Appends the value as it stands in XML.
 fn put_value<A: Allocator>(text: &mut String<A>, value: &Value) -> Result<(), AllocError>
     ensures { OnOk result (string_bytes text.new ≡ string_bytes text.old ++ escaped (value_text value.now)) }
 {

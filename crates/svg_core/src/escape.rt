@@ -25,6 +25,7 @@ fn stand_in(byte: u8) -> &'static str
     }
 }
 
+/// Appends the byte as it stands in XML.
 fn put_byte<A: Allocator>(text: &mut String<A>, byte: u8) -> Result<(), AllocError>
     ensures { OnOk result (string_bytes text.new ≡ string_bytes text.old ++ escape byte) }
 {

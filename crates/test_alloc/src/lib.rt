@@ -60,6 +60,7 @@ impl<B: Allocator> Refusing<B> {
         self.refuse(number, u64::MAX);
     }
 
+    /// Starts the count anew, and refuses the requests with the numbers from `first` to `last`.
     fn refuse(&self, first: u64, last: u64) {
         self.requests.made.store(0, Ordering::SeqCst);
         self.requests.bytes.store(0, Ordering::SeqCst);

@@ -1,6 +1,6 @@
 //! Why words choose nothing; what the program does if it can't write, or is refused memory; what it tells of long work;
-//! and a race, with the status of its faults, `OutOfMemory` apart. What words choose, what the program prints and its
-//! other statuses are cases of `example_tests`.
+//! a race; and with which status the program ends at each fault of a race but `OutOfMemory`. What words choose, what
+//! the program prints and its other statuses are cases of `example_tests`.
 use clap::error::ErrorKind;
 use command_line::choice;
 use program_core::{Fault, program, run};
@@ -411,7 +411,7 @@ fn long_work_tells_how_far_it_has_come(rt: HostRuntime) {
     }
 }
 
-/// How many replies to steps the report has: lines that end with ` ok`, and refusals.
+/// How many lines of the report tell of a step that was taken (they end with ` ok`) or of a refusal.
 fn replies_of(report: &[u8]) -> usize {
     let report = str::from_utf8(report).unwrap_or("");
     let is_reply = |line: &&str| line.ends_with(" ok") || line.starts_with("no ");

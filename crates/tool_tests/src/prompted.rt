@@ -1,5 +1,5 @@
-//! A prompt answers each line before it reads the next, also if memory is refused. What it prints is tested by cases of
-//! `example_tests`.
+//! A prompt answers each line before it reads the next. If memory is refused for a line, the answers to the lines
+//! before it have gone out. What a prompt prints is tested by cases of `example_tests`.
 use crate::cases::holds_at;
 use bench_core::Limits;
 use prompt_core::{PromptFault, step};

@@ -47,8 +47,8 @@ fn input_is_read_whole_or_refused(rt: HostRuntime) {
     }
 }
 
-/// Whether a play from this reader ends with `ReadFault`, after `calls` calls unless `calls` is `None`, and writes
-/// nothing.
+/// Whether a play from this reader writes nothing and ends with `ReadFault`, after `calls` calls, or after any number
+/// of them if `calls` is `None`.
 fn fails_to_read(heap: Global, mut reader: FakeReader, calls: Option<usize>) -> bool {
     let mut writer = FakeWriter::new(heap, 1000);
     let answer = play(&heap, &mut reader, &mut writer, Limits::usual());

@@ -9,7 +9,8 @@ use payload_core::Oom;
 use report_core::name_at;
 use std::alloc::Allocator;
 
-/// Names for consoles that have none. There are 48, so that 16 are free even if each of 32 nodes has one of them.
+/// Names for consoles that have none. There are 48, so that 16, the most consoles of a script, are free even if each of
+/// 32 nodes has one of these names.
 pub const CONSOLES: &str =
     "c1 c2 c3 c4 c5 c6 c7 c8 c9 c10 c11 c12 c13 c14 c15 c16 c17 c18 c19 c20 c21 c22 c23 c24 c25 c26 c27 c28 c29 c30 c31 c32 c33 c34 c35 c36 c37 c38 c39 c40 c41 c42 c43 c44 c45 c46 c47 c48";
 
@@ -38,8 +39,8 @@ pub(crate) fn actor_name<'t, N: Allocator, C: Allocator>(
     console_at(consoles, actor as usize - nodes.len())
 }
 
-/// How many consoles must stand beside `nodes` nodes so that `actor` is the number of a node or a console; `count` if
-/// that is more.
+/// The greater of `count` and the number of consoles that must stand beside `nodes` nodes so that `actor` is the number
+/// of a node or a console.
 fn with_actor(nodes: usize, count: usize, actor: u16) -> usize
     ensures { result ≡ with_actor nodes count actor }
 {
@@ -48,7 +49,7 @@ fn with_actor(nodes: usize, count: usize, actor: u16) -> usize
     if count < needed { needed } else { count }
 }
 
-/// How many consoles the recorded calls need: up to the one with the greatest number that asked something.
+/// How many consoles must stand beside `nodes` nodes so that each actor of a recorded call is a node or a console.
 fn console_count<'a, B: Allocator>(nodes: usize, history: &History<'a, B>) -> usize
     ensures { result ≡ console_count nodes history.now }
 {
@@ -102,8 +103,9 @@ fn named_consoles<A: Allocator + Copy, N: Allocator>(
     Ok(consoles)
 }
 
-/// Names for the consoles of a bench, up to the one with the greatest number that asked something: `c1`, `c2` ..,
-/// without those that a node has, and none behind `c48`. The bench knows its consoles by number alone.
+/// Names for the consoles of a bench, which knows its consoles by number alone. Up to the console with the greatest
+/// number that asked something, each gets the next name of `c1` to `c48` that no node has. If too few names are free,
+/// the last consoles get none.
 #[tactic(auto, unfolding(crate::specs::Actors::free_consoles))]
 pub fn free_consoles<'a, B: Allocator>(
     alloc: &'a B,

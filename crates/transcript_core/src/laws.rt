@@ -9,7 +9,7 @@ pub fn script_law()
 {}
 
 /// The script of a run is read as the steps of the run, if nodes have names that a script can have, each step is one
-/// that a line can ask for, and the script isn't longer than a script may be.
+/// that a line of one of these nodes can ask for, and the script isn't longer than a script may be.
 pub fn run_law()
     ensures { RunLaw }
 {}

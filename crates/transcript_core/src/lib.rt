@@ -6,8 +6,8 @@
 //!
 //! The modules in reading order: `actors`, the names of those who act; `lines`, a call as a line; `script`, all calls
 //! as a script, and `read_back`, which reads the script again before it goes out; `fault`, why there is no script;
-//! `run_lines`, the lines of a run as a script. `steps` prints a report call by call; `refusals` tells which call was
-//! refused first; `sender` finds which step sent a message; `laws` says what is read back.
+//! `run_lines`, the lines of a run as a script. `steps` prints a report call by call; `refusals` tells which act or
+//! unwind was refused first; `sender` finds which step sent a message; `laws` says what is read back.
 #![tactic(auto)]
 
 mod actors;

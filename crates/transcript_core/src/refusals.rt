@@ -77,7 +77,8 @@ fn ask_unwind<'a, B: Allocator>(
     Ok(refusal)
 }
 
-/// Carries out a command, and gives why it was refused; `None` if it wasn't. What the command prints is dropped.
+/// Carries out a command, and gives why it was refused, if it is an act or an unwind. `None` if it wasn't refused, or
+/// is another command. What the command prints is dropped.
 #[tactic(auto, unfolding(crate::specs::Refusals::refusal_of, run_core::specs::Report::after_command))]
 fn obey<'a, B: Allocator>(
     bench: &mut Bench<'a, B>,
@@ -94,8 +95,8 @@ fn obey<'a, B: Allocator>(
     }
 }
 
-/// Carries out the lines in turn on the bench, up to the first that is refused, and gives that one's refusal; `None` if
-/// no line is refused.
+/// Carries out the lines in turn on the bench, up to the first act or unwind that is refused, and gives its refusal;
+/// `None` if no act or unwind is refused.
 #[tactic(auto, unfolding(crate::specs::Refusals::first_from))]
 fn first_from<'a, B: Allocator>(
     bench: &mut Bench<'a, B>,
@@ -113,7 +114,8 @@ fn first_from<'a, B: Allocator>(
     Ok(None)
 }
 
-/// The refusal of the first line that is refused when the script is played with these limits; `None` if no line is.
+/// The refusal of the first act or unwind that is refused when the script is played with these limits; `None` if none
+/// is. A refused `why` doesn't count.
 #[tactic(auto, unfolding(crate::specs::Refusals::first_refused))]
 pub fn first_refused<'a, B: Allocator>(
     alloc: &'a B,

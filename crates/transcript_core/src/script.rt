@@ -102,8 +102,8 @@ fn put_events<'a, A: Allocator, B: Allocator, N: Allocator, C: Allocator>(
     Ok(())
 }
 
-/// The lines that name the nodes and the consoles, and a line for each recorded call. They are a script only if
-/// `read_back` finds no fault in their text.
+/// The lines that name the nodes and the consoles, and a line for each recorded call. The text may be no script, or one
+/// that asks for other calls; `script_of_calls` refuses such a text.
 #[tactic(auto, unfolding(crate::specs::Scripts::script_text))]
 pub fn calls_text<'a, A: Allocator, B: Allocator>(
     bench: &Bench<'a, B>,

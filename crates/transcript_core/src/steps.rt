@@ -115,7 +115,7 @@ fn put_taker<A: Allocator, N: Allocator, C: Allocator>(
     }
 }
 
-/// Appends who took back the step that was taken with this reply; nothing if none was taken or nobody took it back.
+/// If the reply says that a step was taken, appends who took that step back; nothing if nobody did.
 fn put_note<A: Allocator, N: Allocator, C: Allocator>(
     text: &mut String<A>,
     nodes: &Names<N>,

@@ -58,7 +58,8 @@ fn change_at<A: Allocator>(told: &[Difference<A>], number: u64) -> Option<Change
     }
 }
 
-/// The run with this change, as a script. The change must be one with which the run has an order.
+/// The run with this change, as a script. The run with the change must have an order in which no message comes before
+/// it is sent.
 fn script_with<'a, B: Allocator>(
     bench: &Bench<'a, B>,
     change: Change,

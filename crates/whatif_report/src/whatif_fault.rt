@@ -1,10 +1,10 @@
-//! `WhatifFault`: why there is no text.
+//! `WhatifFault`: why a question gets no text, or a change no script.
 ghost use Rattle.std.specs.Prelude.{◌≡◌};
 
 use payload_core::{Oom, WordFault};
 use thiserror::Error;
 
-/// Why there is no text.
+/// Why a question gets no text, or a change no script.
 #[derive(Clone, Copy, Debug, PartialEq, Eq, Error)]
 pub enum WhatifFault {
     /// No node has the name that is asked about.

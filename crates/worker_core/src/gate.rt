@@ -1,7 +1,7 @@
 //! `Gate`: what a worker calls around its lines.
 
 /// What workers call around each of their lines, without holding the lock. Threads share the gate, and its calls may
-/// wait: a race ends only if these calls return. Tests bring gates of their own, to decide whose line comes next.
+/// wait. A race ends only if these calls return. Tests bring gates of their own, to decide whose line comes next.
 pub trait Gate {
     /// A worker calls this before it takes the lock for this line of its actor.
     fn before(&self, actor: u16, line: u64);

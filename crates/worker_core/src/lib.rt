@@ -1,5 +1,5 @@
-//! Nodes and consoles that ask at the same time: workers on threads ask lines of one locked bench, and the history
-//! after that is compared with what each worker tells.
+//! Nodes and consoles that ask at the same time: workers on threads ask lines of one locked bench, and then the history
+//! is compared with what each worker tells.
 //!
 //! The crate stands on `receipt_core`, which says whether a race can be vouched for, on `bench_core` (the machine), and
 //! on the kit's `crossbeam_channel`. It names the plain types of the crates below. The modules in reading order:

@@ -115,7 +115,7 @@ fn start<
         .map_err(|_| WorkersFault::WorkerRefused)
 }
 
-/// Starts a worker at each slot, and appends the worker to `workers`, or `None` for an actor without a slot.
+/// Starts a worker for each slot, and appends the worker to `workers`, or `None` for an actor without a slot.
 /// `WorkerRefused` at the first that can't be started; none is started after it.
 fn start_all<
     's,
@@ -147,7 +147,8 @@ fn start_all<
     Ok(workers)
 }
 
-/// Waits for the workers, and takes their receipts. An actor without a worker has an empty list.
+/// Waits for the workers, and appends the list of each one's receipts to `lists`; an empty list for an actor without a
+/// worker.
 fn join_all<T: Drop, A: Allocator + Copy, R: Threads>(
     rt: &R,
     alloc: A,

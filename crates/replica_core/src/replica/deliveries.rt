@@ -11,11 +11,14 @@ use payload_core::Payload;
 use std::alloc::Allocator;
 
 impl<A: Allocator + Copy> Replica<A> {
-    /// Merges what a message, which isn't a request, has of the known names other than the replica's own. Of these
-    /// names, an entry of the message joins if the replica hasn't seen its dot; an entry of the replica leaves if the
-    /// message has its dot without an entry; and the replica has then seen the message's dots. `EntriesFull` if there
-    /// would be more entries than the limit.
-    pub fn merge(&mut self, message: &Payload<A>) -> Result<Change<A>, ReplicaFault>
+    /// Merges what a message, which isn't a request, has of the known names other than the replica's own. An entry of
+    /// the message at a dot of these names joins if the replica hasn't seen the dot. An entry of the replica at such a
+    /// dot leaves if the message has the dot without an entry. The replica has then seen the message's dots of these
+    /// names. `EntriesFull` if there would be more entries than the limit.
+    pub fn merge<'call>(
+        &'call mut self,
+        message: &'call Payload<A>,
+    ) -> Result<Change<A>, ReplicaFault>
         requires { message.now.asked ≡ None }
         ensures merged { OnOk result (self.new ≡ merged message.now self.old) }
         ensures greater_standings { OnOk result (TakesGreaterStandings message.now self.old self.new) }

@@ -13,9 +13,9 @@ use payload_core::Payload;
 use std::alloc::Allocator;
 
 impl<A: Allocator> Replica<A> {
-    /// Puts a message of the replica back as its delta, which must be empty, to take back a broadcast. It takes no
-    /// memory. If `take_delta` gave the message just before, `laws::delta_law` says that the replica is again what it
-    /// was before that call.
+    /// Takes back a broadcast: puts a message of the replica back as the replica's delta, which must be empty. It takes
+    /// no memory. If `take_delta` gave the message just before, `laws::delta_law` says that the replica is again what
+    /// it was before that call.
     pub fn give_delta(&mut self, payload: Payload<A>)
         requires { CanBeDelta payload self.old }
         ensures { self.new ≡ with_delta payload self.old }
@@ -26,7 +26,8 @@ impl<A: Allocator> Replica<A> {
 }
 
 impl<A: Allocator + Copy> Replica<A> {
-    /// Takes out the delta as a message. It takes no memory. `NothingToSend` if the delta has no dot.
+    /// Takes out the delta as a message, and leaves an empty delta. It takes no memory. `NothingToSend` if the delta
+    /// has no dot.
     pub fn take_delta(&mut self) -> Result<Payload<A>, ReplicaFault>
         ensures message { IfOk result (λ payload. payload ≡ delta_message self.old) }
         ensures taken { OnOk result (self.new ≡ without_delta self.old) }

@@ -297,8 +297,8 @@ fn asked_to_undo<'a>(heap: &'a Global, number: u64, rt: &impl Abort) -> Bench<'a
     bench
 }
 
-/// Whether the receipts of `left` account for what the history of its bench has beyond that of a fresh bench on which a
-/// console asked to undo step `number`.
+/// Whether the receipts of `left` agree with the history of its bench, if the history before the race is given as that
+/// of a fresh bench which a console asked to undo step `number`.
 fn agrees_after_undo<'a>(
     left: &Left<'a, Global>,
     number: u64,
@@ -312,7 +312,7 @@ fn agrees_after_undo<'a>(
 }
 
 /// Asks a fresh bench to undo step `asked`, and then races the lines of `UNDONE_BESIDE` on it. Says whether the
-/// receipts account for what its history has beyond that of a fresh bench on which a console asked to undo step
+/// receipts agree if the history before the race is given as that of another fresh bench, which was asked to undo step
 /// `other`.
 fn agrees_after<R: Threads + Wait + Abort + Sync>(
     rt: &R,

@@ -83,8 +83,8 @@ pub fn raced<'a, B: Allocator + Sync, G: Gate + Sync, R: Threads + Wait + Sync +
     raced_on(bench, heap, script, actors, gate, rt)
 }
 
-/// Whether the receipts, of the lines of the script, account for what the history of `after` has beyond that of
-/// `before`.
+/// What `agree` says of `receipts` for the lines of the script, with the history of `before` as the one before the
+/// race, and the history of `after` as the one after it.
 pub fn agrees<'a, B: Allocator>(
     before: &Bench<'a, B>,
     after: &Bench<'a, B>,
@@ -99,8 +99,8 @@ pub fn agrees<'a, B: Allocator>(
     agrees.expect(rt, "memory")
 }
 
-/// Whether the receipts of `left` account for what the history of its bench has beyond that of a fresh bench; and
-/// whether they do with the two histories exchanged.
+/// What `agrees` says of the receipts of `left`, with a fresh bench before the race and the bench of `left` after it;
+/// and what it says if these two benches are exchanged.
 pub fn agree_with_none<'a, B: Allocator>(
     left: &Left<'a, B>,
     script: &str,
