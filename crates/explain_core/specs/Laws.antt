@@ -32,17 +32,17 @@ LeadsBack hops by (number ∷ numbers) = (by ≡ Some number) × ((h : Hop) × M
 abbrev pub IsChain : List Hop → Option ℕ → List ℕ → Type 0
 IsChain hops by numbers = LeadsBack hops by (reverse numbers)
 
--- the chain to the step since which the dot stands at the node as it does
+-- the chain that leads to a step is one by `IsChain`
 abbrev pub ChainLaw : Type 0
 ChainLaw = (m : Machine) (d : Dot) (by : Option ℕ) → IsReached (config_of m) m.state → IsChain (track_of m d).hops by (chain (track_of m d).hops by)
 
--- this step is the node's own, remains, and is the one since which the dot stands at the node as it does
+-- a step of this number remains, and is the node's own
 pub record IsSince (m : Machine) (node number : ℕ) : Type 0 where
   pub step : Kept
   pub remains : find_number m.state.remaining number ≡ Some step
   pub own : step.node ≡ node
 
--- the dot stands at each node as the track says, and since a step of the node
+-- the dot stands at each node as the track says, and the step that the track names there is one of the node's that remains
 abbrev pub StandingLaw : Type 0
 StandingLaw =
     (m : Machine) (d : Dot) (node : ℕ) → IsReached (config_of m) m.state →
