@@ -95,13 +95,7 @@ impl<A: Allocator> EntrySet<A> {
     /// The name's dot of least clock whose entry tracks this process under this topic and key; `None` if there is none.
     /// An index of the name finds the dot by one look-up. Without such an index, or once several of the name's entries
     /// had the mark of this process, topic and key at the same time, the call walks over the name's entries.
-    pub fn find<'call>(
-        &'call self,
-        name: u16,
-        pid: u64,
-        topic: &'call Word<A>,
-        key: &'call Word<A>,
-    ) -> Option<Dot>
+    pub fn find(&self, name: u16, pid: u64, topic: &Word<A>, key: &Word<A>) -> Option<Dot>
         ensures { result ≡ slice_get (dots_of name (is_tracked_as pid topic.now key.now) self.now.map) 0 }
     {
         match self.by_mark.holder(name, mark(pid, topic, key)) {

@@ -38,12 +38,12 @@ impl<A: Allocator> Replica<A> {
 impl<A: Allocator + Copy> Replica<A> {
     /// Tracks the process under the topic and key with the metadata, at the fresh dot, in the entries and in the delta.
     /// The refusals come in this order: `AlreadyTracked`, `EntriesFull`, `ClockFull`.
-    pub fn join<'call>(
-        &'call mut self,
+    pub fn join(
+        &mut self,
         pid: u64,
-        topic: &'call Word<A>,
-        key: &'call Word<A>,
-        metadata: &'call Word<A>,
+        topic: &Word<A>,
+        key: &Word<A>,
+        metadata: &Word<A>,
     ) -> Result<Change<A>, ReplicaFault>
         ensures joined { OnOk result (self.new ≡ joined (record { pid = pid; topic = topic.now; key = key.now; metadata = metadata.now }) self.old) }
         ensures refused { IsRefusedFor (join_refusal self.old pid topic.now key.now) result }

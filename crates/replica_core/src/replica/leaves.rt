@@ -44,11 +44,11 @@ impl<A: Allocator + Copy> Replica<A> {
     /// Takes out the own entry of this process, topic and key, also from the delta. The entry's dot and a fresh one go
     /// into the delta, and the fresh one into the seen dots. The refusals come in this order: `NotTracked`,
     /// `ClockFull`.
-    pub fn leave<'call>(
-        &'call mut self,
+    pub fn leave(
+        &mut self,
         pid: u64,
-        topic: &'call Word<A>,
-        key: &'call Word<A>,
+        topic: &Word<A>,
+        key: &Word<A>,
     ) -> Result<Change<A>, ReplicaFault>
         ensures left { OnOk result (self.new ≡ left_each (tracked_dots self.old pid topic.now key.now) self.old) }
         ensures refused { IsRefusedFor (leave_refusal self.old pid topic.now key.now) result }

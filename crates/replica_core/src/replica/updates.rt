@@ -14,12 +14,12 @@ impl<A: Allocator + Copy> Replica<A> {
     /// Gives the own entry of this process, topic and key this metadata. The old entry leaves, also from the delta,
     /// which gains the old dot. The new entry joins at the fresh dot, also in the delta. The refusals come in this
     /// order: `NotTracked`, `ClockFull`.
-    pub fn update<'call>(
-        &'call mut self,
+    pub fn update(
+        &mut self,
         pid: u64,
-        topic: &'call Word<A>,
-        key: &'call Word<A>,
-        metadata: &'call Word<A>,
+        topic: &Word<A>,
+        key: &Word<A>,
+        metadata: &Word<A>,
     ) -> Result<Change<A>, ReplicaFault>
         ensures updated { OnOk result (self.new ≡ updated (record { pid = pid; topic = topic.now; key = key.now; metadata = metadata.now }) self.old) }
         ensures refused { IsRefusedFor (leave_refusal self.old pid topic.now key.now) result }
