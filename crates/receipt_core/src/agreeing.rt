@@ -37,11 +37,12 @@ fn answers<'a, B: Allocator>(
     let Some(event) = after.at((place - 1) as usize) else {
         return false;
     };
+    // form: lent again, as `same` has one lifetime for both
     receipt.actor == actor
         && receipt.line == number
-        && receipt.act.same(act)
+        && receipt.act.same(&*act)
         && event.actor == actor
-        && event.act.same(act)
+        && event.act.same(&*act)
         && event.reply.same(receipt.reply)
 }
 
