@@ -119,7 +119,8 @@ fn begins_in_order<'a>(rows: &Rows<'a>) -> bool {
     };
     match first.try_copy() {
         Ok(copy) => {
-            let is_same = first.same(&copy) && !second.same(&copy);
+            // form: lent again, as `same` has one lifetime for both
+            let is_same = (&*first).same(&copy) && !(&*second).same(&copy);
             drop(copy);
             is_same && first.cmp(second) == Ordering::Less
         }

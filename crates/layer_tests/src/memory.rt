@@ -339,25 +339,3 @@ fn a_number_that_is_no_nodes_is_refused(rt: HostRuntime) {
     let heap = Refusing::new(rt.alloc());
     unknown_is_refused(&heap, &rt);
 }
-
-/// `Bench::run` gives the reply of each of its calls, in their order, and records each.
-#[test]
-fn a_run_gives_each_reply(rt: HostRuntime) {
-    let heap = Refusing::new(rt.alloc());
-    let mut bench = opened("nodes a b", limits_of([6, 1, 1, 1], &rt), &heap, &rt);
-    let names = NameSet::empty().with(5);
-    let calls = [
-        (7, Act::Do(Step::Broadcast)),
-        (0, Act::Do(Step::Up { name: 5 })),
-        (0, Act::Do(Step::Extract { names })),
-        (0, Act::Back(2)),
-        (40, Act::Undo(1)),
-    ];
-    let unknown = Reply::Refused(Fault::UnknownNode);
-    let missing = Reply::Refused(Fault::NoSuchStep);
-    let expected = [unknown, unknown, unknown, unknown, missing];
-    holds!(&rt, run_gives(&mut bench, &calls, &expected));
-    holds!(&rt, bench.history().len() == 5);
-    drop(calls);
-    drop(bench);
-}
