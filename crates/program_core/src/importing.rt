@@ -199,7 +199,7 @@ fn make_page<'a, B: Allocator>(
 {
     // form: the parameter `lines` is for the contract alone
     let (shown, left_out) = import_shown(heap, alloc, limits, lenient, input)?;
-    let page = page_with(alloc, &shown.bench, shown.keys.as_str());
+    let page = page_with(&shown.bench, alloc, shown.keys.as_str());
     let full = is_full(&shown.bench);
     // form: drop before exit
     drop(shown);

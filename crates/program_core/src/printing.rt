@@ -67,7 +67,7 @@ fn race_report<B: Allocator + Sync, T: Threads + Wait + Sync, R: Read, W: Write,
     // form: drop before exit
     drop(script);
     let bench = bench?;
-    let text = report_history(alloc, &bench);
+    let text = report_history(&bench, alloc);
     drop(bench);
     let Ok(text) = text else {
         return Err(Fault::OutOfMemory);
@@ -136,7 +136,7 @@ fn explain_bench<B: Allocator, R: Read, W: Write, L: Ledger>(
 {
     // form: the parameter `form` is for the contract alone
     let bench = read_bench(heap, alloc, reader, limits, aside, steps)?;
-    let told = explain_asked(alloc, &bench, question_of(question));
+    let told = explain_asked(&bench, alloc, question_of(question));
     // form: drop before exit
     drop(bench);
     // form: a `match`, as the proof cites what `Fault::from` ensures
@@ -174,7 +174,7 @@ fn tell_changes<B: Allocator, R: Read, W: Write, L: Ledger, C: Clock, E: Write>(
     // form: the parameter `form` is for the contract alone
     let bench = read_bench(heap, alloc, reader, limits, aside, steps)?;
     let mut teller = Teller::new(heap, clock, errors);
-    let told = tell_whatif(alloc, &bench, question, change, &mut teller);
+    let told = tell_whatif(&bench, alloc, question, change, &mut teller);
     // form: drop before exit
     drop(bench);
     // form: a `match`, as the proof cites what `Fault::from` ensures
@@ -216,7 +216,7 @@ fn explore_bench<B: Allocator, R: Read, W: Write, L: Ledger, C: Clock, E: Write>
     let bench = read_bench(heap, alloc, reader, limits, aside, steps)?;
     let question = asked_of(about, lost, again, states);
     let mut teller = Teller::new(heap, clock, errors);
-    let told = tell_explored(alloc, &bench, question, outcome, &mut teller);
+    let told = tell_explored(&bench, alloc, question, outcome, &mut teller);
     // form: drop before exit
     drop(bench);
     // form: a `match`, as the proof cites what `Fault::from` ensures
