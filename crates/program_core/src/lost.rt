@@ -42,8 +42,9 @@ impl Lost {
         ensures first { (count : ℕ) × Appends (E.contents errors.old) (E.contents errors.new) (take count bytes.now) }
         ensures before { self.old ≡ true → self.new ≡ true }
     {
-        if write_out(errors, bytes).is_err() {
-            self.any = true;
+        match write_out(errors, bytes) {
+            Ok(()) => {}
+            Err(_unwritten) => self.any = true,
         }
     }
 }
