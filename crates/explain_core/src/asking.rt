@@ -19,8 +19,8 @@ pub struct Question<'q> {
 /// The explanation for the question. `NoSuchNode` if no node has the name, `NoWord` if the topic or the key isn't a
 /// word.
 pub fn explain_asked<'a, B: Allocator>(
-    alloc: &'a B,
     bench: &Bench<'a, B>,
+    alloc: &'a B,
     question: Question<'_>,
 ) -> Result<String<&'a B>, AskFault>
     ensures answer { IfOk result (λ text. IsAnswer bench.now question.entry (string_bytes text)) }

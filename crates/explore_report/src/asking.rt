@@ -44,8 +44,8 @@ fn explored<'a, B: Allocator, W: Watch<Walked>>(
 /// What the network could have made of the remaining steps, as a text: each outcome, with a run that leads there.
 /// `NoSuchNode` and `NoWord` come before the walk.
 pub fn explore_asked<'a, B: Allocator, W: Watch<Walked>>(
-    alloc: &'a B,
     bench: &Bench<'a, B>,
+    alloc: &'a B,
     question: Question<'_>,
     watch: &mut W,
 ) -> Result<String<&'a B>, ReportFault>
@@ -76,8 +76,8 @@ fn outcome_at<'l, 'a, B: Allocator>(
 /// The run of the outcome with this number in the text, as a script that plays it. `NoSuchOutcome` if no outcome has
 /// that number.
 pub fn run_of_outcome<'a, B: Allocator, W: Watch<Walked>>(
-    alloc: &'a B,
     bench: &Bench<'a, B>,
+    alloc: &'a B,
     question: Question<'_>,
     number: u64,
     watch: &mut W,

@@ -59,11 +59,11 @@ fn keys_text<A: Allocator + Copy>(
 /// Plays the events of an import on a fresh bench. Gives the bench, and the text of the JSON objects that tell of the
 /// events (see `put_entries`).
 fn played<'a, B: Allocator>(
+    import: &Import<&'a B>,
     heap: Global,
     alloc: &'a B,
     limits: Limits,
     bytes: &[u8],
-    import: &Import<&'a B>,
 ) -> Result<(Bench<'a, B>, String<&'a B>), Oom>
     requires some { 0 < length import.now.tables.nodes }
     requires few { length import.now.tables.nodes ≤ 32 }
@@ -100,11 +100,11 @@ fn played<'a, B: Allocator>(
 
 /// The bench on which the events of an import were played, and the keys that tell of the logs.
 fn shown_of<'a, B: Allocator>(
+    import: &Import<&'a B>,
     heap: Global,
     alloc: &'a B,
     limits: Limits,
     bytes: &[u8],
-    import: &Import<&'a B>,
 ) -> Result<Shown<'a, B>, Oom>
     requires some { 0 < length import.now.tables.nodes }
     requires few { length import.now.tables.nodes ≤ 32 }
@@ -115,7 +115,7 @@ fn shown_of<'a, B: Allocator>(
         (in_order (map note_of import.now.notes.items) import.now.order.items) entries
         × (string_bytes s.keys ≡ keys_text (all_of import.now.tables) entries)) }
 {
-    let (bench, entries) = played(heap, alloc, limits, bytes, import)?;
+    let (bench, entries) = played(import, heap, alloc, limits, bytes)?;
     match keys_text(alloc, &import.tables, entries.as_str()) {
         Ok(keys) => Ok(Shown { bench, keys }),
         Err(oom) => {
@@ -148,7 +148,7 @@ pub fn import_shown<'a, B: Allocator>(
 {
     let import = imported(heap, alloc, lenient, bytes)?;
     // form: one way out, behind the import
-    let shown = shown_of(heap, alloc, limits, bytes, &import);
+    let shown = shown_of(&import, heap, alloc, limits, bytes);
     let left_out = left_out_of(import);
     let shown = shown?;
     Ok((shown, left_out))

@@ -20,10 +20,10 @@ use std::alloc::{Allocator, Global};
 
 /// The script of an import's events, and the bench on which they were played.
 fn script_of_import<'a, B: Allocator>(
+    import: &Import<&'a B>,
     alloc: &'a B,
     limits: Limits,
     told: bool,
-    import: &Import<&'a B>,
 ) -> Result<Scripted<'a, B>, Oom>
     requires some { 0 < length import.now.tables.nodes }
     requires few { length import.now.tables.nodes ≤ 32 }
@@ -40,11 +40,11 @@ fn script_of_import<'a, B: Allocator>(
 {
     let names = shown_names(alloc, &import.tables.nodes)?;
     script_of(
+        &import.tables,
         alloc,
         limits,
         told,
         names,
-        &import.tables,
         &import.notes,
         &import.order,
     )
@@ -75,7 +75,7 @@ pub fn import_script<'a, B: Allocator>(
 {
     let import = imported(heap, alloc, lenient, bytes)?;
     // form: one way out, behind the import
-    let scripted = script_of_import(alloc, limits, told, &import);
+    let scripted = script_of_import(&import, alloc, limits, told);
     let left_out = left_out_of(import);
     let scripted = scripted?;
     if scripted.text.len() > LONGEST_SCRIPT {
@@ -102,7 +102,7 @@ pub fn import_bench<'a, B: Allocator>(
 {
     let import = imported(heap, alloc, lenient, bytes)?;
     // form: one way out, behind the import
-    let scripted = script_of_import(alloc, limits, false, &import);
+    let scripted = script_of_import(&import, alloc, limits, false);
     let left_out = left_out_of(import);
     let scripted = scripted?;
     Ok((bench_of(scripted), left_out))
@@ -126,9 +126,9 @@ pub struct Checked<'a, B: Allocator> {
 
 /// Checks the events of an import on a fresh bench.
 fn check_of_import<'a, B: Allocator>(
+    import: &Import<&'a B>,
     alloc: &'a B,
     limits: Limits,
-    import: &Import<&'a B>,
 ) -> Result<Checked<'a, B>, Oom>
     requires some { 0 < length import.now.tables.nodes }
     requires few { length import.now.tables.nodes ≤ 32 }
@@ -170,7 +170,7 @@ pub fn import_check<'a, B: Allocator>(
 {
     let import = imported(heap, alloc, lenient, bytes)?;
     // form: one way out, behind the import
-    let found = check_of_import(alloc, limits, &import);
+    let found = check_of_import(&import, alloc, limits);
     let left_out = left_out_of(import);
     let found = found?;
     Ok((found, left_out))

@@ -75,8 +75,8 @@ pub struct Scripted<'a, B: Allocator> {
 
 /// Appends the first lines: the nodes, and the comments of `put_comments`.
 fn put_head<'a, B: Allocator>(
-    alloc: &'a B,
     text: &mut String<&'a B>,
+    alloc: &'a B,
     names: &Names<&'a B>,
     tables: &Tables<&'a B>,
 ) -> Result<(), Oom>
@@ -92,11 +92,11 @@ fn put_head<'a, B: Allocator>(
 /// their places in `notes`; `told` is as for `put_lines`.
 #[tactic(auto, unfolding(crate::specs::Scripts::script_text))]
 pub(crate) fn script_of<'a, B: Allocator>(
+    tables: &Tables<&'a B>,
     alloc: &'a B,
     limits: Limits,
     told: bool,
     names: Names<&'a B>,
-    tables: &Tables<&'a B>,
     notes: &[Noted<&'a B>],
     order: &[usize],
 ) -> Result<Scripted<'a, B>, Oom>
@@ -109,7 +109,7 @@ pub(crate) fn script_of<'a, B: Allocator>(
     ensures few { OnOk result (length tables.now.longs < 2 ^ 64) }
 {
     let mut text = String::new(alloc);
-    put_head(alloc, &mut text, &names, tables)?;
+    put_head(&mut text, alloc, &names, tables)?;
     let mut numbers = zeros(alloc, tables.messages.len())?;
     let mut bench = Bench::new(alloc, names, limits)?;
     if let Err(oom) = put_events(&mut text, &mut bench, &mut numbers, told, notes, order) {

@@ -319,18 +319,22 @@ fn run_gives<'a>(
 
 /// `Bench::run` refuses each call that names a node which the bench doesn't have, and records it while a place is free.
 /// If memory for the list of replies is refused, `run` makes none of the calls.
-fn unknown_is_refused<'a>(heap: &'a Heap, rt: &impl Abort) {
+fn refuses_unknown<'a>(bench: &mut Bench<'a, Heap>, heap: &'a Heap, rt: &impl Abort) {
     let calls = unknown();
-    let mut bench = opened("nodes a b", limits_of([6, 1, 1, 1], rt), heap, rt);
     heap.refuse_only(1);
     holds!(rt, bench.run(&calls).err().is_some());
     holds!(rt, bench.history().len() == 0);
     heap.refuse_none();
     let expected = [Reply::Refused(Fault::UnknownNode); 6];
-    holds!(rt, run_gives(&mut bench, &calls, &expected));
+    holds!(rt, run_gives(bench, &calls, &expected));
     holds!(rt, bench.history().len() == 6);
-    are_free(&mut bench, &calls, Fault::UnknownNode, heap, rt);
+    are_free(bench, &calls, Fault::UnknownNode, heap, rt);
     drop(calls);
+}
+
+fn unknown_is_refused<'a>(heap: &'a Heap, rt: &impl Abort) {
+    let mut bench = opened("nodes a b", limits_of([6, 1, 1, 1], rt), heap, rt);
+    refuses_unknown(&mut bench, heap, rt);
     drop(bench);
 }
 

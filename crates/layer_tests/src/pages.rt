@@ -50,9 +50,9 @@ a leaveall 2
 /// or gives nothing because there was such a request.
 fn has_data<'a>(script: &str, wanted: &str, refused: u64, heap: &'a Heap, rt: &impl Abort) -> bool {
     let script = parse_script(heap, script.as_bytes()).expect(rt, script);
-    let played = run_script(heap, &script, Limits::usual()).expect(rt, "a bench");
+    let played = run_script(&script, heap, Limits::usual()).expect(rt, "a bench");
     heap.refuse_only(refused);
-    let told = page_data(heap, &played.bench, console_names(&script));
+    let told = page_data(&played.bench, heap, console_names(&script));
     let requests = heap.requests();
     heap.refuse_none();
     drop(played);

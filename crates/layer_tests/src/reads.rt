@@ -105,10 +105,8 @@ fn reads_bench<'a>(bench: &Bench<'a, Heap>, rt: &impl Abort) {
     reads_history(bench.history(), rt);
 }
 
-/// Reads the outbox and the replica of the first node, and the replica of the second.
-fn reads_nodes<'a>(bench: &Bench<'a, Heap>, rt: &impl Abort) {
-    let a = bench.node(0).expect(rt, "a node");
-    let b = bench.node(1).expect(rt, "a node");
+/// Reads the outbox and the replica of `a`, and the replica of `b`.
+fn reads_both<'a>(a: &Node<'a, Heap>, b: &Node<'a, Heap>, rt: &impl Abort) {
     holds!(rt, a.same(a) && !a.same(b));
     reads_outbox(a.outbox(), rt);
     reads_sender(a.replica(), rt);
@@ -117,15 +115,20 @@ fn reads_nodes<'a>(bench: &Bench<'a, Heap>, rt: &impl Abort) {
 
 /// Reads a bench, its journal, its history and its first two nodes; then copies what the first node holds, and edits
 /// the copies.
-fn plays<'a>(script: &str, heap: &'a Heap, rt: &impl Abort) {
-    let bench = played(script, Limits::usual(), heap, rt);
+fn reads_and_edits<'a>(bench: &Bench<'a, Heap>, heap: &'a Heap, rt: &impl Abort) {
+    let a = bench.node(0).expect(rt, "a node");
+    let b = bench.node(1).expect(rt, "a node");
     heap.refuse_from(1);
-    reads_bench(&bench, rt);
-    reads_nodes(&bench, rt);
+    reads_bench(bench, rt);
+    reads_both(a, b, rt);
     holds!(rt, heap.requests() == 0);
     heap.refuse_none();
-    let node = bench.node(0).expect(rt, "a node");
-    edits(node, heap, rt);
+    edits(a, heap, rt);
+}
+
+fn plays<'a>(script: &str, heap: &'a Heap, rt: &impl Abort) {
+    let bench = played(script, Limits::usual(), heap, rt);
+    reads_and_edits(&bench, heap, rt);
     drop(bench);
 }
 

@@ -126,13 +126,18 @@ fn unwinds_many<'a>(bench: &mut Bench<'a, Heap>) -> bool {
     }
 }
 
+/// Copies nodes and history, and unwinds a step.
+fn copies_and_unwinds<'a>(bench: &mut Bench<'a, Heap>, heap: &'a Heap, rt: &impl Abort) {
+    holds!(rt, bench.history().len() == 327);
+    copies(bench, heap, rt);
+    holds!(rt, unwinds_many(bench));
+    holds!(rt, bench.remaining().len() == 261);
+}
+
 /// Plays the script, copies nodes and history, and unwinds a step.
 fn plays<'a>(script: &str, heap: &'a Heap, rt: &impl Abort) {
     let mut bench = played(script, Limits::usual(), heap, rt);
-    holds!(rt, bench.history().len() == 327);
-    copies(&bench, heap, rt);
-    holds!(rt, unwinds_many(&mut bench));
-    holds!(rt, bench.remaining().len() == 261);
+    copies_and_unwinds(&mut bench, heap, rt);
     drop(bench);
 }
 

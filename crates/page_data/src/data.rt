@@ -80,8 +80,8 @@ fn put_cast<A: Allocator, C: Allocator>(
 /// The data of a page, up to the last call. What closes the list of calls and the data is still to be appended.
 #[tactic(auto, unfolding(crate::specs::PageData::run_text))]
 fn run_text<'a, B: Allocator>(
-    alloc: &'a B,
     bench: &Bench<'a, B>,
+    alloc: &'a B,
     consoles: &TextSet<&'a B>,
 ) -> Result<String<&'a B>, Oom>
     ensures { IfOk result (λ text. string_bytes text ≡ run_text bench.now consoles.now) }
@@ -103,13 +103,13 @@ fn run_text<'a, B: Allocator>(
 /// names and limits. No `<` stands in the data.
 #[tactic(auto, unfolding(crate::specs::PageData::page_data))]
 pub fn page_data<'a, B: Allocator>(
-    alloc: &'a B,
     bench: &Bench<'a, B>,
+    alloc: &'a B,
     consoles: &TextSet<&'a B>,
 ) -> Result<String<&'a B>, Oom>
     ensures { IfOk result (λ text. string_bytes text ≡ page_data bench.now consoles.now) }
 {
-    let mut text = run_text(alloc, bench, consoles)?;
+    let mut text = run_text(bench, alloc, consoles)?;
     text.push_str("]}")?;
     Ok(text)
 }
@@ -118,14 +118,14 @@ pub fn page_data<'a, B: Allocator>(
 /// none stands in `keys`.
 #[tactic(auto, unfolding(crate::specs::PageData::data_with))]
 pub fn page_data_with<'a, B: Allocator>(
-    alloc: &'a B,
     bench: &Bench<'a, B>,
+    alloc: &'a B,
     consoles: &TextSet<&'a B>,
     keys: &str,
 ) -> Result<String<&'a B>, Oom>
     ensures { IfOk result (λ text. string_bytes text ≡ data_with bench.now consoles.now keys.now) }
 {
-    let mut text = run_text(alloc, bench, consoles)?;
+    let mut text = run_text(bench, alloc, consoles)?;
     text.push_str("]")?;
     text.push_str(keys)?;
     text.push_str("}")?;

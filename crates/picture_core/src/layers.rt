@@ -46,8 +46,8 @@ pub fn with_length(longest: u32, bytes: usize) -> u32
 /// `changed` is the node that the call changed.
 #[tactic(auto, unfolding(crate::specs::Rows::row_told))]
 fn put_drawn<'a, N: Allocator, B: Allocator>(
-    names: &Names<N>,
     layers: &mut Layers<'a, B>,
+    names: &Names<N>,
     consoles: &TextSet<&'a B>,
     steps: &[Drawn],
     changed: Option<u16>,
@@ -67,8 +67,8 @@ fn put_drawn<'a, N: Allocator, B: Allocator>(
 {
     let nodes = names.len() as u32;
     let lane = lane_of(nodes, event.actor, event.reply, changed);
-    let title = title_of(names, consoles, event, acted, alloc)?;
-    let words = words_of(names, consoles, event, acted, alloc)?;
+    let title = title_of(event, names, consoles, acted, alloc)?;
+    let words = words_of(event, names, consoles, acted, alloc)?;
     put_row(
         &mut layers.rows,
         nodes,
@@ -126,8 +126,8 @@ fn put_told<'a, B: Allocator>(
         return Ok(());
     }
     put_drawn(
-        asked.names(),
         layers,
+        asked.names(),
         consoles,
         steps,
         changed,
@@ -171,7 +171,7 @@ fn put_event<'a, B: Allocator>(
         alloc,
     )?;
     let undone = node_undone(asked, &event.act);
-    let acted = ask(alloc, asked, event.actor, &event.act)?;
+    let acted = ask(asked, alloc, event.actor, &event.act)?;
     let changed = node_changed(event.actor, acted.reply, undone);
     let told = put_told(
         asked, layers, consoles, steps, range, of, changed, row, event, &acted, alloc,

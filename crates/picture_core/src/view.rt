@@ -92,8 +92,8 @@ fn asked<'a, B: Allocator>(
 /// along the row of the step that sent it, and then down beside the lane of the node that delivers it. What was taken
 /// back is pale and struck; the step `why`, if it remains, and all that follows from it are bold.
 pub fn draw<'a, B: Allocator>(
-    alloc: &'a B,
     bench: &Bench<'a, B>,
+    alloc: &'a B,
     consoles: &TextSet<&'a B>,
     view: View<'_>,
 ) -> Result<Vec<u8, &'a B>, DrawFault>
@@ -113,8 +113,8 @@ pub fn draw<'a, B: Allocator>(
 /// The picture of all calls that a bench recorded, with no step painted and no lane thick.
 #[tactic(auto, unfolding(crate::specs::Views::whole_picture))]
 pub fn draw_whole<'a, B: Allocator>(
-    alloc: &'a B,
     bench: &Bench<'a, B>,
+    alloc: &'a B,
     consoles: &TextSet<&'a B>,
 ) -> Result<Vec<u8, &'a B>, Oom>
     ensures { IfOk result (λ text. text.items ≡ whole_picture bench.now consoles.now) }

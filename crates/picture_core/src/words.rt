@@ -49,9 +49,9 @@ fn put_row_words<A: Allocator, R: Allocator>(
 /// left and joined the online list of the node that the call changed.
 #[tactic(auto, unfolding(crate::specs::Words::words_told))]
 pub fn words_of<'a, B: Allocator, N: Allocator, C: Allocator>(
+    event: &Event<&'a B>,
     names: &Names<N>,
     consoles: &TextSet<C>,
-    event: &Event<&'a B>,
     acted: &Acted<&'a B>,
     alloc: &'a B,
 ) -> Result<String<&'a B>, Oom>
@@ -69,9 +69,9 @@ pub fn words_of<'a, B: Allocator, N: Allocator, C: Allocator>(
 /// The call as a line of a script and, from the next line on, what the call printed.
 #[tactic(auto, unfolding(crate::specs::Words::title_told))]
 pub fn title_of<'a, B: Allocator, N: Allocator, C: Allocator>(
+    event: &Event<&'a B>,
     names: &Names<N>,
     consoles: &TextSet<C>,
-    event: &Event<&'a B>,
     acted: &Acted<&'a B>,
     alloc: &'a B,
 ) -> Result<String<&'a B>, Oom>

@@ -11,7 +11,7 @@ use Rattle.import_core.specs.declared.fault.FaultKind.TheVariants as kinds
 use Rattle.import_core.specs.declared.fault.ImportFault.{ImportFault}
 use Rattle.program_core.specs.declared.fault.Fault.{Fault}
 use Rattle.program_core.specs.declared.fault.Fault.TheVariants as faults
-use Rattle.program_core.specs.Imported.{EndsAsMade, IsMade, IsUnmade, RefusesEvents, RefusesEventsAt, RefusesImport, RefusesImportAt, TellsLines, TellsMissing}
+use Rattle.program_core.specs.Imported.{EndsAsMade, IsMade, IsUnmade, RefusesEvents, RefusesEventsAt, RefusesImport, RefusesImportAt, TellsAll, TellsLines, TellsMade, TellsMissing}
 use Rattle.program_core.specs.Program.{EndsAt, Ends, FailsAs, IsUnwritten, KeepsBefore, TellsMemory, fault_of_import}
 use Rattle.program_core.proofs.Printed.{cause_ends}
 
@@ -214,12 +214,15 @@ told_missing check lines lenient form limits None bytes text differs left_out fu
 told_missing check lines lenient form limits (Some input) bytes text differs left_out full old new whole is told =
     inr (text, differs, left_out, full, subst (λ (b : List ℕ). IsMade check lines lenient form limits b text differs left_out full) whole is, told)
 
+pub told_all : (check lines lenient : Bool) (form : Form) (limits : Limits) (known : Option (List ℕ)) (bytes text : List ℕ) (differs : Bool) (left_out : List ℕ)
+    (full lost : Bool) (old new : Option (List ℕ)) → IsWhole known bytes → IsMade check lines lenient form limits bytes text differs left_out full →
+    TellsAll left_out full lost old new → TellsMade check lines lenient form limits known lost old new
+told_all check lines lenient form limits None bytes text differs left_out full lost old new whole is told = tt
+told_all check lines lenient form limits (Some input) bytes text differs left_out full lost old new whole is told =
+    (text, differs, left_out, full, subst (λ (b : List ℕ). IsMade check lines lenient form limits b text differs left_out full) whole is, told)
+
 pub told_nothing : (check lines lenient : Bool) (form : Form) (limits : Limits) (known old : Option (List ℕ)) →
     TellsMissing check lines lenient form limits known old old
 told_nothing check lines lenient form limits None old = tt
 told_nothing check lines lenient form limits (Some input) None = inl tt
 told_nothing check lines lenient form limits (Some input) (Some bytes) = inl refl
-
-pub take_whole : (xs : List ℕ) → take (length xs) xs ≡ xs
-take_whole [] = refl
-take_whole (x ∷ xs) = ap (λ l. x ∷ l) (take_whole xs)

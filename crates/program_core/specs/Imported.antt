@@ -91,6 +91,17 @@ full_line false = []
 abbrev pub TellsLines : List ℕ → Bool → Option (List ℕ) → Option (List ℕ) → Type 0
 TellsLines left_out full old new = (count : ℕ) × Appends old new (take count (left_lines left_out ++ full_line full))
 
+-- all of these lines went out, unless a write failed
+abbrev pub TellsAll : List ℕ → Bool → Bool → Option (List ℕ) → Option (List ℕ) → Type 0
+TellsAll left_out full lost old new = lost ≡ false → Appends old new (left_lines left_out ++ full_line full)
+
+-- to the errors went all lines that tell what is left out of what is made, and whether it is full, unless a write failed
+abbrev pub TellsMade : Bool → Bool → Bool → Form → Limits → Option (List ℕ) → Bool → Option (List ℕ) → Option (List ℕ) → Type 0
+TellsMade check lines lenient form limits None lost old new = ⊤
+TellsMade check lines lenient form limits (Some input) lost old new =
+    (text : List ℕ) × (differs : Bool) × (left_out : List ℕ) × (full : Bool)
+    × IsMade check lines lenient form limits input text differs left_out full × TellsAll left_out full lost old new
+
 -- to the errors went nothing, or a beginning of the lines that tell what is left out of what is made, and whether it is full
 abbrev pub TellsMissing : Bool → Bool → Bool → Form → Limits → Option (List ℕ) → Option (List ℕ) → Option (List ℕ) → Type 0
 TellsMissing check lines lenient form limits None old new = ⊤

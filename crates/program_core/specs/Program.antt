@@ -42,7 +42,7 @@ use Rattle.prompt_core.specs.declared.prompt_fault.PromptFault.TheVariants as pr
 use Rattle.command_line.specs.Help.{language}
 use Rattle.program_core.specs.Races.{IsRaceOf, RefusesRaceOf}
 use Rattle.program_core.specs.Views.{page_of, view_of}
-use Rattle.program_core.specs.Imported.{PrintsImport, RefusesImport, TellsMissing}
+use Rattle.program_core.specs.Imported.{PrintsImport, RefusesImport, TellsMade, TellsMissing}
 use Rattle.program_core.specs.Texts.{session_text}
 use Rattle.program_core.specs.Shown.{PrintsBench, PrintsPlay, refused_act, refused_line}
 use Rattle.program_core.specs.Whatifs.{RefusesWhatif, TellsWhatif}
@@ -394,6 +394,24 @@ TellsAside Page form limits input old new = Keeps old new
 TellsAside (Explain question) form limits input old new = Keeps old new
 TellsAside (Whatif question change) form limits input old new = TellsTried old new
 
+-- the answer is a fault that came before anything was printed
+abbrev pub IsEarly : Result (Unit {0}) Fault → Type 0
+IsEarly (Ok _) = ⊥
+IsEarly (Err fault) = IsUnwritten fault
+
+-- to the errors went all lines that tell what is missing from an import, unless a write failed
+abbrev pub TellsWhole : Subcommand → Form → Limits → Option (List ℕ) → Bool → Option (List ℕ) → Option (List ℕ) → Type 0
+TellsWhole (Import check lines lenient) form limits input lost old new = TellsMade check lines lenient form limits input lost old new
+TellsWhole (Play strict) form limits input lost old new = ⊤
+TellsWhole Race form limits input lost old new = ⊤
+TellsWhole (Load strict) form limits input lost old new = ⊤
+TellsWhole (Explore about dropped again states outcome) form limits input lost old new = ⊤
+TellsWhole Step form limits input lost old new = ⊤
+TellsWhole (Draw drawing) form limits input lost old new = ⊤
+TellsWhole Page form limits input lost old new = ⊤
+TellsWhole (Explain question) form limits input lost old new = ⊤
+TellsWhole (Whatif question change) form limits input lost old new = ⊤
+
 -- the word that chooses a command
 abbrev pub word_of : Subcommand → List ℕ
 word_of (Play strict) = codes "play"
@@ -420,6 +438,11 @@ abbrev pub Announces : Bool → Subcommand → Option (List ℕ) → Option (Lis
 Announces false command old new = new ≡ old
 Announces true Step old new = new ≡ old
 Announces true command old new = TellsInput command old new
+
+-- `TellsWhole`, behind what `Announces` says
+abbrev pub TellsBehind : Bool → Limits → Subcommand → Form → Option (List ℕ) → Bool → Option (List ℕ) → Option (List ℕ) → Type 0
+TellsBehind terminal limits command form input lost old new =
+    (middle : Option (List ℕ)) × Announces terminal command old middle × TellsWhole command form limits input lost middle new
 
 -- what goes to the errors after `input_line`: the signs of a prompt on a terminal
 abbrev pub TellsOn : Bool → Limits → Subcommand → Form → Option (List ℕ) → Option (List ℕ) → Option (List ℕ) → Type 0
@@ -480,3 +503,19 @@ IsQuiet words input old new = Keeps old new ⊎ ((choice : Choice) × Chooses wo
 abbrev pub IsQuietOn : Bool → Limits → List (List ℕ) → Option (List ℕ) → Option (List ℕ) → Option (List ℕ) → Type 0
 IsQuietOn terminal limits words input old new =
     Keeps old new ⊎ ((choice : Choice) × Chooses words choice × TellsBeside terminal limits choice.command choice.form input old new)
+
+-- the answer says that all went well, or that the bench and the real nodes part
+abbrev pub IsFine : Result (Unit {0}) Fault → Type 0
+IsFine (Ok _) = ⊤
+IsFine (Err faults.Differs) = ⊤
+IsFine (Err _) = ⊥
+
+-- the status says that all went well, or that an act was refused or that the bench and the real nodes part
+abbrev pub IsEnd : ℕ → Type 0
+IsEnd status = (status ≡ 0) ⊎ (status ≡ 6)
+
+-- the words choose something, and what is missing from an import was told; or they choose nothing, and nothing was told
+abbrev pub TellsAsChosen : Bool → Limits → List (List ℕ) → Option (List ℕ) → Bool → Option (List ℕ) → Option (List ℕ) → Type 0
+TellsAsChosen terminal limits words input lost old new =
+    ((choice : Choice) × Chooses words choice × TellsBehind terminal limits choice.command choice.form input lost old new)
+    ⊎ ((kind : ErrorKind) × IsRefusal words kind × Keeps old new)

@@ -42,8 +42,8 @@ pub fn asked_of<'w>(
 /// The outcomes of what the network could have done; or, given the number of an `outcome`, a run that leads to it, as a
 /// script.
 pub fn tell_explored<'a, B: Allocator, W: Watch<Walked>>(
-    alloc: &'a B,
     bench: &Bench<'a, B>,
+    alloc: &'a B,
     question: Question<'_>,
     outcome: Option<u64>,
     watch: &mut W,
@@ -53,7 +53,7 @@ pub fn tell_explored<'a, B: Allocator, W: Watch<Walked>>(
     ensures watched { Watched W.told watch.old watch.new }
 {
     match outcome {
-        None => explore_asked(alloc, bench, question, watch),
-        Some(number) => run_of_outcome(alloc, bench, question, number, watch),
+        None => explore_asked(bench, alloc, question, watch),
+        Some(number) => run_of_outcome(bench, alloc, question, number, watch),
     }
 }

@@ -1,15 +1,16 @@
 //! What is printed of the events of logs: a script, a session, a page, or where the bench and the real nodes part.
-ghost use Rattle.std.specs.Prelude.{◌≡◌, ◌≢◌, ◌++◌, Err, IfErr, IfOk, OnOk, true, false, string_bytes};
+ghost use Rattle.std.specs.Prelude.{◌≡◌, ◌≢◌, ◌⊎◌, ◌++◌, Err, IfErr, IfOk, OnOk, true, false, string_bytes};
 ghost use Rattle.std.specs.Io.KnownBytes.{IsAtEnd};
 ghost use Rattle.stream_core.specs.Inputs.{IsWhole};
 ghost use Rattle.command_line.specs.declared.chosen.Form.TheVariants as forms;
 ghost use Rattle.command_line.specs.declared.chosen.Subcommand.TheVariants as subcommands;
-ghost use Rattle.program_core.specs.Imported.{EndsAsMade, IsMade, IsUnmade, RefusesEventsAt, RefusesImport, TellsLines, TellsMissing, full_line, is_full, left_line, left_lines};
+ghost use Rattle.program_core.specs.Imported.{EndsAsMade, IsMade, IsUnmade, RefusesEventsAt, RefusesImport, TellsAll, TellsLines, TellsMade, TellsMissing, full_line, is_full, left_line, left_lines};
 ghost use Rattle.program_core.specs.Texts.{text_bytes};
-ghost use Rattle.program_core.specs.Program.{EndsAt, FailsAs, IsUnwritten, KeepsBefore, TellsMemory, fault_of_import};
+ghost use Rattle.program_core.specs.Program.{EndsAt, FailsAs, IsEarly, IsUnwritten, KeepsBefore, TellsMemory, fault_of_import};
 
 use crate::aside::Aside;
 use crate::fault::Fault;
+use crate::lost::Lost;
 use crate::pages::page_with;
 use crate::printing::print;
 use crate::text::{Text, bytes_of};
@@ -20,7 +21,7 @@ use import_core::{FaultKind, ImportFault};
 use import_page::import_shown;
 use import_report::{Checked, Scripted, import_bench, import_check, import_script};
 use payload_core::Oom;
-use script_core::{InputFault, Steps, read_all, write_out};
+use script_core::{InputFault, Steps, read_all};
 use std::alloc::{Allocator, Global};
 use std::io::{Read, Write};
 use std::sync::ledger::Ledger;
@@ -77,22 +78,22 @@ fn put_full<A: Allocator>(text: &mut String<A>, full: bool) -> Result<(), Oom>
 }
 
 /// Writes to `errors` a line for each line that was left out, and one more if the history is full (`full`). A failed
-/// write isn't a fault.
+/// write isn't a fault; `lost` says so.
 fn tell_missing<A: Allocator, E: Write>(
     alloc: A,
     errors: &mut E,
     left_out: &[u64],
     full: bool,
+    lost: &mut Lost,
 ) -> Result<(), Oom>
-    ensures { TellsLines left_out.now full (E.contents errors.old) (E.contents errors.new) }
+    ensures lines { TellsLines left_out.now full (E.contents errors.old) (E.contents errors.new) }
+    ensures all { OnOk result (TellsAll left_out.now full lost.new (E.contents errors.old) (E.contents errors.new)) }
 {
     let mut text = String::new(alloc);
     put_left(&mut text, left_out)?;
     put_full(&mut text, full)?;
-    match write_out(errors, text.as_bytes()) {
-        Ok(()) => Ok(()),
-        Err(_unwritten) => Ok(()),
-    }
+    lost.tell(errors, text.as_bytes());
+    Ok(())
 }
 
 /// The fault of an import as a fault of the program.
@@ -199,7 +200,7 @@ fn make_page<'a, B: Allocator>(
 {
     // form: the parameter `lines` is for the contract alone
     let (shown, left_out) = import_shown(heap, alloc, limits, lenient, input)?;
-    let page = page_with(alloc, &shown.bench, shown.keys.as_str());
+    let page = page_with(&shown.bench, alloc, shown.keys.as_str());
     let full = is_full(&shown.bench);
     // form: drop before exit
     drop(shown);
@@ -282,8 +283,8 @@ fn print_made<B: Allocator, W: Write>(writer: &mut W, made: &Made<&B>) -> Result
 
 /// Reads the events of logs, and prints a script of them, or what else the command line chose by `check`, `lines`,
 /// `lenient` and `form`. Before it prints, it tells on `errors` which lines were left out, if any were, and that the
-/// history is full, if it is. If the events are refused, `aside` gets the hint, if there is one. `steps` counts the
-/// calls of `read`.
+/// history is full, if it is; `lost` says if that can't be written. If the events are refused, `aside` gets the hint, if
+/// there is one. `steps` counts the calls of `read`.
 pub fn import_events<B: Allocator, R: Read, W: Write, E: Write, L: Ledger>(
     heap: Global,
     alloc: &B,
@@ -296,6 +297,7 @@ pub fn import_events<B: Allocator, R: Read, W: Write, E: Write, L: Ledger>(
     lenient: bool,
     form: Form,
     aside: &mut Aside,
+    lost: &mut Lost,
     steps: &mut Steps<L>,
 ) -> Result<(), Fault>
     ensures ends { EndsAt (subcommands.Import check lines lenient) form limits (R.remaining reader.old) result (W.contents writer.old) (W.contents writer.new) }
@@ -304,6 +306,7 @@ pub fn import_events<B: Allocator, R: Read, W: Write, E: Write, L: Ledger>(
     ensures memory { IfErr result TellsMemory }
     ensures failed { FailsAs result steps.old steps.new }
     ensures aside { TellsMissing check lines lenient form limits (R.remaining reader.old) (E.contents errors.old) (E.contents errors.new) }
+    ensures told { IsEarly result ⊎ TellsMade check lines lenient form limits (R.remaining reader.old) lost.new (E.contents errors.old) (E.contents errors.new) }
 {
     let input = read_events(alloc, reader, steps)?;
     let made = make(
@@ -312,10 +315,11 @@ pub fn import_events<B: Allocator, R: Read, W: Write, E: Write, L: Ledger>(
     // form: drop before exit
     drop(input);
     let made = made?;
-    if tell_missing(alloc, errors, &made.left_out, made.full).is_err() {
+    let Ok(()) = tell_missing(alloc, errors, &made.left_out, made.full, lost) else {
+        // form: drop before exit
         drop(made);
         return Err(Fault::OutOfMemory);
-    }
+    };
     let printed = print_made(writer, &made);
     drop(made);
     printed

@@ -36,7 +36,7 @@ fn unnamed_run<'a, B: Allocator>(alloc: &'a B, bench: Bench<'a, B>) -> Result<Ru
     ensures bench { IfOk result (λ run. run.bench ≡ bench.entry) }
     ensures consoles { IfOk result (λ run. run.consoles ≡ free_consoles bench.entry) }
 {
-    let Ok(consoles) = free_consoles(alloc, &bench) else {
+    let Ok(consoles) = free_consoles(&bench, alloc) else {
         // form: drop before exit
         drop(bench);
         return Err(Oom);
@@ -78,15 +78,15 @@ fn load_bytes<'a, B: Allocator>(
 
 /// Plays a script, and gives its run.
 fn played_run<'a, B: Allocator>(
-    alloc: &'a B,
     script: &Script<&'a B>,
+    alloc: &'a B,
     limits: Limits,
 ) -> Result<Run<'a, B>, Oom>
     ensures bench { IfOk result (λ run. run.bench ≡ played limits (plain_script script.now)) }
     ensures consoles { IfOk result (λ run. run.consoles ≡ (plain_script script.now).cast.consoles) }
 {
     let consoles = console_names(script).try_copy()?;
-    let Ok(played) = run_script(alloc, script, limits) else {
+    let Ok(played) = run_script(script, alloc, limits) else {
         // form: drop before exit
         drop(consoles);
         return Err(Oom);
@@ -118,7 +118,7 @@ fn play_bytes<'a, B: Allocator>(
             return Err(Fault::Script(fault));
         }
     };
-    let run = played_run(alloc, &script, limits);
+    let run = played_run(&script, alloc, limits);
     // form: drop before exit
     drop(script);
     match run {

@@ -23,39 +23,39 @@ use transcript_core::bench_steps;
 
 /// The page of the run of `bench`, whose consoles have the names `consoles`. `run` is the data of the page.
 fn page_around<'a, B: Allocator>(
-    alloc: &'a B,
     bench: &Bench<'a, B>,
+    alloc: &'a B,
     consoles: &TextSet<&'a B>,
     run: &str,
 ) -> Result<Vec<u8, &'a B>, Oom>
     ensures { IfOk result (λ page. page.items ≡ page_around bench.now consoles.now run.now) }
 {
-    let picture = draw_whole(alloc, bench, consoles)?;
-    let report = bench_steps(alloc, bench, consoles)?;
+    let picture = draw_whole(bench, alloc, consoles)?;
+    let report = bench_steps(bench, alloc, consoles)?;
     let mut page = Vec::new(alloc);
     put_page(&mut page, &picture, &report, run.as_bytes())?;
     Ok(page)
 }
 
 /// The page of a run, without further keys in the page's data.
-fn page_of<'a, B: Allocator>(alloc: &'a B, run: &Run<'a, B>) -> Result<Vec<u8, &'a B>, Oom>
+fn page_of<'a, B: Allocator>(run: &Run<'a, B>, alloc: &'a B) -> Result<Vec<u8, &'a B>, Oom>
     ensures { IfOk result (λ page. page.items ≡ page_of run.now.bench run.now.consoles) }
 {
-    let told = page_data(alloc, &run.bench, &run.consoles)?;
-    page_around(alloc, &run.bench, &run.consoles, told.as_str())
+    let told = page_data(&run.bench, alloc, &run.consoles)?;
+    page_around(&run.bench, alloc, &run.consoles, told.as_str())
 }
 
 /// The page of a run without consoles. Its data has further `keys`, each with a comma before it.
 pub(crate) fn page_with<'a, B: Allocator>(
-    alloc: &'a B,
     bench: &Bench<'a, B>,
+    alloc: &'a B,
     keys: &str,
 ) -> Result<Vec<u8, &'a B>, Oom>
     ensures { IfOk result (λ page. page.items ≡ page_with bench.now keys.now) }
 {
     let consoles = TextSet::new(alloc);
-    let told = page_data_with(alloc, bench, &consoles, keys)?;
-    page_around(alloc, bench, &consoles, told.as_str())
+    let told = page_data_with(bench, alloc, &consoles, keys)?;
+    page_around(bench, alloc, &consoles, told.as_str())
 }
 
 /// Reads a run from the input, and prints its page.
@@ -77,7 +77,7 @@ pub fn page_run<B: Allocator, R: Read, W: Write, L: Ledger>(
 {
     // form: the parameter `form` is for the contract alone
     let run = read_run(heap, alloc, reader, limits, aside, steps)?;
-    let page = page_of(alloc, &run);
+    let page = page_of(&run, alloc);
     // form: drop before exit
     drop(run);
     let Ok(text) = page else {

@@ -69,7 +69,7 @@ pub fn draw_run<B: Allocator, R: Read, W: Write, L: Ledger>(
 {
     // form: the parameter `form` is for the contract alone
     let run = read_run(heap, alloc, reader, limits, aside, steps)?;
-    let drawn = draw(alloc, &run.bench, &run.consoles, view_of(drawing));
+    let drawn = draw(&run.bench, alloc, &run.consoles, view_of(drawing));
     // form: drop before exit
     drop(run);
     // form: a `match`, as the proof cites what `Fault::from` ensures

@@ -1,17 +1,18 @@
 //! Prints what each choice of the command line asks for.
-ghost use Rattle.std.specs.Prelude.{◌≡◌, ◌≢◌, IfErr, OnOk};
+ghost use Rattle.std.specs.Prelude.{◌≡◌, ◌≢◌, ◌⊎◌, IfErr, OnOk};
 ghost use Rattle.std.specs.Io.KnownBytes.{IsAtEnd};
 ghost use Rattle.command_line.specs.declared.chosen.Form.{Form};
 ghost use Rattle.command_line.specs.declared.chosen.Form.TheVariants as forms;
 ghost use Rattle.command_line.specs.declared.chosen.Subcommand.TheVariants as subcommands;
 ghost use Rattle.progress_core.specs.Lines.{TellsTried, TellsWalked};
-ghost use Rattle.program_core.specs.Program.{EndsAt, EndsAsText, EndsSoon, FailsAs, IsReadBy, KeepsBefore, TellsMemory, TellsOn, question_of};
+ghost use Rattle.program_core.specs.Program.{EndsAt, EndsAsText, EndsSoon, FailsAs, IsEarly, IsReadBy, KeepsBefore, TellsMemory, TellsOn, TellsWhole, question_of};
 
 use crate::aside::Aside;
 use crate::exploring::{asked_of, tell_explored};
 use crate::fault::Fault;
 use crate::importing::import_events;
 use crate::inputs::read_bench;
+use crate::lost::Lost;
 use crate::pages::page_run;
 use crate::pictures::draw_run;
 use crate::racing::race_script;
@@ -67,7 +68,7 @@ fn race_report<B: Allocator + Sync, T: Threads + Wait + Sync, R: Read, W: Write,
     // form: drop before exit
     drop(script);
     let bench = bench?;
-    let text = report_history(alloc, &bench);
+    let text = report_history(&bench, alloc);
     drop(bench);
     let Ok(text) = text else {
         return Err(Fault::OutOfMemory);
@@ -136,7 +137,7 @@ fn explain_bench<B: Allocator, R: Read, W: Write, L: Ledger>(
 {
     // form: the parameter `form` is for the contract alone
     let bench = read_bench(heap, alloc, reader, limits, aside, steps)?;
-    let told = explain_asked(alloc, &bench, question_of(question));
+    let told = explain_asked(&bench, alloc, question_of(question));
     // form: drop before exit
     drop(bench);
     // form: a `match`, as the proof cites what `Fault::from` ensures
@@ -174,7 +175,7 @@ fn tell_changes<B: Allocator, R: Read, W: Write, L: Ledger, C: Clock, E: Write>(
     // form: the parameter `form` is for the contract alone
     let bench = read_bench(heap, alloc, reader, limits, aside, steps)?;
     let mut teller = Teller::new(heap, clock, errors);
-    let told = tell_whatif(alloc, &bench, question, change, &mut teller);
+    let told = tell_whatif(&bench, alloc, question, change, &mut teller);
     // form: drop before exit
     drop(bench);
     // form: a `match`, as the proof cites what `Fault::from` ensures
@@ -216,7 +217,7 @@ fn explore_bench<B: Allocator, R: Read, W: Write, L: Ledger, C: Clock, E: Write>
     let bench = read_bench(heap, alloc, reader, limits, aside, steps)?;
     let question = asked_of(about, lost, again, states);
     let mut teller = Teller::new(heap, clock, errors);
-    let told = tell_explored(alloc, &bench, question, outcome, &mut teller);
+    let told = tell_explored(&bench, alloc, question, outcome, &mut teller);
     // form: drop before exit
     drop(bench);
     // form: a `match`, as the proof cites what `Fault::from` ensures
@@ -231,7 +232,7 @@ fn explore_bench<B: Allocator, R: Read, W: Write, L: Ledger, C: Clock, E: Write>
 /// writes nothing before the whole text is ready. If the input is refused, `aside` gets the hint, if there is one.
 /// `limits` are those of the bench, unless the input is a session, which has its own. JSON, hints and lines on how far
 /// work has come take their memory from `heap`; benches and all other texts take theirs from `alloc`. `steps` counts
-/// the calls of `read`. On `errors` it writes only what is missing from an import, the signs of a prompt on a terminal,
+/// the calls of `read`. On `errors` it writes only what is missing from an import, which `lost` says if it can't, the signs of a prompt on a terminal,
 /// and how far long work has come.
 pub fn answer<
     B: Allocator + Sync,
@@ -252,6 +253,7 @@ pub fn answer<
     limits: Limits,
     terminal: bool,
     aside: &mut Aside,
+    lost: &mut Lost,
     steps: &mut Steps<L>,
     clock: &C,
 ) -> Result<(), Fault>
@@ -263,6 +265,8 @@ pub fn answer<
     ensures early { EndsSoon choice.entry.command limits result (R.remaining reader.old) (R.remaining reader.new) (W.contents writer.old)
         (W.contents writer.new) }
     ensures aside { TellsOn terminal limits choice.entry.command choice.entry.form (R.remaining reader.old) (E.contents errors.old) (E.contents errors.new) }
+    ensures told { IsEarly result ⊎ TellsWhole choice.entry.command choice.entry.form limits (R.remaining reader.old) lost.new (E.contents errors.old)
+        (E.contents errors.new) }
 {
     match (choice.command, choice.form) {
         (Subcommand::Play { strict }, form) => play_shown(
@@ -285,7 +289,8 @@ pub fn answer<
             },
             form,
         ) => import_events(
-            heap, alloc, reader, writer, errors, limits, check, lines, lenient, form, aside, steps,
+            heap, alloc, reader, writer, errors, limits, check, lines, lenient, form, aside, lost,
+            steps,
         ),
         (Subcommand::Step, _) => step_script(
             heap, alloc, reader, writer, errors, limits, terminal, steps,

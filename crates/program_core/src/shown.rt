@@ -36,8 +36,8 @@ pub struct Shown<A: Allocator> {
 /// The report of a script with each line above what it printed. `bench` is what a play of the script with `limits`
 /// left.
 fn steps_of_script<'a, B: Allocator>(
-    alloc: &'a B,
     script: &Script<&'a B>,
+    alloc: &'a B,
     limits: Limits,
     bench: &Bench<'a, B>,
 ) -> Result<Text<&'a B>, Fault>
@@ -45,7 +45,7 @@ fn steps_of_script<'a, B: Allocator>(
     ensures ok { IfOk result (λ text. text_bytes text ≡ script_steps limits (plain_script script.now)) }
     ensures err { IfErr result IsWant }
 {
-    match script_steps(alloc, script, limits, bench) {
+    match script_steps(script, alloc, limits, bench) {
         Ok(text) => Ok(Text::Own(text)),
         Err(_) => Err(Fault::OutOfMemory),
     }
@@ -53,14 +53,14 @@ fn steps_of_script<'a, B: Allocator>(
 
 /// The report of the calls that a bench recorded, with each call above what it printed.
 fn steps_of_bench<'a, B: Allocator>(
-    alloc: &'a B,
     bench: &Bench<'a, B>,
+    alloc: &'a B,
     consoles: &TextSet<&'a B>,
 ) -> Result<Text<&'a B>, Fault>
     ensures ok { IfOk result (λ text. text_bytes text ≡ bench_steps bench.now consoles.now) }
     ensures err { IfErr result IsWant }
 {
-    match bench_steps(alloc, bench, consoles) {
+    match bench_steps(bench, alloc, consoles) {
         Ok(text) => Ok(Text::Own(text)),
         Err(_) => Err(Fault::OutOfMemory),
     }
@@ -68,15 +68,15 @@ fn steps_of_bench<'a, B: Allocator>(
 
 /// The recorded calls as a script, in which the consoles have these names.
 fn calls_of<'a, B: Allocator>(
-    alloc: &'a B,
     bench: &Bench<'a, B>,
+    alloc: &'a B,
     consoles: &TextSet<&'a B>,
 ) -> Result<Text<&'a B>, Fault>
     ensures ok { IfOk result (λ text. IsScriptOf bench.now consoles.now (text_bytes text)) }
     ensures err { IfErr result (RefusesCalls bench.now consoles.now) }
 {
     // form: each arm is a case of the proof
-    match script_of_calls(alloc, bench, consoles) {
+    match script_of_calls(bench, alloc, consoles) {
         Ok(text) => Ok(Text::Own(text.into_bytes())),
         Err(fault) => Err(Fault::from(fault)),
     }
@@ -95,24 +95,24 @@ fn session_of<'a, B: Allocator>(heap: Global, bench: &Bench<'a, B>) -> Result<Te
 
 /// Plays a script, and gives what is printed of the play in this form.
 fn played_text<'a, B: Allocator>(
+    script: &Script<&'a B>,
     heap: Global,
     alloc: &'a B,
-    script: &Script<&'a B>,
     limits: Limits,
     form: Form,
 ) -> Result<Text<&'a B>, Fault>
     ensures ok { IfOk result (λ text. PrintsPlay form limits (plain_script script.now) (text_bytes text)) }
     ensures err { IfErr result (RefusesPlay form limits (plain_script script.now)) }
 {
-    let Ok(played) = run_script(alloc, script, limits) else {
+    let Ok(played) = run_script(script, alloc, limits) else {
         return Err(Fault::OutOfMemory);
     };
     let Played { bench, report } = played;
     let text = match form {
         // only an import chooses a page
         Form::Report | Form::Page => Ok(Text::Own(report)),
-        Form::Steps => steps_of_script(alloc, script, limits, &bench),
-        Form::Script => calls_of(alloc, &bench, console_names(script)),
+        Form::Steps => steps_of_script(script, alloc, limits, &bench),
+        Form::Script => calls_of(&bench, alloc, console_names(script)),
         Form::Session => session_of(heap, &bench),
     };
     // form: drop before exit
@@ -132,7 +132,7 @@ fn told_text<'a, B: Allocator>(
     ensures err { IfErr result (RefusesBench form told.entry.bench) }
 {
     let Played { bench, report } = told;
-    let Ok(consoles) = free_consoles(alloc, &bench) else {
+    let Ok(consoles) = free_consoles(&bench, alloc) else {
         // form: drop before exit
         drop(bench);
         return Err(Fault::OutOfMemory);
@@ -140,8 +140,8 @@ fn told_text<'a, B: Allocator>(
     let text = match form {
         // only an import chooses a page
         Form::Report | Form::Page => Ok(Text::Own(report)),
-        Form::Steps => steps_of_bench(alloc, &bench, &consoles),
-        Form::Script => calls_of(alloc, &bench, &consoles),
+        Form::Steps => steps_of_bench(&bench, alloc, &consoles),
+        Form::Script => calls_of(&bench, alloc, &consoles),
         Form::Session => session_of(heap, &bench),
     };
     drop(bench);
@@ -150,8 +150,8 @@ fn told_text<'a, B: Allocator>(
 
 /// The first act or unwind that is refused when the script is played; `None` if none is, or the run isn't strict.
 fn refused_line<'a, B: Allocator>(
-    alloc: &'a B,
     script: &Script<&'a B>,
+    alloc: &'a B,
     limits: Limits,
     strict: bool,
 ) -> Result<Option<Refused>, Fault>
@@ -161,7 +161,7 @@ fn refused_line<'a, B: Allocator>(
     if !strict {
         return Ok(None);
     }
-    match first_refused(alloc, script, limits) {
+    match first_refused(script, alloc, limits) {
         Ok(Some(refusal)) => Ok(Some(Refused::Line {
             number: refusal.number,
             fault: refusal.fault,
@@ -189,9 +189,9 @@ fn refused_act<'a, B: Allocator>(bench: &Bench<'a, B>, strict: bool) -> Option<R
 
 /// What is shown of a script in this form.
 fn show_script<'a, B: Allocator>(
+    script: &Script<&'a B>,
     heap: Global,
     alloc: &'a B,
-    script: &Script<&'a B>,
     limits: Limits,
     form: Form,
     strict: bool,
@@ -199,8 +199,8 @@ fn show_script<'a, B: Allocator>(
     ensures ok { IfOk result (λ shown. ShowsScript strict form limits (plain_script script.now) (text_bytes shown.text) shown.refused) }
     ensures err { IfErr result (RefusesPlay form limits (plain_script script.now)) }
 {
-    let refused = refused_line(alloc, script, limits, strict)?;
-    let text = played_text(heap, alloc, script, limits, form)?;
+    let refused = refused_line(script, alloc, limits, strict)?;
+    let text = played_text(script, heap, alloc, limits, form)?;
     Ok(Shown { text, refused })
 }
 
@@ -251,7 +251,7 @@ pub fn play_shown<B: Allocator, R: Read, W: Write, L: Ledger>(
     ensures failed { FailsAs result steps.old steps.new }
 {
     let script = read_script(alloc, reader, aside, steps)?;
-    let shown = show_script(heap, alloc, &script, limits, form, strict);
+    let shown = show_script(&script, heap, alloc, limits, form, strict);
     // form: drop before exit
     drop(script);
     // form: each arm is a case of the proof

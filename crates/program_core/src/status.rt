@@ -1,12 +1,13 @@
 //! `program`: from the words to the status, with borrowed streams and a borrowed clock.
-ghost use Rattle.std.specs.Prelude.{◌≡◌, IfErr, IfOk, OnOk, map, string_bytes};
+ghost use Rattle.std.specs.Prelude.{◌≡◌, ◌≢◌, ◌⊎◌, IfErr, IfOk, OnOk, map, string_bytes};
 ghost use Rattle.std.specs.Io.KnownBytes.{Keeps};
 ghost use Rattle.clap.specs.Words.{kind_of};
-ghost use Rattle.program_core.specs.Program.{status_of, Announces, EndsAt, EndsProgram, EndsRefused, EndsSoon, Exits, FailsAs, IsQuiet, IsQuietOn, IsReadBy, KeepsBefore, PrintsHelp, TellsMemory, TellsBeside, TellsInput, input_line, usual, word_of};
+ghost use Rattle.program_core.specs.Program.{status_of, Announces, EndsAt, EndsProgram, EndsRefused, EndsSoon, Exits, FailsAs, IsEarly, IsEnd, IsFine, IsQuiet, IsQuietOn, IsReadBy, KeepsBefore, PrintsHelp, TellsAsChosen, TellsBehind, TellsBeside, TellsInput, TellsMemory, input_line, usual, word_of};
 ghost use Rattle.stream_core.specs.Steps.{Steps as Count};
 
 use crate::aside::Aside;
 use crate::fault::Fault;
+use crate::lost::Lost;
 use crate::printing::answer;
 use bench_core::Limits;
 use clap::error::ErrorKind;
@@ -32,12 +33,18 @@ fn status_of(answer: Result<(), Fault>) -> u8
     }
 }
 
-/// Prints a fault as a line on `errors`, as far as that can be written; nothing for a check that found a difference.
-fn tell<E: Write>(fault: Fault, errors: &mut E) {
-    if fault == Fault::Differs {
-        return;
+/// Prints the fault, if the answer is one, as a line on `errors`, and the hint after it, if there is one, as far as
+/// these can be written; nothing for a check that found a difference.
+fn tell_fault<E: Write>(answer: Result<(), Fault>, aside: &Aside, errors: &mut E)
+    ensures quiet { IsFine answer → E.contents errors.new ≡ E.contents errors.old }
+{
+    match answer {
+        Ok(()) | Err(Fault::Differs) => {}
+        Err(fault) => {
+            let _ = writeln!(errors, "presence_bench: {fault}");
+            aside.put(errors);
+        }
     }
-    let _ = writeln!(errors, "presence_bench: {fault}");
 }
 
 /// The word that chooses the subcommand.
@@ -110,6 +117,7 @@ fn answer_on<
     limits: Limits,
     terminal: bool,
     aside: &mut Aside,
+    lost: &mut Lost,
     steps: &mut Steps<L>,
     clock: &C,
 ) -> Result<(), Fault>
@@ -122,15 +130,18 @@ fn answer_on<
         (W.contents writer.new) }
     ensures aside { TellsBeside terminal limits choice.entry.command choice.entry.form (R.remaining reader.old) (E.contents errors.old)
         (E.contents errors.new) }
+    ensures told { IsEarly result ⊎ TellsBehind terminal limits choice.entry.command choice.entry.form (R.remaining reader.old) lost.new
+        (E.contents errors.old) (E.contents errors.new) }
 {
     announce(heap, choice.command, errors, terminal);
     answer(
-        rt, heap, alloc, choice, reader, writer, errors, limits, terminal, aside, steps, clock,
+        rt, heap, alloc, choice, reader, writer, errors, limits, terminal, aside, lost, steps,
+        clock,
     )
 }
 
 /// Does what was chosen, and gives the status. It writes a fault to `errors` as one line, and a hint after it if there
-/// is one, as far as these can be written.
+/// is one, as far as these can be written; nothing for a check that found a difference.
 fn run_choice<
     B: Allocator + Sync,
     T: Threads + Wait + Sync,
@@ -149,6 +160,7 @@ fn run_choice<
     errors: &mut E,
     limits: Limits,
     terminal: bool,
+    lost: &mut Lost,
     steps: &mut Steps<L>,
     clock: &C,
 ) -> u8
@@ -156,15 +168,15 @@ fn run_choice<
         steps.old steps.new }
     ensures aside { result ≡ 0 → TellsBeside terminal limits choice.entry.command choice.entry.form (R.remaining reader.old) (E.contents errors.old)
         (E.contents errors.new) }
+    ensures told { IsEnd result → TellsBehind terminal limits choice.entry.command choice.entry.form (R.remaining reader.old) lost.new (E.contents errors.old)
+        (E.contents errors.new) }
 {
     let mut aside = Aside::new(heap);
     let answer = answer_on(
-        rt, heap, alloc, choice, reader, writer, errors, limits, terminal, &mut aside, steps, clock,
+        rt, heap, alloc, choice, reader, writer, errors, limits, terminal, &mut aside, lost, steps,
+        clock,
     );
-    if let Err(fault) = answer {
-        tell(fault, errors);
-        aside.put(errors);
-    }
+    tell_fault(answer, &aside, errors);
     // form: drop before exit
     drop(aside);
     status_of(answer)
@@ -181,6 +193,7 @@ pub fn tell_out_of_memory<E: Write>(errors: &mut E) -> u8
 /// Prints the help or the version, and gives the status: 0, or 3 if that can't be written.
 fn print_help<W: Write, E: Write>(help: &clap::Error, writer: &mut W, errors: &mut E) -> u8
     ensures status { PrintsHelp result }
+    ensures no_end { result ≢ 6 }
     ensures quiet { result ≡ 0 → Keeps (E.contents errors.old) (E.contents errors.new) }
 {
     if write!(writer, "{help}").is_err() {
@@ -215,6 +228,7 @@ fn refuse<W: Write, E: Write>(
     errors: &mut E,
 ) -> u8
     ensures ends { EndsRefused (kind_of fault.now) result (W.contents writer.old) (W.contents writer.new) }
+    ensures no_end { result ≢ 6 }
     ensures quiet { result ≡ 0 → Keeps (E.contents errors.old) (E.contents errors.new) }
 {
     match fault.kind() {
@@ -230,8 +244,9 @@ fn refuse<W: Write, E: Write>(
 /// Does what the words after the program's name ask for, on benches with these limits, and gives the status. A
 /// session's bench has the session's limits. Words, JSON, hints, and lines on what is read and how far work has come
 /// take their memory from `heap`; benches and all other texts take theirs from `alloc`. If the reader is a terminal, a
-/// prompt shows its signs on `errors`, and any other subcommand says there what it reads. `steps` counts the calls of
-/// `read`; `clock` says when long work tells how far it has come.
+/// prompt shows its signs on `errors`, and any other subcommand says there what it reads. `lost` says if what is missing
+/// from an import can't be written there, `steps` counts the calls of `read`, and `clock` says when long work tells how
+/// far it has come.
 pub fn program_counted<
     S: AsStr,
     B: Allocator + Sync,
@@ -251,16 +266,19 @@ pub fn program_counted<
     errors: &mut E,
     limits: Limits,
     terminal: bool,
+    lost: &mut Lost,
     steps: &mut Steps<L>,
     clock: &C,
 ) -> u8
     ensures ends { EndsProgram (map S.text words.now) (R.remaining reader.old) (R.remaining reader.new) limits result (W.contents writer.old)
         (W.contents writer.new) steps.old steps.new }
     ensures quiet { result ≡ 0 → IsQuietOn terminal limits (map S.text words.now) (R.remaining reader.old) (E.contents errors.old) (E.contents errors.new) }
+    ensures told { IsEnd result → TellsAsChosen terminal limits (map S.text words.now) (R.remaining reader.old) lost.new (E.contents errors.old)
+        (E.contents errors.new) }
 {
     match choice(heap, words) {
         Ok(choice) => run_choice(
-            rt, heap, alloc, choice, reader, writer, errors, limits, terminal, steps, clock,
+            rt, heap, alloc, choice, reader, writer, errors, limits, terminal, lost, steps, clock,
         ),
         Err(fault) => refuse(heap, &fault, writer, errors),
     }
@@ -298,12 +316,14 @@ fn program_from<
     ensures quiet { result ≡ 0 → IsQuietOn terminal limits (map S.text words.now.now) (R.remaining reader.old) (E.contents errors.old) (E.contents errors.new) }
 {
     let mut steps = Steps::<L>::new(blank);
+    let mut lost = Lost::nothing();
     program_counted(
-        rt, heap, alloc, *words, reader, writer, errors, limits, terminal, &mut steps, clock,
+        rt, heap, alloc, *words, reader, writer, errors, limits, terminal, &mut lost, &mut steps,
+        clock,
     )
 }
 
-/// Like `program_counted`, for callers that don't need the count of the calls of `read`.
+/// Like `program_counted`, for callers that don't need the count of the calls of `read`, nor to know what was lost.
 pub fn program_within<
     S: AsStr,
     B: Allocator + Sync,

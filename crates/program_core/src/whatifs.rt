@@ -22,8 +22,8 @@ fn question_of<'w>(chosen: command_line::Question<'w>) -> Question<'w>
 /// The changes that would have made a difference; or, given the number of a `change`, the run with that change, as a
 /// script.
 pub fn tell_whatif<'a, B: Allocator, W: Watch<Tried>>(
-    alloc: &'a B,
     bench: &Bench<'a, B>,
+    alloc: &'a B,
     question: command_line::Question<'_>,
     change: Option<u64>,
     watch: &mut W,
@@ -33,7 +33,7 @@ pub fn tell_whatif<'a, B: Allocator, W: Watch<Tried>>(
     ensures watched { Watched W.told watch.old watch.new }
 {
     match change {
-        None => whatif_asked(alloc, bench, question_of(question), watch),
-        Some(number) => run_with_change(alloc, bench, question_of(question), number, watch),
+        None => whatif_asked(bench, alloc, question_of(question), watch),
+        Some(number) => run_with_change(bench, alloc, question_of(question), number, watch),
     }
 }

@@ -13,9 +13,9 @@ use std::alloc::{Allocator, Global};
 /// of the line, and `help` what `:help` prints. A session takes its memory from `heap`.
 #[tactic(auto, unfolding(crate::specs::Answers::answer))]
 pub fn answer<'a, B: Allocator>(
+    prompt: &mut Prompt<'a, B>,
     heap: Global,
     alloc: &'a B,
-    prompt: &mut Prompt<'a, B>,
     help: &str,
     number: u64,
     line: &[u8],

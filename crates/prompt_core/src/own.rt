@@ -99,7 +99,7 @@ fn put_explanation<'a, B: Allocator>(
     ensures { OnOk result (answer.new.items ≡ answer.old.items ++
         explained_at number bench.now (number_in bench.now.names question.entry.node.now) question.entry.topic.now question.entry.key.now) }
 {
-    match explain_asked(alloc, bench, question) {
+    match explain_asked(bench, alloc, question) {
         Ok(text) => put_text(answer, text.as_str()),
         Err(AskFault::NoSuchNode) => put_fault(alloc, answer, number, FaultKind::BadName),
         Err(AskFault::NoWord) => put_fault(alloc, answer, number, FaultKind::TooLong),
@@ -141,7 +141,7 @@ fn put_whatif<'a, B: Allocator>(
     ensures { OnOk result (answer.new.items ≡ answer.old.items ++
         changes_at number bench.now (number_in bench.now.names question.entry.node.now) question.entry.topic.now question.entry.key.now) }
 {
-    match whatif_asked(alloc, bench, question, &mut Silent) {
+    match whatif_asked(bench, alloc, question, &mut Silent) {
         Ok(text) => put_text(answer, text.as_str()),
         Err(WhatifFault::NoSuchNode) => put_fault(alloc, answer, number, FaultKind::BadName),
         Err(WhatifFault::NoWord) => put_fault(alloc, answer, number, FaultKind::TooLong),

@@ -29,7 +29,7 @@ fn put_picture<'a, B: Allocator>(
     let Some(bench) = prompt.bench() else {
         return put_fault(alloc, answer, number, FaultKind::NoNodes);
     };
-    let picture = draw_whole(alloc, bench, consoles)?;
+    let picture = draw_whole(bench, alloc, consoles)?;
     answer.extend_from_slice(&picture)?;
     put_text(answer, "\n")
 }
@@ -67,7 +67,7 @@ fn put_bench_steps<'a, B: Allocator>(
     let Some(bench) = prompt.bench() else {
         return put_fault(alloc, answer, number, FaultKind::NoNodes);
     };
-    let steps = bench_steps(alloc, bench, consoles)?;
+    let steps = bench_steps(bench, alloc, consoles)?;
     Ok(answer.extend_from_slice(&steps)?)
 }
 
@@ -156,7 +156,7 @@ fn put_sent_at<'a, B: Allocator>(
         return put_fault(alloc, answer, number, FaultKind::BadName);
     };
     let mut text = String::new(alloc);
-    put_sent(&mut text, bench, node)?;
+    put_sent(bench, &mut text, node)?;
     put_text(answer, &text)
 }
 

@@ -52,9 +52,9 @@ fn put_entry<A: Allocator, N: Allocator, W: Allocator>(
 
 /// Appends the rows of the entries, each after `= `.
 fn put_entries<'a, A: Allocator, B: Allocator, N: Allocator>(
+    entries: &EntrySet<&'a B>,
     text: &mut String<A>,
     names: &Names<N>,
-    entries: &EntrySet<&'a B>,
 ) -> Result<(), Oom>
     ensures { OnOk result (string_bytes text.new ≡ string_bytes text.old ++ row_lines (codes "= ") names.now (rows_of entries.now.map)) }
 {
@@ -83,23 +83,23 @@ fn put_message_line<A: Allocator, N: Allocator, W: Allocator>(
 
 /// Appends a line for a message and the step that sent it, and the rows of the message's entries.
 fn put_message<'a, A: Allocator, B: Allocator, N: Allocator>(
+    kept: &Kept<&'a B>,
     text: &mut String<A>,
     names: &Names<N>,
     number: u64,
-    kept: &Kept<&'a B>,
     message: &Payload<&'a B>,
 ) -> Result<(), Oom>
     ensures { OnOk result (string_bytes text.new ≡ string_bytes text.old ++ message_text names.now number kept.now message.now) }
 {
     put_message_line(text, names, number, kept)?;
-    put_entries(text, names, message.entries())
+    put_entries(message.entries(), text, names)
 }
 
 /// Appends all messages of the node `found`, whose number is `node`, each with the step that sent it.
 fn put_messages<'a, A: Allocator, B: Allocator, N: Allocator>(
+    journal: &Journal<'a, B>,
     text: &mut String<A>,
     names: &Names<N>,
-    journal: &Journal<'a, B>,
     found: &Node<'a, B>,
     node: u16,
 ) -> Result<(), Oom>
@@ -118,7 +118,7 @@ fn put_messages<'a, A: Allocator, B: Allocator, N: Allocator>(
         let Some(kept) = next_sent(&mut steps, node) else {
             return Ok(());
         };
-        put_message(text, names, number, kept, message)?;
+        put_message(kept, text, names, number, message)?;
     }
     Ok(())
 }
@@ -139,9 +139,9 @@ fn put_sent_line<A: Allocator, N: Allocator>(
 
 /// Appends `sent NODE COUNT`, and then all messages of the node `found`, whose number is `node`.
 fn put_all<'a, A: Allocator, B: Allocator, N: Allocator>(
+    journal: &Journal<'a, B>,
     text: &mut String<A>,
     names: &Names<N>,
-    journal: &Journal<'a, B>,
     found: &Node<'a, B>,
     node: u16,
 ) -> Result<(), Oom>
@@ -149,22 +149,22 @@ fn put_all<'a, A: Allocator, B: Allocator, N: Allocator>(
         ++ messages_text names.now 1 found.now.outbox (sent_by (kepts journal.now.steps) node))) }
 {
     put_sent_line(text, names, node, found.outbox().len())?;
-    put_messages(text, names, journal, found, node)
+    put_messages(journal, text, names, found, node)
 }
 
 /// Appends `sent NODE COUNT`, and then all messages of the node with this number; the count is 0 if there is no such
 /// node.
 #[tactic(auto, unfolding(crate::specs::Sent::sent_text))]
 pub fn put_sent<'a, A: Allocator, B: Allocator>(
-    text: &mut String<A>,
     bench: &Bench<'a, B>,
+    text: &mut String<A>,
     number: u16,
 ) -> Result<(), Oom>
     ensures { OnOk result (string_bytes text.new ≡ string_bytes text.old ++ sent_text bench.now number) }
 {
     let names = bench.names();
     match node(bench, number) {
-        Some(found) => put_all(text, names, bench.remaining(), found, number),
+        Some(found) => put_all(bench.remaining(), text, names, found, number),
         None => put_sent_line(text, names, number, 0),
     }
 }

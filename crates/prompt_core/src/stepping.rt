@@ -57,7 +57,7 @@ fn answer_each<'a, B: Allocator, R: Read, W: Write, E: Write, L: Ledger>(
         if is_quit(line.as_slice()) {
             return Ok(());
         }
-        let answer = answer(heap, alloc, prompt, help, number, &line)?;
+        let answer = answer(prompt, heap, alloc, help, number, &line)?;
         put_out(writer, &answer)?;
     }
     Err(PromptFault::TooLong)

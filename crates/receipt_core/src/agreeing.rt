@@ -155,8 +155,8 @@ pub(crate) fn account<'a, B: Allocator>(
 /// actor, number and act. In each list the places must rise, and stand past the end of `before`; and `after` must have
 /// at each place the event that the receipt tells of.
 pub fn agree<'a, B: Allocator>(
-    alloc: &'a B,
     before: &History<'a, B>,
+    alloc: &'a B,
     after: &History<'a, B>,
     lines: &[(u16, Act<&'a B>)],
     receipts: &[Vec<Receipt<&'a B>, &'a B>],

@@ -79,8 +79,8 @@ fn come_to<'a, B: Allocator>(
 /// Makes an act, and gives the reply and how the act changed the online list of the node whose step it took or took
 /// back.
 pub fn ask<'a, B: Allocator>(
-    alloc: &'a B,
     bench: &mut Bench<'a, B>,
+    alloc: &'a B,
     actor: u16,
     act: &Act<&'a B>,
 ) -> Result<Acted<&'a B>, Oom>
@@ -169,8 +169,8 @@ fn put_come_to<'a, B: Allocator>(
 
 /// Makes an act, and appends its reply and how it changed the online list of the node whose step it took or took back.
 pub fn act<'a, B: Allocator>(
-    alloc: &'a B,
     text: &mut String<&'a B>,
+    alloc: &'a B,
     bench: &mut Bench<'a, B>,
     actor: u16,
     act: &Act<&'a B>,

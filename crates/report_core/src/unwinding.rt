@@ -131,8 +131,8 @@ fn put_unwind<'a, B: Allocator>(
 /// Undoes a step with all that follows from it, and appends which steps these were and how the online lists changed; or
 /// appends why that is refused.
 pub fn unwind<'a, B: Allocator>(
-    alloc: &'a B,
     text: &mut String<&'a B>,
+    alloc: &'a B,
     bench: &mut Bench<'a, B>,
     actor: u16,
     number: u64,

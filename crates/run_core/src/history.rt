@@ -10,15 +10,15 @@ use std::alloc::Allocator;
 /// Makes a recorded act on `bench`, which isn't the bench that recorded it, and appends what the act prints.
 #[tactic(auto, unfolding(crate::specs::Report::command_text, crate::specs::Report::after_command))]
 fn event<'a, B: Allocator>(
-    alloc: &'a B,
     text: &mut String<&'a B>,
+    alloc: &'a B,
     bench: &mut Bench<'a, B>,
     event: &Event<&'a B>,
 ) -> Result<(), Oom>
     ensures bench { OnOk result (bench.new ≡ after_command bench.old (call_of event.now)) }
     ensures text { OnOk result (string_bytes text.new ≡ string_bytes text.old ++ command_text bench.old (call_of event.now)) }
 {
-    act(alloc, text, bench, event.actor, &event.act)
+    act(text, alloc, bench, event.actor, &event.act)
 }
 
 /// Makes the acts of `history` in turn on `bench`, which isn't the bench that recorded them, and appends what the acts
@@ -34,7 +34,7 @@ fn events<'a, B: Allocator>(
 {
     for place in 0..history.len() {
         if let Some(next) = history.at(place) {
-            event(alloc, text, bench, next)?;
+            event(text, alloc, bench, next)?;
         }
     }
     Ok(())
@@ -57,8 +57,8 @@ fn told_again<'a, B: Allocator>(bench: &Bench<'a, B>, alloc: &'a B) -> Result<Ve
 
 /// What the recorded acts of a bench print when a new bench with the same names and limits makes them.
 pub fn report_history<'a, B: Allocator>(
-    alloc: &'a B,
     bench: &Bench<'a, B>,
+    alloc: &'a B,
 ) -> Result<Vec<u8, &'a B>, Oom>
     ensures { IfOk result (λ report. report.items ≡ history_text bench.now) }
 {

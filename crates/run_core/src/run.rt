@@ -21,8 +21,8 @@ pub fn command<'a, B: Allocator>(
     ensures text { OnOk result (string_bytes text.new ≡ string_bytes text.old ++ command_text bench.old (plain_command command.now)) }
 {
     match command {
-        Command::Call(actor, call) => act(alloc, text, bench, *actor, call),
-        Command::Unwind(actor, number) => unwind(alloc, text, bench, *actor, *number),
+        Command::Call(actor, call) => act(text, alloc, bench, *actor, call),
+        Command::Unwind(actor, number) => unwind(text, alloc, bench, *actor, *number),
         Command::Show(node) => show(text, bench, *node, alloc),
         Command::Dots(at) => put_dots(node(bench, *at), text, bench.names()),
         Command::Why(number) => why(text, bench, *number),
@@ -58,8 +58,8 @@ pub struct Played<'a, B: Allocator> {
 /// an error.
 #[tactic(auto, unfolding(crate::specs::Report::played, crate::specs::Report::report_of))]
 pub fn run_script<'a, B: Allocator>(
-    alloc: &'a B,
     script: &Script<&'a B>,
+    alloc: &'a B,
     limits: Limits,
 ) -> Result<Played<'a, B>, Oom>
     ensures bench { IfOk result (λ p. p.bench ≡ played limits (plain_script script.now)) }

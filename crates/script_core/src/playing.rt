@@ -48,7 +48,7 @@ pub fn play_counted<B: Allocator, R: Read, W: Write, L: Ledger>(
         Err(fault) if fault.kind == FaultKind::OutOfMemory => return Err(PlayFault::OutOfMemory),
         Err(fault) => return Err(PlayFault::Script(fault)),
     };
-    let run = run_script(alloc, &script, limits);
+    let run = run_script(&script, alloc, limits);
     drop(script);
     let Ok(played) = run else {
         return Err(PlayFault::OutOfMemory);

@@ -40,7 +40,7 @@ fn tell_next<'a, B: Allocator>(
     ensures text { OnOk result (string_bytes text.new ≡ string_bytes text.old ++ command_text bench.old (call_of event.now)) }
 {
     let place = bench.history().len();
-    act(alloc, text, bench, event.actor, &event.act)?;
+    act(text, alloc, bench, event.actor, &event.act)?;
     Ok(has_reply(bench.history(), place, event.reply))
 }
 

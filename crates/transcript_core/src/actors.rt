@@ -108,8 +108,8 @@ fn named_consoles<A: Allocator + Copy, N: Allocator>(
 /// the last consoles get none.
 #[tactic(auto, unfolding(crate::specs::Actors::free_consoles))]
 pub fn free_consoles<'a, B: Allocator>(
-    alloc: &'a B,
     bench: &Bench<'a, B>,
+    alloc: &'a B,
 ) -> Result<TextSet<&'a B>, Oom>
     ensures { IfOk result (λ consoles. consoles ≡ free_consoles bench.now) }
 {

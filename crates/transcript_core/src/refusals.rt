@@ -73,7 +73,7 @@ fn ask_unwind<'a, B: Allocator>(
 {
     let refusal = unwind_refusal(bench, number)?;
     let mut unread = String::new(alloc);
-    unwind(alloc, &mut unread, bench, actor, number)?;
+    unwind(&mut unread, alloc, bench, actor, number)?;
     Ok(refusal)
 }
 
@@ -118,8 +118,8 @@ fn first_from<'a, B: Allocator>(
 /// is. A refused `why` doesn't count.
 #[tactic(auto, unfolding(crate::specs::Refusals::first_refused))]
 pub fn first_refused<'a, B: Allocator>(
-    alloc: &'a B,
     script: &Script<&'a B>,
+    alloc: &'a B,
     limits: Limits,
 ) -> Result<Option<Refusal>, Oom>
     ensures { IfOk result (λ refusal. refusal ≡ first_refused limits (plain_script script.now)) }

@@ -121,8 +121,8 @@ pub fn calls_text<'a, A: Allocator, B: Allocator>(
 /// The recorded calls of a bench as a script, in which the consoles have the names `consoles`. The text is read again:
 /// `NoScript` if it isn't a script, `OtherCalls` if it asks for other calls than those recorded.
 pub fn script_of_calls<'a, B: Allocator>(
-    alloc: &'a B,
     bench: &Bench<'a, B>,
+    alloc: &'a B,
     consoles: &TextSet<&'a B>,
 ) -> Result<String<&'a B>, TranscriptFault>
     ensures script { IfOk result (λ text. IsScriptOf bench.now consoles.now (string_bytes text)) }

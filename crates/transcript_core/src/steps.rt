@@ -296,7 +296,7 @@ fn put_event<'a, B: Allocator>(
 {
     let place = bench.history().len();
     let mut printed = String::new(alloc);
-    act(alloc, &mut printed, bench, event.actor, &event.act)?;
+    act(&mut printed, alloc, bench, event.actor, &event.act)?;
     let reply = reply_at(bench.history(), place);
     let mut head = String::new(alloc);
     put_head(
@@ -415,8 +415,8 @@ fn events_anew<'a, B: Allocator>(
 /// The lines of a script, and below each what it printed. `bench` must be what a play of the script with these limits
 /// left; its history tells who took a step back later.
 pub fn script_steps<'a, B: Allocator>(
-    alloc: &'a B,
     script: &Script<&'a B>,
+    alloc: &'a B,
     limits: Limits,
     bench: &Bench<'a, B>,
 ) -> Result<Vec<u8, &'a B>, Oom>
@@ -440,8 +440,8 @@ pub fn script_steps<'a, B: Allocator>(
 /// The lines of a bench's recorded calls, and below each what it printed. `consoles` has the names of the consoles.
 #[tactic(auto, unfolding(crate::specs::Steps::bench_steps))]
 pub fn bench_steps<'a, B: Allocator>(
-    alloc: &'a B,
     bench: &Bench<'a, B>,
+    alloc: &'a B,
     consoles: &TextSet<&'a B>,
 ) -> Result<Vec<u8, &'a B>, Oom>
     ensures { IfOk result (λ text. text.items ≡ bench_steps bench.now consoles.now) }

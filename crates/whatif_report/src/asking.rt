@@ -28,8 +28,8 @@ pub struct Question<'q> {
 /// and key, with the rows that go and come. Changes of the same step and kind with the same rows are told together.
 /// `NoSuchNode` if no node has the name, `NoWord` if the topic or the key isn't a word.
 pub fn whatif_asked<'a, B: Allocator, W: Watch<Tried>>(
-    alloc: &'a B,
     bench: &Bench<'a, B>,
+    alloc: &'a B,
     question: Question<'_>,
     watch: &mut W,
 ) -> Result<String<&'a B>, WhatifFault>
@@ -82,8 +82,8 @@ fn script_with<'a, B: Allocator>(
 /// The run with the nearest of the changes that have this number in the text, as a script that plays it. `NoSuchNode`
 /// and `NoWord` as in `whatif_asked`, and else `NoSuchChange` if no change has the number.
 pub fn run_with_change<'a, B: Allocator, W: Watch<Tried>>(
-    alloc: &'a B,
     bench: &Bench<'a, B>,
+    alloc: &'a B,
     question: Question<'_>,
     number: u64,
     watch: &mut W,

@@ -94,7 +94,7 @@ pub fn agrees<'a, B: Allocator>(
     rt: &impl Abort,
 ) -> bool {
     let lines = lines_of(heap, script, rt);
-    let agrees = agree(heap, before.history(), after.history(), &lines, receipts);
+    let agrees = agree(before.history(), heap, after.history(), &lines, receipts);
     let_go_of_lines(lines);
     agrees.expect(rt, "memory")
 }

@@ -1,4 +1,4 @@
-use Rattle.program_core.proofs.Told.{beside}
+use Rattle.program_core.proofs.Told.{behind, beside}
 use Rattle.program_core.proofs.status.answer_on.Goals as goal
 
 -- what was told first, and what behind it
@@ -6,3 +6,8 @@ pub returns-clause-aside : goal.returns-clause-aside
 returns-clause-aside g c =
     beside c.args.terminal c.args.limits c.args.choice.command c.args.choice.form (g.R.Read.remaining c.args.reader.now) (g.E.Write.contents c.args.errors.now)
     (g.E.Write.contents c.announce.new.errors) (g.E.Write.contents c.answer.new.errors) c.announce.ensures c.answer.ensures.aside
+
+pub returns-clause-told : goal.returns-clause-told
+returns-clause-told g c =
+    behind c.args.terminal c.args.limits c.args.choice.command c.args.choice.form (g.R.Read.remaining c.args.reader.now) (g.E.Write.contents c.args.errors.now)
+    (g.E.Write.contents c.announce.new.errors) (g.E.Write.contents c.answer.new.errors) c.answer.new.lost c.answer.result c.announce.ensures c.answer.ensures.told

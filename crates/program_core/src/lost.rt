@@ -1,0 +1,50 @@
+//! `Lost`: whether anything that the program tells on standard error was lost, for contracts alone.
+ghost use Rattle.std.specs.Prelude.{◌≡◌, ℕ, Bool, true, false, take};
+ghost use Rattle.std.specs.Io.KnownBytes.{Appends};
+
+use script_core::write_out;
+use std::io::Write;
+use std::marker::Model;
+
+/// Whether a write to the error stream failed, so that the rest of what it should have told is lost. The program does
+/// the same either way. Only `tell` sets it.
+#[derive(Drop, Debug)]
+pub struct Lost {
+    any: bool,
+}
+
+impl Model for Lost {
+    ghost use Rattle.std.specs.Prelude.{Bool};
+
+    ghost Value = { Bool };
+
+    ghost view = { λ l. l.any };
+}
+
+impl Lost {
+    /// Nothing is lost yet.
+    pub fn nothing() -> Lost
+        ensures { result ≡ false }
+    {
+        Lost { any: false }
+    }
+
+    /// Whether anything was lost.
+    pub fn is_any(&self) -> bool
+        ensures { result ≡ self.now }
+    {
+        self.any
+    }
+
+    /// Writes the bytes to `errors`; if a write fails, the rest is lost.
+    pub(crate) fn tell<E: Write>(&mut self, errors: &mut E, bytes: &[u8])
+        ensures all { self.new ≡ false → Appends (E.contents errors.old) (E.contents errors.new) bytes.now }
+        ensures first { (count : ℕ) × Appends (E.contents errors.old) (E.contents errors.new) (take count bytes.now) }
+        ensures before { self.old ≡ true → self.new ≡ true }
+    {
+        match write_out(errors, bytes) {
+            Ok(()) => {}
+            Err(_unwritten) => self.any = true,
+        }
+    }
+}
