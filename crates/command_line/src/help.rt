@@ -1,6 +1,6 @@
 //! The texts of `--help` and `--version`.
 
-pub const VERSION: &str = "0.1.0";
+pub const VERSION: &str = "1.0.0";
 
 pub const PURPOSE: &str =
     "A debugging bench for clusters of presence nodes: plays an incident, and takes its steps back";
@@ -118,7 +118,7 @@ What a fault of events says (line L: KIND):
   NotJson       the line isn't one whole JSON object
   BadEvent      a key is missing or of another kind, or no event is called so
   TooManyNodes  the lines up to this one name more than 32 nodes
-  NoNodes       no line has an event
+  NoNodes       no line has an event that can be taken
   Twice         the node sent a message of that value before
   NeverSent     no line sends that message; with --lenient the line is left out
   Circle        no order of the lines is possible; this one can't come

@@ -52,7 +52,7 @@ kind_hint line TooLong =
     if line == 0 then Some (Plain (codes "a script has at most 1048576 bytes; `--as session` and `--as page` may be longer"))
     else Some (Plain (codes "a line of events has at most 1048576 bytes"))
 kind_hint line TooManyNodes = Some (Plain (codes "a bench has at most 32 nodes, and the lines up to this one name more"))
-kind_hint line NoNodes = Some (Plain (codes "no line has an event"))
+kind_hint line NoNodes = Some (Plain (codes "no line has an event that can be taken"))
 kind_hint line Twice = Some (Plain (codes "its node sent that `message` before; each message of a node has a value of its own"))
 kind_hint line NeverSent = Some (Plain (codes "no line sends that message; with `--lenient` such lines are left out"))
 kind_hint line Circle = Some (Plain (codes "no order is possible; are each node's events in the order in which it did them?"))

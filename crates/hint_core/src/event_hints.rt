@@ -77,7 +77,7 @@ fn kind_hint(line: u64, kind: FaultKind) -> Option<Hint<'static>>
         FaultKind::TooManyNodes => Some(Hint::Plain(
             "a bench has at most 32 nodes, and the lines up to this one name more",
         )),
-        FaultKind::NoNodes => Some(Hint::Plain("no line has an event")),
+        FaultKind::NoNodes => Some(Hint::Plain("no line has an event that can be taken")),
         FaultKind::Twice => Some(Hint::Plain(
             "its node sent that `message` before; each message of a node has a value of its own",
         )),
