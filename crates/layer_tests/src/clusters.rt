@@ -69,6 +69,27 @@ fn play<'a>(
     }
 }
 
+/// Takes steps of a node that isn't there, and of a name that no node has. The cluster must have two nodes.
+fn knows_two<'a>(cluster: &mut Cluster<'a, Heap>, rt: &impl Abort) {
+    let no_node = cluster.step(2, &Step::Broadcast).err();
+    let no_name = cluster.step(0, &Step::Up { name: 2 }).err();
+    holds!(rt, matches!(no_node, Some(Fault::UnknownNode)));
+    holds!(rt, matches!(no_name, Some(Fault::UnknownNode)));
+    holds!(rt, cluster.len() == 2);
+}
+
+/// Plays the calls at the cluster and at the bench, and then asks the cluster for what it doesn't know.
+fn takes_steps<'a>(
+    cluster: &mut Cluster<'a, Heap>,
+    bench: &mut Bench<'a, Heap>,
+    calls: &Calls<'a>,
+    heap: &'a Heap,
+    rt: &impl Abort,
+) {
+    play(cluster, bench, calls, heap, rt);
+    knows_two(cluster, rt);
+}
+
 #[test]
 fn a_cluster_takes_the_steps_of_a_script(rt: HostRuntime) {
     let heap = Refusing::new(rt.alloc());
@@ -76,16 +97,10 @@ fn a_cluster_takes_the_steps_of_a_script(rt: HostRuntime) {
     let calls = calls_of(SCRIPT, &heap, &rt);
     let mut bench = opened(SCRIPT, limits, &heap, &rt);
     let mut cluster = Cluster::new(&heap, 2, limits.of_node()).expect(&rt, "a cluster");
-    play(&mut cluster, &mut bench, &calls, &heap, &rt);
+    takes_steps(&mut cluster, &mut bench, &calls, &heap, &rt);
+    drop(cluster);
     drop(bench);
     drop(calls);
-    let no_node = cluster.step(2, &Step::Broadcast).err();
-    let no_name = cluster.step(0, &Step::Up { name: 2 }).err();
-    let len = cluster.len();
-    drop(cluster);
-    holds!(&rt, matches!(no_node, Some(Fault::UnknownNode)));
-    holds!(&rt, matches!(no_name, Some(Fault::UnknownNode)));
-    holds!(&rt, len == 2);
 }
 
 #[test]

@@ -118,29 +118,66 @@ fn makes_room<'a>(journal: &mut Journal<'a, Heap>) -> bool
 
 /// A step for which room was made is kept without memory. A loan takes none, whether the inverse is put back, or is
 /// dropped and its step taken out. Room that was made for a step stays while room is made for another.
+fn takes_no_memory<'a>(
+    journal: &mut Journal<'a, Heap>,
+    inverse: Inverse<&'a Heap>,
+    heap: &'a Heap,
+    rt: &impl Abort,
+)
+    requires nodes { journal.old.nodes ≡ 2 }
+    requires steps { journal.old.steps ≡ [] }
+{
+    holds!(rt, makes_room(journal));
+    heap.refuse_from(1);
+    keeps_and_lends(journal, inverse, rt);
+    holds!(rt, heap.requests() == 0);
+}
+
 #[test]
 fn a_step_with_room_and_its_loans_take_no_memory(rt: HostRuntime) {
     let heap = Refusing::new(rt.alloc());
     let mut journal = opened(&heap, &rt);
-    let inverse = inverse(&heap, &rt);
-    holds!(&rt, makes_room(&mut journal));
-    heap.refuse_from(1);
-    keeps_and_lends(&mut journal, inverse, &rt);
-    holds!(&rt, heap.requests() == 0);
+    takes_no_memory(&mut journal, inverse(&heap, &rt), &heap, &rt);
     drop(journal);
 }
 
-/// Without room, a journal that is refused memory keeps no step.
+/// Without room, a journal that is refused memory keeps no step, and gives it back with its inverse.
+fn keeps_nothing<'a>(
+    journal: &mut Journal<'a, Heap>,
+    inverse: Inverse<&'a Heap>,
+    heap: &'a Heap,
+    rt: &impl Abort,
+)
+    requires nodes { journal.old.nodes ≡ 2 }
+    requires steps { journal.old.steps ≡ [] }
+{
+    heap.refuse_from(1);
+    holds!(rt, journal.make_room(0, &Step::Broadcast).is_err());
+    let is_given_back = match journal.keep(1, 0, Step::Broadcast, inverse) {
+        Ok(()) => false,
+        Err((step, inverse, _oom)) => {
+            let is_given_back = matches!(step, Step::Broadcast);
+            drop(step);
+            drop(inverse);
+            is_given_back
+        }
+    };
+    holds!(rt, is_given_back && journal.len() == 0);
+}
+
 #[test]
 fn a_step_that_is_refused_memory_is_not_kept(rt: HostRuntime) {
     let heap = Refusing::new(rt.alloc());
     let mut journal = opened(&heap, &rt);
-    let inverse = inverse(&heap, &rt);
-    heap.refuse_from(1);
-    let is_opened = Journal::new(&heap, 2).err().is_none();
-    holds!(&rt, is_opened == (heap.requests() == 0));
-    holds!(&rt, journal.make_room(0, &Step::Broadcast).is_err());
-    let is_kept = journal.keep(1, 0, Step::Broadcast, inverse).ok().is_some();
-    holds!(&rt, !is_kept && journal.len() == 0);
+    keeps_nothing(&mut journal, inverse(&heap, &rt), &heap, &rt);
     drop(journal);
+}
+
+/// A journal that is refused memory is not made, unless it asks for none.
+#[test]
+fn a_journal_is_made_if_no_memory_is_refused(rt: HostRuntime) {
+    let heap = Refusing::new(rt.alloc());
+    heap.refuse_from(1);
+    let is_made = Journal::new(&heap, 2).err().is_none();
+    holds!(&rt, is_made == (heap.requests() == 0));
 }

@@ -43,6 +43,14 @@ fn list_of<'a>(bench: &Bench<'a, Heap>, number: u16, heap: &'a Heap, rt: &impl A
     online_list(heap, node.replica()).expect(rt, "a list")
 }
 
+/// The online lists of the first two nodes.
+fn lists_of<'a>(bench: &Bench<'a, Heap>, heap: &'a Heap, rt: &impl Abort) -> (Rows<'a>, Rows<'a>)
+    ensures first { AreInOrder result.0.items }
+    ensures second { AreInOrder result.1.items }
+{
+    (list_of(bench, 0, heap, rt), list_of(bench, 1, heap, rt))
+}
+
 /// Whether `after` differs from `before` by `rows`: the rows that left, and the rows that joined. `None` if memory was
 /// refused.
 fn differ<'a>(
@@ -152,8 +160,7 @@ fn refused_in_turn<'a>(a: &Rows<'a>, b: &Rows<'a>, heap: &'a Heap, rt: &impl Abo
 /// Then each request for memory of this comparison is refused in turn.
 fn compares<'a>(script: &str, heap: &'a Heap, rt: &impl Abort) {
     let bench = played(script, Limits::usual(), heap, rt);
-    let a = list_of(&bench, 0, heap, rt);
-    let b = list_of(&bench, 1, heap, rt);
+    let (a, b) = lists_of(&bench, heap, rt);
     drop(bench);
     holds!(rt, are(&a, AT_A) && are(&b, AT_B));
     holds!(rt, begins_in_order(&a) && begins_in_order(&b));
@@ -184,8 +191,7 @@ fn counts_of<'a>(one: &Rows<'a>, other: &Rows<'a>, heap: &'a Heap) -> Option<(us
 /// Plays the script of `wide`. The first node must list 131 rows, the second 65 of these.
 fn compares_large<'a>(script: &str, heap: &'a Heap, rt: &impl Abort) {
     let bench = played(script, Limits::usual(), heap, rt);
-    let a = list_of(&bench, 0, heap, rt);
-    let b = list_of(&bench, 1, heap, rt);
+    let (a, b) = lists_of(&bench, heap, rt);
     drop(bench);
     holds!(rt, (a.len(), b.len()) == (131, 65));
     holds!(rt, counts_of(&a, &b, heap) == Some((66, 0)));

@@ -272,15 +272,20 @@ fn replicas_come_out_by_what_the_network_does(rt: HostRuntime) {
 }
 
 /// Explores with at most three states, which are too few, and with four, which are enough.
-fn few_states_are_kept<'a>(heap: &'a Heap, rt: &impl Abort) {
-    let bench = played(UP_LATE, Limits::usual(), heap, rt);
+fn keeps_four<'a>(bench: &Bench<'a, Heap>, heap: &'a Heap, rt: &impl Abort) {
     let asked = presence(1, "x", heap, rt);
-    let few = explored(&bench, &asked, (0, 0), 3, heap, rt).err();
-    let enough = explored(&bench, &asked, (0, 0), 4, heap, rt);
+    let few = explored(bench, &asked, (0, 0), 3, heap, rt).err();
+    let enough = explored(bench, &asked, (0, 0), 4, heap, rt);
     drop(asked);
-    drop(bench);
     holds!(rt, few == Some(ExploreFault::TooManyStates { outcomes: 2 }));
     holds!(rt, enough.is_ok_and(|enough| enough.states == 4));
+}
+
+/// Explores `UP_LATE` like `keeps_four`.
+fn few_states_are_kept<'a>(heap: &'a Heap, rt: &impl Abort) {
+    let bench = played(UP_LATE, Limits::usual(), heap, rt);
+    keeps_four(&bench, heap, rt);
+    drop(bench);
 }
 
 #[test]
@@ -397,8 +402,7 @@ impl Watch<Walked> for Counting {
 /// The walk of `UP_LATE` goes from the opening through a join, a broadcast, an up and a delivery; then, from the
 /// broadcast on, through the delivery and the up. So it tells the watcher of seven states. When it tells of the last
 /// two, it has kept two states: the one after the first up, and the one after the delivery that follows that up.
-fn walk_is_watched<'a>(heap: &'a Heap, rt: &impl Abort) {
-    let bench = played(UP_LATE, Limits::usual(), heap, rt);
+fn tells_seven<'a>(bench: &Bench<'a, Heap>, heap: &'a Heap, rt: &impl Abort) {
     let asked = presence(1, "x", heap, rt);
     let mut watch = Counting {
         calls: 0,
@@ -406,11 +410,17 @@ fn walk_is_watched<'a>(heap: &'a Heap, rt: &impl Abort) {
         falls: false,
     };
     assert!(rt; asked.is_there(bench.names().len()), "a node");
-    let told = explore(&bench, &asked, 0, 0, 1000, heap, &mut watch);
+    let told = explore(bench, &asked, 0, 0, 1000, heap, &mut watch);
     drop(asked);
-    drop(bench);
     holds!(rt, told.is_ok_and(|told| told.outcomes.len() == 2));
     holds!(rt, watch.calls == 7 && watch.states == 2 && !watch.falls);
+}
+
+/// Explores `UP_LATE` like `tells_seven`.
+fn walk_is_watched<'a>(heap: &'a Heap, rt: &impl Abort) {
+    let bench = played(UP_LATE, Limits::usual(), heap, rt);
+    tells_seven(&bench, heap, rt);
+    drop(bench);
 }
 
 #[test]

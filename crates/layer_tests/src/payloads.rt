@@ -380,23 +380,33 @@ fn pushes<'a>(
     answer
 }
 
+/// Pushes three messages into an empty outbox for two: the first without memory, then again, and one too many.
+fn is_filled<'a>(outbox: &mut Outbox<'a, Heap>, heap: &'a Heap, rt: &impl Abort) {
+    let refused = pushes(outbox, 1, false, heap, rt);
+    holds!(rt, refused == Err(OutboxFault::OutOfMemory));
+    holds!(rt, outbox.is_empty() && !outbox.is_full());
+    holds!(rt, pushes(outbox, 1, true, heap, rt) == Ok(1));
+    holds!(rt, pushes(outbox, 2, true, heap, rt) == Ok(2));
+    let refused = pushes(outbox, 3, true, heap, rt);
+    holds!(rt, refused == Err(OutboxFault::OutboxFull));
+}
+
+/// Reads and empties a full outbox of two messages with all memory refused.
+fn is_emptied<'a>(outbox: &mut Outbox<'a, Heap>, heap: &'a Heap, rt: &impl Abort) {
+    heap.refuse_from(1);
+    holds!(rt, outbox.get(0).is_none() && outbox.get(1).is_some());
+    holds!(rt, outbox.get(2).is_some() && outbox.get(3).is_none());
+    holds!(rt, outbox.is_full() && outbox.make_room().is_ok());
+    holds!(rt, pops(outbox, 2) && pops(outbox, 1));
+    holds!(rt, outbox.len() == 0 && heap.requests() == 0);
+}
+
 /// Messages are numbered from 1, up to a limit, and taken out from the end.
 #[test]
 fn an_outbox_holds_as_many_messages_as_its_limit(rt: HostRuntime) {
     let heap = Refusing::new(rt.alloc());
     let mut outbox = Outbox::new(&heap, 2);
-    let refused = pushes(&mut outbox, 1, false, &heap, &rt);
-    holds!(&rt, refused == Err(OutboxFault::OutOfMemory));
-    holds!(&rt, outbox.is_empty() && !outbox.is_full());
-    holds!(&rt, pushes(&mut outbox, 1, true, &heap, &rt) == Ok(1));
-    holds!(&rt, pushes(&mut outbox, 2, true, &heap, &rt) == Ok(2));
-    let refused = pushes(&mut outbox, 3, true, &heap, &rt);
-    holds!(&rt, refused == Err(OutboxFault::OutboxFull));
-    heap.refuse_from(1);
-    holds!(&rt, outbox.get(0).is_none() && outbox.get(1).is_some());
-    holds!(&rt, outbox.get(2).is_some() && outbox.get(3).is_none());
-    holds!(&rt, outbox.is_full() && outbox.make_room().is_ok());
-    holds!(&rt, pops(&mut outbox, 2) && pops(&mut outbox, 1));
-    holds!(&rt, outbox.len() == 0 && heap.requests() == 0);
+    is_filled(&mut outbox, &heap, &rt);
+    is_emptied(&mut outbox, &heap, &rt);
     drop(outbox);
 }
