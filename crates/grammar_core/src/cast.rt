@@ -82,8 +82,8 @@ fn all_unreserved<'w, A: Allocator>(alloc: A, words: &[&'w str]) -> Result<Vec<&
     Ok(plain)
 }
 
-/// Makes the names of the nodes from `words`, the words behind `nodes`. A keyword counts as a word that isn't a name
-/// (`BadName`).
+/// Makes the names of the nodes from `words`, the words behind `nodes`. `BadName` for a keyword, as for a word that
+/// isn't a name; the other faults are those of `Names::new`.
 #[tactic(auto, unfolding(crate::specs::Grammar::node_names))]
 fn node_names<A: Allocator + Copy>(alloc: A, words: &[&str]) -> Result<Names<A>, FaultKind>
     ensures { Gives (λ names. names) result (node_names (map (λ word. word.now) words.now)) }

@@ -33,7 +33,7 @@ pub enum Command<A: Allocator> {
     Journal,
 }
 
-/// The command of an actor's line, whose words after the verb are `args`.
+/// The command of a line of `actor` with `verb` and the words `args` behind the verb; or the fault of these words.
 #[tactic(auto, unfolding(crate::specs::Grammar::verb_line))]
 fn verb_line<A: Allocator + Copy>(
     alloc: A,
