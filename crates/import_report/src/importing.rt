@@ -18,7 +18,7 @@ use import_core::{FaultKind, Import, ImportFault, imported};
 use payload_core::Oom;
 use std::alloc::{Allocator, Global};
 
-/// The script of an import's events, and the bench on which they were played.
+/// The script of an import's events, and the bench on which they were played. `told` is as for `import_script`.
 fn script_of_import<'a, B: Allocator>(
     import: &Import<&'a B>,
     alloc: &'a B,
