@@ -78,7 +78,7 @@ fn put_full<A: Allocator>(text: &mut String<A>, full: bool) -> Result<(), Oom>
 }
 
 /// Writes to `errors` a line for each line that was left out, and one more if the history is full (`full`). A failed
-/// write isn't a fault; `lost` says so.
+/// write isn't a fault, but is noted in `lost`.
 fn tell_missing<A: Allocator, E: Write>(
     alloc: A,
     errors: &mut E,

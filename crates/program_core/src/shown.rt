@@ -232,7 +232,8 @@ fn finish<W: Write, A: Allocator>(writer: &mut W, shown: &Shown<A>) -> Result<()
     }
 }
 
-/// Reads and plays a script, and prints it in the form that was chosen.
+/// Reads and plays a script, and prints the play in the form that was chosen. If an act or an unwind was refused in a
+/// strict run, ends with the fault `Refused` once the text is written.
 pub fn play_shown<B: Allocator, R: Read, W: Write, L: Ledger>(
     heap: Global,
     alloc: &B,
@@ -261,7 +262,8 @@ pub fn play_shown<B: Allocator, R: Read, W: Write, L: Ledger>(
     }
 }
 
-/// Reads a session, plays it again, and prints it in the form that was chosen.
+/// Reads a session, plays it again, and prints that play in the form that was chosen. If a call was refused in a strict
+/// run, ends with the fault `Refused` once the text is written.
 pub fn load_shown<B: Allocator, R: Read, W: Write, L: Ledger>(
     heap: Global,
     alloc: &B,
