@@ -283,8 +283,8 @@ fn print_made<B: Allocator, W: Write>(writer: &mut W, made: &Made<&B>) -> Result
 
 /// Reads the events of logs, and prints a script of them, or what else the command line chose by `check`, `lines`,
 /// `lenient` and `form`. Before it prints, it tells on `errors` which lines were left out, if any were, and that the
-/// history is full, if it is; `lost` says if that can't be written. If the events are refused, `aside` gets the hint, if
-/// there is one. `steps` counts the calls of `read`.
+/// history is full, if it is; `lost` notes if that can't be written. If the events are refused, `aside` gets the hint,
+/// if there is one. `steps` counts the calls of `read`.
 pub fn import_events<B: Allocator, R: Read, W: Write, E: Write, L: Ledger>(
     heap: Global,
     alloc: &B,
