@@ -120,7 +120,7 @@ pub fn script_hint<A: Allocator + Copy>(
     }
 }
 
-/// The hint for a session that isn't JSON, by how it begins.
+/// The hint for a session that isn't JSON, by how the input begins.
 #[tactic(auto, unfolding(crate::specs::Sessions::session_hint))]
 fn hint_of_session(bytes: &[u8]) -> Hint<'static>
     ensures { plain_hint result ≡ session_hint bytes.now }
