@@ -29,7 +29,7 @@ impl Lost {
         Lost { any: false }
     }
 
-    /// Whether anything was lost.
+    /// Whether a `tell` failed to write all of its bytes.
     pub fn is_any(&self) -> bool
         ensures { result ≡ self.now }
     {

@@ -187,7 +187,8 @@ fn refused_act<'a, B: Allocator>(bench: &Bench<'a, B>, strict: bool) -> Option<R
     }
 }
 
-/// What is shown of a script in this form.
+/// Plays a script, and gives what is shown of the play in this form. A strict run plays it once more, for the first
+/// refusal.
 fn show_script<'a, B: Allocator>(
     script: &Script<&'a B>,
     heap: Global,

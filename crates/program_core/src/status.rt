@@ -203,12 +203,12 @@ fn print_help<W: Write, E: Write>(help: &clap::Error, writer: &mut W, errors: &m
     0
 }
 
-/// The hint for a word that the program doesn't accept. Such a word is mostly the name of a file.
+/// The hint for a word too many, which is mostly the name of a file.
 const FILE_HINT: &str =
     "hint: the input is read from standard input; put < before the name of a file\n";
 
-/// Prints what is wrong with the words. If the program doesn't accept a word that doesn't begin with `-`, it prints a
-/// hint, too, since the word may be the name of a file.
+/// Prints what is wrong with the words. If that is a word too many which doesn't begin with `-`, prints a hint, too,
+/// since such a word may be the name of a file.
 fn tell_words<E: Write>(heap: Global, fault: &clap::Error, errors: &mut E) {
     let Ok(text) = format!(in heap; "{fault}") else {
         return;
