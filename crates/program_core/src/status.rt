@@ -244,9 +244,9 @@ fn refuse<W: Write, E: Write>(
 /// Does what the words after the program's name ask for, on benches with these limits, and gives the status. A
 /// session's bench has the session's limits. Words, JSON, hints, and lines on what is read and how far work has come
 /// take their memory from `heap`; benches and all other texts take theirs from `alloc`. If the reader is a terminal, a
-/// prompt shows its signs on `errors`, and any other subcommand says there what it reads. `lost` says if what is missing
-/// from an import can't be written there, `steps` counts the calls of `read`, and `clock` says when long work tells how
-/// far it has come.
+/// prompt shows its signs on `errors`, and any other subcommand says on `errors` that it reads standard input. `lost`
+/// notes if what is missing from an import can't be written to `errors`, `steps` counts the calls of `read`, and `clock`
+/// decides when long work tells how far it has come.
 pub fn program_counted<
     S: AsStr,
     B: Allocator + Sync,
