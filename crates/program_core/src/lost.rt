@@ -1,4 +1,4 @@
-//! `Lost`: whether anything that the program tells on standard error was lost, for contracts alone.
+//! `Lost`: whether anything that `Lost::tell` should have written to standard error was lost, for contracts alone.
 ghost use Rattle.std.specs.Prelude.{◌≡◌, ℕ, Bool, true, false, take};
 ghost use Rattle.std.specs.Io.KnownBytes.{Appends};
 

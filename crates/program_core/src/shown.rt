@@ -187,8 +187,8 @@ fn refused_act<'a, B: Allocator>(bench: &Bench<'a, B>, strict: bool) -> Option<R
     }
 }
 
-/// Plays a script, and gives what is shown of the play in this form. A strict run plays it once more, for the first
-/// refusal.
+/// Plays a script, and gives what is shown of the play in this form. If `strict`, plays the script once more, to find
+/// the first refusal.
 fn show_script<'a, B: Allocator>(
     script: &Script<&'a B>,
     heap: Global,

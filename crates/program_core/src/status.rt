@@ -245,7 +245,7 @@ fn refuse<W: Write, E: Write>(
 /// session's bench has the session's limits. Words, JSON, hints, and lines on what is read and how far work has come
 /// take their memory from `heap`; benches and all other texts take theirs from `alloc`. If the reader is a terminal, a
 /// prompt shows its signs on `errors`, and any other subcommand says on `errors` that it reads standard input. `lost`
-/// notes if what is missing from an import can't be written to `errors`, `steps` counts the calls of `read`, and `clock`
+/// notes if what is missing from an import can't be written to `errors`. `steps` counts the calls of `read`. `clock`
 /// decides when long work tells how far it has come.
 pub fn program_counted<
     S: AsStr,
@@ -323,7 +323,7 @@ fn program_from<
     )
 }
 
-/// Like `program_counted`, for callers that don't need the count of the calls of `read`, nor to know what was lost.
+/// Like `program_counted`, for callers that need neither the count of the calls of `read` nor what `lost` notes.
 pub fn program_within<
     S: AsStr,
     B: Allocator + Sync,
