@@ -139,7 +139,7 @@ fn told_hint(heap: Global, line: u64, kind: FaultKind) -> Result<Option<Vec<u8>>
     }
 }
 
-/// The hint for events that were refused with this fault, as text with a line feed; `None` if the fault has
+/// The hint for `bytes`, events that were refused with this fault, as text with a line feed; `None` if the fault has
 /// no hint.
 pub fn import_hint(heap: Global, bytes: &[u8], fault: ImportFault) -> Result<Option<Vec<u8>>, Oom>
     ensures { IfOk result (λ hint. IsImportHint bytes.now fault (option_map (λ it. it.items) hint)) }
