@@ -160,7 +160,7 @@ fn text_of<'a, B: Allocator>(scripted: Scripted<'a, B>) -> Vec<u8, &'a B>
     scripted.text.into_bytes()
 }
 
-/// The session of the bench that the events leave.
+/// The session of the bench that the events leave, with a line feed.
 fn make_session<'a, B: Allocator>(
     heap: Global,
     alloc: &'a B,
