@@ -24,7 +24,7 @@ pub struct Case {
     /// How many bytes the output takes before a write fails.
     pub room: usize,
     pub limits: Limits,
-    /// Whether the input is a terminal.
+    /// Whether the program is told that its input is a terminal.
     pub terminal: bool,
     /// Whether the output is only the beginning of what the program may print.
     pub begins: bool,
@@ -34,7 +34,7 @@ pub struct Case {
 }
 
 impl Case {
-    /// What stands for a case before the first one begins.
+    /// What stands for a case before the first one of a file begins: line 0, no words, no input, and the usual limits.
     pub fn new(heap: Global) -> Case {
         Case {
             heap,
@@ -89,7 +89,8 @@ impl Case {
         whole.get(..self.front).unwrap_or(whole)
     }
 
-    /// The case's own input, so that bytes can be appended to it. It is empty at the first call of a case.
+    /// The case's own input, to which the caller can append. The first call after `begin` takes the input of the case
+    /// before out of it.
     pub fn own_input(&mut self) -> &mut Vec<u8> {
         if !self.is_own {
             self.is_own = true;

@@ -6,7 +6,7 @@ use bench_core::Limits;
 use std::io::ErrorKind;
 use std::{fs, io};
 
-/// The error for a line whose mark or text has none of the forms.
+/// The error for a line that doesn't have the form of a line of a case.
 fn no_form() -> io::Error {
     io::Error::from(ErrorKind::InvalidData)
 }
@@ -41,8 +41,8 @@ fn put_repeated(bytes: &mut Vec<u8>, spelled: &str, end: &str) -> io::Result<()>
     Ok(())
 }
 
-/// Appends what a text gives in this form: itself with a line feed or without, the bytes that it spells, a text or a
-/// line N times, or the file that it names.
+/// Appends what `text` gives in this form: the text itself, with a line feed (no form) or without (`-`); the bytes that
+/// it spells (`x`); a text (`*`) or a line (`l`) N times; or the file that it names (`@`).
 fn put(rt: &HostRuntime, bytes: &mut Vec<u8>, form: &str, text: &str) -> io::Result<()> {
     match form {
         "" => {

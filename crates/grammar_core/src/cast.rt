@@ -82,8 +82,8 @@ fn all_unreserved<'w, A: Allocator>(alloc: A, words: &[&'w str]) -> Result<Vec<&
     Ok(plain)
 }
 
-/// Makes the names of the nodes from `words`, the words behind `nodes`. A keyword counts as a word that isn't a name
-/// (`BadName`).
+/// Makes the names of the nodes from `words`, the words behind `nodes`. `BadName` for a keyword, as for a word that
+/// isn't a name; the other faults are those of `Names::new`.
 #[tactic(auto, unfolding(crate::specs::Grammar::node_names))]
 fn node_names<A: Allocator + Copy>(alloc: A, words: &[&str]) -> Result<Names<A>, FaultKind>
     ensures { Gives (λ names. names) result (node_names (map (λ word. word.now) words.now)) }
@@ -93,7 +93,7 @@ fn node_names<A: Allocator + Copy>(alloc: A, words: &[&str]) -> Result<Names<A>,
 }
 
 /// Reads the line `nodes NAME ..`, the first that has words and isn't a comment. `NoNodes` if `first`, the line's first
-/// word, isn't `nodes`; `names` are the words behind it.
+/// word, isn't `nodes`; else the fault of `names`, the words behind that (see `node_names`).
 #[tactic(auto, unfolding(crate::specs::Grammar::opening))]
 pub fn opening<A: Allocator + Copy>(
     alloc: A,
@@ -153,7 +153,8 @@ fn add_each<A: Allocator + Copy>(
 }
 
 /// Reads a line `consoles NAME ..` into `cast`; `names` are the words behind `consoles`. `Twice` if `cast` has consoles
-/// already, `WrongCount` unless there are 1 to 16 names. A fault leaves `cast` unchanged.
+/// already, then `WrongCount` unless there are 1 to 16 names, then the fault of the first name that `add_console`
+/// refuses. A fault leaves `cast` unchanged.
 #[tactic(auto, unfolding(crate::specs::Grammar::with_consoles))]
 pub fn add_consoles<A: Allocator + Copy>(
     alloc: A,

@@ -33,7 +33,7 @@ pub enum Command<A: Allocator> {
     Journal,
 }
 
-/// The command of an actor's line, whose words after the verb are `args`.
+/// The command of a line of `actor` with `verb` and the words `args` behind the verb; or the fault of these words.
 #[tactic(auto, unfolding(crate::specs::Grammar::verb_line))]
 fn verb_line<A: Allocator + Copy>(
     alloc: A,
@@ -97,7 +97,8 @@ fn journal_of<A: Allocator>(words: &[&str]) -> Result<Command<A>, FaultKind>
 }
 
 /// Reads a line behind the `nodes` line: `first` is its first word, `rest` the words behind that one. `Twice` if
-/// `first` is `nodes` or `consoles`; the caller gives a `consoles` line to `add_consoles` instead.
+/// `first` is `nodes` or `consoles`; the caller gives a `consoles` line to `add_consoles` instead. `UnknownWord` if
+/// `first` is neither a keyword nor an actor's name; else the faults of `rest`.
 #[tactic(auto, unfolding(crate::specs::Grammar::command_by))]
 pub fn command_of<A: Allocator + Copy>(
     alloc: A,

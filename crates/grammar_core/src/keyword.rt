@@ -111,7 +111,7 @@ pub fn verb_of(word: &str) -> Option<Verb>
     }
 }
 
-/// Whether a console may use the verb.
+/// Whether a console may use the verb, and not nodes alone.
 pub fn is_for_consoles(verb: Verb) -> bool
     ensures { result ≡ is_for_consoles verb }
 {

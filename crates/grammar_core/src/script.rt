@@ -11,14 +11,14 @@ use crate::fault::{FaultKind, ScriptFault};
 use bench_core::{Act, Names, TextSet};
 use std::alloc::Allocator;
 
-/// A command, and the number of its line.
+/// A command, and the number of its line in the script, counted from 1; at a prompt the number is 0.
 #[derive(Drop)]
 pub struct Line<A: Allocator> {
     pub number: u64,
     pub command: Command<A>,
 }
 
-/// Who may act, and the commands of the lines, in order.
+/// A script without a fault: who may act, and the commands of the lines, in order.
 #[derive(Drop)]
 pub struct Script<A: Allocator> {
     pub(crate) cast: Cast<A>,

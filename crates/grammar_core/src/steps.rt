@@ -81,7 +81,8 @@ fn presence_with<A: Allocator + Copy>(
     })
 }
 
-/// Reads a presence, `PID TOPIC KEY META`. `WrongCount` unless there are four words.
+/// Reads a presence: `PID TOPIC KEY META`. `WrongCount` unless there are four words, or else the fault of the first
+/// word that is wrong.
 #[tactic(auto, unfolding(crate::specs::Grammar::presence_of))]
 fn presence_of<A: Allocator + Copy>(alloc: A, args: &[&str]) -> Result<Presence<A>, FaultKind>
     requires { IsTrue (list_all is_visible (map (λ word. word.now) args.now)) }
@@ -93,7 +94,7 @@ fn presence_of<A: Allocator + Copy>(alloc: A, args: &[&str]) -> Result<Presence<
     presence_with(alloc, pid, topic, key, metadata)
 }
 
-/// Reads a join: `PID TOPIC KEY META`.
+/// Reads a join: `PID TOPIC KEY META`, with the faults of `presence_of`.
 #[tactic(auto, unfolding(crate::specs::Grammar::join_of))]
 pub fn join_of<A: Allocator + Copy>(alloc: A, args: &[&str]) -> Result<Step<A>, FaultKind>
     requires { IsTrue (list_all is_visible (map (λ word. word.now) args.now)) }
@@ -108,7 +109,7 @@ pub fn join_of<A: Allocator + Copy>(alloc: A, args: &[&str]) -> Result<Step<A>, 
     })
 }
 
-/// Reads an update: `PID TOPIC KEY META`.
+/// Reads an update: `PID TOPIC KEY META`, with the faults of `presence_of`.
 #[tactic(auto, unfolding(crate::specs::Grammar::update_of))]
 pub fn update_of<A: Allocator + Copy>(alloc: A, args: &[&str]) -> Result<Step<A>, FaultKind>
     requires { IsTrue (list_all is_visible (map (λ word. word.now) args.now)) }
@@ -141,7 +142,8 @@ fn leave_with<A: Allocator + Copy>(
     Ok(Step::Leave { pid, topic, key })
 }
 
-/// Reads a leave: `PID TOPIC KEY`.
+/// Reads a leave: `PID TOPIC KEY`. `WrongCount` unless there are three words, or else the fault of the first word that
+/// is wrong.
 #[tactic(auto, unfolding(crate::specs::Grammar::leave_of))]
 pub fn leave_of<A: Allocator + Copy>(alloc: A, args: &[&str]) -> Result<Step<A>, FaultKind>
     requires { IsTrue (list_all is_visible (map (λ word. word.now) args.now)) }
@@ -177,7 +179,7 @@ pub fn one_node<A: Allocator>(nodes: &Names<A>, args: &[&str]) -> Result<u16, Fa
     node_at(nodes, name)
 }
 
-/// Reads a leave all, of every entry of a process: `PID`.
+/// Reads a leave all, of every entry of a process: `PID`, with the faults of `one_number`.
 #[tactic(auto, unfolding(crate::specs::Grammar::leave_all_of))]
 pub fn leave_all_of<A: Allocator>(args: &[&str]) -> Result<Step<A>, FaultKind>
     ensures { Meets plain result (leave_all_of (map (λ word. word.now) args.now)) }
@@ -186,7 +188,7 @@ pub fn leave_all_of<A: Allocator>(args: &[&str]) -> Result<Step<A>, FaultKind>
     Ok(Step::LeaveAll { pid })
 }
 
-/// Reads an up: `NAME`.
+/// Reads an up: `NAME`, with the faults of `one_node`.
 #[tactic(auto, unfolding(crate::specs::Grammar::up_of))]
 pub fn up_of<A: Allocator>(nodes: &Names<A>, args: &[&str]) -> Result<Step<A>, FaultKind>
     ensures { Meets plain result (up_of nodes.now (map (λ word. word.now) args.now)) }
@@ -195,7 +197,7 @@ pub fn up_of<A: Allocator>(nodes: &Names<A>, args: &[&str]) -> Result<Step<A>, F
     Ok(Step::Up { name })
 }
 
-/// Reads a down: `NAME`.
+/// Reads a down: `NAME`, with the faults of `one_node`.
 #[tactic(auto, unfolding(crate::specs::Grammar::down_of))]
 pub fn down_of<A: Allocator>(nodes: &Names<A>, args: &[&str]) -> Result<Step<A>, FaultKind>
     ensures { Meets plain result (down_of nodes.now (map (λ word. word.now) args.now)) }
@@ -204,7 +206,7 @@ pub fn down_of<A: Allocator>(nodes: &Names<A>, args: &[&str]) -> Result<Step<A>,
     Ok(Step::Down { name })
 }
 
-/// Reads a permanently down: `NAME`.
+/// Reads a permanently down: `NAME`, with the faults of `one_node`.
 #[tactic(auto, unfolding(crate::specs::Grammar::permdown_of))]
 pub fn permdown_of<A: Allocator>(nodes: &Names<A>, args: &[&str]) -> Result<Step<A>, FaultKind>
     ensures { Meets plain result (permdown_of nodes.now (map (λ word. word.now) args.now)) }
@@ -252,7 +254,8 @@ fn with_node<A: Allocator>(
     Ok(chosen.with(node))
 }
 
-/// Reads an extract: `NAME ..`, 1 to 32 names.
+/// Reads an extract: `NAME ..`. `WrongCount` unless there are 1 to 32 names, or else the fault of the first name that
+/// `with_node` refuses.
 #[tactic(auto, unfolding(crate::specs::Grammar::extract_of, crate::specs::Grammar::with_nodes))]
 pub fn extract_of<A: Allocator>(nodes: &Names<A>, names: &[&str]) -> Result<Step<A>, FaultKind>
     ensures { Meets plain result (extract_of nodes.now (map (λ word. word.now) names.now)) }
@@ -280,7 +283,8 @@ fn message_with<A: Allocator>(
     Ok((sender, number))
 }
 
-/// Reads the sender and the number of a message: `NAME NUMBER`.
+/// Reads the sender and the number of a message: `NAME NUMBER`. `WrongCount` unless there are two words; else `BadName`
+/// if no node has the name, before `BadNumber`.
 #[tactic(auto, unfolding(crate::specs::Grammar::one_message))]
 fn one_message<A: Allocator>(nodes: &Names<A>, args: &[&str]) -> Result<(u16, u64), FaultKind>
     ensures { Meets (λ message. message) result (one_message nodes.now (map (λ word. word.now) args.now)) }
@@ -291,7 +295,7 @@ fn one_message<A: Allocator>(nodes: &Names<A>, args: &[&str]) -> Result<(u16, u6
     message_with(nodes, name, number)
 }
 
-/// Reads a delivery: `NAME NUMBER`.
+/// Reads a delivery: `NAME NUMBER`, with the faults of `one_message`.
 #[tactic(auto, unfolding(crate::specs::Grammar::deliver_of))]
 pub fn deliver_of<A: Allocator>(nodes: &Names<A>, args: &[&str]) -> Result<Step<A>, FaultKind>
     ensures { Meets plain result (deliver_of nodes.now (map (λ word. word.now) args.now)) }
@@ -300,7 +304,7 @@ pub fn deliver_of<A: Allocator>(nodes: &Names<A>, args: &[&str]) -> Result<Step<
     Ok(Step::Deliver { sender, number })
 }
 
-/// Reads an answer: `NAME NUMBER`.
+/// Reads an answer: `NAME NUMBER`, with the faults of `one_message`.
 #[tactic(auto, unfolding(crate::specs::Grammar::answer_of))]
 pub fn answer_of<A: Allocator>(nodes: &Names<A>, args: &[&str]) -> Result<Step<A>, FaultKind>
     ensures { Meets plain result (answer_of nodes.now (map (λ word. word.now) args.now)) }

@@ -35,7 +35,7 @@ pub fn words_of<A: Allocator>(alloc: A, line: &str) -> Result<Vec<&str, A>, Oom>
         .collect(alloc)
 }
 
-/// How many bytes at the front may stand in a word (0x21 to 0x7E).
+/// How many bytes come before the first that may not stand in a word (that isn't 0x21 to 0x7E); all if there is none.
 fn word_len(bytes: &[u8]) -> usize
     ensures { result ≡ prefix_len is_word_byte bytes.now }
 {
@@ -57,7 +57,7 @@ fn first_word(bytes: &[u8]) -> (&str, &[u8])
 }
 
 /// Puts the words of `line` into `words`, which must be empty; up to eight words take no memory. `NotText` if a byte is
-/// below 0x20 or above 0x7E.
+/// below 0x20 or above 0x7E; `words` then has the words before that byte.
 pub fn put_words<'l, A: Allocator>(
     words: &mut SmallVec<&'l str, 8, &A>,
     line: &'l [u8],

@@ -30,7 +30,8 @@ fn unknown_event(verb: &str) -> Hint<'_>
     }
 }
 
-/// The hint for a value that isn't an event.
+/// The hint for a value that isn't an event: about `node`, else about the word under `event`, else about the other
+/// keys.
 #[tactic(auto, unfolding(crate::specs::EventHints::value_hint))]
 fn value_hint(value: &Value) -> Hint<'_>
     ensures { plain_hint result ≡ value_hint (view value.now) }
@@ -47,7 +48,7 @@ fn value_hint(value: &Value) -> Hint<'_>
     }
 }
 
-/// The hint for a line that isn't JSON.
+/// The hint for a line that isn't JSON, by how the line begins.
 #[tactic(auto, unfolding(crate::specs::EventHints::json_line_hint))]
 fn json_line_hint(line: &[u8]) -> Hint<'static>
     ensures { plain_hint result ≡ json_line_hint line.now }
@@ -138,7 +139,7 @@ fn told_hint(heap: Global, line: u64, kind: FaultKind) -> Result<Option<Vec<u8>>
     }
 }
 
-/// The hint for events that were refused with this fault, as text with a line feed; `None` if the fault has
+/// The hint for `bytes`, events that were refused with this fault, as text with a line feed; `None` if the fault has
 /// no hint.
 pub fn import_hint(heap: Global, bytes: &[u8], fault: ImportFault) -> Result<Option<Vec<u8>>, Oom>
     ensures { IfOk result (λ hint. IsImportHint bytes.now fault (option_map (λ it. it.items) hint)) }

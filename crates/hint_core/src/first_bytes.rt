@@ -34,7 +34,7 @@ pub fn begins_object(bytes: &[u8]) -> bool
     false
 }
 
-/// Whether the bytes begin with a byte order mark.
+/// Whether the bytes begin with the byte order mark of UTF-8.
 pub(crate) fn is_marked(bytes: &[u8]) -> bool
     ensures { result ≡ is_marked bytes.now }
 {

@@ -69,8 +69,8 @@ pub(crate) fn line_at(bytes: &[u8], place: usize) -> Option<&[u8]>
     bytes.split(|byte| *byte == b'\n').nth(place)
 }
 
-/// The hint for the line with this number, which has the fault `kind`; `None` if there is no such line or no hint for
-/// it.
+/// The hint for the line with this number, which has the fault `kind`; `None` if there is no such line, or the fault
+/// has no hint.
 fn hint_at(bytes: &[u8], number: u64, kind: FaultKind) -> Option<Hint<'_>>
     ensures { option_map plain_hint result ≡ hint_at bytes.now number (slice_get (lines_of bytes.now) (number - 1)) kind }
 {
@@ -105,7 +105,7 @@ fn hint_of(bytes: &[u8], fault: ScriptFault) -> Option<Hint<'_>>
     hint_at(bytes, fault.line, fault.kind)
 }
 
-/// The hint for a script that was refused with this fault, as a line with its line feed; `None` if the fault
+/// The hint for `bytes`, a script that was refused with this fault, as a line with its line feed; `None` if the fault
 /// has no hint.
 pub fn script_hint<A: Allocator + Copy>(
     alloc: A,
@@ -120,7 +120,7 @@ pub fn script_hint<A: Allocator + Copy>(
     }
 }
 
-/// The hint for a session that isn't JSON, by how it begins.
+/// The hint for a session that isn't JSON, by how the input begins.
 #[tactic(auto, unfolding(crate::specs::Sessions::session_hint))]
 fn hint_of_session(bytes: &[u8]) -> Hint<'static>
     ensures { plain_hint result ≡ session_hint bytes.now }
@@ -139,7 +139,7 @@ fn hint_of_session(bytes: &[u8]) -> Hint<'static>
     Hint::Plain("a session begins with `{`, and this input doesn't; `play` takes scripts")
 }
 
-/// The hint for a session that was refused since it isn't JSON, as a line with its line feed.
+/// The hint for `bytes`, which were refused as a session since they aren't JSON, as a line with its line feed.
 pub fn session_hint<A: Allocator + Copy>(alloc: A, bytes: &[u8]) -> Result<Vec<u8, A>, Oom>
     ensures { IfOk result (λ hint. hint.items ≡ line_of (session_hint bytes.now)) }
 {

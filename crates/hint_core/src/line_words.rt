@@ -132,7 +132,7 @@ pub(crate) fn is_console(bytes: &[u8], count: usize, word: &str) -> bool
     is_named(bytes, count, "consoles", word)
 }
 
-/// The first of `words` that the first `count` lines give to a node as its name, or that stands earlier among `words`;
+/// The first of `words` that the first `count` lines give to a node as its name, or that stood among `words` before;
 /// empty if there is none.
 #[tactic(auto, unfolding(crate::specs::LineWords::first_again))]
 pub(crate) fn first_again<'l>(bytes: &[u8], count: usize, words: &[&'l str]) -> &'l str

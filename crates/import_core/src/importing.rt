@@ -29,7 +29,7 @@ pub struct Import<A: Allocator> {
     pub left_out: Vec<u64, A>,
 }
 
-/// The lines of the input, which line feeds divide.
+/// What stands between the line feeds of the input, in order. Behind a line feed at the end comes an empty line.
 fn lines_of<A: Allocator>(alloc: A, bytes: &[u8]) -> Result<Vec<&[u8], A>, Oom>
     ensures { IfOk result (λ lines. map (λ line. line.now) lines.items ≡ lines_of bytes.now) }
 {
@@ -79,8 +79,8 @@ fn fault_of<A: Allocator>(notes: &[Noted<A>], fault: OrderFault) -> ImportFault
     }
 }
 
-/// The order of these events that is nearest to the input; or why there is none. `NoNodes` if there are no events.
-/// `messages` is how many messages the tables have.
+/// The order of these events that is nearest to the input, as places in `notes`; or why there is none. `NoNodes` if
+/// there are no events. `messages` is how many messages the tables have.
 fn order_of<A: Allocator + Copy>(
     alloc: A,
     notes: &[Noted<A>],

@@ -5,7 +5,7 @@ ghost use Rattle.import_core.specs.declared.note_fault.NoteFault.TheVariants.{Ou
 use dots_core::Oom;
 use thiserror::Error;
 
-/// Why an event has no note.
+/// Why an event has no note: the logs name too many nodes, or memory was refused.
 #[derive(Clone, Copy, Debug, PartialEq, Eq, Error)]
 pub enum NoteFault {
     /// With this event the logs name more than 32 nodes.

@@ -52,7 +52,7 @@ pub(crate) fn presence_for<A: Allocator + Copy>(
     })
 }
 
-/// The step that stands for a leave.
+/// The step that stands for a leave. The tables change as in `presence_for`.
 fn leave_for<A: Allocator + Copy>(
     heap: Global,
     alloc: A,
@@ -110,7 +110,7 @@ fn nodes_for<A: Allocator + Copy>(
     Ok(nodes)
 }
 
-/// The step that stands for a join.
+/// The step that stands for a join. The tables change as in `presence_for`.
 fn join_for<A: Allocator + Copy>(
     heap: Global,
     alloc: A,
@@ -130,7 +130,7 @@ fn join_for<A: Allocator + Copy>(
     })
 }
 
-/// The step that stands for an update.
+/// The step that stands for an update. The tables change as in `presence_for`.
 fn update_for<A: Allocator + Copy>(
     heap: Global,
     alloc: A,
@@ -175,7 +175,7 @@ fn own_step_for<A: Allocator + Copy>(
     }
 }
 
-/// The step that stands for an answer.
+/// The step that stands for an answer, with the message's number in the tables, which change as in `taken_from`.
 fn answer_for<A: Allocator + Copy>(
     heap: Global,
     tables: &mut Tables<A>,
@@ -192,7 +192,7 @@ fn answer_for<A: Allocator + Copy>(
     Ok(Step::Answer { sender, number })
 }
 
-/// The step that stands for a delivery.
+/// The step that stands for a delivery, with the message's number in the tables, which change as in `taken_from`.
 fn deliver_for<A: Allocator + Copy>(
     heap: Global,
     tables: &mut Tables<A>,

@@ -37,7 +37,7 @@ fn number_in<A: Allocator + Copy>(
     Ok(numbered(texts, &text)? as u64)
 }
 
-/// The word of a value. If the word must be cut, the value gets a number among `longs`.
+/// The word of a value. If the word must be cut, a new value gets the next number among `longs`.
 fn word_in<A: Allocator + Copy>(
     heap: Global,
     alloc: A,
@@ -77,7 +77,7 @@ impl<A: Allocator + Copy> Tables<A> {
         }
     }
 
-    /// The word of a value as a topic, a key or metadata. A value whose word must be cut gets a number.
+    /// The word of a value as a topic, a key or metadata. A new value whose word must be cut gets the next number.
     pub(crate) fn word(&mut self, heap: Global, alloc: A, value: &Value) -> Result<Word<A>, Oom>
         ensures word { IfOk result (λ word. IsWordOf self.new.longs (view value.now) word) }
         ensures same_nodes { self.new.nodes ≡ self.old.nodes }

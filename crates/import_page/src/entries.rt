@@ -87,8 +87,8 @@ fn ask<'a, B: Allocator>(
 }
 
 /// Plays an event, and appends what the event tells besides its call. An event that lists rows tells the rows that only
-/// its list has, and those that only the bench's has. A step that can't be asked (see `asked`) tells that. Other steps
-/// tell nothing.
+/// the bench's list has, and those that only its own has. An event whose step can't be asked (see `asked`) tells that
+/// it is unsent. Other events tell nothing.
 #[tactic(auto, unfolding(import_report::specs::Events::after_event))]
 fn put_told<'a, B: Allocator>(
     bench: &mut Bench<'a, B>,

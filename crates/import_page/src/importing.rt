@@ -18,7 +18,7 @@ use page_data::put_texts;
 use payload_core::Oom;
 use std::alloc::{Allocator, Global};
 
-/// The lines of the input, which line feeds divide.
+/// What stands between the line feeds of the input, in order. Behind a line feed at the end comes an empty line.
 fn lines_of<A: Allocator>(alloc: A, bytes: &[u8]) -> Result<Vec<&[u8], A>, Oom>
     ensures { IfOk result (λ lines. map (λ line. line.now) lines.items ≡ lines_of bytes.now) }
 {

@@ -5,7 +5,7 @@ ghost use Rattle.import_report.specs.Ascii.{ascii_char, ascii_text, escaped_char
 use payload_core::Oom;
 use std::alloc::Allocator;
 
-/// The hexadecimal digit for `value`, in lower case. (`W` stands 10 before `a`.)
+/// The hexadecimal digit for `value`, which must be below 16, in lower case. (`W` stands 10 before `a`.)
 fn hex_digit(value: u32) -> char
     requires { value < 16 }
     ensures { result ≡ hex_digit value }
@@ -17,7 +17,7 @@ fn hex_digit(value: u32) -> char
     }
 }
 
-/// Appends a character that is ASCII.
+/// Appends `c`, which must be ASCII.
 fn put_ascii<A: Allocator>(text: &mut String<A>, c: char) -> Result<(), Oom>
     requires { c < 128 }
     ensures { OnOk result (string_bytes text.new ≡ string_bytes text.old ++ c ∷ []) }
@@ -25,7 +25,7 @@ fn put_ascii<A: Allocator>(text: &mut String<A>, c: char) -> Result<(), Oom>
     Ok(text.push(c)?)
 }
 
-/// Appends `value` as a hexadecimal digit.
+/// Appends `value`, which must be below 16, as a hexadecimal digit.
 fn put_digit<A: Allocator>(text: &mut String<A>, value: u32) -> Result<(), Oom>
     requires { value < 16 }
     ensures { OnOk result (string_bytes text.new ≡ string_bytes text.old ++ hex_digit value ∷ []) }
@@ -92,7 +92,7 @@ pub(crate) fn ascii_text<A: Allocator>(alloc: A, json: &str) -> Result<String<A>
     Ok(text)
 }
 
-/// The string as JSON in ASCII has it between quotation marks.
+/// `string` as the inside of a JSON string in ASCII, without the quotation marks around it.
 pub(crate) fn string_text<A: Allocator>(alloc: A, string: &str) -> Result<String<A>, Oom>
     ensures { IfOk result (λ s. string_bytes s ≡ string_text string.now) }
 {

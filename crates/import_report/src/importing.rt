@@ -18,7 +18,7 @@ use import_core::{FaultKind, Import, ImportFault, imported};
 use payload_core::Oom;
 use std::alloc::{Allocator, Global};
 
-/// The script of an import's events, and the bench on which they were played.
+/// The script of an import's events, and the bench on which they were played. `told` is as for `import_script`.
 fn script_of_import<'a, B: Allocator>(
     import: &Import<&'a B>,
     alloc: &'a B,
@@ -108,7 +108,7 @@ pub fn import_bench<'a, B: Allocator>(
     Ok((bench_of(scripted), left_out))
 }
 
-/// The bench, taken out of a script.
+/// The bench of `scripted`, whose text is dropped.
 fn bench_of<'a, B: Allocator>(scripted: Scripted<'a, B>) -> Bench<'a, B>
     ensures { result ≡ scripted.entry.bench }
 {
@@ -124,7 +124,7 @@ pub struct Checked<'a, B: Allocator> {
     pub differs: bool,
 }
 
-/// Checks the events of an import on a fresh bench.
+/// Plays the events of an import on a fresh bench, and tells where that bench and the real nodes part.
 fn check_of_import<'a, B: Allocator>(
     import: &Import<&'a B>,
     alloc: &'a B,

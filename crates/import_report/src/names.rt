@@ -9,7 +9,7 @@ use grammar_core::words_of;
 use payload_core::Oom;
 use std::alloc::Allocator;
 
-/// The nodes' names in a script that can't have all of their own names.
+/// The nodes' names, by number, in a script that can't have the own names of all of them; spaces divide the names.
 pub const NUMBERED: &str =
     "n0 n1 n2 n3 n4 n5 n6 n7 n8 n9 n10 n11 n12 n13 n14 n15 n16 n17 n18 n19 n20 n21 n22 n23 n24 n25 n26 n27 n28 n29 n30 n31";
 
@@ -55,7 +55,7 @@ fn texts_as_words<'t, A: Allocator + Copy>(
     Ok(words)
 }
 
-/// The first `count` of these words, which must be as many or more.
+/// The first `count` words; there must be as many.
 fn first_words<'s, 't>(words: &'s [&'t str], count: usize) -> &'s [&'t str]
     requires { count ≤ length words.now }
     ensures { result.now ≡ take count words.now }

@@ -61,7 +61,7 @@ const THREE: [(u16, u64); 3] = [(0, 1), (0, 3), (0, 4)];
 enum Edit {
     Insert(u16, u64),
     Remove(u16, u64),
-    /// The union with `FAR`: a dot of name 0 and one of name 1, each far above the others.
+    /// The union with `FAR`, which has the dots of the names 0 and 1 with the clock 9.
     Union,
 }
 

@@ -69,8 +69,8 @@ fn differ<'a>(
     Some(are_these)
 }
 
-/// Whether `net` of these rows gives as many as `counts` says: rows that left, and rows that joined. `None` if memory
-/// was refused.
+/// Whether `net` of these rows gives as many rows that left, and as many that joined, as `counts` says. `None` if
+/// memory was refused.
 fn come_to<'a>(
     left: &Rows<'a>,
     joined: &Rows<'a>,

@@ -112,8 +112,8 @@ fn is_refused<'a>(
     is_refused
 }
 
-/// Makes each of the calls like `is_refused`, with this refusal of the call's own requests. Says whether a call was
-/// refused memory.
+/// Makes each of the calls like `is_refused`. The number in `refusal` counts the requests of each call anew. Says
+/// whether a call was refused memory.
 fn ask_refused<'a>(
     pair: &mut Pair<'a>,
     calls: &Calls<'a>,

@@ -59,7 +59,8 @@ fn limits() -> NodeLimits
     }
 }
 
-/// The message that the step reads, which must be one of `other`; `None` if the step reads none.
+/// The message that the step reads, from the outbox of `other`, whoever the step names as the sender; `None` if the
+/// step reads none, or the outbox has no message of that number.
 fn message_of<'x, 'a>(
     other: &'x Node<'a, Heap>,
     step: &Step<&'a Heap>,

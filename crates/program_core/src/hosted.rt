@@ -32,7 +32,8 @@ impl Termination for Ended {
     }
 }
 
-/// Does what the words after the program's name ask for. A race takes its threads from `threads`.
+/// Does what the words after the program's name ask for, on the runtime's streams, and gives the status. A race takes
+/// its threads from `threads`.
 pub fn run<T: Threads + Wait + Sync>(rt: &HostRuntime, threads: &T) -> Ended {
     Ended {
         status: status(rt, threads),

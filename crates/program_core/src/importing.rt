@@ -78,7 +78,7 @@ fn put_full<A: Allocator>(text: &mut String<A>, full: bool) -> Result<(), Oom>
 }
 
 /// Writes to `errors` a line for each line that was left out, and one more if the history is full (`full`). A failed
-/// write isn't a fault; `lost` says so.
+/// write isn't a fault, but is noted in `lost`.
 fn tell_missing<A: Allocator, E: Write>(
     alloc: A,
     errors: &mut E,
@@ -160,7 +160,7 @@ fn text_of<'a, B: Allocator>(scripted: Scripted<'a, B>) -> Vec<u8, &'a B>
     scripted.text.into_bytes()
 }
 
-/// The session of the bench that the events leave.
+/// The session of the bench that the events leave, with a line feed.
 fn make_session<'a, B: Allocator>(
     heap: Global,
     alloc: &'a B,
@@ -283,8 +283,8 @@ fn print_made<B: Allocator, W: Write>(writer: &mut W, made: &Made<&B>) -> Result
 
 /// Reads the events of logs, and prints a script of them, or what else the command line chose by `check`, `lines`,
 /// `lenient` and `form`. Before it prints, it tells on `errors` which lines were left out, if any were, and that the
-/// history is full, if it is; `lost` says if that can't be written. If the events are refused, `aside` gets the hint, if
-/// there is one. `steps` counts the calls of `read`.
+/// history is full, if it is; `lost` notes if that can't be written. If the events are refused, `aside` gets the hint,
+/// if there is one. `steps` counts the calls of `read`.
 pub fn import_events<B: Allocator, R: Read, W: Write, E: Write, L: Ledger>(
     heap: Global,
     alloc: &B,

@@ -232,8 +232,8 @@ fn explore_bench<B: Allocator, R: Read, W: Write, L: Ledger, C: Clock, E: Write>
 /// writes nothing before the whole text is ready. If the input is refused, `aside` gets the hint, if there is one.
 /// `limits` are those of the bench, unless the input is a session, which has its own. JSON, hints and lines on how far
 /// work has come take their memory from `heap`; benches and all other texts take theirs from `alloc`. `steps` counts
-/// the calls of `read`. On `errors` it writes only what is missing from an import, which `lost` says if it can't, the signs of a prompt on a terminal,
-/// and how far long work has come.
+/// the calls of `read`. On `errors` stand only the signs of a prompt on a terminal, how far long work has come, and
+/// what is missing from an import; `lost` says if the last can't be written.
 pub fn answer<
     B: Allocator + Sync,
     T: Threads + Wait + Sync,

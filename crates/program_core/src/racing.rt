@@ -37,8 +37,8 @@ fn discard<A: Allocator>(receipts: Receipts<A>) {
     drop(receipts);
 }
 
-/// The bench of a race that is vouched for, without the receipts. Of a race that ended with a fault it gives the fault,
-/// and drops the bench.
+/// Gives the bench of a race that is vouched for, and drops the receipts. If the race ended with a fault, gives the
+/// fault, and drops the bench.
 fn outcome<'a, B: Allocator>(
     raced: Result<(Bench<'a, B>, Receipts<&'a B>), (RaceFault, Bench<'a, B>)>,
 ) -> Result<Bench<'a, B>, Fault>

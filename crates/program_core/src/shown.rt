@@ -187,7 +187,8 @@ fn refused_act<'a, B: Allocator>(bench: &Bench<'a, B>, strict: bool) -> Option<R
     }
 }
 
-/// What is shown of a script in this form.
+/// Plays a script, and gives what is shown of the play in this form. If `strict`, plays the script once more, to find
+/// the first refusal.
 fn show_script<'a, B: Allocator>(
     script: &Script<&'a B>,
     heap: Global,
@@ -232,7 +233,8 @@ fn finish<W: Write, A: Allocator>(writer: &mut W, shown: &Shown<A>) -> Result<()
     }
 }
 
-/// Reads and plays a script, and prints it in the form that was chosen.
+/// Reads and plays a script, and prints the play in the form that was chosen. If an act or an unwind was refused in a
+/// strict run, ends with the fault `Refused` once the text is written.
 pub fn play_shown<B: Allocator, R: Read, W: Write, L: Ledger>(
     heap: Global,
     alloc: &B,
@@ -261,7 +263,8 @@ pub fn play_shown<B: Allocator, R: Read, W: Write, L: Ledger>(
     }
 }
 
-/// Reads a session, plays it again, and prints it in the form that was chosen.
+/// Reads a session, plays it again, and prints that play in the form that was chosen. If a call was refused in a strict
+/// run, ends with the fault `Refused` once the text is written.
 pub fn load_shown<B: Allocator, R: Read, W: Write, L: Ledger>(
     heap: Global,
     alloc: &B,

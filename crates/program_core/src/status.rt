@@ -203,12 +203,12 @@ fn print_help<W: Write, E: Write>(help: &clap::Error, writer: &mut W, errors: &m
     0
 }
 
-/// The hint for a word that the program doesn't accept. Such a word is mostly the name of a file.
+/// The hint for a word too many, which is mostly the name of a file.
 const FILE_HINT: &str =
     "hint: the input is read from standard input; put < before the name of a file\n";
 
-/// Prints what is wrong with the words. If the program doesn't accept a word that doesn't begin with `-`, it prints a
-/// hint, too, since the word may be the name of a file.
+/// Prints what is wrong with the words. If that is a word too many which doesn't begin with `-`, prints a hint, too,
+/// since such a word may be the name of a file.
 fn tell_words<E: Write>(heap: Global, fault: &clap::Error, errors: &mut E) {
     let Ok(text) = format!(in heap; "{fault}") else {
         return;
@@ -244,9 +244,9 @@ fn refuse<W: Write, E: Write>(
 /// Does what the words after the program's name ask for, on benches with these limits, and gives the status. A
 /// session's bench has the session's limits. Words, JSON, hints, and lines on what is read and how far work has come
 /// take their memory from `heap`; benches and all other texts take theirs from `alloc`. If the reader is a terminal, a
-/// prompt shows its signs on `errors`, and any other subcommand says there what it reads. `lost` says if what is missing
-/// from an import can't be written there, `steps` counts the calls of `read`, and `clock` says when long work tells how
-/// far it has come.
+/// prompt shows its signs on `errors`, and any other subcommand says on `errors` that it reads standard input. `lost`
+/// notes if what is missing from an import can't be written to `errors`. `steps` counts the calls of `read`. `clock`
+/// decides when long work tells how far it has come.
 pub fn program_counted<
     S: AsStr,
     B: Allocator + Sync,
@@ -323,7 +323,7 @@ fn program_from<
     )
 }
 
-/// Like `program_counted`, for callers that don't need the count of the calls of `read`, nor to know what was lost.
+/// Like `program_counted`, for callers that need neither the count of the calls of `read` nor what `lost` notes.
 pub fn program_within<
     S: AsStr,
     B: Allocator + Sync,

@@ -9,7 +9,7 @@ use thiserror::Error;
 /// afterwards (`LogsDisagree`); `OutOfMemory` may be any of these.
 #[derive(Clone, Copy, Debug, PartialEq, Eq, Error)]
 pub enum RaceFault {
-    /// A line's actor isn't one of the actors.
+    /// A line's actor isn't below the number of actors that the race was given.
     #[error("UnknownActor")]
     UnknownActor,
     /// The bench's limit on acts leaves no room for a call and a step for each line.

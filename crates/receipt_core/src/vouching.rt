@@ -16,7 +16,7 @@ use bench_core::laws::replay_law;
 use bench_core::{Act, Bench, Fault, History, Limits, Names, Reply};
 use std::alloc::Allocator;
 
-/// Whether each line's actor is one of `actors`.
+/// Whether each line's actor is below `actors`, the number of actors.
 fn are_known<A: Allocator>(lines: &[(u16, Act<A>)], actors: u16) -> bool
     ensures { result ≡ are_known actors (calls_of lines.now) }
 {
@@ -89,7 +89,8 @@ pub struct Known<'a, B: Allocator> {
 }
 
 /// `Ok` if no call was refused memory, the receipts account for the history (see `agree`), each actor has a list of
-/// them, and the bench has its old names and limits. Otherwise `OutOfMemory`, or else `LogsDisagree`.
+/// them, and the bench has its old names and limits. `OutOfMemory` if a call, or `agree` itself, was refused memory;
+/// otherwise `LogsDisagree`.
 #[tactic(auto, using(crate::proofs::Interleaving::agrees_interleave, crate::proofs::Replies::agrees_replies))]
 fn vouch<'a, B: Allocator>(
     before: &Known<'a, B>,

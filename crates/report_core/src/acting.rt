@@ -15,7 +15,7 @@ use diff_core::Diff;
 use payload_core::Oom;
 use std::alloc::Allocator;
 
-/// What an act came to.
+/// What an act came to: the bench's reply, and what the act changed.
 #[derive(Drop)]
 pub struct Acted<A: Allocator> {
     pub reply: Reply,

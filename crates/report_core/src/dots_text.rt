@@ -83,7 +83,8 @@ fn put_seen<A: Allocator>(
     Ok(text.push_str("\n")?)
 }
 
-/// Appends `dots NAME STATUS CLOCK CLOUD` for `name`, by what the replica has of the name with this number.
+/// Appends `dots NAME STATUS CLOCK CLOUD`, with a line feed: NAME is `name`, the rest is what the replica has of the
+/// name with this number, which must be below 32.
 #[tactic(auto, unfolding(crate::specs::Dots::name_line))]
 fn put_name<A: Allocator, R: Allocator>(
     text: &mut String<A>,

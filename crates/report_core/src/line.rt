@@ -99,8 +99,8 @@ fn put_whole<A: Allocator>(text: &mut String<A>, parts: &Parts) -> Result<(), Oo
     Ok(writeln!(text, "{node}/{pid} {metadata}")?)
 }
 
-/// Appends `TOPIC KEY NODE/PID META` and a line feed to the line, if there is room. Else appends the line and then
-/// these to the text, and empties the line. Topic, key and metadata must have at most 200 bytes each.
+/// Appends the row `TOPIC KEY NODE/PID META`, with a line feed, to the line, if there is room. Else appends the line
+/// and then the row to the text, and empties the line. Topic, key and metadata must have at most 200 bytes each.
 pub(crate) fn put_parts<A: Allocator>(
     text: &mut String<A>,
     line: &mut Line,

@@ -124,8 +124,8 @@ fn undo<'a, B: Allocator>(bench: &mut Bench<'a, B>, actor: u16, number: u64) -> 
     answered.map(drop)
 }
 
-/// Undoes a step, which must be possible, and gives `moved` back, with what the undo changed in the online list of the
-/// step's node added to it.
+/// Undoes a step, and adds to `moved` what the undo changed in the online list of the step's node; gives `moved` back.
+/// The bench must be able to undo the step: it remains, and has no consequence.
 fn undo_one<'a, B: Allocator>(
     bench: &mut Bench<'a, B>,
     actor: u16,
@@ -147,8 +147,8 @@ fn undo_one<'a, B: Allocator>(
     add_at(moved, node, step)
 }
 
-/// Undoes the steps with these numbers in turn, which must be possible, and gives for each node the rows that left and
-/// joined its online list in these undos.
+/// Undoes the steps with these numbers in turn, and gives for each node the rows that left and joined its online list
+/// in these undos. The bench must be able to undo each when its turn comes.
 pub fn undo_each<'a, B: Allocator>(
     bench: &mut Bench<'a, B>,
     actor: u16,

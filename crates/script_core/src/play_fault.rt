@@ -2,7 +2,7 @@
 use grammar_core::ScriptFault;
 use thiserror::Error;
 
-/// Why a play ended early.
+/// Why a play ended early. Nothing was written, unless the fault is `WriteFault`.
 #[derive(Clone, Copy, Debug, PartialEq, Eq, Error)]
 pub enum PlayFault {
     /// The first fault of the input, other than `OutOfMemory`.

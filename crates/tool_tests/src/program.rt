@@ -359,7 +359,7 @@ b deliver a 1\n\
 b deliver a 2\n";
 
 /// Cases: by how many milliseconds the clock is later at each look, how many bytes the writer of the errors takes, and
-/// what is printed there. The program looks at the clock once, and then at each sixteenth change.
+/// what that writer got. The program looks at the clock once, and then at each sixteenth change.
 const WORKED: &[(u64, usize, &str)] = &[
     (
         1000,
@@ -376,7 +376,8 @@ presence_bench: 48 of 79 changes tried\npresence_bench: 64 of 79 changes tried\n
     (1000, 20, "presence_bench: 16 o"),
 ];
 
-/// Whether the program, at long work, writes this to its errors, and ends with status 0.
+/// Whether the program, asked for the changes of `PERMDOWN`, writes to its errors what the case says, and ends with
+/// status 0.
 fn tells_work<T: Threads + Wait + Sync + Abort>(
     heap: Global,
     worked: (u64, usize, &str),

@@ -140,7 +140,7 @@ fn same_nodes<'a, B: Allocator>(one: &Bench<'a, B>, other: &Bench<'a, B>) -> boo
     true
 }
 
-/// Whether the nodes are what the recorded calls give on a fresh bench.
+/// Whether a fresh bench, asked the calls that `bench` recorded, gives the same replies and has the same nodes then.
 fn is_what_its_history_gives<'a, B: Allocator>(
     bench: &Bench<'a, B>,
     alloc: &'a B,
@@ -162,7 +162,7 @@ fn have_lengths<A: Allocator>(lists: &[Vec<Receipt<A>, A>], lengths: &[usize]) -
 }
 
 /// Whether what a race of `DELIVERED` left has a receipt for each line, the receipts agree with the bench's history,
-/// and the nodes are those that this history gives.
+/// and a fresh bench that is asked this history's calls gives the same replies and nodes.
 fn are_vouched_for<'a, B: Allocator>(left: &Left<'a, B>, heap: &'a B, rt: &impl Abort) -> bool {
     agree_with_none(left, DELIVERED, heap, rt) == (true, false)
         && have_lengths(&left.1, &[2, 2, 0])
