@@ -77,8 +77,8 @@ fn ask_unwind<'a, B: Allocator>(
     Ok(refusal)
 }
 
-/// Carries out a command, and gives why it was refused, if it is an act or an unwind. `None` if it wasn't refused, or
-/// is another command. What the command prints is dropped.
+/// Carries out an act or an unwind, and gives why it was refused; `None` if it wasn't. Drops what it prints. Every
+/// other command only prints, so this passes over it and gives `None`.
 #[tactic(auto, unfolding(crate::specs::Refusals::refusal_of, run_core::specs::Report::after_command))]
 fn obey<'a, B: Allocator>(
     bench: &mut Bench<'a, B>,
