@@ -85,7 +85,7 @@ fn put_step_if<'a, A: Allocator, B: Allocator>(
     }
 }
 
-/// Appends a line for each of the steps with these numbers.
+/// Appends a line (see `put_labelled`) for each of the steps with these numbers that remains.
 #[tactic(auto, unfolding(crate::specs::Explanations::step_lines))]
 fn put_steps<'a, A: Allocator, B: Allocator>(
     bench: &Bench<'a, B>,
@@ -133,7 +133,7 @@ fn put_left<'a, A: Allocator, B: Allocator>(
     }
 }
 
-/// Appends how the presence stands at the node, and why.
+/// Appends `at NODE VERDICT`, which says how the presence stands at the node, and a line for each step that tells why.
 #[tactic(auto, unfolding(crate::specs::Explanations::node_text, crate::specs::Explanations::finding_text))]
 fn put_node<'a, A: Allocator, B: Allocator>(
     bench: &Bench<'a, B>,
