@@ -77,7 +77,7 @@ fn put_cast<A: Allocator, C: Allocator>(
     Ok(text.push_str("],\"calls\":[")?)
 }
 
-/// The data of a page, up to the last call. What closes the list of calls and the data is still to be appended.
+/// The data of a page through its last call, without the brackets that close the list of calls and the data.
 #[tactic(auto, unfolding(crate::specs::PageData::run_text))]
 fn run_text<'a, B: Allocator>(
     bench: &Bench<'a, B>,
@@ -99,8 +99,8 @@ fn run_text<'a, B: Allocator>(
 }
 
 /// The data of the page of a bench, as JSON: the names of the nodes, the names of the consoles, which `consoles` has,
-/// and what the page tells of each recorded call. To tell it, this makes the calls again on a new bench with the same
-/// names and limits. No `<` stands in the data.
+/// and what the page tells of each recorded call. No `<` stands in the data. The calls are made again for this, on a
+/// new bench with the same names and limits.
 #[tactic(auto, unfolding(crate::specs::PageData::page_data))]
 pub fn page_data<'a, B: Allocator>(
     bench: &Bench<'a, B>,
@@ -114,8 +114,8 @@ pub fn page_data<'a, B: Allocator>(
     Ok(text)
 }
 
-/// Like `page_data`, but with further `keys` after the calls, each with a comma before it. No `<` stands in the data if
-/// none stands in `keys`.
+/// Like `page_data`, but with `keys` after the calls: further keys of the JSON object, each with a comma before it. No
+/// `<` stands in the data if none stands in `keys`.
 #[tactic(auto, unfolding(crate::specs::PageData::data_with))]
 pub fn page_data_with<'a, B: Allocator>(
     bench: &Bench<'a, B>,

@@ -37,8 +37,8 @@ pub fn past_law()
     ensures { PastLaw }
 {}
 
-/// The hops of a delivery tell of the dots of the first `count` names. Applied to how such a dot stood before the
-/// delivery, they give how the dot stands after it.
+/// Applied to how a dot stood at a node before a delivery, the hops of the delivery give how the dot stands at the node
+/// after it. This holds of the dots of the first names, as many as the hops were asked for.
 pub fn hops_law()
     ensures { HopsLaw }
 {}
